@@ -1,2 +1,7 @@
 pub mod Fault
 pub mod Reading
+pub mod Truth
+pub mod Value
+pub mod Comparison
+pub mod Predicate
+pub mod View

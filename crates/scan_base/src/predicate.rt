@@ -1,0 +1,172 @@
+//! Predicates over columns that something names: a parsed name, a bound column, a batch's column.
+
+ghost use Rattle.std.specs.Prelude.{◌≡◌, Bool, IsTrue};
+ghost use Rattle.std.specs.List.{list_all};
+ghost use Rattle.scan_base.specs.Truth.{negated_if};
+ghost use Rattle.scan_base.specs.Value.{value_of};
+ghost use Rattle.scan_base.specs.Predicate.{operand_names, names_only, operand_value, any_equal, truth_of};
+ghost use Rattle.scan_base.specs.View.{pred_of};
+ghost use Rattle.scan_base.specs.declared.value.Value.{Value};
+
+use crate::comparison::Comparison;
+use crate::items::Items;
+use crate::truth::Truth;
+use crate::value::{Row, Value, ValueRef};
+
+/// What a predicate looks at: a column, named by a `C`, or a value.
+#[derive(Debug, Drop)]
+pub enum Operand<C> {
+    Column(C),
+    Literal(Value),
+}
+
+/// A predicate of SQL over columns that `C` names. BETWEEN, IN and IS NULL carry whether a NOT stands in
+/// them.
+#[derive(Debug, Drop)]
+pub enum Predicate<C> {
+    And(Box<Predicate<C>>, Box<Predicate<C>>),
+    Or(Box<Predicate<C>>, Box<Predicate<C>>),
+    Not(Box<Predicate<C>>),
+    /// `predicate IS [NOT] tested`
+    Is {
+        negated: bool,
+        tested: Truth,
+        predicate: Box<Predicate<C>>,
+    },
+    /// `left comparison right`
+    Compare {
+        comparison: Comparison,
+        left: Operand<C>,
+        right: Operand<C>,
+    },
+    /// `operand [NOT] BETWEEN low AND high`
+    Between {
+        negated: bool,
+        operand: Operand<C>,
+        low: Operand<C>,
+        high: Operand<C>,
+    },
+    /// `operand [NOT] IN (items)`
+    In {
+        negated: bool,
+        operand: Operand<C>,
+        items: Items<Operand<C>>,
+    },
+    /// `operand IS [NOT] NULL`
+    IsNull {
+        negated: bool,
+        operand: Operand<C>,
+    },
+}
+
+/// The cells of one row, by what names a column.
+pub trait RowCells<C> {
+    /// The value of the row's cell in a column.
+    ghost cell: { Self → C → Value };
+
+    /// Whether the row has the column.
+    ghost has: { Self → C → Bool };
+
+    /// The value of the row's cell in a column.
+    fn cell(&self, column: &C) -> ValueRef<'_>
+        requires { IsTrue (has self.now column.now) }
+        ensures { value_of result ≡ cell self.now column.now };
+}
+
+impl RowCells<usize> for Row {
+    ghost use Rattle.std.specs.Prelude.{length, nat_lt};
+    ghost use Rattle.scan_base.specs.Predicate.{cell_in};
+
+    ghost cell = { cell_in };
+
+    ghost has = { λ row column. nat_lt column (length row) };
+
+    fn cell(&self, column: &usize) -> ValueRef<'_> {
+        self.as_slice()[*column].borrowed()
+    }
+}
+
+impl<C> Operand<C> {
+    // The operand's value in a row.
+    fn value<'a, R: RowCells<C>>(&'a self, row: &'a R) -> ValueRef<'a>
+        requires { IsTrue (operand_names (R.has row.now) self.now) }
+        ensures { value_of result ≡ operand_value (R.cell row.now) self.now }
+    {
+        match self {
+            Operand::Column(column) => row.cell(column),
+            Operand::Literal(value) => value.borrowed(),
+        }
+    }
+}
+
+impl<C> Predicate<C> {
+    /// The predicate's truth in a row. It takes no memory.
+    pub fn truth<R: RowCells<C>>(&self, row: &R) -> Truth
+        requires { IsTrue (names_only (R.has row.now) (pred_of self.now)) }
+        ensures { result ≡ truth_of (R.cell row.now) (pred_of self.now) }
+    {
+        match self {
+            Predicate::And(left, right) => {
+                let left = left.truth(row);
+                left.and(right.truth(row))
+            }
+            Predicate::Or(left, right) => {
+                let left = left.truth(row);
+                left.or(right.truth(row))
+            }
+            Predicate::Not(predicate) => predicate.truth(row).not(),
+            Predicate::Is {
+                negated,
+                tested,
+                predicate,
+            } => not_if(*negated, predicate.truth(row).is(*tested)),
+            Predicate::Compare {
+                comparison,
+                left,
+                right,
+            } => left.value(row).compare(*comparison, right.value(row)),
+            Predicate::Between {
+                negated,
+                operand,
+                low,
+                high,
+            } => {
+                let value = operand.value(row);
+                let above = value.compare(Comparison::GreaterOrEqual, low.value(row));
+                let below = value.compare(Comparison::LessOrEqual, high.value(row));
+                not_if(*negated, above.and(below))
+            }
+            Predicate::In {
+                negated,
+                operand,
+                items,
+            } => not_if(
+                *negated,
+                equals_any(operand.value(row), items.as_slice(), row),
+            ),
+            Predicate::IsNull { negated, operand } => {
+                not_if(*negated, operand.value(row).is_null())
+            }
+        }
+    }
+}
+
+// The negation, where a NOT is written.
+fn not_if(negated: bool, truth: Truth) -> Truth
+    ensures { result ≡ negated_if negated truth }
+{
+    if negated { truth.not() } else { truth }
+}
+
+// The OR of the equalities with each item.
+#[tactic(auto, using(crate::proofs::Truths::or_laws))]
+fn equals_any<C, R: RowCells<C>>(value: ValueRef<'_>, items: &[Operand<C>], row: &R) -> Truth
+    requires { IsTrue (list_all (operand_names (R.has row.now)) items.now) }
+    ensures { result ≡ any_equal (R.cell row.now) (value_of value.entry) items.now }
+{
+    let mut found = Truth::False;
+    for item in items {
+        found = found.or(value.compare(Comparison::Equal, item.value(row)));
+    }
+    found
+}
