@@ -6,6 +6,7 @@ use Rattle.scan_base.specs.declared.fault.Fault.{Fault}
 use Rattle.scan_base.specs.declared.fault.Fault.TheVariants.{BadFlatbuffer}
 use Rattle.scan_base.specs.Reading.{◌>>=◌, demand}
 use Rattle.byteorder.specs.Endian.{little_from}
+pub use Rattle.flatbuf.specs.Layout.{TableAt, VectorAt}
 
 -- the number of this many bytes at a place, the lowest byte first
 abbrev pub number_at : ℕ → List ℕ → ℕ → Result ℕ Fault
@@ -20,11 +21,6 @@ bytes_at bytes at count =
 -- where an offset leads: it is counted from its own place
 abbrev pub target_of : List ℕ → ℕ → Result ℕ Fault
 target_of bytes at = number_at 4 bytes at >>= λ offset. Ok (at + offset)
-
--- a table of a buffer, by where it begins
-pub record TableAt : Type 0 where
-  pub bytes : List ℕ
-  pub at : ℕ
 
 -- the table that the buffer's first four bytes lead to
 abbrev pub root_of : List ℕ → Result TableAt Fault
@@ -65,12 +61,6 @@ through {A = A} table slot read = field_of table slot >>= λ place. led place
 -- the table that a slot leads to
 unfoldable pub table_of : TableAt → ℕ → Result (Option TableAt) Fault
 table_of table slot = through table slot (λ target. Ok (record { bytes = table.bytes; at = target }))
-
--- a vector of tables, by where its first offset lies
-pub record VectorAt : Type 0 where
-  pub bytes : List ℕ
-  pub first : ℕ
-  pub count : ℕ
 
 -- the vector of tables that a slot leads to
 unfoldable pub vector_of : TableAt → ℕ → Result (Option VectorAt) Fault

@@ -2,3 +2,11 @@
 #![tactic(auto)]
 
 pub mod number;
+pub mod reading_laws;
+pub mod table;
+pub mod vector;
+pub mod width;
+
+pub use crate::table::{Buf, Table};
+pub use crate::vector::Vector;
+pub use crate::width::Width;

@@ -1,0 +1,1 @@
+//! Laws: each reading finds what the format says.
