@@ -42,21 +42,24 @@ field_of table slot = do
       else (number_at 2 table.bytes (vtable + (2 * slot + 4)) >>= λ entry.
       Ok (if entry == 0 then None else Some (table.at + entry))))
 
--- the number of a slot, and the default where it is absent
+-- the number at a field, and the default where the field is absent
+abbrev pub scalar_at : ℕ → List ℕ → ℕ → Option ℕ → Result ℕ Fault
+scalar_at width bytes default None = Ok default
+scalar_at width bytes default (Some at) = number_at width bytes at
+
+-- the number of a slot
 unfoldable pub scalar_of : ℕ → TableAt → ℕ → ℕ → Result ℕ Fault
-scalar_of width table slot default = field_of table slot >>= λ place. scalar_at place
-  where
-    scalar_at : Option ℕ → Result ℕ Fault
-    scalar_at None = Ok default
-    scalar_at (Some at) = number_at width table.bytes at
+scalar_of width table slot default = field_of table slot >>= λ place. scalar_at width table.bytes default place
+
+-- what is read where the offset at a field leads, and nothing where the field is absent
+abbrev pub led_from : {A : Type 0} → List ℕ → (ℕ → Result A Fault) → Option ℕ → Result (Option A) Fault
+led_from bytes read None = Ok None
+led_from bytes read (Some at) =
+    target_of bytes at >>= λ target. (read target >>= λ found. Ok (Some found))
 
 -- what a slot leads to, where it is there
 abbrev pub through : {A : Type 0} → TableAt → ℕ → (ℕ → Result A Fault) → Result (Option A) Fault
-through {A = A} table slot read = field_of table slot >>= λ place. led place
-  where
-    led : Option ℕ → Result (Option A) Fault
-    led None = Ok None
-    led (Some at) = target_of table.bytes at >>= λ target. (read target >>= λ found. Ok (Some found))
+through table slot read = field_of table slot >>= λ place. led_from table.bytes read place
 
 -- the table that a slot leads to
 unfoldable pub table_of : TableAt → ℕ → Result (Option TableAt) Fault
