@@ -1,7 +1,7 @@
-//! Tables of a FlatBuffers buffer: read in place, and written.
+//! Tables of a buffer in the FlatBuffers binary format: read in place, and written.
 #![tactic(auto)]
 
-pub mod number;
+mod number;
 pub mod reading_laws;
 pub mod table;
 pub mod vector;
