@@ -1,0 +1,242 @@
+//! Tables, vectors and texts, written from the front. Each block may stand at any multiple of 8.
+//!
+//! The layout is one of those that the FlatBuffers binary format allows: a vtable stands right before
+//! its table, each slot has a field of 8 bytes, and what a field leads to stands behind the table.
+
+ghost use Rattle.std.specs.Prelude.{◌≡◌, ◌≤◌, ◌<◌, ◌+◌, ◌*◌, ◌%◌, ◌^◌, ◌++◌, [], ◌∷◌, length, map, OnOk, IfOk, Ok};
+ghost use Rattle.flatbuf.specs.Block.{Offset, little, numbers, padding, padded, entries, fields, children, table_part, items_part, text_part, structs_part, tables_part, tables_from, buffer_of};
+ghost use Rattle.flatbuf.specs.Given.{given_of};
+ghost use Rattle.flatbuf.specs.Fits.{FitsTable, FitsTables, FitsStructs};
+
+use std::alloc::{AllocError, Global};
+use std::marker::Model;
+
+/// The greatest number of slots of a table: its size, 8 bytes and 8 for each slot, is a number of 2 bytes.
+pub const MOST_SLOTS: usize = (u16::MAX as usize - 8) / 8;
+
+/// Bytes that lead to nothing outside themselves, and where in them their table, text or vector begins.
+#[derive(Drop)]
+pub struct Block {
+    bytes: Vec<u8>,
+    root: usize,
+}
+
+impl Model for Block {
+    ghost use Rattle.flatbuf.specs.Block.{Part, IsWhole};
+
+    ghost Value = { Part };
+
+    ghost view = { λ b. record { bytes = b.bytes.items; root = b.root } };
+
+    ghost invariant = { λ b. IsWhole (record { bytes = b.bytes.items; root = b.root }) };
+}
+
+/// What a slot of a table is given.
+#[derive(Drop)]
+pub enum Slot<'a> {
+    /// Nothing: a reader sees the slot's default.
+    Absent,
+    /// A scalar, to be read in any width of up to 8 bytes that holds it.
+    Number(u64),
+    /// An offset to a table, a text or a vector.
+    Offset(&'a Block),
+}
+
+// Writes a number of so many bytes.
+#[tactic(auto, using(crate::proofs::Standing::take_little))]
+fn put(out: &mut Vec<u8>, number: u64, width: usize) -> Result<(), AllocError>
+    requires { width ≤ 8 }
+    ensures { OnOk result (out.new.items ≡ out.old.items ++ little width number) }
+{
+    out.extend_from_slice(&number.to_le_bytes()[..width])
+}
+
+// Writes zeros up to a multiple of 8 behind so many bytes.
+#[tactic(auto, unfolding(crate::specs::Block::padding))]
+fn pad(out: &mut Vec<u8>, written: usize) -> Result<(), AllocError>
+    ensures { OnOk result (out.new.items ≡ out.old.items ++ padding written) }
+{
+    out.extend_from_slice(&[0; 8][..(8 - written % 8) % 8])
+}
+
+// Writes the entries of a vtable.
+fn put_entries(out: &mut Vec<u8>, slots: &[Slot<'_>]) -> Result<(), AllocError>
+    requires { length slots.now ≤ MOST_SLOTS }
+    ensures { OnOk result (out.new.items ≡ out.old.items ++ numbers 2 (entries 8 (map given_of slots.now))) }
+{
+    let mut place = 8;
+    for slot in slots {
+        let entry = match slot {
+            Slot::Absent => 0,
+            Slot::Number(_) | Slot::Offset(_) => place,
+        };
+        put(out, entry, 2)?;
+        place += 8;
+    }
+    Ok(())
+}
+
+// Writes the fields of a table, the first at `first`. The blocks that they lead to will stand from
+// `behind` on.
+fn put_fields(
+    out: &mut Vec<u8>,
+    slots: &[Slot<'_>],
+    first: usize,
+    behind: usize,
+) -> Result<(), AllocError>
+    requires room { first + 8 * length slots.now ≤ behind }
+    requires small { behind + length (children (map given_of slots.now)) < 2 ^ 32 }
+    ensures { OnOk result (out.new.items
+        ≡ out.old.items ++ numbers 8 (fields 8 first behind (map given_of slots.now))) }
+{
+    let mut place = first;
+    let mut next = behind;
+    for slot in slots {
+        match slot {
+            Slot::Absent => put(out, 0, 8)?,
+            Slot::Number(number) => put(out, *number, 8)?,
+            Slot::Offset(block) => {
+                put(out, (next + block.root - place) as u64, 8)?;
+                next += block.bytes.len();
+            }
+        }
+        place += 8;
+    }
+    Ok(())
+}
+
+// Writes the blocks that the fields of a table lead to.
+fn put_children(out: &mut Vec<u8>, slots: &[Slot<'_>]) -> Result<(), AllocError>
+    ensures items { OnOk result (out.new.items ≡ out.old.items ++ children (map given_of slots.now)) }
+    ensures whole { OnOk result (length out.old.items % 8 ≡ 0 → length out.new.items % 8 ≡ 0) }
+{
+    for slot in slots {
+        if let Slot::Offset(block) = slot {
+            out.extend_from_slice(block.bytes.as_slice())?;
+        }
+    }
+    Ok(())
+}
+
+// Writes the offsets of a vector of tables, which will stand from `behind` on.
+fn put_offsets(out: &mut Vec<u8>, tables: &[Block], behind: usize) -> Result<(), AllocError>
+    requires room { 8 + 4 * length tables.now ≤ behind }
+    requires small { behind + length (children (map Offset tables.now)) < 2 ^ 32 }
+    ensures { OnOk result (out.new.items
+        ≡ out.old.items ++ numbers 4 (fields 4 8 behind (map Offset tables.now))) }
+{
+    let mut place = 8;
+    let mut next = behind;
+    for table in tables {
+        put(out, (next + table.root - place) as u64, 4)?;
+        next += table.bytes.len();
+        place += 4;
+    }
+    Ok(())
+}
+
+// Writes the tables of a vector.
+fn put_tables(out: &mut Vec<u8>, tables: &[Block]) -> Result<(), AllocError>
+    ensures items { OnOk result (out.new.items ≡ out.old.items ++ children (map Offset tables.now)) }
+    ensures whole { OnOk result (length out.old.items % 8 ≡ 0 → length out.new.items % 8 ≡ 0) }
+{
+    for table in tables {
+        out.extend_from_slice(table.bytes.as_slice())?;
+    }
+    Ok(())
+}
+
+/// Writes blocks, and a buffer of them, into memory of its allocator.
+#[derive(Clone, Copy)]
+pub struct Builder {
+    alloc: Global,
+}
+
+impl Builder {
+    /// A builder that takes memory from this allocator.
+    pub fn new(alloc: Global) -> Builder {
+        Builder { alloc }
+    }
+
+    /// A table of these slots.
+    #[tactic(auto, unfolding(crate::specs::Block::table_part, crate::specs::Block::vtable))]
+    pub fn table(&self, slots: &[Slot<'_>]) -> Result<Block, AllocError>
+        requires { FitsTable (map given_of slots.now) }
+        ensures { IfOk result (λ block. block ≡ table_part (map given_of slots.now)) }
+    {
+        let count = slots.len();
+        let mut bytes = Vec::new(self.alloc);
+        put(&mut bytes, 4 + 2 * count as u64, 2)?;
+        put(&mut bytes, 8 + 8 * count as u64, 2)?;
+        put_entries(&mut bytes, slots)?;
+        let written = bytes.len();
+        pad(&mut bytes, written)?;
+        let root = bytes.len();
+        put(&mut bytes, root as u64, 8)?;
+        put_fields(&mut bytes, slots, root + 8, root + 8 + 8 * count)?;
+        put_children(&mut bytes, slots)?;
+        Ok(Block { bytes, root })
+    }
+
+    // A count, items, and what closes them.
+    #[tactic(auto, unfolding(crate::specs::Block::items_part))]
+    fn items(&self, count: u32, items: &[u8], end: &[u8]) -> Result<Block, AllocError>
+        requires { length items.now + length end.now < 2 ^ 62 }
+        ensures { IfOk result (λ block. block ≡ items_part count (items.now ++ end.now)) }
+    {
+        let mut bytes = Vec::new(self.alloc);
+        put(&mut bytes, 0, 4)?;
+        put(&mut bytes, u64::from(count), 4)?;
+        bytes.extend_from_slice(items)?;
+        bytes.extend_from_slice(end)?;
+        let written = bytes.len();
+        pad(&mut bytes, written)?;
+        Ok(Block { bytes, root: 4 })
+    }
+
+    /// A text, closed by a zero, as the format wants it.
+    pub fn text(&self, text: &str) -> Result<Block, AllocError>
+        requires { length text.now < 2 ^ 32 }
+        ensures { IfOk result (λ block. block ≡ text_part text.now) }
+    {
+        self.items(text.len() as u32, text.as_bytes(), &[0])
+    }
+
+    /// A vector of structs, each of `width` bytes, which stand one after the other.
+    pub fn structs(&self, width: usize, structs: &[u8]) -> Result<Block, AllocError>
+        requires { FitsStructs width structs.now }
+        ensures { IfOk result (λ block. block ≡ structs_part width structs.now) }
+    {
+        self.items((structs.len() / width) as u32, structs, &[])
+    }
+
+    /// A vector of tables.
+    #[tactic(auto, using(crate::proofs::Standing::tables_from_is), unfolding(crate::specs::Block::tables_part))]
+    pub fn tables(&self, tables: &[Block]) -> Result<Block, AllocError>
+        requires { FitsTables tables.now }
+        ensures { IfOk result (λ block. block ≡ tables_part tables.now) }
+    {
+        let count = tables.len();
+        let mut bytes = Vec::new(self.alloc);
+        put(&mut bytes, 0, 4)?;
+        put(&mut bytes, count as u64, 4)?;
+        let behind = 8 + 4 * count + (8 - (8 + 4 * count) % 8) % 8;
+        put_offsets(&mut bytes, tables, behind)?;
+        pad(&mut bytes, 8 + 4 * count)?;
+        put_tables(&mut bytes, tables)?;
+        Ok(Block { bytes, root: 4 })
+    }
+
+    /// The whole buffer of a table: where it begins, and the table.
+    #[tactic(auto, unfolding(crate::specs::Block::buffer_of))]
+    pub fn finish(&self, table: &Block) -> Result<Vec<u8>, AllocError>
+        requires { 8 + length (table.now).bytes < 2 ^ 31 }
+        ensures items { IfOk result (λ bytes. bytes.items ≡ buffer_of table.now) }
+        ensures whole { IfOk result (λ bytes. length bytes.items % 8 ≡ 0) }
+    {
+        let mut bytes = Vec::new(self.alloc);
+        put(&mut bytes, 8 + table.root as u64, 8)?;
+        bytes.extend_from_slice(table.bytes.as_slice())?;
+        Ok(bytes)
+    }
+}
