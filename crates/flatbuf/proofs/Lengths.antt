@@ -39,9 +39,9 @@ short_table slots =
     let f = length_padding (length (numbers 2 nums)) in
     omega arith
 
--- a table of few slots that leads to little fits
-pub fits_table : (slots : List Given) → length slots ≤ 1000 → length (children slots) < 2 ^ 30 → FitsTable slots
-fits_table slots few small = let s = short_table slots in record { few = omega arith; small = omega arith }
+-- where a table fits
+pub fits_table : (slots : List Given) → length slots ≤ MOST_SLOTS → 20 + 10 * length slots + length (children slots) < 2 ^ 31 → FitsTable slots
+fits_table slots few small = let s = short_table slots in record { few = few; small = omega arith }
 
 -- a count and items are whole
 pub whole_items : (count : ℕ) (items : List ℕ) → IsWhole (items_part count items)
@@ -114,3 +114,10 @@ short_tables tables =
     let a = length-tables tables in
     let c = tables_from_is (length tables) in
     omega arith
+
+-- where a vector of tables fits
+pub fits_tables : (tables : List Part) → 15 + 4 * length tables + length (children (map Offset tables)) < 2 ^ 31 → FitsTables tables
+fits_tables tables small = let s = short_tables tables in omega arith
+
+-- what a caller of the builder owes: name it in the attribute `using`
+pub ruleset fits = (fits_table, fits_tables, short_table, short_text, short_structs, short_tables)

@@ -3,7 +3,7 @@
 //! The layout is one of those that the FlatBuffers binary format allows: a vtable stands right before
 //! its table, each slot has a field of 8 bytes, and what a field leads to stands behind the table.
 
-ghost use Rattle.std.specs.Prelude.{◌≡◌, ◌≤◌, ◌<◌, ◌+◌, ◌*◌, ◌%◌, ◌^◌, ◌++◌, [], ◌∷◌, length, map, OnOk, IfOk, Ok};
+ghost use Rattle.std.specs.Prelude.{◌≡◌, ◌≤◌, ◌<◌, ◌+◌, ◌-◌, ◌*◌, ◌%◌, ◌^◌, ◌++◌, [], ◌∷◌, length, map, OnOk, IfOk, Ok};
 ghost use Rattle.flatbuf.specs.Block.{Offset, little, numbers, padding, padded, entries, fields, children, table_part, items_part, text_part, structs_part, tables_part, tables_from, buffer_of};
 ghost use Rattle.flatbuf.specs.Given.{given_of};
 ghost use Rattle.flatbuf.specs.Fits.{FitsTable, FitsTables, FitsStructs};
@@ -51,12 +51,19 @@ fn put(out: &mut Vec<u8>, number: u64, width: usize) -> Result<(), AllocError>
     out.extend_from_slice(&number.to_le_bytes()[..width])
 }
 
+// How many zeros stand behind so many bytes.
+fn padding_len(written: usize) -> usize
+    ensures { result ≡ (8 - written % 8) % 8 }
+{
+    (8 - written % 8) % 8
+}
+
 // Writes zeros up to a multiple of 8 behind so many bytes.
 #[tactic(auto, unfolding(crate::specs::Block::padding))]
 fn pad(out: &mut Vec<u8>, written: usize) -> Result<(), AllocError>
     ensures { OnOk result (out.new.items ≡ out.old.items ++ padding written) }
 {
-    out.extend_from_slice(&[0; 8][..(8 - written % 8) % 8])
+    out.extend_from_slice(&[0; 8][..padding_len(written)])
 }
 
 // Writes the entries of a vtable.
@@ -220,9 +227,9 @@ impl Builder {
         let mut bytes = Vec::new(self.alloc);
         put(&mut bytes, 0, 4)?;
         put(&mut bytes, count as u64, 4)?;
-        let behind = 8 + 4 * count + (8 - (8 + 4 * count) % 8) % 8;
-        put_offsets(&mut bytes, tables, behind)?;
-        pad(&mut bytes, 8 + 4 * count)?;
+        let written = 8 + 4 * count;
+        put_offsets(&mut bytes, tables, written + padding_len(written))?;
+        pad(&mut bytes, written)?;
         put_tables(&mut bytes, tables)?;
         Ok(Block { bytes, root: 4 })
     }
@@ -238,5 +245,52 @@ impl Builder {
         put(&mut bytes, 8 + table.root as u64, 8)?;
         bytes.extend_from_slice(table.bytes.as_slice())?;
         Ok(bytes)
+    }
+}
+
+#[cfg(test)]
+mod tests {
+    use super::*;
+
+    // The bytes are worked out by hand from the layout.
+    #[tactic(auto, using(crate::proofs::Lengths::fits))]
+    #[test]
+    fn writes_the_layout(rt: HostRuntime) -> Result<(), AllocError> {
+        let builder = Builder::new(rt.alloc());
+        let text = builder.text("hi")?;
+        let structs = builder.structs(16, &[7; 16])?;
+        let child = builder.table(&[Slot::Number(9)])?;
+        let tables = builder.tables(&[child])?;
+        let table = builder.table(&[
+            Slot::Number(5),
+            Slot::Absent,
+            Slot::Offset(&text),
+            Slot::Offset(&structs),
+            Slot::Offset(&tables),
+        ])?;
+        let bytes = builder.finish(&table)?;
+        let want = [
+            24, 0, 0, 0, 0, 0, 0, 0, // the table begins at 24
+            14, 0, 48, 0, 8, 0, 0, 0, // the vtable's 14 bytes, the table's 48, and the entries
+            24, 0, 32, 0, 40, 0, 0, 0, // of slots 2, 3 and 4, and two zeros
+            16, 0, 0, 0, 0, 0, 0, 0, // the table, 16 behind its vtable
+            5, 0, 0, 0, 0, 0, 0, 0, // slot 0
+            0, 0, 0, 0, 0, 0, 0, 0, // slot 1
+            28, 0, 0, 0, 0, 0, 0, 0, // slot 2, at 48: the text's count stands at 76
+            36, 0, 0, 0, 0, 0, 0, 0, // slot 3, at 56: the structs' count stands at 92
+            52, 0, 0, 0, 0, 0, 0, 0, // slot 4, at 64: the vector's count stands at 116
+            0, 0, 0, 0, 2, 0, 0, 0, // two bytes of text
+            104, 105, 0, 0, 0, 0, 0, 0, // which a zero closes
+            0, 0, 0, 0, 1, 0, 0, 0, // one struct
+            7, 7, 7, 7, 7, 7, 7, 7, //
+            7, 7, 7, 7, 7, 7, 7, 7, //
+            0, 0, 0, 0, 1, 0, 0, 0, // one table
+            16, 0, 0, 0, 0, 0, 0, 0, // its offset, at 120: it begins at 136
+            6, 0, 16, 0, 8, 0, 0, 0, // its vtable
+            8, 0, 0, 0, 0, 0, 0, 0, // it, 8 behind its vtable
+            9, 0, 0, 0, 0, 0, 0, 0, // its slot 0
+        ];
+        assert_eq!(rt; bytes.as_slice(), want.as_slice());
+        Ok(())
     }
 }

@@ -3,5 +3,6 @@
 
 pub mod build;
 pub mod number;
+pub mod written_laws;
 
 pub use crate::build::{Block, Builder, Slot};

@@ -11,7 +11,8 @@ put_offsets-requires-clause-small c =
     let l = length-tables c.args.tables.now in
     let e = tables_from_is (length c.args.tables.now) in
     let small = c.requires in
-    omega (arith, l, e, small)
+    let p = c.padding_len.ensures in
+    omega (arith, l, e, small, p)
 
 pub invariant_of-result : goal.invariant_of-result
 invariant_of-result c =
@@ -21,7 +22,7 @@ invariant_of-result c =
     let e = ap length c.in_ok-pad.ensures in
     let f = ap length c.in_ok-put_tables.ensures.items in
     let tables = map Offset c.args.tables.now in
-    let behind = 8 + 4 * length c.args.tables.now + (8 - (8 + 4 * length c.args.tables.now) % 8) % 8 in
+    let behind = 8 + 4 * length c.args.tables.now + c.padding_len.result in
     let n = length-fields 4 8 behind tables in
     let m = length-numbers 4 (fields 4 8 behind tables) in
     let k = length-map c.args.tables.now Offset in
@@ -31,4 +32,4 @@ invariant_of-result c =
 pub returns : goal.returns
 unfolding tables_part
 returns c =
-    rw (c.in_ok-put_tables.ensures.items, c.in_ok-pad.ensures, c.in_ok-put_offsets.ensures, c.in_ok-put-2.ensures, c.in_ok-put.ensures, c.new-bytes.ensures.items, tables_from_is (length c.args.tables.now)) (simp append_assoc)
+    rw (c.in_ok-put_tables.ensures.items, c.in_ok-pad.ensures, c.in_ok-put_offsets.ensures, c.padding_len.ensures, c.in_ok-put-2.ensures, c.in_ok-put.ensures, c.new-bytes.ensures.items, tables_from_is (length c.args.tables.now)) (simp append_assoc)
