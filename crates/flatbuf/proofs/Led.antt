@@ -1,16 +1,15 @@
 -- What the slots of a written table lead to.
-use Rattle.std.proofs.Common.{◌≡◌, ℕ, zero, suc, ◌+◌, ◌-◌, ◌*◌, ◌/◌, ◌%◌, ◌^◌, ◌≤◌, ◌<◌, List, [], ◌∷◌, ◌++◌, length, map, true, Some, None, Ok, refl, arith, ap, sym, ◌∙◌, append-nil, subst}
-use Rattle.std.specs.Prelude.{IsUtf8, slice_get}
-use Rattle.std.specs.Str.{is_utf8}
+use Rattle.std.proofs.Common.{◌≡◌, ℕ, zero, suc, ◌+◌, ◌*◌, ◌/◌, ◌%◌, ◌^◌, ◌<◌, List, [], ◌∷◌, ◌++◌, length, map, Some, None, Ok, refl, arith, ap, ◌∙◌, append-nil, subst}
+use Rattle.std.specs.Prelude.{slice_get}
 use Rattle.std.proofs.lemmas.List.{length-append, length-map}
 use Rattle.std.proofs.lemmas.Str.{is_utf8-from_IsUtf8}
 use Rattle.std.proofs.Math.Nat.{div-le_self}
-use Rattle.flatbuf.specs.Place.{TableAt, VectorAt, number_at, target_of, root_of, field_of, scalar_of, table_of, text_of, structs_of, items_at, vector_of, element_of}
+use Rattle.flatbuf.specs.Place.{TableAt, VectorAt, number_at, target_of, field_of, scalar_of, table_of, text_of, structs_of, items_at, vector_of, element_of}
 use Rattle.flatbuf.specs.Layout.{Stands}
-use Rattle.flatbuf.specs.Block.{Part, IsWhole, Given, Absent, Number, Offset, AreWhole, little, numbers, padding, padded, fields, children, items_part, text_part, structs_part, tables_from, tables_part, buffer_of}
-use Rattle.flatbuf.specs.Fits.{FitsTables, FitsStructs}
-use Rattle.flatbuf.specs.Written.{table_at, LeadsTo, ElementIs, VectorReads, ChildReadsBack, TextReadsBack, StructsReadBack, TablesReadBack, BufferReadsBack}
-use Rattle.flatbuf.proofs.Standing.{stands_first, stands_then, stands_at, stands_whole, stands_number, stands_low, stands_bytes, length-little, tables_from_whole, tables_from_is}
+use Rattle.flatbuf.specs.Block.{Part, Offset, AreWhole, little, numbers, padding, fields, children, items_part, tables_from, tables_part, buffer_of}
+use Rattle.flatbuf.specs.Fits.{FitsTables}
+use Rattle.flatbuf.specs.Written.{table_at, LeadsToBlock, ElementIs, ChildReadsBack, TextReadsBack, StructsReadBack, TablesReadBack, BufferReadsBack}
+use Rattle.flatbuf.proofs.Standing.{stands_first, stands_then, stands_at, stands_whole, stands_number, stands_low, stands_bytes, length-little, tables_from_whole}
 use Rattle.flatbuf.proofs.Written.{FieldsHold, fields_hold, length-numbers, length-fields, stands_head, stands_tail}
 use Rattle.flatbuf.proofs.Lengths.{length-tables}
 
@@ -72,7 +71,7 @@ unfolding items_part
 items_root count items = refl
 
 -- where a slot that leads to counted items leads
-led_items : (t : TableAt) (slot count : ℕ) (items : List ℕ) → (l : LeadsTo t slot (items_part count items)) → target_of t.bytes l.from ≡ Ok (l.place + 4)
+led_items : (t : TableAt) (slot count : ℕ) (items : List ℕ) → (l : LeadsToBlock t slot (items_part count items)) → target_of t.bytes l.from ≡ Ok (l.place + 4)
 led_items t slot count items l = l.target ∙ ap (λ (n : ℕ). Ok (l.place + n)) (items_root count items)
 
 -- so many structs of a width have so many bytes
@@ -137,7 +136,7 @@ abbrev pub vector_behind : TableAt → ℕ → List Part → VectorAt
 vector_behind t place tables = record { bytes = t.bytes; first = place + 8; count = length tables }
 
 -- the vector of tables that a slot leads to, and each table in turn
-pub led_vector : (t : TableAt) (slot : ℕ) (tables : List Part) → FitsTables tables → AreWhole (map Offset tables) → (l : LeadsTo t slot (tables_part tables)) →
+pub led_vector : (t : TableAt) (slot : ℕ) (tables : List Part) → FitsTables tables → AreWhole (map Offset tables) → (l : LeadsToBlock t slot (tables_part tables)) →
     (vector_of t slot ≡ Ok (Some (vector_behind t l.place tables))) × Elements (vector_behind t l.place tables) 0 tables
 unfolding tables_part tables_from vector_of
 led_vector t slot tables fits whole l =

@@ -1,7 +1,7 @@
 -- How long written blocks are, and that they are whole.
 use Rattle.std.proofs.Common.{◌≡◌, ℕ, suc, ◌+◌, ◌*◌, ◌/◌, ◌%◌, ◌^◌, ◌≤◌, ◌<◌, List, [], ◌∷◌, ◌++◌, length, map, refl, arith}
 use Rattle.std.proofs.lemmas.List.{length-append, length-map}
-use Rattle.flatbuf.specs.Block.{Part, IsWhole, Given, Absent, Number, Offset, AreWhole, little, numbers, padding, padded, entries, fields, children, vtable, table_part, items_part, text_part, structs_part, tables_from, tables_part}
+use Rattle.flatbuf.specs.Block.{Part, IsWhole, Given, Absent, Number, Offset, AreWhole, little, numbers, padding, entries, fields, children, vtable, table_part, items_part, text_part, structs_part, tables_from, tables_part}
 use Rattle.flatbuf.specs.Fits.{FitsTable, FitsTables}
 use Rattle.flatbuf.specs.declared.build.TheConstants.{MOST_SLOTS}
 use Rattle.flatbuf.proofs.Standing.{length-little, length_padding, length_padded, tables_from_is}

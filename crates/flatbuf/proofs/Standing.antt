@@ -12,7 +12,6 @@ use Rattle.flatbuf.specs.Layout.{Stands}
 use Rattle.flatbuf.specs.Block.{little, padding, padded, tables_from}
 use Rattle.flatbuf.proofs.Numbers.{little_from-at}
 
-
 pub stands_first : (a b bytes : List ℕ) (at : ℕ) → Stands (a ++ b) bytes at → Stands a bytes at
 stands_first a b bytes at l = record { before = l.before; after = b ++ l.after; whole = l.whole ∙ simp append_assoc; place = l.place }
 

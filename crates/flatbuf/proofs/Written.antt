@@ -1,13 +1,13 @@
 -- What is read of a written table.
-use Rattle.std.proofs.Common.{◌≡◌, ℕ, zero, suc, ◌+◌, ◌-◌, ◌*◌, ◌%◌, ◌^◌, ◌≤◌, ◌<◌, List, [], ◌∷◌, ◌++◌, length, map, Some, None, Ok, refl, arith, ap, sym, ◌∙◌, subst}
+use Rattle.std.proofs.Common.{◌≡◌, ℕ, zero, suc, ◌+◌, ◌-◌, ◌*◌, ◌%◌, ◌^◌, ◌≤◌, ◌<◌, List, [], ◌∷◌, ◌++◌, length, Some, None, Ok, refl, arith, ap, ◌∙◌, subst}
 use Rattle.std.proofs.lemmas.List.{length-append}
-use Rattle.std.proofs.lemmas.Bool.{le-leb, lt-ltb, le-ltb, lt-leb}
+use Rattle.std.proofs.lemmas.Bool.{le-leb, lt-ltb, le-ltb}
 use Rattle.std.proofs.Math.Dec.{eqb-suc-zero}
 use Rattle.flatbuf.specs.Place.{TableAt, number_at, target_of, vtable_of, field_of, scalar_of}
 use Rattle.flatbuf.specs.Layout.{Stands}
-use Rattle.flatbuf.specs.Block.{Part, IsWhole, Given, Absent, Number, Offset, given_at, AreWhole, little, numbers, padding, entries, fields, children, vtable, table_part}
+use Rattle.flatbuf.specs.Block.{Given, Absent, Number, Offset, given_at, AreWhole, little, numbers, padding, entries, fields, children, vtable, table_part}
 use Rattle.flatbuf.specs.Fits.{FitsTable}
-use Rattle.flatbuf.specs.Written.{table_at, LeadsTo, SlotReads, TableReadsBack, VtableReadsBack, TableIsAligned}
+use Rattle.flatbuf.specs.Written.{table_at, LeadsToBlock, SlotReads, TableReadsBack, VtableReadsBack, TableIsAligned}
 use Rattle.flatbuf.proofs.Standing.{stands_first, stands_then, stands_at, stands_number, stands_low, stands_target, length-little, length_padded}
 
 pub length-numbers : (width : ℕ) (ns : List ℕ) → length (numbers width ns) ≡ width * length ns
@@ -103,7 +103,7 @@ field_place t slot = t.at + (8 + 8 * slot)
 abbrev SlotTold : TableAt → ℕ → Given → Type 0
 SlotTold t slot Absent = field_of t slot ≡ Ok None
 SlotTold t slot (Number n) = (field_of t slot ≡ Ok (Some (field_place t slot))) × Stands (little 8 n) t.bytes (field_place t slot)
-SlotTold t slot (Offset part) = (field_of t slot ≡ Ok (Some (field_place t slot))) × LeadsTo t slot part
+SlotTold t slot (Offset part) = (field_of t slot ≡ Ok (Some (field_place t slot))) × LeadsToBlock t slot part
 
 -- the same of the slots from one on
 abbrev Told : TableAt → ℕ → List Given → Type 0
@@ -291,5 +291,5 @@ table_aligned slots bytes at fits whole s even =
     let t = table_at bytes at (table_part slots) in
     let b : (at + (table_part slots).root) % 8 ≡ 0 = omega arith in
     let each : (slot from : ℕ) → field_of t slot ≡ Ok (Some from) → from % 8 ≡ 0 = λ (slot : ℕ) (from : ℕ) (e : field_of t slot ≡ Ok (Some from)).
-        (let f : from ≡ at + (table_part slots).root + (8 + 8 * slot) = field_placed t slot from (given_at slots slot) (slot_told slots bytes at fits whole s slot) e in omega arith) in
+    (let f : from ≡ at + (table_part slots).root + (8 + 8 * slot) = field_placed t slot from (given_at slots slot) (slot_told slots bytes at fits whole s slot) e in omega arith) in
     (b, each)

@@ -1,5 +1,5 @@
 -- What the format has room for: no buffer has 2 ^ 31 bytes, and a vtable's sizes are numbers of 2 bytes.
-use Rattle.std.specs.Prelude.{◌≡◌, ℕ, ◌+◌, ◌*◌, ◌%◌, ◌^◌, ◌≤◌, ◌<◌, List, length}
+use Rattle.std.specs.Prelude.{◌≡◌, ℕ, ◌%◌, ◌^◌, ◌≤◌, ◌<◌, List, length}
 use Rattle.flatbuf.specs.Block.{Part, Given, table_part, tables_part}
 use Rattle.flatbuf.specs.declared.build.TheConstants.{MOST_SLOTS}
 

@@ -1,5 +1,5 @@
 -- What is read of what was written, whatever it is and wherever it stands.
-use Rattle.std.specs.Prelude.{◌≡◌, ℕ, zero, suc, ◌+◌, ◌*◌, ◌%◌, ◌^◌, ◌≤◌, ◌<◌, List, [], ◌∷◌, ◌++◌, length, map, Option, Some, None, Ok, IsUtf8, slice_get}
+use Rattle.std.specs.Prelude.{◌≡◌, ℕ, ◌+◌, ◌*◌, ◌%◌, ◌^◌, ◌≤◌, ◌<◌, List, length, map, Some, None, Ok, IsUtf8, slice_get}
 use Rattle.flatbuf.specs.Place.{TableAt, VectorAt, number_at, target_of, root_of, vtable_of, field_of, scalar_of, table_of, vector_of, element_of, structs_of, text_of}
 use Rattle.flatbuf.specs.Layout.{Stands}
 use Rattle.flatbuf.specs.Block.{Part, IsWhole, Given, Absent, Number, Offset, given_at, AreWhole, table_part, text_part, structs_part, tables_part, buffer_of}
@@ -11,7 +11,7 @@ table_at bytes place part = record { bytes = bytes; at = place + part.root }
 
 -- A slot leads to the root of a block, whose bytes stand at a place. That is a multiple of 8 where the
 -- table begins at one.
-pub record LeadsTo (table : TableAt) (slot : ℕ) (part : Part) : Type 0 where
+pub record LeadsToBlock (table : TableAt) (slot : ℕ) (part : Part) : Type 0 where
   pub from : ℕ
   pub place : ℕ
   pub field : field_of table slot ≡ Ok (Some from)
@@ -24,7 +24,7 @@ abbrev pub SlotReads : TableAt → ℕ → Given → Type 0
 SlotReads table slot Absent = field_of table slot ≡ Ok None
 SlotReads table slot (Number n) =
     (width default : ℕ) → width ≤ 8 → n < 256 ^ width → scalar_of width table slot default ≡ Ok n
-SlotReads table slot (Offset part) = LeadsTo table slot part
+SlotReads table slot (Offset part) = LeadsToBlock table slot part
 
 -- wherever a table stands, every slot reads as what it was given, and past the last one as absent
 abbrev pub TableReadsBack : Type 0
@@ -49,19 +49,19 @@ TableIsAligned = (slots : List Given) (bytes : List ℕ) (place : ℕ) → FitsT
 
 -- a table that a slot leads to is read where its bytes stand
 abbrev pub ChildReadsBack : Type 0
-ChildReadsBack = (table : TableAt) (slot : ℕ) (part : Part) → (led : LeadsTo table slot part) →
+ChildReadsBack = (table : TableAt) (slot : ℕ) (part : Part) → (led : LeadsToBlock table slot part) →
     table_of table slot ≡ Ok (Some (table_at table.bytes led.place part))
 
 -- a text reads back, and the byte behind it is zero
 abbrev pub TextReadsBack : Type 0
 TextReadsBack = (table : TableAt) (slot : ℕ) (text : List ℕ) → IsUtf8 text → length text < 2 ^ 32 →
-    (led : LeadsTo table slot (text_part text)) →
+    (led : LeadsToBlock table slot (text_part text)) →
     (text_of table slot ≡ Ok (Some text)) × (number_at 1 table.bytes (led.place + 8 + length text) ≡ Ok 0)
 
 -- structs read back, and begin at a multiple of 8 where the table does
 abbrev pub StructsReadBack : Type 0
 StructsReadBack = (table : TableAt) (slot width : ℕ) (structs : List ℕ) → FitsStructs width structs →
-    (led : LeadsTo table slot (structs_part width structs)) →
+    (led : LeadsToBlock table slot (structs_part width structs)) →
     (structs_of width table slot ≡ Ok (Some structs))
     × Stands structs table.bytes (led.place + 8)
     × (table.at % 8 ≡ 0 → (led.place + 8) % 8 ≡ 0)
@@ -87,7 +87,7 @@ pub record VectorReads (table : TableAt) (slot : ℕ) (vector : VectorAt) (table
 -- a vector of tables reads back
 abbrev pub TablesReadBack : Type 0
 TablesReadBack = (table : TableAt) (slot : ℕ) (tables : List Part) → FitsTables tables →
-    AreWhole (map Offset tables) → LeadsTo table slot (tables_part tables) →
+    AreWhole (map Offset tables) → LeadsToBlock table slot (tables_part tables) →
     (vector : VectorAt) × VectorReads table slot vector tables
 
 -- a buffer leads to its table, whose bytes stand at 8, and has a multiple of 8 bytes

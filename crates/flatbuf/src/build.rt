@@ -1,20 +1,28 @@
-//! Tables, vectors and texts, written from the front. Each block may stand at any multiple of 8.
+//! Writing a buffer of the FlatBuffers binary format, from the front and with no state.
 //!
-//! The layout is one of those that the FlatBuffers binary format allows: a vtable stands right before
-//! its table, each slot has a field of 8 bytes, and what a field leads to stands behind the table.
+//! A [`Block`] is a table, a vector or a text with everything that it leads to. Offsets count from
+//! their own place, so a block means the same wherever it stands, and nothing is patched. Of the
+//! layouts that the format allows, this is the one: a vtable stands right before its table and is
+//! shared with no other, each slot has a field of 8 bytes, and the blocks that fields lead to stand
+//! behind the table. Each block has a multiple of 8 bytes, so that what it leads to is aligned.
 
-ghost use Rattle.std.specs.Prelude.{◌≡◌, ◌≤◌, ◌<◌, ◌+◌, ◌-◌, ◌*◌, ◌%◌, ◌^◌, ◌++◌, [], ◌∷◌, length, map, OnOk, IfOk, Ok};
-ghost use Rattle.flatbuf.specs.Block.{Offset, little, numbers, padding, padded, entries, fields, children, table_part, items_part, text_part, structs_part, tables_part, tables_from, buffer_of};
+ghost use Rattle.std.specs.Prelude.{◌≡◌, ◌≤◌, ◌<◌, ◌+◌, ◌-◌, ◌*◌, ◌%◌, ◌^◌, ◌++◌, [], ◌∷◌};
+ghost use Rattle.std.specs.Prelude.{length, map, OnOk, IfOk, Ok};
+ghost use Rattle.flatbuf.specs.Block.{Offset, little, numbers, padding, padded, entries, fields};
+ghost use Rattle.flatbuf.specs.Block.{children, table_part, items_part, text_part, structs_part};
+ghost use Rattle.flatbuf.specs.Block.{tables_part, tables_from, buffer_of};
 ghost use Rattle.flatbuf.specs.Given.{given_of};
 ghost use Rattle.flatbuf.specs.Fits.{FitsTable, FitsTables, FitsStructs};
 
 use std::alloc::{AllocError, Global};
 use std::marker::Model;
 
-/// The greatest number of slots of a table: its size, 8 bytes and 8 for each slot, is a number of 2 bytes.
+/// The greatest number of slots of a table. Its size, 8 bytes and 8 more for each slot, is a number
+/// of 2 bytes in its vtable.
 pub const MOST_SLOTS: usize = (u16::MAX as usize - 8) / 8;
 
-/// Bytes that lead to nothing outside themselves, and where in them their table, text or vector begins.
+/// A table, a vector or a text with everything that it leads to: its bytes, a multiple of 8, and
+/// where in them it begins.
 #[derive(Drop)]
 pub struct Block {
     bytes: Vec<u8>,
@@ -34,11 +42,12 @@ impl Model for Block {
 /// What a slot of a table is given.
 #[derive(Drop)]
 pub enum Slot<'a> {
-    /// Nothing: a reader sees the slot's default.
+    /// Nothing: a reader takes the slot's default.
     Absent,
-    /// A scalar, to be read in any width of up to 8 bytes that holds it.
+    /// A scalar, which reads back in each width of up to 8 bytes that holds it. A negative number
+    /// is given as its two's complement in the width of its slot.
     Number(u64),
-    /// An offset to a table, a text or a vector.
+    /// An offset to a table, a vector or a text, whose bytes are copied behind the table.
     Offset(&'a Block),
 }
 
@@ -69,7 +78,8 @@ fn pad(out: &mut Vec<u8>, written: usize) -> Result<(), AllocError>
 // Writes the entries of a vtable.
 fn put_entries(out: &mut Vec<u8>, slots: &[Slot<'_>]) -> Result<(), AllocError>
     requires { length slots.now ≤ MOST_SLOTS }
-    ensures { OnOk result (out.new.items ≡ out.old.items ++ numbers 2 (entries 8 (map given_of slots.now))) }
+    ensures { OnOk result (out.new.items
+        ≡ out.old.items ++ numbers 2 (entries 8 (map given_of slots.now))) }
 {
     let mut place = 8;
     for slot in slots {
@@ -114,7 +124,8 @@ fn put_fields(
 
 // Writes the blocks that the fields of a table lead to.
 fn put_children(out: &mut Vec<u8>, slots: &[Slot<'_>]) -> Result<(), AllocError>
-    ensures items { OnOk result (out.new.items ≡ out.old.items ++ children (map given_of slots.now)) }
+    ensures items { OnOk result (out.new.items
+        ≡ out.old.items ++ children (map given_of slots.now)) }
     ensures whole { OnOk result (length out.old.items % 8 ≡ 0 → length out.new.items % 8 ≡ 0) }
 {
     for slot in slots {
@@ -144,7 +155,8 @@ fn put_offsets(out: &mut Vec<u8>, tables: &[Block], behind: usize) -> Result<(),
 
 // Writes the tables of a vector.
 fn put_tables(out: &mut Vec<u8>, tables: &[Block]) -> Result<(), AllocError>
-    ensures items { OnOk result (out.new.items ≡ out.old.items ++ children (map Offset tables.now)) }
+    ensures items { OnOk result (out.new.items
+        ≡ out.old.items ++ children (map Offset tables.now)) }
     ensures whole { OnOk result (length out.old.items % 8 ≡ 0 → length out.new.items % 8 ≡ 0) }
 {
     for table in tables {
@@ -153,7 +165,8 @@ fn put_tables(out: &mut Vec<u8>, tables: &[Block]) -> Result<(), AllocError>
     Ok(())
 }
 
-/// Writes blocks, and a buffer of them, into memory of its allocator.
+/// Writes blocks, and a buffer of them, into memory of its allocator. Each call fails with
+/// [`AllocError`] where that has none left, and with no other error.
 #[derive(Clone, Copy)]
 pub struct Builder {
     alloc: Global,
@@ -161,11 +174,13 @@ pub struct Builder {
 
 impl Builder {
     /// A builder that takes memory from this allocator.
-    pub fn new(alloc: Global) -> Builder {
+    pub fn new(alloc: Global) -> Builder
+        ensures { result.alloc ≡ alloc }
+    {
         Builder { alloc }
     }
 
-    /// A table of these slots.
+    /// A table of these slots, slot 0 first.
     #[tactic(auto, unfolding(crate::specs::Block::table_part, crate::specs::Block::vtable))]
     pub fn table(&self, slots: &[Slot<'_>]) -> Result<Block, AllocError>
         requires { FitsTable (map given_of slots.now) }
@@ -201,7 +216,7 @@ impl Builder {
         Ok(Block { bytes, root: 4 })
     }
 
-    /// A text, closed by a zero, as the format wants it.
+    /// A text: how many bytes it has, its UTF-8 bytes, and a zero.
     pub fn text(&self, text: &str) -> Result<Block, AllocError>
         requires { length text.now < 2 ^ 32 }
         ensures { IfOk result (λ block. block ≡ text_part text.now) }
@@ -209,7 +224,8 @@ impl Builder {
         self.items(text.len() as u32, text.as_bytes(), &[0])
     }
 
-    /// A vector of structs, each of `width` bytes, which stand one after the other.
+    /// A vector of structs of `width` bytes each, which `structs` has one after the other. The
+    /// first is aligned to 8 bytes.
     pub fn structs(&self, width: usize, structs: &[u8]) -> Result<Block, AllocError>
         requires { FitsStructs width structs.now }
         ensures { IfOk result (λ block. block ≡ structs_part width structs.now) }
@@ -217,7 +233,7 @@ impl Builder {
         self.items((structs.len() / width) as u32, structs, &[])
     }
 
-    /// A vector of tables.
+    /// A vector of tables, in this order.
     #[tactic(auto, using(crate::proofs::Standing::tables_from_is), unfolding(crate::specs::Block::tables_part))]
     pub fn tables(&self, tables: &[Block]) -> Result<Block, AllocError>
         requires { FitsTables tables.now }
@@ -234,7 +250,7 @@ impl Builder {
         Ok(Block { bytes, root: 4 })
     }
 
-    /// The whole buffer of a table: where it begins, and the table.
+    /// The whole buffer of a table: the table's offset in 4 bytes, 4 zeros, and the table.
     #[tactic(auto, unfolding(crate::specs::Block::buffer_of))]
     pub fn finish(&self, table: &Block) -> Result<Vec<u8>, AllocError>
         requires { 8 + length (table.now).bytes < 2 ^ 31 }

@@ -5,4 +5,4 @@ pub mod build;
 pub mod number;
 pub mod written_laws;
 
-pub use crate::build::{Block, Builder, Slot};
+pub use crate::build::{Block, Builder, MOST_SLOTS, Slot};

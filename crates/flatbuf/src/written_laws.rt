@@ -1,7 +1,9 @@
-//! What was written is read back. Each function here has an empty body: its contract is a law, of every
-//! block that a [`Builder`](crate::Builder) writes and of every place where it may stand in a buffer.
+//! What was written is read back. Each function here has an empty body: its contract is a law, of
+//! every block that a [`Builder`](crate::Builder) writes, wherever it stands in a buffer.
 
-ghost use Rattle.flatbuf.specs.Written.{TableReadsBack, VtableReadsBack, TableIsAligned, ChildReadsBack, TextReadsBack, StructsReadBack, TablesReadBack, BufferReadsBack};
+ghost use Rattle.flatbuf.specs.Written.{TableReadsBack, VtableReadsBack, TableIsAligned};
+ghost use Rattle.flatbuf.specs.Written.{ChildReadsBack, TextReadsBack, StructsReadBack};
+ghost use Rattle.flatbuf.specs.Written.{TablesReadBack, BufferReadsBack};
 
 /// Every slot of a table reads as what it was given, and a slot past the last one as absent.
 pub fn table_reads_back()

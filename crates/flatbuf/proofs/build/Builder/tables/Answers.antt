@@ -1,4 +1,4 @@
-use Rattle.std.proofs.Common.{◌≡◌, ◌+◌, ◌-◌, ◌*◌, ◌%◌, ℕ, length, map, ap, arith, append_assoc}
+use Rattle.std.proofs.Common.{◌≡◌, ◌+◌, ◌*◌, ◌%◌, ℕ, length, map, ap, arith, append_assoc}
 use Rattle.std.proofs.lemmas.List.{length-append, length-map}
 use Rattle.flatbuf.proofs.Standing.{length-little, length_padding, tables_from_is}
 use Rattle.flatbuf.specs.Block.{Offset, fields, tables_part}

@@ -1,4 +1,4 @@
-use Rattle.std.proofs.Common.{◌≡◌, ◌+◌, ◌≤◌, ◌<◌, ◌^◌, [], ◌∷◌, ◌++◌, ℕ, List, length, replicate, arith}
+use Rattle.std.proofs.Common.{◌≡◌, ◌+◌, ◌≤◌, [], ◌∷◌, ◌++◌, ℕ, List, length, replicate, arith}
 use Rattle.std.proofs.lemmas.List.{length-append}
 use Rattle.flatbuf.specs.Block.{Part, Given, Number, Absent, Offset, children, table_part, text_part, structs_part, tables_part}
 use Rattle.flatbuf.proofs.Lengths.{short_text, short_structs, short_table, short_tables, fits_table, fits_tables}
