@@ -1,0 +1,143 @@
+//! Writing fields at the end of a message.
+
+ghost use Rattle.std.specs.Prelude.{◌≡◌, ◌+◌, ◌*◌, ◌<◌, ◌++◌, take, length, map, All, OnOk, OnErr};
+ghost use Rattle.proto_wire.specs.Standard.{IsFieldNumber, IsFields};
+ghost use Rattle.proto_wire.specs.Writing.{spelling, varint, IsEntry};
+ghost use Rattle.proto_wire.specs.Calls.{entry_of, varint_entry, chunk_entry, message_of, GainsField};
+
+use crate::field::{Field, Payload};
+use crate::varint::append_varint;
+use std::alloc::AllocError;
+
+// Writes a tag of this wire type at the end.
+#[inline]
+fn append_tag(out: &mut Vec<u8>, number: u32, wire_type: u64) -> Result<(), AllocError>
+    requires { wire_type < 8 }
+    ensures ok { OnOk result (out.new.items ≡ out.old.items ++ varint (8 * number + wire_type)) }
+    ensures err { OnErr result (out.new.items ≡ out.old.items) }
+{
+    append_varint(out, 8 * u64::from(number) + wire_type)
+}
+
+// Writes bytes behind their length at the end, and may leave a piece where memory runs out.
+fn append_chunk(out: &mut Vec<u8>, chunk: &[u8]) -> Result<(), AllocError>
+    ensures ok { OnOk result (out.new.items ≡ out.old.items ++ (varint (length chunk.now) ++ chunk.now)) }
+    ensures err { take (length out.old.items) out.new.items ≡ out.old.items }
+{
+    append_varint(out, chunk.len() as u64)?;
+    out.extend_from_slice(chunk)
+}
+
+// Writes a field at the end, and may leave a piece where memory runs out.
+#[tactic(auto, unfolding(crate::specs::Writing::spelling))]
+fn append_field(out: &mut Vec<u8>, field: &Field<'_>) -> Result<(), AllocError>
+    requires { IsFieldNumber field.now.number }
+    ensures ok { OnOk result (out.new.items ≡ out.old.items ++ spelling (entry_of field.now)) }
+    ensures err { take (length out.old.items) out.new.items ≡ out.old.items }
+    ensures entry { IsEntry (entry_of field.now) }
+{
+    match field.payload {
+        Payload::Varint(value) => {
+            append_tag(out, field.number, 0)?;
+            append_varint(out, value)
+        }
+        Payload::Fixed64(value) => {
+            append_tag(out, field.number, 1)?;
+            out.extend_from_slice(&value.to_le_bytes())
+        }
+        Payload::Bytes(chunk) => {
+            append_tag(out, field.number, 2)?;
+            append_chunk(out, chunk)
+        }
+        Payload::Fixed32(value) => {
+            append_tag(out, field.number, 5)?;
+            out.extend_from_slice(&value.to_le_bytes())
+        }
+    }
+}
+
+/// Writes a field at the end. An `Err` changes nothing.
+pub fn put_field(out: &mut Vec<u8>, field: &Field<'_>) -> Result<(), AllocError>
+    requires { IsFieldNumber field.now.number }
+    ensures ok { OnOk result (out.new.items ≡ out.old.items ++ spelling (entry_of field.now)) }
+    ensures reads { OnOk result (GainsField out.old.items out.new.items (entry_of field.now)) }
+    ensures err { OnErr result (out.new.items ≡ out.old.items) }
+{
+    let start = out.len();
+    let written = append_field(out, field);
+    if written.is_err() {
+        out.truncate(start);
+    }
+    written
+}
+
+/// Writes a field of wire type 0 at the end. An `Err` changes nothing.
+pub fn put_varint(out: &mut Vec<u8>, number: u32, value: u64) -> Result<(), AllocError>
+    requires { IsFieldNumber number }
+    ensures ok { OnOk result (out.new.items ≡ out.old.items ++ spelling (varint_entry number value)) }
+    ensures reads { OnOk result (GainsField out.old.items out.new.items (varint_entry number value)) }
+    ensures err { OnErr result (out.new.items ≡ out.old.items) }
+{
+    let payload = Payload::Varint(value);
+    put_field(out, &Field { number, payload })
+}
+
+/// Writes a field of bytes at the end. An `Err` changes nothing.
+pub fn put_bytes(out: &mut Vec<u8>, number: u32, content: &[u8]) -> Result<(), AllocError>
+    requires { IsFieldNumber number }
+    ensures ok { OnOk result (out.new.items ≡ out.old.items ++ spelling (chunk_entry number content.now)) }
+    ensures reads { OnOk result (GainsField out.old.items out.new.items (chunk_entry number content.now)) }
+    ensures err { OnErr result (out.new.items ≡ out.old.items) }
+{
+    let payload = Payload::Bytes(content);
+    put_field(out, &Field { number, payload })
+}
+
+// Writes fields at the end, and may leave a piece where memory runs out.
+fn append_fields(out: &mut Vec<u8>, fields: &[Field<'_>]) -> Result<(), AllocError>
+    requires { All (λ field. IsFieldNumber field.number) fields.now }
+    ensures ok { OnOk result (out.new.items ≡ out.old.items ++ message_of fields.now) }
+    ensures err { take (length out.old.items) out.new.items ≡ out.old.items }
+    ensures entries { OnOk result (All IsEntry (map entry_of fields.now)) }
+{
+    for field in fields {
+        append_field(out, field)?;
+    }
+    Ok(())
+}
+
+// Writes an embedded message at the end, and may leave a piece where memory runs out. The fields come
+// first, since their length is known then, and the tag and the length turn to their front.
+fn append_message(out: &mut Vec<u8>, number: u32, fields: &[Field<'_>]) -> Result<(), AllocError>
+    requires number { IsFieldNumber number }
+    requires fields { All (λ field. IsFieldNumber field.number) fields.now }
+    ensures ok { OnOk result (out.new.items ≡ out.old.items ++ spelling (chunk_entry number (message_of fields.now))) }
+    ensures err { take (length out.old.items) out.new.items ≡ out.old.items }
+    ensures entry { OnOk result (IsEntry (chunk_entry number (message_of fields.now))) }
+    ensures entries { OnOk result (All IsEntry (map entry_of fields.now)) }
+{
+    let start = out.len();
+    append_fields(out, fields)?;
+    let len = out.len() - start;
+    append_tag(out, number, 2)?;
+    append_varint(out, len as u64)?;
+    out[start..].rotate_left(len);
+    Ok(())
+}
+
+/// Writes a field that is an embedded message of these fields at the end. An `Err` changes nothing.
+pub fn put_message(out: &mut Vec<u8>, number: u32, fields: &[Field<'_>]) -> Result<(), AllocError>
+    requires number { IsFieldNumber number }
+    requires fields { All (λ field. IsFieldNumber field.number) fields.now }
+    ensures ok { OnOk result (out.new.items ≡ out.old.items ++ spelling (chunk_entry number (message_of fields.now))) }
+    ensures reads { OnOk result (GainsField out.old.items out.new.items (chunk_entry number (message_of fields.now))) }
+    ensures embedded { OnOk result (IsFields (message_of fields.now) (map entry_of fields.now)) }
+    ensures err { OnErr result (out.new.items ≡ out.old.items) }
+{
+    let start = out.len();
+    let written = append_message(out, number, fields);
+    if written.is_err() {
+        out.truncate(start);
+    }
+    written
+}
