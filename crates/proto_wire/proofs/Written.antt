@@ -1,1 +1,141 @@
+-- What is written for fields are those fields in the standard's words.
+use Rattle.std.proofs.Common.{◌≡◌, ℕ, zero, suc, ◌+◌, ◌-◌, ◌*◌, ◌/◌, ◌%◌, ◌^◌, ◌<◌, ◌≤◌, List, [], ◌∷◌, ◌++◌, length, take, set, Ok, refl, sym, ap, ◌∙◌, append_assoc, append-nil, arith, rules, inl, inr}
+use Rattle.std.specs.Prelude.{All, flat_map, map, OnOk, Result, Err, slice_index_or}
+use Rattle.std.specs.Int.{w32, w64, to_le_bytes}
+use Rattle.std.proofs.lemmas.Bool.{cases_lt, lt-ltb, le-ltb}
+use Rattle.std.proofs.lemmas.Nat.{div_below, from_le_bytes-to_le_bytes_4, from_le_bytes-to_le_bytes_8}
+use Rattle.std.proofs.Math.Nat.{pow-suc}
+use Rattle.std.proofs.lemmas.List.{take_more_set, take_at, take-take, length-append, map_more}
+use Rattle.std.proofs.lemmas.Grind.{flat_map-append}
+use Rattle.std.proofs.lemmas.List.Elements.{All-push}
+use Rattle.proto_wire.specs.Standard.{Content, Varint, Fixed64, Chunk, Fixed32, Entry, IsVarint, Holds, IsField, IsFields, wire_type, groups_value}
+use Rattle.proto_wire.specs.Reading.{varint_at}
+use Rattle.proto_wire.specs.Writing.{groups_of, varint, body, spelling, Fits, IsEntry}
+use Rattle.proto_wire.specs.declared.field.Field.{Field}
+use Rattle.proto_wire.specs.Calls.{GainsField, entry_of, message_of}
+use Rattle.proto_wire.proofs.Groups.{Says, varint_again}
 
+-- ---- the groups of a number
+
+room_at : (more n : ℕ) → 128 ≤ n → n < 128 ^ suc more → (0 < more) × (n / 128 < 128 ^ more)
+room_at zero n le small = absurd (omega arith)
+room_at (suc more) n le small =
+    (omega arith, div_below n 128 (128 ^ suc more) (omega arith) (rw (← pow-suc 128 (suc more)) small))
+
+says_more : (more n : ℕ) (bytes : List ℕ) → 128 ≤ n → Says (suc more) (n / 128) bytes → Says (suc (suc more)) n ((n % 128 + 128) ∷ bytes)
+says_more more n [] le s = absurd s.groups
+says_more more n (x ∷ xs) le s =
+    record { groups = (omega arith, s.groups); short = let l = s.short in omega arith; value_is = let v = s.value_is in omega arith }
+
+groups_say : (more n : ℕ) → n < 128 ^ suc more → Says (suc more) n (groups_of more n)
+groups_say zero n small = record { groups = omega arith; short = omega arith; value_is = omega arith }
+groups_say (suc more) n small =
+    elim (cases_lt n 128) [
+      | inl lt ↦ rw (lt-ltb n 128 lt) (record { groups = lt; short = omega arith; value_is = omega arith })
+      | inr le ↦ rw (le-ltb n 128 le) (says_more more n (groups_of more (n / 128)) le (groups_say more (n / 128) (room_at (suc more) n le small).1))
+    ]
+
+pub varint_is : (n : ℕ) → n < 2 ^ 64 → IsVarint (varint n) n
+unfolding varint
+varint_is n small =
+    let s = groups_say 9 n (omega arith) in
+    record { groups = s.groups; short = s.short; value_is = let v = s.value_is in omega arith }
+
+pub varint_reads_back : (n : ℕ) (rest : List ℕ) → n < 2 ^ 64 → varint_at (varint n ++ rest) ≡ Ok (n, rest)
+varint_reads_back n rest small = varint_again (varint n) n rest (varint_is n small)
+
+-- ---- one group more in the buffer
+
+-- the groups in the buffer, and those of what is left of the number
+pub record Filled (number stop left : ℕ) (buffer : List ℕ) : Type 0 where
+  pub room : stop < 10
+  pub small : left < 128 ^ (10 - stop)
+  pub buffer_len : length buffer ≡ 10
+  pub groups : take stop buffer ++ groups_of (9 - stop) left ≡ groups_of 9 number
+
+groups_step : (more n : ℕ) → 0 < more → 128 ≤ n → groups_of more n ≡ (n % 128 + 128) ∷ groups_of (more - 1) (n / 128)
+groups_step zero n p le = absurd (omega arith)
+groups_step (suc more) n p le = let e : suc more - 1 ≡ more = omega arith in rw (le-ltb n 128 le, e) refl
+
+groups_last : (more n : ℕ) → n < 128 → groups_of more n ≡ n ∷ []
+groups_last zero n lt = refl
+groups_last (suc more) n lt = rw (lt-ltb n 128 lt) refl
+
+pub filled_more : (number stop left : ℕ) (buffer : List ℕ) → 128 ≤ left → Filled number stop left buffer → Filled number (stop + 1) (left / 128) (set buffer stop (left % 128 + 128))
+filled_more number stop left buffer le f =
+    let room = f.room in
+    let e : 10 - stop ≡ suc (9 - stop) = omega arith in
+    let r = room_at (9 - stop) left le (rw e at f.small) in
+    let last : 10 - (stop + 1) ≡ 9 - stop = omega arith in
+    let less : 9 - (stop + 1) ≡ 9 - stop - 1 = omega arith in
+    record {
+      room = omega (arith, r.0);
+      small = rw last r.1;
+      buffer_len = search (rules, f.buffer_len);
+      groups = rw (take_more_set buffer stop (left % 128 + 128) (omega (arith, f.buffer_len)), append_assoc (take stop buffer) ((left % 128 + 128) ∷ []) (groups_of (9 - (stop + 1)) (left / 128)), less) (rw (groups_step (9 - stop) left (omega (arith, r.0)) le) at f.groups);
+    }
+
+pub filled_last : (number stop left : ℕ) (buffer : List ℕ) → left < 128 → Filled number stop left buffer → take (stop + 1) (set buffer stop left) ≡ varint number
+unfolding varint
+filled_last number stop left buffer lt f =
+    let room = f.room in
+    rw (take_more_set buffer stop left (omega (arith, f.buffer_len))) (rw (groups_last (9 - stop) left lt) at f.groups)
+
+-- ---- a field
+
+wire_low : (content : Content) → wire_type content ≤ 5
+wire_low (Varint value) = omega arith
+wire_low (Fixed64 value) = omega arith
+wire_low (Chunk chunk) = omega arith
+wire_low (Fixed32 value) = omega arith
+
+body_holds : (content : Content) → Fits content → Holds content (body content)
+body_holds (Varint value) fits = varint_is value fits
+body_holds (Fixed64 value) fits = (refl, sym (from_le_bytes-to_le_bytes_8 value fits))
+body_holds (Chunk chunk) fits = record { len = varint (length chunk); len_is = varint_is (length chunk) fits; whole = refl }
+body_holds (Fixed32 value) fits = (refl, sym (from_le_bytes-to_le_bytes_4 value fits))
+
+pub spelling_is : (entry : Entry) → IsEntry entry → IsField (spelling entry) entry
+unfolding spelling
+spelling_is entry h =
+    let low = wire_low entry.content in
+    let number = h.number_is in
+    record {
+      number_is = number;
+      tag = varint (8 * entry.number + wire_type entry.content);
+      tag_is = varint_is (8 * entry.number + wire_type entry.content) (omega (arith, number.1));
+      body = body entry.content;
+      holds = body_holds entry.content h.fits;
+      whole = refl;
+    }
+
+-- ---- a field more at the end
+
+pub gains : (old spelled : List ℕ) (entry : Entry) → IsField spelled entry → GainsField old (old ++ spelled) entry
+gains old spelled entry f [] h = rw h (spelled, [], sym (append-nil spelled), f, refl)
+gains old spelled entry f (first ∷ others) h =
+    (h.0, h.1 ++ spelled, rw h.2 (append_assoc h.0 h.1 spelled), h.3, gains h.1 spelled entry f others h.4)
+
+pub spellings_are : (entries : List Entry) → All IsEntry entries → IsFields (flat_map spelling entries) entries
+spellings_are [] all = refl
+spellings_are (entry ∷ entries) all =
+    (spelling entry, flat_map spelling entries, refl, spelling_is entry (all 0 entry (omega arith)), spellings_are entries (λ k d lt. all (suc k) d (omega arith)))
+
+-- ---- a writer that runs out of memory in the middle leaves what was there before it
+
+pub kept_before : (old part mid new : List ℕ) → mid ≡ old ++ part → take (length mid) new ≡ mid → take (length old) new ≡ old
+kept_before old part mid new first kept =
+    let shorter : length old ≤ length mid = omega (arith, ap length first, length-append old part) in
+    sym (take-take (length old) (length mid) new shorter) ∙ rw (kept, first) (take_at old part (length old) refl)
+
+-- ---- what the calls leave
+
+pub field_gains : {T E : Type 0} (written : Result T E) (old new : List ℕ) (entry : Entry) → OnOk written (new ≡ old ++ spelling entry) → OnOk written (IsEntry entry) → OnOk written (GainsField old new entry)
+field_gains (Ok x) old new entry e h = rw e (gains old (spelling entry) entry (spelling_is entry h))
+field_gains (Err x) old new entry e h = tt
+
+-- one field more of a list is written
+pub written_more : (start old new : List ℕ) (fields : List Field) (index : ℕ) (field : Field) → index < length fields → (old ≡ start ++ message_of (take index fields)) × All IsEntry (map entry_of (take index fields)) → new ≡ old ++ spelling (entry_of (slice_index_or fields index field)) → IsEntry (entry_of (slice_index_or fields index field)) → (new ≡ start ++ message_of (take (index + 1) fields)) × All IsEntry (map entry_of (take (index + 1) fields))
+written_more start old new fields index field lt before e h =
+    let one : map entry_of (take (index + 1) fields) ≡ map entry_of (take index fields) ++ entry_of (slice_index_or fields index field) ∷ [] = map_more entry_of fields index field lt in
+    (rw (one, flat_map-append spelling (map entry_of (take index fields)) (entry_of (slice_index_or fields index field) ∷ []), append-nil (spelling (entry_of (slice_index_or fields index field))), ← append_assoc start (message_of (take index fields)) (spelling (entry_of (slice_index_or fields index field))), ← before.0) e, rw one (All-push IsEntry (map entry_of (take index fields)) (entry_of (slice_index_or fields index field)) before.1 h))

@@ -1,6 +1,6 @@
 //! Writing fields at the end of a message.
 
-ghost use Rattle.std.specs.Prelude.{◌≡◌, ◌+◌, ◌*◌, ◌<◌, ◌++◌, take, length, map, All, OnOk, OnErr};
+ghost use Rattle.std.specs.Prelude.{◌≡◌, ◌+◌, ◌*◌, ◌<◌, ◌≤◌, ◌++◌, take, drop, length, map, All, OnOk, OnErr};
 ghost use Rattle.proto_wire.specs.Standard.{IsFieldNumber, IsFields};
 ghost use Rattle.proto_wire.specs.Writing.{spelling, varint, IsEntry};
 ghost use Rattle.proto_wire.specs.Calls.{entry_of, varint_entry, chunk_entry, message_of, GainsField};
@@ -34,7 +34,7 @@ fn append_field(out: &mut Vec<u8>, field: &Field<'_>) -> Result<(), AllocError>
     requires { IsFieldNumber field.now.number }
     ensures ok { OnOk result (out.new.items ≡ out.old.items ++ spelling (entry_of field.now)) }
     ensures err { take (length out.old.items) out.new.items ≡ out.old.items }
-    ensures entry { IsEntry (entry_of field.now) }
+    ensures entry { OnOk result (IsEntry (entry_of field.now)) }
 {
     match field.payload {
         Payload::Varint(value) => {
@@ -106,6 +106,14 @@ fn append_fields(out: &mut Vec<u8>, fields: &[Field<'_>]) -> Result<(), AllocErr
     Ok(())
 }
 
+// Turns the bytes from `start` on, so that what follows the first `len` of them comes first.
+fn turn(bytes: &mut [u8], start: usize, len: usize)
+    requires { start + len ≤ length bytes.old }
+    ensures { bytes.new ≡ take start bytes.old ++ (drop (start + len) bytes.old ++ take len (drop start bytes.old)) }
+{
+    bytes[start..].rotate_left(len);
+}
+
 // Writes an embedded message at the end, and may leave a piece where memory runs out. The fields come
 // first, since their length is known then, and the tag and the length turn to their front.
 fn append_message(out: &mut Vec<u8>, number: u32, fields: &[Field<'_>]) -> Result<(), AllocError>
@@ -121,7 +129,7 @@ fn append_message(out: &mut Vec<u8>, number: u32, fields: &[Field<'_>]) -> Resul
     let len = out.len() - start;
     append_tag(out, number, 2)?;
     append_varint(out, len as u64)?;
-    out[start..].rotate_left(len);
+    turn(out, start, len);
     Ok(())
 }
 
