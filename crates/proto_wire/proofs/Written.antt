@@ -1,18 +1,18 @@
 -- What is written for fields are those fields in the standard's words.
-use Rattle.std.proofs.Common.{◌≡◌, ℕ, zero, suc, ◌+◌, ◌-◌, ◌*◌, ◌/◌, ◌%◌, ◌^◌, ◌<◌, ◌≤◌, List, [], ◌∷◌, ◌++◌, length, take, set, Ok, refl, sym, ap, ◌∙◌, append_assoc, append-nil, arith, rules, inl, inr}
+use Rattle.std.proofs.Common.{◌≡◌, ℕ, zero, suc, ◌+◌, ◌-◌, ◌*◌, ◌/◌, ◌%◌, ◌^◌, ◌<◌, ◌≤◌, List, [], ◌∷◌, ◌++◌, length, take, drop, set, Ok, refl, sym, ap, ◌∙◌, append_assoc, append-nil, arith, rules, inl, inr}
 use Rattle.std.specs.Prelude.{All, flat_map, map, OnOk, Result, Err, slice_index_or}
 use Rattle.std.specs.Int.{w32, w64, to_le_bytes}
 use Rattle.std.proofs.lemmas.Bool.{cases_lt, lt-ltb, le-ltb}
 use Rattle.std.proofs.lemmas.Nat.{div_below, from_le_bytes-to_le_bytes_4, from_le_bytes-to_le_bytes_8}
 use Rattle.std.proofs.Math.Nat.{pow-suc}
-use Rattle.std.proofs.lemmas.List.{take_more_set, take_at, take-take, length-append, map_more}
+use Rattle.std.proofs.lemmas.List.{take_more_set, take_at, take-take, drop_at, length-append, map_more}
 use Rattle.std.proofs.lemmas.Grind.{flat_map-append}
 use Rattle.std.proofs.lemmas.List.Elements.{All-push}
 use Rattle.proto_wire.specs.Standard.{Content, Varint, Fixed64, Chunk, Fixed32, Entry, IsVarint, Holds, IsField, IsFields, wire_type, groups_value}
 use Rattle.proto_wire.specs.Reading.{varint_at}
 use Rattle.proto_wire.specs.Writing.{groups_of, varint, body, spelling, Fits, IsEntry}
 use Rattle.proto_wire.specs.declared.field.Field.{Field}
-use Rattle.proto_wire.specs.Calls.{GainsField, entry_of, message_of}
+use Rattle.proto_wire.specs.Calls.{GainsField, entry_of, message_of, chunk_entry}
 use Rattle.proto_wire.proofs.Groups.{Says, varint_again}
 
 -- ---- the groups of a number
@@ -139,3 +139,18 @@ pub written_more : (start old new : List ℕ) (fields : List Field) (index : ℕ
 written_more start old new fields index field lt before e h =
     let one : map entry_of (take (index + 1) fields) ≡ map entry_of (take index fields) ++ entry_of (slice_index_or fields index field) ∷ [] = map_more entry_of fields index field lt in
     (rw (one, flat_map-append spelling (map entry_of (take index fields)) (entry_of (slice_index_or fields index field) ∷ []), append-nil (spelling (entry_of (slice_index_or fields index field))), ← append_assoc start (message_of (take index fields)) (spelling (entry_of (slice_index_or fields index field))), ← before.0) e, rw one (All-push IsEntry (map entry_of (take index fields)) (entry_of (slice_index_or fields index field)) before.1 h))
+
+-- the fields of a message, its tag and its length, turned
+pub message_written : (number : ℕ) (old chunk filled tagged whole turned : List ℕ) (start len n : ℕ) → filled ≡ old ++ chunk → tagged ≡ filled ++ varint (8 * number + 2) → whole ≡ tagged ++ varint len → start ≡ length old → len ≡ length chunk → n ≡ length whole → turned ≡ take start whole ++ (drop (start + len) whole ++ take len (drop start whole)) → take n (turned ++ drop (length turned) whole) ≡ old ++ spelling (chunk_entry number chunk)
+unfolding spelling
+message_written number old chunk filled tagged whole turned start len n a b d e long l t =
+    let head : List ℕ = varint (8 * number + 2) ++ varint (length chunk) in
+    let at : whole ≡ (old ++ chunk) ++ head = d ∙ rw (b, a, long) (append_assoc (old ++ chunk) (varint (8 * number + 2)) (varint (length chunk))) in
+    let split : whole ≡ old ++ (chunk ++ head) = at ∙ append_assoc old chunk head in
+    let front : take start whole ≡ old = rw split (take_at old _ start (sym e)) in
+    let rest : drop start whole ≡ chunk ++ head = rw split (drop_at old _ start (sym e)) in
+    let middle : take len (drop start whole) ≡ chunk = rw rest (take_at chunk _ len (sym long)) in
+    let last : drop (start + len) whole ≡ head = rw at (drop_at (old ++ chunk) _ (start + len) (omega (arith, e, long, length-append old chunk))) in
+    let same : turned ≡ old ++ (head ++ chunk) = t ∙ rw (middle, last, front) refl in
+    let as_long : length turned ≡ length whole = omega (arith, ap length same, ap length split, length-append old (head ++ chunk), length-append head chunk, length-append old (chunk ++ head), length-append chunk head) in
+    take_at turned (drop (length turned) whole) n (as_long ∙ sym l) ∙ same ∙ ap (λ (t : List ℕ). old ++ t) (append_assoc (varint (8 * number + 2)) (varint (length chunk)) chunk)
