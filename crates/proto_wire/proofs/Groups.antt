@@ -96,6 +96,7 @@ carried value group scale high m =
   where
     add_assoc' : (a b c : ℕ) → a + (b + c) ≡ a + b + c
     add_assoc' a b c = omega arith
+
     same : (scale * 128) * high + value + group * scale ≡ value + scale * (group + 128 * high)
     same = omega arith
 
@@ -133,8 +134,10 @@ continues_more bytes place value b rest after front lt big c =
   where
     scale_is : 2 ^ (7 * (place + 1)) ≡ 2 ^ (7 * place) * 128
     scale_is = let s : 7 * (place + 1) ≡ 7 * place + 7 = omega arith in rw s (pow-add 2 (7 * place) 7)
+
     step : (groups : Result (ℕ × List ℕ) Fault) → with_groups (place + 1) ((value + b % 128 * 2 ^ (7 * place) % 2 ^ 64) % 2 ^ 64) groups ≡ with_groups place value (groups >>= λ high. Ok (b % 128 + 128 * high.0, high.1))
     step (Err fault) = refl
     step (Ok high) = rw (scale_is, carried value (b % 128) (2 ^ (7 * place)) high.0 (2 ^ 64)) refl
+
     whole : 10 - place ≡ suc (9 - place) → with_groups place value (groups_within (9 - place) after >>= λ high. Ok (b % 128 + 128 * high.0, high.1)) ≡ with_groups place value (groups_within (10 - place) rest)
     whole e = rw (front, e, le-ltb b 128 big) refl

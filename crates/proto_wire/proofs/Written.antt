@@ -8,11 +8,11 @@ use Rattle.std.proofs.Math.Nat.{pow-suc}
 use Rattle.std.proofs.lemmas.List.{take_more_set, take_at, take-take, drop_at, length-append, map_more}
 use Rattle.std.proofs.lemmas.Grind.{flat_map-append}
 use Rattle.std.proofs.lemmas.List.Elements.{All-push}
-use Rattle.proto_wire.specs.Standard.{Content, Varint, Fixed64, Chunk, Fixed32, Entry, IsVarint, Holds, IsField, IsFields, wire_type, groups_value}
+use Rattle.proto_wire.specs.Standard.{Content, Varint, Fixed64, Chunk, Fixed32, Entry, IsFieldNumber, IsVarint, Holds, IsField, IsFields, wire_type, groups_value}
 use Rattle.proto_wire.specs.Reading.{varint_at}
-use Rattle.proto_wire.specs.Writing.{groups_of, varint, body, spelling, Fits, IsEntry}
+use Rattle.proto_wire.specs.Writing.{groups_of, varint, body, spelling, Fits, IsWritable}
 use Rattle.proto_wire.specs.declared.field.Field.{Field}
-use Rattle.proto_wire.specs.Calls.{GainsField, entry_of, message_of, chunk_entry}
+use Rattle.proto_wire.specs.Calls.{GainsField, HaveFieldNumbers, entry_of, message_of, chunk_entry}
 use Rattle.proto_wire.proofs.Groups.{Says, varint_again}
 
 -- ---- the groups of a number
@@ -95,7 +95,7 @@ body_holds (Fixed64 value) fits = (refl, sym (from_le_bytes-to_le_bytes_8 value 
 body_holds (Chunk chunk) fits = record { len = varint (length chunk); len_is = varint_is (length chunk) fits; whole = refl }
 body_holds (Fixed32 value) fits = (refl, sym (from_le_bytes-to_le_bytes_4 value fits))
 
-pub spelling_is : (entry : Entry) → IsEntry entry → IsField (spelling entry) entry
+pub spelling_is : (entry : Entry) → IsWritable entry → IsField (spelling entry) entry
 unfolding spelling
 spelling_is entry h =
     let low = wire_low entry.content in
@@ -116,7 +116,7 @@ gains old spelled entry f [] h = rw h (spelled, [], sym (append-nil spelled), f,
 gains old spelled entry f (first ∷ others) h =
     (h.0, h.1 ++ spelled, rw h.2 (append_assoc h.0 h.1 spelled), h.3, gains h.1 spelled entry f others h.4)
 
-pub spellings_are : (entries : List Entry) → All IsEntry entries → IsFields (flat_map spelling entries) entries
+pub spellings_are : (entries : List Entry) → All IsWritable entries → IsFields (flat_map spelling entries) entries
 spellings_are [] all = refl
 spellings_are (entry ∷ entries) all =
     (spelling entry, flat_map spelling entries, refl, spelling_is entry (all 0 entry (omega arith)), spellings_are entries (λ k d lt. all (suc k) d (omega arith)))
@@ -130,15 +130,20 @@ kept_before old part mid new first kept =
 
 -- ---- what the calls leave
 
-pub field_gains : {T E : Type 0} (written : Result T E) (old new : List ℕ) (entry : Entry) → OnOk written (new ≡ old ++ spelling entry) → OnOk written (IsEntry entry) → OnOk written (GainsField old new entry)
+pub field_gains : {T E : Type 0} (written : Result T E) (old new : List ℕ) (entry : Entry) → OnOk written (new ≡ old ++ spelling entry) → OnOk written (IsWritable entry) → OnOk written (GainsField old new entry)
 field_gains (Ok x) old new entry e h = rw e (gains old (spelling entry) entry (spelling_is entry h))
 field_gains (Err x) old new entry e h = tt
 
+pub has_number : (fields : List Field) (index : ℕ) (field : Field) → index < length fields → HaveFieldNumbers fields → IsFieldNumber (slice_index_or fields index field).number
+has_number [] index field lt h = absurd (omega arith)
+has_number (first ∷ fields) zero field lt h = h.0
+has_number (first ∷ fields) (suc index) field lt h = has_number fields index field (omega arith) h.1
+
 -- one field more of a list is written
-pub written_more : (start old new : List ℕ) (fields : List Field) (index : ℕ) (field : Field) → index < length fields → (old ≡ start ++ message_of (take index fields)) × All IsEntry (map entry_of (take index fields)) → new ≡ old ++ spelling (entry_of (slice_index_or fields index field)) → IsEntry (entry_of (slice_index_or fields index field)) → (new ≡ start ++ message_of (take (index + 1) fields)) × All IsEntry (map entry_of (take (index + 1) fields))
+pub written_more : (start old new : List ℕ) (fields : List Field) (index : ℕ) (field : Field) → index < length fields → (old ≡ start ++ message_of (take index fields)) × All IsWritable (map entry_of (take index fields)) → new ≡ old ++ spelling (entry_of (slice_index_or fields index field)) → IsWritable (entry_of (slice_index_or fields index field)) → (new ≡ start ++ message_of (take (index + 1) fields)) × All IsWritable (map entry_of (take (index + 1) fields))
 written_more start old new fields index field lt before e h =
     let one : map entry_of (take (index + 1) fields) ≡ map entry_of (take index fields) ++ entry_of (slice_index_or fields index field) ∷ [] = map_more entry_of fields index field lt in
-    (rw (one, flat_map-append spelling (map entry_of (take index fields)) (entry_of (slice_index_or fields index field) ∷ []), append-nil (spelling (entry_of (slice_index_or fields index field))), ← append_assoc start (message_of (take index fields)) (spelling (entry_of (slice_index_or fields index field))), ← before.0) e, rw one (All-push IsEntry (map entry_of (take index fields)) (entry_of (slice_index_or fields index field)) before.1 h))
+    (rw (one, flat_map-append spelling (map entry_of (take index fields)) (entry_of (slice_index_or fields index field) ∷ []), append-nil (spelling (entry_of (slice_index_or fields index field))), ← append_assoc start (message_of (take index fields)) (spelling (entry_of (slice_index_or fields index field))), ← before.0) e, rw one (All-push IsWritable (map entry_of (take index fields)) (entry_of (slice_index_or fields index field)) before.1 h))
 
 -- the fields of a message, its tag and its length, turned
 pub message_written : (number : ℕ) (old chunk filled tagged whole turned : List ℕ) (start len n : ℕ) → filled ≡ old ++ chunk → tagged ≡ filled ++ varint (8 * number + 2) → whole ≡ tagged ++ varint len → start ≡ length old → len ≡ length chunk → n ≡ length whole → turned ≡ take start whole ++ (drop (start + len) whole ++ take len (drop start whole)) → take n (turned ++ drop (length turned) whole) ≡ old ++ spelling (chunk_entry number chunk)

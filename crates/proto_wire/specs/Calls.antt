@@ -6,7 +6,7 @@ use Rattle.scan_base.specs.Reading.{◌>>=◌}
 use Rattle.proto_wire.specs.declared.field.Field.{Field}
 use Rattle.proto_wire.specs.declared.field.Payload.{Payload}
 use Rattle.proto_wire.specs.declared.field.Payload.TheVariants as payloads
-use Rattle.proto_wire.specs.Standard.{Content, Varint, Fixed64, Chunk, Fixed32, Entry, IsFields, StandsInFront}
+use Rattle.proto_wire.specs.Standard.{Content, Varint, Fixed64, Chunk, Fixed32, Entry, IsFieldNumber, IsFields, StandsInFront}
 use Rattle.proto_wire.specs.Reading.{field_at, fields_of}
 use Rattle.proto_wire.specs.Writing.{spelling}
 
@@ -45,6 +45,11 @@ ReadsOn (Ok None) old new = fields_of old ≡ Ok []
 ReadsOn (Err fault) old new = fields_of old ≡ Err fault
 
 -- ---- the writers
+
+-- each field has a number that a field may have
+abbrev pub HaveFieldNumbers : List Field → Type 0
+HaveFieldNumbers [] = Unit {0}
+HaveFieldNumbers (field ∷ fields) = IsFieldNumber field.number × HaveFieldNumbers fields
 
 -- what is written for a field of these parts
 abbrev pub varint_entry : ℕ → ℕ → Entry

@@ -2,7 +2,7 @@
 use Rattle.std.specs.Prelude.{◌≡◌, ◌↔◌, ◌<◌, ◌^◌, ◌++◌, ℕ, List, All, Result, Ok, flat_map}
 use Rattle.proto_wire.specs.Standard.{Entry, IsField, IsFields, StandsInFront}
 use Rattle.proto_wire.specs.Reading.{varint_at, field_at, fields_of}
-use Rattle.proto_wire.specs.Writing.{varint, spelling, IsEntry}
+use Rattle.proto_wire.specs.Writing.{varint, spelling, IsWritable}
 
 -- the bytes that read as a list of fields are that list in the standard's words, and no others are
 abbrev pub ReadingKeepsStandard : Type 0
@@ -34,4 +34,4 @@ VarintReadsBack = (n : ℕ) (rest : List ℕ) → n < 2 ^ 64 → varint_at (vari
 -- what is written for fields are those fields
 abbrev pub SpellingKeepsStandard : Type 0
 SpellingKeepsStandard =
-    (entries : List Entry) → All IsEntry entries → IsFields (flat_map spelling entries) entries
+    (entries : List Entry) → All IsWritable entries → IsFields (flat_map spelling entries) entries

@@ -31,6 +31,6 @@ Fits (Chunk chunk) = length chunk < 2 ^ 64
 Fits (Fixed32 value) = value < 2 ^ 32
 
 -- a field that can be written
-pub record IsEntry (entry : Entry) : Type 0 where
+pub record IsWritable (entry : Entry) : Type 0 where
   pub number_is : IsFieldNumber entry.number
   pub fits : Fits entry.content

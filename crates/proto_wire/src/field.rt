@@ -9,7 +9,7 @@ use crate::varint::read_varint;
 use scan_base::Fault;
 
 /// What a field holds. Which one it is, its wire type tells.
-#[derive(Clone, Copy, Debug)]
+#[derive(Clone, Copy, Debug, PartialEq, Eq)]
 pub enum Payload<'a> {
     /// Wire type 0: a number as a varint, of 64 bits.
     Varint(u64),
@@ -22,12 +22,32 @@ pub enum Payload<'a> {
 }
 
 /// A field of a message.
-#[derive(Clone, Copy, Debug)]
+#[derive(Clone, Copy, Debug, PartialEq, Eq)]
 pub struct Field<'a> {
     /// The field's number, 1 to `MAX_FIELD_NUMBER`.
     pub number: u32,
     /// What the field holds.
     pub payload: Payload<'a>,
+}
+
+impl<'a> Field<'a> {
+    /// A field of wire type 0.
+    #[inline]
+    pub fn varint(number: u32, value: u64) -> Field<'a>
+        ensures { result ≡ record { number = number; payload = Payload.Varint value } }
+    {
+        let payload = Payload::Varint(value);
+        Field { number, payload }
+    }
+
+    /// A field of bytes: of wire type 2.
+    #[inline]
+    pub fn bytes(number: u32, content: &'a [u8]) -> Field<'a>
+        ensures { result ≡ record { number = number; payload = Payload.Bytes content.entry } }
+    {
+        let payload = Payload::Bytes(content);
+        Field { number, payload }
+    }
 }
 
 /// The greatest number of a field: it has 29 bits.

@@ -13,3 +13,6 @@ pub mod varint;
 pub use crate::field::{Field, MAX_FIELD_NUMBER, Payload};
 pub use crate::fields::Fields;
 pub use crate::put::{put_bytes, put_field, put_message, put_varint};
+
+#[cfg(test)]
+mod tests;

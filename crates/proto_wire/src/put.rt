@@ -2,8 +2,8 @@
 
 ghost use Rattle.std.specs.Prelude.{◌≡◌, ◌+◌, ◌*◌, ◌<◌, ◌≤◌, ◌++◌, take, drop, length, map, All, OnOk, OnErr};
 ghost use Rattle.proto_wire.specs.Standard.{IsFieldNumber, IsFields};
-ghost use Rattle.proto_wire.specs.Writing.{spelling, varint, IsEntry};
-ghost use Rattle.proto_wire.specs.Calls.{entry_of, varint_entry, chunk_entry, message_of, GainsField};
+ghost use Rattle.proto_wire.specs.Writing.{spelling, varint, IsWritable};
+ghost use Rattle.proto_wire.specs.Calls.{entry_of, varint_entry, chunk_entry, message_of, HaveFieldNumbers, GainsField};
 
 use crate::field::{Field, Payload};
 use crate::varint::append_varint;
@@ -34,7 +34,7 @@ fn append_field(out: &mut Vec<u8>, field: &Field<'_>) -> Result<(), AllocError>
     requires { IsFieldNumber field.now.number }
     ensures ok { OnOk result (out.new.items ≡ out.old.items ++ spelling (entry_of field.now)) }
     ensures err { take (length out.old.items) out.new.items ≡ out.old.items }
-    ensures entry { OnOk result (IsEntry (entry_of field.now)) }
+    ensures entry { OnOk result (IsWritable (entry_of field.now)) }
 {
     match field.payload {
         Payload::Varint(value) => {
@@ -78,8 +78,7 @@ pub fn put_varint(out: &mut Vec<u8>, number: u32, value: u64) -> Result<(), Allo
     ensures reads { OnOk result (GainsField out.old.items out.new.items (varint_entry number value)) }
     ensures err { OnErr result (out.new.items ≡ out.old.items) }
 {
-    let payload = Payload::Varint(value);
-    put_field(out, &Field { number, payload })
+    put_field(out, &Field::varint(number, value))
 }
 
 /// Writes a field of bytes at the end. An `Err` changes nothing.
@@ -89,16 +88,15 @@ pub fn put_bytes(out: &mut Vec<u8>, number: u32, content: &[u8]) -> Result<(), A
     ensures reads { OnOk result (GainsField out.old.items out.new.items (chunk_entry number content.now)) }
     ensures err { OnErr result (out.new.items ≡ out.old.items) }
 {
-    let payload = Payload::Bytes(content);
-    put_field(out, &Field { number, payload })
+    put_field(out, &Field::bytes(number, content))
 }
 
 // Writes fields at the end, and may leave a piece where memory runs out.
 fn append_fields(out: &mut Vec<u8>, fields: &[Field<'_>]) -> Result<(), AllocError>
-    requires { All (λ field. IsFieldNumber field.number) fields.now }
+    requires { HaveFieldNumbers fields.now }
     ensures ok { OnOk result (out.new.items ≡ out.old.items ++ message_of fields.now) }
     ensures err { take (length out.old.items) out.new.items ≡ out.old.items }
-    ensures entries { OnOk result (All IsEntry (map entry_of fields.now)) }
+    ensures entries { OnOk result (All IsWritable (map entry_of fields.now)) }
 {
     for field in fields {
         append_field(out, field)?;
@@ -118,11 +116,11 @@ fn turn(bytes: &mut [u8], start: usize, len: usize)
 // first, since their length is known then, and the tag and the length turn to their front.
 fn append_message(out: &mut Vec<u8>, number: u32, fields: &[Field<'_>]) -> Result<(), AllocError>
     requires number { IsFieldNumber number }
-    requires fields { All (λ field. IsFieldNumber field.number) fields.now }
+    requires fields { HaveFieldNumbers fields.now }
     ensures ok { OnOk result (out.new.items ≡ out.old.items ++ spelling (chunk_entry number (message_of fields.now))) }
     ensures err { take (length out.old.items) out.new.items ≡ out.old.items }
-    ensures entry { OnOk result (IsEntry (chunk_entry number (message_of fields.now))) }
-    ensures entries { OnOk result (All IsEntry (map entry_of fields.now)) }
+    ensures entry { OnOk result (IsWritable (chunk_entry number (message_of fields.now))) }
+    ensures entries { OnOk result (All IsWritable (map entry_of fields.now)) }
 {
     let start = out.len();
     append_fields(out, fields)?;
@@ -136,7 +134,7 @@ fn append_message(out: &mut Vec<u8>, number: u32, fields: &[Field<'_>]) -> Resul
 /// Writes a field that is an embedded message of these fields at the end. An `Err` changes nothing.
 pub fn put_message(out: &mut Vec<u8>, number: u32, fields: &[Field<'_>]) -> Result<(), AllocError>
     requires number { IsFieldNumber number }
-    requires fields { All (λ field. IsFieldNumber field.number) fields.now }
+    requires fields { HaveFieldNumbers fields.now }
     ensures ok { OnOk result (out.new.items ≡ out.old.items ++ spelling (chunk_entry number (message_of fields.now))) }
     ensures reads { OnOk result (GainsField out.old.items out.new.items (chunk_entry number (message_of fields.now))) }
     ensures embedded { OnOk result (IsFields (message_of fields.now) (map entry_of fields.now)) }
