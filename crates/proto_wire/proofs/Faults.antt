@@ -4,7 +4,6 @@ use Rattle.std.specs.Prelude.{nat_lt, nat_le, length, ◌==◌}
 use Rattle.scan_base.specs.declared.fault.Fault.{Fault}
 use Rattle.scan_base.specs.declared.fault.Fault.TheVariants.{BadProto}
 use Rattle.scan_base.specs.Reading.{◌>>=◌, demand}
-use Rattle.proto_wire.specs.Standard.{Content, Entry}
 use Rattle.proto_wire.specs.Reading.{groups_within, varint_at, bytes_at, payload_at, is_field_number, field_at}
 use Rattle.proto_wire.proofs.Then.{same_Err}
 

@@ -1,15 +1,14 @@
 -- What reads as a field stands in front in the standard's words, and what stands there is read.
-use Rattle.std.proofs.Common.{◌≡◌, ◌≢◌, ℕ, ◌+◌, ◌*◌, ◌/◌, ◌%◌, ◌<◌, ◌≤◌, ◌↔◌, Bool, true, false, cond, List, [], ◌∷◌, ◌++◌, length, take, drop, Result, Ok, Err, refl, sym, ap, ◌∙◌, append_assoc, arith, inl, inr}
-use Rattle.std.specs.Prelude.{nat_le, ◌==◌, ◌&&◌}
+use Rattle.std.proofs.Common.{◌≡◌, ℕ, ◌+◌, ◌*◌, ◌/◌, ◌%◌, ◌<◌, ◌↔◌, Bool, true, false, List, [], ◌∷◌, ◌++◌, length, take, drop, Ok, refl, sym, ap, ◌∙◌, append_assoc, arith, inl, inr}
+use Rattle.std.specs.Prelude.{nat_le, ◌&&◌}
 use Rattle.std.specs.Int.{w32, w64, from_le_bytes}
 use Rattle.std.proofs.lemmas.Bool.{le-leb, leb-true}
 use Rattle.std.proofs.lemmas.List.{length-append, length-take-le, take-append-drop, take_at, drop_at}
-use Rattle.scan_base.specs.declared.fault.Fault.{Fault}
 use Rattle.scan_base.specs.declared.fault.Fault.TheVariants.{BadProto}
 use Rattle.scan_base.specs.Reading.{◌>>=◌, demand}
-use Rattle.proto_wire.specs.Standard.{Content, Varint, Fixed64, Chunk, Fixed32, Entry, IsFieldNumber, IsVarint, IsGroups, wire_type, Holds, IsField, StandsInFront}
+use Rattle.proto_wire.specs.Standard.{Content, Varint, Fixed64, Chunk, Fixed32, Entry, IsFieldNumber, IsGroups, wire_type, Holds, StandsInFront}
 use Rattle.proto_wire.specs.Reading.{varint_at, bytes_at, varint_content, fixed64_content, chunk_content, fixed32_content, payload_at, is_field_number, field_at}
-use Rattle.proto_wire.proofs.Then.{same_Ok, same_front, then_ok, demanded, if_ok, split}
+use Rattle.proto_wire.proofs.Then.{same_front, then_ok, demanded, if_ok, split}
 use Rattle.proto_wire.proofs.Groups.{Front, varint_stands, varint_again}
 
 -- ---- so many bytes

@@ -1,14 +1,13 @@
 -- What is written for fields are those fields in the standard's words.
 use Rattle.std.proofs.Common.{◌≡◌, ℕ, zero, suc, ◌+◌, ◌-◌, ◌*◌, ◌/◌, ◌%◌, ◌^◌, ◌<◌, ◌≤◌, List, [], ◌∷◌, ◌++◌, length, take, drop, set, Ok, refl, sym, ap, ◌∙◌, append_assoc, append-nil, arith, rules, inl, inr}
 use Rattle.std.specs.Prelude.{All, flat_map, map, OnOk, Result, Err, slice_index_or}
-use Rattle.std.specs.Int.{w32, w64, to_le_bytes}
 use Rattle.std.proofs.lemmas.Bool.{cases_lt, lt-ltb, le-ltb}
 use Rattle.std.proofs.lemmas.Nat.{div_below, from_le_bytes-to_le_bytes_4, from_le_bytes-to_le_bytes_8}
 use Rattle.std.proofs.Math.Nat.{pow-suc}
 use Rattle.std.proofs.lemmas.List.{take_more_set, take_at, take-take, drop_at, length-append, map_more}
 use Rattle.std.proofs.lemmas.Grind.{flat_map-append}
 use Rattle.std.proofs.lemmas.List.Elements.{All-push}
-use Rattle.proto_wire.specs.Standard.{Content, Varint, Fixed64, Chunk, Fixed32, Entry, IsFieldNumber, IsVarint, Holds, IsField, IsFields, wire_type, groups_value}
+use Rattle.proto_wire.specs.Standard.{Content, Varint, Fixed64, Chunk, Fixed32, Entry, IsFieldNumber, IsVarint, Holds, IsField, IsFields, wire_type}
 use Rattle.proto_wire.specs.Reading.{varint_at}
 use Rattle.proto_wire.specs.Writing.{groups_of, varint, body, spelling, Fits, IsWritable}
 use Rattle.proto_wire.specs.declared.field.Field.{Field}

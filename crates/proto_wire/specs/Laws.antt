@@ -1,6 +1,6 @@
 -- What holds of all bytes and fields.
-use Rattle.std.specs.Prelude.{◌≡◌, ◌↔◌, ◌<◌, ◌^◌, ◌++◌, ℕ, List, All, Result, Ok, flat_map}
-use Rattle.proto_wire.specs.Standard.{Entry, IsField, IsFields, StandsInFront}
+use Rattle.std.specs.Prelude.{◌≡◌, ◌↔◌, ◌<◌, ◌^◌, ◌++◌, ℕ, List, All, Ok, flat_map}
+use Rattle.proto_wire.specs.Standard.{Entry, IsFields, StandsInFront}
 use Rattle.proto_wire.specs.Reading.{varint_at, field_at, fields_of}
 use Rattle.proto_wire.specs.Writing.{varint, spelling, IsWritable}
 

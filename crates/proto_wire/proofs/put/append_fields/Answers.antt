@@ -1,4 +1,3 @@
-use Rattle.std.proofs.Common.{rules, ◌≡◌, ◌++◌, take, map, append_assoc}
 use Rattle.proto_wire.proofs.Written.{has_number, kept_before, written_more}
 use Rattle.proto_wire.proofs.put.append_fields.Goals as goal
 

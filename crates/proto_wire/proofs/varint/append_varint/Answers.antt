@@ -1,4 +1,4 @@
-use Rattle.std.proofs.Common.{rules, arith}
+use Rattle.std.proofs.Common.{rules}
 use Rattle.proto_wire.proofs.Written.{filled_more, filled_last}
 use Rattle.proto_wire.proofs.varint.append_varint.Goals as goal
 

@@ -1,5 +1,5 @@
-use Rattle.proto_wire.proofs.Groups.{Continues, continues_first, continues_end, continues_last, continues_more, continues_past}
-use Rattle.std.proofs.Common.{rules, arith, ◌≡◌}
+use Rattle.proto_wire.proofs.Groups.{continues_first, continues_end, continues_last, continues_more, continues_past}
+use Rattle.std.proofs.Common.{arith}
 use Rattle.proto_wire.proofs.varint.read_groups.Goals as goal
 
 pub loop-place-init : goal.loop-place-init
