@@ -51,16 +51,21 @@ abbrev pub HaveFieldNumbers : List Field → Type 0
 HaveFieldNumbers [] = Unit {0}
 HaveFieldNumbers (field ∷ fields) = IsFieldNumber field.number × HaveFieldNumbers fields
 
--- what is written for a field of these parts
+-- the field of these parts
+
 abbrev pub varint_entry : ℕ → ℕ → Entry
 varint_entry number value = record { number = number; content = Varint value }
 
 abbrev pub chunk_entry : ℕ → List ℕ → Entry
 chunk_entry number chunk = record { number = number; content = Chunk chunk }
 
--- the bytes of an embedded message of these fields
+-- the bytes of a message of these fields
 abbrev pub message_of : List Field → List ℕ
 message_of fields = flat_map spelling (map entry_of fields)
+
+-- the field that embeds a message of these fields
+abbrev pub message_entry : ℕ → List Field → Entry
+message_entry number fields = chunk_entry number (message_of fields)
 
 -- bytes that were fields are the same fields and one more
 abbrev pub GainsField : List ℕ → List ℕ → Entry → Type 0

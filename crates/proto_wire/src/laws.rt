@@ -1,7 +1,9 @@
 //! Laws of the definitions that the contracts cite. The functions do nothing: their contracts are the
 //! laws.
 
-ghost use Rattle.proto_wire.specs.Laws.{ReadingKeepsStandard, FrontKeepsStandard, AtMostOneFront, AtMostOneList, VarintReadsBack, SpellingKeepsStandard};
+ghost use Rattle.proto_wire.specs.Laws.{ReadingKeepsStandard, FrontKeepsStandard};
+ghost use Rattle.proto_wire.specs.Laws.{AtMostOneFront, AtMostOneList};
+ghost use Rattle.proto_wire.specs.Laws.{VarintReadsBack, SpellingKeepsStandard};
 
 /// Bytes read as a list of fields exactly where they are that list in the standard's words.
 pub fn reading_keeps_standard()

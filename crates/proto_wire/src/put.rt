@@ -1,9 +1,11 @@
 //! Writing fields at the end of a message.
 
-ghost use Rattle.std.specs.Prelude.{◌≡◌, ◌+◌, ◌*◌, ◌<◌, ◌≤◌, ◌++◌, take, drop, length, map, All, OnOk, OnErr};
+ghost use Rattle.std.specs.Prelude.{◌≡◌, ◌+◌, ◌*◌, ◌<◌, ◌≤◌, ◌++◌, take, drop, length, map, All};
+ghost use Rattle.std.specs.Prelude.{OnOk, OnErr};
 ghost use Rattle.proto_wire.specs.Standard.{IsFieldNumber, IsFields};
 ghost use Rattle.proto_wire.specs.Writing.{spelling, varint, IsWritable};
-ghost use Rattle.proto_wire.specs.Calls.{entry_of, varint_entry, chunk_entry, message_of, HaveFieldNumbers, GainsField};
+ghost use Rattle.proto_wire.specs.Calls.{entry_of, varint_entry, chunk_entry, message_of};
+ghost use Rattle.proto_wire.specs.Calls.{message_entry, HaveFieldNumbers, GainsField};
 
 use crate::field::{Field, Payload};
 use crate::varint::append_varint;
@@ -21,7 +23,8 @@ fn append_tag(out: &mut Vec<u8>, number: u32, wire_type: u64) -> Result<(), Allo
 
 // Writes bytes behind their length at the end, and may leave a piece where memory runs out.
 fn append_chunk(out: &mut Vec<u8>, chunk: &[u8]) -> Result<(), AllocError>
-    ensures ok { OnOk result (out.new.items ≡ out.old.items ++ (varint (length chunk.now) ++ chunk.now)) }
+    ensures ok { OnOk result (out.new.items
+        ≡ out.old.items ++ (varint (length chunk.now) ++ chunk.now)) }
     ensures err { take (length out.old.items) out.new.items ≡ out.old.items }
 {
     append_varint(out, chunk.len() as u64)?;
@@ -56,7 +59,11 @@ fn append_field(out: &mut Vec<u8>, field: &Field<'_>) -> Result<(), AllocError>
     }
 }
 
-/// Writes a field at the end. An `Err` changes nothing.
+/// Writes a field at the end.
+///
+/// # Errors
+///
+/// `AllocError` where memory is refused. Nothing has changed then.
 pub fn put_field(out: &mut Vec<u8>, field: &Field<'_>) -> Result<(), AllocError>
     requires { IsFieldNumber field.now.number }
     ensures ok { OnOk result (out.new.items ≡ out.old.items ++ spelling (entry_of field.now)) }
@@ -71,7 +78,12 @@ pub fn put_field(out: &mut Vec<u8>, field: &Field<'_>) -> Result<(), AllocError>
     written
 }
 
-/// Writes a field of wire type 0 at the end. An `Err` changes nothing.
+/// Writes a field of wire type 0 at the end: a number in its shortest varint. A negative number of a
+/// signed type is cast to `u64` first, and takes ten bytes.
+///
+/// # Errors
+///
+/// `AllocError` where memory is refused. Nothing has changed then.
 pub fn put_varint(out: &mut Vec<u8>, number: u32, value: u64) -> Result<(), AllocError>
     requires { IsFieldNumber number }
     ensures ok { OnOk result (out.new.items ≡ out.old.items ++ spelling (varint_entry number value)) }
@@ -81,11 +93,17 @@ pub fn put_varint(out: &mut Vec<u8>, number: u32, value: u64) -> Result<(), Allo
     put_field(out, &Field::varint(number, value))
 }
 
-/// Writes a field of bytes at the end. An `Err` changes nothing.
+/// Writes a field of wire type 2 at the end: the length of the bytes, and the bytes.
+///
+/// # Errors
+///
+/// `AllocError` where memory is refused. Nothing has changed then.
 pub fn put_bytes(out: &mut Vec<u8>, number: u32, content: &[u8]) -> Result<(), AllocError>
     requires { IsFieldNumber number }
-    ensures ok { OnOk result (out.new.items ≡ out.old.items ++ spelling (chunk_entry number content.now)) }
-    ensures reads { OnOk result (GainsField out.old.items out.new.items (chunk_entry number content.now)) }
+    ensures ok { OnOk result (out.new.items
+        ≡ out.old.items ++ spelling (chunk_entry number content.now)) }
+    ensures reads { OnOk result (GainsField
+        out.old.items out.new.items (chunk_entry number content.now)) }
     ensures err { OnErr result (out.new.items ≡ out.old.items) }
 {
     put_field(out, &Field::bytes(number, content))
@@ -107,7 +125,8 @@ fn append_fields(out: &mut Vec<u8>, fields: &[Field<'_>]) -> Result<(), AllocErr
 // Turns the bytes from `start` on, so that what follows the first `len` of them comes first.
 fn turn(bytes: &mut [u8], start: usize, len: usize)
     requires { start + len ≤ length bytes.old }
-    ensures { bytes.new ≡ take start bytes.old ++ (drop (start + len) bytes.old ++ take len (drop start bytes.old)) }
+    ensures { bytes.new ≡ take start bytes.old
+        ++ (drop (start + len) bytes.old ++ take len (drop start bytes.old)) }
 {
     bytes[start..].rotate_left(len);
 }
@@ -117,9 +136,10 @@ fn turn(bytes: &mut [u8], start: usize, len: usize)
 fn append_message(out: &mut Vec<u8>, number: u32, fields: &[Field<'_>]) -> Result<(), AllocError>
     requires number { IsFieldNumber number }
     requires fields { HaveFieldNumbers fields.now }
-    ensures ok { OnOk result (out.new.items ≡ out.old.items ++ spelling (chunk_entry number (message_of fields.now))) }
+    ensures ok { OnOk result (out.new.items
+        ≡ out.old.items ++ spelling (message_entry number fields.now)) }
     ensures err { take (length out.old.items) out.new.items ≡ out.old.items }
-    ensures entry { OnOk result (IsWritable (chunk_entry number (message_of fields.now))) }
+    ensures entry { OnOk result (IsWritable (message_entry number fields.now)) }
     ensures entries { OnOk result (All IsWritable (map entry_of fields.now)) }
 {
     let start = out.len();
@@ -131,12 +151,18 @@ fn append_message(out: &mut Vec<u8>, number: u32, fields: &[Field<'_>]) -> Resul
     Ok(())
 }
 
-/// Writes a field that is an embedded message of these fields at the end. An `Err` changes nothing.
+/// Writes a field of wire type 2 at the end: an embedded message, given as the list of its fields.
+///
+/// # Errors
+///
+/// `AllocError` where memory is refused. Nothing has changed then.
 pub fn put_message(out: &mut Vec<u8>, number: u32, fields: &[Field<'_>]) -> Result<(), AllocError>
     requires number { IsFieldNumber number }
     requires fields { HaveFieldNumbers fields.now }
-    ensures ok { OnOk result (out.new.items ≡ out.old.items ++ spelling (chunk_entry number (message_of fields.now))) }
-    ensures reads { OnOk result (GainsField out.old.items out.new.items (chunk_entry number (message_of fields.now))) }
+    ensures ok { OnOk result (out.new.items
+        ≡ out.old.items ++ spelling (message_entry number fields.now)) }
+    ensures reads { OnOk result (GainsField
+        out.old.items out.new.items (message_entry number fields.now)) }
     ensures embedded { OnOk result (IsFields (message_of fields.now) (map entry_of fields.now)) }
     ensures err { OnErr result (out.new.items ≡ out.old.items) }
 {
