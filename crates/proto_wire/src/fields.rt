@@ -48,9 +48,9 @@ impl<'a> Fields<'a> {
     ///
     /// # Errors
     ///
-    /// `Fault::BadProto` where something is left and no field stands in front of it: a varint of more
-    /// than ten bytes, a number outside 1 to `MAX_FIELD_NUMBER`, a wire type that is not 0, 1, 2 or 5,
-    /// or bytes that end inside a field. Nothing has changed then.
+    /// `Fault::BadProto` where something is left and no field stands in front of it: a varint of
+    /// more than ten bytes, a number outside 1 to `MAX_FIELD_NUMBER`, a wire type that is not 0, 1,
+    /// 2 or 5, or bytes that end inside a field. Nothing has changed then.
     pub fn next(&mut self) -> Result<Option<Field<'a>>, Fault>
         ensures front { ReadsFront result self.old self.new }
         ensures standard { KeepsStandard result self.old self.new }

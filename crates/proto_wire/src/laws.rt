@@ -1,5 +1,5 @@
-//! Laws of the definitions that the contracts cite. The functions do nothing: their contracts are the
-//! laws.
+//! Laws of the definitions that the contracts cite. The functions do nothing: their contracts are
+//! the laws.
 
 ghost use Rattle.proto_wire.specs.Laws.{ReadingKeepsStandard, FrontKeepsStandard};
 ghost use Rattle.proto_wire.specs.Laws.{AtMostOneFront, AtMostOneList};

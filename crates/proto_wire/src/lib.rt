@@ -1,7 +1,8 @@
 //! The fields of a Protocol Buffers message on the wire, read and written.
 //!
-//! The rules are those of the public Protocol Buffers encoding: a message is a list of fields, and a
-//! field is a tag (its number and its wire type) and what it holds. `specs/Standard.antt` has them.
+//! The rules are those of the public Protocol Buffers encoding: a message is a list of fields, and
+//! a field is a tag (its number and its wire type) and what it holds. `specs/Standard.antt` has
+//! them.
 #![tactic(auto)]
 
 pub mod field;

@@ -78,16 +78,18 @@ pub fn put_field(out: &mut Vec<u8>, field: &Field<'_>) -> Result<(), AllocError>
     written
 }
 
-/// Writes a field of wire type 0 at the end: a number in its shortest varint. A negative number of a
-/// signed type is cast to `u64` first, and takes ten bytes.
+/// Writes a field of wire type 0 at the end: a number in its shortest varint. A negative number of
+/// a signed type is cast to `u64` first, and takes ten bytes.
 ///
 /// # Errors
 ///
 /// `AllocError` where memory is refused. Nothing has changed then.
 pub fn put_varint(out: &mut Vec<u8>, number: u32, value: u64) -> Result<(), AllocError>
     requires { IsFieldNumber number }
-    ensures ok { OnOk result (out.new.items ≡ out.old.items ++ spelling (varint_entry number value)) }
-    ensures reads { OnOk result (GainsField out.old.items out.new.items (varint_entry number value)) }
+    ensures ok { OnOk result (out.new.items
+        ≡ out.old.items ++ spelling (varint_entry number value)) }
+    ensures reads { OnOk result (GainsField
+        out.old.items out.new.items (varint_entry number value)) }
     ensures err { OnErr result (out.new.items ≡ out.old.items) }
 {
     put_field(out, &Field::varint(number, value))
@@ -131,8 +133,8 @@ fn turn(bytes: &mut [u8], start: usize, len: usize)
     bytes[start..].rotate_left(len);
 }
 
-// Writes an embedded message at the end, and may leave a piece where memory runs out. The fields come
-// first, since their length is known then, and the tag and the length turn to their front.
+// Writes an embedded message at the end, and may leave a piece where memory runs out. The fields
+// come first, since their length is known then, and the tag and the length turn to their front.
 fn append_message(out: &mut Vec<u8>, number: u32, fields: &[Field<'_>]) -> Result<(), AllocError>
     requires number { IsFieldNumber number }
     requires fields { HaveFieldNumbers fields.now }

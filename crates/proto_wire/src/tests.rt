@@ -1,5 +1,5 @@
-//! Vectors from outside: the examples of the Protocol Buffers documentation, and messages of an Arrow
-//! Flight SQL client.
+//! Vectors from outside: the examples of the Protocol Buffers documentation, and messages of an
+//! Arrow Flight SQL client.
 
 use crate::varint::read_varint;
 use crate::{Field, Fields, Payload, put_bytes, put_field, put_message, put_varint};
