@@ -11,7 +11,7 @@ use Rattle.std.specs.Int.{w32, cast_signed}
 use Rattle.std.specs.Str.{IsUtf8, is_utf8}
 use Rattle.scan_base.specs.declared.fault.Fault.{Fault}
 use Rattle.scan_base.specs.declared.fault.Fault.TheVariants.{BadFlatbuffer}
-use Rattle.scan_base.specs.Reading.{◌>>=◌, demand}
+use Rattle.scan_base.specs.Reading.{◌>>=◌, demand, text_in}
 use Rattle.byteorder.specs.Endian.{little_from, little_number}
 use Rattle.byteorder.specs.Numbers.{little_from-take, little_from-lt}
 use Rattle.flatbuf.specs.Layout.{Stands, IsBytes, HasNumber, HasOffset, TableAt, VectorAt, HasRoot, HasVtable, LeadsFrom, HasField, IsScalar, HasScalar, IsReached, Reaches, IsTable, IsVector, AreItems, IsText, HasTable, HasVector, HasStructs, HasText, HasElement}
@@ -313,10 +313,10 @@ seen_structs width table slot isbytes =
     seen_through table slot (items_at width table.bytes) (AreItems width table.bytes) isbytes (seen_items width table.bytes)
 
 -- the text of a part, where it is UTF-8
-seen_utf8 : (text : List ℕ) → Seen (demand (is_utf8 text) BadFlatbuffer >>= λ _. Ok text) (λ t. (t ≡ text) × IsUtf8 t)
+seen_utf8 : (text : List ℕ) → Seen (text_in text BadFlatbuffer) (λ t. (t ≡ text) × IsUtf8 t)
 seen_utf8 text =
-    let by : (b : Bool) → is_utf8 text ≡ b → Seen (demand b BadFlatbuffer >>= λ _. Ok text) (λ t. (t ≡ text) × IsUtf8 t) =
-    λ b. elim b as (λ (b : Bool). is_utf8 text ≡ b → Seen (demand b BadFlatbuffer >>= λ _. Ok text) (λ t. (t ≡ text) × IsUtf8 t)) [
+    let by : (b : Bool) → is_utf8 text ≡ b → Seen (if b then Ok text else Err BadFlatbuffer) (λ t. (t ≡ text) × IsUtf8 t) =
+    λ b. elim b as (λ (b : Bool). is_utf8 text ≡ b → Seen (if b then Ok text else Err BadFlatbuffer) (λ t. (t ≡ text) × IsUtf8 t)) [
       | true ↦ λ e. ((refl, IsUtf8-from_is_utf8 text e), λ y h. h.0)
       | false ↦ λ e. (refl, λ t h. let yes : is_utf8 text ≡ true = is_utf8-from_IsUtf8 text (subst IsUtf8 h.0 h.1) in let no : ⊥ = cc in no)
     ] in
@@ -325,7 +325,7 @@ seen_utf8 text =
 pub seen_text : (table : TableAt) (slot : ℕ) → IsBytes table.bytes → Seen (text_of table slot) (HasText table slot)
 unfolding text_of
 seen_text table slot isbytes =
-    let read : List ℕ → Result (List ℕ) Fault = λ text. (demand (is_utf8 text) BadFlatbuffer >>= λ _. Ok text) in
+    let read : List ℕ → Result (List ℕ) Fault = λ text. (text_in text BadFlatbuffer) in
     seen_through table slot (λ target. (items_at 1 table.bytes target >>= read)) (IsText table.bytes) isbytes
     (λ target. seen_same (items_at 1 table.bytes target >>= read)
     (λ text. (items : List ℕ) × AreItems 1 table.bytes target items × ((text ≡ items) × IsUtf8 text)) (IsText table.bytes target)

@@ -2,10 +2,9 @@
 -- first byte, and whatever is read outside the buffer is BadFlatbuffer. `Readings` says that each of
 -- these finds just what `Layout` says.
 use Rattle.std.specs.Prelude.{ℕ, ◌+◌, ◌-◌, ◌*◌, ◌^◌, ◌==◌, List, length, take, drop, Option, Some, None, Result, Ok, Err, nat_lt, nat_le, if◌then◌else◌}
-use Rattle.std.specs.Str.{is_utf8}
 use Rattle.scan_base.specs.declared.fault.Fault.{Fault}
 use Rattle.scan_base.specs.declared.fault.Fault.TheVariants.{BadFlatbuffer}
-use Rattle.scan_base.specs.Reading.{◌>>=◌, demand}
+use Rattle.scan_base.specs.Reading.{◌>>=◌, demand, text_in}
 use Rattle.byteorder.specs.Endian.{little_from}
 pub use Rattle.flatbuf.specs.Layout.{TableAt, VectorAt}
 
@@ -87,4 +86,4 @@ structs_of width table slot = through table slot (items_at width table.bytes)
 -- the text of a slot
 unfoldable pub text_of : TableAt → ℕ → Result (Option (List ℕ)) Fault
 text_of table slot = through table slot (λ target. (items_at 1 table.bytes target >>= λ text.
-    (demand (is_utf8 text) BadFlatbuffer >>= λ _. Ok text)))
+    text_in text BadFlatbuffer))

@@ -1,14 +1,11 @@
 //! What lies at a place of the buffer.
 
-ghost use Rattle.std.specs.Prelude.{◌≡◌, ◌≤◌, ◌<◌, ◌^◌, ◌+◌, length, IfOk, if◌then◌else◌, Ok, Err};
-ghost use Rattle.std.specs.Str.{is_utf8};
-ghost use Rattle.scan_base.specs.declared.fault.Fault.TheVariants.{BadFlatbuffer};
+ghost use Rattle.std.specs.Prelude.{◌≡◌, ◌≤◌, ◌<◌, ◌^◌, ◌+◌, length, IfOk};
 ghost use Rattle.scan_base.specs.Reading.{Gives};
 ghost use Rattle.flatbuf.specs.Place.{number_at, target_of, bytes_at, items_at};
 
 use byteorder::{ByteOrder, LittleEndian};
 use scan_base::Fault;
-use simdutf8::basic::from_utf8;
 
 /// The number of this many bytes at a place.
 pub(crate) fn number(bytes: &[u8], at: usize, width: usize) -> Result<u64, Fault>
@@ -51,15 +48,4 @@ pub(crate) fn items(bytes: &[u8], at: usize, width: usize) -> Result<&[u8], Faul
 {
     let count = number(bytes, at, 4)?;
     bytes_from(bytes, at + 4, count as usize * width)
-}
-
-/// The bytes as text.
-pub(crate) fn utf8(bytes: &[u8]) -> Result<&str, Fault>
-    ensures { Gives (λ text. text.now) result
-        (if is_utf8 bytes.now then Ok bytes.now else Err BadFlatbuffer) }
-{
-    match from_utf8(bytes) {
-        Ok(text) => Ok(text),
-        Err(_) => Err(Fault::BadFlatbuffer),
-    }
 }

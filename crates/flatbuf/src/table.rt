@@ -5,10 +5,10 @@ ghost use Rattle.scan_base.specs.Reading.{Gives};
 ghost use Rattle.flatbuf.specs.Place.{root_of, vtable_of, field_of, scalar_of, table_of, structs_of, text_of, vector_of};
 ghost use Rattle.flatbuf.specs.Width.{bytes_in};
 
-use crate::number::{items, number, target, utf8};
+use crate::number::{items, number, target};
 use crate::vector::Vector;
 use crate::width::Width;
-use scan_base::Fault;
+use scan_base::{Fault, read_text};
 use std::marker::Model;
 
 /// A FlatBuffers buffer.
@@ -186,7 +186,7 @@ impl<'a> Table<'a> {
             None => Ok(None),
             Some(at) => {
                 let part = items(self.bytes, target(self.bytes, at)?, 1)?;
-                let text = utf8(part)?;
+                let text = read_text(part, Fault::BadFlatbuffer)?;
                 Ok(Some(text))
             }
         }

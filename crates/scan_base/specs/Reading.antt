@@ -1,5 +1,6 @@
 -- The forms that contracts of readers and calls share: what is read is a value or the first fault.
-use Rattle.std.specs.Prelude.{◌≡◌, ◌≢◌, Option, Some, None, Result, Ok, Err, Bool, if◌then◌else◌, List, [], ◌∷◌}
+use Rattle.std.specs.Prelude.{◌≡◌, ◌≢◌, ℕ, Option, Some, None, Result, Ok, Err, Bool, if◌then◌else◌, List, [], ◌∷◌}
+use Rattle.std.specs.Str.{is_utf8}
 use Rattle.scan_base.specs.declared.fault.Fault.{Fault}
 use Rattle.scan_base.specs.declared.fault.Fault.TheVariants.{OutOfMemory}
 
@@ -17,6 +18,10 @@ demand holds fault = if holds then Ok tt else Err fault
 abbrev pub wanted : {A : Type 0} → Option A → Fault → Result A Fault
 wanted (Some x) fault = Ok x
 wanted None fault = Err fault
+
+-- the text that bytes are, or this fault where they are not UTF-8
+abbrev pub text_in : List ℕ → Fault → Result (List ℕ) Fault
+text_in bytes fault = if is_utf8 bytes then Ok bytes else Err fault
 
 -- the fault of the first test that is true
 abbrev pub first_fault : List (Bool × Fault) → Option Fault

@@ -9,6 +9,7 @@ pub mod predicate;
 pub mod status_code;
 pub mod text;
 pub mod truth;
+pub mod utf8;
 pub mod value;
 
 pub use crate::comparison::Comparison;
@@ -19,6 +20,7 @@ pub use crate::predicate::{Operand, Predicate, RowCells};
 pub use crate::status_code::StatusCode;
 pub use crate::text::Text;
 pub use crate::truth::Truth;
+pub use crate::utf8::read_text;
 pub use crate::value::{Row, Value, ValueRef};
 
 #[cfg(test)]

@@ -2,6 +2,7 @@
 
 use crate::{
     Comparison, Fault, Items, Operand, Predicate, Row, StatusCode, Text, Truth, Value, ValueRef,
+    read_text,
 };
 use std::test::Fail;
 
@@ -111,4 +112,15 @@ fn a_null_among_the_items(rt: HostRuntime) -> Result<(), Fail> {
     assert!(rt; row.len() == 2);
     assert_eq!(rt; absent.truth(&row), Truth::Unknown);
     Ok(())
+}
+
+#[test]
+fn bytes_that_are_text(rt: HostRuntime) {
+    assert_eq!(rt;
+        read_text(b"na\xc3\xafve", Fault::BadProto),
+        Ok("na\u{ef}ve")
+    );
+    for bytes in [b"\xff".as_slice(), b"\xc3", b"\xc0\x80", b"\xed\xa0\x80"] {
+        assert_eq!(rt; read_text(bytes, Fault::BadProto), Err(Fault::BadProto));
+    }
 }
