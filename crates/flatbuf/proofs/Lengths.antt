@@ -3,7 +3,6 @@ use Rattle.std.proofs.Common.{◌≡◌, ℕ, suc, ◌+◌, ◌*◌, ◌/◌, �
 use Rattle.std.proofs.lemmas.List.{length-append, length-map}
 use Rattle.flatbuf.specs.Block.{Part, IsWhole, Given, Absent, Number, Offset, AreWhole, little, numbers, padding, entries, fields, children, vtable, table_part, items_part, text_part, structs_part, tables_from, tables_part}
 use Rattle.flatbuf.specs.Fits.{FitsTable, FitsTables}
-use Rattle.flatbuf.specs.declared.build.TheConstants.{MOST_SLOTS}
 use Rattle.flatbuf.proofs.Standing.{length-little, length_padding, length_padded, tables_from_is}
 use Rattle.flatbuf.proofs.Written.{length-numbers, length-fields, length-entries, length-table, root_table, whole_vtable}
 
@@ -40,8 +39,8 @@ short_table slots =
     omega arith
 
 -- where a table fits
-pub fits_table : (slots : List Given) → length slots ≤ MOST_SLOTS → 20 + 10 * length slots + length (children slots) < 2 ^ 31 → FitsTable slots
-fits_table slots few small = let s = short_table slots in record { few = few; small = omega arith }
+pub fits_table : (slots : List Given) → length slots ≤ 8190 → 20 + 10 * length slots + length (children slots) < 2 ^ 31 → FitsTable slots
+fits_table slots few small = let s = short_table slots in record { few = omega arith; small = omega arith }
 
 -- a count and items are whole
 pub whole_items : (count : ℕ) (items : List ℕ) → IsWhole (items_part count items)

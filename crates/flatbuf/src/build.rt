@@ -17,10 +17,6 @@ ghost use Rattle.flatbuf.specs.Fits.{FitsTable, FitsTables, FitsStructs};
 use std::alloc::{AllocError, Global};
 use std::marker::Model;
 
-/// The greatest number of slots of a table. Its size, 8 bytes and 8 more for each slot, is a number
-/// of 2 bytes in its vtable.
-pub const MOST_SLOTS: usize = (u16::MAX as usize - 8) / 8;
-
 /// A table, a vector or a text with everything that it leads to: its bytes, a multiple of 8, and
 /// where in them it begins.
 #[derive(Drop)]
@@ -77,7 +73,7 @@ fn pad(out: &mut Vec<u8>, written: usize) -> Result<(), AllocError>
 
 // Writes the entries of a vtable.
 fn put_entries(out: &mut Vec<u8>, slots: &[Slot<'_>]) -> Result<(), AllocError>
-    requires { length slots.now ≤ MOST_SLOTS }
+    requires { 8 + 8 * length slots.now < 2 ^ 16 }
     ensures { OnOk result (out.new.items
         ≡ out.old.items ++ numbers 2 (entries 8 (map given_of slots.now))) }
 {
@@ -169,7 +165,7 @@ fn put_tables(out: &mut Vec<u8>, tables: &[Block]) -> Result<(), AllocError>
 /// [`AllocError`] where that has none left, and with no other error.
 #[derive(Clone, Copy)]
 pub struct Builder {
-    alloc: Global,
+    pub alloc: Global,
 }
 
 impl Builder {
@@ -305,6 +301,55 @@ mod tests {
             6, 0, 16, 0, 8, 0, 0, 0, // its vtable
             8, 0, 0, 0, 0, 0, 0, 0, // it, 8 behind its vtable
             9, 0, 0, 0, 0, 0, 0, 0, // its slot 0
+        ];
+        assert_eq!(rt; bytes.as_slice(), want.as_slice());
+        Ok(())
+    }
+
+    // The sample of docs/FORMATS.md: the number 7, an absent slot, and the text `a`.
+    #[tactic(auto, using(crate::proofs::Lengths::fits))]
+    #[test]
+    fn writes_the_sample_of_the_formats(rt: HostRuntime) -> Result<(), AllocError> {
+        let builder = Builder::new(rt.alloc());
+        let text = builder.text("a")?;
+        let table = builder.table(&[Slot::Number(7), Slot::Absent, Slot::Offset(&text)])?;
+        let bytes = builder.finish(&table)?;
+        let want = [
+            24, 0, 0, 0, 0, 0, 0, 0, //
+            10, 0, 32, 0, 8, 0, 0, 0, 24, 0, 0, 0, 0, 0, 0, 0, //
+            16, 0, 0, 0, 0, 0, 0, 0, //
+            7, 0, 0, 0, 0, 0, 0, 0, //
+            0, 0, 0, 0, 0, 0, 0, 0, //
+            12, 0, 0, 0, 0, 0, 0, 0, //
+            0, 0, 0, 0, 1, 0, 0, 0, 97, 0, 0, 0, 0, 0, 0, 0, //
+        ];
+        assert_eq!(rt; bytes.as_slice(), want.as_slice());
+        Ok(())
+    }
+
+    // Structs of some size, since small ones show little.
+    #[test]
+    fn writes_many_structs(rt: HostRuntime) -> Result<(), AllocError> {
+        let builder = Builder::new(rt.alloc());
+        let structs = builder.structs(16, &[9; 4096])?;
+        let bytes = builder.finish(&structs)?;
+        assert_eq!(rt; bytes.len(), 4096 + 16);
+        Ok(())
+    }
+
+    #[test]
+    fn writes_two_tables(rt: HostRuntime) -> Result<(), AllocError> {
+        let builder = Builder::new(rt.alloc());
+        let first = builder.table(&[])?;
+        let second = builder.table(&[])?;
+        let tables = builder.tables(&[first, second])?;
+        let bytes = builder.finish(&tables)?;
+        let want = [
+            12, 0, 0, 0, 0, 0, 0, 0, // the vector begins at 12
+            0, 0, 0, 0, 2, 0, 0, 0, // two tables
+            16, 0, 0, 0, 28, 0, 0, 0, // at 16 + 16, and at 20 + 28
+            4, 0, 8, 0, 0, 0, 0, 0, 8, 0, 0, 0, 0, 0, 0, 0, //
+            4, 0, 8, 0, 0, 0, 0, 0, 8, 0, 0, 0, 0, 0, 0, 0, //
         ];
         assert_eq!(rt; bytes.as_slice(), want.as_slice());
         Ok(())

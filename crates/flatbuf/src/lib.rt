@@ -9,7 +9,7 @@ pub mod vector;
 pub mod width;
 pub mod written_laws;
 
-pub use crate::build::{Block, Builder, MOST_SLOTS, Slot};
+pub use crate::build::{Block, Builder, Slot};
 pub use crate::table::{Buf, Table};
 pub use crate::vector::Vector;
 pub use crate::width::Width;

@@ -262,3 +262,16 @@ fn ticket_both_ways(rt: HostRuntime) -> Result<(), Fail> {
     assert_eq!(rt; written.as_slice(), ticket.as_slice());
     Ok(())
 }
+
+// A payload of some length, since a short one shows little.
+#[test]
+fn large_content(rt: HostRuntime) -> Result<(), Fail> {
+    let content = [7; 3000];
+    let mut written = Vec::new(rt.alloc());
+    put_bytes(&mut written, 1000, &content)?;
+    assert_eq!(rt; written.len(), 3004);
+    put_message(&mut written, 1, &[Field::bytes(2, &content)])?;
+    assert_eq!(rt; written.len(), 3004 + 3006);
+    assert!(rt; written.starts_with(b"\xc2\x3e\xb8\x17\x07"));
+    Ok(())
+}

@@ -11,7 +11,7 @@ use std::alloc::AllocError;
 // The most bytes of a varint: ten groups of seven bits hold 64 bits.
 const MAX_VARINT_LEN: usize = 10;
 
-// The varint at the front, of any length, and what follows it.
+// The varint at the front, of at most ten bytes, and what follows it.
 #[tactic(auto, unfolding(crate::specs::Reading::varint_at))]
 fn read_groups(bytes: &[u8]) -> Result<(u64, &[u8]), Fault>
     ensures { Gives (λ x. (x.0, x.1.now)) result (varint_at bytes.now) }

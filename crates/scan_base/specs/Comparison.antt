@@ -11,8 +11,8 @@ use Rattle.scan_base.specs.declared.value.Value.{Value}
 use Rattle.scan_base.specs.declared.value.Value.TheVariants.{Null, Bool as Flag, Int, Text}
 use Rattle.scan_base.specs.Truth.{truth_from}
 
--- The order of two values: FALSE below TRUE, numbers by value, texts by their bytes. A null has none, nor
--- have two values of different classes.
+-- The order of two values: numbers by value, and, by this product's own rules, texts by their bytes with no
+-- padding, and FALSE below TRUE. A null has none, nor have two values of different classes.
 abbrev pub order_of : Value → Value → Option Ordering
 order_of (Flag a) (Flag b) = Some (bool_cmp a b)
 order_of (Int a) (Int b) = Some (int_cmp a b)

@@ -1,13 +1,15 @@
--- The truth tables of SQL-92.
+-- The truth tables of SQL-92, each row written out.
 use Rattle.std.specs.Prelude.{Bool, true, false}
 use Rattle.scan_base.specs.declared.truth.Truth.{Truth}
 use Rattle.scan_base.specs.declared.truth.Truth.TheVariants.{True, False, Unknown}
 
+-- NOT
 abbrev pub truth_not : Truth → Truth
 truth_not True = False
 truth_not False = True
 truth_not Unknown = Unknown
 
+-- AND
 abbrev pub truth_and : Truth → Truth → Truth
 truth_and True True = True
 truth_and True False = False
@@ -19,6 +21,7 @@ truth_and Unknown True = Unknown
 truth_and Unknown False = False
 truth_and Unknown Unknown = Unknown
 
+-- OR
 abbrev pub truth_or : Truth → Truth → Truth
 truth_or True True = True
 truth_or True False = True

@@ -4,7 +4,7 @@ ghost use Rattle.std.specs.Prelude.{◌≡◌, Bool, IsTrue};
 ghost use Rattle.std.specs.List.{list_all};
 ghost use Rattle.scan_base.specs.Truth.{negated_if};
 ghost use Rattle.scan_base.specs.Value.{value_of};
-ghost use Rattle.scan_base.specs.Predicate.{operand_names, names_only, operand_value, any_equal, truth_of};
+ghost use Rattle.scan_base.specs.Predicate.{operand_names, names_only, operand_value, within, any_equal, truth_of};
 ghost use Rattle.scan_base.specs.View.{pred_of};
 ghost use Rattle.scan_base.specs.declared.value.Value.{Value};
 
@@ -130,12 +130,10 @@ impl<C> Predicate<C> {
                 operand,
                 low,
                 high,
-            } => {
-                let value = operand.value(row);
-                let above = value.compare(Comparison::GreaterOrEqual, low.value(row));
-                let below = value.compare(Comparison::LessOrEqual, high.value(row));
-                not_if(*negated, above.and(below))
-            }
+            } => not_if(
+                *negated,
+                is_within(operand.value(row), low.value(row), high.value(row)),
+            ),
             Predicate::In {
                 negated,
                 operand,
@@ -158,7 +156,15 @@ fn not_if(negated: bool, truth: Truth) -> Truth
     if negated { truth.not() } else { truth }
 }
 
-// The OR of the equalities with each item.
+// value >= low AND value <= high
+fn is_within(value: ValueRef<'_>, low: ValueRef<'_>, high: ValueRef<'_>) -> Truth
+    ensures { result ≡ within (value_of value.entry) (value_of low.entry) (value_of high.entry) }
+{
+    let above = value.compare(Comparison::GreaterOrEqual, low);
+    above.and(value.compare(Comparison::LessOrEqual, high))
+}
+
+// The OR of the equalities with each item, up to the first that is true.
 #[tactic(auto, using(crate::proofs::Truths::or_laws))]
 fn equals_any<C, R: RowCells<C>>(value: ValueRef<'_>, items: &[Operand<C>], row: &R) -> Truth
     requires { IsTrue (list_all (operand_names (R.has row.now)) items.now) }
@@ -167,6 +173,9 @@ fn equals_any<C, R: RowCells<C>>(value: ValueRef<'_>, items: &[Operand<C>], row:
     let mut found = Truth::False;
     for item in items {
         found = found.or(value.compare(Comparison::Equal, item.value(row)));
+        if found == Truth::True {
+            return found;
+        }
     }
     found
 }

@@ -58,6 +58,10 @@ fn positions_of_faults(rt: HostRuntime) {
     assert_eq!(rt; Fault::BadFrame.code(), StatusCode::InvalidArgument);
 }
 
+const LONG: &str =
+    "a text that is longer than what a small buffer would hold, so that a copy that gave up at some \
+size would show, in memory that is ample";
+
 #[test]
 fn texts_and_lists(rt: HostRuntime) -> Result<(), Fail> {
     let text = Text::new(rt.alloc(), "a\"b")?;
@@ -69,8 +73,11 @@ fn texts_and_lists(rt: HostRuntime) -> Result<(), Fail> {
     list.push(text)?;
     list.push(Text::new(rt.alloc(), "")?)?;
     assert_eq!(rt; (list.len(), list.as_slice().len()), (2, 2));
-    let listed = Items::from(list.into_vec());
-    assert_eq!(rt; listed.len(), 2);
+    let mut listed = Items::from(list.into_vec());
+    for _ in 0..100 {
+        listed.push(Text::new(rt.alloc(), LONG)?)?;
+    }
+    assert_eq!(rt; listed.len(), 102);
     Ok(())
 }
 
@@ -82,6 +89,9 @@ fn values(rt: HostRuntime) -> Result<(), Fail> {
     assert!(rt; !text.same(&Value::Null));
     let equal = text.borrowed().compare(Comparison::Equal, copy.borrowed());
     assert_eq!(rt; equal, Truth::True);
+    for plain in [Value::Null, Value::Bool(true), Value::Int(-1)] {
+        assert!(rt; plain.copy()?.same(&plain.borrowed().to_value(rt.alloc())?));
+    }
     let class = text.borrowed().compare(Comparison::Equal, ValueRef::Int(1));
     assert_eq!(rt; class, Truth::Unknown);
     assert_eq!(rt;

@@ -1,8 +1,8 @@
 //! The values of cells.
 
-ghost use Rattle.std.specs.Prelude.{◌≡◌, ◌↔◌, IsTrue, IfOk};
+ghost use Rattle.std.specs.Prelude.{◌≡◌, ◌↔◌, IsTrue, IfOk, OnErr};
 ghost use Rattle.scan_base.specs.Comparison.{order_of, compared, nullness};
-ghost use Rattle.scan_base.specs.Value.{value_of};
+ghost use Rattle.scan_base.specs.Value.{value_of, IsText};
 
 use crate::comparison::Comparison;
 use crate::items::Items;
@@ -12,8 +12,8 @@ use std::alloc::{AllocError, Global};
 use std::cmp::Ordering;
 
 /// A value: a null, a truth value, a whole number (of every integer type and of decimals) or a text. The
-/// derived equality is that of values, where two nulls are equal; SQL's comparisons are
-/// [`ValueRef::compare`].
+/// derived equality is that of values, where two nulls are equal, and the derived order is that of the
+/// variants as they stand here, for the keys of maps. SQL's comparisons are [`ValueRef::compare`].
 #[derive(Clone, Debug, Drop, PartialEq, Eq, PartialOrd, Ord, Hash)]
 pub enum Value {
     Null,
@@ -47,25 +47,41 @@ impl Value {
         }
     }
 
-    /// Whether the two are the same value. Two nulls are.
+    /// Whether the two are the same value, as `==` is too. Two nulls are the same: SQL's `=` is
+    /// [`ValueRef::compare`].
     pub fn same(&self, other: &Value) -> bool
         ensures { IsTrue result ↔ (self.now ≡ other.now) }
     {
         self == other
     }
 
-    /// A copy of the value.
+    /// A copy of the value, as `clone` gives it.
+    ///
+    /// # Errors
+    ///
+    /// `AllocError` where memory for a text is refused; of another value never.
     pub fn copy(&self) -> Result<Value, AllocError>
-        ensures { IfOk result (λ copy. copy ≡ self.now) }
+        ensures copy { IfOk result (λ copy. copy ≡ self.now) }
+        ensures plain { OnErr result (IsText self.now) }
     {
-        self.clone()
+        match self {
+            Value::Null => Ok(Value::Null),
+            Value::Bool(flag) => Ok(Value::Bool(*flag)),
+            Value::Int(number) => Ok(Value::Int(*number)),
+            Value::Text(text) => Ok(Value::Text(text.clone()?)),
+        }
     }
 }
 
 impl<'a> ValueRef<'a> {
     /// A copy of the value that owns its text.
+    ///
+    /// # Errors
+    ///
+    /// `AllocError` where memory for a text is refused; of another value never.
     pub fn to_value(self, alloc: Global) -> Result<Value, AllocError>
-        ensures { IfOk result (λ value. value ≡ value_of self.entry) }
+        ensures value { IfOk result (λ value. value ≡ value_of self.entry) }
+        ensures plain { OnErr result (IsText (value_of self.entry)) }
     {
         match self {
             ValueRef::Null => Ok(Value::Null),
