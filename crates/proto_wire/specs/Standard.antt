@@ -1,5 +1,6 @@
 -- What a message is on the wire, in the words of the Protocol Buffers encoding: a list of fields, one
--- after the other. No code and no order of reading is in it.
+-- after the other. No code and no order of reading is in it. Groups (wire types 3 and 4) are left out, and
+-- a varint longer than needed is taken modulo 2^64: these two rules are our own.
 use Rattle.std.specs.Prelude.{◌≡◌, ℕ, ◌+◌, ◌*◌, ◌%◌, ◌^◌, ◌≤◌, ◌<◌, ◌++◌, List, [], ◌∷◌, length}
 use Rattle.std.specs.Int.{w32, w64, from_le_bytes}
 
