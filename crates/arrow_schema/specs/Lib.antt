@@ -1,0 +1,3 @@
+pub mod Batch
+pub mod Column
+pub mod DataType

@@ -1,0 +1,12 @@
+//! Arrow's types, schemas, columns and batches.
+#![tactic(auto)]
+
+pub mod batch;
+pub mod column;
+pub mod data_type;
+pub mod schema;
+
+pub use crate::batch::Batch;
+pub use crate::column::Column;
+pub use crate::data_type::{DataType, DictionaryEncoding, IntegerType};
+pub use crate::schema::{Field, Schema};
