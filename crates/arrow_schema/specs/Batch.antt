@@ -1,5 +1,5 @@
 -- Columns side by side, and the rows that they hold.
-use Rattle.std.specs.Prelude.{◌≡◌, ℕ, ◌-◌, List, length, map, All}
+use Rattle.std.specs.Prelude.{◌≡◌, ℕ, ◌-◌, List, map, All}
 use Rattle.std.specs.List.{range_with_len}
 use Rattle.scan_base.specs.declared.value.Value.{Value}
 use Rattle.arrow_schema.specs.Column.{ColumnAt, slot_of, cut}

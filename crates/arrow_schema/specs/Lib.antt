@@ -1,3 +1,5 @@
 pub mod Batch
 pub mod Column
 pub mod DataType
+pub mod Header
+pub mod Seen

@@ -4,9 +4,11 @@
 pub mod batch;
 pub mod column;
 pub mod data_type;
+pub mod header;
 pub mod schema;
 
 pub use crate::batch::Batch;
 pub use crate::column::Column;
 pub use crate::data_type::{DataType, DictionaryEncoding, IntegerType};
+pub use crate::header::{HeaderKind, Message, read_message};
 pub use crate::schema::{Field, Schema};

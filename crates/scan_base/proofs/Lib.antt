@@ -1,2 +1,3 @@
+pub mod ReadingLaws
 pub mod Rows
 pub mod Truths

@@ -1,4 +1,4 @@
-use Rattle.std.proofs.Common.{◌+◌, ◌-◌, ◌*◌, ◌∙◌, ap, drop, length, arith, rules}
+use Rattle.std.proofs.Common.{◌-◌, ◌*◌, ◌∙◌, ap, drop, length, arith, rules}
 use Rattle.std.specs.Int.{w64, cast_signed}
 use Rattle.std.proofs.lemmas.Int.{to_z-of_z}
 use Rattle.byteorder.specs.Numbers.{little_from-take}
