@@ -14,7 +14,7 @@ use Rattle.scan_base.specs.declared.fault.Fault.TheVariants.{BadFlatbuffer}
 use Rattle.scan_base.specs.Reading.{◌>>=◌, demand}
 use Rattle.byteorder.specs.Endian.{little_from, little_number}
 use Rattle.byteorder.specs.Numbers.{little_from-take, little_from-lt}
-use Rattle.flatbuf.specs.Layout.{Stands, IsBytes, HasNumber, HasOffset, TableAt, VectorAt, HasRoot, HasVtable, HasEntry, LeadsFrom, HasField, IsScalar, HasScalar, LeadsTo, IsReached, Reaches, IsTable, IsVector, AreItems, IsText, HasTable, HasVector, HasStructs, HasText, HasElement}
+use Rattle.flatbuf.specs.Layout.{Stands, IsBytes, HasNumber, HasOffset, TableAt, VectorAt, HasRoot, HasVtable, LeadsFrom, HasField, IsScalar, HasScalar, IsReached, Reaches, IsTable, IsVector, AreItems, IsText, HasTable, HasVector, HasStructs, HasText, HasElement}
 use Rattle.flatbuf.specs.Place.{number_at, bytes_at, target_of, root_of, vtable_of, field_of, scalar_at, scalar_of, led_from, through, table_of, vector_of, element_of, items_at, structs_of, text_of}
 use Rattle.flatbuf.specs.Readings.{Finds}
 use Rattle.flatbuf.proofs.Numbers.{little_from-at}
@@ -79,27 +79,37 @@ number_is width bytes at n has =
 
 pub seen_number : (width : ℕ) (bytes : List ℕ) (at : ℕ) → Seen (number_at width bytes at) (HasNumber width bytes at)
 seen_number width bytes at = elim (cases_lt (length bytes) (at + width)) [
-  | inl past ↦ rw (lt-leb (at + width) (length bytes) past) (refl, λ n has.
-      let fits = part_fits has.part bytes at has.stands in
-      let wide = has.wide in
-      omega arith)
-  | inr fits ↦ rw (le-leb (at + width) (length bytes) fits) (record {
+  | inl past ↦ rw (lt-leb (at + width) (length bytes) past) (
+    refl,
+    λ n has.
+        let fits = part_fits has.part bytes at has.stands in
+        let wide = has.wide in
+        omega arith,
+  )
+  | inr fits ↦ rw (le-leb (at + width) (length bytes) fits) (
+    record {
       part = take width (drop at bytes);
       stands = stands_part bytes at width fits;
       wide = length-take-le width (drop at bytes) (let e = length-drop at bytes in omega arith);
       value = sym (part_value width at bytes);
-    }, λ n has. number_is width bytes at n has)
+    },
+    λ n has. number_is width bytes at n has,
+  )
 ]
 
 pub seen_bytes : (bytes : List ℕ) (at count : ℕ) → Seen (bytes_at bytes at count) (λ part. Stands part bytes at × (length part ≡ count))
 seen_bytes bytes at count = elim (cases_lt (length bytes) (at + count)) [
-  | inl past ↦ rw (lt-leb (at + count) (length bytes) past) (refl, λ part h.
-      let fits = part_fits part bytes at h.0 in
-      let wide = h.1 in
-      omega arith)
+  | inl past ↦ rw (lt-leb (at + count) (length bytes) past) (
+    refl,
+    λ part h.
+        let fits = part_fits part bytes at h.0 in
+        let wide = h.1 in
+        omega arith,
+  )
   | inr fits ↦ rw (le-leb (at + count) (length bytes) fits) (
-      (stands_part bytes at count fits, length-take-le count (drop at bytes) (let e = length-drop at bytes in omega arith)),
-      λ part h. rw h.1 at (part_is part bytes at h.0))
+    (stands_part bytes at count fits, length-take-le count (drop at bytes) (let e = length-drop at bytes in omega arith)),
+    λ part h. rw h.1 at (part_is part bytes at h.0),
+  )
 ]
 
 -- where an offset leads
@@ -109,7 +119,7 @@ seen_target bytes at =
     (λ target h. record { offset = h.0; stored = h.1; place = h.2 })
     (λ target h. (h.offset, h.stored, h.place))
     (seen_then (number_at 4 bytes at) (λ offset. Ok (at + offset)) (HasNumber 4 bytes at) (λ offset target. target ≡ at + offset)
-      (seen_number 4 bytes at) (λ offset h. (refl, λ y e. e)))
+    (seen_number 4 bytes at) (λ offset h. (refl, λ y e. e)))
 
 -- the items behind a count
 pub seen_items : (width : ℕ) (bytes : List ℕ) (at : ℕ) → Seen (items_at width bytes at) (AreItems width bytes at)
@@ -119,8 +129,8 @@ seen_items width bytes at =
     (λ items h. record { count = h.0; counted = h.1; stand = h.2.0; wide = h.2.1 })
     (λ items h. (h.count, h.counted, (h.stand, h.wide)))
     (seen_then (number_at 4 bytes at) (λ count. bytes_at bytes (at + 4) (count * width)) (HasNumber 4 bytes at)
-      (λ count items. Stands items bytes (at + 4) × (length items ≡ count * width))
-      (seen_number 4 bytes at) (λ count h. seen_bytes bytes (at + 4) (count * width)))
+    (λ count items. Stands items bytes (at + 4) × (length items ≡ count * width))
+    (seen_number 4 bytes at) (λ count h. seen_bytes bytes (at + 4) (count * width)))
 
 -- a table that lies where an offset leads
 seen_led : (bytes : List ℕ) (at : ℕ) → Seen {A = TableAt} (target_of bytes at >>= λ target. Ok (record { bytes = bytes; at = target })) (λ table. (target : ℕ) × HasOffset bytes at target × (table ≡ record { bytes = bytes; at = target }))
@@ -181,10 +191,10 @@ seen_vtable table isbytes =
     (λ vtable h. record { back = h.0; stored = h.1; place = h.2 })
     (λ vtable h. (h.back, h.stored, h.place))
     (seen_then (number_at 4 table.bytes table.at)
-      (λ back. (if nat_lt back (2 ^ 31) then (demand (nat_le back table.at) BadFlatbuffer >>= λ _. Ok (table.at - back)) else Ok (table.at + (2 ^ 32 - back))))
-      (HasNumber 4 table.bytes table.at) (λ back vtable. pos vtable ≡ pos table.at -ℤ cast_signed w32 back)
-      (seen_number 4 table.bytes table.at)
-      (λ back h. vtable_at table.at back (number_small table.bytes table.at back isbytes h)))
+    (λ back. (if nat_lt back (2 ^ 31) then (demand (nat_le back table.at) BadFlatbuffer >>= λ _. Ok (table.at - back)) else Ok (table.at + (2 ^ 32 - back))))
+    (HasNumber 4 table.bytes table.at) (λ back vtable. pos vtable ≡ pos table.at -ℤ cast_signed w32 back)
+    (seen_number 4 table.bytes table.at)
+    (λ back h. vtable_at table.at back (number_small table.bytes table.at back isbytes h)))
 
 -- where an entry leads
 no_entry : (table : TableAt) (entry : ℕ) → entry ≡ 0 → (place : Option ℕ) → LeadsFrom table entry place → place ≡ None
@@ -211,19 +221,20 @@ seen_slot : (table : TableAt) (slot vtable size : ℕ) → Seen (if nat_lt size 
 seen_slot table slot vtable size =
     let same : vtable + (2 * slot + 4) ≡ vtable + (4 + 2 * slot) = omega arith in
     elim (cases_lt size (2 * slot + 6)) [
-    | inl short ↦ rw (lt-ltb size (2 * slot + 6) short)
-      ((0, inr (omega arith, refl), refl),
-      λ place h. no_entry table h.0 (elim h.1 [ inl stored ↦ let long = stored.0 in absurd (let no : ⊥ = omega arith in no) | inr none ↦ none.1 ]) place h.2)
-    | inr long ↦ rw (le-ltb size (2 * slot + 6) long)
-      (seen_same (number_at 2 table.bytes (vtable + (2 * slot + 4)) >>= λ entry. Ok (if entry == 0 then None else Some (table.at + entry)))
-        (λ place. (entry : ℕ) × HasNumber 2 table.bytes (vtable + (2 * slot + 4)) entry × LeadsFrom table entry place)
-        (λ place. (entry : ℕ) × IsStored table.bytes vtable size slot entry × LeadsFrom table entry place)
-        (λ place h. (h.0, inl (omega arith, rw (← same) h.1), h.2))
-        (λ place h. (h.0, elim h.1 [ inl stored ↦ rw same stored.1 | inr none ↦ let past = none.0 in absurd (let no : ⊥ = omega arith in no) ], h.2))
-        (seen_then (number_at 2 table.bytes (vtable + (2 * slot + 4))) (λ entry. Ok (if entry == 0 then None else Some (table.at + entry)))
+      | inl short ↦ rw (lt-ltb size (2 * slot + 6) short) (
+        (0, inr (omega arith, refl), refl),
+        λ place h. no_entry table h.0 (elim h.1 [ inl stored ↦ let long = stored.0 in absurd (let no : ⊥ = omega arith in no) | inr none ↦ none.1 ]) place h.2,
+      )
+      | inr long ↦ rw (le-ltb size (2 * slot + 6) long)
+          (seen_same (number_at 2 table.bytes (vtable + (2 * slot + 4)) >>= λ entry. Ok (if entry == 0 then None else Some (table.at + entry)))
+          (λ place. (entry : ℕ) × HasNumber 2 table.bytes (vtable + (2 * slot + 4)) entry × LeadsFrom table entry place)
+          (λ place. (entry : ℕ) × IsStored table.bytes vtable size slot entry × LeadsFrom table entry place)
+          (λ place h. (h.0, inl (omega arith, rw (← same) h.1), h.2))
+          (λ place h. (h.0, elim h.1 [ inl stored ↦ rw same stored.1 | inr none ↦ let past = none.0 in absurd (let no : ⊥ = omega arith in no) ], h.2))
+          (seen_then (number_at 2 table.bytes (vtable + (2 * slot + 4))) (λ entry. Ok (if entry == 0 then None else Some (table.at + entry)))
           (HasNumber 2 table.bytes (vtable + (2 * slot + 4))) (LeadsFrom table)
           (seen_number 2 table.bytes (vtable + (2 * slot + 4))) (λ entry h. seen_entry table entry)))
-  ]
+    ]
 
 pub seen_field : (table : TableAt) (slot : ℕ) → IsBytes table.bytes → Seen (field_of table slot) (HasField table slot)
 unfolding field_of
@@ -233,12 +244,12 @@ seen_field table slot isbytes =
     let sized : ℕ → Option ℕ → Type 0 = λ vtable place. (size : ℕ) × HasNumber 2 table.bytes vtable size × rest vtable size place in
     seen_same (field_of table slot) (λ place. (vtable : ℕ) × HasVtable table vtable × sized vtable place) (HasField table slot)
     (λ place h. let s = h.2 in let e = s.2 in
-      record { vtable = h.0; entry = e.0; tabled = h.1; stored = record { size = s.0; sized = s.1; stored = e.1 }; leads = e.2 })
+    record { vtable = h.0; entry = e.0; tabled = h.1; stored = record { size = s.0; sized = s.1; stored = e.1 }; leads = e.2 })
     (λ place h. (h.vtable, h.tabled, (h.stored.size, h.stored.sized, (h.entry, h.stored.stored, h.leads))))
     (seen_then (vtable_of table) (λ vtable. (number_at 2 table.bytes vtable >>= entry vtable)) (HasVtable table) sized
-      (seen_vtable table isbytes)
-      (λ vtable h. seen_then (number_at 2 table.bytes vtable) (entry vtable) (HasNumber 2 table.bytes vtable) (rest vtable)
-        (seen_number 2 table.bytes vtable) (λ size k. seen_slot table slot vtable size)))
+    (seen_vtable table isbytes)
+    (λ vtable h. seen_then (number_at 2 table.bytes vtable) (entry vtable) (HasNumber 2 table.bytes vtable) (rest vtable)
+    (seen_number 2 table.bytes vtable) (λ size k. seen_slot table slot vtable size)))
 
 -- the number of a slot
 pub seen_scalar : (width : ℕ) (table : TableAt) (slot default : ℕ) → IsBytes table.bytes → Seen (scalar_of width table slot default) (HasScalar width table slot default)
@@ -248,11 +259,11 @@ seen_scalar width table slot default isbytes =
     (λ n h. record { place = h.0; field = h.1; scalar = h.2 })
     (λ n h. (h.place, h.field, h.scalar))
     (seen_then (field_of table slot) (scalar_at width table.bytes default) (HasField table slot) (IsScalar width table.bytes default)
-      (seen_field table slot isbytes)
-      (λ place h. elim place as (λ (p : Option ℕ). Seen (scalar_at width table.bytes default p) (IsScalar width table.bytes default p)) [
-        | None ↦ (refl, λ y e. e)
-        | Some at ↦ seen_number width table.bytes at
-      ]))
+    (seen_field table slot isbytes)
+    (λ place h. elim place as (λ (p : Option ℕ). Seen (scalar_at width table.bytes default p) (IsScalar width table.bytes default p)) [
+      | None ↦ (refl, λ y e. e)
+      | Some at ↦ seen_number width table.bytes at
+    ]))
 
 -- what the offset at a field leads to
 seen_led_from : {A : Type 0} (bytes : List ℕ) (read : ℕ → Result A Fault) (holds : ℕ → A → Type 0) → ((target : ℕ) → Seen (read target) (holds target)) → (place : Option ℕ) → Seen (led_from bytes read place) (IsReached holds bytes place)
@@ -265,8 +276,8 @@ seen_led_from {A = A} bytes read holds seen (Some at) =
       | Some x ↦ λ h. (h.target, h.offset, (x, h.there, refl))
     ])
     (seen_then (target_of bytes at) (λ target. (read target >>= λ found. Ok (Some found))) (HasOffset bytes at) (λ target found. (x : A) × holds target x × (found ≡ Some x))
-      (seen_target bytes at)
-      (λ target h. seen_then (read target) (λ found. Ok (Some found)) (holds target) (λ x found. found ≡ Some x) (seen target) (λ x k. (refl, λ y e. e))))
+    (seen_target bytes at)
+    (λ target h. seen_then (read target) (λ found. Ok (Some found)) (holds target) (λ x found. found ≡ Some x) (seen target) (λ x k. (refl, λ y e. e))))
 
 -- what a slot leads to
 seen_through : {A : Type 0} (table : TableAt) (slot : ℕ) (read : ℕ → Result A Fault) (holds : ℕ → A → Type 0) → IsBytes table.bytes → ((target : ℕ) → Seen (read target) (holds target)) → Seen (through table slot read) (Reaches holds table slot)
@@ -275,8 +286,8 @@ seen_through {A = A} table slot read holds isbytes seen =
     (λ found h. record { place = h.0; field = h.1; reached = h.2 })
     (λ found h. (h.place, h.field, h.reached))
     (seen_then (field_of table slot) (led_from table.bytes read) (HasField table slot) (IsReached holds table.bytes)
-      (seen_field table slot isbytes)
-      (λ place h. seen_led_from table.bytes read holds seen place))
+    (seen_field table slot isbytes)
+    (λ place h. seen_led_from table.bytes read holds seen place))
 
 pub seen_table : (table : TableAt) (slot : ℕ) → IsBytes table.bytes → Seen (table_of table slot) (HasTable table slot)
 unfolding table_of
@@ -290,11 +301,11 @@ seen_vector table slot isbytes =
     let make : ℕ → ℕ → VectorAt = λ target count. record { bytes = table.bytes; first = target + 4; count = count } in
     seen_through table slot (λ target. (number_at 4 table.bytes target >>= λ count. Ok (make target count))) (IsVector table.bytes) isbytes
     (λ target. seen_same (number_at 4 table.bytes target >>= λ count. Ok (make target count))
-      (λ vector. (count : ℕ) × HasNumber 4 table.bytes target count × (vector ≡ make target count)) (IsVector table.bytes target)
-      (λ vector h. rw h.2 (record { same = refl; counted = h.1; first = refl }))
-      (λ vector h. (vector.count, h.counted, ap (λ b. let v : VectorAt = record { bytes = b; first = vector.first; count = vector.count } in v) h.same ∙ ap (λ f. let v : VectorAt = record { bytes = table.bytes; first = f; count = vector.count } in v) h.first))
-      (seen_then (number_at 4 table.bytes target) (λ count. Ok (make target count)) (HasNumber 4 table.bytes target) (λ count vector. vector ≡ make target count)
-        (seen_number 4 table.bytes target) (λ count h. (refl, λ y e. e))))
+    (λ vector. (count : ℕ) × HasNumber 4 table.bytes target count × (vector ≡ make target count)) (IsVector table.bytes target)
+    (λ vector h. rw h.2 (record { same = refl; counted = h.1; first = refl }))
+    (λ vector h. (vector.count, h.counted, ap (λ b. let v : VectorAt = record { bytes = b; first = vector.first; count = vector.count } in v) h.same ∙ ap (λ f. let v : VectorAt = record { bytes = table.bytes; first = f; count = vector.count } in v) h.first))
+    (seen_then (number_at 4 table.bytes target) (λ count. Ok (make target count)) (HasNumber 4 table.bytes target) (λ count vector. vector ≡ make target count)
+    (seen_number 4 table.bytes target) (λ count h. (refl, λ y e. e))))
 
 pub seen_structs : (width : ℕ) (table : TableAt) (slot : ℕ) → IsBytes table.bytes → Seen (structs_of width table slot) (HasStructs width table slot)
 unfolding structs_of
@@ -317,8 +328,8 @@ seen_text table slot isbytes =
     let read : List ℕ → Result (List ℕ) Fault = λ text. (demand (is_utf8 text) BadFlatbuffer >>= λ _. Ok text) in
     seen_through table slot (λ target. (items_at 1 table.bytes target >>= read)) (IsText table.bytes) isbytes
     (λ target. seen_same (items_at 1 table.bytes target >>= read)
-      (λ text. (items : List ℕ) × AreItems 1 table.bytes target items × ((text ≡ items) × IsUtf8 text)) (IsText table.bytes target)
-      (λ text h. record { items = rw h.2.0 h.1; utf8 = h.2.1 })
-      (λ text h. (text, h.items, (refl, h.utf8)))
-      (seen_then (items_at 1 table.bytes target) read (AreItems 1 table.bytes target) (λ items text. (text ≡ items) × IsUtf8 text)
-        (seen_items 1 table.bytes target) (λ items h. seen_utf8 items)))
+    (λ text. (items : List ℕ) × AreItems 1 table.bytes target items × ((text ≡ items) × IsUtf8 text)) (IsText table.bytes target)
+    (λ text h. record { items = rw h.2.0 h.1; utf8 = h.2.1 })
+    (λ text h. (text, h.items, (refl, h.utf8)))
+    (seen_then (items_at 1 table.bytes target) read (AreItems 1 table.bytes target) (λ items text. (text ≡ items) × IsUtf8 text)
+    (seen_items 1 table.bytes target) (λ items h. seen_utf8 items)))

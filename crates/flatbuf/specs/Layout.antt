@@ -73,11 +73,12 @@ pub record HasField (table : TableAt) (slot : ℕ) (place : Option ℕ) : Type 0
   pub stored : HasEntry table.bytes vtable slot entry
   pub leads : LeadsFrom table entry place
 
--- a slot's number is the one at its field, and the default where the field is absent
+-- the number at a field, and the default where the field is absent
 abbrev pub IsScalar : ℕ → List ℕ → ℕ → Option ℕ → ℕ → Type 0
 IsScalar width bytes default None n = n ≡ default
 IsScalar width bytes default (Some place) n = HasNumber width bytes place n
 
+-- the number of a slot
 pub record HasScalar (width : ℕ) (table : TableAt) (slot default n : ℕ) : Type 0 where
   pub place : Option ℕ
   pub field : HasField table slot place
@@ -96,7 +97,7 @@ IsReached holds bytes None (Some found) = ⊥
 IsReached holds bytes (Some place) None = ⊥
 IsReached holds bytes (Some place) (Some found) = LeadsTo holds bytes place found
 
--- a slot has nothing, or leads to something of which this holds
+-- a slot is absent and has nothing, or leads to something of which this holds
 pub record Reaches {A : Type 0} (holds : ℕ → A → Type 0) (table : TableAt) (slot : ℕ) (found : Option A) : Type 0 where
   pub place : Option ℕ
   pub field : HasField table slot place
@@ -125,16 +126,19 @@ pub record IsText (bytes : List ℕ) (at : ℕ) (text : List ℕ) : Type 0 where
   pub items : AreItems 1 bytes at text
   pub utf8 : IsUtf8 text
 
--- what the slot of a table, of a vector of tables, of a vector of structs or of a text leads to
+-- the table that a slot leads to, or none
 abbrev pub HasTable : TableAt → ℕ → Option TableAt → Type 0
 HasTable table slot found = Reaches (IsTable table.bytes) table slot found
 
+-- the vector of tables that a slot leads to, or none
 abbrev pub HasVector : TableAt → ℕ → Option VectorAt → Type 0
 HasVector table slot found = Reaches (IsVector table.bytes) table slot found
 
+-- the structs, each of this width, that a slot leads to, or none
 abbrev pub HasStructs : ℕ → TableAt → ℕ → Option (List ℕ) → Type 0
 HasStructs width table slot found = Reaches (AreItems width table.bytes) table slot found
 
+-- the text that a slot leads to, or none
 abbrev pub HasText : TableAt → ℕ → Option (List ℕ) → Type 0
 HasText table slot found = Reaches (IsText table.bytes) table slot found
 

@@ -1,6 +1,7 @@
--- What is read at which place of a buffer. Every place is counted from the buffer's first byte, and
--- whatever is read outside the buffer is BadFlatbuffer.
-use Rattle.std.specs.Prelude.{◌≡◌, ℕ, ◌+◌, ◌-◌, ◌*◌, ◌^◌, ◌==◌, List, length, take, drop, Option, Some, None, Result, Ok, Err, nat_lt, nat_le, if◌then◌else◌}
+-- What is read at which place of a buffer, in `Layout`'s terms. Every place is counted from the buffer's
+-- first byte, and whatever is read outside the buffer is BadFlatbuffer. `Readings` says that each of
+-- these finds just what `Layout` says.
+use Rattle.std.specs.Prelude.{ℕ, ◌+◌, ◌-◌, ◌*◌, ◌^◌, ◌==◌, List, length, take, drop, Option, Some, None, Result, Ok, Err, nat_lt, nat_le, if◌then◌else◌}
 use Rattle.std.specs.Str.{is_utf8}
 use Rattle.scan_base.specs.declared.fault.Fault.{Fault}
 use Rattle.scan_base.specs.declared.fault.Fault.TheVariants.{BadFlatbuffer}

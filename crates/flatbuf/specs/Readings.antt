@@ -1,4 +1,4 @@
--- That each reading finds what the format says.
+-- Each reading of `Place` finds what the format, in `Layout`'s words, says of the buffer.
 use Rattle.std.specs.Prelude.{◌≡◌, ◌↔◌, ℕ, List, length, Result, Ok, Err}
 use Rattle.scan_base.specs.declared.fault.Fault.{Fault}
 use Rattle.scan_base.specs.declared.fault.Fault.TheVariants.{BadFlatbuffer}

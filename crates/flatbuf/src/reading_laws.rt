@@ -2,8 +2,8 @@
 
 ghost use Rattle.flatbuf.specs.Readings.{FindsNumber, FindsBytes, FindsTarget, FindsRoot, FindsVtable, FindsField, FindsScalar, FindsTable, FindsVector, FindsElement, FindsItems, FindsStructs, FindsText};
 
-/// What is read is what the format says lies there, and `Fault::BadFlatbuffer` comes exactly where the
-/// format says of no value that it lies there. It does nothing when it is called.
+/// Each reading gives the value that lies there by the FlatBuffers binary format, and
+/// `Fault::BadFlatbuffer` exactly where no value does. This is a law: the call does nothing.
 pub fn readings_find_what_the_format_says()
     ensures number { FindsNumber }
     ensures bytes { FindsBytes }
@@ -18,5 +18,4 @@ pub fn readings_find_what_the_format_says()
     ensures element { FindsElement }
     ensures structs { FindsStructs }
     ensures text { FindsText }
-{
-}
+{}

@@ -16,10 +16,10 @@ pub struct Buf;
 
 /// A table of a FlatBuffers buffer.
 ///
-/// A slot is read when it is asked for: the offset of the table's vtable, the vtable's size, the slot's own
-/// entry, and the value. So `Fault::BadFlatbuffer` means that one of these lies outside the buffer, and no
-/// other part of the buffer is tested. Alignment and the size of the table are not tested either.
-/// A slot is absent where its entry does not lie within the vtable's size, and where its entry is 0.
+/// A slot is read when it is asked for: the offset of the table's vtable, the vtable's size, the
+/// slot's own entry, and the value. So `Fault::BadFlatbuffer` means that one of these lies outside
+/// the buffer, and no other part of the buffer is tested, nor is alignment or the table's size.
+/// A slot is absent where its entry does not lie within the vtable's size, and where it is 0.
 #[derive(Drop)]
 pub struct Table<'a> {
     bytes: &'a [u8],
@@ -80,7 +80,8 @@ impl<'a> Table<'a> {
     #[tactic(auto, unfolding(crate::specs::Place::field_of))]
     fn field(&self, slot: u16) -> Result<Option<usize>, Fault>
         ensures value { Gives (λ place. place) result (field_of self.now slot) }
-        ensures near { IfOk result (λ place. IfSome place (λ at. at ≤ length self.now.bytes + 2 ^ 16)) }
+        ensures near { IfOk result
+            (λ place. IfSome place (λ at. at ≤ length self.now.bytes + 2 ^ 16)) }
     {
         let vtable = self.vtable()?;
         let size = number(self.bytes, vtable, 2)?;
@@ -95,8 +96,8 @@ impl<'a> Table<'a> {
         Ok(Some(self.at + entry as usize))
     }
 
-    /// The number of a slot, the lowest byte first, or the default where the slot is absent. A signed number
-    /// is given as its two's complement of this width.
+    /// The number of a slot, little-endian, or the default where the slot is absent. A signed
+    /// number is given as its two's complement of this width.
     ///
     /// # Errors
     ///
@@ -104,7 +105,8 @@ impl<'a> Table<'a> {
     #[tactic(auto, unfolding(crate::specs::Place::scalar_of))]
     pub fn scalar(&self, slot: u16, width: Width, default: u64) -> Result<u64, Fault>
         ensures value { Gives (λ n. n) result (scalar_of (bytes_in width) self.now slot default) }
-        ensures fits { default < 256 ^ bytes_in width → IfOk result (λ n. n < 256 ^ bytes_in width) }
+        ensures fits { default < 256 ^ bytes_in width →
+            IfOk result (λ n. n < 256 ^ bytes_in width) }
     {
         match self.field(slot)? {
             None => Ok(default),
@@ -116,18 +118,15 @@ impl<'a> Table<'a> {
     ///
     /// # Errors
     ///
-    /// `Fault::BadFlatbuffer` if something that is read lies outside the buffer. Of the table that is led to
-    /// nothing is read yet.
+    /// `Fault::BadFlatbuffer` if something that is read lies outside the buffer. Of the table that
+    /// the slot leads to nothing is read yet.
     #[tactic(auto, unfolding(crate::specs::Place::table_of))]
     pub fn table(&self, slot: u16) -> Result<Option<Table<'a>>, Fault>
         ensures { Gives (λ table. table) result (table_of self.now slot) }
     {
         match self.field(slot)? {
             None => Ok(None),
-            Some(at) => {
-                let at = target(self.bytes, at)?;
-                Ok(Some(Table::new(self.bytes, at)))
-            }
+            Some(at) => Ok(Some(Table::new(self.bytes, target(self.bytes, at)?))),
         }
     }
 
@@ -135,7 +134,8 @@ impl<'a> Table<'a> {
     ///
     /// # Errors
     ///
-    /// `Fault::BadFlatbuffer` if something that is read, up to the vector's count, lies outside the buffer.
+    /// `Fault::BadFlatbuffer` if something that is read lies outside the buffer. Of the vector only
+    /// its count is read yet.
     #[tactic(auto, unfolding(crate::specs::Place::vector_of))]
     pub fn vector(&self, slot: u16) -> Result<Option<Vector<'a>>, Fault>
         ensures { Gives (λ vector. vector) result (vector_of self.now slot) }
@@ -143,15 +143,15 @@ impl<'a> Table<'a> {
         match self.field(slot)? {
             None => Ok(None),
             Some(at) => {
-                let at = target(self.bytes, at)?;
-                let count = number(self.bytes, at, 4)?;
-                Ok(Some(Vector::new(self.bytes, at + 4, count as usize)))
+                let start = target(self.bytes, at)?;
+                let count = number(self.bytes, start, 4)?;
+                Ok(Some(Vector::new(self.bytes, start + 4, count as usize)))
             }
         }
     }
 
-    /// The bytes of the vector of structs that a slot leads to, each struct of `width` bytes, one after the
-    /// other; or `None` where the slot is absent.
+    /// The bytes of the vector of structs that a slot leads to, each struct of `width` bytes, one
+    /// after the other; or `None` where the slot is absent.
     ///
     /// # Errors
     ///
@@ -164,32 +164,34 @@ impl<'a> Table<'a> {
         match self.field(slot)? {
             None => Ok(None),
             Some(at) => {
-                let at = target(self.bytes, at)?;
-                let part = items(self.bytes, at, usize::from(width))?;
+                let part = items(self.bytes, target(self.bytes, at)?, usize::from(width))?;
                 Ok(Some(part))
             }
         }
     }
 
-    /// The text that a slot leads to, or `None` where the slot is absent. The zero that closes a text in a
-    /// buffer is not read.
+    /// The text that a slot leads to, or `None` where the slot is absent. The zero that closes a
+    /// text in a buffer is not read.
     ///
     /// # Errors
     ///
-    /// `Fault::BadFlatbuffer` if something that is read, or a byte of the text, lies outside the buffer, or if
-    /// the text is not UTF-8.
+    /// `Fault::BadFlatbuffer` if something that is read, or a byte of the text, lies outside the
+    /// buffer, or if the text is not UTF-8.
     #[tactic(auto, unfolding(crate::specs::Place::text_of))]
     pub fn text(&self, slot: u16) -> Result<Option<&'a str>, Fault>
-        ensures { Gives (λ found. option_map (λ text. text.now) found) result (text_of self.now slot) }
+        ensures { Gives (λ found. option_map (λ text. text.now) found) result
+            (text_of self.now slot) }
     {
         match self.field(slot)? {
             None => Ok(None),
             Some(at) => {
-                let at = target(self.bytes, at)?;
-                let part = items(self.bytes, at, 1)?;
+                let part = items(self.bytes, target(self.bytes, at)?, 1)?;
                 let text = utf8(part)?;
                 Ok(Some(text))
             }
         }
     }
 }
+
+#[cfg(test)]
+mod tests;

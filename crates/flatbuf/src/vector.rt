@@ -9,7 +9,7 @@ use crate::table::Table;
 use scan_base::Fault;
 use std::marker::Model;
 
-/// A vector of tables of a FlatBuffers buffer. Its offsets are read one by one, when they are asked for.
+/// A vector of tables of a FlatBuffers buffer. An offset is read when its table is asked for.
 #[derive(Drop)]
 pub struct Vector<'a> {
     bytes: &'a [u8],
@@ -53,15 +53,15 @@ impl<'a> Vector<'a> {
     pub fn is_empty(&self) -> bool
         ensures { IsTrue result ↔ (self.now.count ≡ 0) }
     {
-        self.count == 0
+        self.len() == 0
     }
 
     /// The table of an index, from 0.
     ///
     /// # Errors
     ///
-    /// `Fault::BadFlatbuffer` if the table's offset lies outside the buffer. Of the table itself nothing is
-    /// read yet.
+    /// `Fault::BadFlatbuffer` if the table's offset lies outside the buffer. Of the table itself
+    /// nothing is read yet.
     #[tactic(auto, unfolding(crate::specs::Place::element_of))]
     pub fn table(&self, index: usize) -> Result<Table<'a>, Fault>
         requires { index < self.now.count }
