@@ -1,18 +1,18 @@
 -- A schema that was written is read again.
-use Rattle.std.proofs.Common.{◌≡◌, ℕ, zero, suc, ◌+◌, ◌*◌, ◌^◌, ◌≤◌, ◌<◌, ◌==◌, not, Bool, true, false, List, [], ◌∷◌, ◌++◌, length, map, Option, Some, None, option_map, Result, Ok, Err, refl, arith, ap, ◌∙◌, append-nil}
+use Rattle.std.proofs.Common.{◌≡◌, ℕ, suc, ◌+◌, ◌*◌, ◌^◌, ◌≤◌, ◌<◌, ◌==◌, not, Bool, true, false, List, [], ◌∷◌, ◌++◌, length, map, Option, Some, None, option_map, Ok, refl, arith, ap, ◌∙◌, append-nil}
 use Rattle.std.proofs.lemmas.List.{length-append, length-map}
 use Rattle.std.specs.List.{AllByRecursion, range_with_len}
 use Rattle.std.proofs.lemmas.List.Elements.{recursion_from_All}
 use Rattle.std.proofs.lemmas.Bool.{le-leb, lt-ltb}
 use Rattle.scan_base.specs.Lists.{each}
-use Rattle.flatbuf.specs.Place.{TableAt, VectorAt, scalar_of, table_of, text_of, vector_of}
+use Rattle.flatbuf.specs.Place.{TableAt, VectorAt, scalar_of, table_of, text_of}
 use Rattle.flatbuf.specs.Layout.{Stands}
-use Rattle.flatbuf.specs.Block.{Part, IsWhole, Given, Absent, Number, Offset, AreWhole, little, children, table_part, text_part, tables_part, buffer_of}
+use Rattle.flatbuf.specs.Block.{IsWhole, Given, Absent, Number, Offset, AreWhole, little, children, table_part, text_part, tables_part, buffer_of}
 use Rattle.flatbuf.proofs.Standing.{length-little}
 use Rattle.flatbuf.specs.Written.{table_at, LeadsToBlock, SlotReads}
 use Rattle.flatbuf.specs.Fits.{FitsTable, FitsTables}
 use Rattle.flatbuf.proofs.Written.{table_reads}
-use Rattle.flatbuf.proofs.Lengths.{whole_table, whole_text, whole_tables, short_table, short_text, short_tables, fits_table, fits_tables}
+use Rattle.flatbuf.proofs.Lengths.{whole_table, whole_text, whole_tables, short_table, short_text, short_tables, fits_table}
 use Rattle.flatbuf.proofs.Led.{led_table, led_text, led_vector, Elements, absent_scalar, absent_table}
 use Rattle.arrow_schema.specs.declared.header.HeaderKind.TheVariants as header
 use Rattle.arrow_schema.specs.declared.reading.TypeKind.{TypeKind}
@@ -25,7 +25,7 @@ use Rattle.arrow_schema.specs.declared.data_type.DictionaryEncoding.{DictionaryE
 use Rattle.arrow_schema.specs.declared.schema.Field.{Field}
 use Rattle.arrow_schema.specs.declared.schema.Schema.{Schema}
 use Rattle.arrow_schema.specs.DataType.{bit_width, is_signed}
-use Rattle.arrow_schema.specs.Header.{MessageAt, message_of, table_wanted, vector_wanted, is_name, name_of, integer_type, integer_of, decimal_of, type_kind, type_of, value_type_of, childless, dictionary_of, encoded, field_in, field_at, fields_of, schema_in_all_types, is_schema, schema_message_of, schema_of_all_types}
+use Rattle.arrow_schema.specs.Header.{MessageAt, message_of, table_wanted, vector_wanted, name_of, integer_type, integer_of, decimal_of, type_kind, type_of, value_type_of, childless, dictionary_of, encoded, field_in, field_at, fields_of, schema_in_all_types, is_schema, schema_message_of, schema_of_all_types}
 use Rattle.arrow_schema.specs.Schema.{IsName, IsType, IsField, IsSchema}
 use Rattle.arrow_schema.specs.Message.{message_part}
 use Rattle.arrow_schema.specs.Written.{given_if, encoding_of, flag, type_number, integer_part, type_part, dictionary_part, dictionary_given, field_slots, field_part, schema_part, schema_bytes, SchemasReadBack}

@@ -77,10 +77,7 @@ fn type_block(builder: &Builder, data_type: DataType) -> Result<Block, AllocErro
 }
 
 #[tactic(auto, using(crate::proofs::Again::writing), unfolding(crate::specs::Written::dictionary_part))]
-fn dictionary_block(
-    builder: &Builder,
-    encoding: DictionaryEncoding,
-) -> Result<Block, AllocError>
+fn dictionary_block(builder: &Builder, encoding: DictionaryEncoding) -> Result<Block, AllocError>
     ensures { IfOk result (λ block. block ≡ dictionary_part encoding) }
 {
     let index = integer_block(builder, encoding.index)?;
@@ -170,7 +167,7 @@ pub fn write_schema(alloc: Global, schema: &Schema) -> Result<Vec<u8>, AllocErro
 /// A header as it stands in an IPC stream: four bytes of 255, a length, the header, and zeros up to a
 /// multiple of 8. The length is a little-endian number of 32 bits and counts the zeros too. It fails with
 /// [`AllocError`] where memory is refused, and with no other error.
-#[tactic(auto, using(crate::proofs::Framed::framing), unfolding(crate::specs::Written::encapsulated, flatbuf::specs::Block::padding, flatbuf::specs::Block::little))]
+#[tactic(auto, using(crate::proofs::Framed::framing))]
 pub fn encapsulate(alloc: Global, header: &[u8]) -> Result<Vec<u8>, AllocError>
     requires { length header.now ≤ 2 ^ 31 - 8 }
     ensures items { IfOk result (λ out. out.items ≡ encapsulated header.now) }
