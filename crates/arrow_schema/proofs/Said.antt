@@ -24,7 +24,7 @@ use Rattle.arrow_schema.specs.declared.schema.Field.{Field}
 use Rattle.arrow_schema.specs.declared.schema.Schema.{Schema}
 use Rattle.arrow_schema.specs.DataType.{bit_width, is_signed}
 use Rattle.arrow_schema.specs.Header.{MessageAt, table_wanted, vector_wanted, header_kind, message_of, is_name, name_of, integer_type, integer_of, decimal_of, type_kind, type_of, value_type_of, is_bare, childless, index_of, is_utf8_type, dictionary_of, encoded, field_in, field_at, fields_of, same_dictionary, is_schema, schema_message_of, schema_in_all_types, schema_of_all_types}
-use Rattle.arrow_schema.specs.Says.{SaysInteger, SaysDecimal, SaysType, SaysIndex, SaysDictionary, SaysEncoding, SaysField, SaysFieldAt, SaysSchema}
+use Rattle.arrow_schema.specs.Says.{SaysInteger, SaysDecimal, SaysType, SaysIndex, SaysDictionary, SaysEncoding, SaysField, SaysFieldAt, SaysColumns, SaysSchema}
 use Rattle.arrow_schema.specs.Written.{type_number}
 use Rattle.arrow_schema.proofs.Again.{kind_of, type_kind_again, low_number, stored_number}
 
@@ -531,11 +531,20 @@ fields_read vector fields is count some few are =
     (let e : k ≡ place = omega arith in subst (λ (i : ℕ). SaysFieldAt vector i field) e (are k field h)) in
     rw (lt-ltb 0 vector.count (omega arith), le-leb vector.count 64 few) (ap (λ (n : ℕ). each (field_at vector) (range_with_len 0 n)) (sym count) ∙ each_read vector 0 fields is from)
 
-pub schema_told : (bytes : List ℕ) (schema : Schema) → IsBytes bytes → schema_of_all_types bytes ≡ Ok schema → SaysSchema bytes schema
-unfolding schema_of_all_types schema_in_all_types
-schema_told bytes schema is e =
-    let m = bind_ok (schema_message_of bytes) _ schema e in
-    let a = bind_ok (table_wanted m.0.table 2) _ schema m.2 in
+not_true : (b : Bool) → not b ≡ true → b ≡ false
+not_true true e = absurd (let no : ⊥ = cc in no)
+not_true false e = refl
+
+-- what a Schema table says
+record SaysHeader (message : TableAt) (schema : Schema) : Type 0 where
+  header : TableAt
+  headed : HasTable message 2 (Some header)
+  columns : SaysColumns header schema
+
+header_told : (message : MessageAt) (schema : Schema) → IsBytes message.table.bytes → schema_in_all_types message ≡ Ok schema → SaysHeader message.table schema
+unfolding schema_in_all_types
+header_told message schema is e =
+    let a = bind_ok (table_wanted message.table 2) _ schema e in
     let b = bind_ok (scalar_of 2 a.0 0 0) _ schema a.2 in
     let c = bind_ok (demand (b.0 == 0) UnsupportedArrow) _ schema b.2 in
     let d = bind_ok (vector_wanted a.0 1) _ schema c.2 in
@@ -544,44 +553,58 @@ schema_told bytes schema is e =
     let made : Schema = record { fields = f.0 } in
     let last = g.2 in
     let same : made ≡ schema = cc in
-    let message = message_told bytes m.0 is m.1 in
-    let is1 = subst IsBytes (sym message.root.same) is in
-    let headed = says_table m.0.table 2 (Some a.0) is1 (wanted_table m.0.table 2 a.0 a.1) in
-    let is2 = bytes_table m.0.table 2 a.0 is1 headed in
+    let headed = says_table message.table 2 (Some a.0) is (wanted_table message.table 2 a.0 a.1) in
+    let is2 = bytes_table message.table 2 a.0 is headed in
     let listed = says_vector a.0 1 (Some d.0) is2 (wanted_vector a.0 1 d.0 d.1) in
     let told = fields_told d.0 f.0 (bytes_vector a.0 1 d.0 is2 listed) f.1 in
-    subst (SaysSchema bytes) same (record {
+    record {
+      header = a.0;
+      headed = headed;
+      columns = subst (SaysColumns a.0) same (record {
+        endianness = subst (λ (n : ℕ). HasScalar 2 a.0 0 0 n) (eqb-true b.0 0 (demand_ok (b.0 == 0) UnsupportedArrow c.0 c.1)) (says_scalar 2 a.0 0 0 b.0 is2 b.1);
+        vector = d.0;
+        listed = listed;
+        count = told.0;
+        some = told.1.0;
+        few = told.1.1;
+        fields = told.2;
+        apart = not_true (repeats same_dictionary f.0) (demand_ok (not (repeats same_dictionary f.0)) UnsupportedArrow g.0 g.1);
+      });
+    }
+
+header_read : (message : MessageAt) (schema : Schema) → IsBytes message.table.bytes → SaysHeader message.table schema → schema_in_all_types message ≡ Ok schema
+unfolding schema_in_all_types table_wanted vector_wanted
+header_read message schema is says =
+    let columns = says.columns in
+    let is2 = bytes_table message.table 2 says.header is says.headed in
+    let is3 = bytes_vector says.header 1 columns.vector is2 columns.listed in
+    rw (
+      reads_table message.table 2 (Some says.header) is says.headed,
+      reads_scalar 2 says.header 0 0 0 is2 columns.endianness,
+      reads_vector says.header 1 (Some columns.vector) is2 columns.listed,
+      fields_read columns.vector schema.fields is3 columns.count columns.some columns.few columns.fields,
+      columns.apart,
+    ) refl
+
+pub schema_told : (bytes : List ℕ) (schema : Schema) → IsBytes bytes → schema_of_all_types bytes ≡ Ok schema → SaysSchema bytes schema
+unfolding schema_of_all_types
+schema_told bytes schema is e =
+    let m = bind_ok (schema_message_of bytes) schema_in_all_types schema e in
+    let message = message_told bytes m.0 is m.1 in
+    let told = header_told m.0 schema (subst IsBytes (sym message.root.same) is) m.2 in
+    record {
       message = m.0.table;
       root = message.root;
       version = message.version;
       kind = message.kind;
-      header = a.0;
-      headed = headed;
-      endianness = subst (λ (n : ℕ). HasScalar 2 a.0 0 0 n) (eqb-true b.0 0 (demand_ok (b.0 == 0) UnsupportedArrow c.0 c.1)) (says_scalar 2 a.0 0 0 b.0 is2 b.1);
-      vector = d.0;
-      listed = listed;
-      count = told.0;
-      some = told.1.0;
-      few = told.1.1;
-      fields = told.2;
-      apart = not_true (repeats same_dictionary f.0) (demand_ok (not (repeats same_dictionary f.0)) UnsupportedArrow g.0 g.1);
-    })
-  where
-    not_true : (b : Bool) → not b ≡ true → b ≡ false
-    not_true true e = absurd (let no : ⊥ = cc in no)
-    not_true false e = refl
+      header = told.header;
+      headed = told.headed;
+      columns = told.columns;
+    }
 
 pub schema_read : (bytes : List ℕ) (schema : Schema) → IsBytes bytes → SaysSchema bytes schema → schema_of_all_types bytes ≡ Ok schema
-unfolding schema_of_all_types schema_in_all_types table_wanted vector_wanted
+unfolding schema_of_all_types
 schema_read bytes schema is says =
-    let is1 = subst IsBytes (sym says.root.same) is in
-    let is2 = bytes_table says.message 2 says.header is1 says.headed in
-    let is3 = bytes_vector says.header 1 says.vector is2 says.listed in
-    rw (
-      message_read bytes says.message is says.root says.version says.kind,
-      reads_table says.message 2 (Some says.header) is1 says.headed,
-      reads_scalar 2 says.header 0 0 0 is2 says.endianness,
-      reads_vector says.header 1 (Some says.vector) is2 says.listed,
-      fields_read says.vector schema.fields is3 says.count says.some says.few says.fields,
-      says.apart,
-    ) refl
+    let message : MessageAt = record { kind = header.Schema; table = says.message } in
+    let told = header_read message schema (subst IsBytes (sym says.root.same) is) (record { header = says.header; headed = says.headed; columns = says.columns }) in
+    rw (message_read bytes says.message is says.root says.version says.kind) told

@@ -98,17 +98,18 @@ field_is table field is says = record {
 
 schema_is : (bytes : List ℕ) (schema : Schema) → IsBytes bytes → SaysSchema bytes schema → IsSchema schema
 schema_is bytes schema is says =
-    let count = says.count in
-    let some = says.some in
-    let few = says.few in
+    let columns = says.columns in
+    let count = columns.count in
+    let some = columns.some in
+    let few = columns.few in
     let is1 = subst IsBytes (sym says.root.same) is in
     let is2 = bytes_table says.message 2 says.header is1 says.headed in
-    let is3 = bytes_vector says.header 1 says.vector is2 says.listed in
+    let is3 = bytes_vector says.header 1 columns.vector is2 columns.listed in
     record {
       some = omega arith;
       few = omega arith;
-      fields = λ k d lt. (let f = says.fields k (get_or schema.fields k d) (slice_get-get_or schema.fields k d lt) in field_is f.0 (get_or schema.fields k d) (subst IsBytes (sym f.1.same) is3) f.2);
-      apart = says.apart;
+      fields = λ k d lt. (let f = columns.fields k (get_or schema.fields k d) (slice_get-get_or schema.fields k d lt) in field_is f.0 (get_or schema.fields k d) (subst IsBytes (sym f.1.same) is3) f.2);
+      apart = columns.apart;
     }
 
 pub read_is_schema : ReadIsSchema

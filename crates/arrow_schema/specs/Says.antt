@@ -79,8 +79,18 @@ pub record SaysField (table : TableAt) (field : Field) : Type 0 where
 abbrev pub SaysFieldAt : VectorAt → ℕ → Field → Type 0
 SaysFieldAt vector index field = (table : TableAt) × HasElement vector index table × SaysField table field
 
--- The buffer of a schema: the root is a Message of version V5 (4) whose header is a Schema (1), which is
--- little-endian (0) and has these 1 to 64 fields, of which no two have one dictionary.
+-- a Schema table: little-endian (0), and 1 to 64 fields, of which no two have one dictionary
+pub record SaysColumns (table : TableAt) (schema : Schema) : Type 0 where
+  pub endianness : HasScalar 2 table 0 0 0
+  pub vector : VectorAt
+  pub listed : HasVector table 1 (Some vector)
+  pub count : length schema.fields ≡ vector.count
+  pub some : 1 ≤ vector.count
+  pub few : vector.count ≤ 64
+  pub fields : (index : ℕ) (field : Field) → slice_get schema.fields index ≡ Some field → SaysFieldAt vector index field
+  pub apart : repeats same_dictionary schema.fields ≡ false
+
+-- the buffer of a schema: its root is a Message of version V5 (4), whose header is a Schema (1)
 pub record SaysSchema (bytes : List ℕ) (schema : Schema) : Type 0 where
   pub message : TableAt
   pub root : HasRoot bytes message
@@ -88,14 +98,7 @@ pub record SaysSchema (bytes : List ℕ) (schema : Schema) : Type 0 where
   pub kind : HasScalar 1 message 1 0 1
   pub header : TableAt
   pub headed : HasTable message 2 (Some header)
-  pub endianness : HasScalar 2 header 0 0 0
-  pub vector : VectorAt
-  pub listed : HasVector header 1 (Some vector)
-  pub count : length schema.fields ≡ vector.count
-  pub some : 1 ≤ vector.count
-  pub few : vector.count ≤ 64
-  pub fields : (index : ℕ) (field : Field) → slice_get schema.fields index ≡ Some field → SaysFieldAt vector index field
-  pub apart : repeats same_dictionary schema.fields ≡ false
+  pub columns : SaysColumns header schema
 
 -- what is read of a buffer is just what it says
 abbrev pub ReadIsSaid : Type 0
