@@ -333,3 +333,6 @@ pub fn read_schema(alloc: Global, bytes: &[u8]) -> Result<Schema, Fault>
 {
     schema_message(bytes)?.schema(alloc)
 }
+
+#[cfg(test)]
+mod tests;
