@@ -1,5 +1,6 @@
 pub mod Fault
 pub mod Reading
+pub mod Lists
 pub mod Truth
 pub mod Value
 pub mod Comparison

@@ -1,0 +1,61 @@
+//! The types of columns.
+
+ghost use Rattle.std.specs.Prelude.{◌≡◌};
+ghost use Rattle.arrow_schema.specs.DataType.{bit_width, is_signed};
+
+/// The whole numbers of fixed width.
+#[derive(Clone, Copy, Debug, PartialEq, Eq)]
+pub enum IntegerType {
+    Int8,
+    Int16,
+    Int32,
+    Int64,
+    UInt8,
+    UInt16,
+    UInt32,
+    UInt64,
+}
+
+/// How a column of texts is kept by indices into a dictionary: the dictionary's id, and the type of the
+/// indices.
+#[derive(Clone, Copy, Debug, PartialEq, Eq)]
+pub struct DictionaryEncoding {
+    pub id: u64,
+    pub index: IntegerType,
+}
+
+/// The type of a column's values. A dictionary's values are Utf8, and decimals are Decimal128(38, 0).
+#[derive(Clone, Copy, Debug, PartialEq, Eq)]
+pub enum DataType {
+    Integer(IntegerType),
+    Utf8,
+    Bool,
+    Decimal128,
+    Dictionary(DictionaryEncoding),
+}
+
+impl IntegerType {
+    /// How many bits a number has.
+    pub fn bit_width(self) -> u32
+        ensures { result ≡ bit_width self }
+    {
+        match self {
+            IntegerType::Int8 | IntegerType::UInt8 => 8,
+            IntegerType::Int16 | IntegerType::UInt16 => 16,
+            IntegerType::Int32 | IntegerType::UInt32 => 32,
+            IntegerType::Int64 | IntegerType::UInt64 => 64,
+        }
+    }
+
+    /// Whether the numbers have a sign.
+    pub fn is_signed(self) -> bool
+        ensures { result ≡ is_signed self }
+    {
+        match self {
+            IntegerType::Int8 | IntegerType::Int16 | IntegerType::Int32 | IntegerType::Int64 =>
+                true,
+            IntegerType::UInt8 | IntegerType::UInt16 | IntegerType::UInt32 | IntegerType::UInt64 =>
+                false,
+        }
+    }
+}

@@ -1,0 +1,24 @@
+//! Arrow's types, schemas, columns and batches.
+#![tactic(auto)]
+
+pub mod batch;
+pub mod column;
+pub mod data_type;
+pub mod header;
+pub mod laws;
+pub mod reading;
+pub mod schema;
+pub mod writing;
+
+pub use crate::batch::Batch;
+pub use crate::column::Column;
+pub use crate::data_type::{DataType, DictionaryEncoding, IntegerType};
+pub use crate::header::{HeaderKind, Message, read_message};
+pub use crate::reading::read_schema;
+pub use crate::schema::{Field, Schema};
+pub use crate::writing::{encapsulate, write_message, write_schema};
+
+#[cfg(test)]
+mod tests;
+#[cfg(test)]
+mod vectors;
