@@ -1,0 +1,3 @@
+pub mod Parts
+pub mod Columns
+pub mod Said

@@ -1,0 +1,4 @@
+//! Arrow's IPC messages: a header and a body each, which say a schema and rows.
+#![tactic(auto)]
+
+pub mod parts;
