@@ -2,4 +2,5 @@ pub mod Batch
 pub mod Column
 pub mod DataType
 pub mod Header
+pub mod Message
 pub mod Seen

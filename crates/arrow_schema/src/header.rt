@@ -4,6 +4,7 @@ ghost use Rattle.std.specs.Prelude.{◌≡◌};
 ghost use Rattle.scan_base.specs.Reading.{Gives};
 ghost use Rattle.arrow_schema.specs.Header.{message_of, header_kind, header_of, body_length_of, table_wanted, vector_wanted};
 ghost use Rattle.arrow_schema.specs.Seen.{message_seen};
+ghost use Rattle.arrow_schema.specs.Message.{kind_number};
 
 use flatbuf::{Buf, Table, Vector, Width};
 use scan_base::Fault;
@@ -14,6 +15,19 @@ pub enum HeaderKind {
     Schema,
     DictionaryBatch,
     RecordBatch,
+}
+
+impl HeaderKind {
+    /// The number that stands for this kind in a message.
+    pub(crate) fn number(self) -> u64
+        ensures { result ≡ kind_number self }
+    {
+        match self {
+            HeaderKind::Schema => 1,
+            HeaderKind::DictionaryBatch => 2,
+            HeaderKind::RecordBatch => 3,
+        }
+    }
 }
 
 /// A message: its header's kind, and its own table.

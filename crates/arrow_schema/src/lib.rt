@@ -5,10 +5,13 @@ pub mod batch;
 pub mod column;
 pub mod data_type;
 pub mod header;
+pub mod laws;
 pub mod schema;
+pub mod writing;
 
 pub use crate::batch::Batch;
 pub use crate::column::Column;
 pub use crate::data_type::{DataType, DictionaryEncoding, IntegerType};
 pub use crate::header::{HeaderKind, Message, read_message};
 pub use crate::schema::{Field, Schema};
+pub use crate::writing::write_message;
