@@ -1,6 +1,6 @@
 -- What the header of a message names, by the places of its tables. The first thing that is not so gives the
 -- fault, in the order in which the lines below stand.
-use Rattle.std.specs.Prelude.{ℕ, ◌==◌, ◌&&◌, ◌||◌, not, Bool, true, false, nat_lt, nat_le, length, List, [], ◌∷◌, Option, Some, None, Result, Ok, Err, if◌then◌else◌}
+use Rattle.std.specs.Prelude.{ℕ, ◌==◌, ◌&&◌, not, Bool, true, false, nat_lt, nat_le, length, List, [], ◌∷◌, Option, Some, None, Result, Ok, Err, if◌then◌else◌}
 use Rattle.std.specs.List.{range_with_len}
 use Rattle.scan_base.specs.declared.fault.Fault.{Fault}
 use Rattle.scan_base.specs.declared.fault.Fault.TheVariants.{BadFlatbuffer, UnsupportedArrow, LimitReached}
@@ -14,6 +14,8 @@ use Rattle.arrow_schema.specs.declared.data_type.IntegerType.{IntegerType}
 use Rattle.arrow_schema.specs.declared.data_type.IntegerType.TheVariants.{Int8, Int16, Int32, Int64, UInt8, UInt16, UInt32, UInt64}
 use Rattle.arrow_schema.specs.declared.data_type.DataType.{DataType}
 use Rattle.arrow_schema.specs.declared.data_type.DataType.TheVariants.{Integer, Utf8, Bool as Flags, Decimal128, Dictionary}
+use Rattle.arrow_schema.specs.declared.reading.TypeKind.{TypeKind}
+use Rattle.arrow_schema.specs.declared.reading.TypeKind.TheVariants as kinds
 use Rattle.arrow_schema.specs.declared.schema.Field.{Field}
 use Rattle.arrow_schema.specs.declared.schema.Schema.{Schema}
 
@@ -90,34 +92,38 @@ decimal_of table = do
   _ ← demand ((precision == 38) && (scale == 0) && (bits == 128)) UnsupportedArrow
   Ok Decimal128
 
--- the type that a kind and its table name; of Utf8 and Bool the table is not read
-unfoldable pub type_of : ℕ → TableAt → Result DataType Fault
-type_of kind table =
-    if kind == 2 then (integer_of table >>= λ integer. Ok (Integer integer))
-    else (if kind == 5 then Ok Utf8
-    else (if kind == 6 then Ok Flags
-    else (if kind == 7 then decimal_of table else Err UnsupportedArrow)))
+-- the kinds of types that there are here, by their numbers
+abbrev pub type_kind : ℕ → Result TypeKind Fault
+type_kind kind =
+    if kind == 2 then Ok kinds.Int
+    else (if kind == 5 then Ok kinds.Utf8
+    else (if kind == 6 then Ok kinds.Bool
+    else (if kind == 7 then Ok kinds.Decimal else Err UnsupportedArrow)))
 
--- the kinds of types that there are here
-abbrev pub is_kind : ℕ → Bool
-is_kind kind = (kind == 2) || (kind == 5) || (kind == 6) || (kind == 7)
+-- the type that a kind and its table name; of Utf8 and Bool the table is not read
+unfoldable pub type_of : TypeKind → TableAt → Result DataType Fault
+type_of kinds.Int table = integer_of table >>= λ integer. Ok (Integer integer)
+type_of kinds.Utf8 table = Ok Utf8
+type_of kinds.Bool table = Ok Flags
+type_of kinds.Decimal table = decimal_of table
 
 -- The type of a field's values. A kind that is not stored reads as 256, which no byte is.
 unfoldable pub value_type_of : TableAt → Result DataType Fault
 value_type_of field = do
-  kind ← scalar_of 1 field 2 256
-  _ ← demand (not (kind == 256)) BadFlatbuffer
-  _ ← demand (is_kind kind) UnsupportedArrow
+  number ← scalar_of 1 field 2 256
+  _ ← demand (not (number == 256)) BadFlatbuffer
+  kind ← type_kind number
   table ← table_wanted field 3
   type_of kind table
 
+-- no vector, or an empty one
+abbrev pub is_bare : Option VectorAt → Bool
+is_bare None = true
+is_bare (Some vector) = vector.count == 0
+
 -- a field has no children
 unfoldable pub childless : TableAt → Result (Unit {0}) Fault
-childless field = vector_of field 5 >>= λ children. demand (none_in children) UnsupportedArrow
-  where
-    none_in : Option VectorAt → Bool
-    none_in None = true
-    none_in (Some children) = children.count == 0
+childless field = vector_of field 5 >>= λ children. demand (is_bare children) UnsupportedArrow
 
 -- the type of a dictionary's indices: 32 signed bits where it is not said
 abbrev pub index_of : Option TableAt → Result IntegerType Fault
@@ -156,44 +162,67 @@ field_in field = do
 
 -- ---- schemas
 
--- two fields have one dictionary
+-- two types have one dictionary
 abbrev pub shares_dictionary : DataType → DataType → Bool
 shares_dictionary (Dictionary one) (Dictionary other) = one.id == other.id
 shares_dictionary _ _ = false
+
+-- two fields have one dictionary
+abbrev pub same_dictionary : Field → Field → Bool
+same_dictionary one other = shares_dictionary one.data_type other.data_type
 
 -- field `index` of a vector of Field tables
 unfoldable pub field_at : VectorAt → ℕ → Result Field Fault
 field_at vector index = element_of vector index >>= λ field. field_in field
 
--- Until every type is built: the schemas of one Int64 column alone.
-abbrev pub is_built : List Field → Bool
-is_built (field ∷ []) = is_long field.data_type
-  where
-    is_long : DataType → Bool
-    is_long (Integer Int64) = true
-    is_long _ = false
-is_built _ = false
+-- each field of a vector of 1 to 64 Field tables, in order
+unfoldable pub fields_of : VectorAt → Result (List Field) Fault
+fields_of vector = do
+  _ ← demand (nat_lt 0 vector.count && nat_le vector.count 64) LimitReached
+  each (field_at vector) (range_with_len 0 vector.count)
 
--- the schema that a message names, of 1 to 64 little-endian columns
-unfoldable pub schema_in : MessageAt → Result Schema Fault
-schema_in message = do
+-- the schema that a message names, of 1 to 64 little-endian columns of any type
+unfoldable pub schema_in_all_types : MessageAt → Result Schema Fault
+schema_in_all_types message = do
   header ← header_of message
   endianness ← scalar_of 2 header 0 0
   _ ← demand (endianness == 0) UnsupportedArrow
   vector ← vector_wanted header 1
-  _ ← demand (nat_lt 0 vector.count && nat_le vector.count 64) LimitReached
-  fields ← each (field_at vector) (range_with_len 0 vector.count)
-  _ ← demand (not (repeats (λ (one other : Field). shares_dictionary one.data_type other.data_type) fields)) UnsupportedArrow
-  _ ← demand (is_built fields) UnsupportedArrow
+  fields ← fields_of vector
+  _ ← demand (not (repeats same_dictionary fields)) UnsupportedArrow
   Ok (record { fields = fields })
+
+-- Until every type is built: the schemas of one Int64 column alone.
+abbrev pub is_long : DataType → Bool
+is_long (Integer Int64) = true
+is_long _ = false
+
+abbrev pub is_built : List Field → Bool
+is_built (field ∷ []) = is_long field.data_type
+is_built _ = false
+
+-- the schema that a message names, where it is built
+unfoldable pub schema_in : MessageAt → Result Schema Fault
+schema_in message = do
+  schema ← schema_in_all_types message
+  _ ← demand (is_built schema.fields) UnsupportedArrow
+  Ok schema
 
 abbrev pub is_schema : HeaderKind → Bool
 is_schema header.Schema = true
 is_schema _ = false
 
--- the schema that a buffer holds
-unfoldable pub schema_of : List ℕ → Result Schema Fault
-schema_of bytes = do
+-- the message that a buffer holds, where its header is a schema
+unfoldable pub schema_message_of : List ℕ → Result MessageAt Fault
+schema_message_of bytes = do
   message ← message_of bytes
   _ ← demand (is_schema message.kind) UnsupportedArrow
-  schema_in message
+  Ok message
+
+-- the schema that a buffer holds, of any type
+unfoldable pub schema_of_all_types : List ℕ → Result Schema Fault
+schema_of_all_types bytes = schema_message_of bytes >>= schema_in_all_types
+
+-- the schema that a buffer holds, where it is built
+unfoldable pub schema_of : List ℕ → Result Schema Fault
+schema_of bytes = schema_message_of bytes >>= schema_in

@@ -2,11 +2,11 @@
 
 ghost use Rattle.std.specs.Prelude.{◌≡◌};
 ghost use Rattle.scan_base.specs.Reading.{Gives};
-ghost use Rattle.arrow_schema.specs.Header.{message_of, header_kind, header_of, body_length_of, table_wanted, vector_wanted};
+ghost use Rattle.arrow_schema.specs.Header.{message_of, header_kind, header_of, body_length_of, table_wanted};
 ghost use Rattle.arrow_schema.specs.Seen.{message_seen};
 ghost use Rattle.arrow_schema.specs.Message.{kind_number};
 
-use flatbuf::{Buf, Table, Vector, Width};
+use flatbuf::{Buf, Table, Width};
 use scan_base::Fault;
 
 /// What a message's header is.
@@ -52,6 +52,39 @@ pub fn read_message(bytes: &[u8]) -> Result<Message<'_>, Fault>
         kind,
         table: message,
     })
+}
+
+impl<'a> Message<'a> {
+    /// The header's own table.
+    ///
+    /// # Errors
+    ///
+    /// F6 (`Fault::BadFlatbuffer`) where there is none, or something that is read lies outside the buffer.
+    pub fn header(&self) -> Result<Table<'a>, Fault>
+        ensures { Gives (λ table. table) result (header_of (message_seen self.now)) }
+    {
+        table_wanted(&self.table, 2)
+    }
+
+    /// How many bytes of body the message claims, 0 where it does not say. A negative number is given as its
+    /// two's complement, which is at least 2 to the 63.
+    ///
+    /// # Errors
+    ///
+    /// F6 (`Fault::BadFlatbuffer`) where something that is read lies outside the buffer.
+    pub fn body_length(&self) -> Result<u64, Fault>
+        ensures { Gives (λ length. length) result (body_length_of (message_seen self.now)) }
+    {
+        self.table.scalar(3, Width::Eight, 0)
+    }
+}
+
+/// The table of a slot, which has to be there.
+#[tactic(auto, unfolding(crate::specs::Header::table_wanted))]
+pub(crate) fn table_wanted<'a>(table: &Table<'a>, slot: u16) -> Result<Table<'a>, Fault>
+    ensures { Gives (λ found. found) result (table_wanted table.now slot) }
+{
+    table.table(slot)?.ok_or(Fault::BadFlatbuffer)
 }
 
 fn kind_of(kind: u64) -> Result<HeaderKind, Fault>

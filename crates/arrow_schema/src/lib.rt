@@ -6,6 +6,7 @@ pub mod column;
 pub mod data_type;
 pub mod header;
 pub mod laws;
+pub mod reading;
 pub mod schema;
 pub mod writing;
 
@@ -13,5 +14,6 @@ pub use crate::batch::Batch;
 pub use crate::column::Column;
 pub use crate::data_type::{DataType, DictionaryEncoding, IntegerType};
 pub use crate::header::{HeaderKind, Message, read_message};
+pub use crate::reading::read_schema;
 pub use crate::schema::{Field, Schema};
 pub use crate::writing::write_message;

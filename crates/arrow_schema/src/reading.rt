@@ -1,0 +1,333 @@
+//! Reading a schema from the header of a message: one function for each table.
+
+ghost use Rattle.std.specs.Prelude.{◌≡◌, ◌<◌};
+ghost use Rattle.std.specs.List.{list_any, range_with_len};
+ghost use Rattle.scan_base.specs.Reading.{Gives, GivesUnlessMemory};
+ghost use Rattle.scan_base.specs.Lists.{each, repeats};
+ghost use Rattle.arrow_schema.specs.Header.{vector_wanted, name_of, integer_type, integer_of};
+ghost use Rattle.arrow_schema.specs.Header.{decimal_of, type_kind, type_of, value_type_of, childless};
+ghost use Rattle.arrow_schema.specs.Header.{index_of, dictionary_of, encoded, field_in, field_at};
+ghost use Rattle.arrow_schema.specs.Header.{fields_of, shares_dictionary, same_dictionary};
+ghost use Rattle.arrow_schema.specs.Header.{is_long, is_built, schema_in_all_types, schema_in};
+ghost use Rattle.arrow_schema.specs.Header.{is_schema, schema_message_of, schema_of};
+ghost use Rattle.arrow_schema.specs.Seen.{message_seen};
+
+use crate::data_type::{DataType, DictionaryEncoding, IntegerType};
+use crate::header::{HeaderKind, Message, read_message, table_wanted};
+use crate::schema::{Field, Schema};
+use flatbuf::{Table, Vector, Width};
+use scan_base::{Fault, Items, Text};
+use std::alloc::Global;
+
+/// The kinds of types that there are here.
+#[derive(Clone, Copy)]
+pub enum TypeKind {
+    Int,
+    Utf8,
+    Bool,
+    Decimal,
+}
+
+#[tactic(auto, unfolding(crate::specs::Header::vector_wanted))]
+fn vector_wanted<'a>(table: &Table<'a>, slot: u16) -> Result<Vector<'a>, Fault>
+    ensures { Gives (λ vector. vector) result (vector_wanted table.now slot) }
+{
+    table.vector(slot)?.ok_or(Fault::BadFlatbuffer)
+}
+
+// A name of 1 to 64 bytes.
+#[tactic(auto, unfolding(crate::specs::Header::name_of))]
+fn name<'a>(field: &Table<'a>) -> Result<&'a str, Fault>
+    ensures { Gives (λ name. name.now) result (name_of field.now) }
+{
+    let name = field.text(0)?.ok_or(Fault::LimitReached)?;
+    if name.is_empty() || name.len() > 64 {
+        return Err(Fault::LimitReached);
+    }
+    Ok(name)
+}
+
+fn integer_type(signed: bool, bits: u64) -> Result<IntegerType, Fault>
+    ensures { Gives (λ integer. integer) result (integer_type signed bits) }
+{
+    match (signed, bits) {
+        (true, 8) => Ok(IntegerType::Int8),
+        (true, 16) => Ok(IntegerType::Int16),
+        (true, 32) => Ok(IntegerType::Int32),
+        (true, 64) => Ok(IntegerType::Int64),
+        (false, 8) => Ok(IntegerType::UInt8),
+        (false, 16) => Ok(IntegerType::UInt16),
+        (false, 32) => Ok(IntegerType::UInt32),
+        (false, 64) => Ok(IntegerType::UInt64),
+        _ => Err(Fault::UnsupportedArrow),
+    }
+}
+
+#[tactic(auto, unfolding(crate::specs::Header::integer_of))]
+fn integer(table: &Table<'_>) -> Result<IntegerType, Fault>
+    ensures { Gives (λ integer. integer) result (integer_of table.now) }
+{
+    let bits = table.scalar(0, Width::Four, 0)?;
+    let signed = table.scalar(1, Width::One, 0)?;
+    integer_type(signed != 0, bits)
+}
+
+#[tactic(auto, unfolding(crate::specs::Header::decimal_of))]
+fn decimal(table: &Table<'_>) -> Result<DataType, Fault>
+    ensures { Gives (λ decimal. decimal) result (decimal_of table.now) }
+{
+    let precision = table.scalar(0, Width::Four, 0)?;
+    let scale = table.scalar(1, Width::Four, 0)?;
+    let bits = table.scalar(2, Width::Four, 128)?;
+    if precision != 38 || scale != 0 || bits != 128 {
+        return Err(Fault::UnsupportedArrow);
+    }
+    Ok(DataType::Decimal128)
+}
+
+fn type_kind(number: u64) -> Result<TypeKind, Fault>
+    ensures { Gives (λ kind. kind) result (type_kind number) }
+{
+    match number {
+        2 => Ok(TypeKind::Int),
+        5 => Ok(TypeKind::Utf8),
+        6 => Ok(TypeKind::Bool),
+        7 => Ok(TypeKind::Decimal),
+        _ => Err(Fault::UnsupportedArrow),
+    }
+}
+
+#[tactic(auto, unfolding(crate::specs::Header::type_of))]
+fn type_from(kind: TypeKind, table: &Table<'_>) -> Result<DataType, Fault>
+    ensures { Gives (λ data_type. data_type) result (type_of kind table.now) }
+{
+    match kind {
+        TypeKind::Int => Ok(DataType::Integer(integer(table)?)),
+        TypeKind::Utf8 => Ok(DataType::Utf8),
+        TypeKind::Bool => Ok(DataType::Bool),
+        TypeKind::Decimal => decimal(table),
+    }
+}
+
+// The type of a field's values. No byte is 256: that is a kind that is not stored.
+#[tactic(auto, unfolding(crate::specs::Header::value_type_of))]
+fn value_type(field: &Table<'_>) -> Result<DataType, Fault>
+    ensures { Gives (λ data_type. data_type) result (value_type_of field.now) }
+{
+    let number = field.scalar(2, Width::One, 256)?;
+    if number == 256 {
+        return Err(Fault::BadFlatbuffer);
+    }
+    let kind = type_kind(number)?;
+    let table = table_wanted(field, 3)?;
+    type_from(kind, &table)
+}
+
+#[tactic(auto, unfolding(crate::specs::Header::childless))]
+fn childless(field: &Table<'_>) -> Result<(), Fault>
+    ensures { Gives (λ _. tt) result (childless field.now) }
+{
+    match field.vector(5)? {
+        Some(children) if children.len() != 0 => Err(Fault::UnsupportedArrow),
+        _ => Ok(()),
+    }
+}
+
+fn index_type(found: &Option<Table<'_>>) -> Result<IntegerType, Fault>
+    ensures { Gives (λ index. index) result (index_of found.now) }
+{
+    match found {
+        None => Ok(IntegerType::Int32),
+        Some(table) => integer(table),
+    }
+}
+
+// A dictionary of these values, which have to be texts.
+#[tactic(auto, unfolding(crate::specs::Header::dictionary_of))]
+fn dictionary(values: DataType, table: &Table<'_>) -> Result<DataType, Fault>
+    ensures { Gives (λ data_type. data_type) result (dictionary_of values table.now) }
+{
+    if !matches!(values, DataType::Utf8) {
+        return Err(Fault::UnsupportedArrow);
+    }
+    let id = table.scalar(0, Width::Eight, 0)?;
+    let found = table.table(1)?;
+    let index = index_type(&found)?;
+    if table.scalar(3, Width::Two, 0)? != 0 {
+        return Err(Fault::UnsupportedArrow);
+    }
+    Ok(DataType::Dictionary(DictionaryEncoding { id, index }))
+}
+
+fn encoded(values: DataType, encoding: &Option<Table<'_>>) -> Result<DataType, Fault>
+    ensures { Gives (λ data_type. data_type) result (encoded values encoding.now) }
+{
+    match encoding {
+        None => Ok(values),
+        Some(table) => dictionary(values, table),
+    }
+}
+
+#[tactic(auto, unfolding(crate::specs::Header::field_in))]
+fn field_from(alloc: Global, field: &Table<'_>) -> Result<Field, Fault>
+    ensures { GivesUnlessMemory (λ field. field) result (field_in field.now) }
+{
+    let name = name(field)?;
+    let nullable = field.scalar(1, Width::One, 0)?;
+    let values = value_type(field)?;
+    childless(field)?;
+    let encoding = field.table(4)?;
+    let data_type = encoded(values, &encoding)?;
+    Ok(Field {
+        name: Text::new(alloc, name)?,
+        nullable: nullable != 0,
+        data_type,
+    })
+}
+
+#[tactic(auto, unfolding(crate::specs::Header::field_at))]
+fn field_at(alloc: Global, vector: &Vector<'_>, index: usize) -> Result<Field, Fault>
+    requires { index < (vector.now).count }
+    ensures { GivesUnlessMemory (λ field. field) result (field_at vector.now index) }
+{
+    field_from(alloc, &vector.table(index)?)
+}
+
+// Each field of a vector of 1 to 64 of them.
+#[tactic(auto, unfolding(crate::specs::Header::fields_of))]
+fn fields(alloc: Global, vector: &Vector<'_>) -> Result<Items<Field>, Fault>
+    ensures { GivesUnlessMemory (λ fields. fields) result (fields_of vector.now) }
+{
+    if vector.is_empty() || vector.len() > 64 {
+        return Err(Fault::LimitReached);
+    }
+    each_field(alloc, vector)
+}
+
+fn each_field(alloc: Global, vector: &Vector<'_>) -> Result<Items<Field>, Fault>
+    ensures { GivesUnlessMemory (λ fields. fields) result
+        (each (field_at vector.now) (range_with_len 0 (vector.now).count)) }
+{
+    let mut fields = Items::new(alloc);
+    for index in 0..vector.len() {
+        fields.push(field_at(alloc, vector, index)?)?;
+    }
+    Ok(fields)
+}
+
+fn shares_dictionary(one: DataType, other: DataType) -> bool
+    ensures { result ≡ shares_dictionary one other }
+{
+    match (one, other) {
+        (DataType::Dictionary(one), DataType::Dictionary(other)) => one.id == other.id,
+        _ => false,
+    }
+}
+
+// Whether one of the others has the dictionary of a field.
+fn is_shared(field: &Field, others: &[Field]) -> bool
+    ensures { result ≡ list_any (same_dictionary field.now) others.now }
+{
+    for other in others {
+        if shares_dictionary(field.data_type, other.data_type) {
+            return true;
+        }
+    }
+    false
+}
+
+// Whether two of the fields have one dictionary.
+fn repeats_dictionary(fields: &[Field]) -> bool
+    ensures { result ≡ repeats same_dictionary fields.now }
+{
+    for index in 0..fields.len() {
+        if is_shared(&fields[index], &fields[index + 1..]) {
+            return true;
+        }
+    }
+    false
+}
+
+// The schema of a message, of any type.
+#[tactic(auto, unfolding(crate::specs::Header::schema_in_all_types))]
+fn schema_of_all_types(alloc: Global, message: &Message<'_>) -> Result<Schema, Fault>
+    ensures { GivesUnlessMemory (λ schema. schema) result
+        (schema_in_all_types (message_seen message.now)) }
+{
+    let header = message.header()?;
+    if header.scalar(0, Width::Two, 0)? != 0 {
+        return Err(Fault::UnsupportedArrow);
+    }
+    let vector = vector_wanted(&header, 1)?;
+    let fields = fields(alloc, &vector)?;
+    if repeats_dictionary(fields.as_slice()) {
+        return Err(Fault::UnsupportedArrow);
+    }
+    Ok(Schema { fields })
+}
+
+// Until every type is built: one Int64 column alone.
+fn is_built(fields: &[Field]) -> bool
+    ensures { result ≡ is_built fields.now }
+{
+    match fields {
+        [field] => matches!(field.data_type, DataType::Integer(IntegerType::Int64)),
+        _ => false,
+    }
+}
+
+impl Message<'_> {
+    /// The schema that the header names, of 1 to 64 columns. The first fault in the order of the reads is
+    /// the answer. The one thing that is kept in memory is each column's name.
+    ///
+    /// # Errors
+    ///
+    /// - F6 (`Fault::BadFlatbuffer`) where something that is read lies outside the buffer, a name is not
+    ///   UTF-8, or the header, its fields, a type or a type's kind is absent.
+    /// - F7 (`Fault::UnsupportedArrow`) for big-endian data, another type or width, children, a dictionary
+    ///   of other values than Utf8 or of another kind, and one dictionary id on two columns.
+    /// - F12 (`Fault::LimitReached`) for no column, more than 64, and a name that is absent, empty or above
+    ///   64 bytes.
+    /// - F21 (`Fault::OutOfMemory`) where memory is refused.
+    #[tactic(auto, unfolding(crate::specs::Header::schema_in))]
+    pub fn schema(&self, alloc: Global) -> Result<Schema, Fault>
+        ensures { GivesUnlessMemory (λ schema. schema) result (schema_in (message_seen self.now)) }
+    {
+        let schema = schema_of_all_types(alloc, self)?;
+        if !is_built(schema.fields.as_slice()) {
+            return Err(Fault::UnsupportedArrow);
+        }
+        Ok(schema)
+    }
+}
+
+fn is_schema(kind: HeaderKind) -> bool
+    ensures { result ≡ is_schema kind }
+{
+    matches!(kind, HeaderKind::Schema)
+}
+
+#[tactic(auto, unfolding(crate::specs::Header::schema_message_of))]
+fn schema_message(bytes: &[u8]) -> Result<Message<'_>, Fault>
+    ensures { Gives message_seen result (schema_message_of bytes.now) }
+{
+    let message = read_message(bytes)?;
+    if !is_schema(message.kind) {
+        return Err(Fault::UnsupportedArrow);
+    }
+    Ok(message)
+}
+
+/// The schema that a buffer holds, as Arrow's `Message.fbs` and `Schema.fbs` say: a message of metadata
+/// version V5 whose header is a Schema.
+///
+/// # Errors
+///
+/// Those of [`read_message`] and of [`Message::schema`], and F7 (`Fault::UnsupportedArrow`) for another
+/// kind of header.
+#[tactic(auto, unfolding(crate::specs::Header::schema_of))]
+pub fn read_schema(alloc: Global, bytes: &[u8]) -> Result<Schema, Fault>
+    ensures { GivesUnlessMemory (λ schema. schema) result (schema_of bytes.now) }
+{
+    schema_message(bytes)?.schema(alloc)
+}
