@@ -6,7 +6,7 @@ use Rattle.scan_base.specs.declared.fault.Fault.TheVariants.{UnsupportedArrow, B
 use Rattle.scan_base.specs.Reading.{◌>>=◌, demand}
 use Rattle.arrow_schema.specs.declared.data_type.IntegerType.TheVariants.{Int64}
 use Rattle.arrow_schema.specs.declared.data_type.DataType.{DataType}
-use Rattle.arrow_schema.specs.declared.data_type.DataType.TheVariants.{Integer}
+use Rattle.arrow_schema.specs.declared.data_type.DataType.TheVariants.{Integer, Utf8}
 use Rattle.arrow_schema.specs.declared.schema.Field.{Field}
 use Rattle.arrow_schema.specs.Column.{ColumnAt, column_of}
 use Rattle.ipc_batch.specs.declared.parts.FieldNode.{FieldNode}
@@ -21,9 +21,10 @@ pub record FrontAt : Type 0 where
 abbrev pub nulls_are_built : FieldNode → Bool
 nulls_are_built node = node.null_count == 0
 
--- how many buffers a column of a type has: validity and values
+-- how many buffers a column of a type has: validity and values, and for texts the offsets between
 abbrev pub buffer_count : DataType → ℕ
-buffer_count data_type = 2
+buffer_count Utf8 = 3
+buffer_count _ = 2
 
 -- A column of numbers of eight bytes, of validity and values. Where no slot is null, the validity is not
 -- read.

@@ -119,7 +119,7 @@ fn buffers(alloc: Global, body: &Bytes, structs: &[u8]) -> Result<Vec<Bytes>, Fa
 pub(crate) fn check_body(message: &Message<'_>, body: &Bytes) -> Result<(), Fault>
     ensures { Gives (λ done. done) result (body_claimed (message_seen message.now) body.now) }
 {
-    if message.table.scalar(3, Width::Eight, 0)? > body.len() as u64 {
+    if message.body_length()? > body.len() as u64 {
         return Err(Fault::BadBatch);
     }
     Ok(())
