@@ -2,3 +2,4 @@ pub mod Parts
 pub mod Columns
 pub mod Said
 pub mod Seen
+pub mod State

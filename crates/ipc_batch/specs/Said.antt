@@ -1,5 +1,5 @@
 -- What messages say: a schema, and then rows.
-use Rattle.std.specs.Prelude.{◌≡◌, ◌≢◌, ℕ, List, [], ◌∷◌, ◌++◌, Option, Some, None, Result, Ok, Err}
+use Rattle.std.specs.Prelude.{◌≡◌, ◌≢◌, ℕ, List, [], ◌∷◌, ◌++◌, length, All, Option, Some, None, Result, Ok, Err}
 use Rattle.scan_base.specs.declared.fault.Fault.{Fault}
 use Rattle.scan_base.specs.declared.fault.Fault.TheVariants.{BadBatch, OutOfMemory}
 use Rattle.scan_base.specs.declared.value.Value.{Value}
@@ -11,51 +11,55 @@ use Rattle.arrow_schema.specs.Header.{MessageAt, message_of, header_of, schema_i
 use Rattle.arrow_schema.specs.Batch.{BatchAt, rows_of}
 use Rattle.ipc_batch.specs.Parts.{body_claimed, parts_of}
 use Rattle.ipc_batch.specs.Columns.{columns_of}
+use Rattle.ipc_batch.specs.State.{State}
 
 -- a message as it comes: its header and its body
 pub record Sent : Type 0 where
   pub header : List ℕ
   pub body : List ℕ
 
--- what the messages so far leave behind: the schema, once it came
-abbrev pub State : Type 0
-State = Option Schema
-
 -- what a message says: what it leaves behind, and a batch or none
 pub record News : Type 0 where
   pub state : State
   pub batch : Option BatchAt
 
--- the schema's message
-unfoldable pub schema_news : MessageAt → List ℕ → Result News Fault
-schema_news message body = do
+-- the schema of a message
+unfoldable pub schema_sent : MessageAt → List ℕ → Result Schema Fault
+schema_sent message body = do
   schema ← schema_in message
   _ ← body_claimed message body
-  Ok (record { state = Some schema; batch = None })
+  Ok schema
 
--- a record batch
-unfoldable pub batch_of : Schema → MessageAt → List ℕ → Result BatchAt Fault
-batch_of schema message body = do
+-- the record batch of a message
+unfoldable pub batch_sent : Schema → MessageAt → List ℕ → Result BatchAt Fault
+batch_sent schema message body = do
   table ← header_of message
   parts ← parts_of message table body
   columns ← columns_of schema.fields parts
   Ok (record { columns = columns; rows = parts.rows })
 
-abbrev pub batch_news : Schema → MessageAt → List ℕ → Result News Fault
-batch_news schema message body = do
-  batch ← batch_of schema message body
-  Ok (record { state = Some schema; batch = Some batch })
+-- The first message is a schema.
+abbrev pub first_schema : HeaderKind → MessageAt → List ℕ → Result Schema Fault
+first_schema header.Schema message body = schema_sent message body
+first_schema _ message body = Err BadBatch
 
--- The first message is a schema, and no second one comes. Until dictionaries are built, no field has one.
-abbrev pub news_by : State → HeaderKind → MessageAt → List ℕ → Result News Fault
-news_by None header.Schema message body = schema_news message body
-news_by None _ message body = Err BadBatch
-news_by (Some schema) header.RecordBatch message body = batch_news schema message body
-news_by (Some schema) _ message body = Err BadBatch
+-- No second schema comes. Until dictionaries are built, no field has one, and so no dictionary comes.
+abbrev pub next_batch : HeaderKind → Schema → MessageAt → List ℕ → Result BatchAt Fault
+next_batch header.RecordBatch schema message body = batch_sent schema message body
+next_batch _ schema message body = Err BadBatch
+
+-- what a message says to a reader
+abbrev pub news_in : State → MessageAt → List ℕ → Result News Fault
+news_in None message body = do
+  schema ← first_schema message.kind message body
+  Ok (record { state = Some schema; batch = None })
+news_in (Some schema) message body = do
+  batch ← next_batch message.kind schema message body
+  Ok (record { state = Some schema; batch = Some batch })
 
 -- what a message says, after those that left this behind
 unfoldable pub news_of : State → Sent → Result News Fault
-news_of state sent = message_of sent.header >>= λ message. news_by state message.kind message sent.body
+news_of state sent = message_of sent.header >>= λ message. news_in state message sent.body
 
 abbrev pub Rows : Type 0
 Rows = List (List Value)
@@ -90,3 +94,13 @@ Extends (Ok batch) old sent new =
 Extends (Err fault) old sent new = fault ≢ OutOfMemory →
     (messages : List Sent) (rows said : Rows) (end : State) → Follows None messages old rows →
     Follows None (messages ++ (sent ∷ [])) end said → ⊥
+
+-- a batch has a column for each field of the schema
+abbrev pub HasColumns : Option BatchAt → State → Type 0
+HasColumns None state = Unit {0}
+HasColumns (Some batch) None = ⊥
+HasColumns (Some batch) (Some schema) = length batch.columns ≡ length schema.fields
+
+-- each row has so many values
+abbrev pub AreWide : ℕ → Rows → Type 0
+AreWide width rows = All (λ row. length row ≡ width) rows

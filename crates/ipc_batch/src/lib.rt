@@ -3,3 +3,7 @@
 
 pub mod columns;
 pub mod parts;
+pub mod reader;
+
+pub use crate::parts::{BufferPlace, FieldNode, Parts};
+pub use crate::reader::Reader;
