@@ -1,5 +1,5 @@
 -- Columns side by side, and the rows that they hold.
-use Rattle.std.specs.Prelude.{◌≡◌, ℕ, ◌-◌, List, map, All}
+use Rattle.std.specs.Prelude.{◌≡◌, ◌≤◌, ℕ, ◌-◌, List, map, take, drop, All}
 use Rattle.std.specs.List.{range_with_len}
 use Rattle.scan_base.specs.declared.value.Value.{Value}
 use Rattle.arrow_schema.specs.Column.{ColumnAt, slot_of, cut}
@@ -24,3 +24,8 @@ rows_of batch = map (row_of batch.columns) (range_with_len 0 batch.rows)
 -- the rows `from` up to, not with, `to`
 abbrev pub cut_batch : BatchAt → ℕ → ℕ → BatchAt
 cut_batch batch from to = record { columns = map (λ column. cut column from to) batch.columns; rows = to - from }
+
+-- the rows `from` up to, not with, `to` are those of the batch, from one to the other
+abbrev pub BatchSlicesKeepRows : Type 0
+BatchSlicesKeepRows = (batch : BatchAt) (from to : ℕ) → from ≤ to → to ≤ batch.rows →
+    rows_of (cut_batch batch from to) ≡ take (to - from) (drop from (rows_of batch))

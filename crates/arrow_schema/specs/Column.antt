@@ -1,5 +1,5 @@
 -- What the slots of a column hold, by the layout of its buffers.
-use Rattle.std.specs.Prelude.{◌≤◌, ℕ, ◌+◌, ◌-◌, ◌*◌, ◌/◌, ◌%◌, ◌^◌, ◌==◌, ℤ, Bool, true, List, length, map, Option, Some, None, slice_index, nat_le, ◌&&◌, IsTrue, Result, Ok, if◌then◌else◌}
+use Rattle.std.specs.Prelude.{◌≡◌, ◌≤◌, ℕ, ◌+◌, ◌-◌, ◌*◌, ◌/◌, ◌%◌, ◌^◌, ◌==◌, ℤ, Bool, true, List, length, map, take, drop, Option, Some, None, slice_index, nat_le, ◌&&◌, IsTrue, Result, Ok, if◌then◌else◌}
 use Rattle.std.specs.Int.{w64, cast_signed}
 use Rattle.std.specs.List.{range_with_len}
 use Rattle.byteorder.specs.Endian.{little_from}
@@ -58,3 +58,8 @@ column_of validity values len = do
 pub record IsRoomy (column : ColumnAt) : Type 0 where
   pub values : 8 * (column.first + column.len) ≤ length column.values
   pub validity : IsTrue (bits_suffice column.validity (column.first + column.len))
+
+-- the values of the slots `from` up to, not with, `to` are those of the column, from one to the other
+abbrev pub ColumnSlicesKeepValues : Type 0
+ColumnSlicesKeepValues = (column : ColumnAt) (from to : ℕ) → from ≤ to → to ≤ column.len →
+    values_of (cut column from to) ≡ take (to - from) (drop from (values_of column))

@@ -1,10 +1,31 @@
 //! Laws. Each function here has an empty body: its contract is the law.
 
 ghost use Rattle.arrow_schema.specs.Message.{MessagesReadBack};
+ghost use Rattle.arrow_schema.specs.Written.{SchemasReadBack};
+ghost use Rattle.arrow_schema.specs.Column.{ColumnSlicesKeepValues};
+ghost use Rattle.arrow_schema.specs.Batch.{BatchSlicesKeepRows};
 
 /// What is read of a written message is its kind, its header and the length of its body, wherever the
 /// header's block leads.
 #[tactic(auto, using(crate::proofs::Messages::messages_read))]
 pub fn messages_read_back()
     ensures { MessagesReadBack }
+{}
+
+/// What is read of a written schema is that schema, whatever its types are.
+#[tactic(auto, using(crate::proofs::Again::schemas_read))]
+pub fn schemas_read_back()
+    ensures { SchemasReadBack }
+{}
+
+/// The slots of a column from one up to, not with, another have the values that they had.
+#[tactic(auto, using(crate::proofs::Slices::columns_keep))]
+pub fn column_slices_keep_values()
+    ensures { ColumnSlicesKeepValues }
+{}
+
+/// The rows of a batch from one up to, not with, another are the rows that they were.
+#[tactic(auto, using(crate::proofs::Slices::batches_keep))]
+pub fn batch_slices_keep_rows()
+    ensures { BatchSlicesKeepRows }
 {}

@@ -16,4 +16,4 @@ pub use crate::data_type::{DataType, DictionaryEncoding, IntegerType};
 pub use crate::header::{HeaderKind, Message, read_message};
 pub use crate::reading::read_schema;
 pub use crate::schema::{Field, Schema};
-pub use crate::writing::write_message;
+pub use crate::writing::{encapsulate, write_message, write_schema};
