@@ -18,6 +18,7 @@ use Rattle.ipc_batch.specs.Parts.{PartsAt, parts_of}
 use Rattle.ipc_batch.specs.Columns.{columns_of}
 use Rattle.ipc_batch.specs.State.{State}
 use Rattle.ipc_batch.specs.Said.{Sent, News, first_schema, next_batch, batch_sent, news_in, news_of, Rows, rows_in, Follows, Says, Tells, Extends, HasColumns, AreWide}
+use Rattle.ipc_batch.specs.Laws.{SayOneThing, JoinRows, RowsFitSchema}
 use Rattle.ipc_batch.proofs.Lengths.{fine, both, columns_many}
 
 -- messages that follow one another
@@ -130,7 +131,7 @@ wide_after schema (x ∷ xs) end rows p =
     (rest.0, subst (λ (r : Rows). AreWide (length schema.fields) r) (sym p.3) (All-append (λ (row : List Value). length row ≡ length schema.fields) (rows_in (p.0).batch) p.1 here rest.1))
 
 -- each row that messages say has a value for each field of their schema
-pub wide : (xs : List Sent) (schema : Schema) (rows : Rows) → Says xs schema rows → AreWide (length schema.fields) rows
+pub wide : RowsFitSchema
 wide [] schema rows p = let a = p.0 in cc
 wide (x ∷ xs) schema rows p =
     let a = first x p.0 p.2 in
@@ -139,3 +140,15 @@ wide (x ∷ xs) schema rows p =
     let same : a.0 ≡ schema = let b = rest.0 in cc in
     let e : rows ≡ p.1 = p.3 ∙ ap (λ (b : Option BatchAt). rows_in b ++ p.1) a.2 in
     subst (λ (r : Rows). AreWide (length schema.fields) r) (sym e) (subst (λ (s : Schema). AreWide (length s.fields) p.1) same rest.1)
+
+pub say_one_thing : SayOneThing
+say_one_thing messages one other rows others p q =
+    let o = once None messages (Some one) (Some other) rows others p q in
+    (let e = o.0 in cc, o.1)
+
+pub join_rows : JoinRows
+join_rows start before behind end rows = (
+    λ said. (let s = split start before behind end rows said in
+        record { middle = s.0; first = s.1; then = s.2; before_says = s.3; behind_says = s.4; whole = s.5 }),
+    λ both. rw both.whole (joined start before behind both.middle end both.first both.then both.before_says both.behind_says),
+  )

@@ -2,6 +2,7 @@
 #![tactic(auto)]
 
 pub mod columns;
+pub mod laws;
 pub mod parts;
 pub mod reader;
 
