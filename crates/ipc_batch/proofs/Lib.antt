@@ -1,3 +1,4 @@
 pub mod Lengths
 pub mod Loops
 pub mod Messages
+pub mod PartsAgain

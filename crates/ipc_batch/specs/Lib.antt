@@ -4,3 +4,4 @@ pub mod Columns
 pub mod Said
 pub mod Seen
 pub mod State
+pub mod Written

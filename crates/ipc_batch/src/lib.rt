@@ -5,6 +5,8 @@ pub mod columns;
 pub mod laws;
 pub mod parts;
 pub mod reader;
+pub mod writer;
 
 pub use crate::parts::{BufferPlace, FieldNode, Parts};
 pub use crate::reader::Reader;
+pub use crate::writer::WrittenMessage;
