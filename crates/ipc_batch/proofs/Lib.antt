@@ -1,4 +1,7 @@
+pub mod BatchAgain
+pub mod ColumnsAgain
 pub mod Lengths
 pub mod Loops
 pub mod Messages
 pub mod PartsAgain
+pub mod WriterLoops

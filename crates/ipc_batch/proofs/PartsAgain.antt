@@ -12,9 +12,9 @@ use Rattle.scan_base.specs.declared.fault.Fault.{Fault}
 use Rattle.scan_base.specs.Lists.{each}
 use Rattle.flatbuf.specs.Place.{TableAt, field_of, table_of, structs_of, scalar_of}
 use Rattle.flatbuf.specs.Layout.{Stands}
-use Rattle.flatbuf.specs.Block.{Part, IsWhole, Given, Number, Offset, AreWhole, little, padding, padded, table_part, structs_part, children}
+use Rattle.flatbuf.specs.Block.{Part, IsWhole, Given, Number, Offset, given_at, AreWhole, little, padding, padded, table_part, structs_part, children}
 use Rattle.flatbuf.specs.Fits.{FitsTable, FitsStructs}
-use Rattle.flatbuf.specs.Written.{table_at, LeadsToBlock}
+use Rattle.flatbuf.specs.Written.{table_at, LeadsToBlock, SlotReads}
 use Rattle.flatbuf.proofs.Numbers.{little_from-at}
 use Rattle.flatbuf.proofs.Standing.{stands_first, stands_then, stands_at, stands_whole, stands_drop, stands_within, length-little, length_padding, length_padded}
 use Rattle.flatbuf.proofs.Written.{table_reads, table_aligned}
@@ -103,7 +103,7 @@ length-places_from at (buffer ∷ more) = ap suc (length-places_from (at + lengt
 pub length-body : (buffer : List ℕ) (more : List (List ℕ)) → length (body_of (buffer ∷ more)) ≡ length (padded buffer) + length (body_of more)
 length-body buffer more = length-append (padded buffer) (body_of more)
 
-places_fit : (at : ℕ) (buffers : List (List ℕ)) → at + length (body_of buffers) < 2 ^ 63 → AllByRecursion FitsPlace (places_from at buffers)
+places_fit : (at : ℕ) (buffers : List (List ℕ)) → at + length (body_of buffers) < 2 ^ 64 → AllByRecursion FitsPlace (places_from at buffers)
 places_fit at [] small = tt
 places_fit at (buffer ∷ more) small =
     let a = length-body buffer more in
@@ -165,47 +165,119 @@ short_batch rows nodes places few less =
     let b = short_table (batch_slots rows nodes places) in
     omega arith
 
--- how long the packed nodes and places of parts are
-packed_nodes : PartsAt → List ℕ
-packed_nodes parts = flat_map node_bytes parts.nodes
+-- the packed nodes and places of parts
+abbrev pub nodes_packed : PartsAt → List ℕ
+nodes_packed parts = flat_map node_bytes parts.nodes
+
+abbrev pub places_packed : PartsAt → List ℕ
+places_packed parts = flat_map place_bytes (places_from 0 parts.buffers)
+
+-- the slots of parts
+abbrev pub parts_slots : PartsAt → List Given
+parts_slots parts = batch_slots parts.rows (nodes_packed parts) (places_packed parts)
+
+pub length-nodes_packed : (parts : PartsAt) → FitParts parts → (length (nodes_packed parts) ≡ 16 * length parts.nodes) × (length (nodes_packed parts) ≤ 2 ^ 20)
+length-nodes_packed parts fit =
+    let a = length-nodes parts.nodes in
+    let few = fit.few_nodes in
+    (a, omega arith)
+
+pub length-places_packed : (parts : PartsAt) → FitParts parts → (length (places_packed parts) ≡ 16 * length parts.buffers) × (length (places_packed parts) ≤ 2 ^ 20)
+length-places_packed parts fit =
+    let b = length-places (places_from 0 parts.buffers) in
+    let c = length-places_from 0 parts.buffers in
+    let few = fit.few_buffers in
+    (omega arith, omega arith)
+
+whole_parts : (parts : PartsAt) → AreWhole (parts_slots parts)
+whole_parts parts = (whole_structs 16 (nodes_packed parts), (whole_structs 16 (places_packed parts), tt))
+
+fits_parts : (parts : PartsAt) → FitParts parts → FitsTable (parts_slots parts)
+fits_parts parts fit = fits_batch parts.rows (nodes_packed parts) (places_packed parts) (length-nodes_packed parts fit).1 (length-places_packed parts fit).1
+
+-- each slot of the table of parts
+parts_told : (parts : PartsAt) (bytes : List ℕ) (place : ℕ) → FitParts parts → Stands (parts_part parts).bytes bytes place →
+    (slot : ℕ) → SlotReads (table_at bytes place (parts_part parts)) slot (given_at (parts_slots parts) slot)
+unfolding parts_part
+parts_told parts bytes place fit s slot = table_reads (parts_slots parts) bytes place (fits_parts parts fit) (whole_parts parts) s slot
+
+-- the places of the buffers are read again
+pub places_read : (parts : PartsAt) (bytes : List ℕ) (place : ℕ) → FitParts parts → Stands (parts_part parts).bytes bytes place →
+    (structs_wanted (table_at bytes place (parts_part parts)) 2 ≡ Ok (places_packed parts)) × (places_in (places_packed parts) ≡ places_from 0 parts.buffers)
+places_read parts bytes place fit s =
+    let t = table_at bytes place (parts_part parts) in
+    let places = places_from 0 parts.buffers in
+    let packed = places_packed parts in
+    let led : LeadsToBlock t 2 (structs_part 16 packed) = parts_told parts bytes place fit s 2 in
+    let b = length-places_packed parts fit in
+    let c = length-places_from 0 parts.buffers in
+    let long = b.0 in
+    let short = b.1 in
+    let small = fit.small in
+    let many : struct_count packed ≡ length places = omega arith in
+    let self : Stands packed packed (16 * 0) = record { before = []; after = []; whole = sym (append-nil packed); place = refl } in
+    (structs_again t 2 packed (omega arith) (omega arith) led, rw (many, places_again places packed 0 (places_fit 0 parts.buffers (omega arith)) self) refl)
+
+-- and so are the nodes
+nodes_read : (parts : PartsAt) (bytes : List ℕ) (place : ℕ) → FitParts parts → Stands (parts_part parts).bytes bytes place →
+    (structs_wanted (table_at bytes place (parts_part parts)) 1 ≡ Ok (nodes_packed parts)) × (nodes_in (nodes_packed parts) ≡ parts.nodes)
+nodes_read parts bytes place fit s =
+    let t = table_at bytes place (parts_part parts) in
+    let packed = nodes_packed parts in
+    let led : LeadsToBlock t 1 (structs_part 16 packed) = parts_told parts bytes place fit s 1 in
+    let b = length-nodes_packed parts fit in
+    let long = b.0 in
+    let short = b.1 in
+    let many : struct_count packed ≡ length parts.nodes = omega arith in
+    let self : Stands packed packed (16 * 0) = record { before = []; after = []; whole = sym (append-nil packed); place = refl } in
+    (structs_again t 1 packed (omega arith) (omega arith) led, rw (many, nodes_again parts.nodes packed 0 (recursion_from_All FitsNode parts.nodes fit.nodes) self) refl)
 
 -- parts that were written are read again, whatever their types
 pub parts_read : PartsReadBack
-unfolding parts_part parts_of body_claimed
+unfolding parts_of body_claimed
 parts_read parts message bytes place fit s claimed =
     let body = body_of parts.buffers in
-    let places = places_from 0 parts.buffers in
-    let nodes_packed = flat_map node_bytes parts.nodes in
-    let places_packed = flat_map place_bytes places in
-    let slots = batch_slots parts.rows nodes_packed places_packed in
-    let t = table_at bytes place (table_part slots) in
-    let a = length-nodes parts.nodes in
-    let b = length-places places in
-    let c = length-places_from 0 parts.buffers in
-    let few = fit.few_nodes in
-    let less = fit.few_buffers in
-    let small = fit.small in
+    let t = table_at bytes place (parts_part parts) in
+    let told = parts_told parts bytes place fit s in
     let low = fit.rows in
-    let reads = table_reads slots bytes place (fits_batch parts.rows nodes_packed places_packed (omega arith) (omega arith)) (whole_structs 16 nodes_packed, (whole_structs 16 places_packed, tt)) s in
-    let rows : scalar_of 8 t 0 0 ≡ Ok parts.rows = reads 0 8 0 (omega arith) (omega arith) in
-    let led_nodes : LeadsToBlock t 1 (structs_part 16 nodes_packed) = reads 1 in
-    let led_places : LeadsToBlock t 2 (structs_part 16 places_packed) = reads 2 in
-    let none : field_of t 3 ≡ Ok None = reads 3 in
-    let many_nodes : struct_count nodes_packed ≡ length parts.nodes = omega arith in
-    let many_places : struct_count places_packed ≡ length places = omega arith in
-    let self_nodes : Stands nodes_packed nodes_packed (16 * 0) = record { before = []; after = []; whole = sym (append-nil nodes_packed); place = refl } in
-    let self_places : Stands places_packed places_packed (16 * 0) = record { before = []; after = []; whole = sym (append-nil places_packed); place = refl } in
-    let self_body : Stands body body 0 = record { before = []; after = []; whole = sym (append-nil body); place = refl } in
-    rw (
-      rows,
-      structs_again t 1 nodes_packed (omega arith) (omega arith) led_nodes,
-      structs_again t 2 places_packed (omega arith) (omega arith) led_places,
-      absent_table t 3 none,
-      claimed,
-      le-leb (length body) (length body) (omega arith),
-      many_nodes,
-      many_places,
-      nodes_again parts.nodes nodes_packed 0 (recursion_from_All FitsNode parts.nodes fit.nodes) self_nodes,
-      places_again places places_packed 0 (places_fit 0 parts.buffers (omega arith)) self_places,
-      buffers_again parts.buffers body 0 self_body,
-    ) refl
+    let rows : scalar_of 8 t 0 0 ≡ Ok parts.rows = told 0 8 0 (omega arith) (omega arith) in
+    let none : field_of t 3 ≡ Ok None = told 3 in
+    let nodes = nodes_read parts bytes place fit s in
+    let places = places_read parts bytes place fit s in
+    let self : Stands body body 0 = record { before = []; after = []; whole = sym (append-nil body); place = refl } in
+    rw (rows, nodes.0, places.0, absent_table t 3 none, claimed, le-leb (length body) (length body) (omega arith), places.1, buffers_again parts.buffers body 0 self, nodes.1) refl
+
+pub short_parts : (parts : PartsAt) → FitParts parts → length (parts_part parts).bytes < 2 ^ 30
+unfolding parts_part
+short_parts parts fit = short_batch parts.rows (nodes_packed parts) (places_packed parts) (length-nodes_packed parts fit).1 (length-places_packed parts fit).1
+
+is_whole : (parts : PartsAt) → IsWhole (parts_part parts)
+unfolding parts_part
+is_whole parts = whole_table (parts_slots parts) (whole_parts parts)
+
+-- the message of parts
+pub message_reads : (parts : PartsAt) → FitParts parts → MessageReads (message_bytes RecordBatch (parts_part parts) (length (body_of parts.buffers))) RecordBatch (parts_part parts) (length (body_of parts.buffers))
+message_reads parts fit =
+    let small = fit.small in
+    messages_read RecordBatch (parts_part parts) (length (body_of parts.buffers)) (is_whole parts) (short_parts parts fit) (omega arith)
+
+abbrev pub message_written : PartsAt → Sent
+message_written parts = record { header = message_bytes RecordBatch (parts_part parts) (length (body_of parts.buffers)); body = body_of parts.buffers }
+
+-- what the message of parts says
+pub parts_said : (parts : PartsAt) → FitParts parts → SaysParts (message_written parts) parts
+parts_said parts fit =
+    let bytes = message_bytes RecordBatch (parts_part parts) (length (body_of parts.buffers)) in
+    let m = message_reads parts fit in
+    let places = places_read parts bytes m.place fit m.stands in
+    let same = places.1 in
+    record {
+      message = m.message;
+      table = table_at bytes m.place (parts_part parts);
+      places = places_packed parts;
+      found = m.found;
+      header = m.header_again;
+      said = parts_read parts m.message bytes m.place fit m.stands m.body_length_again;
+      placed = places.0;
+      aligned = rw same (places_aligned 0 parts.buffers refl);
+    }

@@ -1,6 +1,6 @@
 -- The columns of a record batch: nodes and buffers stand in the order of the fields.
 use Rattle.std.specs.Prelude.{ℕ, ◌==◌, ◌&&◌, Bool, List, [], ◌∷◌, length, None, Result, Ok, Err}
-use Rattle.std.specs.Prelude.{map, sum}
+use Rattle.std.specs.Prelude.{sum_by}
 use Rattle.scan_base.specs.declared.fault.Fault.{Fault}
 use Rattle.scan_base.specs.declared.fault.Fault.TheVariants.{UnsupportedArrow, BadBatch}
 use Rattle.scan_base.specs.Reading.{◌>>=◌, demand}
@@ -52,7 +52,7 @@ columns_from (field ∷ fields) rows (node ∷ nodes) buffers = do
 
 -- how many buffers the columns of these fields have
 abbrev pub buffers_wanted : List Field → ℕ
-buffers_wanted fields = sum (map (λ field. buffer_count field.data_type) fields)
+buffers_wanted fields = sum_by (λ field. buffer_count field.data_type) fields
 
 -- the columns of these fields; no node and no buffer is left over
 unfoldable pub columns_of : List Field → PartsAt → Result (List ColumnAt) Fault

@@ -55,7 +55,7 @@ pub record FitParts (parts : PartsAt) : Type 0 where
   pub nodes : All FitsNode parts.nodes
   pub few_nodes : length parts.nodes ≤ 64
   pub few_buffers : length parts.buffers ≤ 192
-  pub small : length (body_of parts.buffers) < 2 ^ 63
+  pub small : length (body_of parts.buffers) < 2 ^ 64
 
 -- Wherever the table stands in a message of that body's length, the parts are read again.
 abbrev pub PartsReadBack : Type 0
