@@ -62,7 +62,7 @@ flag_again true = refl
 flag_again false = refl
 
 -- the kind of the table that a type has
-abbrev kind_of : DataType → TypeKind
+abbrev pub kind_of : DataType → TypeKind
 kind_of (Integer integer) = kinds.Int
 kind_of Utf8 = kinds.Utf8
 kind_of Flags = kinds.Bool
@@ -70,28 +70,28 @@ kind_of Decimal128 = kinds.Decimal
 kind_of (Dictionary encoding) = kinds.Utf8
 
 -- the type of the values, also of a dictionary's
-abbrev values : DataType → DataType
+abbrev pub values : DataType → DataType
 values (Integer integer) = Integer integer
 values Utf8 = Utf8
 values Flags = Flags
 values Decimal128 = Decimal128
 values (Dictionary encoding) = Utf8
 
-type_kind_again : (t : DataType) → type_kind (type_number t) ≡ Ok (kind_of t)
+pub type_kind_again : (t : DataType) → type_kind (type_number t) ≡ Ok (kind_of t)
 type_kind_again (Integer integer) = refl
 type_kind_again Utf8 = refl
 type_kind_again Flags = refl
 type_kind_again Decimal128 = refl
 type_kind_again (Dictionary encoding) = refl
 
-low_number : (t : DataType) → type_number t < 256
+pub low_number : (t : DataType) → type_number t < 256
 low_number (Integer integer) = omega arith
 low_number Utf8 = omega arith
 low_number Flags = omega arith
 low_number Decimal128 = omega arith
 low_number (Dictionary encoding) = omega arith
 
-stored_number : (t : DataType) → (type_number t == 256) ≡ false
+pub stored_number : (t : DataType) → (type_number t == 256) ≡ false
 stored_number (Integer integer) = refl
 stored_number Utf8 = refl
 stored_number Flags = refl

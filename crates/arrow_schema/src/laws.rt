@@ -2,6 +2,7 @@
 
 ghost use Rattle.arrow_schema.specs.Message.{MessagesReadBack};
 ghost use Rattle.arrow_schema.specs.Written.{SchemasReadBack};
+ghost use Rattle.arrow_schema.specs.Says.{ReadIsSaid, BuiltIsSaid, ReadIsSchema};
 ghost use Rattle.arrow_schema.specs.Column.{ColumnSlicesKeepValues};
 ghost use Rattle.arrow_schema.specs.Batch.{BatchSlicesKeepRows};
 
@@ -16,6 +17,21 @@ pub fn messages_read_back()
 #[tactic(auto, using(crate::proofs::Again::schemas_read))]
 pub fn schemas_read_back()
     ensures { SchemasReadBack }
+{}
+
+/// What is read of a buffer is just what it says, in the words of Arrow's `Message.fbs` and `Schema.fbs`.
+pub fn read_schemas_are_said()
+    ensures { ReadIsSaid }
+{}
+
+/// Until every type is built, a schema is read where a buffer says it and it is of one Int64 column.
+pub fn built_schemas_are_said()
+    ensures { BuiltIsSaid }
+{}
+
+/// A schema that was read may be written, whatever its types are.
+pub fn read_schemas_are_schemas()
+    ensures { ReadIsSchema }
 {}
 
 /// The slots of a column from one up to, not with, another have the values that they had.

@@ -17,3 +17,8 @@ pub use crate::header::{HeaderKind, Message, read_message};
 pub use crate::reading::read_schema;
 pub use crate::schema::{Field, Schema};
 pub use crate::writing::{encapsulate, write_message, write_schema};
+
+#[cfg(test)]
+mod tests;
+#[cfg(test)]
+mod vectors;

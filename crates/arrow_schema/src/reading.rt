@@ -1,6 +1,6 @@
 //! Reading a schema from the header of a message: one function for each table.
 
-ghost use Rattle.std.specs.Prelude.{◌≡◌, ◌<◌};
+ghost use Rattle.std.specs.Prelude.{◌≡◌, ◌<◌, IfOk};
 ghost use Rattle.std.specs.List.{list_any, range_with_len};
 ghost use Rattle.scan_base.specs.Reading.{Gives, GivesUnlessMemory};
 ghost use Rattle.scan_base.specs.Lists.{each, repeats};
@@ -10,6 +10,7 @@ ghost use Rattle.arrow_schema.specs.Header.{index_of, dictionary_of, encoded, fi
 ghost use Rattle.arrow_schema.specs.Header.{fields_of, shares_dictionary, same_dictionary};
 ghost use Rattle.arrow_schema.specs.Header.{is_long, is_built, schema_in_all_types, schema_in};
 ghost use Rattle.arrow_schema.specs.Header.{is_schema, schema_message_of, schema_of};
+ghost use Rattle.arrow_schema.specs.Schema.{IsSchema};
 ghost use Rattle.arrow_schema.specs.Seen.{message_seen};
 
 use crate::data_type::{DataType, DictionaryEncoding, IntegerType};
@@ -327,7 +328,11 @@ fn schema_message(bytes: &[u8]) -> Result<Message<'_>, Fault>
 /// kind of header.
 #[tactic(auto, unfolding(crate::specs::Header::schema_of))]
 pub fn read_schema(alloc: Global, bytes: &[u8]) -> Result<Schema, Fault>
-    ensures { GivesUnlessMemory (λ schema. schema) result (schema_of bytes.now) }
+    ensures value { GivesUnlessMemory (λ schema. schema) result (schema_of bytes.now) }
+    ensures valid { IfOk result IsSchema }
 {
     schema_message(bytes)?.schema(alloc)
 }
+
+#[cfg(test)]
+mod tests;

@@ -1,0 +1,125 @@
+-- The laws of what is read of a buffer: it is what the buffer says, and it may be written.
+use Rattle.std.proofs.Common.{◌+◌, nat_le, if◌then◌else◌, Bool, false, Err, ◌≡◌, ◌<◌, ◌^◌, inl, inr, true, ℕ, List, length, Option, Some, None, Result, Ok, refl, arith, sym, ap, ◌∙◌, subst, get_or}
+use Rattle.std.specs.Prelude.{IfOk, slice_index}
+use Rattle.std.specs.Str.{IsUtf8}
+use Rattle.std.proofs.lemmas.Bool.{cases_lt}
+use Rattle.std.proofs.lemmas.List.{get_or_past}
+use Rattle.std.proofs.lemmas.List.Elements.{All-get_or, All-from_get_or}
+use Rattle.std.proofs.lemmas.Option.{slice_get-get_or}
+use Rattle.byteorder.specs.Endian.{little_from}
+use Rattle.byteorder.specs.Numbers.{little_from-lt}
+use Rattle.scan_base.specs.declared.fault.Fault.{Fault}
+use Rattle.scan_base.specs.declared.fault.Fault.TheVariants.{BadFlatbuffer, UnsupportedArrow}
+use Rattle.scan_base.specs.Reading.{demand, GivesUnlessMemory}
+use Rattle.flatbuf.specs.Layout.{TableAt, IsBytes, IsScalar, IsReached, IsText, HasNumber}
+use Rattle.flatbuf.specs.Place.{number_at}
+use Rattle.flatbuf.proofs.Readings.{seen_finds, seen_number}
+use Rattle.arrow_schema.specs.declared.data_type.DataType.{DataType}
+use Rattle.arrow_schema.specs.declared.data_type.DataType.TheVariants.{Integer, Utf8, Bool as Flags, Decimal128, Dictionary}
+use Rattle.arrow_schema.specs.declared.schema.Field.{Field}
+use Rattle.arrow_schema.specs.declared.schema.Schema.{Schema}
+use Rattle.arrow_schema.specs.Header.{MessageAt, is_built, schema_in, schema_message_of, schema_in_all_types, schema_of_all_types, schema_of}
+use Rattle.arrow_schema.specs.Schema.{IsType, IsField, IsSchema}
+use Rattle.arrow_schema.specs.Says.{SaysType, SaysEncoding, SaysField, SaysSchema, ReadIsSaid, BuiltIsSaid, ReadIsSchema}
+use Rattle.arrow_schema.proofs.Said.{bind_ok, demand_ok, bytes_table, bytes_vector, bytes_behind, schema_told, schema_read}
+
+pub read_is_said : ReadIsSaid
+read_is_said bytes schema is = (schema_told bytes schema is, schema_read bytes schema is)
+
+-- a schema that is built was read
+pub built_was_read : (bytes : List ℕ) (schema : Schema) → schema_of bytes ≡ Ok schema → (schema_of_all_types bytes ≡ Ok schema) × (is_built schema.fields ≡ true)
+unfolding schema_of schema_of_all_types schema_in
+built_was_read bytes schema e =
+    let m = bind_ok (schema_message_of bytes) _ schema e in
+    let s = bind_ok (schema_in_all_types m.0) _ schema m.2 in
+    let d = bind_ok (demand (is_built s.0.fields) UnsupportedArrow) _ schema s.2 in
+    let last = d.2 in
+    let same : s.0 ≡ schema = cc in
+    let built = demand_ok (is_built s.0.fields) UnsupportedArrow d.0 d.1 in
+    (rw m.1 (s.1 ∙ ap Ok same), subst (λ (x : Schema). is_built x.fields ≡ true) same built)
+
+-- what is read and built is read
+pub read_when_built : (bytes : List ℕ) (schema : Schema) → schema_of_all_types bytes ≡ Ok schema → is_built schema.fields ≡ true → schema_of bytes ≡ Ok schema
+unfolding schema_of schema_of_all_types schema_in
+read_when_built bytes schema e built =
+    let m = bind_ok (schema_message_of bytes) _ schema e in
+    rw (m.1, m.2, built) refl
+
+pub built_is_said : BuiltIsSaid
+built_is_said bytes schema is = (
+  λ e. (let b = built_was_read bytes schema e in (schema_told bytes schema is b.0, b.1)),
+  λ h. read_when_built bytes schema (schema_read bytes schema is h.0) h.1,
+)
+
+-- ---- what was read may be written
+
+byte_of : (bytes : List ℕ) → IsBytes bytes → (k : ℕ) → slice_index bytes k < 256
+byte_of bytes is k = elim (cases_lt k (length bytes)) [
+  | inl inside ↦ All-get_or (λ byte. byte < 256) bytes k 0 inside is
+  | inr past ↦ rw (get_or_past bytes k 0 past) (omega arith)
+]
+
+if_ok : (b : Bool) (x n : ℕ) (fault : Fault) → (if b then Ok x else Err fault) ≡ Ok n → n ≡ x
+if_ok true x n fault e = cc
+if_ok false x n fault e = absurd (let no : ⊥ = cc in no)
+
+-- a number of 8 bytes is one of 64 bits
+long_number : (bytes : List ℕ) (at n : ℕ) → IsBytes bytes → HasNumber 8 bytes at n → n < 2 ^ 64
+long_number bytes at n is has =
+    let read = ((seen_finds (number_at 8 bytes at) (HasNumber 8 bytes at) (seen_number 8 bytes at)).value n).1 has in
+    rw (if_ok (nat_le (at + 8) (length bytes)) (little_from at 8 bytes) n BadFlatbuffer read) (little_from-lt at 8 bytes (byte_of bytes is))
+
+long_scalar : (bytes : List ℕ) (place : Option ℕ) (n : ℕ) → IsBytes bytes → IsScalar 8 bytes 0 place n → n < 2 ^ 64
+long_scalar bytes None n is s = rw s (omega arith)
+long_scalar bytes (Some at) n is s = long_number bytes at n is s
+
+text_utf8 : (bytes : List ℕ) (place : Option ℕ) (text : List ℕ) → IsReached (IsText bytes) bytes place (Some text) → IsUtf8 text
+text_utf8 bytes None text r = absurd r
+text_utf8 bytes (Some at) text r = r.there.utf8
+
+plain : (t : DataType) (table : TableAt) → SaysType t table → IsType t
+plain (Integer integer) table says = tt
+plain Utf8 table says = tt
+plain Flags table says = tt
+plain Decimal128 table says = tt
+plain (Dictionary encoding) table says = absurd says
+
+typed : (values t : DataType) (type : TableAt) (found : Option TableAt) → ((table : TableAt) → found ≡ Some table → IsBytes table.bytes) → SaysType values type → SaysEncoding values found t → IsType t
+typed values t type None is says e = rw e (plain values type says)
+typed values t type (Some table) is says e =
+    let id = e.1.2.id in
+    rw e.1.1 (long_scalar table.bytes id.place e.1.0.id (is table refl) id.scalar)
+
+field_is : (table : TableAt) (field : Field) → IsBytes table.bytes → SaysField table field → IsField field
+field_is table field is says = record {
+  named = record { some = says.some; few = says.few; utf8 = text_utf8 table.bytes says.name.place field.name says.name.reached };
+  typed = typed says.values field.data_type says.type says.dictionary (bytes_behind table 4 says.dictionary is says.encoded) says.says says.encoding;
+}
+
+schema_is : (bytes : List ℕ) (schema : Schema) → IsBytes bytes → SaysSchema bytes schema → IsSchema schema
+schema_is bytes schema is says =
+    let columns = says.columns in
+    let count = columns.count in
+    let some = columns.some in
+    let few = columns.few in
+    let is1 = subst IsBytes (sym says.root.same) is in
+    let is2 = bytes_table says.message 2 says.header is1 says.headed in
+    let is3 = bytes_vector says.header 1 columns.vector is2 columns.listed in
+    record {
+      some = omega arith;
+      few = omega arith;
+      fields = λ k d lt. (let f = columns.fields k (get_or schema.fields k d) (slice_get-get_or schema.fields k d lt) in field_is f.0 (get_or schema.fields k d) (subst IsBytes (sym f.1.same) is3) f.2);
+      apart = columns.apart;
+    }
+
+pub read_is_schema : ReadIsSchema
+read_is_schema bytes schema is e = schema_is bytes schema is (schema_told bytes schema is e)
+
+-- what a call gave may be written
+pub given_is_schema : (bytes : List ℕ) (message : MessageAt) (result : Result Schema Fault) → ((k : ℕ) → slice_index bytes k < 256) → schema_message_of bytes ≡ Ok message →
+    GivesUnlessMemory (λ (schema : Schema). schema) result (schema_in message) → IfOk result IsSchema
+unfolding schema_of
+given_is_schema bytes message (Ok schema) each found e =
+    let read : schema_of bytes ≡ Ok schema = rw found e in
+    read_is_schema bytes schema (All-from_get_or (λ byte. byte < 256) bytes 0 (λ k inside. each k)) ((built_was_read bytes schema read).0)
+given_is_schema bytes message (Err fault) each found e = tt
