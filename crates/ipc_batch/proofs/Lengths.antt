@@ -28,37 +28,41 @@ pub demanded : {B : Type 0} (test : Bool) (fault : Fault) (next : Result B Fault
 demanded true fault next y e = e
 demanded false fault next y e = cc
 
-column_long : (values : List ℕ) (rows : ℕ) (column : ColumnAt) → column_of None values rows ≡ Ok column → column.len ≡ rows
+-- a column of so many slots that has no validity bits
+abbrev pub IsBare : ℕ → ColumnAt → Type 0
+IsBare rows column = (column.len ≡ rows) × (column.validity ≡ None)
+
+column_bare : (values : List ℕ) (rows : ℕ) (column : ColumnAt) → column_of None values rows ≡ Ok column → IsBare rows column
 unfolding column_of
-column_long values rows column e =
+column_bare values rows column e =
     let made : ColumnAt = record { validity = None; values = values; first = 0; len = rows } in
     let a : fine made ≡ Ok column = demanded (nat_le (8 * rows) (length values) && bits_suffice None rows) BadBatch (Ok made) column e in
     let b : made ≡ column = cc in
-    sym (ap (λ (x : ColumnAt). x.len) b)
+    (sym (ap (λ (x : ColumnAt). x.len) b), sym (ap (λ (x : ColumnAt). x.validity) b))
 
-longs_long : (rows : ℕ) (node : FieldNode) (buffers : List (List ℕ)) (front : FrontAt) → longs_of rows node buffers ≡ Ok front → front.column.len ≡ rows
-longs_long rows node (validity ∷ values ∷ behind) front e =
+longs_bare : (rows : ℕ) (node : FieldNode) (buffers : List (List ℕ)) (front : FrontAt) → longs_of rows node buffers ≡ Ok front → IsBare rows front.column
+longs_bare rows node (validity ∷ values ∷ behind) front e =
     let found = column_of None values rows in
     let make = λ (column : ColumnAt). fine (record { column = column; behind = behind }) in
     let last : (found >>= make) ≡ Ok front = demanded (nulls_are_built node) UnsupportedArrow (found >>= make) front
         (demanded (node.length == rows) BadBatch (demand (nulls_are_built node) UnsupportedArrow >>= λ _. (found >>= make)) front e) in
     let b = both found make front last in
     let same : record { column = b.0; behind = behind } ≡ front = let c = b.2 in cc in
-    ap (λ (x : FrontAt). x.column.len) (sym same) ∙ column_long values rows b.0 b.1
-longs_long rows node (values ∷ []) front e = cc
-longs_long rows node [] front e = cc
+    subst (λ (x : FrontAt). IsBare rows x.column) same (column_bare values rows b.0 b.1)
+longs_bare rows node (values ∷ []) front e = cc
+longs_bare rows node [] front e = cc
 
-front_long : (data_type : DataType) (rows : ℕ) (node : FieldNode) (buffers : List (List ℕ)) (front : FrontAt) → front_of data_type rows node buffers ≡ Ok front → front.column.len ≡ rows
+front_bare : (data_type : DataType) (rows : ℕ) (node : FieldNode) (buffers : List (List ℕ)) (front : FrontAt) → front_of data_type rows node buffers ≡ Ok front → IsBare rows front.column
 unfolding front_of
-front_long (Integer Int64) rows node buffers front e = longs_long rows node buffers front e
-front_long _ rows node buffers front e = cc
+front_bare (Integer Int64) rows node buffers front e = longs_bare rows node buffers front e
+front_bare _ rows node buffers front e = cc
 
 -- a column for each field, and a slot for each row
 columns_fit : (fields : List Field) (rows : ℕ) (nodes : List FieldNode) (buffers : List (List ℕ)) (columns : List ColumnAt) →
-    columns_from fields rows nodes buffers ≡ Ok columns → AreLong rows columns × (length columns ≡ length fields)
+    columns_from fields rows nodes buffers ≡ Ok columns → All (IsBare rows) columns × (length columns ≡ length fields)
 columns_fit [] rows nodes buffers columns e =
     let same : [] ≡ columns = cc in
-    subst (λ (cs : List ColumnAt). AreLong rows cs × (length cs ≡ 0)) same (All-nil (λ (column : ColumnAt). column.len ≡ rows), refl)
+    subst (λ (cs : List ColumnAt). All (IsBare rows) cs × (length cs ≡ 0)) same (All-nil (IsBare rows), refl)
 columns_fit (field ∷ fields) rows [] buffers columns e = cc
 columns_fit (field ∷ fields) rows (node ∷ nodes) buffers columns e =
     let front = front_of field.data_type rows node buffers in
@@ -68,8 +72,8 @@ columns_fit (field ∷ fields) rows (node ∷ nodes) buffers columns e =
     let b = both (others f) (λ (more : List ColumnAt). fine (f.column ∷ more)) columns a.2 in
     let same : f.column ∷ b.0 ≡ columns = let c = b.2 in cc in
     let rest = columns_fit fields rows nodes f.behind b.0 b.1 in
-    subst (λ (cs : List ColumnAt). AreLong rows cs × (length cs ≡ suc (length fields))) same
-        (All-cons (λ (column : ColumnAt). column.len ≡ rows) f.column b.0 (front_long field.data_type rows node buffers f a.1) rest.0, ap suc rest.1)
+    subst (λ (cs : List ColumnAt). All (IsBare rows) cs × (length cs ≡ suc (length fields))) same
+        (All-cons (IsBare rows) f.column b.0 (front_bare field.data_type rows node buffers f a.1) rest.0, ap suc rest.1)
 
 last_demand : (fields : List Field) (parts : PartsAt) (columns : List ColumnAt) → columns_of fields parts ≡ Ok columns → columns_from fields parts.rows parts.nodes parts.buffers ≡ Ok columns
 unfolding columns_of
@@ -78,9 +82,12 @@ last_demand fields parts columns e =
     let enough = length parts.buffers == buffers_wanted fields in
     demanded enough BadBatch last columns (demanded (length parts.nodes == length fields) BadBatch (demand enough BadBatch >>= λ _. last) columns e)
 
--- each column has a slot for each row
+-- each column has a slot for each row, and no validity bits
+pub columns_bare : (fields : List Field) (parts : PartsAt) (columns : List ColumnAt) → columns_of fields parts ≡ Ok columns → All (IsBare parts.rows) columns
+columns_bare fields parts columns e = (columns_fit fields parts.rows parts.nodes parts.buffers columns (last_demand fields parts columns e)).0
+
 pub columns_long : (fields : List Field) (parts : PartsAt) (columns : List ColumnAt) → columns_of fields parts ≡ Ok columns → AreLong parts.rows columns
-columns_long fields parts columns e = (columns_fit fields parts.rows parts.nodes parts.buffers columns (last_demand fields parts columns e)).0
+columns_long fields parts columns e = λ k d low. (columns_bare fields parts columns e k d low).0
 
 -- there is a column for each field
 pub columns_many : (fields : List Field) (parts : PartsAt) (columns : List ColumnAt) → columns_of fields parts ≡ Ok columns → length columns ≡ length fields

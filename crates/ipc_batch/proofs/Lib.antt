@@ -3,5 +3,6 @@ pub mod ColumnsAgain
 pub mod Lengths
 pub mod Loops
 pub mod Messages
+pub mod NoNulls
 pub mod PartsAgain
 pub mod WriterLoops

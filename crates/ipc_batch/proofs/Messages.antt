@@ -1,5 +1,5 @@
 -- What messages say, message by message.
-use Rattle.std.proofs.Common.{◌≡◌, ◌≢◌, ℕ, List, [], ◌∷◌, ◌++◌, length, map, Option, Some, None, Result, Ok, Err, refl, ap, sym, subst, ◌∙◌, append_assoc, append-nil, All, IfOk}
+use Rattle.std.proofs.Common.{◌≡◌, ◌≢◌, ℕ, List, [], ◌∷◌, ◌++◌, length, map, Option, Some, None, Result, Ok, Err, refl, ap, sym, subst, ◌∙◌, append_assoc, append-nil, All, IfOk, get_or, ◌<◌}
 use Rattle.std.specs.List.{range_with_len}
 use Rattle.std.proofs.lemmas.List.{length-map}
 use Rattle.std.proofs.lemmas.List.Elements.{All-nil, All-map, All-append}
@@ -18,8 +18,10 @@ use Rattle.ipc_batch.specs.Parts.{PartsAt, parts_of}
 use Rattle.ipc_batch.specs.Columns.{columns_of}
 use Rattle.ipc_batch.specs.State.{State}
 use Rattle.ipc_batch.specs.Said.{Sent, News, first_schema, next_batch, batch_sent, news_in, news_of, Rows, rows_in, Follows, Says, Tells, Extends, HasColumns, AreWide}
+use Rattle.ipc_batch.specs.Full.{HasNoNulls, HasNoNullsIfThere}
 use Rattle.ipc_batch.specs.Laws.{SayOneThing, JoinRows, RowsFitSchema}
-use Rattle.ipc_batch.proofs.Lengths.{fine, both, columns_many}
+use Rattle.ipc_batch.proofs.Lengths.{fine, both, columns_many, columns_bare}
+use Rattle.ipc_batch.proofs.NoNulls.{bare_full}
 
 -- messages that follow one another
 pub joined : (a : State) (xs ys : List Sent) (b c : State) (r s : Rows) → Follows a xs b r → Follows b ys c s → Follows a (xs ++ ys) c (r ++ s)
@@ -60,23 +62,29 @@ extended (Err fault) old sent new e = λ other messages rows said end before aft
     let bad : news_of s.0 sent ≡ Err fault = subst (λ (x : State). news_of x sent ≡ Err fault) o.0 (e.0 other) in
     cc
 
-batch_wide : (schema : Schema) (message : MessageAt) (body : List ℕ) (batch : BatchAt) → batch_sent schema message body ≡ Ok batch → length batch.columns ≡ length schema.fields
+-- a batch has a column for each field, none of which has validity bits
+pub record IsBatchOf (schema : Schema) (batch : BatchAt) : Type 0 where
+  pub many : length batch.columns ≡ length schema.fields
+  pub full : HasNoNulls batch
+
+batch_wide : (schema : Schema) (message : MessageAt) (body : List ℕ) (batch : BatchAt) → batch_sent schema message body ≡ Ok batch → IsBatchOf schema batch
 unfolding batch_sent
 batch_wide schema message body batch e =
     let a = both (header_of message) (λ (table : TableAt). (parts_of message table body >>= λ parts. (columns_of schema.fields parts >>= λ columns. Ok (record { columns = columns; rows = parts.rows })))) batch e in
     let b = both (parts_of message a.0 body) (λ (parts : PartsAt). (columns_of schema.fields parts >>= λ columns. Ok (record { columns = columns; rows = parts.rows }))) batch a.2 in
     let c = both (columns_of schema.fields b.0) (λ (columns : List ColumnAt). fine (record { columns = columns; rows = b.0.rows })) batch b.2 in
     let same : record { columns = c.0; rows = b.0.rows } ≡ batch = let d = c.2 in cc in
-    ap (λ (x : BatchAt). length x.columns) (sym same) ∙ columns_many schema.fields b.0 c.0 c.1
+    let bare = columns_bare schema.fields b.0 c.0 c.1 in
+    subst (IsBatchOf schema) same (record { many = columns_many schema.fields b.0 c.0 c.1; full = λ (k : ℕ) (d : ColumnAt) (low : k < length c.0). bare_full b.0.rows (get_or c.0 k d) (bare k d low) })
 
-next_wide : (kind : HeaderKind) (schema : Schema) (message : MessageAt) (body : List ℕ) (batch : BatchAt) → next_batch kind schema message body ≡ Ok batch → length batch.columns ≡ length schema.fields
+next_wide : (kind : HeaderKind) (schema : Schema) (message : MessageAt) (body : List ℕ) (batch : BatchAt) → next_batch kind schema message body ≡ Ok batch → IsBatchOf schema batch
 next_wide header.Schema schema message body batch e = cc
 next_wide header.DictionaryBatch schema message body batch e = cc
 next_wide header.RecordBatch schema message body batch e = batch_wide schema message body batch e
 
 -- what the news of a message are, once there is a schema, and before
 news_after : (schema : Schema) (message : MessageAt) (body : List ℕ) (news : News) → news_in (Some schema) message body ≡ Ok news →
-    (news.state ≡ Some schema) × ((batch : BatchAt) × (news.batch ≡ Some batch) × (length batch.columns ≡ length schema.fields))
+    (news.state ≡ Some schema) × ((batch : BatchAt) × (news.batch ≡ Some batch) × IsBatchOf schema batch)
 news_after schema message body news e =
     let a = both (next_batch message.kind schema message body) (λ (batch : BatchAt). fine (record { state = Some schema; batch = Some batch })) news e in
     let same : record { state = Some schema; batch = Some a.0 } ≡ news = let d = a.2 in cc in
@@ -89,7 +97,7 @@ news_first message body news e =
     (a.0, sym (ap (λ (x : News). x.state) same), sym (ap (λ (x : News). x.batch) same))
 
 pub after : (schema : Schema) (sent : Sent) (news : News) → news_of (Some schema) sent ≡ Ok news →
-    (news.state ≡ Some schema) × ((batch : BatchAt) × (news.batch ≡ Some batch) × (length batch.columns ≡ length schema.fields))
+    (news.state ≡ Some schema) × ((batch : BatchAt) × (news.batch ≡ Some batch) × IsBatchOf schema batch)
 unfolding news_of
 after schema sent news e =
     let a = both (message_of sent.header) (λ (message : MessageAt). news_in (Some schema) message sent.body) news e in
@@ -108,7 +116,19 @@ columned (Some batch) None sent new e = let a = first sent (record { state = new
 columned (Some batch) (Some schema) sent new e =
     let a = after schema sent (record { state = new; batch = Some batch }) e in
     let same : a.1.0 ≡ batch = let b = a.1.1 in cc in
-    subst (λ (x : State). HasColumns (Some batch) x) (sym a.0) (ap (λ (x : BatchAt). length x.columns) (sym same) ∙ a.1.2)
+    subst (λ (x : State). HasColumns (Some batch) x) (sym a.0) (ap (λ (x : BatchAt). length x.columns) (sym same) ∙ a.1.2.many)
+
+full_news : (batch : Option BatchAt) (old : State) (sent : Sent) (new : State) → news_of old sent ≡ Ok (record { state = new; batch = batch }) → HasNoNullsIfThere batch
+full_news None old sent new e = tt
+full_news (Some batch) None sent new e = let a = first sent (record { state = new; batch = Some batch }) e in let b = a.2 in cc
+full_news (Some batch) (Some schema) sent new e =
+    let a = after schema sent (record { state = new; batch = Some batch }) e in
+    let same : a.1.0 ≡ batch = let b = a.1.1 in cc in
+    subst HasNoNulls same a.1.2.full
+
+pub told_full : (result : Result (Option BatchAt) Fault) (old : State) (sent : Sent) (new : State) → Tells result old sent new → IfOk result HasNoNullsIfThere
+told_full (Ok batch) old sent new e = full_news batch old sent new e
+told_full (Err fault) old sent new e = tt
 
 pub told_columns : (result : Result (Option BatchAt) Fault) (old : State) (sent : Sent) (new : State) → Tells result old sent new → IfOk result (λ batch. HasColumns batch new)
 told_columns (Ok batch) old sent new e = columned batch old sent new e
@@ -126,7 +146,7 @@ wide_after schema (x ∷ xs) end rows p =
     let a = after schema x p.0 p.2 in
     let q : Follows (Some schema) xs end p.1 = subst (λ (s : State). Follows s xs end p.1) a.0 p.4 in
     let rest = wide_after schema xs end p.1 q in
-    let wide : AreWide (length schema.fields) (rows_of a.1.0) = rows_wide (length schema.fields) a.1.0 a.1.2 in
+    let wide : AreWide (length schema.fields) (rows_of a.1.0) = rows_wide (length schema.fields) a.1.0 a.1.2.many in
     let here : AreWide (length schema.fields) (rows_in (p.0).batch) = subst (λ (b : Option BatchAt). AreWide (length schema.fields) (rows_in b)) (sym a.1.1) wide in
     (rest.0, subst (λ (r : Rows). AreWide (length schema.fields) r) (sym p.3) (All-append (λ (row : List Value). length row ≡ length schema.fields) (rows_in (p.0).batch) p.1 here rest.1))
 

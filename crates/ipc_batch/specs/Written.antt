@@ -91,10 +91,6 @@ parts_written batch = record {
   buffers = buffers_written batch.columns;
 }
 
--- Until nulls are built: no slot of a batch that is written is null.
-abbrev pub HasNoNulls : BatchAt → Type 0
-HasNoNulls batch = All (λ column. All (λ value. value ≢ Null) (values_of column)) batch.columns
-
 -- a number of eight bytes
 abbrev pub FitsLong : Value → Type 0
 FitsLong (Int z) = FitsSigned w64 z

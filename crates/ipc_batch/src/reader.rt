@@ -5,6 +5,7 @@ ghost use Rattle.scan_base.specs.Reading.{GivesUnlessMemory};
 ghost use Rattle.arrow_schema.specs.Header.{schema_in};
 ghost use Rattle.arrow_schema.specs.Seen.{message_seen};
 ghost use Rattle.ipc_batch.specs.Said.{first_schema, next_batch, Tells, Extends, HasColumns};
+ghost use Rattle.ipc_batch.specs.Full.{HasNoNullsIfThere};
 
 use crate::columns::read_columns;
 use crate::parts::{check_body, read_parts};
@@ -69,6 +70,7 @@ impl Reader {
         ensures exact { Tells result self.old (record { header = header; body = body }) self.new }
         ensures extends { Extends result self.old (record { header = header; body = body }) self.new }
         ensures columns { IfOk result (λ batch. HasColumns batch self.new) }
+        ensures full { IfOk result HasNoNullsIfThere }
     {
         self.read(alloc, &header, &body)
     }

@@ -8,7 +8,8 @@ ghost use Rattle.flatbuf.specs.Block.{Number, Offset, little, padding, padded, t
 ghost use Rattle.arrow_schema.specs.Column.{values_of};
 ghost use Rattle.ipc_batch.specs.Written.{node_bytes, place_bytes, body_of, places_from, parts_part};
 ghost use Rattle.ipc_batch.specs.Written.{value_written, values_written, node_written, column_written, buffers_written, parts_written};
-ghost use Rattle.ipc_batch.specs.Written.{HasNoNulls, FitsLong, SaysParts, SaysBatch};
+ghost use Rattle.ipc_batch.specs.Written.{FitsLong, SaysParts, SaysBatch};
+ghost use Rattle.ipc_batch.specs.Full.{HasNoNulls};
 ghost use Rattle.ipc_batch.specs.Seen.{written_seen};
 
 use arrow_schema::{Batch, Column, HeaderKind, write_message};
