@@ -82,8 +82,8 @@ slot_again column j are low =
     let at = λ (i : ℕ). Int (long_at bytes i) in
     let inside : j < length (values_of column) = omega arith in
     let e : at j ≡ slot_of column j =
-        sym (get_or-map-range_with_len at 0 (length (values_of column)) j j Null inside (omega arith))
-        ∙ ap (λ (xs : List Value). get_or xs j Null) all ∙ get_or-map-range_with_len (slot_of column) 0 column.len j j Null low (omega arith) in
+    sym (get_or-map-range_with_len at 0 (length (values_of column)) j j Null inside (omega arith))
+    ∙ ap (λ (xs : List Value). get_or xs j Null) all ∙ get_or-map-range_with_len (slot_of column) 0 column.len j j Null low (omega arith) in
     let zero_first : 0 + j ≡ j = omega arith in
     rw zero_first e
 

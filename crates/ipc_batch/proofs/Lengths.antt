@@ -45,7 +45,7 @@ longs_bare rows node (validity ∷ values ∷ behind) front e =
     let found = column_of None values rows in
     let make = λ (column : ColumnAt). fine (record { column = column; behind = behind }) in
     let last : (found >>= make) ≡ Ok front = demanded (nulls_are_built node) UnsupportedArrow (found >>= make) front
-        (demanded (node.length == rows) BadBatch (demand (nulls_are_built node) UnsupportedArrow >>= λ _. (found >>= make)) front e) in
+    (demanded (node.length == rows) BadBatch (demand (nulls_are_built node) UnsupportedArrow >>= λ _. (found >>= make)) front e) in
     let b = both found make front last in
     let same : record { column = b.0; behind = behind } ≡ front = let c = b.2 in cc in
     subst (λ (x : FrontAt). IsBare rows x.column) same (column_bare values rows b.0 b.1)
@@ -73,7 +73,7 @@ columns_fit (field ∷ fields) rows (node ∷ nodes) buffers columns e =
     let same : f.column ∷ b.0 ≡ columns = let c = b.2 in cc in
     let rest = columns_fit fields rows nodes f.behind b.0 b.1 in
     subst (λ (cs : List ColumnAt). All (IsBare rows) cs × (length cs ≡ suc (length fields))) same
-        (All-cons (IsBare rows) f.column b.0 (front_bare field.data_type rows node buffers f a.1) rest.0, ap suc rest.1)
+    (All-cons (IsBare rows) f.column b.0 (front_bare field.data_type rows node buffers f a.1) rest.0, ap suc rest.1)
 
 last_demand : (fields : List Field) (parts : PartsAt) (columns : List ColumnAt) → columns_of fields parts ≡ Ok columns → columns_from fields parts.rows parts.nodes parts.buffers ≡ Ok columns
 unfolding columns_of

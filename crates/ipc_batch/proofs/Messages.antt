@@ -53,7 +53,7 @@ once a (x ∷ xs) b c r s p q =
 pub extended : (result : Result (Option BatchAt) Fault) (old : State) (sent : Sent) (new : State) → Tells result old sent new → Extends result old sent new
 extended (Ok batch) old sent new e = λ messages rows said.
     joined None messages (sent ∷ []) old new rows (rows_in batch) said
-        (record { state = new; batch = batch }, [], e, sym (append-nil (rows_in batch)), (refl, refl))
+    (record { state = new; batch = batch }, [], e, sym (append-nil (rows_in batch)), (refl, refl))
 extended (Err fault) old sent new e = λ other messages rows said end before after.
     let s = split None messages (sent ∷ []) end said after in
     let o = once None messages old s.0 rows s.1 before s.3 in
@@ -138,7 +138,7 @@ told_columns (Err fault) old sent new e = tt
 rows_wide : (width : ℕ) (batch : BatchAt) → length batch.columns ≡ width → AreWide width (rows_of batch)
 rows_wide width batch e =
     All-map (λ (row : List Value). length row ≡ width) (row_of batch.columns) (range_with_len 0 batch.rows)
-        (λ k d h. length-map batch.columns (λ (column : ColumnAt). slot_of column _) ∙ e)
+    (λ k d h. length-map batch.columns (λ (column : ColumnAt). slot_of column _) ∙ e)
 
 wide_after : (schema : Schema) (xs : List Sent) (end : State) (rows : Rows) → Follows (Some schema) xs end rows → (end ≡ Some schema) × AreWide (length schema.fields) rows
 wide_after schema [] end rows p = (p.0, subst (λ (r : Rows). AreWide (length schema.fields) r) (sym p.1) (All-nil (λ (row : List Value). length row ≡ length schema.fields)))
@@ -168,7 +168,7 @@ say_one_thing messages one other rows others p q =
 
 pub join_rows : JoinRows
 join_rows start before behind end rows = (
-    λ said. (let s = split start before behind end rows said in
-        record { middle = s.0; first = s.1; then = s.2; before_says = s.3; behind_says = s.4; whole = s.5 }),
-    λ both. rw both.whole (joined start before behind both.middle end both.first both.then both.before_says both.behind_says),
-  )
+  λ said. (let s = split start before behind end rows said in
+      record { middle = s.0; first = s.1; then = s.2; before_says = s.3; behind_says = s.4; whole = s.5 }),
+  λ both. rw both.whole (joined start before behind both.middle end both.first both.then both.before_says both.behind_says),
+)

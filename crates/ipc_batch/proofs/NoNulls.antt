@@ -22,8 +22,8 @@ bare_full rows column bare = All-map NotNull (slot_of column) (range_with_len 0 
 pub slices_full : SlicesHaveNoNulls
 slices_full batch from to ordered within long some =
     All-map (λ (column : ColumnAt). All NotNull (values_of column)) (λ (column : ColumnAt). cut column from to) batch.columns
-        (λ (k : ℕ) (d : ColumnAt) (low : k < length batch.columns). (
-            let column = get_or batch.columns k d in
-            let e = long k d low in
-            let inside : to ≤ column.len = omega arith in
-            subst (All NotNull) (sym (columns_keep column from to ordered inside)) (All-take NotNull (to - from) (drop from (values_of column)) (All-drop NotNull from (values_of column) (some k d low)))))
+    (λ (k : ℕ) (d : ColumnAt) (low : k < length batch.columns). (
+    let column = get_or batch.columns k d in
+    let e = long k d low in
+    let inside : to ≤ column.len = omega arith in
+    subst (All NotNull) (sym (columns_keep column from to ordered inside)) (All-take NotNull (to - from) (drop from (values_of column)) (All-drop NotNull from (values_of column) (some k d low)))))

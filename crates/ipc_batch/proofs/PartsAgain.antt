@@ -116,7 +116,7 @@ places_aligned at [] even = All-nil (λ (place : BufferPlace). place.offset % 8 
 places_aligned at (buffer ∷ more) even =
     let a = length_padded buffer in
     All-cons (λ (place : BufferPlace). place.offset % 8 ≡ 0) (record { offset = at; length = length buffer }) (places_from (at + length (padded buffer)) more) even
-        (places_aligned (at + length (padded buffer)) more (omega arith))
+    (places_aligned (at + length (padded buffer)) more (omega arith))
 
 pub whole_body : (buffers : List (List ℕ)) → length (body_of buffers) % 8 ≡ 0
 whole_body [] = refl

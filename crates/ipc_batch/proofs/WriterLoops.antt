@@ -53,7 +53,7 @@ places_more at next old new column more whole e f all =
     let here = places_from at (column_written column) in
     let behind = places_from next (buffers_written more) in
     let joined : flat_map place_bytes (places_from at (buffers_written (column ∷ more))) ≡ flat_map place_bytes here ++ flat_map place_bytes behind =
-        ap (flat_map place_bytes) (places-append at (column_written column) (buffers_written more) ∙ ap (λ (n : ℕ). here ++ places_from n (buffers_written more)) (sym f))
-        ∙ flat_map-append place_bytes here behind in
+    ap (flat_map place_bytes) (places-append at (column_written column) (buffers_written more) ∙ ap (λ (n : ℕ). here ++ places_from n (buffers_written more)) (sym f))
+    ∙ flat_map-append place_bytes here behind in
     ap (λ (x : List ℕ). x ++ flat_map place_bytes behind) e ∙ append_assoc old (flat_map place_bytes here) (flat_map place_bytes behind)
     ∙ ap (λ (x : List ℕ). old ++ x) (sym joined) ∙ all

@@ -7,6 +7,9 @@ pub mod parts;
 pub mod reader;
 pub mod writer;
 
-pub use crate::parts::{BufferPlace, FieldNode, Parts};
+pub use crate::parts::{BufferPlace, FieldNode};
 pub use crate::reader::Reader;
-pub use crate::writer::WrittenMessage;
+pub use crate::writer::{WrittenMessage, write_batch};
+
+#[cfg(test)]
+mod tests;

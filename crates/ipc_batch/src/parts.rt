@@ -32,7 +32,7 @@ pub struct BufferPlace {
 /// The parts of a record batch: how many rows it has, a node for each column, and the buffers, which are
 /// cuts of the body.
 #[derive(Drop)]
-pub struct Parts {
+pub(crate) struct Parts {
     pub rows: u64,
     pub nodes: Vec<FieldNode>,
     pub buffers: Vec<Bytes>,

@@ -49,11 +49,7 @@ fn put_pair(structs: &mut Vec<u8>, first: u64, second: u64) -> Result<(), AllocE
 }
 
 // Writes a buffer behind the others, and where it lies.
-fn put_buffer(
-    body: &mut Vec<u8>,
-    places: &mut Vec<u8>,
-    buffer: &[u8],
-) -> Result<(), AllocError>
+fn put_buffer(body: &mut Vec<u8>, places: &mut Vec<u8>, buffer: &[u8]) -> Result<(), AllocError>
     ensures body { OnOk result (body.new.items ≡ body.old.items ++ padded buffer.now) }
     ensures places { OnOk result (places.new.items ≡ places.old.items
         ++ place_bytes (record { offset = length body.old.items; length = length buffer.now })) }
@@ -145,12 +141,7 @@ fn node_structs(alloc: Global, columns: &[Column]) -> Result<Vec<u8>, AllocError
 
 // The RecordBatch table of so many rows, and of packed nodes and places.
 #[tactic(auto, using(flatbuf::proofs::Lengths::fits))]
-fn batch_block(
-    alloc: Global,
-    rows: u64,
-    nodes: &[u8],
-    places: &[u8],
-) -> Result<Block, AllocError>
+fn batch_block(alloc: Global, rows: u64, nodes: &[u8], places: &[u8]) -> Result<Block, AllocError>
     requires nodes { (length nodes.now % 16 ≡ 0) × (length nodes.now ≤ 2 ^ 20) }
     requires places { (length places.now % 16 ≡ 0) × (length places.now ≤ 2 ^ 20) }
     ensures { IfOk result (λ block. block ≡ table_part (Number rows

@@ -12,7 +12,7 @@ returns-in_err-buffer c =
     let e : count - j ≡ suc (count - (j + 1)) = omega arith in
     let p = err_from_is_err_and c.from_residual-in_err-buffer.result c.from_residual-in_err-buffer.ensures.1 in
     rw (p.1, p.2) (λ other. sym c.loop-j.invariant
-        ∙ numbered_stop (buffer_at c.args.body.now) (place_at structs) c.loop-j.buffers.items j (count - j) (count - (j + 1)) c.in_err-buffer.field-0.0 e (rw (← c.place.ensures) (c.in_err-buffer.ensures other)))
+    ∙ numbered_stop (buffer_at c.args.body.now) (place_at structs) c.loop-j.buffers.items j (count - j) (count - (j + 1)) c.in_err-buffer.field-0.0 e (rw (← c.place.ensures) (c.in_err-buffer.ensures other)))
 
 pub loop-j-preserved : goal.loop-j-preserved
 loop-j-preserved c =

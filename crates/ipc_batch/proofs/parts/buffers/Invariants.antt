@@ -8,4 +8,4 @@ use Rattle.ipc_batch.proofs.parts.buffers.Given as goal
 abbrev pub invariant-loop-j : goal.invariant-loop-j
 invariant-loop-j l =
     behind l.buffers.items (each (buffer_at l.body) (map (place_at l.structs) (range_with_len l.j (l.count - l.j))))
-        ≡ each (buffer_at l.body) (places_in l.structs)
+    ≡ each (buffer_at l.body) (places_in l.structs)

@@ -15,9 +15,9 @@ batch_block-requires-clause-places c =
 pub write_message-requires : goal.write_message-requires
 write_message-requires c =
     let nodes : length c.as_slice.result.now ≤ 2 ^ 20 =
-        rw (c.as_slice.ensures.value, c.in_ok-nodes.ensures, c.columns-columns.ensures.columns) (nodes_small c.args.batch.now.columns c.requires.few).1 in
+    rw (c.as_slice.ensures.value, c.in_ok-nodes.ensures, c.columns-columns.ensures.columns) (nodes_small c.args.batch.now.columns c.requires.few).1 in
     let places : length c.as_slice-2.result.now ≤ 2 ^ 20 =
-        rw (c.as_slice-2.ensures.value, c.in_ok-put_columns.ensures.places, c.new-places.ensures.items, c.new-body.ensures.items, c.columns-columns.ensures.columns) (places_small c.args.batch.now.columns c.requires.few).1 in
+    rw (c.as_slice-2.ensures.value, c.in_ok-put_columns.ensures.places, c.new-places.ensures.items, c.new-body.ensures.items, c.columns-columns.ensures.columns) (places_small c.args.batch.now.columns c.requires.few).1 in
     rw c.in_ok-block.ensures (short_batch c.rows-rows.result c.as_slice.result.now c.as_slice-2.result.now nodes places)
 
 pub returns-clause-body : goal.returns-clause-body
