@@ -1,0 +1,94 @@
+-- How many columns a record batch has, and how long they are.
+use Rattle.std.proofs.Common.{◌≡◌, ℕ, suc, ◌*◌, ◌==◌, ◌&&◌, nat_le, Bool, true, false, List, [], ◌∷◌, length, Some, None, Result, Ok, Err, refl, ap, sym, subst, ◌∙◌, All}
+use Rattle.std.proofs.lemmas.List.Elements.{All-nil, All-cons}
+use Rattle.scan_base.specs.declared.fault.Fault.{Fault}
+use Rattle.scan_base.specs.declared.fault.Fault.TheVariants.{UnsupportedArrow, BadBatch}
+use Rattle.scan_base.specs.Reading.{◌>>=◌, demand}
+use Rattle.arrow_schema.specs.declared.data_type.IntegerType.TheVariants.{Int64}
+use Rattle.arrow_schema.specs.declared.data_type.DataType.{DataType}
+use Rattle.arrow_schema.specs.declared.data_type.DataType.TheVariants.{Integer}
+use Rattle.arrow_schema.specs.declared.schema.Field.{Field}
+use Rattle.arrow_schema.specs.Column.{ColumnAt, column_of, bits_suffice}
+use Rattle.arrow_schema.specs.Batch.{AreLong}
+use Rattle.ipc_batch.specs.declared.parts.FieldNode.{FieldNode}
+use Rattle.ipc_batch.specs.Parts.{PartsAt}
+use Rattle.ipc_batch.specs.Columns.{FrontAt, nulls_are_built, buffers_wanted, front_of, longs_of, columns_from, columns_of}
+
+-- a reading that gave a value
+abbrev pub fine : {A : Type 0} → A → Result A Fault
+fine x = Ok x
+
+-- what both readings gave, where one after the other gives a value
+pub both : {A B : Type 0} (read : Result A Fault) (next : A → Result B Fault) (y : B) → (read >>= next) ≡ Ok y → (x : A) × (read ≡ Ok x) × (next x ≡ Ok y)
+both (Ok x) next y e = (x, refl, e)
+both (Err fault) next y e = cc
+
+-- what comes behind a condition, where both give a value
+pub demanded : {B : Type 0} (test : Bool) (fault : Fault) (next : Result B Fault) (y : B) → (demand test fault >>= λ _. next) ≡ Ok y → next ≡ Ok y
+demanded true fault next y e = e
+demanded false fault next y e = cc
+
+-- a column of so many slots that has no validity bits
+abbrev pub IsBare : ℕ → ColumnAt → Type 0
+IsBare rows column = (column.len ≡ rows) × (column.validity ≡ None)
+
+column_bare : (values : List ℕ) (rows : ℕ) (column : ColumnAt) → column_of None values rows ≡ Ok column → IsBare rows column
+unfolding column_of
+column_bare values rows column e =
+    let made : ColumnAt = record { validity = None; values = values; first = 0; len = rows } in
+    let a : fine made ≡ Ok column = demanded (nat_le (8 * rows) (length values) && bits_suffice None rows) BadBatch (Ok made) column e in
+    let b : made ≡ column = cc in
+    (sym (ap (λ (x : ColumnAt). x.len) b), sym (ap (λ (x : ColumnAt). x.validity) b))
+
+longs_bare : (rows : ℕ) (node : FieldNode) (buffers : List (List ℕ)) (front : FrontAt) → longs_of rows node buffers ≡ Ok front → IsBare rows front.column
+longs_bare rows node (validity ∷ values ∷ behind) front e =
+    let found = column_of None values rows in
+    let make = λ (column : ColumnAt). fine (record { column = column; behind = behind }) in
+    let last : (found >>= make) ≡ Ok front = demanded (nulls_are_built node) UnsupportedArrow (found >>= make) front
+    (demanded (node.length == rows) BadBatch (demand (nulls_are_built node) UnsupportedArrow >>= λ _. (found >>= make)) front e) in
+    let b = both found make front last in
+    let same : record { column = b.0; behind = behind } ≡ front = let c = b.2 in cc in
+    subst (λ (x : FrontAt). IsBare rows x.column) same (column_bare values rows b.0 b.1)
+longs_bare rows node (values ∷ []) front e = cc
+longs_bare rows node [] front e = cc
+
+front_bare : (data_type : DataType) (rows : ℕ) (node : FieldNode) (buffers : List (List ℕ)) (front : FrontAt) → front_of data_type rows node buffers ≡ Ok front → IsBare rows front.column
+unfolding front_of
+front_bare (Integer Int64) rows node buffers front e = longs_bare rows node buffers front e
+front_bare _ rows node buffers front e = cc
+
+-- a column for each field, and a slot for each row
+columns_fit : (fields : List Field) (rows : ℕ) (nodes : List FieldNode) (buffers : List (List ℕ)) (columns : List ColumnAt) →
+    columns_from fields rows nodes buffers ≡ Ok columns → All (IsBare rows) columns × (length columns ≡ length fields)
+columns_fit [] rows nodes buffers columns e =
+    let same : [] ≡ columns = cc in
+    subst (λ (cs : List ColumnAt). All (IsBare rows) cs × (length cs ≡ 0)) same (All-nil (IsBare rows), refl)
+columns_fit (field ∷ fields) rows [] buffers columns e = cc
+columns_fit (field ∷ fields) rows (node ∷ nodes) buffers columns e =
+    let front = front_of field.data_type rows node buffers in
+    let others = λ (f : FrontAt). columns_from fields rows nodes f.behind in
+    let a = both front (λ (f : FrontAt). (others f >>= λ more. Ok (f.column ∷ more))) columns e in
+    let f = a.0 in
+    let b = both (others f) (λ (more : List ColumnAt). fine (f.column ∷ more)) columns a.2 in
+    let same : f.column ∷ b.0 ≡ columns = let c = b.2 in cc in
+    let rest = columns_fit fields rows nodes f.behind b.0 b.1 in
+    subst (λ (cs : List ColumnAt). All (IsBare rows) cs × (length cs ≡ suc (length fields))) same
+    (All-cons (IsBare rows) f.column b.0 (front_bare field.data_type rows node buffers f a.1) rest.0, ap suc rest.1)
+
+last_demand : (fields : List Field) (parts : PartsAt) (columns : List ColumnAt) → columns_of fields parts ≡ Ok columns → columns_from fields parts.rows parts.nodes parts.buffers ≡ Ok columns
+unfolding columns_of
+last_demand fields parts columns e =
+    let last = columns_from fields parts.rows parts.nodes parts.buffers in
+    let enough = length parts.buffers == buffers_wanted fields in
+    demanded enough BadBatch last columns (demanded (length parts.nodes == length fields) BadBatch (demand enough BadBatch >>= λ _. last) columns e)
+
+-- each column has a slot for each row, and no validity bits
+pub columns_bare : (fields : List Field) (parts : PartsAt) (columns : List ColumnAt) → columns_of fields parts ≡ Ok columns → All (IsBare parts.rows) columns
+columns_bare fields parts columns e = (columns_fit fields parts.rows parts.nodes parts.buffers columns (last_demand fields parts columns e)).0
+
+pub columns_long : (fields : List Field) (parts : PartsAt) (columns : List ColumnAt) → columns_of fields parts ≡ Ok columns → AreLong parts.rows columns
+columns_long fields parts columns e = λ k d low. (columns_bare fields parts columns e k d low).0
+
+-- there is a column for each field
+pub columns_many : (fields : List Field) (parts : PartsAt) (columns : List ColumnAt) → columns_of fields parts ≡ Ok columns → length columns ≡ length fields
+columns_many fields parts columns e = (columns_fit fields parts.rows parts.nodes parts.buffers columns (last_demand fields parts columns e)).1

@@ -1,0 +1,8 @@
+pub mod BatchAgain
+pub mod ColumnsAgain
+pub mod Lengths
+pub mod Loops
+pub mod Messages
+pub mod NoNulls
+pub mod PartsAgain
+pub mod WriterLoops

@@ -1,0 +1,8 @@
+pub mod Full
+pub mod Laws
+pub mod Parts
+pub mod Columns
+pub mod Said
+pub mod Seen
+pub mod State
+pub mod Written

@@ -1,0 +1,68 @@
+-- What a record batch says before any type is looked at: how many rows it has, and the nodes and buffers
+-- that its columns are made of. The first thing that is not so gives the fault, in the order of the lines.
+use Rattle.std.specs.Prelude.{ℕ, ◌+◌, ◌*◌, ◌/◌, nat_le, List, length, map, take, drop, Option, is_none, Result, Ok}
+use Rattle.std.specs.List.{range_with_len}
+use Rattle.byteorder.specs.Endian.{little_from}
+use Rattle.scan_base.specs.declared.fault.Fault.{Fault}
+use Rattle.scan_base.specs.declared.fault.Fault.TheVariants.{BadFlatbuffer, UnsupportedArrow, BadBatch}
+use Rattle.scan_base.specs.Reading.{◌>>=◌, demand, wanted}
+use Rattle.scan_base.specs.Lists.{each}
+use Rattle.flatbuf.specs.Place.{TableAt, scalar_of, table_of, structs_of}
+use Rattle.arrow_schema.specs.Header.{MessageAt, body_length_of}
+use Rattle.ipc_batch.specs.declared.parts.FieldNode.{FieldNode}
+use Rattle.ipc_batch.specs.declared.parts.BufferPlace.{BufferPlace}
+
+-- the rows, a node for each column, and the bytes of each buffer
+pub record PartsAt : Type 0 where
+  pub rows : ℕ
+  pub nodes : List FieldNode
+  pub buffers : List (List ℕ)
+
+-- the number in the eight bytes at a place, the lowest first
+unfoldable pub word_at : List ℕ → ℕ → ℕ
+word_at bytes at = little_from at 8 bytes
+
+-- each node and each buffer's place is two numbers of eight bytes; a negative one reads as 2 ^ 63 or more
+abbrev pub node_at : List ℕ → ℕ → FieldNode
+node_at structs j = record { length = word_at structs (16 * j); null_count = word_at structs (16 * j + 8) }
+
+abbrev pub place_at : List ℕ → ℕ → BufferPlace
+place_at structs j = record { offset = word_at structs (16 * j); length = word_at structs (16 * j + 8) }
+
+-- how many there are
+abbrev pub struct_count : List ℕ → ℕ
+struct_count structs = length structs / 16
+
+abbrev pub nodes_in : List ℕ → List FieldNode
+nodes_in structs = map (node_at structs) (range_with_len 0 (struct_count structs))
+
+abbrev pub places_in : List ℕ → List BufferPlace
+places_in structs = map (place_at structs) (range_with_len 0 (struct_count structs))
+
+-- the structs of a slot, which has to be there
+unfoldable pub structs_wanted : TableAt → ℕ → Result (List ℕ) Fault
+structs_wanted table slot = structs_of 16 table slot >>= λ found. wanted found BadFlatbuffer
+
+-- the bytes of a buffer, which lie within the body
+unfoldable pub buffer_at : List ℕ → BufferPlace → Result (List ℕ) Fault
+buffer_at body place = do
+  _ ← demand (nat_le (place.offset + place.length) (length body)) BadBatch
+  Ok (take place.length (drop place.offset body))
+
+-- A message claims no longer body than it has. It may claim a shorter one, and that binds nothing else.
+unfoldable pub body_claimed : MessageAt → List ℕ → Result (Unit {0}) Fault
+body_claimed message body = do
+  claimed ← body_length_of message
+  demand (nat_le claimed (length body)) BadBatch
+
+-- what a RecordBatch table of a message says of the message's body
+unfoldable pub parts_of : MessageAt → TableAt → List ℕ → Result PartsAt Fault
+parts_of message table body = do
+  rows ← scalar_of 8 table 0 0
+  nodes ← structs_wanted table 1
+  places ← structs_wanted table 2
+  compression ← table_of table 3
+  _ ← demand (is_none compression) UnsupportedArrow
+  _ ← body_claimed message body
+  buffers ← each (buffer_at body) (places_in places)
+  Ok (record { rows = rows; nodes = nodes_in nodes; buffers = buffers })

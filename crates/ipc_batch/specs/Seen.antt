@@ -1,0 +1,16 @@
+-- What a contract sees of values that own or borrow memory.
+use Rattle.ipc_batch.specs.declared.parts.Parts.{Parts}
+use Rattle.ipc_batch.specs.declared.columns.Front.{Front}
+use Rattle.ipc_batch.specs.declared.writer.WrittenMessage.{WrittenMessage}
+use Rattle.ipc_batch.specs.Parts.{PartsAt}
+use Rattle.ipc_batch.specs.Columns.{FrontAt}
+use Rattle.ipc_batch.specs.Said.{Sent}
+
+abbrev pub parts_seen : Parts → PartsAt
+parts_seen parts = record { rows = parts.rows; nodes = parts.nodes.items; buffers = parts.buffers.items }
+
+abbrev pub front_seen : Front → FrontAt
+front_seen front = record { column = front.column; behind = front.behind.now }
+
+abbrev pub written_seen : WrittenMessage → Sent
+written_seen message = record { header = message.header.items; body = message.body.items }

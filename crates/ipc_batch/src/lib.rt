@@ -1,0 +1,15 @@
+//! Arrow's IPC messages: a header and a body each, which say a schema and rows.
+#![tactic(auto)]
+
+pub mod columns;
+pub mod laws;
+pub mod parts;
+pub mod reader;
+pub mod writer;
+
+pub use crate::parts::{BufferPlace, FieldNode};
+pub use crate::reader::Reader;
+pub use crate::writer::{WrittenMessage, write_batch};
+
+#[cfg(test)]
+mod tests;
