@@ -1,0 +1,5 @@
+pub mod Limits
+pub mod Table
+pub mod Options
+pub mod Database
+pub mod Stored

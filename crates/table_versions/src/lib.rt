@@ -1,0 +1,6 @@
+//! Tables in memory, by version.
+#![tactic(auto)]
+
+pub mod options;
+
+pub use crate::options::{IfExists, IfNotExist};
