@@ -1,3 +1,4 @@
+pub mod Batches
 pub mod Limits
 pub mod Table
 pub mod Options
