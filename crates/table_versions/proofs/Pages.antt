@@ -5,11 +5,7 @@ use Rattle.std.proofs.lemmas.Nat.{div-add-mod'}
 use Rattle.std.proofs.lemmas.Option.{slice_get-map, slice_get_read}
 use Rattle.arrow_schema.specs.Batch.{BatchAt}
 use Rattle.table_versions.specs.Batches.{joined, is_full}
-
--- a test of two parts tells both
-both : (a b : Bool) → a && b ≡ true → (a ≡ true) × (b ≡ true)
-both true b h = (refl, h)
-both false b h = let no : false ≡ true = h in cc
+use Rattle.table_versions.proofs.Tests.{both, all_at}
 
 slice_get-append_left : {X : Type 0} (xs ys : List X) (i : ℕ) → i < length xs → slice_get (xs ++ ys) i ≡ slice_get xs i
 slice_get-append_left [] ys i h = absurd (omega (arith, h))
@@ -62,11 +58,7 @@ in_last full last i r h e =
 -- a page among the full ones has 256 batches
 pub full_at : (full : List (List BatchAt)) (page : List BatchAt) (p : ℕ) → list_all is_full full ≡ true →
     slice_get full p ≡ Some page → length page ≡ 256
-full_at [] page p h at = cc
-full_at (first ∷ pages) page zero h at =
-    let same : first ≡ page = cc in
-    ap length (sym same) ∙ full_length first (both (is_full first) (list_all is_full pages) h).0
-full_at (first ∷ pages) page (suc p) h at = full_at pages page p (both (is_full first) (list_all is_full pages) h).1 at
+full_at full page p h at = full_length page (all_at is_full full page p h at)
 
 -- what stands behind a handle of a list
 pub handle_at : {A X : Type 0} (view : A → X) (handles : List A) (p n : ℕ) (handle : A) → n ≡ length handles → p < n →

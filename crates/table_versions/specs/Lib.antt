@@ -4,3 +4,4 @@ pub mod Table
 pub mod Options
 pub mod Database
 pub mod Stored
+pub mod Kept
