@@ -5,3 +5,4 @@ pub mod Options
 pub mod Database
 pub mod Stored
 pub mod Kept
+pub mod Place
