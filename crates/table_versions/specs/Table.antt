@@ -1,6 +1,6 @@
 -- Tables as plain lists: columns, and rows.
-use Rattle.std.specs.Prelude.{ℕ, ◌==◌, Bool, true, false, not, ◌&&◌, List, length, nat_lt}
-use Rattle.std.specs.List.{list_any, list_all, zip}
+use Rattle.std.specs.Prelude.{ℕ, ◌==◌, Bool, true, false, not, ◌&&◌, List, [], ◌∷◌, length, nat_lt}
+use Rattle.std.specs.List.{list_any, zip}
 use Rattle.std.specs.Str.{bytes_eq}
 use Rattle.scan_base.specs.declared.value.Value.{Value}
 use Rattle.scan_base.specs.declared.value.Value.TheVariants.{Null, Text}
@@ -49,7 +49,9 @@ same_field a b = same_name a b && same_type a.data_type b.data_type && same_flag
 
 -- whether two schemas have the same columns in order
 abbrev pub same_fields : List Field → List Field → Bool
-same_fields old new = length old == length new && list_all (λ pair. same_field pair.0 pair.1) (zip old new)
+same_fields [] [] = true
+same_fields (old ∷ olds) (new ∷ news) = same_field old new && same_fields olds news
+same_fields _ _ = false
 
 abbrev pub is_null : Value → Bool
 is_null Null = true

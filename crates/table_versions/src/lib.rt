@@ -3,13 +3,16 @@
 
 mod batch_list;
 pub mod catalog;
+mod fields;
 mod handles;
+pub mod limits;
 pub mod options;
 pub mod put;
 pub mod snapshot;
 pub mod table;
 
 pub use crate::catalog::CatalogVersion;
+pub use crate::limits::{MAX_COMMITS, MAX_NAME_BYTES, MAX_ROWS, MAX_TABLES, MAX_TEXT_BYTES};
 pub use crate::options::{IfExists, IfNotExist};
 pub use crate::put::Put;
 pub use crate::snapshot::Snapshot;
