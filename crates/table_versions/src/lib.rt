@@ -3,6 +3,8 @@
 
 mod batch_list;
 pub mod catalog;
+mod cells;
+pub mod commit;
 mod fields;
 mod handles;
 pub mod limits;
