@@ -1,5 +1,5 @@
 -- How many rows the batches of a table have.
-use Rattle.std.proofs.Common.{◌≡◌, ◌≤◌, ℕ, ◌+◌, Bool, true, List, [], ◌∷◌, ◌++◌, length, refl, ap, ◌∙◌, arith, rules, length-append}
+use Rattle.std.proofs.Common.{◌≡◌, ◌≤◌, ◌<◌, ℕ, ◌+◌, Bool, true, List, [], ◌∷◌, ◌++◌, length, refl, ap, ◌∙◌, arith, rules, length-append, get_or, drop}
 use Rattle.std.specs.List.{flat_map, list_all}
 use Rattle.std.proofs.lemmas.Grind.{flat_map-append}
 use Rattle.std.proofs.lemmas.List.FromFn.{length-map-range_with_len}
@@ -7,6 +7,8 @@ use Rattle.arrow_schema.specs.declared.schema.Schema.{Schema}
 use Rattle.arrow_schema.specs.Batch.{BatchAt, rows_of, row_of}
 use Rattle.table_versions.specs.Stored.{has_rows, is_wide}
 use Rattle.table_versions.specs.Kept.{is_kept}
+use Rattle.std.proofs.lemmas.Option.{slice_get_read}
+use Rattle.table_versions.proofs.Places.{split_at}
 use Rattle.table_versions.proofs.Tests.{both}
 
 pub length-rows_of : (batch : BatchAt) → length (rows_of batch) ≡ batch.rows
@@ -37,3 +39,10 @@ length-kept-le schema (batch ∷ batches) h =
     let filled = (both (has_rows batch) (is_wide schema batch) parts.0).0 in
     let some : 1 ≤ batch.rows = search (rules, filled) in
     omega (arith, some, rows-cons batch batches, length-kept-le schema batches parts.1)
+
+-- the rows from a batch on
+pub rows-from : (batches : List BatchAt) (batch : BatchAt) (i : ℕ) → i < length batches → batch ≡ get_or batches i batch →
+    length (flat_map rows_of (drop i batches)) ≡ batch.rows + length (flat_map rows_of (drop (i + 1) batches))
+rows-from batches batch i h at =
+    ap (λ left. length (flat_map rows_of left)) (split_at batches i batch (slice_get_read batches (length batches) i batch refl h at)).0
+      ∙ rows-cons batch (drop (i + 1) batches)
