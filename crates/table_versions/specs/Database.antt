@@ -56,10 +56,10 @@ abbrev pub columns_of : Option Table → Option Schema
 columns_of (Some table) = Some table.schema
 columns_of None = None
 
--- why a put is refused, in this order, where n puts were accepted before it
-abbrev pub put_faults : Database → ℕ → Put → List (Bool × Fault)
-put_faults database n put =
-    let there = table_at database put.table in
+-- why a put is refused, in this order, where this is the table of its name, there are so many tables, and n
+-- puts were accepted before it
+abbrev pub faults_at : Option Table → ℕ → ℕ → Put → List (Bool × Fault)
+faults_at there tables n put =
     (length put.table == 0 || nat_lt most_name_bytes (length put.table), LimitReached) ∷
     (is_some there && refuses_present put.if_exists, TableExists) ∷
     (not (is_some there) && refuses_absent put.if_not_exist, TableMissing) ∷
@@ -67,8 +67,12 @@ put_faults database n put =
     (list_any (has_bad_null put.schema.fields) put.rows, BadBatch) ∷
     (list_any (list_any is_long_text) put.rows, LimitReached) ∷
     (nat_lt most_rows (length (table_after put.if_exists there put).rows), LimitReached) ∷
-    (not (is_some there) && nat_le most_tables (length database), LimitReached) ∷
+    (not (is_some there) && nat_le most_tables tables, LimitReached) ∷
     (nat_le most_commits n, LimitReached) ∷ []
+
+-- why a put is refused at a database
+abbrev pub put_faults : Database → ℕ → Put → List (Bool × Fault)
+put_faults database n put = faults_at (table_at database put.table) (length database) n put
 
 -- the database after a put, or the first fault
 abbrev pub after : Database → ℕ → Put → Result Database Fault

@@ -14,6 +14,7 @@ pub mod snapshot;
 pub mod table;
 
 pub use crate::catalog::CatalogVersion;
+pub use crate::commit::apply;
 pub use crate::limits::{MAX_COMMITS, MAX_NAME_BYTES, MAX_ROWS, MAX_TABLES, MAX_TEXT_BYTES};
 pub use crate::options::{IfExists, IfNotExist};
 pub use crate::put::Put;
