@@ -6,7 +6,7 @@ use Rattle.arrow_schema.specs.declared.schema.Schema.{Schema}
 use Rattle.arrow_schema.specs.Batch.{BatchAt}
 use Rattle.table_versions.specs.Table.{same_field, same_fields}
 use Rattle.table_versions.specs.Stored.{is_wide}
-use Rattle.table_versions.proofs.Tests.{both}
+use Rattle.table_versions.proofs.ListTests.{both}
 
 -- the same columns are as many
 length-same_fields : (old new : List Field) → same_fields old new ≡ true → length old ≡ length new

@@ -5,7 +5,7 @@ use Rattle.std.proofs.lemmas.Nat.{div-add-mod'}
 use Rattle.std.proofs.lemmas.Option.{slice_get-map, slice_get_read}
 use Rattle.arrow_schema.specs.Batch.{BatchAt}
 use Rattle.table_versions.specs.Batches.{joined, is_full}
-use Rattle.table_versions.proofs.Tests.{both, all_at}
+use Rattle.table_versions.proofs.ListTests.{both, all_at}
 
 slice_get-append_left : {X : Type 0} (xs ys : List X) (i : ℕ) → i < length xs → slice_get (xs ++ ys) i ≡ slice_get xs i
 slice_get-append_left [] ys i h = absurd (omega (arith, h))

@@ -9,7 +9,7 @@ use Rattle.table_versions.specs.Stored.{has_rows, is_wide}
 use Rattle.table_versions.specs.Kept.{is_kept}
 use Rattle.std.proofs.lemmas.Option.{slice_get_read}
 use Rattle.table_versions.proofs.Places.{split_at}
-use Rattle.table_versions.proofs.Tests.{both}
+use Rattle.table_versions.proofs.ListTests.{both}
 
 pub length-rows_of : (batch : BatchAt) → length (rows_of batch) ≡ batch.rows
 length-rows_of batch = length-map-range_with_len (row_of batch.columns) 0 batch.rows

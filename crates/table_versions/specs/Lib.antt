@@ -6,4 +6,5 @@ pub mod Columns
 pub mod Database
 pub mod Stored
 pub mod Kept
+pub mod Laws
 pub mod Place

@@ -105,15 +105,12 @@ fn refusal(old: Option<&TableVersion>, tables: usize, number: u64, put: &Put) ->
 fn appended(
     alloc: Global,
     old: &TableVersion,
-    schema: &Schema,
     batches: Vec<Batch>,
 ) -> Result<TableVersion, AllocError>
-    requires alike { same_fields old.now.schema.fields schema.now.fields ≡ true }
-    requires wide { IsTrue (list_all (is_wide schema.now) batches.items) }
+    requires wide { IsTrue (list_all (is_wide old.now.schema) batches.items) }
     requires few { length (flat_map rows_of old.now.batches ++ flat_map rows_of batches.items) ≤ most_rows }
     ensures { IfOk result (λ table. table ≡ record { schema = old.now.schema; batches = old.now.batches ++ kept batches.items }) }
 {
-    let _ = schema;
     old.share(alloc)?.extended(alloc, batches)
 }
 
@@ -144,7 +141,7 @@ fn made(
         ..
     } = put;
     let table = match (if_exists, old) {
-        (IfExists::Append, Some(old)) => appended(alloc, old, &schema, batches)?,
+        (IfExists::Append, Some(old)) => appended(alloc, old, batches)?,
         (_, _) => created(alloc, schema, batches)?,
     };
     Ok((name, table))

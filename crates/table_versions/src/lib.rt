@@ -7,6 +7,7 @@ mod cells;
 pub mod commit;
 mod fields;
 mod handles;
+pub mod laws;
 pub mod limits;
 pub mod options;
 pub mod put;
@@ -20,3 +21,6 @@ pub use crate::options::{IfExists, IfNotExist};
 pub use crate::put::Put;
 pub use crate::snapshot::Snapshot;
 pub use crate::table::TableVersion;
+
+#[cfg(test)]
+mod tests;

@@ -1,7 +1,7 @@
 use Rattle.std.proofs.Common.{arith, length, ◌+◌}
 use Rattle.std.specs.Arc.{arc_value}
 use Rattle.table_versions.specs.Kept.{is_kept}
-use Rattle.table_versions.proofs.Tests.{all_push}
+use Rattle.table_versions.proofs.ListTests.{all_push}
 use Rattle.table_versions.proofs.Rowing.{rows-push}
 use Rattle.table_versions.proofs.table.TableVersion.with.Goals as goal
 
