@@ -1,0 +1,62 @@
+-- A database is a finite map, and a log goes on put by put.
+use Rattle.std.proofs.Common.{◌≡◌, ◌≤◌, ℕ, zero, suc, ◌+◌, Bool, true, false, if◌then◌else◌, List, [], ◌∷◌, ◌++◌, length, take, Option, Some, None, Result, Ok, Err, refl, sym, ap, ◌∙◌, arith}
+use Rattle.std.specs.Str.{bytes_eq}
+use Rattle.std.specs.Cmp.Lexicographic.{slice_cmp}
+use Rattle.std.specs.Ordering.{nat_cmp, is_lt}
+use Rattle.std.proofs.lemmas.Cmp.{nat_list_eq_equiv}
+use Rattle.std.proofs.lemmas.List.{take-append-le}
+use Rattle.scan_base.specs.declared.fault.Fault.{Fault}
+use Rattle.table_versions.specs.Table.{Name, Table}
+use Rattle.table_versions.specs.Database.{Database, Put, table_at, with_table, after, accepted, after_all, database_of, version, logged}
+use Rattle.table_versions.specs.Laws.{TablesAreFound, LogsGrow, LogsStay}
+
+-- two tests that do not both hold go in either order
+skipped : {X : Type 0} (a b : Bool) (x y z : X) → (a ≡ true → b ≡ false) →
+    (if a then x else (if b then y else z)) ≡ (if b then y else (if a then x else z))
+skipped true true x y z h = let d : true ≡ false = h refl in cc
+skipped true false x y z h = refl
+skipped false true x y z h = refl
+skipped false false x y z h = refl
+
+replaced : {X : Type 0} (a b : Bool) (x y z : X) → b ≡ a → (if a then x else z) ≡ (if a then x else (if b then y else z))
+replaced true b x y z h = refl
+replaced false b x y z h = ap (λ c. if c then y else z) (sym h)
+
+-- a name equal to one name is not equal to another that differs
+apart : (k n m : Name) → bytes_eq k n ≡ false → bytes_eq k m ≡ true → bytes_eq n m ≡ false
+apart k n m other same = sym (nat_list_eq_equiv.symm m n) ∙ sym (nat_list_eq_equiv.congr k m n same) ∙ other
+
+pub tables_are_found : TablesAreFound
+tables_are_found n m t [] = refl
+tables_are_found n m t (e ∷ es) =
+    elim (bytes_eq e.0 n) as (λ b. bytes_eq e.0 n ≡ b → table_at (if b then (n, t) ∷ es else (if is_lt (slice_cmp nat_cmp n e.0) then (n, t) ∷ e ∷ es else e ∷ with_table n t es)) m ≡ (if bytes_eq n m then Some t else table_at (e ∷ es) m)) [
+      | true ↦ λ same. replaced (bytes_eq n m) (bytes_eq e.0 m) (Some t) (Some e.1) (table_at es m) (nat_list_eq_equiv.congr e.0 n m same)
+      | false ↦ λ other.
+          elim (is_lt (slice_cmp nat_cmp n e.0)) as (λ b. table_at (if b then (n, t) ∷ e ∷ es else e ∷ with_table n t es) m ≡ (if bytes_eq n m then Some t else table_at (e ∷ es) m)) [
+            | true ↦ refl
+            | false ↦ ap (λ rest. if bytes_eq e.0 m then Some e.1 else rest) (tables_are_found n m t es)
+                ∙ skipped (bytes_eq e.0 m) (bytes_eq n m) (Some e.1) (Some t) (table_at es m) (apart e.0 n m other)
+          ]
+    ] refl
+
+-- the database after one put more
+after_all-push : (old : Database) (n : ℕ) (log : List Put) (put : Put) →
+    after_all old n (log ++ put ∷ []) ≡ accepted (after_all old n log) (after (after_all old n log) (n + length log) put)
+after_all-push old n [] put = let e : n + 0 ≡ n = omega arith in rw e refl
+after_all-push old n (first ∷ log) put =
+    let e : n + 1 + length log ≡ n + suc (length log) = omega arith in
+    rw (← e) (after_all-push (accepted old (after old n first)) (n + 1) log put)
+
+database_of-push : (log : List Put) (put : Put) → database_of (log ++ put ∷ []) ≡ accepted (database_of log) (after (database_of log) (length log) put)
+database_of-push log put = let e : 0 + length log ≡ length log = omega arith in rw (← e) (after_all-push [] 0 log put)
+
+pub logs_grow : LogsGrow
+logs_grow log put database h = (longer, ap database_of longer ∙ database_of-push log put ∙ rw h refl, earlier)
+  where
+    longer : logged log put ≡ log ++ put ∷ []
+    longer = rw h refl
+    earlier : (n : ℕ) → n ≤ length log → version (logged log put) n ≡ version log n
+    earlier n small = ap (λ puts. database_of (take n puts)) longer ∙ ap database_of (take-append-le n log (put ∷ []) small)
+
+pub logs_stay : LogsStay
+logs_stay log put fault h = rw h refl

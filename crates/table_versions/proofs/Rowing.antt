@@ -1,0 +1,48 @@
+-- How many rows the batches of a table have.
+use Rattle.std.proofs.Common.{◌≡◌, ◌≤◌, ◌<◌, ℕ, ◌+◌, Bool, true, List, [], ◌∷◌, ◌++◌, length, refl, ap, ◌∙◌, arith, rules, length-append, get_or, drop}
+use Rattle.std.specs.List.{flat_map, list_all}
+use Rattle.std.proofs.lemmas.Grind.{flat_map-append}
+use Rattle.std.proofs.lemmas.List.FromFn.{length-map-range_with_len}
+use Rattle.arrow_schema.specs.declared.schema.Schema.{Schema}
+use Rattle.arrow_schema.specs.Batch.{BatchAt, rows_of, row_of}
+use Rattle.table_versions.specs.Stored.{has_rows, is_wide}
+use Rattle.table_versions.specs.Kept.{is_kept}
+use Rattle.std.proofs.lemmas.Option.{slice_get_read}
+use Rattle.table_versions.proofs.Places.{split_at}
+use Rattle.table_versions.proofs.ListTests.{both}
+
+pub length-rows_of : (batch : BatchAt) → length (rows_of batch) ≡ batch.rows
+length-rows_of batch = length-map-range_with_len (row_of batch.columns) 0 batch.rows
+
+-- the rows of batches and of one more before them
+pub rows-cons : (batch : BatchAt) (batches : List BatchAt) →
+    length (flat_map rows_of (batch ∷ batches)) ≡ batch.rows + length (flat_map rows_of batches)
+rows-cons batch batches =
+    length-append (rows_of batch) (flat_map rows_of batches) ∙ ap (λ n. n + length (flat_map rows_of batches)) (length-rows_of batch)
+
+pub rows-append : (batches more : List BatchAt) →
+    length (flat_map rows_of (batches ++ more)) ≡ length (flat_map rows_of batches) + length (flat_map rows_of more)
+rows-append batches more =
+    ap length (flat_map-append rows_of batches more) ∙ length-append (flat_map rows_of batches) (flat_map rows_of more)
+
+-- the rows of batches and of one more behind them
+pub rows-push : (batches : List BatchAt) (batch : BatchAt) →
+    length (flat_map rows_of (batches ++ batch ∷ [])) ≡ length (flat_map rows_of batches) + batch.rows
+rows-push batches batch = omega (arith, rows-append batches (batch ∷ []), rows-cons batch [])
+
+-- stored batches are no more than their rows
+pub length-kept-le : (schema : Schema) (batches : List BatchAt) → list_all (is_kept schema) batches ≡ true →
+    length batches ≤ length (flat_map rows_of batches)
+length-kept-le schema [] h = omega arith
+length-kept-le schema (batch ∷ batches) h =
+    let parts = both (is_kept schema batch) (list_all (is_kept schema) batches) h in
+    let filled = (both (has_rows batch) (is_wide schema batch) parts.0).0 in
+    let some : 1 ≤ batch.rows = search (rules, filled) in
+    omega (arith, some, rows-cons batch batches, length-kept-le schema batches parts.1)
+
+-- the rows from a batch on
+pub rows-from : (batches : List BatchAt) (batch : BatchAt) (i : ℕ) → i < length batches → batch ≡ get_or batches i batch →
+    length (flat_map rows_of (drop i batches)) ≡ batch.rows + length (flat_map rows_of (drop (i + 1) batches))
+rows-from batches batch i h at =
+    ap (λ left. length (flat_map rows_of left)) (split_at batches i batch (slice_get_read batches (length batches) i batch refl h at)).0
+      ∙ rows-cons batch (drop (i + 1) batches)

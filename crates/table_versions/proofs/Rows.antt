@@ -1,0 +1,172 @@
+-- Worked rows: the definitions, tried on puts that were worked out by hand.
+use Rattle.std.proofs.Common.{ℕ, ◌≡◌, refl, pos, Bool, true, false, List, [], ◌∷◌, codes, Some, None, Ok, Err, replicate, map, is_ok}
+use Rattle.std.specs.List.{range_with_len}
+use Rattle.scan_base.specs.declared.value.Value.TheVariants.{Int, Null, Text}
+use Rattle.scan_base.specs.declared.fault.Fault.TheVariants.{TableMissing, TableExists, LimitReached, BadBatch, SchemaMismatch}
+use Rattle.arrow_schema.specs.declared.data_type.DataType.{DataType}
+use Rattle.arrow_schema.specs.declared.data_type.DataType.TheVariants.{Integer, Utf8, Dictionary}
+use Rattle.arrow_schema.specs.declared.data_type.IntegerType.TheVariants.{Int8, Int64, UInt8}
+use Rattle.arrow_schema.specs.declared.schema.Field.{Field}
+use Rattle.arrow_schema.specs.Batch.{BatchAt}
+use Rattle.table_versions.specs.declared.options.IfExists.{IfExists}
+use Rattle.table_versions.specs.declared.options.IfExists.TheVariants.{Unspecified, Fail, Append, Replace}
+use Rattle.table_versions.specs.declared.options.IfNotExist.{IfNotExist}
+use Rattle.table_versions.specs.declared.options.IfNotExist.TheVariants as absent
+use Rattle.table_versions.specs.Table.{Name, Row, Table}
+use Rattle.table_versions.specs.Database.{Database, Put, after, database_of, version, table_at, logged}
+use Rattle.table_versions.specs.Stored.{PutAt, TableAt, kept, stored_after}
+
+abbrev field : Name → DataType → Field
+field name data_type = record { name = name; nullable = false; data_type = data_type }
+
+abbrev int : ℕ → Row
+int n = Int (pos n) ∷ []
+
+-- one column `a`, not nullable, into the table `t`
+abbrev put : IfNotExist → IfExists → DataType → List Row → Put
+put if_not_exist if_exists data_type rows =
+    record { table = codes "t"; if_not_exist = if_not_exist; if_exists = if_exists;
+      schema = record { fields = field (codes "a") data_type ∷ [] }; rows = rows }
+
+abbrev int64 : DataType
+int64 = Integer Int64
+
+abbrev created : Put
+created = put absent.Create Fail int64 (int 1 ∷ int 2 ∷ [])
+
+abbrev appended : DataType → List Row → Put
+appended = put absent.Fail Append
+
+abbrev replaced : Put
+replaced = put absent.Create Replace Utf8 []
+
+abbrev table : DataType → List Row → Table
+table data_type rows = record { schema = record { fields = field (codes "a") data_type ∷ [] }; rows = rows }
+
+-- rows 1, 2; then 3 behind them; then another schema in their place
+abbrev log : List Put
+log = created ∷ appended int64 (int 3 ∷ []) ∷ replaced ∷ []
+
+version-0 : version log 0 ≡ []
+version-0 = refl
+
+version-1 : version log 1 ≡ (codes "t", table int64 (int 1 ∷ int 2 ∷ [])) ∷ []
+version-1 = refl
+
+version-2 : version log 2 ≡ (codes "t", table int64 (int 1 ∷ int 2 ∷ int 3 ∷ [])) ∷ []
+version-2 = refl
+
+version-3 : version log 3 ≡ (codes "t", table Utf8 []) ∷ []
+version-3 = refl
+
+-- tables stand in byte order of their names, and each keeps its own rows
+abbrev named : Name → List Row → Put
+named name rows = record (put absent.Create Fail int64 rows) { table = name }
+
+in_order : database_of (named (codes "b") [] ∷ named (codes "ab") (int 1 ∷ []) ∷ named (codes "a") [] ∷ [])
+    ≡ (codes "a", table int64 []) ∷ (codes "ab", table int64 (int 1 ∷ [])) ∷ (codes "b", table int64 []) ∷ []
+in_order = refl
+
+-- an append to an absent table, and unspecified is no CREATE
+append_absent : after [] 0 (put absent.Unspecified Append int64 []) ≡ Err TableMissing
+append_absent = refl
+
+-- a create where the table is there, and unspecified is no APPEND
+create_present : after (database_of (created ∷ [])) 1 (put absent.Create Unspecified int64 []) ≡ Err TableExists
+create_present = refl
+
+-- an append that may create makes an absent table
+append_creates : after [] 0 (put absent.Create Append int64 (int 1 ∷ [])) ≡ Ok ((codes "t", table int64 (int 1 ∷ [])) ∷ [])
+append_creates = refl
+
+-- the name comes before the options, and they before the columns, and these before the rows
+name-65 : after [] 0 (record (put absent.Fail Fail int64 []) { table = replicate 65 97 }) ≡ Err LimitReached
+name-65 = refl
+
+name-0 : after [] 0 (record created { table = [] }) ≡ Err LimitReached
+name-0 = refl
+
+name-64 : database_of (named (replicate 64 97) [] ∷ []) ≡ (replicate 64 97, table int64 []) ∷ []
+name-64 = refl
+
+two_alike : after [] 0 (record created { schema = record { fields = field (codes "a") int64 ∷ field (codes "a") Utf8 ∷ [] };
+      rows = (Null ∷ Null ∷ []) ∷ [] }) ≡ Err SchemaMismatch
+two_alike = refl
+
+other_type : after (database_of (created ∷ [])) 1 (appended (Integer UInt8) []) ≡ Err SchemaMismatch
+other_type = refl
+
+other_name : after (database_of (created ∷ [])) 1 (record (appended int64 []) { schema = record { fields = field (codes "b") int64 ∷ [] } })
+    ≡ Err SchemaMismatch
+other_name = refl
+
+fewer_columns : after (database_of (created ∷ [])) 1 (record (appended int64 []) { schema = record { fields = [] } }) ≡ Err SchemaMismatch
+fewer_columns = refl
+
+-- a dictionary's id and index type are not compared, and the table keeps its own
+abbrev dictionary : ℕ → DataType
+dictionary id = Dictionary (record { id = id; index = Int8 })
+
+dictionaries : after (database_of (put absent.Create Fail (dictionary 1) [] ∷ [])) 1
+    (appended (Dictionary (record { id = 2; index = UInt8 })) []) ≡ Ok ((codes "t", table (dictionary 1) []) ∷ [])
+dictionaries = refl
+
+dictionary_not_text : after (database_of (put absent.Create Fail (dictionary 1) [] ∷ [])) 1 (appended Utf8 []) ≡ Err SchemaMismatch
+dictionary_not_text = refl
+
+-- a null in a column that takes none
+bad_null : after [] 0 (put absent.Create Fail int64 (int 1 ∷ (Null ∷ []) ∷ [])) ≡ Err BadBatch
+bad_null = refl
+
+good_null : after [] 0 (record (put absent.Create Fail int64 ((Null ∷ []) ∷ []))
+      { schema = record { fields = record { name = codes "a"; nullable = true; data_type = int64 } ∷ [] } })
+    ≡ Ok ((codes "t", record { schema = record { fields = record { name = codes "a"; nullable = true; data_type = int64 } ∷ [] };
+        rows = (Null ∷ []) ∷ [] }) ∷ [])
+good_null = refl
+
+-- the 256th table, and none behind it, but more rows for one that is there
+abbrev full : ℕ → Database
+full n = map (λ i. (97 ∷ i ∷ [], table int64 [])) (range_with_len 0 n)
+
+table-256 : is_ok (after (full 255) 255 created) ≡ true
+table-256 = refl
+
+table-257 : after (full 256) 256 created ≡ Err LimitReached
+table-257 = refl
+
+append-257 : is_ok (after (full 256) 256 (record (appended int64 []) { table = 97 ∷ 7 ∷ [] })) ≡ true
+append-257 = refl
+
+-- a text of 65,536 bytes, and one more byte
+abbrev long : ℕ → Put
+long n = put absent.Create Fail Utf8 ((Text (replicate n 97) ∷ []) ∷ [])
+
+text-65536 : is_ok (after [] 0 (long 65536)) ≡ true
+text-65536 = refl
+
+text-65537 : after [] 0 (long 65537) ≡ Err LimitReached
+text-65537 = refl
+
+-- the last commit and the one behind it
+commit-65536 : after [] 65535 (put absent.Create Fail int64 []) ≡ Ok ((codes "t", table int64 []) ∷ [])
+commit-65536 = refl
+
+commit-65537 : after [] 65536 created ≡ Err LimitReached
+commit-65537 = refl
+
+-- a refused put is not logged, and an accepted one is
+not_logged : logged (created ∷ []) created ≡ created ∷ []
+not_logged = refl
+
+is_logged : logged (created ∷ []) replaced ≡ created ∷ replaced ∷ []
+is_logged = refl
+
+-- batches without rows are not stored, and an append's stand behind the old ones
+abbrev batch : ℕ → BatchAt
+batch rows = record { columns = []; rows = rows }
+
+stored : stored_after Append (Some (record { schema = record { fields = [] }; batches = batch 2 ∷ [] }))
+    (record { table = codes "t"; if_not_exist = absent.Fail; if_exists = Append; schema = record { fields = [] };
+        batches = batch 1 ∷ batch 0 ∷ batch 3 ∷ [] })
+    ≡ record { schema = record { fields = [] }; batches = batch 2 ∷ batch 1 ∷ batch 3 ∷ [] }
+stored = refl

@@ -1,0 +1,24 @@
+-- Laws of databases and logs.
+use Rattle.std.specs.Prelude.{◌≡◌, ◌≤◌, ℕ, if◌then◌else◌, List, [], ◌∷◌, ◌++◌, length, Some, Ok, Err}
+use Rattle.std.specs.Str.{bytes_eq}
+use Rattle.scan_base.specs.declared.fault.Fault.{Fault}
+use Rattle.table_versions.specs.Table.{Name, Table}
+use Rattle.table_versions.specs.Database.{Database, Put, table_at, with_table, after, database_of, version, logged}
+
+-- the table that was put is found at its name, and each other name has what it had
+abbrev pub TablesAreFound : Type 0
+TablesAreFound =
+    (name other : Name) (table : Table) (database : Database) →
+    table_at (with_table name table database) other ≡ (if bytes_eq name other then Some table else table_at database other)
+
+-- an accepted put is logged, gives the log's database, and changes no earlier version
+abbrev pub LogsGrow : Type 0
+LogsGrow =
+    (log : List Put) (put : Put) (database : Database) → after (database_of log) (length log) put ≡ Ok database →
+    (logged log put ≡ log ++ put ∷ []) × (database_of (logged log put) ≡ database)
+      × ((n : ℕ) → n ≤ length log → version (logged log put) n ≡ version log n)
+
+-- a refused put is not logged
+abbrev pub LogsStay : Type 0
+LogsStay =
+    (log : List Put) (put : Put) (fault : Fault) → after (database_of log) (length log) put ≡ Err fault → logged log put ≡ log

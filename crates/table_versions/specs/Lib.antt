@@ -1,0 +1,10 @@
+pub mod Batches
+pub mod Limits
+pub mod Table
+pub mod Options
+pub mod Columns
+pub mod Database
+pub mod Stored
+pub mod Kept
+pub mod Laws
+pub mod Place

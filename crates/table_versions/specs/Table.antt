@@ -1,0 +1,71 @@
+-- Tables as plain lists: columns, and rows.
+use Rattle.std.specs.Prelude.{ℕ, ◌==◌, Bool, true, false, not, ◌&&◌, List, [], ◌∷◌, length, nat_lt}
+use Rattle.std.specs.List.{list_any, zip}
+use Rattle.std.specs.Str.{bytes_eq}
+use Rattle.scan_base.specs.declared.value.Value.{Value}
+use Rattle.scan_base.specs.declared.value.Value.TheVariants.{Null, Text}
+use Rattle.arrow_schema.specs.declared.data_type.DataType.{DataType}
+use Rattle.arrow_schema.specs.declared.data_type.DataType.TheVariants.{Integer, Utf8, Bool as Flag, Decimal128, Dictionary}
+use Rattle.arrow_schema.specs.declared.schema.Field.{Field}
+use Rattle.arrow_schema.specs.declared.schema.Schema.{Schema}
+use Rattle.arrow_schema.specs.DataType.{bit_width, is_signed}
+use Rattle.table_versions.specs.Limits.{most_text_bytes}
+
+-- the bytes of a table's name
+abbrev pub Name : Type 0
+Name = List ℕ
+
+-- one value for each column
+abbrev pub Row : Type 0
+Row = List Value
+
+-- a table: its columns, and its rows in order
+pub record Table : Type 0 where
+  pub schema : Schema
+  pub rows : List Row
+
+-- whether two flags are the same
+abbrev pub same_flag : Bool → Bool → Bool
+same_flag true b = b
+same_flag false b = not b
+
+-- Whether two columns have values of one type. A dictionary's id and index type are not compared, and a
+-- dictionary of texts is another type than Utf8.
+abbrev pub same_type : DataType → DataType → Bool
+same_type (Integer a) (Integer b) = bit_width a == bit_width b && same_flag (is_signed a) (is_signed b)
+same_type Utf8 Utf8 = true
+same_type Flag Flag = true
+same_type Decimal128 Decimal128 = true
+same_type (Dictionary a) (Dictionary b) = true
+same_type _ _ = false
+
+-- whether two columns have one name
+abbrev pub same_name : Field → Field → Bool
+same_name a b = bytes_eq a.name b.name
+
+-- whether two columns have one name, one type and one nullable flag
+abbrev pub same_field : Field → Field → Bool
+same_field a b = same_name a b && same_type a.data_type b.data_type && same_flag a.nullable b.nullable
+
+-- whether two schemas have the same columns in order
+abbrev pub same_fields : List Field → List Field → Bool
+same_fields [] [] = true
+same_fields (old ∷ olds) (new ∷ news) = same_field old new && same_fields olds news
+same_fields _ _ = false
+
+abbrev pub is_null : Value → Bool
+is_null Null = true
+is_null _ = false
+
+-- whether a cell is null in a column that takes no null
+abbrev pub is_bad_null : Field × Value → Bool
+is_bad_null cell = not cell.0.nullable && is_null cell.1
+
+-- whether a row has such a cell
+abbrev pub has_bad_null : List Field → Row → Bool
+has_bad_null fields row = list_any is_bad_null (zip fields row)
+
+-- whether a value is a text that is too long
+abbrev pub is_long_text : Value → Bool
+is_long_text (Text bytes) = nat_lt most_text_bytes (length bytes)
+is_long_text _ = false

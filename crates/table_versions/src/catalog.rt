@@ -1,0 +1,114 @@
+//! A version of the catalog: tables by name.
+
+ghost use Rattle.std.specs.Prelude.{◌≡◌, ◌==◌, ◌<◌, [], Some, length, map, IfOk, slice_get};
+ghost use Rattle.std.specs.Option.{option_copied};
+ghost use Rattle.std.specs.Arc.{arc_value};
+ghost use Rattle.table_versions.specs.Database.{table_at, with_table};
+ghost use Rattle.table_versions.specs.Place.{IsPlace};
+
+use crate::handles::spliced;
+use crate::table::TableVersion;
+use scan_base::Text;
+use std::alloc::{AllocError, Global};
+use std::marker::Model;
+use std::ops::Range;
+use std::sync::Arc;
+
+/// Tables by name, in byte order of the names. The next version shares the tables that stay as they are.
+#[derive(Drop)]
+pub struct CatalogVersion {
+    tables: Vec<Arc<(Text, TableVersion)>>,
+}
+
+impl Model for CatalogVersion {
+    ghost use Rattle.std.specs.Prelude.{List, ℕ, map};
+    ghost use Rattle.std.specs.Arc.{arc_value};
+    ghost use Rattle.table_versions.specs.Stored.{TableAt};
+
+    ghost Value = { List (List ℕ × TableAt) };
+
+    ghost view = { λ catalog. map arc_value catalog.tables.items };
+}
+
+impl CatalogVersion {
+    /// No tables: version 0. It takes no memory.
+    pub fn empty(alloc: Global) -> CatalogVersion
+        ensures { result ≡ [] }
+    {
+        CatalogVersion {
+            tables: Vec::new(alloc),
+        }
+    }
+
+    /// How many tables there are.
+    pub fn len(&self) -> usize
+        ensures { result ≡ length self.now }
+    {
+        self.tables.len()
+    }
+
+    /// Whether there is no table.
+    pub fn is_empty(&self) -> bool
+        ensures { result ≡ (length self.now == 0) }
+    {
+        self.tables.is_empty()
+    }
+
+    /// The name and the table at a place, counted from 0 in byte order of the names.
+    pub fn entry(&self, index: usize) -> &(Text, TableVersion)
+        requires { index < length self.now }
+        ensures { slice_get self.now index ≡ Some result.now }
+    {
+        &self.tables[index]
+    }
+
+    /// The table of a name.
+    pub fn get(&self, name: &Text) -> Option<&TableVersion>
+        ensures { option_copied result ≡ table_at self.now name.now }
+    {
+        find_in(self.tables.as_slice(), name)
+    }
+
+    // The catalog with this table at a name.
+    pub(crate) fn with(
+        &self,
+        alloc: Global,
+        name: Text,
+        table: TableVersion,
+    ) -> Result<CatalogVersion, AllocError>
+        ensures { IfOk result (λ catalog. catalog ≡ with_table name table self.now) }
+    {
+        let old = self.tables.as_slice();
+        let place = place_of(old, &name);
+        let entry = Arc::new(alloc, (name, table)).map_err(|_| AllocError)?;
+        Ok(CatalogVersion {
+            tables: spliced(alloc, old, place, entry)?,
+        })
+    }
+}
+
+fn find_in<'a>(tables: &'a [Arc<(Text, TableVersion)>], name: &Text) -> Option<&'a TableVersion>
+    ensures { option_copied result ≡ table_at (map arc_value tables.now) name.now }
+{
+    for entry in tables {
+        if entry.0 == *name {
+            return Some(&entry.1);
+        }
+    }
+    None
+}
+
+// The entries whose place a table of this name takes: the one of the name, or none before the next name.
+fn place_of(tables: &[Arc<(Text, TableVersion)>], name: &Text) -> Range<usize>
+    ensures { IsPlace (map arc_value tables.now) name.now result.start result.end }
+{
+    for (index, entry) in tables.iter().enumerate() {
+        if entry.0 == *name {
+            return index..index + 1;
+        }
+        if name.cmp(&entry.0).is_lt() {
+            return index..index;
+        }
+    }
+    tables.len()..tables.len()
+}

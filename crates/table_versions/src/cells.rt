@@ -1,0 +1,109 @@
+//! What the values of a put may be, looked at column by column.
+
+ghost use Rattle.std.specs.Prelude.{◌≡◌};
+ghost use Rattle.std.specs.List.{list_any, flat_map};
+ghost use Rattle.scan_base.specs.Value.{value_of};
+ghost use Rattle.arrow_schema.specs.Batch.{rows_of};
+ghost use Rattle.arrow_schema.specs.Column.{values_of};
+ghost use Rattle.table_versions.specs.Table.{is_null, is_long_text, has_bad_null};
+ghost use Rattle.table_versions.specs.Columns.{has_bad_column, is_long_column};
+
+use crate::limits::MAX_TEXT_BYTES;
+use arrow_schema::{Batch, Column, Field};
+use scan_base::ValueRef;
+
+fn is_null(value: ValueRef<'_>) -> bool
+    ensures { result ≡ is_null (value_of value.entry) }
+{
+    match value {
+        ValueRef::Null => true,
+        _ => false,
+    }
+}
+
+fn is_long_text(value: ValueRef<'_>) -> bool
+    ensures { result ≡ is_long_text (value_of value.entry) }
+{
+    match value {
+        ValueRef::Text(text) => text.len() > MAX_TEXT_BYTES,
+        _ => false,
+    }
+}
+
+fn has_null(column: &Column) -> bool
+    ensures { result ≡ list_any is_null (values_of column.now) }
+{
+    for j in 0..column.len() {
+        if is_null(column.value_at(j)) {
+            return true;
+        }
+    }
+    false
+}
+
+fn has_long_text(column: &Column) -> bool
+    ensures { result ≡ is_long_column column.now }
+{
+    for j in 0..column.len() {
+        if is_long_text(column.value_at(j)) {
+            return true;
+        }
+    }
+    false
+}
+
+// Whether a column that takes no null has one. A column that takes nulls is not looked at.
+fn has_bad_column(fields: &[Field], columns: &[Column]) -> bool
+    ensures { result ≡ has_bad_column fields.now columns.now }
+{
+    match fields {
+        [] => false,
+        [field, fields @ ..] => match columns {
+            [] => false,
+            [column, columns @ ..] =>
+                !field.nullable && has_null(column) || has_bad_column(fields, columns),
+        },
+    }
+}
+
+fn is_bad_batch(fields: &[Field], batch: &Batch) -> bool
+    ensures { result ≡ list_any (has_bad_null fields.now) (rows_of batch.now) }
+{
+    has_bad_column(fields, batch.columns())
+}
+
+fn is_long_batch(batch: &Batch) -> bool
+    ensures { result ≡ list_any (list_any is_long_text) (rows_of batch.now) }
+{
+    has_long_column(batch.columns())
+}
+
+fn has_long_column(columns: &[Column]) -> bool
+    ensures { result ≡ list_any is_long_column columns.now }
+{
+    columns.iter().any(|column| has_long_text(column))
+}
+
+// Whether a row has a null in a column that takes none.
+pub(crate) fn has_bad_null(fields: &[Field], batches: &[Batch]) -> bool
+    ensures { result ≡ list_any (has_bad_null fields.now) (flat_map rows_of batches.now) }
+{
+    for batch in batches {
+        if is_bad_batch(fields, batch) {
+            return true;
+        }
+    }
+    false
+}
+
+// Whether a row has a text that is too long.
+pub(crate) fn has_long_row(batches: &[Batch]) -> bool
+    ensures { result ≡ list_any (list_any is_long_text) (flat_map rows_of batches.now) }
+{
+    for batch in batches {
+        if is_long_batch(batch) {
+            return true;
+        }
+    }
+    false
+}

@@ -1,0 +1,174 @@
+//! The next version of the catalog: a put is checked, and then its table is made.
+
+ghost use Rattle.std.specs.Prelude.{◌≡◌, ◌≤◌, ◌||◌, ◌==◌, ◌&&◌, ◌+◌, ◌++◌, not, true, false, Ok, None, IfOk, IsTrue, length, nat_lt, nat_le, is_some, option_map};
+ghost use Rattle.std.specs.List.{flat_map, list_all};
+ghost use Rattle.std.specs.Option.{option_copied};
+ghost use Rattle.arrow_schema.specs.Batch.{rows_of};
+ghost use Rattle.scan_base.specs.Reading.{GivesUnlessMemory, first_fault};
+ghost use Rattle.scan_base.specs.Lists.{repeats};
+ghost use Rattle.table_versions.specs.Limits.{most_name_bytes, most_rows, most_tables, most_commits};
+ghost use Rattle.table_versions.specs.Table.{same_name, same_fields};
+ghost use Rattle.table_versions.specs.Database.{table_at, table_after, columns_of, differs, faults_at, after};
+ghost use Rattle.table_versions.specs.Stored.{table_of, tables_of, put_of, is_wide, kept, stored_after, catalog_after};
+
+use crate::catalog::CatalogVersion;
+use crate::cells::{has_bad_null, has_long_row};
+use crate::fields::{has_repeat, same_fields};
+use crate::limits::{MAX_COMMITS, MAX_NAME_BYTES, MAX_ROWS, MAX_TABLES};
+use crate::options::IfExists;
+use crate::put::Put;
+use crate::snapshot::Snapshot;
+use crate::table::TableVersion;
+use arrow_schema::{Batch, Schema};
+use scan_base::{Fault, Text};
+use std::alloc::{AllocError, Global};
+
+fn is_bad_name(name: &Text) -> bool
+    ensures { result ≡ (length name.now == 0 || nat_lt most_name_bytes (length name.now)) }
+{
+    let len = name.as_str().len();
+    len == 0 || len > MAX_NAME_BYTES
+}
+
+// Whether an append comes with other columns than the table's.
+fn differs(old: Option<&TableVersion>, put: &Put) -> bool
+    ensures {
+        result ≡ differs put.now.if_exists (columns_of (option_map table_of (option_copied old.entry))) put.now.schema
+    }
+{
+    match (put.if_exists, old) {
+        (IfExists::Append, Some(old)) =>
+            !same_fields(old.schema().fields.as_slice(), put.schema.fields.as_slice()),
+        (_, _) => false,
+    }
+}
+
+// Whether so many rows and those of the batches are more than a table may have.
+fn has_too_many_rows(stored: usize, batches: &[Batch]) -> bool
+    requires { stored ≤ most_rows }
+    ensures { result ≡ nat_lt most_rows (stored + length (flat_map rows_of batches.now)) }
+{
+    let mut total = stored;
+    for batch in batches {
+        if batch.rows() > MAX_ROWS - total {
+            return true;
+        }
+        total += batch.rows();
+    }
+    false
+}
+
+// Whether the table would have too many rows after the put.
+fn overflows(old: Option<&TableVersion>, put: &Put) -> bool
+    ensures {
+        result ≡ nat_lt most_rows
+            (length (table_after put.now.if_exists (option_map table_of (option_copied old.entry)) (put_of put.now)).rows)
+    }
+{
+    match (put.if_exists, old) {
+        (IfExists::Append, Some(old)) => has_too_many_rows(old.rows(), put.batches.as_slice()),
+        (_, _) => has_too_many_rows(0, put.batches.as_slice()),
+    }
+}
+
+// Why a put is refused, if it is, where this is the table of its name and there are so many tables.
+fn refusal(old: Option<&TableVersion>, tables: usize, number: u64, put: &Put) -> Option<Fault>
+    ensures {
+        result ≡ first_fault (faults_at (option_map table_of (option_copied old.entry)) tables number (put_of put.now))
+    }
+{
+    if is_bad_name(&put.table) {
+        return Some(Fault::LimitReached);
+    }
+    if old.is_some() && put.if_exists.refuses_present() {
+        return Some(Fault::TableExists);
+    }
+    if old.is_none() && put.if_not_exist.refuses_absent() {
+        return Some(Fault::TableMissing);
+    }
+    if has_repeat(put.schema.fields.as_slice()) || differs(old, put) {
+        return Some(Fault::SchemaMismatch);
+    }
+    if has_bad_null(put.schema.fields.as_slice(), put.batches.as_slice()) {
+        return Some(Fault::BadBatch);
+    }
+    if has_long_row(put.batches.as_slice()) || overflows(old, put) {
+        return Some(Fault::LimitReached);
+    }
+    if old.is_none() && tables >= MAX_TABLES || number >= MAX_COMMITS {
+        return Some(Fault::LimitReached);
+    }
+    None
+}
+
+// The old table with the batches behind its own.
+fn appended(
+    alloc: Global,
+    old: &TableVersion,
+    batches: Vec<Batch>,
+) -> Result<TableVersion, AllocError>
+    requires wide { IsTrue (list_all (is_wide old.now.schema) batches.items) }
+    requires few { length (flat_map rows_of old.now.batches ++ flat_map rows_of batches.items) ≤ most_rows }
+    ensures { IfOk result (λ table. table ≡ record { schema = old.now.schema; batches = old.now.batches ++ kept batches.items }) }
+{
+    old.share(alloc)?.extended(alloc, batches)
+}
+
+// A table of these batches alone.
+fn created(alloc: Global, schema: Schema, batches: Vec<Batch>) -> Result<TableVersion, AllocError>
+    requires wide { IsTrue (list_all (is_wide schema) batches.items) }
+    requires few { length (flat_map rows_of batches.items) ≤ most_rows }
+    ensures { IfOk result (λ table. table ≡ record { schema = schema; batches = kept batches.items }) }
+{
+    TableVersion::new(alloc, schema)?.extended(alloc, batches)
+}
+
+// The put's name, and the table that it makes.
+fn made(
+    alloc: Global,
+    old: Option<&TableVersion>,
+    put: Put,
+) -> Result<(Text, TableVersion), AllocError>
+    requires alike { differs put.if_exists (columns_of (option_map table_of (option_copied old))) put.schema ≡ false }
+    requires few { length (table_after put.if_exists (option_map table_of (option_copied old)) (put_of put)).rows ≤ most_rows }
+    ensures { IfOk result (λ entry. entry ≡ (put.table, stored_after put.if_exists (option_copied old.entry) put)) }
+{
+    let Put {
+        table: name,
+        if_exists,
+        schema,
+        batches,
+        ..
+    } = put;
+    let table = match (if_exists, old) {
+        (IfExists::Append, Some(old)) => appended(alloc, old, batches)?,
+        (_, _) => created(alloc, schema, batches)?,
+    };
+    Ok((name, table))
+}
+
+fn next_catalog(alloc: Global, snapshot: &Snapshot, put: Put) -> Result<CatalogVersion, Fault>
+    ensures { GivesUnlessMemory (λ catalog. catalog) result (catalog_after snapshot.now.catalog snapshot.now.number put) }
+{
+    let catalog = snapshot.catalog();
+    let old = catalog.get(&put.table);
+    if let Some(fault) = refusal(old, catalog.len(), snapshot.number(), &put) {
+        return Err(fault);
+    }
+    let (name, table) = made(alloc, old, put)?;
+    Ok(catalog.with(alloc, name, table)?)
+}
+
+/// The catalog after a put, where the snapshot's number counts the puts that were accepted before it. The
+/// first fault is answered, in this order: F12 where the name has less than 1 or more than 64 bytes; F10
+/// where the table is there and is neither to be extended nor replaced; F9 where it is absent and is not to
+/// be created; F11 where two columns of the put have one name, or an append has other columns than the
+/// table; F8 where a cell is null in a column that takes no null; F12 where a text of a row has more than
+/// 65,536 bytes, where the table would have more than 16,777,216 rows, for a 257th table, and for a put
+/// behind 65,536 accepted ones. Any call may answer F21.
+pub fn apply(alloc: Global, snapshot: &Snapshot, put: Put) -> Result<CatalogVersion, Fault>
+    ensures batches { GivesUnlessMemory (λ catalog. catalog) result (catalog_after snapshot.now.catalog snapshot.now.number put) }
+    ensures rows { GivesUnlessMemory tables_of result (after (tables_of snapshot.now.catalog) snapshot.now.number (put_of put)) }
+{
+    next_catalog(alloc, snapshot, put)
+}

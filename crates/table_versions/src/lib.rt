@@ -1,0 +1,26 @@
+//! Tables in memory, by version.
+#![tactic(auto)]
+
+mod batch_list;
+pub mod catalog;
+mod cells;
+pub mod commit;
+mod fields;
+mod handles;
+pub mod laws;
+pub mod limits;
+pub mod options;
+pub mod put;
+pub mod snapshot;
+pub mod table;
+
+pub use crate::catalog::CatalogVersion;
+pub use crate::commit::apply;
+pub use crate::limits::{MAX_COMMITS, MAX_NAME_BYTES, MAX_ROWS, MAX_TABLES, MAX_TEXT_BYTES};
+pub use crate::options::{IfExists, IfNotExist};
+pub use crate::put::Put;
+pub use crate::snapshot::Snapshot;
+pub use crate::table::TableVersion;
+
+#[cfg(test)]
+mod tests;

@@ -1,0 +1,126 @@
+//! A table as a version of the catalog has it.
+
+ghost use Rattle.std.specs.Prelude.{◌≡◌, ◌<◌, ◌+◌, ◌≤◌, ◌∷◌, ◌++◌, [], Some, length, IfOk, IsTrue, slice_get};
+ghost use Rattle.std.specs.List.{flat_map, list_all};
+ghost use Rattle.std.specs.Arc.{arc_value};
+ghost use Rattle.arrow_schema.specs.Batch.{rows_of};
+ghost use Rattle.table_versions.specs.Limits.{most_rows};
+ghost use Rattle.table_versions.specs.Stored.{table_of, is_wide, kept};
+ghost use Rattle.table_versions.specs.Kept.{is_kept};
+
+use crate::batch_list::BatchList;
+use arrow_schema::{Batch, Schema};
+use std::alloc::{AllocError, Global};
+use std::marker::Model;
+use std::sync::Arc;
+
+/// A table: its schema, and its rows in batches. Each batch has rows, and one column for each field. A
+/// longer version of a table shares the batches with it.
+#[derive(Drop)]
+pub struct TableVersion {
+    schema: Arc<Schema>,
+    batches: BatchList,
+    rows: usize,
+}
+
+impl Model for TableVersion {
+    ghost use Rattle.std.specs.Arc.{arc_value};
+    ghost use Rattle.table_versions.specs.Stored.{TableAt};
+    ghost use Rattle.table_versions.specs.Kept.{IsKept};
+
+    ghost Value = { TableAt };
+
+    ghost view = { λ t. record { schema = arc_value t.schema; batches = t.batches } };
+
+    ghost invariant = { λ t. IsKept (record { schema = arc_value t.schema; batches = t.batches }) t.rows };
+}
+
+impl TableVersion {
+    /// The columns.
+    pub fn schema(&self) -> &Schema
+        ensures { result.now ≡ self.now.schema }
+    {
+        &self.schema
+    }
+
+    /// How many rows there are, at most 16,777,216.
+    pub fn rows(&self) -> usize
+        ensures rows { result ≡ length (table_of self.now).rows }
+        ensures few { result ≤ most_rows }
+    {
+        self.rows
+    }
+
+    /// How many batches there are.
+    pub fn batch_count(&self) -> usize
+        ensures count { result ≡ length self.now.batches }
+        ensures kept { IsTrue (list_all (is_kept self.now.schema) self.now.batches) }
+    {
+        self.batches.len()
+    }
+
+    /// The batch of a number, counted from 0. It has rows, and one column for each field.
+    pub fn batch(&self, index: usize) -> &Batch
+        requires { index < length self.now.batches }
+        ensures batch { slice_get self.now.batches index ≡ Some result.now }
+        ensures kept { IsTrue (is_kept self.now.schema result.now) }
+    {
+        self.batches.batch(index)
+    }
+
+    // A table of no rows.
+    pub(crate) fn new(alloc: Global, schema: Schema) -> Result<TableVersion, AllocError>
+        ensures { IfOk result (λ table. table ≡ record { schema = schema; batches = [] }) }
+    {
+        Ok(TableVersion {
+            schema: Arc::new(alloc, schema).map_err(|_| AllocError)?,
+            batches: BatchList::new(alloc),
+            rows: 0,
+        })
+    }
+
+    // The same table once more.
+    pub(crate) fn share(&self, alloc: Global) -> Result<TableVersion, AllocError>
+        ensures { IfOk result (λ table. table ≡ self.now) }
+    {
+        Ok(TableVersion {
+            schema: Arc::try_clone(&self.schema)?,
+            batches: self.batches.share(alloc)?,
+            rows: self.rows,
+        })
+    }
+
+    // The table with one batch more behind its others.
+    fn with(self, alloc: Global, batch: Batch) -> Result<TableVersion, AllocError>
+        requires kept { IsTrue (is_kept self.schema batch) }
+        requires few { length (flat_map rows_of self.batches) + batch.rows ≤ most_rows }
+        ensures { IfOk result (λ table. table ≡ record self { batches = self.batches ++ batch ∷ [] }) }
+    {
+        let TableVersion { schema, batches, rows } = self;
+        let rows = rows + batch.rows();
+        Ok(TableVersion {
+            schema,
+            batches: batches.with(alloc, batch)?,
+            rows,
+        })
+    }
+
+    // The table with those of the batches that have rows behind its others.
+    pub(crate) fn extended(
+        self,
+        alloc: Global,
+        batches: Vec<Batch>,
+    ) -> Result<TableVersion, AllocError>
+        requires wide { IsTrue (list_all (is_wide self.schema) batches.items) }
+        requires few { length (flat_map rows_of (self.batches ++ batches.items)) ≤ most_rows }
+        ensures { IfOk result (λ table. table ≡ record self { batches = self.batches ++ kept batches.items }) }
+    {
+        let mut table = self;
+        for batch in batches {
+            if batch.rows() > 0 {
+                table = table.with(alloc, batch)?;
+            }
+        }
+        Ok(table)
+    }
+}
