@@ -1,0 +1,3 @@
+pub mod Handle
+pub mod Seen
+pub mod Split

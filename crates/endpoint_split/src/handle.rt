@@ -1,0 +1,123 @@
+//! Statement handles: what a ticket carries. The form is this project's own.
+
+ghost use Rattle.std.specs.Prelude.{◌≡◌, IfOk, Ok, Err, if◌then◌else◌};
+ghost use Rattle.std.specs.Str.{is_utf8};
+ghost use Rattle.scan_base.specs.declared.fault.Fault.TheVariants.{BadTicket};
+ghost use Rattle.scan_base.specs.Reading.{Gives};
+ghost use Rattle.endpoint_split.specs.Handle.{handle_bytes, handle_of, Query, tables_of, query_of};
+ghost use Rattle.endpoint_split.specs.Seen.{handle_seen};
+
+use byteorder::{BigEndian, ByteOrder};
+use scan_base::Fault;
+use std::alloc::{AllocError, Global};
+
+/// What a ticket carries: the catalog version that it is pinned to, and what is asked of it.
+#[derive(Clone, Copy, Debug)]
+pub enum Handle<'a> {
+    /// Rows `from` up to, not with, `to` of the first place of a query, by the query's text.
+    Query {
+        version: u64,
+        from: u32,
+        to: u32,
+        query: &'a str,
+    },
+    /// The list of tables.
+    Tables {
+        version: u64,
+    },
+}
+
+/// The handle that these bytes are. It takes no memory.
+///
+/// # Errors
+///
+/// `Fault::BadTicket` for another first byte than 1 and 2, a handle that is too short, bytes after a
+/// tables handle, and a query that is not UTF-8.
+pub fn read_handle(bytes: &[u8]) -> Result<Handle<'_>, Fault>
+    ensures { Gives handle_seen result (handle_of bytes.now) }
+{
+    match bytes.split_first() {
+        Some((1, rest)) => read_query(rest),
+        Some((2, rest)) => read_tables(rest),
+        _ => Err(Fault::BadTicket),
+    }
+}
+
+#[tactic(auto, unfolding(crate::specs::Handle::query_of))]
+fn read_query(bytes: &[u8]) -> Result<Handle<'_>, Fault>
+    ensures { Gives handle_seen result (query_of bytes.now) }
+{
+    if bytes.len() < 16 {
+        return Err(Fault::BadTicket);
+    }
+    let query = utf8(&bytes[16..])?;
+    let version = BigEndian::read_u64(bytes);
+    let from = BigEndian::read_u32(&bytes[8..]);
+    let to = BigEndian::read_u32(&bytes[12..]);
+    Ok(Handle::Query {
+        version,
+        from,
+        to,
+        query,
+    })
+}
+
+fn utf8(bytes: &[u8]) -> Result<&str, Fault>
+    ensures { Gives (λ text. text.now) result
+        (if is_utf8 bytes.now then Ok bytes.now else Err BadTicket) }
+{
+    match simdutf8::basic::from_utf8(bytes) {
+        Ok(text) => Ok(text),
+        Err(_) => Err(Fault::BadTicket),
+    }
+}
+
+#[tactic(auto, unfolding(crate::specs::Handle::tables_of))]
+fn read_tables(bytes: &[u8]) -> Result<Handle<'_>, Fault>
+    ensures { Gives handle_seen result (tables_of bytes.now) }
+{
+    if bytes.len() != 8 {
+        return Err(Fault::BadTicket);
+    }
+    Ok(Handle::Tables {
+        version: BigEndian::read_u64(bytes),
+    })
+}
+
+/// The bytes of a handle.
+pub fn write_handle(alloc: Global, handle: &Handle<'_>) -> Result<Vec<u8>, AllocError>
+    ensures { IfOk result (λ bytes. bytes.items ≡ handle_bytes (handle_seen handle.now)) }
+{
+    match handle {
+        Handle::Query {
+            version,
+            from,
+            to,
+            query,
+        } => write_query(alloc, *version, *from, *to, query),
+        Handle::Tables { version } => {
+            let mut bytes = Vec::with_capacity(alloc, 9)?;
+            bytes.push(2)?;
+            bytes.extend_from_slice(&version.to_be_bytes())?;
+            Ok(bytes)
+        }
+    }
+}
+
+fn write_query(
+    alloc: Global,
+    version: u64,
+    from: u32,
+    to: u32,
+    query: &str,
+) -> Result<Vec<u8>, AllocError>
+    ensures { IfOk result (λ bytes. bytes.items ≡ handle_bytes (Query version from to query.now)) }
+{
+    let mut bytes = Vec::with_capacity(alloc, query.len() + 17)?;
+    bytes.push(1)?;
+    bytes.extend_from_slice(&version.to_be_bytes())?;
+    bytes.extend_from_slice(&from.to_be_bytes())?;
+    bytes.extend_from_slice(&to.to_be_bytes())?;
+    bytes.extend_from_slice(query.as_bytes())?;
+    Ok(bytes)
+}
