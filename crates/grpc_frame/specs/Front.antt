@@ -1,8 +1,8 @@
 -- What stands in front of what has come: a function on whole lists of bytes.
-use Rattle.std.specs.Prelude.{ℕ, Bool, true, ◌+◌, nat_lt, List, length, take, drop, Option, Some, None, Result, Ok, Err, if◌then◌else◌}
+use Rattle.std.specs.Prelude.{◌≡◌, ◌≢◌, ◌≤◌, ℕ, Bool, true, ◌+◌, nat_lt, List, length, take, drop, Option, Some, None, Result, Ok, Err, if◌then◌else◌}
 use Rattle.std.specs.Str.{is_utf8}
 use Rattle.scan_base.specs.declared.fault.Fault.{Fault}
-use Rattle.scan_base.specs.declared.fault.Fault.TheVariants.{BadFrame}
+use Rattle.scan_base.specs.declared.fault.Fault.TheVariants.{BadFrame, OutOfMemory}
 use Rattle.grpc_frame.specs.declared.place.Place.{Place}
 use Rattle.grpc_frame.specs.declared.place.Place.TheVariants.{BetweenCalls, InsideCall}
 use Rattle.grpc_frame.specs.declared.record.Record.{Record}
@@ -44,13 +44,31 @@ record_front place kind content rest =
     if is_content kind content then Whole (record_of kind content) (record { bytes = rest; place = place_behind kind place })
     else Faulty BadFrame
 
+-- the content behind a head, and what follows it
+
+abbrev pub content_in : Head → List ℕ → List ℕ
+content_in head bytes = drop head.len (take (head.len + head.content_len) bytes)
+
+abbrev pub rest_behind : Head → List ℕ → List ℕ
+rest_behind head bytes = drop (head.len + head.content_len) bytes
+
 -- by what the head says
 abbrev pub front_by : Received → Result (Option Head) Fault → Front
 front_by left (Err fault) = Faulty fault
 front_by left (Ok None) = Wanting
 front_by left (Ok (Some head)) =
     if nat_lt (length left.bytes) (head.len + head.content_len) then Wanting
-    else record_front left.place head.kind (drop head.len (take (head.len + head.content_len) left.bytes)) (drop (head.len + head.content_len) left.bytes)
+    else record_front left.place head.kind (content_in head left.bytes) (rest_behind head left.bytes)
 
 unfoldable pub front_of : Received → Front
 front_of left = front_by left (head_of left.place left.bytes)
+
+-- What a look at the front finds: the head of a whole record, of which this content and this rest are
+-- parts; else why there is none.
+abbrev pub FindsFront : Result (Option Head) Fault → Received → Type 0
+FindsFront (Err fault) left = (fault ≢ OutOfMemory) × (front_of left ≡ Faulty fault)
+FindsFront (Ok None) left = front_of left ≡ Wanting
+FindsFront (Ok (Some head)) left =
+    (head.len + head.content_len ≤ length left.bytes)
+    × (is_content head.kind (content_in head left.bytes) ≡ true)
+    × (front_of left ≡ Whole (record_of head.kind (content_in head left.bytes)) (record { bytes = rest_behind head left.bytes; place = place_behind head.kind left.place }))

@@ -1,5 +1,5 @@
 -- What the head of a record says, by the first bytes alone.
-use Rattle.std.specs.Prelude.{ℕ, ◌<◌, ◌==◌, nat_lt, List, length, take, drop, slice_index, Option, Some, None, Result, Ok, Err, if◌then◌else◌}
+use Rattle.std.specs.Prelude.{ℕ, ◌<◌, ◌≤◌, ◌==◌, nat_lt, List, length, take, drop, slice_index, Option, Some, None, Result, Ok, Err, if◌then◌else◌}
 use Rattle.std.specs.Int.{w16, w32, from_be_bytes}
 use Rattle.scan_base.specs.declared.fault.Fault.{Fault}
 use Rattle.scan_base.specs.declared.fault.Fault.TheVariants.{BadFrame, MessageTooLarge}
@@ -19,6 +19,10 @@ len16_at at bytes = from_be_bytes w16 (take 2 (drop at bytes))
 
 abbrev pub len32_at : ℕ → List ℕ → ℕ
 len32_at at bytes = from_be_bytes w32 (take 4 (drop at bytes))
+
+-- a head is short, and so is what follows it
+abbrev pub HasBounds : Head → Type 0
+HasBounds head = (head.len ≤ 6) × (head.content_len ≤ 16777216)
 
 -- each kind's head, or None where more of it has to come
 

@@ -1,9 +1,10 @@
 //! What the first bytes of a record say of it.
 
-ghost use Rattle.std.specs.Prelude.{◌≡◌, ◌≤◌, true, IfOk, IfSome, Ok, Err, if◌then◌else◌};
-ghost use Rattle.scan_base.specs.declared.fault.Fault.TheVariants.{BadFrame};
-ghost use Rattle.grpc_frame.specs.Head.{open_head, message_head, status_head, head_of, AreBytes};
-ghost use Rattle.grpc_frame.specs.Front.{is_content, record_of, place_behind};
+ghost use Rattle.std.specs.Prelude.{◌≡◌, ◌≢◌, true, IsOk, IfOk, IfErr, IfSome, Ok, Err, if◌then◌else◌};
+ghost use Rattle.std.specs.Str.{is_utf8};
+ghost use Rattle.scan_base.specs.declared.fault.Fault.TheVariants.{BadFrame, OutOfMemory};
+ghost use Rattle.grpc_frame.specs.Head.{open_head, message_head, status_head, head_of, AreBytes, HasBounds};
+ghost use Rattle.grpc_frame.specs.Front.{is_content, record_of, place_behind, FindsFront};
 
 use crate::place::Place;
 use crate::record::{MAX_MESSAGE_LEN, MAX_PATH_LEN, Record};
@@ -36,13 +37,12 @@ impl RecordKind {
     /// # Errors
     ///
     /// `Fault::BadFrame` where it is a status text that is not UTF-8.
-    #[tactic(auto, using(crate::proofs::Texts::is_utf8_false))]
     pub fn check(self, content: &[u8]) -> Result<(), Fault>
         ensures { result ≡ (if is_content self content.now then Ok tt else Err BadFrame) }
     {
         match self {
-            RecordKind::Status { .. } if str::from_utf8(content).is_err() => Err(Fault::BadFrame),
-            _ => Ok(()),
+            RecordKind::Status { .. } => check_text(content),
+            RecordKind::Open | RecordKind::Message | RecordKind::End => Ok(()),
         }
     }
 
@@ -58,6 +58,7 @@ impl RecordKind {
     }
 
     /// The record of this kind that holds these bytes.
+    #[tactic(auto, using(crate::proofs::Texts::utf8_from_test))]
     pub fn into_record(self, content: Bytes) -> Record
         requires { is_content self content ≡ true }
         ensures { result ≡ record_of self content }
@@ -74,6 +75,17 @@ impl RecordKind {
     }
 }
 
+// Whether a text is UTF-8.
+#[tactic(auto, using(crate::proofs::Texts::is_utf8_false, crate::proofs::Texts::test_from_utf8))]
+fn check_text(text: &[u8]) -> Result<(), Fault>
+    ensures { result ≡ (if is_utf8 text.now then Ok tt else Err BadFrame) }
+{
+    match str::from_utf8(text) {
+        Ok(_) => Ok(()),
+        Err(_) => Err(Fault::BadFrame),
+    }
+}
+
 const OPEN: u8 = 1;
 
 const MESSAGE: u8 = 2;
@@ -84,7 +96,9 @@ const STATUS: u8 = 4;
 
 // The head of an Open: the kind byte and a length of two bytes.
 fn read_open(bytes: &[u8]) -> Result<Option<Head>, Fault>
-    ensures { result ≡ open_head bytes.now }
+    ensures value { result ≡ open_head bytes.now }
+    ensures kind { IfErr result (λ fault. fault ≢ OutOfMemory) }
+    ensures small { IfOk result (λ o. IfSome o HasBounds) }
 {
     if bytes.len() < 3 {
         return Ok(None);
@@ -102,7 +116,9 @@ fn read_open(bytes: &[u8]) -> Result<Option<Head>, Fault>
 
 // The head of a Message: the kind byte, the flag and a length of four bytes.
 fn read_message(bytes: &[u8]) -> Result<Option<Head>, Fault>
-    ensures { result ≡ message_head bytes.now }
+    ensures value { result ≡ message_head bytes.now }
+    ensures kind { IfErr result (λ fault. fault ≢ OutOfMemory) }
+    ensures small { IfOk result (λ o. IfSome o HasBounds) }
 {
     if bytes.len() < 2 {
         return Ok(None);
@@ -126,7 +142,9 @@ fn read_message(bytes: &[u8]) -> Result<Option<Head>, Fault>
 
 // The head of a Status: the kind byte, the code and a length of two bytes.
 fn read_status(bytes: &[u8]) -> Result<Option<Head>, Fault>
-    ensures { result ≡ status_head bytes.now }
+    ensures value { result ≡ status_head bytes.now }
+    ensures kind { IsOk result }
+    ensures small { IfOk result (λ o. IfSome o HasBounds) }
 {
     if bytes.len() < 4 {
         return Ok(None);
@@ -148,8 +166,8 @@ fn read_status(bytes: &[u8]) -> Result<Option<Head>, Fault>
 pub fn read_head(place: Place, bytes: &[u8]) -> Result<Option<Head>, Fault>
     ensures value { result ≡ head_of place bytes.now }
     ensures bytes { AreBytes bytes.now }
-    ensures small { IfOk result (λ o. IfSome o
-        (λ head. (head.len ≤ 6) × (head.content_len ≤ 16777216))) }
+    ensures small { IfOk result (λ o. IfSome o HasBounds) }
+    ensures kind { IfErr result (λ fault. fault ≢ OutOfMemory) }
 {
     if bytes.is_empty() {
         return Ok(None);
@@ -165,4 +183,26 @@ pub fn read_head(place: Place, bytes: &[u8]) -> Result<Option<Head>, Fault>
         (Place::InAnswer, STATUS) => read_status(bytes),
         _ => Err(Fault::BadFrame),
     }
+}
+
+/// The head of the record in front, once all of the record has come.
+///
+/// # Errors
+///
+/// Those of `read_head`, and `Fault::BadFrame` where a status text is not UTF-8.
+#[tactic(auto, unfolding(crate::specs::Front::front_of))]
+pub fn read_front(place: Place, bytes: &[u8]) -> Result<Option<Head>, Fault>
+    ensures front { FindsFront result (record { bytes = bytes.now; place = place }) }
+    ensures bytes { AreBytes bytes.now }
+    ensures small { IfOk result (λ o. IfSome o HasBounds) }
+{
+    let Some(head) = read_head(place, bytes)? else {
+        return Ok(None);
+    };
+    let whole = head.len + head.content_len;
+    if bytes.len() < whole {
+        return Ok(None);
+    }
+    head.kind.check(&bytes[head.len..whole])?;
+    Ok(Some(head))
 }

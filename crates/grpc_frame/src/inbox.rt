@@ -6,7 +6,7 @@ ghost use Rattle.grpc_frame.specs.declared.place.Place.TheVariants.{BetweenCalls
 ghost use Rattle.grpc_frame.specs.Head.{AreBytes};
 ghost use Rattle.grpc_frame.specs.Calls.{TakesFront, KeepsProfile};
 
-use crate::head::read_head;
+use crate::head::read_front;
 use crate::place::Place;
 use crate::record::Record;
 use bytes::BytesMut;
@@ -90,20 +90,14 @@ impl Inbox {
         self.take_front()
     }
 
-    #[tactic(auto, unfolding(crate::specs::Front::front_of))]
     fn take_front(&mut self) -> Result<Option<Record>, Fault>
         ensures front { TakesFront result self.old self.new }
         ensures bytes { AreBytes self.old.bytes }
     {
-        let Some(head) = read_head(self.place, self.buffer.as_slice())? else {
+        let Some(head) = read_front(self.place, self.buffer.as_slice())? else {
             return Ok(None);
         };
-        let whole = head.len + head.content_len;
-        if self.buffer.len() < whole {
-            return Ok(None);
-        }
-        head.kind.check(&self.buffer.as_slice()[head.len..whole])?;
-        let mut content = self.buffer.freeze_to(whole)?;
+        let mut content = self.buffer.freeze_to(head.len + head.content_len)?;
         content.advance(head.len);
         self.place = head.kind.place_behind(self.place);
         Ok(Some(head.kind.into_record(content)))

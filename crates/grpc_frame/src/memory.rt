@@ -68,14 +68,14 @@ impl<'a> MemoryInput<'a> {
     /// Each read gives at most so many bytes.
     pub fn in_pieces_of(self, most: usize) -> MemoryInput<'a>
         requires { 0 < most }
-        ensures { result ≡ record self { most = most } }
+        ensures { result ≡ record self.entry { most = most } }
     {
         MemoryInput { most, ..self }
     }
 
     /// So many calls go well, the next one fails, and those behind it go well again.
     pub fn failing_after(self, calls: u64) -> MemoryInput<'a>
-        ensures { result ≡ record self { plan = Some calls } }
+        ensures { result ≡ record self.entry { plan = Some calls } }
     {
         MemoryInput {
             plan: Some(calls),
@@ -94,6 +94,7 @@ impl Input for MemoryInput<'_> {
     ghost turns = { λ s. length s.bytes };
 
     fn read(&mut self, piece: &mut [u8]) -> Result<usize, Fault>
+        requires { self.old.failures < 18446744073709551615 }
         ensures bound { ReadsAtMost result piece.new }
         ensures bytes { ReadConsumes (Some self.old.bytes) (Some self.new.bytes) result piece.new }
         ensures counted { CountsFailure result self.old.failures self.new.failures }
@@ -176,6 +177,7 @@ impl Output for MemoryOutput {
     ghost failures = { λ s. s.failures };
 
     fn write(&mut self, piece: &[u8]) -> Result<(), Fault>
+        requires { self.old.failures < 18446744073709551615 }
         ensures bytes { Writes result (Some self.old.bytes) (Some self.new.bytes) piece.now }
         ensures counted { CountsFailure result self.old.failures self.new.failures }
         ensures kind { FailsByTransport result }
