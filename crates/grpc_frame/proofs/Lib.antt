@@ -1,2 +1,4 @@
 mod Texts
 mod Growing
+mod Found
+mod Again

@@ -32,17 +32,13 @@ pub struct Head {
 }
 
 impl RecordKind {
-    /// Looks at what a record of this kind holds.
-    ///
-    /// # Errors
-    ///
-    /// `Fault::BadFrame` where it is a status text that is not UTF-8.
-    pub fn check(self, content: &[u8]) -> Result<(), Fault>
-        ensures { result ≡ (if is_content self content.now then Ok tt else Err BadFrame) }
+    /// Whether a record of this kind may hold these bytes: a status text is UTF-8.
+    pub fn allows(self, content: &[u8]) -> bool
+        ensures { result ≡ is_content self content.now }
     {
         match self {
-            RecordKind::Status { .. } => check_text(content),
-            RecordKind::Open | RecordKind::Message | RecordKind::End => Ok(()),
+            RecordKind::Status { .. } => is_text(content),
+            RecordKind::Open | RecordKind::Message | RecordKind::End => true,
         }
     }
 
@@ -75,15 +71,12 @@ impl RecordKind {
     }
 }
 
-// Whether a text is UTF-8.
+// Whether the bytes are UTF-8.
 #[tactic(auto, using(crate::proofs::Texts::is_utf8_false, crate::proofs::Texts::test_from_utf8))]
-fn check_text(text: &[u8]) -> Result<(), Fault>
-    ensures { result ≡ (if is_utf8 text.now then Ok tt else Err BadFrame) }
+fn is_text(bytes: &[u8]) -> bool
+    ensures { result ≡ is_utf8 bytes.now }
 {
-    match str::from_utf8(text) {
-        Ok(_) => Ok(()),
-        Err(_) => Err(Fault::BadFrame),
-    }
+    str::from_utf8(bytes).is_ok()
 }
 
 const OPEN: u8 = 1;
@@ -190,7 +183,7 @@ pub fn read_head(place: Place, bytes: &[u8]) -> Result<Option<Head>, Fault>
 /// # Errors
 ///
 /// Those of `read_head`, and `Fault::BadFrame` where a status text is not UTF-8.
-#[tactic(auto, unfolding(crate::specs::Front::front_of))]
+#[tactic(auto, unfolding(crate::specs::Front::front_of), using(crate::proofs::Found::found_whole, crate::proofs::Found::found_bad))]
 pub fn read_front(place: Place, bytes: &[u8]) -> Result<Option<Head>, Fault>
     ensures front { FindsFront result (record { bytes = bytes.now; place = place }) }
     ensures bytes { AreBytes bytes.now }
@@ -203,6 +196,8 @@ pub fn read_front(place: Place, bytes: &[u8]) -> Result<Option<Head>, Fault>
     if bytes.len() < whole {
         return Ok(None);
     }
-    head.kind.check(&bytes[head.len..whole])?;
+    if !head.kind.allows(&bytes[head.len..whole]) {
+        return Err(Fault::BadFrame);
+    }
     Ok(Some(head))
 }
