@@ -2,3 +2,5 @@ mod Texts
 mod Growing
 mod Found
 mod Again
+mod Stands
+mod Streams
