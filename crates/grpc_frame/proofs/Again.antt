@@ -1,8 +1,8 @@
 -- What stands in front in the profile's words is read there.
-use Rattle.std.proofs.Common.{◌≡◌, ◌≢◌, ℕ, suc, ◌+◌, ◌<◌, ◌≤◌, ◌^◌, ◌⊎◌, inl, inr, true, false, Bool, List, [], ◌∷◌, ◌++◌, length, take, drop, Option, Some, None, Result, Ok, Err, refl, sym, ap, ◌∙◌, append_assoc, arith}
-use Rattle.std.specs.Prelude.{◌==◌, nat_lt, slice_index, if◌then◌else◌}
+use Rattle.std.proofs.Common.{◌≡◌, ◌≢◌, ℕ, suc, ◌+◌, ◌<◌, ◌≤◌, inl, inr, true, false, Bool, List, [], ◌∷◌, ◌++◌, length, take, drop, Some, Ok, Err, refl, arith}
+use Rattle.std.specs.Prelude.{◌==◌, nat_lt, if◌then◌else◌}
 use Rattle.std.specs.Int.{w16, w32, from_be_bytes, to_be_bytes}
-use Rattle.std.specs.Str.{is_utf8, IsUtf8}
+use Rattle.std.specs.Str.{is_utf8}
 use Rattle.std.proofs.lemmas.Bool.{le-ltb, lt-ltb, ne_eqb}
 use Rattle.std.proofs.lemmas.List.{length-append, take_at, drop_at}
 use Rattle.std.proofs.lemmas.Nat.{from_be_bytes-to_be_bytes_2, from_be_bytes-to_be_bytes_4}
@@ -12,12 +12,10 @@ use Rattle.grpc_frame.specs.declared.place.Place.{Place}
 use Rattle.grpc_frame.specs.declared.place.Place.TheVariants.{BetweenCalls, InsideCall, InAnswer}
 use Rattle.grpc_frame.specs.declared.record.Record.{Record}
 use Rattle.grpc_frame.specs.declared.record.Record.TheVariants.{Open, Message, End, Status}
-use Rattle.grpc_frame.specs.declared.head.Head.{Head}
-use Rattle.grpc_frame.specs.declared.head.RecordKind.{RecordKind}
 use Rattle.grpc_frame.specs.declared.head.RecordKind.TheVariants as kinds
 use Rattle.grpc_frame.specs.Records.{Received, spelling, IsRecord, place_after, Leads, IsKindAt, Flaw, wrong_kind, long_path, wrong_flag, long_message, bad_text, IsFlaw, shown_by, fault_of, Breaks}
 use Rattle.grpc_frame.specs.Head.{head_by, head_of, open_head, message_head, status_head}
-use Rattle.grpc_frame.specs.Front.{Front, Wanting, Faulty, Whole, front_by, front_of}
+use Rattle.grpc_frame.specs.Front.{Faulty, Whole, front_by, front_of}
 use Rattle.grpc_frame.proofs.Texts.{is_utf8_false, test_from_utf8}
 
 -- what has come at a place

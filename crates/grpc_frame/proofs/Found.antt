@@ -1,15 +1,13 @@
 -- The front of bytes whose head is read.
-use Rattle.std.proofs.Common.{◌≡◌, ◌≢◌, ℕ, ◌+◌, ◌-◌, ◌≤◌, true, false, Bool, List, length, take, drop, Option, Some, Result, Ok, Err, refl, sym, ◌∙◌, ap, arith}
-use Rattle.std.specs.Prelude.{nat_lt, if◌then◌else◌}
+use Rattle.std.proofs.Common.{◌≡◌, ℕ, ◌+◌, ◌-◌, ◌≤◌, true, false, List, length, take, drop, Some, Ok, refl, sym, arith}
+use Rattle.std.specs.Prelude.{nat_lt}
 use Rattle.std.proofs.lemmas.Bool.{le-ltb}
 use Rattle.std.proofs.lemmas.List.{drop-take}
-use Rattle.scan_base.specs.declared.fault.Fault.{Fault}
-use Rattle.scan_base.specs.declared.fault.Fault.TheVariants.{BadFrame, OutOfMemory}
+use Rattle.scan_base.specs.declared.fault.Fault.TheVariants.{BadFrame}
 use Rattle.grpc_frame.specs.declared.place.Place.{Place}
 use Rattle.grpc_frame.specs.declared.head.Head.{Head}
-use Rattle.grpc_frame.specs.Records.{Received}
 use Rattle.grpc_frame.specs.Head.{head_of}
-use Rattle.grpc_frame.specs.Front.{Faulty, Whole, front_of, is_content, content_in, FindsFront}
+use Rattle.grpc_frame.specs.Front.{Faulty, front_of, is_content, content_in, FindsFront}
 
 -- the content, as a slice is cut
 abbrev pub content_cut : Head → List ℕ → List ℕ

@@ -4,3 +4,4 @@ mod Found
 mod Again
 mod Stands
 mod Streams
+mod Splitting

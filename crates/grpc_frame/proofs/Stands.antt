@@ -1,21 +1,19 @@
 -- What is read at the front stands there in the profile's words.
-use Rattle.std.proofs.Common.{◌≡◌, ◌≢◌, ℕ, zero, suc, ◌+◌, ◌<◌, ◌≤◌, ◌^◌, ◌⊎◌, inl, inr, true, false, Bool, List, [], ◌∷◌, ◌++◌, length, get_or, take, drop, Option, Some, None, Result, Ok, Err, refl, sym, ap, ◌∙◌, append_assoc, arith}
-use Rattle.std.specs.Prelude.{◌==◌, nat_lt, if◌then◌else◌}
+use Rattle.std.proofs.Common.{◌≡◌, ℕ, zero, suc, ◌+◌, ◌<◌, ◌≤◌, ◌^◌, inl, inr, true, false, Bool, List, [], ◌∷◌, ◌++◌, length, get_or, take, drop, Some, Ok, refl, sym, ap, ◌∙◌, append_assoc, arith}
+use Rattle.std.specs.Prelude.{◌==◌, nat_lt}
 use Rattle.std.specs.Int.{w16, w32, from_be_bytes, to_be_bytes}
-use Rattle.std.specs.Str.{is_utf8, IsUtf8}
-use Rattle.std.proofs.lemmas.Bool.{cases_lt, le-ltb, lt-ltb, ne_eqb}
+use Rattle.std.specs.Str.{is_utf8}
+use Rattle.std.proofs.lemmas.Bool.{cases_lt, le-ltb, lt-ltb}
 use Rattle.std.proofs.lemmas.Bool.Decides.{eqb_tells}
 use Rattle.std.proofs.lemmas.List.{length-take-le, take-append-drop}
 use Rattle.std.proofs.lemmas.Nat.{be_bytes_2, be_bytes_4}
-use Rattle.scan_base.specs.declared.fault.Fault.{Fault}
-use Rattle.scan_base.specs.declared.fault.Fault.TheVariants.{BadFrame, MessageTooLarge}
+use Rattle.scan_base.specs.declared.fault.Fault.TheVariants.{BadFrame}
 use Rattle.grpc_frame.specs.declared.place.Place.{Place}
 use Rattle.grpc_frame.specs.declared.place.Place.TheVariants.{BetweenCalls, InsideCall, InAnswer}
-use Rattle.grpc_frame.specs.declared.record.Record.{Record}
-use Rattle.grpc_frame.specs.declared.record.Record.TheVariants.{Open, Message, End, Status}
+use Rattle.grpc_frame.specs.declared.record.Record.TheVariants.{Open, Message}
 use Rattle.grpc_frame.specs.declared.head.Head.{Head}
 use Rattle.grpc_frame.specs.declared.head.RecordKind.TheVariants as kinds
-use Rattle.grpc_frame.specs.Records.{Received, spelling, place_after, Leads, IsKindAt, wrong_kind, long_path, wrong_flag, long_message, bad_text, Breaks}
+use Rattle.grpc_frame.specs.Records.{Received, place_after, Leads, IsKindAt, wrong_kind, long_path, wrong_flag, long_message, bad_text, Breaks}
 use Rattle.grpc_frame.specs.Head.{AreBytes, head_by, head_of, open_head, message_head, status_head}
 use Rattle.grpc_frame.specs.Front.{Front, Wanting, Faulty, Whole, record_front, content_in, rest_behind, front_by, front_of}
 use Rattle.grpc_frame.proofs.Again.{at, front_kind}

@@ -1,10 +1,11 @@
 -- The function on bytes and the words of the profile are one.
-use Rattle.std.proofs.Common.{◌≡◌, ℕ, List, refl}
+use Rattle.std.proofs.Common.{◌≡◌, Option, Some, None, Result, Ok, Err, refl}
 use Rattle.grpc_frame.specs.declared.record.Record.{Record}
 use Rattle.scan_base.specs.declared.fault.Fault.{Fault}
 use Rattle.grpc_frame.specs.Records.{Received, Leads, Breaks, IsCut}
 use Rattle.grpc_frame.specs.Head.{AreBytes}
 use Rattle.grpc_frame.specs.Front.{Front, Wanting, Faulty, Whole, front_of}
+use Rattle.grpc_frame.specs.Calls.{TakesFront, KeepsProfile}
 use Rattle.grpc_frame.specs.Laws.{FrontKeepsProfile}
 use Rattle.grpc_frame.proofs.Again.{leads_front, breaks_front}
 use Rattle.grpc_frame.proofs.Stands.{FrontIs, front_is}
@@ -35,3 +36,13 @@ front_keeps left fits = record {
   faulty = λ fault. (faulty_breaks left fault fits, breaks_front left fault);
   wanting = (wanting_cut left, cut_wanting left fits);
 }
+
+-- what a call of `next` gave, in the words of the profile
+pub next_keeps : (r : Result (Option Record) Fault) (old new : Received) → AreBytes old.bytes → TakesFront r old new → KeepsProfile r old new
+next_keeps (Ok (Some found)) old new fits takes = whole_leads old found new fits takes
+next_keeps (Ok None) old new fits takes = (wanting_cut old takes.0, takes.1)
+next_keeps (Err fault) old new fits takes = (
+  (λ ne. faulty_breaks old fault fits (takes.0 ne)),
+  (λ e. let whole = takes.1 e in (whole.0, whole.1, whole_leads old whole.0 whole.1 fits whole.2)),
+  takes.2,
+)

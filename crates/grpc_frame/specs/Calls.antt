@@ -1,12 +1,12 @@
 -- What the calls of an inbox and of the writers give.
-use Rattle.std.specs.Prelude.{◌≡◌, ◌≢◌, ℕ, List, [], Option, Some, None, Result, Ok, Err}
+use Rattle.std.specs.Prelude.{◌≡◌, ◌≢◌, [], Option, Some, None, Result, Ok, Err}
 use Rattle.scan_base.specs.declared.fault.Fault.{Fault}
 use Rattle.scan_base.specs.declared.fault.Fault.TheVariants.{OutOfMemory}
 use Rattle.scan_base.specs.Fault.{grpc_number, code_of, text_of}
 use Rattle.grpc_frame.specs.declared.record.Record.{Record}
 use Rattle.grpc_frame.specs.declared.record.Record.TheVariants.{Status}
 use Rattle.grpc_frame.specs.Records.{Received, Leads, Breaks, IsCut}
-use Rattle.grpc_frame.specs.Front.{Front, Wanting, Faulty, Whole, front_of}
+use Rattle.grpc_frame.specs.Front.{Wanting, Faulty, Whole, front_of}
 
 -- ---- the next record, by what had come before and after the call
 

@@ -1,5 +1,5 @@
 use Rattle.std.proofs.Common.{◌≡◌}
-use Rattle.std.specs.Prelude.{◌≤◌, length}
+use Rattle.std.specs.Prelude.{◌≤◌}
 use Rattle.std.specs.Io.KnownBytes.{Keeps}
 use Rattle.grpc_frame.proofs.counted.CountedInput.read.Given as goal
 
