@@ -30,6 +30,13 @@ impl<T> Counted<T> {
             turns: u64::MAX,
         }
     }
+
+    /// The reader or writer.
+    pub fn get_ref(&self) -> &T
+        ensures { result.now ≡ self.now.end }
+    {
+        &self.end
+    }
 }
 
 impl<R: Read> Input for Counted<R> {

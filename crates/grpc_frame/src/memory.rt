@@ -77,10 +77,8 @@ impl<'a> MemoryInput<'a> {
     pub fn failing_after(self, calls: u64) -> MemoryInput<'a>
         ensures { result ≡ record self.entry { plan = Some calls } }
     {
-        MemoryInput {
-            plan: Some(calls),
-            ..self
-        }
+        let plan = Some(calls);
+        MemoryInput { plan, ..self }
     }
 }
 
@@ -155,10 +153,8 @@ impl MemoryOutput {
     pub fn failing_after(self, calls: u64) -> MemoryOutput
         ensures { result ≡ record self { plan = Some calls } }
     {
-        MemoryOutput {
-            plan: Some(calls),
-            ..self
-        }
+        let plan = Some(calls);
+        MemoryOutput { plan, ..self }
     }
 
     /// What is written.

@@ -1,6 +1,8 @@
 //! Vectors from outside: the records of a first run, written by hand from the published formats, and
 //! ends that fail.
 
+ghost use Rattle.std.specs.Prelude.{◌≡◌, ◌<◌, IfOk, length};
+
 use crate::{
     Counted, Inbox, Input, MAX_MESSAGE_LEN, MAX_PATH_LEN, MemoryInput, MemoryOutput, Output, Record,
     write_end, write_message, write_open, write_status,
@@ -321,14 +323,14 @@ impl Scripted {
     }
 }
 
-impl Read for &mut Scripted {
+impl Read for Scripted {
     fn read(&mut self, buf: &mut [u8]) -> io::Result<usize> {
         self.step()?;
         Ok(buf.len().min(1))
     }
 }
 
-impl Write for &mut Scripted {
+impl Write for Scripted {
     fn write(&mut self, buf: &[u8]) -> io::Result<usize> {
         self.step()?;
         Ok(buf.len().min(1))
@@ -353,15 +355,13 @@ fn interrupted_calls_are_made_again(rt: HostRuntime) -> Result<(), Fail> {
     ];
     for (script, want, moved) in table {
         let failures = u64::from(want.is_err());
-        let mut read_end = Scripted::new(script);
-        let mut input = Counted::new(&mut read_end);
+        let mut input = Counted::new(Scripted::new(script));
         let read = read_three(&mut input);
         assert_eq!(rt; (read, Input::failures(&input)), (want, failures));
-        let mut write_end = Scripted::new(script);
-        let mut output = Counted::new(&mut write_end);
+        let mut output = Counted::new(Scripted::new(script));
         let written = output.write(b"abc");
         assert_eq!(rt; (written, Output::failures(&output)), (want, failures));
-        assert_eq!(rt; (read_end.moved, write_end.moved), (moved, moved));
+        assert_eq!(rt; (input.get_ref().moved, output.get_ref().moved), (moved, moved));
     }
     Ok(())
 }
@@ -376,13 +376,20 @@ fn read_three<R: Input>(input: &mut R) -> Result<(), Fault>
     Ok(())
 }
 
+// So many bytes.
+fn many(alloc: Global, len: usize) -> Result<Vec<u8>, AllocError>
+    ensures { IfOk result (λ bytes. length bytes.items ≡ len) }
+{
+    Vec::from_elem(alloc, b'a', len)
+}
+
 #[test]
 fn the_limits_are_written(rt: HostRuntime) -> Result<(), Fail> {
     let mut out = MemoryOutput::new(rt.alloc());
-    let path = Vec::from_elem(rt.alloc(), b'a', MAX_PATH_LEN)?;
+    let path = many(rt.alloc(), MAX_PATH_LEN)?;
     write_open(&mut out, &path)?;
     assert!(rt; out.as_slice().starts_with(b"\x01\x01\x00a"));
-    let message = Vec::from_elem(rt.alloc(), 7u8, MAX_MESSAGE_LEN)?;
+    let message = many(rt.alloc(), MAX_MESSAGE_LEN)?;
     write_message(&mut out, &message)?;
     let (records, open) = records_of(rt.alloc(), out.as_slice(), 65_536)?;
     let right = match records.as_slice() {

@@ -59,7 +59,7 @@ pub fn write_message<W: Output>(out: &mut W, message: &[u8]) -> Result<(), Fault
 ///
 /// # Errors
 ///
-/// `Fault::Transport` where the write failed. It is counted, and nothing is written.
+/// `Fault::Transport` where the write failed. It is counted, and a beginning of the record is written.
 pub fn write_end<W: Output>(out: &mut W) -> Result<(), Fault>
     requires { W.failures out.old < 18446744073709551615 }
     ensures bytes { Writes result (W.contents out.old) (W.contents out.new) (spelling End) }
