@@ -1,0 +1,7 @@
+mod Texts
+mod Growing
+mod Found
+mod Again
+mod Stands
+mod Streams
+mod Splitting

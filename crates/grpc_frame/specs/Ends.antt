@@ -1,0 +1,28 @@
+-- What the calls of an end of a connection do.
+use Rattle.std.specs.Prelude.{◌≡◌, ℕ, ◌+◌, ◌<◌, List, ◌++◌, Option, Result, MatchResult}
+use Rattle.std.specs.Io.KnownBytes.{Appends}
+use Rattle.scan_base.specs.declared.fault.Fault.{Fault}
+use Rattle.scan_base.specs.declared.fault.Fault.TheVariants.{Transport}
+
+-- a call that failed is counted, and no other
+abbrev pub CountsFailure : {A E : Type 0} → Result A E → ℕ → ℕ → Type 0
+CountsFailure result old new = MatchResult result (λ _. new ≡ old) (λ _. new ≡ old + 1)
+
+-- the only fault is a failed transport
+abbrev pub FailsByTransport : {A : Type 0} → Result A Fault → Type 0
+FailsByTransport result = MatchResult result (λ _. Unit {0}) (λ fault. fault ≡ Transport)
+
+-- a read that gave bytes leaves fewer turns, and no call leaves more
+abbrev pub TakesTurn : {E : Type 0} → Result ℕ E → ℕ → ℕ → Type 0
+TakesTurn result old new = MatchResult result (λ count. 0 < count → new < old) (λ _. Unit {0})
+
+-- known bytes grow by a beginning of these
+pub record AppendsBeginning (old new : Option (List ℕ)) (bytes : List ℕ) : Type 0 where
+  pub front : List ℕ
+  pub rest : List ℕ
+  pub splits : bytes ≡ front ++ rest
+  pub wrote : Appends old new front
+
+-- a write put all the bytes behind the known ones, or a beginning of them where it failed
+abbrev pub Writes : {A E : Type 0} → Result A E → Option (List ℕ) → Option (List ℕ) → List ℕ → Type 0
+Writes result old new bytes = MatchResult result (λ _. Appends old new bytes) (λ _. AppendsBeginning old new bytes)

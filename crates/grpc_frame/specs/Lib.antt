@@ -1,0 +1,7 @@
+pub mod Records
+pub mod Head
+pub mod Front
+pub mod Calls
+pub mod Ends
+pub mod Laws
+pub mod Memory

@@ -1,0 +1,28 @@
+//! The records of a connection: read however the stream is cut, and written to ends that count their
+//! failures.
+//!
+//! A Message is a gRPC length-prefixed message behind a kind byte. The other records are this
+//! project's own. `specs/Records.antt` has the rules.
+#![tactic(auto)]
+
+mod counted;
+mod ends;
+mod head;
+mod inbox;
+mod memory;
+mod place;
+mod record;
+mod write;
+
+pub mod laws;
+
+pub use crate::counted::Counted;
+pub use crate::ends::{Input, Output};
+pub use crate::inbox::Inbox;
+pub use crate::memory::{MemoryInput, MemoryOutput};
+pub use crate::place::Place;
+pub use crate::record::{MAX_MESSAGE_LEN, MAX_PATH_LEN, Record};
+pub use crate::write::{write_end, write_message, write_open, write_status};
+
+#[cfg(test)]
+mod tests;
