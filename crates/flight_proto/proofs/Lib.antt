@@ -1,0 +1,4 @@
+pub mod Folds
+pub mod Writes
+pub mod Cuts
+pub mod Names
