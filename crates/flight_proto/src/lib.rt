@@ -11,6 +11,7 @@ pub mod command;
 pub mod flight_data;
 pub mod flight_descriptor;
 pub mod ingest;
+pub mod laws;
 pub mod message;
 pub mod put_result;
 mod scalar;
