@@ -1,6 +1,6 @@
 //! The fields of a message, one after the other.
 
-ghost use Rattle.std.specs.Prelude.{◌≡◌};
+ghost use Rattle.std.specs.Prelude.{◌≡◌, length};
 ghost use Rattle.proto_wire.specs.Calls.{ReadsFront, KeepsStandard, ReadsOn};
 
 use crate::field::{Field, read_field};
@@ -28,6 +28,14 @@ impl<'a> Fields<'a> {
         ensures { result ≡ bytes.now }
     {
         Fields { rest: bytes }
+    }
+
+    /// How many bytes are left. So a field that was read ends this far before the message's end.
+    #[inline]
+    pub fn bytes_left(&self) -> usize
+        ensures { result ≡ length self.now }
+    {
+        self.rest.len()
     }
 
     #[inline]

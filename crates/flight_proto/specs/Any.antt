@@ -1,0 +1,52 @@
+-- google.protobuf.Any: a message of any type, beside the name of its type.
+use Rattle.std.specs.Prelude.{ℕ, ◌==◌, List, [], ◌∷◌, ◌++◌, Option, Some, None, Result, Ok, Err, codes, if◌then◌else◌}
+use Rattle.std.specs.Option.{option_or}
+use Rattle.scan_base.specs.declared.fault.Fault.{Fault}
+use Rattle.scan_base.specs.Reading.{◌>>=◌}
+use Rattle.proto_wire.specs.Standard.{Content, Chunk, Entry}
+use Rattle.proto_wire.specs.Calls.{chunk_entry}
+use Rattle.flight_proto.specs.Message.{merged, text_of, set_fields, spelled}
+use Rattle.flight_proto.specs.declared.any.Any.{Any}
+
+pub record AnySaid : Type 0 where
+  pub type_url : List ℕ
+  pub value : List ℕ
+
+abbrev pub any_empty : AnySaid
+any_empty = record { type_url = []; value = [] }
+
+-- with one field more: string type_url = 1, bytes value = 2
+abbrev pub any_with : AnySaid → ℕ → Content → Result AnySaid Fault
+any_with any number (Chunk bytes) =
+    if number == 1 then (text_of bytes >>= λ text. Ok (record any { type_url = text }))
+    else (if number == 2 then Ok (record any { value = bytes })
+    else Ok any)
+any_with any number other = Ok any
+
+-- the Any that the bytes are
+abbrev pub any_of : List ℕ → Result AnySaid Fault
+any_of bytes = merged any_with any_empty bytes
+
+-- the bytes of an Any
+abbrev pub any_fields : AnySaid → List Entry
+any_fields any = set_fields (chunk_entry 1 any.type_url ∷ chunk_entry 2 any.value ∷ [])
+
+abbrev pub any_bytes : AnySaid → List ℕ
+any_bytes any = spelled (any_fields any)
+
+-- the byte of `/`
+abbrev pub slash : ℕ
+slash = 47
+
+-- the full name of the message's type: what follows the last slash of the URL, where it has one
+abbrev pub message_name : List ℕ → Option (List ℕ)
+message_name [] = None
+message_name (b ∷ rest) = option_or (message_name rest) (if b == slash then Some rest else None)
+
+-- the URL of a message's type
+abbrev pub type_url_of : List ℕ → List ℕ
+type_url_of name = codes "type.googleapis.com/" ++ name
+
+-- what the code holds
+abbrev pub any_said : Any → AnySaid
+any_said any = record { type_url = any.type_url.now; value = any.value.now }

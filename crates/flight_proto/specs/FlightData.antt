@@ -1,0 +1,60 @@
+-- arrow.flight.protocol.FlightData: one message of a stream. The first one also has the descriptor of
+-- the stream. It is read apart, since a descriptor behind the first message is not read at all.
+use Rattle.std.specs.Prelude.{ℕ, ◌==◌, List, [], ◌∷◌, ◌++◌, Option, None, Result, Ok, Err, option_map, if◌then◌else◌}
+use Rattle.scan_base.specs.declared.fault.Fault.{Fault}
+use Rattle.proto_wire.specs.Standard.{Content, Chunk, Entry}
+use Rattle.proto_wire.specs.Calls.{chunk_entry}
+use Rattle.flight_proto.specs.Message.{merged, embedded, set_fields, embedded_field, spelled}
+use Rattle.flight_proto.specs.FlightDescriptor.{DescriptorSaid, descriptor_empty, descriptor_with, descriptor_bytes, descriptor_said}
+use Rattle.flight_proto.specs.declared.flight_data.FlightData.{FlightData}
+use Rattle.flight_proto.specs.declared.flight_data.StreamDescriptor.{StreamDescriptor}
+
+-- ---- the descriptor of a stream
+
+-- with one field more: FlightDescriptor flight_descriptor = 1
+abbrev pub stream_with : Option DescriptorSaid → ℕ → Content → Result (Option DescriptorSaid) Fault
+stream_with descriptor number (Chunk bytes) =
+    if number == 1 then embedded descriptor_with descriptor_empty descriptor bytes else Ok descriptor
+stream_with descriptor number other = Ok descriptor
+
+-- the descriptor in the first message of a stream
+abbrev pub stream_descriptor_of : List ℕ → Result (Option DescriptorSaid) Fault
+stream_descriptor_of bytes = merged stream_with None bytes
+
+-- what the code holds
+abbrev pub stream_said : StreamDescriptor → Option DescriptorSaid
+stream_said stream = option_map descriptor_said stream.descriptor
+
+-- ---- what each message of a stream carries
+
+pub record DataSaid : Type 0 where
+  pub data_header : List ℕ
+  pub data_body : List ℕ
+
+abbrev pub data_empty : DataSaid
+data_empty = record { data_header = []; data_body = [] }
+
+-- with one field more: bytes data_header = 2, bytes data_body = 1000
+abbrev pub data_with : DataSaid → ℕ → Content → Result DataSaid Fault
+data_with carried number (Chunk bytes) =
+    if number == 2 then Ok (record carried { data_header = bytes })
+    else (if number == 1000 then Ok (record carried { data_body = bytes })
+    else Ok carried)
+data_with carried number other = Ok carried
+
+-- what the bytes carry
+abbrev pub data_of : List ℕ → Result DataSaid Fault
+data_of bytes = merged data_with data_empty bytes
+
+-- the bytes of a message of a stream
+abbrev pub data_fields : Option DescriptorSaid → DataSaid → List Entry
+data_fields descriptor carried =
+    embedded_field 1 descriptor_bytes descriptor
+    ++ set_fields (chunk_entry 2 carried.data_header ∷ chunk_entry 1000 carried.data_body ∷ [])
+
+abbrev pub data_bytes : Option DescriptorSaid → DataSaid → List ℕ
+data_bytes descriptor carried = spelled (data_fields descriptor carried)
+
+-- what the code holds
+abbrev pub data_said : FlightData → DataSaid
+data_said carried = record { data_header = carried.data_header; data_body = carried.data_body }

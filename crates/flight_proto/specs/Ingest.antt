@@ -1,0 +1,75 @@
+-- The ingest that the first message of a put asks for, as far as it is supported.
+use Rattle.std.specs.Prelude.{ℕ, ◌==◌, ◌&&◌, Bool, not, List, length, Result, Ok, Err, unwrap_or, codes, bytes_eq, if◌then◌else◌}
+use Rattle.scan_base.specs.declared.fault.Fault.{Fault}
+use Rattle.scan_base.specs.declared.fault.Fault.TheVariants.{BadProto, UnknownCommand, NotInSubset}
+use Rattle.scan_base.specs.Reading.{◌>>=◌, demand}
+use Rattle.flight_proto.specs.FlightData.{stream_descriptor_of}
+use Rattle.flight_proto.specs.StatementIngest.{OptionsSaid, options_empty, StatementSaid, statement_of}
+use Rattle.flight_proto.specs.Command.{command_of}
+use Rattle.flight_proto.specs.declared.ingest.IfNotExist.{IfNotExist}
+use Rattle.flight_proto.specs.declared.ingest.IfNotExist.TheVariants as absent
+use Rattle.flight_proto.specs.declared.ingest.IfExists.{IfExists}
+use Rattle.flight_proto.specs.declared.ingest.IfExists.TheVariants as present
+use Rattle.flight_proto.specs.declared.ingest.Ingest.{Ingest}
+
+-- what to do where the table is absent, by its number
+abbrev pub if_not_exist_of : ℕ → Result IfNotExist Fault
+if_not_exist_of number =
+    if number == 0 then Ok absent.Unspecified
+    else (if number == 1 then Ok absent.Create
+    else (if number == 2 then Ok absent.Fail
+    else Err BadProto))
+
+-- what to do where the table is there, by its number
+abbrev pub if_exists_of : ℕ → Result IfExists Fault
+if_exists_of number =
+    if number == 0 then Ok present.Unspecified
+    else (if number == 1 then Ok present.Fail
+    else (if number == 2 then Ok present.Append
+    else (if number == 3 then Ok present.Replace
+    else Err BadProto)))
+
+-- what is left out is at its default
+abbrev pub is_in_subset : StatementSaid → Bool
+is_in_subset statement =
+    length statement.schema == 0
+    && length statement.catalog == 0
+    && not statement.temporary
+    && length statement.transaction_id == 0
+
+pub record IngestSaid : Type 0 where
+  pub table : List ℕ
+  pub if_not_exist : IfNotExist
+  pub if_exists : IfExists
+
+-- absent options are as empty ones
+abbrev pub options_in : StatementSaid → OptionsSaid
+options_in statement = unwrap_or statement.table_definition_options options_empty
+
+-- the ingest of a command, or the first fault
+unfoldable pub ingest_in : List ℕ → Result IngestSaid Fault
+ingest_in value = do
+  statement ← statement_of value
+  if_not_exist ← if_not_exist_of (options_in statement).if_not_exist
+  if_exists ← if_exists_of (options_in statement).if_exists
+  _ ← demand (is_in_subset statement) NotInSubset
+  Ok (record { table = statement.table; if_not_exist = if_not_exist; if_exists = if_exists })
+
+abbrev pub statement_ingest_name : List ℕ
+statement_ingest_name = codes "arrow.flight.protocol.sql.CommandStatementIngest"
+
+-- the ingest that the first message of a put asks for, or the first fault
+unfoldable pub ingest_of : List ℕ → Result IngestSaid Fault
+ingest_of first = do
+  descriptor ← stream_descriptor_of first
+  command ← command_of descriptor
+  _ ← demand (bytes_eq command.name statement_ingest_name) UnknownCommand
+  ingest_in command.value
+
+-- what the code holds
+abbrev pub ingest_said : Ingest → IngestSaid
+ingest_said ingest = record {
+  table = ingest.table.now;
+  if_not_exist = ingest.if_not_exist;
+  if_exists = ingest.if_exists;
+}

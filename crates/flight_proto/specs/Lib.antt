@@ -1,0 +1,11 @@
+pub mod Message
+pub mod Any
+pub mod FlightDescriptor
+pub mod Cut
+pub mod FlightData
+pub mod PutResult
+pub mod Ticket
+pub mod StatementIngest
+pub mod Command
+pub mod Ingest
+pub mod Laws

@@ -1,0 +1,76 @@
+//! Laws of the definitions that the contracts cite. The functions do nothing: their contracts are the
+//! laws.
+
+ghost use Rattle.flight_proto.specs.Laws.{MergingJoins, NameIsLastPart};
+ghost use Rattle.flight_proto.specs.Laws.{AnyReadsBack, DescriptorReadsBack, DataReadsBack};
+ghost use Rattle.flight_proto.specs.Laws.{PutResultReadsBack, UpdateReadsBack, RowsPutReadBack};
+ghost use Rattle.flight_proto.specs.Laws.{TicketReadsBack, TicketQueryReadsBack};
+ghost use Rattle.flight_proto.specs.Laws.{StatementTicketReadsBack};
+ghost use Rattle.flight_proto.specs.Laws.{OptionsReadBack, StatementReadsBack};
+
+use crate::message::Message;
+
+/// Reading a message from one payload and then from another is reading it from the two as one.
+pub fn merging_joins<'a, M: Message<'a>>()
+    ensures { MergingJoins M.with }
+{}
+
+/// The name of a message's type stands behind a `/` of its URL, and no `/` stands in it.
+pub fn name_is_last_part()
+    ensures { NameIsLastPart }
+{}
+
+/// An Any that is written reads back.
+pub fn any_reads_back()
+    ensures { AnyReadsBack }
+{}
+
+/// A FlightDescriptor that is written reads back.
+pub fn descriptor_reads_back()
+    ensures { DescriptorReadsBack }
+{}
+
+/// A FlightData that is written reads back, with its descriptor.
+pub fn data_reads_back()
+    ensures { DataReadsBack }
+{}
+
+/// A PutResult that is written reads back.
+pub fn put_result_reads_back()
+    ensures { PutResultReadsBack }
+{}
+
+/// A DoPutUpdateResult that is written reads back.
+pub fn update_reads_back()
+    ensures { UpdateReadsBack }
+{}
+
+/// The number of rows put that is written reads back.
+pub fn rows_put_read_back()
+    ensures { RowsPutReadBack }
+{}
+
+/// A Ticket that is written reads back.
+pub fn ticket_reads_back()
+    ensures { TicketReadsBack }
+{}
+
+/// A TicketStatementQuery that is written reads back.
+pub fn ticket_query_reads_back()
+    ensures { TicketQueryReadsBack }
+{}
+
+/// The handle of a ticket that is written reads back.
+pub fn statement_ticket_reads_back()
+    ensures { StatementTicketReadsBack }
+{}
+
+/// TableDefinitionOptions that are written read back.
+pub fn options_read_back()
+    ensures { OptionsReadBack }
+{}
+
+/// A CommandStatementIngest that is written reads back.
+pub fn statement_reads_back()
+    ensures { StatementReadsBack }
+{}
