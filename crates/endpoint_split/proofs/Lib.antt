@@ -1,3 +1,2 @@
 pub mod Cuts
-pub mod Texts
 pub mod Tickets

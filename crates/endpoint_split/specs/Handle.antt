@@ -1,10 +1,9 @@
 -- The bytes of a statement handle.
 use Rattle.std.specs.Prelude.{◌≡◌, ℕ, ◌<◌, ◌^◌, ◌==◌, List, [], ◌∷◌, ◌++◌, length, drop, nat_le, if◌then◌else◌, Result, Ok, Err, IsUtf8}
-use Rattle.std.specs.Str.{is_utf8}
 use Rattle.byteorder.specs.Endian.{big_bytes, big_number}
 use Rattle.scan_base.specs.declared.fault.Fault.{Fault}
 use Rattle.scan_base.specs.declared.fault.Fault.TheVariants.{BadTicket}
-use Rattle.scan_base.specs.Reading.{◌>>=◌, demand}
+use Rattle.scan_base.specs.Reading.{◌>>=◌, demand, text_in}
 
 -- what a handle says, without where its text lies
 pub data HandleAt : Type 0 where
@@ -17,15 +16,11 @@ handle_bytes (Query version from to query) =
     1 ∷ (big_bytes 8 version ++ (big_bytes 4 from ++ (big_bytes 4 to ++ query)))
 handle_bytes (Tables version) = 2 ∷ big_bytes 8 version
 
--- the text that bytes are
-abbrev pub text_in : List ℕ → Result (List ℕ) Fault
-text_in bytes = if is_utf8 bytes then Ok bytes else Err BadTicket
-
 -- behind the kind of a query
 unfoldable pub query_of : List ℕ → Result HandleAt Fault
 query_of bytes = do
   _ ← demand (nat_le 16 (length bytes)) BadTicket
-  query ← text_in (drop 16 bytes)
+  query ← text_in (drop 16 bytes) BadTicket
   Ok (Query (big_number 8 bytes) (big_number 4 (drop 8 bytes)) (big_number 4 (drop 12 bytes)) query)
 
 -- behind the kind of a list of tables

@@ -1,14 +1,12 @@
 //! Statement handles: what a ticket carries. The form is this project's own.
 
-ghost use Rattle.std.specs.Prelude.{◌≡◌, IfOk, Ok, Err, if◌then◌else◌};
-ghost use Rattle.std.specs.Str.{is_utf8};
-ghost use Rattle.scan_base.specs.declared.fault.Fault.TheVariants.{BadTicket};
+ghost use Rattle.std.specs.Prelude.{◌≡◌, IfOk};
 ghost use Rattle.scan_base.specs.Reading.{Gives};
 ghost use Rattle.endpoint_split.specs.Handle.{handle_bytes, handle_of, Query, tables_of, query_of};
 ghost use Rattle.endpoint_split.specs.Seen.{handle_seen};
 
 use byteorder::{BigEndian, ByteOrder};
-use scan_base::Fault;
+use scan_base::{Fault, read_text};
 use std::alloc::{AllocError, Global};
 
 /// What a ticket carries: the catalog version that it is pinned to, and what is asked of it.
@@ -50,7 +48,7 @@ fn read_query(bytes: &[u8]) -> Result<Handle<'_>, Fault>
     if bytes.len() < 16 {
         return Err(Fault::BadTicket);
     }
-    let query = utf8(&bytes[16..])?;
+    let query = read_text(&bytes[16..], Fault::BadTicket)?;
     let version = BigEndian::read_u64(bytes);
     let from = BigEndian::read_u32(&bytes[8..]);
     let to = BigEndian::read_u32(&bytes[12..]);
@@ -60,16 +58,6 @@ fn read_query(bytes: &[u8]) -> Result<Handle<'_>, Fault>
         to,
         query,
     })
-}
-
-fn utf8(bytes: &[u8]) -> Result<&str, Fault>
-    ensures { Gives (λ text. text.now) result
-        (if is_utf8 bytes.now then Ok bytes.now else Err BadTicket) }
-{
-    match simdutf8::basic::from_utf8(bytes) {
-        Ok(text) => Ok(text),
-        Err(_) => Err(Fault::BadTicket),
-    }
 }
 
 #[tactic(auto, unfolding(crate::specs::Handle::tables_of))]

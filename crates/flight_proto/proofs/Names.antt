@@ -26,7 +26,7 @@ name_by_split url None h = no_name url (λ i lt. NoCharPasses-char slash url i h
 name_by_split url (Some x) h =
     let lacks : LacksSlash (drop h.1 url) = λ i lt. NoCharPasses-char slash (drop h.1 url) i h.2.0 (omega arith) lt in
     let whole : url ≡ take h.0 url ++ slash ∷ drop h.1 url =
-      sym (take-append-drop h.0 url) ∙ ap (λ (t : List ℕ). take h.0 url ++ t) (h.2.1.split ∙ ap (λ (t : List ℕ). t ++ drop h.1 url) (encode_ascii slash (omega arith))) in
+    sym (take-append-drop h.0 url) ∙ ap (λ (t : List ℕ). take h.0 url ++ t) (h.2.1.split ∙ ap (λ (t : List ℕ). t ++ drop h.1 url) (encode_ascii slash (omega arith))) in
     ap message_name whole ∙ name_behind (take h.0 url) (drop h.1 url) lacks ∙ ap Some (sym h.4)
 
 -- where there is no name there is no slash

@@ -157,13 +157,15 @@ made options table schema catalog temporary transaction_id = record {
 
 -- the fields behind the options
 others_say : (options : Option OptionsSaid) (table schema catalog : List ℕ) (temporary : Bool) (transaction_id : List ℕ) → IsText table → IsText schema → IsText catalog → FitsMemory transaction_id → (size : ℕ) × Says statement_with (made options [] [] [] false []) (made options table schema catalog temporary transaction_id) (set_fields (chunk_entry 2 table ∷ chunk_entry 3 schema ∷ chunk_entry 4 catalog ∷ varint_entry 5 (bool_number temporary) ∷ chunk_entry 6 transaction_id ∷ [])) size
-others_say options t s c b x table schema catalog transaction =
-    (_, says_chunk statement_with (made options [] [] [] false []) (made options t [] [] false []) (made options t s c b x) 2 t (chunk_entry 3 s ∷ chunk_entry 4 c ∷ varint_entry 5 (bool_number b) ∷ chunk_entry 6 x ∷ []) _ (omega arith, omega arith) (short t table.1) (rw (is_utf8-from_IsUtf8 t table.0) refl) (λ e. rw e refl)
-    (says_chunk statement_with (made options t [] [] false []) (made options t s [] false []) (made options t s c b x) 3 s (chunk_entry 4 c ∷ varint_entry 5 (bool_number b) ∷ chunk_entry 6 x ∷ []) _ (omega arith, omega arith) (short s schema.1) (rw (is_utf8-from_IsUtf8 s schema.0) refl) (λ e. rw e refl)
-    (says_chunk statement_with (made options t s [] false []) (made options t s c false []) (made options t s c b x) 4 c (varint_entry 5 (bool_number b) ∷ chunk_entry 6 x ∷ []) _ (omega arith, omega arith) (short c catalog.1) (rw (is_utf8-from_IsUtf8 c catalog.0) refl) (λ e. rw e refl)
-    (says_varint statement_with (made options t s c false []) (made options t s c b []) (made options t s c b x) 5 (bool_number b) (chunk_entry 6 x ∷ []) _ (omega arith, omega arith) (bool_small b) (rw (bool_same b) refl) (λ e. rw (bool_unset b e) refl)
-    (says_chunk statement_with (made options t s c b []) (made options t s c b x) (made options t s c b x) 6 x [] 0 (omega arith, omega arith) (short x transaction) refl (λ e. rw e refl)
-    (says_nothing statement_with (made options t s c b x)))))))
+others_say options t s c b x table schema catalog transaction = (
+  _,
+  says_chunk statement_with (made options [] [] [] false []) (made options t [] [] false []) (made options t s c b x) 2 t (chunk_entry 3 s ∷ chunk_entry 4 c ∷ varint_entry 5 (bool_number b) ∷ chunk_entry 6 x ∷ []) _ (omega arith, omega arith) (short t table.1) (rw (is_utf8-from_IsUtf8 t table.0) refl) (λ e. rw e refl)
+      (says_chunk statement_with (made options t [] [] false []) (made options t s [] false []) (made options t s c b x) 3 s (chunk_entry 4 c ∷ varint_entry 5 (bool_number b) ∷ chunk_entry 6 x ∷ []) _ (omega arith, omega arith) (short s schema.1) (rw (is_utf8-from_IsUtf8 s schema.0) refl) (λ e. rw e refl)
+      (says_chunk statement_with (made options t s [] false []) (made options t s c false []) (made options t s c b x) 4 c (varint_entry 5 (bool_number b) ∷ chunk_entry 6 x ∷ []) _ (omega arith, omega arith) (short c catalog.1) (rw (is_utf8-from_IsUtf8 c catalog.0) refl) (λ e. rw e refl)
+      (says_varint statement_with (made options t s c false []) (made options t s c b []) (made options t s c b x) 5 (bool_number b) (chunk_entry 6 x ∷ []) _ (omega arith, omega arith) (bool_small b) (rw (bool_same b) refl) (λ e. rw (bool_unset b e) refl)
+      (says_chunk statement_with (made options t s c b []) (made options t s c b x) (made options t s c b x) 6 x [] 0 (omega arith, omega arith) (short x transaction) refl (λ e. rw e refl)
+      (says_nothing statement_with (made options t s c b x)))))),
+)
 
 statement_says : (options : Option OptionsSaid) (table schema catalog : List ℕ) (temporary : Bool) (transaction_id : List ℕ) → IfSome options AreOptions → IsText table → IsText schema → IsText catalog → FitsMemory transaction_id → (size : ℕ) × Says statement_with statement_empty (made options table schema catalog temporary transaction_id) (statement_fields (made options table schema catalog temporary transaction_id)) size
 statement_says None t s c b x h table schema catalog transaction = others_say None t s c b x table schema catalog transaction

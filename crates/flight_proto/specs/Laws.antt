@@ -31,7 +31,7 @@ abbrev pub NameIsLastPart : Type 0
 NameIsLastPart =
     (url name : List ℕ)
     → (message_name url ≡ Some name)
-        ↔ ((front : List ℕ) × (url ≡ front ++ slash ∷ name) × LacksSlash name)
+    ↔ ((front : List ℕ) × (url ≡ front ++ slash ∷ name) × LacksSlash name)
 
 -- ---- what is written reads back, where it is within its range
 
@@ -60,7 +60,7 @@ DataReadsBack =
     (descriptor : Option DescriptorSaid) (carried : DataSaid)
     → IfSome descriptor IsDescriptor → FitsMemory carried.data_header → FitsMemory carried.data_body
     → (stream_descriptor_of (data_bytes descriptor carried) ≡ Ok descriptor)
-        × (data_of (data_bytes descriptor carried) ≡ Ok carried)
+    × (data_of (data_bytes descriptor carried) ≡ Ok carried)
 
 abbrev pub PutResultReadsBack : Type 0
 PutResultReadsBack =

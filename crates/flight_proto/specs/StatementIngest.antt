@@ -69,8 +69,8 @@ statement_empty = record {
 abbrev pub statement_with : StatementSaid → ℕ → Content → Result StatementSaid Fault
 statement_with statement number (Chunk bytes) =
     if number == 1 then
-      (embedded options_with options_empty statement.table_definition_options bytes >>= λ options.
-      Ok (record statement { table_definition_options = options }))
+    (embedded options_with options_empty statement.table_definition_options bytes >>= λ options.
+    Ok (record statement { table_definition_options = options }))
     else (if number == 2 then (text_of bytes >>= λ text. Ok (record statement { table = text }))
     else (if number == 3 then (text_of bytes >>= λ text. Ok (record statement { schema = text }))
     else (if number == 4 then (text_of bytes >>= λ text. Ok (record statement { catalog = text }))
@@ -93,11 +93,11 @@ abbrev pub statement_fields : StatementSaid → List Entry
 statement_fields statement =
     embedded_field 1 options_bytes statement.table_definition_options
     ++ set_fields (chunk_entry 2 statement.table
-      ∷ chunk_entry 3 statement.schema
-      ∷ chunk_entry 4 statement.catalog
-      ∷ varint_entry 5 (bool_number statement.temporary)
-      ∷ chunk_entry 6 statement.transaction_id
-      ∷ [])
+    ∷ chunk_entry 3 statement.schema
+    ∷ chunk_entry 4 statement.catalog
+    ∷ varint_entry 5 (bool_number statement.temporary)
+    ∷ chunk_entry 6 statement.transaction_id
+    ∷ [])
 
 abbrev pub statement_bytes : StatementSaid → List ℕ
 statement_bytes statement = spelled (statement_fields statement)

@@ -141,7 +141,7 @@ fn append_flight_data(
 ) -> Result<(), AllocError>
     ensures ok { OnOk result (out.new.items ≡ out.old.items
         ++ data_bytes (option_map descriptor_said (option_copied descriptor.entry))
-            (record { data_header = data_header.now; data_body = data_body.now })) }
+        (record { data_header = data_header.now; data_body = data_body.now })) }
     ensures err { take (length out.old.items) out.new.items ≡ out.old.items }
 {
     put_descriptor(out, descriptor)?;
@@ -162,7 +162,7 @@ pub fn put_flight_data(
 ) -> Result<(), AllocError>
     ensures ok { OnOk result (out.new.items ≡ out.old.items
         ++ data_bytes (option_map descriptor_said (option_copied descriptor.entry))
-            (record { data_header = data_header.now; data_body = data_body.now })) }
+        (record { data_header = data_header.now; data_body = data_body.now })) }
     ensures err { OnErr result (out.new.items ≡ out.old.items) }
 {
     let start = out.len();

@@ -119,8 +119,9 @@ impl<'a> Message<'a> for CommandStatementIngest<'a> {
         match (field.number, field.payload) {
             (1, Payload::Bytes(bytes)) => {
                 let before = statement.table_definition_options;
-                statement.table_definition_options =
-                    TableDefinitionOptions::read_embedded(before, bytes)?;
+                statement.table_definition_options = TableDefinitionOptions::read_embedded(
+                    before, bytes,
+                )?;
             }
             (2, Payload::Bytes(bytes)) => statement.table = utf8(bytes)?,
             (3, Payload::Bytes(bytes)) => statement.schema = utf8(bytes)?,
@@ -134,10 +135,7 @@ impl<'a> Message<'a> for CommandStatementIngest<'a> {
 }
 
 // Writes options as the field of a message, where there are any. An `Err` changes nothing.
-fn put_options(
-    out: &mut Vec<u8>,
-    options: Option<TableDefinitionOptions>,
-) -> Result<(), AllocError>
+fn put_options(out: &mut Vec<u8>, options: Option<TableDefinitionOptions>) -> Result<(), AllocError>
     ensures ok { OnOk result (out.new.items ≡ out.old.items
         ++ spelled (embedded_field 1 options_bytes (option_map options_said options))) }
     ensures err { OnErr result (out.new.items ≡ out.old.items) }

@@ -2,11 +2,12 @@
 //! writes (`vectors/`), and bytes made by hand for what no writer makes.
 
 use crate::laws::merging_joins;
-use crate::{Any, Command, CommandStatementIngest, DoPutUpdateResult, FlightData, FlightDescriptor};
-use crate::{IfExists, IfNotExist, Ingest, Message, PutResult, StreamDescriptor};
-use crate::{TableDefinitionOptions, Ticket, TicketStatementQuery};
-use crate::{put_flight_data, put_rows_put, put_statement_ticket};
-use crate::{read_ingest, read_rows_put, read_statement_handle};
+use crate::{
+    Any, Command, CommandStatementIngest, DoPutUpdateResult, FlightData, FlightDescriptor,
+    IfExists, IfNotExist, Ingest, Message, PutResult, StreamDescriptor, TableDefinitionOptions,
+    Ticket, TicketStatementQuery, put_flight_data, put_rows_put, put_statement_ticket, read_ingest,
+    read_rows_put, read_statement_handle,
+};
 use bytes::Bytes;
 use scan_base::Fault;
 use std::alloc::{AllocError, Global};
@@ -90,7 +91,10 @@ fn first_message_read(rt: HostRuntime) -> Result<(), Fail> {
     assert_eq!(rt; (any.type_url, any.value), (INGEST_URL, value));
     let name = "arrow.flight.protocol.sql.CommandStatementIngest";
     assert_eq!(rt; any.message_name(), Some(name));
-    assert_eq!(rt; Command::read(Some(descriptor)), Ok(Command { name, value }));
+    assert_eq!(rt;
+        Command::read(Some(descriptor)),
+        Ok(Command { name, value })
+    );
 
     let statement = CommandStatementIngest {
         table_definition_options: options(1, 0),
@@ -147,12 +151,19 @@ fn flight_data_both_ways(rt: HostRuntime) -> Result<(), Fail> {
         ),
         (b"\x0a\x00\xc2\x3e\x04body", b"", b"body"),
         // The last value counts, and a varint of a known number does not.
-        (b"\xc2\x3e\x01a\x12\x01b\x12\x01c\x10\x00\xc2\x3e\x02de", b"c", b"de"),
+        (
+            b"\xc2\x3e\x01a\x12\x01b\x12\x01c\x10\x00\xc2\x3e\x02de",
+            b"c",
+            b"de",
+        ),
     ];
     for (bytes, header, body) in table {
         let message = Bytes::copy_from_slice(rt.alloc(), bytes)?;
         let read = FlightData::read(&message)?;
-        assert_eq!(rt; (read.data_header.as_slice(), read.data_body.as_slice()), (header, body));
+        assert_eq!(rt;
+            (read.data_header.as_slice(), read.data_body.as_slice()),
+            (header, body)
+        );
     }
     let mut second = Vec::new(rt.alloc());
     put_flight_data(&mut second, None, &SECOND_DATA[3..131], &SECOND_DATA[134..])?;
@@ -192,7 +203,11 @@ fn ingests_by_protoc(rt: HostRuntime) -> Result<(), Fail> {
         (b"\x12\x01t", plain_ingest()),
     ];
     for (bytes, statement) in table {
-        assert_eq!(rt; CommandStatementIngest::read(bytes), Ok(statement), "of {bytes:?}");
+        assert_eq!(rt;
+            CommandStatementIngest::read(bytes),
+            Ok(statement),
+            "of {bytes:?}"
+        );
         let mut out = Vec::new(rt.alloc());
         statement.put(&mut out)?;
         assert_eq!(rt; out.as_slice(), bytes);
@@ -208,18 +223,39 @@ fn ingests_merged_and_skipped(rt: HostRuntime) {
     };
     let table: [(&[u8], Result<CommandStatementIngest, Fault>); 12] = [
         // Options in two payloads, and as one; the last value of each counts.
-        (b"\x0a\x02\x08\x02\x12\x01t\x0a\x02\x10\x01", Ok(with(options(2, 1)))),
-        (b"\x0a\x04\x08\x02\x10\x01\x12\x01t", Ok(with(options(2, 1)))),
-        (b"\x0a\x06\x08\x01\x08\x02\x10\x01\x12\x01u\x12\x01t", Ok(with(options(2, 1)))),
+        (
+            b"\x0a\x02\x08\x02\x12\x01t\x0a\x02\x10\x01",
+            Ok(with(options(2, 1))),
+        ),
+        (
+            b"\x0a\x04\x08\x02\x10\x01\x12\x01t",
+            Ok(with(options(2, 1))),
+        ),
+        (
+            b"\x0a\x06\x08\x01\x08\x02\x10\x01\x12\x01u\x12\x01t",
+            Ok(with(options(2, 1))),
+        ),
         // The low 32 bits of an enum's varint.
-        (b"\x12\x01t\x0a\x06\x08\x81\x80\x80\x80\x10", Ok(with(options(1, 0)))),
+        (
+            b"\x12\x01t\x0a\x06\x08\x81\x80\x80\x80\x10",
+            Ok(with(options(1, 0))),
+        ),
         // Known numbers with another wire type, and an unknown number.
-        (b"\x12\x01t\x08\x01\x10\x01\x2a\x01a\x0a\x02\x0a\x00", Ok(with(options(0, 0)))),
-        (b"\x12\x01t\x3a\x01\xff\x35\x00\x00\x00\x00", Ok(plain_ingest())),
+        (
+            b"\x12\x01t\x08\x01\x10\x01\x2a\x01a\x0a\x02\x0a\x00",
+            Ok(with(options(0, 0))),
+        ),
+        (
+            b"\x12\x01t\x3a\x01\xff\x35\x00\x00\x00\x00",
+            Ok(plain_ingest()),
+        ),
         // A bool that is not 0, and is 0 at last.
         (b"\x12\x01t\x28\x02\x28\x00", Ok(plain_ingest())),
         // Options that are a map's entries are not read.
-        (b"\x12\x01t\xc2\x3e\x03\x0a\x01\xff\xc2\x3e\x01\x0a", Ok(plain_ingest())),
+        (
+            b"\x12\x01t\xc2\x3e\x03\x0a\x01\xff\xc2\x3e\x01\x0a",
+            Ok(plain_ingest()),
+        ),
         // No UTF-8 in a text, also where another takes its place.
         (b"\x12\x01\xff\x12\x01t", Err(Fault::BadProto)),
         (b"\x12\x01t\x1a\x02\xc3\x28\x1a\x00", Err(Fault::BadProto)),
@@ -281,15 +317,40 @@ fn ingests_and_their_faults(rt: HostRuntime) -> Result<(), Fail> {
     });
     let table: [(u32, &str, &[u8], Result<Ingest, Fault>); 18] = [
         (2, url, b"\x12\x01t", ok),
-        (2, "a/b/arrow.flight.protocol.sql.CommandStatementIngest", b"\x12\x01t", ok),
-        (2, "/arrow.flight.protocol.sql.CommandStatementIngest", b"\x12\x01t", ok),
-        (2, url, b"\x0a\x00\x12\x01t\x1a\x00\x22\x00\x28\x00\x32\x00", ok),
+        (
+            2,
+            "a/b/arrow.flight.protocol.sql.CommandStatementIngest",
+            b"\x12\x01t",
+            ok,
+        ),
+        (
+            2,
+            "/arrow.flight.protocol.sql.CommandStatementIngest",
+            b"\x12\x01t",
+            ok,
+        ),
+        (
+            2,
+            url,
+            b"\x0a\x00\x12\x01t\x1a\x00\x22\x00\x28\x00\x32\x00",
+            ok,
+        ),
         (2, url, b"\x12\x01t\xc2\x3e\x03\x0a\x01\xff", ok),
         (0, url, b"\x12\x01t", Err(Fault::UnknownCommand)),
         (1, url, b"\x12\x01t", Err(Fault::UnknownCommand)),
         (3, url, b"\x12\x01t", Err(Fault::UnknownCommand)),
-        (2, "arrow.flight.protocol.sql.CommandStatementIngest", b"", Err(Fault::UnknownCommand)),
-        (2, "a/arrow.flight.protocol.sql.CommandStatementIngest/b", b"", Err(Fault::UnknownCommand)),
+        (
+            2,
+            "arrow.flight.protocol.sql.CommandStatementIngest",
+            b"",
+            Err(Fault::UnknownCommand),
+        ),
+        (
+            2,
+            "a/arrow.flight.protocol.sql.CommandStatementIngest/b",
+            b"",
+            Err(Fault::UnknownCommand),
+        ),
         (2, TICKET_URL, b"", Err(Fault::UnknownCommand)),
         (2, url, b"\x12\x02t", Err(Fault::BadProto)),
         (2, url, b"\x0a\x02\x08\x03\x1a\x01s", Err(Fault::BadProto)),
@@ -323,7 +384,11 @@ fn commands_that_do_not_read(rt: HostRuntime) -> Result<(), Fail> {
             cmd,
         };
         let len = cmd.len();
-        assert_eq!(rt; Command::read(Some(descriptor)), Err(want), "of {len} bytes");
+        assert_eq!(rt;
+            Command::read(Some(descriptor)),
+            Err(want),
+            "of {len} bytes"
+        );
     }
     Ok(())
 }
@@ -358,7 +423,11 @@ fn tickets_and_their_faults(rt: HostRuntime) -> Result<(), Fail> {
         (TICKET_URL, b"", Ok(b"")),
         (TICKET_URL, b"\x0a\x02\x01", Err(Fault::BadTicket)),
         (INGEST_URL, b"\x0a\x01a", Err(Fault::BadTicket)),
-        ("arrow.flight.protocol.sql.TicketStatementQuery", b"", Err(Fault::BadTicket)),
+        (
+            "arrow.flight.protocol.sql.TicketStatementQuery",
+            b"",
+            Err(Fault::BadTicket),
+        ),
         ("", b"", Err(Fault::BadTicket)),
     ];
     for (type_url, value, want) in table {
@@ -366,11 +435,18 @@ fn tickets_and_their_faults(rt: HostRuntime) -> Result<(), Fail> {
         Any { type_url, value }.put(&mut any)?;
         let mut message = Vec::new(rt.alloc());
         Ticket { ticket: &any }.put(&mut message)?;
-        assert_eq!(rt; read_statement_handle(&message), want, "of {value:?} at {type_url}");
+        assert_eq!(rt;
+            read_statement_handle(&message),
+            want,
+            "of {value:?} at {type_url}"
+        );
     }
     let outside = read_statement_handle(&[0x0a, 0x01]);
     let inside = read_statement_handle(&[0x0a, 0x01, 0x0a]);
-    assert_eq!(rt; (outside, inside), (Err(Fault::BadProto), Err(Fault::BadTicket)));
+    assert_eq!(rt;
+        (outside, inside),
+        (Err(Fault::BadProto), Err(Fault::BadTicket))
+    );
     Ok(())
 }
 
@@ -381,10 +457,7 @@ fn put_results(rt: HostRuntime) -> Result<(), Fail> {
         (1, b"\x0a\x02\x08\x01"),
         (2, b"\x0a\x02\x08\x02"),
         (4, b"\x0a\x02\x08\x04"),
-        (
-            -1,
-            b"\x0a\x0b\x08\xff\xff\xff\xff\xff\xff\xff\xff\xff\x01",
-        ),
+        (-1, b"\x0a\x0b\x08\xff\xff\xff\xff\xff\xff\xff\xff\xff\x01"),
     ];
     for (rows, bytes) in table {
         let mut out = Vec::new(rt.alloc());
@@ -413,7 +486,10 @@ fn numbers_of_options(rt: HostRuntime) {
         (4, Err(Fault::BadProto), Err(Fault::BadProto)),
     ];
     for (number, absent, present) in table {
-        let read = (IfNotExist::from_number(number), IfExists::from_number(number));
+        let read = (
+            IfNotExist::from_number(number),
+            IfExists::from_number(number),
+        );
         assert_eq!(rt; read, (absent, present), "of {number}");
     }
     merging_joins::<Any>();

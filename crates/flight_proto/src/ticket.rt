@@ -112,6 +112,7 @@ impl<'a> TicketStatementQuery<'a> {
 
 // The full name of the message in a ticket, and its URL.
 const TICKET_QUERY_NAME: &str = "arrow.flight.protocol.sql.TicketStatementQuery";
+
 const TICKET_QUERY_URL: &str = "type.googleapis.com/arrow.flight.protocol.sql.TicketStatementQuery";
 
 // The handle in the bytes that a Ticket holds.

@@ -9,12 +9,11 @@ mod counted;
 mod ends;
 mod head;
 mod inbox;
+pub mod laws;
 mod memory;
 mod place;
 mod record;
 mod write;
-
-pub mod laws;
 
 pub use crate::counted::Counted;
 pub use crate::ends::{Input, Output};

@@ -4,8 +4,8 @@
 ghost use Rattle.std.specs.Prelude.{◌≡◌, ◌<◌, IfOk, length};
 
 use crate::{
-    Counted, Inbox, Input, MAX_MESSAGE_LEN, MAX_PATH_LEN, MemoryInput, MemoryOutput, Output, Record,
-    write_end, write_message, write_open, write_status,
+    Counted, Inbox, Input, MAX_MESSAGE_LEN, MAX_PATH_LEN, MemoryInput, MemoryOutput, Output,
+    Record, write_end, write_message, write_open, write_status,
 };
 use bytes::{ByteStr, Bytes};
 use scan_base::Fault;
@@ -163,7 +163,10 @@ fn broken_and_cut_streams(rt: HostRuntime) -> Result<(), Fail> {
         (b"\x01\x00\x02/x\x04", Err(Fault::BadFrame)),
         (b"\x01\x00\x02/x\x02\x01", Err(Fault::BadFrame)),
         (b"\x01\x00\x02/x\x02\x00\x01\x00\x00\x00", Ok((1, true))),
-        (b"\x01\x00\x02/x\x02\x00\x01\x00\x00\x01", Err(Fault::MessageTooLarge)),
+        (
+            b"\x01\x00\x02/x\x02\x00\x01\x00\x00\x01",
+            Err(Fault::MessageTooLarge),
+        ),
     ];
     for (bytes, want) in table {
         let met = records_of(rt.alloc(), bytes, 1).map(|(records, open)| (records.len(), open));
@@ -224,8 +227,14 @@ fn statuses_written(rt: HostRuntime) -> Result<(), Fail> {
     let table: [(Option<Fault>, &[u8]); 6] = [
         (None, b"\x04\x00\x00\x00"),
         (Some(Fault::BadFrame), b"\x04\x03\x00\x0bF1 BadFrame"),
-        (Some(Fault::MessageTooLarge), b"\x04\x08\x00\x12F2 MessageTooLarge"),
-        (Some(Fault::UnknownMethod), b"\x04\x0c\x00\x10F3 UnknownMethod"),
+        (
+            Some(Fault::MessageTooLarge),
+            b"\x04\x08\x00\x12F2 MessageTooLarge",
+        ),
+        (
+            Some(Fault::UnknownMethod),
+            b"\x04\x0c\x00\x10F3 UnknownMethod",
+        ),
         (Some(Fault::TableExists), b"\x04\x06\x00\x0fF10 TableExists"),
         (
             Some(Fault::BadSql { position: 25 }),
@@ -257,7 +266,11 @@ fn each_write_fails(rt: HostRuntime) -> Result<(), Fail> {
         let written = write_call(&mut out);
         let fails = calls < 5;
         assert_eq!(rt;
-            (written.is_err(), Output::failures(&out), out.as_slice() == whole),
+            (
+                written.is_err(),
+                Output::failures(&out),
+                out.as_slice() == whole
+            ),
             (fails, u64::from(fails), !fails),
             "after {calls}"
         );
@@ -284,10 +297,16 @@ fn read_count<R: Input>(input: &mut R, piece: &mut [u8]) -> Result<usize, Fault>
 #[test]
 fn each_read_fails(rt: HostRuntime) -> Result<(), Fail> {
     for calls in 0..5u64 {
-        let mut input = MemoryInput::new(b"0123456789").in_pieces_of(4).failing_after(calls);
+        let mut input = MemoryInput::new(b"0123456789")
+            .in_pieces_of(4)
+            .failing_after(calls);
         let mut piece = [0u8; 8];
         let count = read_count(&mut input, &mut piece);
-        let want = if calls < 4 { Err(Fault::Transport) } else { Ok(10) };
+        let want = if calls < 4 {
+            Err(Fault::Transport)
+        } else {
+            Ok(10)
+        };
         assert_eq!(rt;
             (count, Input::failures(&input)),
             (want, u64::from(calls < 4)),
@@ -350,7 +369,11 @@ fn interrupted_calls_are_made_again(rt: HostRuntime) -> Result<(), Fail> {
     let table: [(&'static [Option<ErrorKind>], Result<(), Fault>, usize); 4] = [
         (&[None, INTERRUPTED, INTERRUPTED, None, None], Ok(()), 3),
         (&[BROKEN, None, None, None], Err(Fault::Transport), 0),
-        (&[None, None, INTERRUPTED, BROKEN, None], Err(Fault::Transport), 2),
+        (
+            &[None, None, INTERRUPTED, BROKEN, None],
+            Err(Fault::Transport),
+            2,
+        ),
         (&[None, None], Err(Fault::Transport), 2),
     ];
     for (script, want, moved) in table {
@@ -361,7 +384,10 @@ fn interrupted_calls_are_made_again(rt: HostRuntime) -> Result<(), Fail> {
         let mut output = Counted::new(Scripted::new(script));
         let written = output.write(b"abc");
         assert_eq!(rt; (written, Output::failures(&output)), (want, failures));
-        assert_eq!(rt; (input.get_ref().moved, output.get_ref().moved), (moved, moved));
+        assert_eq!(rt;
+            (input.get_ref().moved, output.get_ref().moved),
+            (moved, moved)
+        );
     }
     Ok(())
 }

@@ -55,6 +55,7 @@ logs_grow log put database h = (longer, ap database_of longer ∙ database_of-pu
   where
     longer : logged log put ≡ log ++ put ∷ []
     longer = rw h refl
+
     earlier : (n : ℕ) → n ≤ length log → version (logged log put) n ≡ version log n
     earlier n small = ap (λ puts. database_of (take n puts)) longer ∙ ap database_of (take-append-le n log (put ∷ []) small)
 

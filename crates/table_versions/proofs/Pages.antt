@@ -41,13 +41,13 @@ in_page (first ∷ pages) last page zero r i h at small e =
     let long = full_length first parts.0 in
     let here : i ≡ r = omega (arith, e) in
     rw (here, append_assoc first (flat_map (λ page. page) pages) last)
-      (slice_get-append_left first (joined pages last) r (omega (arith, long, small)) ∙ ap (λ page. slice_get page r) same)
+    (slice_get-append_left first (joined pages last) r (omega (arith, long, small)) ∙ ap (λ page. slice_get page r) same)
 in_page (first ∷ pages) last page (suc p) r i h at small e =
     let parts = both (is_full first) (list_all is_full pages) h in
     let long = full_length first parts.0 in
     rw (append_assoc first (flat_map (λ page. page) pages) last)
-      (slice_get-append_right first (joined pages last) (p * 256 + r) i (omega (arith, e, long))
-        ∙ in_page pages last page p r (p * 256 + r) parts.1 at small refl)
+    (slice_get-append_right first (joined pages last) (p * 256 + r) i (omega (arith, e, long))
+    ∙ in_page pages last page p r (p * 256 + r) parts.1 at small refl)
 
 -- a number past the full pages names a batch of the last one
 pub in_last : (full : List (List BatchAt)) (last : List BatchAt) (i r : ℕ) → list_all is_full full ≡ true →

@@ -30,9 +30,9 @@ module _ {T : Type 0} (entries : List (Name × T)) (name : Name) (i : ℕ) (entr
     within = omega (arith, slice_get_within entries i entry at);
     replaced = λ table. so_far table ∙ ap (λ rest. take i entries ++ rest)
         (ap (with_table name table) (split_at entries i entry at).0
-          ∙ ap (λ b. if b then (name, table) ∷ drop (i + 1) entries
-              else (if is_lt (slice_cmp nat_cmp name entry.0) then (name, table) ∷ entry ∷ drop (i + 1) entries
-              else entry ∷ with_table name table (drop (i + 1) entries))) same);
+        ∙ ap (λ b. if b then (name, table) ∷ drop (i + 1) entries
+        else (if is_lt (slice_cmp nat_cmp name entry.0) then (name, table) ∷ entry ∷ drop (i + 1) entries
+        else entry ∷ with_table name table (drop (i + 1) entries))) same);
   }
 
   -- a table of a lower name goes before it
@@ -43,7 +43,7 @@ module _ {T : Type 0} (entries : List (Name × T)) (name : Name) (i : ℕ) (entr
     within = omega (arith, slice_get_within entries i entry at);
     replaced = λ table. so_far table ∙ ap (λ rest. take i entries ++ rest)
         (ap (with_table name table) (split_at entries i entry at).0
-          ∙ rw (other, below) (ap (λ rest. (name, table) ∷ rest) (sym (split_at entries i entry at).0)));
+        ∙ rw (other, below) (ap (λ rest. (name, table) ∷ rest) (sym (split_at entries i entry at).0)));
   }
 
   -- an entry of a lower name stays
@@ -52,5 +52,5 @@ module _ {T : Type 0} (entries : List (Name × T)) (name : Name) (i : ℕ) (entr
   passed so_far at other above = λ table.
       let parts = split_at entries i entry at in
       so_far table ∙ ap (λ rest. take i entries ++ rest) (ap (with_table name table) parts.0 ∙ rw (other, above) refl)
-        ∙ sym (append_assoc (take i entries) (entry ∷ []) (with_table name table (drop (i + 1) entries)))
-        ∙ ap (λ front. front ++ with_table name table (drop (i + 1) entries)) (sym parts.1)
+      ∙ sym (append_assoc (take i entries) (entry ∷ []) (with_table name table (drop (i + 1) entries)))
+      ∙ ap (λ front. front ++ with_table name table (drop (i + 1) entries)) (sym parts.1)

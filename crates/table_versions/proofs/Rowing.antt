@@ -45,4 +45,4 @@ pub rows-from : (batches : List BatchAt) (batch : BatchAt) (i : ℕ) → i < len
     length (flat_map rows_of (drop i batches)) ≡ batch.rows + length (flat_map rows_of (drop (i + 1) batches))
 rows-from batches batch i h at =
     ap (λ left. length (flat_map rows_of left)) (split_at batches i batch (slice_get_read batches (length batches) i batch refl h at)).0
-      ∙ rows-cons batch (drop (i + 1) batches)
+    ∙ rows-cons batch (drop (i + 1) batches)

@@ -25,8 +25,13 @@ int n = Int (pos n) ∷ []
 -- one column `a`, not nullable, into the table `t`
 abbrev put : IfNotExist → IfExists → DataType → List Row → Put
 put if_not_exist if_exists data_type rows =
-    record { table = codes "t"; if_not_exist = if_not_exist; if_exists = if_exists;
-      schema = record { fields = field (codes "a") data_type ∷ [] }; rows = rows }
+    record {
+      table = codes "t";
+      if_not_exist = if_not_exist;
+      if_exists = if_exists;
+      schema = record { fields = field (codes "a") data_type ∷ [] };
+      rows = rows;
+    }
 
 abbrev int64 : DataType
 int64 = Integer Int64
@@ -89,8 +94,10 @@ name-0 = refl
 name-64 : database_of (named (replicate 64 97) [] ∷ []) ≡ (replicate 64 97, table int64 []) ∷ []
 name-64 = refl
 
-two_alike : after [] 0 (record created { schema = record { fields = field (codes "a") int64 ∷ field (codes "a") Utf8 ∷ [] };
-      rows = (Null ∷ Null ∷ []) ∷ [] }) ≡ Err SchemaMismatch
+two_alike : after [] 0 (record created {
+  schema = record { fields = field (codes "a") int64 ∷ field (codes "a") Utf8 ∷ [] };
+  rows = (Null ∷ Null ∷ []) ∷ [];
+}) ≡ Err SchemaMismatch
 two_alike = refl
 
 other_type : after (database_of (created ∷ [])) 1 (appended (Integer UInt8) []) ≡ Err SchemaMismatch
@@ -119,9 +126,14 @@ bad_null : after [] 0 (put absent.Create Fail int64 (int 1 ∷ (Null ∷ []) ∷
 bad_null = refl
 
 good_null : after [] 0 (record (put absent.Create Fail int64 ((Null ∷ []) ∷ []))
-      { schema = record { fields = record { name = codes "a"; nullable = true; data_type = int64 } ∷ [] } })
-    ≡ Ok ((codes "t", record { schema = record { fields = record { name = codes "a"; nullable = true; data_type = int64 } ∷ [] };
-        rows = (Null ∷ []) ∷ [] }) ∷ [])
+    { schema = record { fields = record { name = codes "a"; nullable = true; data_type = int64 } ∷ [] } })
+    ≡ Ok ((
+      codes "t",
+      record {
+        schema = record { fields = record { name = codes "a"; nullable = true; data_type = int64 } ∷ [] };
+        rows = (Null ∷ []) ∷ [];
+      },
+    ) ∷ [])
 good_null = refl
 
 -- the 256th table, and none behind it, but more rows for one that is there
@@ -166,7 +178,12 @@ abbrev batch : ℕ → BatchAt
 batch rows = record { columns = []; rows = rows }
 
 stored : stored_after Append (Some (record { schema = record { fields = [] }; batches = batch 2 ∷ [] }))
-    (record { table = codes "t"; if_not_exist = absent.Fail; if_exists = Append; schema = record { fields = [] };
-        batches = batch 1 ∷ batch 0 ∷ batch 3 ∷ [] })
+    (record {
+      table = codes "t";
+      if_not_exist = absent.Fail;
+      if_exists = Append;
+      schema = record { fields = [] };
+      batches = batch 1 ∷ batch 0 ∷ batch 3 ∷ [];
+    })
     ≡ record { schema = record { fields = [] }; batches = batch 2 ∷ batch 1 ∷ batch 3 ∷ [] }
 stored = refl

@@ -12,5 +12,13 @@ pub spliced_of : {A X : Type 0} (view : A → X) (old front pushed all : List A)
     map view front ≡ map view (take from old) →
     map view all ≡ take from (map view old) ++ view new ∷ drop to (map view old)
 spliced_of view old front pushed all new from to e p f =
-    rw (e, p, map-append view front (new ∷ []), f, rest old to, take-map view from old, drop-map view to old,
-      append_assoc (map view (take from old)) (view new ∷ []) (map view (drop to old))) refl
+    rw (
+      e,
+      p,
+      map-append view front (new ∷ []),
+      f,
+      rest old to,
+      take-map view from old,
+      drop-map view to old,
+      append_assoc (map view (take from old)) (view new ∷ []) (map view (drop to old)),
+    ) refl

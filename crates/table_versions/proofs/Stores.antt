@@ -45,7 +45,7 @@ with_table-tables_of name table [] = refl
 with_table-tables_of name table (entry ∷ entries) = placed (bytes_eq entry.0 name) (is_lt (slice_cmp nat_cmp name entry.0)) (with_table-tables_of name table entries)
   where
     placed : (a b : Bool) → with_table name (table_of table) (tables_of entries) ≡ tables_of (with_table name table entries) → (if a then (name, table_of table) ∷ tables_of entries
-          else (if b then (name, table_of table) ∷ tables_of (entry ∷ entries) else (entry.0, table_of entry.1) ∷ with_table name (table_of table) (tables_of entries)))
+        else (if b then (name, table_of table) ∷ tables_of (entry ∷ entries) else (entry.0, table_of entry.1) ∷ with_table name (table_of table) (tables_of entries)))
         ≡ tables_of (if a then (name, table) ∷ entries else (if b then (name, table) ∷ entry ∷ entries else entry ∷ with_table name table entries))
     placed true b rest = refl
     placed false true rest = refl
@@ -59,7 +59,7 @@ pub table_of-stored_after : (if_exists : IfExists) (old : Option TableAt) (put :
     table_after if_exists (option_map table_of old) (put_of put) ≡ table_of (stored_after if_exists old put)
 table_of-stored_after Append (Some old) put =
     ap (λ rows. record { schema = old.schema; rows = rows })
-      (ap (λ rows. flat_map rows_of old.batches ++ rows) (sym (rows-kept put.batches)) ∙ sym (flat_map-append rows_of old.batches (kept put.batches)))
+    (ap (λ rows. flat_map rows_of old.batches ++ rows) (sym (rows-kept put.batches)) ∙ sym (flat_map-append rows_of old.batches (kept put.batches)))
 table_of-stored_after Append None put = alone put
 table_of-stored_after Unspecified old put = alone put
 table_of-stored_after Fail old put = alone put
@@ -70,7 +70,7 @@ pub put_faults-tables_of : (catalog : CatalogAt) (n : ℕ) (put : PutAt) →
     put_faults (tables_of catalog) n (put_of put) ≡ faults_at (option_map table_of (table_at catalog put.table)) (length catalog) n (put_of put)
 put_faults-tables_of catalog n put =
     ap (λ there. faults_at there (length (tables_of catalog)) n (put_of put)) (table_at-tables_of catalog put.table)
-      ∙ ap (λ tables. faults_at (option_map table_of (table_at catalog put.table)) tables n (put_of put)) count
+    ∙ ap (λ tables. faults_at (option_map table_of (table_at catalog put.table)) tables n (put_of put)) count
   where
     count : length (tables_of catalog) ≡ length catalog
     count = search (rules, length-map)
@@ -87,11 +87,12 @@ after-tables_of catalog n put = kind (first_fault (put_faults (tables_of catalog
     made : with_table put.table (table_after put.if_exists (table_at (tables_of catalog) put.table) (put_of put)) (tables_of catalog)
         ≡ tables_of (with_table put.table (stored_after put.if_exists (table_at catalog put.table) put) catalog)
     made = ap (λ there. with_table put.table (table_after put.if_exists there (put_of put)) (tables_of catalog)) (table_at-tables_of catalog put.table)
-      ∙ ap (λ table. with_table put.table table (tables_of catalog)) (table_of-stored_after put.if_exists (table_at catalog put.table) put)
-      ∙ with_table-tables_of put.table (stored_after put.if_exists (table_at catalog put.table) put) catalog
+        ∙ ap (λ table. with_table put.table table (tables_of catalog)) (table_of-stored_after put.if_exists (table_at catalog put.table) put)
+        ∙ with_table-tables_of put.table (stored_after put.if_exists (table_at catalog put.table) put) catalog
+
     kind : (refused : Option Fault) →
         unless refused (with_table put.table (table_after put.if_exists (table_at (tables_of catalog) put.table) (put_of put)) (tables_of catalog))
-          ≡ seen (unless refused (with_table put.table (stored_after put.if_exists (table_at catalog put.table) put) catalog))
+        ≡ seen (unless refused (with_table put.table (stored_after put.if_exists (table_at catalog put.table) put) catalog))
     kind (Some fault) = refl
     kind None = ap (λ database. Ok database) made
 
@@ -107,12 +108,12 @@ module _ (catalog : CatalogAt) (n : ℕ) (put : PutAt) (there : Option TableAt) 
     (count : tables ≡ length catalog) where
   faults : put_faults (tables_of catalog) n (put_of put) ≡ faults_at (option_map table_of there) tables n (put_of put)
   faults = put_faults-tables_of catalog n put
-    ∙ ap (λ old. faults_at (option_map table_of old) (length catalog) n (put_of put)) (sym at)
-    ∙ ap (λ number. faults_at (option_map table_of there) number n (put_of put)) (sym count)
+      ∙ ap (λ old. faults_at (option_map table_of old) (length catalog) n (put_of put)) (sym at)
+      ∙ ap (λ number. faults_at (option_map table_of there) number n (put_of put)) (sym count)
 
   pub refused_by : (refused : Option Fault) → refused ≡ first_fault (faults_at (option_map table_of there) tables n (put_of put)) →
       catalog_after catalog n put ≡ unless refused (with_table put.table (stored_after put.if_exists there put) catalog)
   refused_by refused h =
       ap (λ old. unless (first_fault (put_faults (tables_of catalog) n (put_of put))) (with_table put.table (stored_after put.if_exists old put) catalog)) (sym at)
-        ∙ ap (λ rows. unless (first_fault rows) (with_table put.table (stored_after put.if_exists there put) catalog)) faults
-        ∙ ap (λ f. unless f (with_table put.table (stored_after put.if_exists there put) catalog)) (sym h)
+      ∙ ap (λ rows. unless (first_fault rows) (with_table put.table (stored_after put.if_exists there put) catalog)) faults
+      ∙ ap (λ f. unless f (with_table put.table (stored_after put.if_exists there put) catalog)) (sym h)

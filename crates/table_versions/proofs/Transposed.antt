@@ -41,55 +41,55 @@ any-and false test xs = any-false xs
 -- nulls, at these rows
 bad_at : (fields : List Field) (columns : List ColumnAt) (js : List ℕ) →
     list_any (has_bad_null fields) (map (row_of columns) js)
-      ≡ list_any (λ (pair : Field × ColumnAt). not pair.0.nullable && list_any is_null (map (slot_of pair.1) js)) (zip fields columns)
+    ≡ list_any (λ (pair : Field × ColumnAt). not pair.0.nullable && list_any is_null (map (slot_of pair.1) js)) (zip fields columns)
 bad_at [] columns js = any-map (has_bad_null []) (row_of columns) js ∙ any-false js
 bad_at (field ∷ fields) [] js = any-map (has_bad_null (field ∷ fields)) (row_of []) js ∙ any-false js
 bad_at (field ∷ fields) (column ∷ columns) js =
     any-map (has_bad_null (field ∷ fields)) (row_of (column ∷ columns)) js
-      ∙ any-or (λ j. not field.nullable && is_null (slot_of column j)) (λ j. has_bad_null fields (row_of columns j)) js
-      ∙ ap (λ b. b || list_any (λ j. has_bad_null fields (row_of columns j)) js)
-          (any-and (not field.nullable) (λ j. is_null (slot_of column j)) js
-            ∙ ap (λ b. not field.nullable && b) (sym (any-map is_null (slot_of column) js)))
-      ∙ ap (λ b. (not field.nullable && list_any is_null (map (slot_of column) js)) || b)
-          (sym (any-map (has_bad_null fields) (row_of columns) js) ∙ bad_at fields columns js)
+    ∙ any-or (λ j. not field.nullable && is_null (slot_of column j)) (λ j. has_bad_null fields (row_of columns j)) js
+    ∙ ap (λ b. b || list_any (λ j. has_bad_null fields (row_of columns j)) js)
+    (any-and (not field.nullable) (λ j. is_null (slot_of column j)) js
+    ∙ ap (λ b. not field.nullable && b) (sym (any-map is_null (slot_of column) js)))
+    ∙ ap (λ b. (not field.nullable && list_any is_null (map (slot_of column) js)) || b)
+    (sym (any-map (has_bad_null fields) (row_of columns) js) ∙ bad_at fields columns js)
 
 long_at_rows : (columns : List ColumnAt) (js : List ℕ) →
     list_any (list_any is_long_text) (map (row_of columns) js) ≡ list_any (λ column. list_any is_long_text (map (slot_of column) js)) columns
 long_at_rows [] js = any-map (list_any is_long_text) (row_of []) js ∙ any-false js
 long_at_rows (column ∷ columns) js =
     any-map (list_any is_long_text) (row_of (column ∷ columns)) js
-      ∙ any-or (λ j. is_long_text (slot_of column j)) (λ j. list_any is_long_text (row_of columns j)) js
-      ∙ ap (λ b. b || list_any (λ j. list_any is_long_text (row_of columns j)) js) (sym (any-map is_long_text (slot_of column) js))
-      ∙ ap (λ b. list_any is_long_text (map (slot_of column) js) || b)
-          (sym (any-map (list_any is_long_text) (row_of columns) js) ∙ long_at_rows columns js)
+    ∙ any-or (λ j. is_long_text (slot_of column j)) (λ j. list_any is_long_text (row_of columns j)) js
+    ∙ ap (λ b. b || list_any (λ j. list_any is_long_text (row_of columns j)) js) (sym (any-map is_long_text (slot_of column) js))
+    ∙ ap (λ b. list_any is_long_text (map (slot_of column) js) || b)
+    (sym (any-map (list_any is_long_text) (row_of columns) js) ∙ long_at_rows columns js)
 
 -- the values of columns that are this long
 bad_columns : (rows : ℕ) (fields : List Field) (columns : List ColumnAt) → AllByRecursion (λ (column : ColumnAt). column.len ≡ rows) columns →
     has_bad_column fields columns
-      ≡ list_any (λ (pair : Field × ColumnAt). not pair.0.nullable && list_any is_null (map (slot_of pair.1) (range_with_len 0 rows))) (zip fields columns)
+    ≡ list_any (λ (pair : Field × ColumnAt). not pair.0.nullable && list_any is_null (map (slot_of pair.1) (range_with_len 0 rows))) (zip fields columns)
 bad_columns rows [] columns long = refl
 bad_columns rows (field ∷ fields) [] long = refl
 bad_columns rows (field ∷ fields) (column ∷ columns) long =
     ap (λ n. (not field.nullable && list_any is_null (map (slot_of column) (range_with_len 0 n))) || has_bad_column fields columns) long.0
-      ∙ ap (λ b. (not field.nullable && list_any is_null (map (slot_of column) (range_with_len 0 rows))) || b) (bad_columns rows fields columns long.1)
+    ∙ ap (λ b. (not field.nullable && list_any is_null (map (slot_of column) (range_with_len 0 rows))) || b) (bad_columns rows fields columns long.1)
 
 long_columns : (rows : ℕ) (columns : List ColumnAt) → AllByRecursion (λ (column : ColumnAt). column.len ≡ rows) columns →
     list_any is_long_column columns ≡ list_any (λ column. list_any is_long_text (map (slot_of column) (range_with_len 0 rows))) columns
 long_columns rows [] long = refl
 long_columns rows (column ∷ columns) long =
     ap (λ n. list_any is_long_text (map (slot_of column) (range_with_len 0 n)) || list_any is_long_column columns) long.0
-      ∙ ap (λ b. list_any is_long_text (map (slot_of column) (range_with_len 0 rows)) || b) (long_columns rows columns long.1)
+    ∙ ap (λ b. list_any is_long_text (map (slot_of column) (range_with_len 0 rows)) || b) (long_columns rows columns long.1)
 
 -- a batch's rows have a null in a column that takes none where such a column has a null
 pub bad_batch : (fields : List Field) (batch : BatchAt) → AreLong batch.rows batch.columns →
     has_bad_column fields batch.columns ≡ list_any (has_bad_null fields) (rows_of batch)
 bad_batch fields batch long =
     bad_columns batch.rows fields batch.columns (recursion_from_All (λ column. column.len ≡ batch.rows) batch.columns long)
-      ∙ sym (bad_at fields batch.columns (range_with_len 0 batch.rows))
+    ∙ sym (bad_at fields batch.columns (range_with_len 0 batch.rows))
 
 -- and a text that is too long where a column has one
 pub long_batch : (batch : BatchAt) → AreLong batch.rows batch.columns →
     list_any is_long_column batch.columns ≡ list_any (list_any is_long_text) (rows_of batch)
 long_batch batch long =
     long_columns batch.rows batch.columns (recursion_from_All (λ column. column.len ≡ batch.rows) batch.columns long)
-      ∙ sym (long_at_rows batch.columns (range_with_len 0 batch.rows))
+    ∙ sym (long_at_rows batch.columns (range_with_len 0 batch.rows))

@@ -78,7 +78,7 @@ put_faults database n put = faults_at (table_at database put.table) (length data
 abbrev pub after : Database → ℕ → Put → Result Database Fault
 after database n put =
     unless (first_fault (put_faults database n put))
-      (with_table put.table (table_after put.if_exists (table_at database put.table) put) database)
+    (with_table put.table (table_after put.if_exists (table_at database put.table) put) database)
 
 -- a refused put leaves everything
 abbrev pub accepted : Database → Result Database Fault → Database

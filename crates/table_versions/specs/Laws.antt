@@ -16,7 +16,7 @@ abbrev pub LogsGrow : Type 0
 LogsGrow =
     (log : List Put) (put : Put) (database : Database) → after (database_of log) (length log) put ≡ Ok database →
     (logged log put ≡ log ++ put ∷ []) × (database_of (logged log put) ≡ database)
-      × ((n : ℕ) → n ≤ length log → version (logged log put) n ≡ version log n)
+    × ((n : ℕ) → n ≤ length log → version (logged log put) n ≡ version log n)
 
 -- a refused put is not logged
 abbrev pub LogsStay : Type 0

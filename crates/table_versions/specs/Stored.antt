@@ -45,8 +45,13 @@ tables_of catalog = map (λ entry. (entry.0, table_of entry.1)) catalog
 -- the rows of a put's batches, in order
 abbrev pub put_of : PutAt → Put
 put_of put =
-    record { table = put.table; if_not_exist = put.if_not_exist; if_exists = put.if_exists;
-      schema = put.schema; rows = flat_map rows_of put.batches }
+    record {
+      table = put.table;
+      if_not_exist = put.if_not_exist;
+      if_exists = put.if_exists;
+      schema = put.schema;
+      rows = flat_map rows_of put.batches;
+    }
 
 -- whether a batch has rows
 abbrev pub has_rows : BatchAt → Bool
@@ -69,4 +74,4 @@ stored_after _ _ put = record { schema = put.schema; batches = kept put.batches 
 abbrev pub catalog_after : CatalogAt → ℕ → PutAt → Result CatalogAt Fault
 catalog_after catalog n put =
     unless (first_fault (put_faults (tables_of catalog) n (put_of put)))
-      (with_table put.table (stored_after put.if_exists (table_at catalog put.table) put) catalog)
+    (with_table put.table (stored_after put.if_exists (table_at catalog put.table) put) catalog)

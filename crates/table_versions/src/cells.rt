@@ -60,8 +60,8 @@ fn has_bad_column(fields: &[Field], columns: &[Column]) -> bool
         [] => false,
         [field, fields @ ..] => match columns {
             [] => false,
-            [column, columns @ ..] =>
-                !field.nullable && has_null(column) || has_bad_column(fields, columns),
+            [column, columns @ ..] => !field.nullable && has_null(column)
+                || has_bad_column(fields, columns),
         },
     }
 }

@@ -32,13 +32,13 @@ fn is_bad_name(name: &Text) -> bool
 
 // Whether an append comes with other columns than the table's.
 fn differs(old: Option<&TableVersion>, put: &Put) -> bool
-    ensures {
-        result ≡ differs put.now.if_exists (columns_of (option_map table_of (option_copied old.entry))) put.now.schema
-    }
+    ensures { result ≡ differs put.now.if_exists (columns_of (option_map table_of (option_copied old.entry))) put.now.schema }
 {
     match (put.if_exists, old) {
-        (IfExists::Append, Some(old)) =>
-            !same_fields(old.schema().fields.as_slice(), put.schema.fields.as_slice()),
+        (IfExists::Append, Some(old)) => !same_fields(
+            old.schema().fields.as_slice(),
+            put.schema.fields.as_slice(),
+        ),
         (_, _) => false,
     }
 }
@@ -60,10 +60,8 @@ fn has_too_many_rows(stored: usize, batches: &[Batch]) -> bool
 
 // Whether the table would have too many rows after the put.
 fn overflows(old: Option<&TableVersion>, put: &Put) -> bool
-    ensures {
-        result ≡ nat_lt most_rows
-            (length (table_after put.now.if_exists (option_map table_of (option_copied old.entry)) (put_of put.now)).rows)
-    }
+    ensures { result ≡ nat_lt most_rows
+        (length (table_after put.now.if_exists (option_map table_of (option_copied old.entry)) (put_of put.now)).rows) }
 {
     match (put.if_exists, old) {
         (IfExists::Append, Some(old)) => has_too_many_rows(old.rows(), put.batches.as_slice()),
@@ -73,9 +71,7 @@ fn overflows(old: Option<&TableVersion>, put: &Put) -> bool
 
 // Why a put is refused, if it is, where this is the table of its name and there are so many tables.
 fn refusal(old: Option<&TableVersion>, tables: usize, number: u64, put: &Put) -> Option<Fault>
-    ensures {
-        result ≡ first_fault (faults_at (option_map table_of (option_copied old.entry)) tables number (put_of put.now))
-    }
+    ensures { result ≡ first_fault (faults_at (option_map table_of (option_copied old.entry)) tables number (put_of put.now)) }
 {
     if is_bad_name(&put.table) {
         return Some(Fault::LimitReached);

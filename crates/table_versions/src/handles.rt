@@ -8,10 +8,7 @@ use std::ops::Range;
 use std::sync::Arc;
 
 // The same handles once more, in a list with room for one more.
-pub(crate) fn shared<T: Drop>(
-    alloc: Global,
-    handles: &[Arc<T>],
-) -> Result<Vec<Arc<T>>, AllocError>
+pub(crate) fn shared<T: Drop>(alloc: Global, handles: &[Arc<T>]) -> Result<Vec<Arc<T>>, AllocError>
     ensures { IfOk result (λ all. map arc_value all.items ≡ map arc_value handles.now) }
 {
     extended(Vec::with_capacity(alloc, handles.len() + 1)?, handles)
@@ -26,10 +23,8 @@ pub(crate) fn spliced<T: Drop>(
 ) -> Result<Vec<Arc<T>>, AllocError>
     requires ordered { place.start ≤ place.end }
     requires within { place.end ≤ length handles.now }
-    ensures {
-        IfOk result (λ all. map arc_value all.items
-            ≡ take place.start (map arc_value handles.now) ++ arc_value new ∷ drop place.end (map arc_value handles.now))
-    }
+    ensures { IfOk result (λ all. map arc_value all.items
+        ≡ take place.start (map arc_value handles.now) ++ arc_value new ∷ drop place.end (map arc_value handles.now)) }
 {
     let mut front = shared(alloc, &handles[..place.start])?;
     front.push(new)?;

@@ -5,13 +5,11 @@ ghost use Rattle.table_versions.specs.Laws.{TablesAreFound, LogsGrow, LogsStay};
 /// Looking a table up after a put: the put's table is found at its name, and each other name has what it had.
 pub fn tables_are_found()
     ensures { TablesAreFound }
-{
-}
+{}
 
 /// An accepted put is logged, gives the log's database, and changes no earlier version. A refused put is not
 /// logged.
 pub fn logs_grow()
     ensures accepted { LogsGrow }
     ensures refused { LogsStay }
-{
-}
+{}

@@ -27,10 +27,13 @@ impl Model for Put {
 
     ghost Value = { PutAt };
 
-    ghost view = {
-        λ p. record { table = p.table; if_not_exist = p.if_not_exist; if_exists = p.if_exists;
-            schema = p.schema; batches = p.batches.items }
-    };
+    ghost view = { λ p. record {
+      table = p.table;
+      if_not_exist = p.if_not_exist;
+      if_exists = p.if_exists;
+      schema = p.schema;
+      batches = p.batches.items;
+    } };
 
     ghost invariant = { λ p. IsTrue (list_all (is_wide p.schema) p.batches.items) };
 }
@@ -45,10 +48,13 @@ impl Put {
         batches: Vec<Batch>,
     ) -> Put
         requires { IsTrue (list_all (is_wide schema) batches.items) }
-        ensures {
-            result ≡ record { table = table; if_not_exist = if_not_exist; if_exists = if_exists;
-                schema = schema; batches = batches.items }
-        }
+        ensures { result ≡ record {
+          table = table;
+          if_not_exist = if_not_exist;
+          if_exists = if_exists;
+          schema = schema;
+          batches = batches.items;
+        } }
     {
         Put {
             table,

@@ -96,7 +96,11 @@ impl TableVersion {
         requires few { length (flat_map rows_of self.batches) + batch.rows ≤ most_rows }
         ensures { IfOk result (λ table. table ≡ record self { batches = self.batches ++ batch ∷ [] }) }
     {
-        let TableVersion { schema, batches, rows } = self;
+        let TableVersion {
+            schema,
+            batches,
+            rows,
+        } = self;
         let rows = rows + batch.rows();
         Ok(TableVersion {
             schema,

@@ -5,7 +5,9 @@ ghost use Rattle.std.specs.List.{list_all};
 ghost use Rattle.table_versions.specs.Stored.{is_wide};
 
 use crate::laws::{logs_grow, tables_are_found};
-use crate::{CatalogVersion, IfExists, IfNotExist, MAX_COMMITS, MAX_ROWS, Put, Snapshot, TableVersion, apply};
+use crate::{
+    CatalogVersion, IfExists, IfNotExist, MAX_COMMITS, MAX_ROWS, Put, Snapshot, TableVersion, apply,
+};
 use arrow_schema::{Batch, Column, DataType, Field, IntegerType, Schema};
 use bytes::Bytes;
 use scan_base::{Fault, Items, Text, ValueRef};
@@ -139,14 +141,27 @@ fn a_replace(rt: HostRuntime) -> Result<(), Fail> {
     let old = appended(alloc, 2)?;
     let other = put(alloc, "t", IfExists::Replace, DataType::Bool, 0, 0)?;
     let replaced = next(alloc, &old, other)?;
-    let last = next(alloc, &replaced, put(alloc, "s", IfExists::Fail, INT64, 7, 2)?)?;
+    let last = next(
+        alloc,
+        &replaced,
+        put(alloc, "s", IfExists::Fail, INT64, 7, 2)?,
+    )?;
     let catalog = last.catalog();
     assert!(rt; !catalog.is_empty() && catalog.len() == 2);
     let (low, high) = (catalog.entry(0), catalog.entry(1));
-    assert_eq!(rt; (low.0.as_str(), low.1.rows(), first_value(&low.1, 0)), ("s", 2, Some(7)));
-    assert_eq!(rt; (high.0.as_str(), high.1.rows(), high.1.batch_count()), ("t", 0, 0));
+    assert_eq!(rt;
+        (low.0.as_str(), low.1.rows(), first_value(&low.1, 0)),
+        ("s", 2, Some(7))
+    );
+    assert_eq!(rt;
+        (high.0.as_str(), high.1.rows(), high.1.batch_count()),
+        ("t", 0, 0)
+    );
     let fields = high.1.schema().fields.as_slice();
-    assert_eq!(rt; fields.first().map(|field| field.data_type), Some(DataType::Bool));
+    assert_eq!(rt;
+        fields.first().map(|field| field.data_type),
+        Some(DataType::Bool)
+    );
     Ok(())
 }
 
@@ -156,14 +171,26 @@ fn limits(rt: HostRuntime) -> Result<(), Fail> {
     let alloc = rt.alloc();
     tables_are_found();
     logs_grow();
-    let full = next(alloc, &first(alloc)?, rows(alloc, IfExists::Fail, MAX_ROWS)?)?;
-    let last = Snapshot::new(MAX_COMMITS - 1, Arc::new(alloc, CatalogVersion::empty(alloc))?);
+    let full = next(
+        alloc,
+        &first(alloc)?,
+        rows(alloc, IfExists::Fail, MAX_ROWS)?,
+    )?;
+    let last = Snapshot::new(
+        MAX_COMMITS - 1,
+        Arc::new(alloc, CatalogVersion::empty(alloc))?,
+    );
     let past = next(alloc, &last, rows(alloc, IfExists::Fail, 1)?)?;
     let wanted = [
         (&full, IfExists::Append, 0usize, None),
         (&full, IfExists::Append, 1, Some(Fault::LimitReached)),
         (&full, IfExists::Replace, MAX_ROWS, None),
-        (&full, IfExists::Replace, MAX_ROWS + 1, Some(Fault::LimitReached)),
+        (
+            &full,
+            IfExists::Replace,
+            MAX_ROWS + 1,
+            Some(Fault::LimitReached),
+        ),
         (&full, IfExists::Unspecified, 1, Some(Fault::TableExists)),
         (&past, IfExists::Append, 1, Some(Fault::LimitReached)),
     ];

@@ -9,7 +9,7 @@ pub returns-then-rows-total : goal.returns-then-rows-total
 returns-then-rows-total c =
     let more = rows-from c.args.batches.now c.batch-item.result c.loop-batch.batch-index c.loop-batch-test.true c.batch-item.is in
     let over : most_rows < c.args.stored + length (flat_map rows_of c.args.batches.now) =
-        omega (arith, c.loop-batch.invariant.counted, c.loop-batch.invariant.few, more, c.rows.ensures, c.if-rows-total.true) in
+    omega (arith, c.loop-batch.invariant.counted, c.loop-batch.invariant.few, more, c.rows.ensures, c.if-rows-total.true) in
     grind (arith, over)
 
 pub loop-batch-preserved : goal.loop-batch-preserved

@@ -27,8 +27,8 @@ returns-then-page-len c =
     let page = handle_at arc_value handles (c.args.index / 256) _ c.index.result.now (search rules) c.if-page-len.true c.index.ensures in
     let place = sym (div-add-mod' c.args.index 256) in
     rw (← c.self.view_is)
-      (in_page (map arc_value handles) c.self.inside.last _ _ _ c.args.index c.self.invariant.complete page (omega arith) place
-        ∙ ap (λ (batches : List BatchAt). slice_get batches (c.args.index % 256)) (sym c.deref.ensures) ∙ c.batch.ensures)
+    (in_page (map arc_value handles) c.self.inside.last _ _ _ c.args.index c.self.invariant.complete page (omega arith) place
+    ∙ ap (λ (batches : List BatchAt). slice_get batches (c.args.index % 256)) (sym c.deref.ensures) ∙ c.batch.ensures)
 
 pub returns-else-page-len : goal.returns-else-page-len
 returns-else-page-len c =
@@ -36,7 +36,7 @@ returns-else-page-len c =
     let within : c.args.index < length (joined pages c.self.inside.last) = rw c.self.view_is c.requires in
     let count : c.len.result ≡ length pages = search (rules, length-map) in
     let place : c.args.index ≡ length pages * 256 + c.args.index % 256 =
-        omega (arith, within, count, length-joined pages c.self.inside.last c.self.invariant.complete, c.if-page-len.false, c.self.invariant.unfilled) in
+    omega (arith, within, count, length-joined pages c.self.inside.last c.self.invariant.complete, c.if-page-len.false, c.self.invariant.unfilled) in
     rw (← c.self.view_is)
-      (in_last pages c.self.inside.last c.args.index (c.args.index % 256) c.self.invariant.complete place
-        ∙ c.batch-else-page-len.ensures)
+    (in_last pages c.self.inside.last c.args.index (c.args.index % 256) c.self.invariant.complete place
+    ∙ c.batch-else-page-len.ensures)

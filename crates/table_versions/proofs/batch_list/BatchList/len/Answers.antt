@@ -24,4 +24,4 @@ returns c =
     let pages = map arc_value c.self.inside.full.items in
     let count : c.len.result ≡ length pages = search (rules, length-map) in
     rw (← c.self.view_is)
-      (omega (arith, count, length-joined pages c.self.inside.last c.self.invariant.complete, c.len-2.ensures))
+    (omega (arith, count, length-joined pages c.self.inside.last c.self.invariant.complete, c.len-2.ensures))
