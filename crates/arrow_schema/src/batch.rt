@@ -8,8 +8,8 @@ use crate::column::Column;
 use std::alloc::{AllocError, Global};
 use std::marker::Model;
 
-/// A number of rows, and a column of that many slots for each field; there may be no column. A contract
-/// sees the columns' layouts.
+/// A number of rows, and a column of that many slots for each field; there may be no column. A
+/// contract sees the columns' layouts.
 #[derive(Drop)]
 pub struct Batch {
     columns: Vec<Column>,
@@ -75,7 +75,8 @@ fn slices(
     requires long { AreLong rows columns.now }
     requires ordered { from ≤ to }
     requires within { to ≤ rows }
-    ensures cut { IfOk result (λ cuts. cuts.items ≡ map (λ column. cut column from to) columns.now) }
+    ensures cut { IfOk result
+        (λ cuts. cuts.items ≡ map (λ column. cut column from to) columns.now) }
     ensures long { IfOk result (λ cuts. AreLong (to - from) cuts.items) }
 {
     let mut cuts = Vec::with_capacity(alloc, columns.len())?;

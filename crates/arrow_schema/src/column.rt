@@ -3,7 +3,8 @@
 ghost use Rattle.std.specs.Prelude.{◌≡◌, ◌==◌, ◌≤◌, ◌<◌, ◌+◌, ◌*◌, length, IfOk, IsTrue};
 ghost use Rattle.scan_base.specs.Reading.{Gives};
 ghost use Rattle.scan_base.specs.Value.{value_of};
-ghost use Rattle.arrow_schema.specs.Column.{slot_of, bit_of, is_valid, bits_suffice, long_at, cut, column_of};
+ghost use Rattle.arrow_schema.specs.Column.{slot_of, bit_of, is_valid, bits_suffice};
+ghost use Rattle.arrow_schema.specs.Column.{long_at, cut, column_of};
 
 use byteorder::{ByteOrder, LittleEndian};
 use bytes::Bytes;
@@ -11,8 +12,9 @@ use scan_base::{Fault, ValueRef};
 use std::alloc::AllocError;
 use std::marker::Model;
 
-/// A column of Int64: packed little-endian numbers, and where it may have nulls the bits that say which
-/// slots are valid. Its buffers are cuts of the body that they came in. A contract sees its layout.
+/// A column of Int64: packed little-endian numbers, and where it may have nulls the bits that say
+/// which slots are valid. Its buffers are cuts of the body that they came in. A contract sees its
+/// layout.
 #[derive(Drop)]
 pub struct Column {
     validity: Option<Bytes>,
@@ -32,8 +34,12 @@ impl Model for Column {
 }
 
 impl Column {
-    /// A column of `len` slots over these buffers. F8 where a buffer is shorter than its slots need: 8 bytes
-    /// a value, and a bit a slot where there are bits.
+    /// A column of `len` slots over these buffers.
+    ///
+    /// # Errors
+    ///
+    /// F8 (`Fault::BadBatch`) where a buffer is shorter than its slots need: 8 bytes a value, and a
+    /// bit a slot where there are bits.
     #[tactic(auto, unfolding(crate::specs::Column::column_of))]
     pub fn new(validity: Option<Bytes>, values: Bytes, len: usize) -> Result<Column, Fault>
         ensures { Gives (λ column. column) result (column_of validity values len) }

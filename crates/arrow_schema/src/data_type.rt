@@ -16,15 +16,16 @@ pub enum IntegerType {
     UInt64,
 }
 
-/// How a column of texts is kept by indices into a dictionary: the dictionary's id, and the type of the
-/// indices.
+/// How a column of texts is kept by indices into a dictionary: the dictionary's id, and the type of
+/// the indices.
 #[derive(Clone, Copy, Debug, PartialEq, Eq)]
 pub struct DictionaryEncoding {
     pub id: u64,
     pub index: IntegerType,
 }
 
-/// The type of a column's values. A dictionary's values are Utf8, and decimals are Decimal128(38, 0).
+/// The type of a column's values. A dictionary's values are Utf8, and a decimal is one of 38 digits
+/// with none behind the point.
 #[derive(Clone, Copy, Debug, PartialEq, Eq)]
 pub enum DataType {
     Integer(IntegerType),

@@ -2,7 +2,8 @@
 
 ghost use Rattle.std.specs.Prelude.{◌≡◌};
 ghost use Rattle.scan_base.specs.Reading.{Gives};
-ghost use Rattle.arrow_schema.specs.Header.{message_of, header_kind, header_of, body_length_of, table_wanted};
+ghost use Rattle.arrow_schema.specs.Header.{message_of, header_kind, header_of};
+ghost use Rattle.arrow_schema.specs.Header.{body_length_of, table_wanted};
 ghost use Rattle.arrow_schema.specs.Seen.{message_seen};
 ghost use Rattle.arrow_schema.specs.Message.{kind_number};
 
@@ -37,8 +38,13 @@ pub struct Message<'a> {
     pub table: Table<'a>,
 }
 
-/// The message of a buffer: F6 where something is read outside, F7 for another metadata version than V5 and
-/// for another kind of header. It takes no memory.
+/// The message of a buffer, as Arrow's `Message.fbs` says. It takes no memory.
+///
+/// # Errors
+///
+/// - F6 (`Fault::BadFlatbuffer`) where something that is read lies outside the buffer.
+/// - F7 (`Fault::UnsupportedArrow`) for another metadata version than V5, and for another kind of
+///   header.
 #[tactic(auto, unfolding(crate::specs::Header::message_of))]
 pub fn read_message(bytes: &[u8]) -> Result<Message<'_>, Fault>
     ensures { Gives message_seen result (message_of bytes.now) }
@@ -59,15 +65,16 @@ impl<'a> Message<'a> {
     ///
     /// # Errors
     ///
-    /// F6 (`Fault::BadFlatbuffer`) where there is none, or something that is read lies outside the buffer.
+    /// F6 (`Fault::BadFlatbuffer`) where there is none, or something that is read lies outside the
+    /// buffer.
     pub fn header(&self) -> Result<Table<'a>, Fault>
         ensures { Gives (λ table. table) result (header_of (message_seen self.now)) }
     {
         table_wanted(&self.table, 2)
     }
 
-    /// How many bytes of body the message claims, 0 where it does not say. A negative number is given as its
-    /// two's complement, which is at least 2 to the 63.
+    /// How many bytes of body the message claims, 0 where it does not say. A negative number is
+    /// given as its two's complement, which is at least 2 to the 63.
     ///
     /// # Errors
     ///

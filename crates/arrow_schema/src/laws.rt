@@ -6,8 +6,8 @@ ghost use Rattle.arrow_schema.specs.Says.{ReadIsSaid, BuiltIsSaid, ReadIsSchema}
 ghost use Rattle.arrow_schema.specs.Column.{ColumnSlicesKeepValues};
 ghost use Rattle.arrow_schema.specs.Batch.{BatchSlicesKeepRows};
 
-/// What is read of a written message is its kind, its header and the length of its body, wherever the
-/// header's block leads.
+/// What is read of a written message is its kind, its header and the length of its body, wherever
+/// the header's block leads.
 #[tactic(auto, using(crate::proofs::Messages::messages_read))]
 pub fn messages_read_back()
     ensures { MessagesReadBack }
@@ -19,12 +19,14 @@ pub fn schemas_read_back()
     ensures { SchemasReadBack }
 {}
 
-/// What is read of a buffer is just what it says, in the words of Arrow's `Message.fbs` and `Schema.fbs`.
+/// What is read of a buffer is just what it says, in the words of Arrow's `Message.fbs` and
+/// `Schema.fbs`.
 pub fn read_schemas_are_said()
     ensures { ReadIsSaid }
 {}
 
-/// Until every type is built, a schema is read where a buffer says it and it is of one Int64 column.
+/// Until every type is built, a schema is read where a buffer says it and it is of one Int64
+/// column.
 pub fn built_schemas_are_said()
     ensures { BuiltIsSaid }
 {}

@@ -5,8 +5,8 @@ ghost use Rattle.std.specs.List.{list_any, range_with_len};
 ghost use Rattle.scan_base.specs.Reading.{Gives, GivesUnlessMemory};
 ghost use Rattle.scan_base.specs.Lists.{each, repeats};
 ghost use Rattle.arrow_schema.specs.Header.{vector_wanted, name_of, integer_type, integer_of};
-ghost use Rattle.arrow_schema.specs.Header.{decimal_of, type_kind, type_of, value_type_of, childless};
-ghost use Rattle.arrow_schema.specs.Header.{index_of, dictionary_of, encoded, field_in, field_at};
+ghost use Rattle.arrow_schema.specs.Header.{decimal_of, type_kind, type_of, value_type_of};
+ghost use Rattle.arrow_schema.specs.Header.{childless, index_of, dictionary_of, encoded, field_in, field_at};
 ghost use Rattle.arrow_schema.specs.Header.{fields_of, shares_dictionary, same_dictionary};
 ghost use Rattle.arrow_schema.specs.Header.{is_long, is_built, schema_in_all_types, schema_in};
 ghost use Rattle.arrow_schema.specs.Header.{is_schema, schema_message_of, schema_of};
@@ -22,7 +22,7 @@ use std::alloc::Global;
 
 /// The kinds of types that there are here.
 #[derive(Clone, Copy)]
-pub enum TypeKind {
+enum TypeKind {
     Int,
     Utf8,
     Bool,
@@ -278,17 +278,18 @@ fn is_built(fields: &[Field]) -> bool
 }
 
 impl Message<'_> {
-    /// The schema that the header names, of 1 to 64 columns. The first fault in the order of the reads is
-    /// the answer. The one thing that is kept in memory is each column's name.
+    /// The schema that the header names, of 1 to 64 columns. The first fault in the order of the
+    /// reads is the answer. The one thing that is kept in memory is each column's name.
     ///
     /// # Errors
     ///
-    /// - F6 (`Fault::BadFlatbuffer`) where something that is read lies outside the buffer, a name is not
-    ///   UTF-8, or the header, its fields, a type or a type's kind is absent.
-    /// - F7 (`Fault::UnsupportedArrow`) for big-endian data, another type or width, children, a dictionary
-    ///   of other values than Utf8 or of another kind, and one dictionary id on two columns.
-    /// - F12 (`Fault::LimitReached`) for no column, more than 64, and a name that is absent, empty or above
-    ///   64 bytes.
+    /// - F6 (`Fault::BadFlatbuffer`) where something that is read lies outside the buffer, a name
+    ///   is not UTF-8, or the header, its fields, a type or a type's kind is absent.
+    /// - F7 (`Fault::UnsupportedArrow`) for big-endian data, another type or width, children, a
+    ///   dictionary of other values than Utf8 or of another kind, and one dictionary id on two
+    ///   columns.
+    /// - F12 (`Fault::LimitReached`) for no column, more than 64, and a name that is absent, empty
+    ///   or above 64 bytes.
     /// - F21 (`Fault::OutOfMemory`) where memory is refused.
     #[tactic(auto, unfolding(crate::specs::Header::schema_in))]
     pub fn schema(&self, alloc: Global) -> Result<Schema, Fault>
@@ -319,13 +320,13 @@ fn schema_message(bytes: &[u8]) -> Result<Message<'_>, Fault>
     Ok(message)
 }
 
-/// The schema that a buffer holds, as Arrow's `Message.fbs` and `Schema.fbs` say: a message of metadata
-/// version V5 whose header is a Schema.
+/// The schema that a buffer holds, as Arrow's `Message.fbs` and `Schema.fbs` say: a message of
+/// metadata version V5 whose header is a Schema.
 ///
 /// # Errors
 ///
-/// Those of [`read_message`] and of [`Message::schema`], and F7 (`Fault::UnsupportedArrow`) for another
-/// kind of header.
+/// Those of [`read_message`] and of [`Message::schema`], and F7 (`Fault::UnsupportedArrow`) for
+/// another kind of header.
 #[tactic(auto, unfolding(crate::specs::Header::schema_of))]
 pub fn read_schema(alloc: Global, bytes: &[u8]) -> Result<Schema, Fault>
     ensures value { GivesUnlessMemory (λ schema. schema) result (schema_of bytes.now) }

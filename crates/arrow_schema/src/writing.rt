@@ -1,6 +1,7 @@
 //! Writing the metadata of messages, which are FlatBuffers buffers.
 
-ghost use Rattle.std.specs.Prelude.{◌≡◌, ◌≤◌, ◌<◌, ◌-◌, ◌%◌, ◌^◌, All, Ok, IfOk, length, map, option_map};
+ghost use Rattle.std.specs.Prelude.{◌≡◌, ◌≤◌, ◌<◌, ◌-◌, ◌%◌, ◌^◌, All, Ok, IfOk};
+ghost use Rattle.std.specs.Prelude.{length, map, option_map};
 ghost use Rattle.flatbuf.specs.Given.{given_of};
 ghost use Rattle.arrow_schema.specs.Message.{message_bytes};
 ghost use Rattle.arrow_schema.specs.Schema.{IsType, IsField, IsSchema};
@@ -18,9 +19,9 @@ use std::alloc::{AllocError, Global};
 // The number of metadata version V5.
 const V5: u64 = 4;
 
-/// The buffer of a message of metadata version V5: its header, of this kind, and how many bytes its body
-/// has. The buffer has a multiple of 8 bytes. It fails with [`AllocError`] where memory is refused, and
-/// with no other error.
+/// The buffer of a message of metadata version V5: its header, of this kind, and how many bytes its
+/// body has. The buffer has a multiple of 8 bytes. It fails with [`AllocError`] where memory is
+/// refused, and with no other error.
 #[tactic(auto, using(crate::proofs::Messages::messages), unfolding(crate::specs::Message::message_part))]
 pub fn write_message(
     alloc: Global,
@@ -103,7 +104,8 @@ fn optional(block: &Option<Block>) -> Slot<'_>
     }
 }
 
-// The table of a field. Its list of children is written and empty, since some readers want it there.
+// The table of a field. Its list of children is written and empty, since some readers want it
+// there.
 #[tactic(auto, using(crate::proofs::Again::writing), unfolding(crate::specs::Written::field_part))]
 fn field_block(builder: &Builder, field: &Field) -> Result<Block, AllocError>
     requires { IsField field.now }
@@ -149,9 +151,9 @@ fn schema_block(alloc: Global, schema: &Schema) -> Result<Block, AllocError>
     builder.table(&[Slot::Absent, Slot::Offset(&fields)])
 }
 
-/// The buffer of a schema: a message of metadata version V5 with no body, which reads as this schema. It
-/// has a multiple of 8 bytes, and less than 2 to the 20. It fails with [`AllocError`] where memory is
-/// refused, and with no other error.
+/// The buffer of a schema: a message of metadata version V5 with no body, which reads as this
+/// schema. It has a multiple of 8 bytes, and less than 2 to the 20. It fails with [`AllocError`]
+/// where memory is refused, and with no other error.
 #[tactic(auto, using(crate::proofs::Again::written))]
 pub fn write_schema(alloc: Global, schema: &Schema) -> Result<Vec<u8>, AllocError>
     requires { IsSchema schema.now }
@@ -164,9 +166,9 @@ pub fn write_schema(alloc: Global, schema: &Schema) -> Result<Vec<u8>, AllocErro
     write_message(alloc, HeaderKind::Schema, &header, 0)
 }
 
-/// A header as it stands in an IPC stream: four bytes of 255, a length, the header, and zeros up to a
-/// multiple of 8. The length is a little-endian number of 32 bits and counts the zeros too. It fails with
-/// [`AllocError`] where memory is refused, and with no other error.
+/// A header as it stands in an IPC stream: four bytes of 255, a length, the header, and zeros up to
+/// a multiple of 8. The length is a little-endian number of 32 bits and counts the zeros too. It
+/// fails with [`AllocError`] where memory is refused, and with no other error.
 #[tactic(auto, using(crate::proofs::Framed::framing))]
 pub fn encapsulate(alloc: Global, header: &[u8]) -> Result<Vec<u8>, AllocError>
     requires { length header.now ≤ 2 ^ 31 - 8 }

@@ -1,12 +1,12 @@
 -- The function on bytes and the words of the profile are one.
-use Rattle.std.proofs.Common.{◌≡◌, Option, Some, None, Result, Ok, Err, refl}
+use Rattle.std.proofs.Common.{◌≡◌, ℕ, List, ◌++◌, Option, Some, None, Result, Ok, Err, refl, sym, ap, ◌∙◌, append_assoc}
 use Rattle.grpc_frame.specs.declared.record.Record.{Record}
 use Rattle.scan_base.specs.declared.fault.Fault.{Fault}
-use Rattle.grpc_frame.specs.Records.{Received, Leads, Breaks, IsCut}
+use Rattle.grpc_frame.specs.Records.{Received, Leads, shown_by, Breaks, IsCut}
 use Rattle.grpc_frame.specs.Head.{AreBytes}
 use Rattle.grpc_frame.specs.Front.{Front, Wanting, Faulty, Whole, front_of}
 use Rattle.grpc_frame.specs.Calls.{TakesFront, KeepsProfile}
-use Rattle.grpc_frame.specs.Laws.{FrontKeepsProfile}
+use Rattle.grpc_frame.specs.Laws.{FrontKeepsProfile, with_more}
 use Rattle.grpc_frame.proofs.Again.{leads_front, breaks_front}
 use Rattle.grpc_frame.proofs.Stands.{FrontIs, front_is}
 
@@ -46,3 +46,27 @@ next_keeps (Err fault) old new fits takes = (
   (λ e. let whole = takes.1 e in (whole.0, whole.1, whole_leads old whole.0 whole.1 fits whole.2)),
   takes.2,
 )
+
+-- where a fault stood in front, it is answered whatever was fed
+pub fault_stays : (old new : Received) (more : List ℕ) (fault : Fault) (answer : Result (Option Record) Fault) → Breaks old fault → TakesFront answer (with_more old more) new → (answer ≡ Err fault) × (new ≡ with_more old more)
+fault_stays old new more fault answer breaks = by answer
+  where
+    stays : front_of (with_more old more) ≡ Faulty fault
+    stays = breaks_front (with_more old more) fault (record {
+      flaw = breaks.flaw;
+      rest = breaks.rest ++ more;
+      whole = ap (λ (b : List ℕ). b ++ more) breaks.whole ∙ append_assoc (shown_by breaks.flaw) breaks.rest more;
+      is_flaw = breaks.is_flaw;
+      fault_is = breaks.fault_is;
+    })
+
+    same : (other : Fault) → front_of (with_more old more) ≡ Faulty other → other ≡ fault
+    same other e = let both : Faulty other ≡ Faulty fault = sym e ∙ stays in cc
+
+    by : (answer : Result (Option Record) Fault) → TakesFront answer (with_more old more) new → (answer ≡ Err fault) × (new ≡ with_more old more)
+    by (Ok (Some found)) takes = absurd (let both = stays in cc)
+    by (Ok None) takes = absurd (let both = stays in let w = takes.0 in cc)
+    by (Err other) takes = (ap (λ (f : Fault). Err f) (same other (met other takes)), takes.2)
+      where
+        met : (other : Fault) → TakesFront (Err other) (with_more old more) new → front_of (with_more old more) ≡ Faulty other
+        met other takes = takes.0 (λ e. let whole = takes.1 e in let both = stays in let w = whole.2 in absurd cc)

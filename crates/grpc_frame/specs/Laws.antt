@@ -1,11 +1,12 @@
 -- What holds of all bytes and records.
-use Rattle.std.specs.Prelude.{◌≡◌, ◌↔◌, ◌++◌, ℕ, List, [], Some, All}
+use Rattle.std.specs.Prelude.{◌≡◌, ◌↔◌, ◌++◌, ℕ, List, [], Some, All, Option, Result, Err}
 use Rattle.std.specs.List.{flat_map}
 use Rattle.scan_base.specs.declared.fault.Fault.{Fault}
 use Rattle.grpc_frame.specs.declared.place.Place.{Place}
 use Rattle.grpc_frame.specs.declared.record.Record.{Record}
 use Rattle.grpc_frame.specs.Records.{spelling, IsRecord, place_after, place_after_all, Received, Leads, Breaks, IsCut, Ending, nothing_more, Splits}
 use Rattle.grpc_frame.specs.Head.{AreBytes}
+use Rattle.grpc_frame.specs.Calls.{TakesFront}
 use Rattle.grpc_frame.specs.Front.{Wanting, Faulty, Whole, front_of}
 
 -- the function on bytes and the words of the profile are one
@@ -27,6 +28,13 @@ FrontsStay =
     (left : Received) (more : List ℕ)
     → ((found : Record) (rest : Received) → Leads found left rest → Leads found (with_more left more) (with_more rest more))
     × ((fault : Fault) → Breaks left fault → Breaks (with_more left more) fault)
+
+-- where a fault stood in front, `next` answers that fault, whatever was fed since
+abbrev pub FaultsStay : Type 0
+FaultsStay =
+    (old new : Received) (more : List ℕ) (fault : Fault) (answer : Result (Option Record) Fault)
+    → Breaks old fault → TakesFront answer (with_more old more) new
+    → (answer ≡ Err fault) × (new ≡ with_more old more)
 
 -- a record's bytes, followed by anything, read as that record and leave what follows
 abbrev pub RecordsReadBack : Type 0

@@ -1,7 +1,7 @@
 //! Laws of the definitions that the contracts cite. The functions do nothing: their contracts are the
 //! laws.
 
-ghost use Rattle.grpc_frame.specs.Laws.{FrontsKeepProfile, FrontsStay, RecordsReadBack};
+ghost use Rattle.grpc_frame.specs.Laws.{FrontsKeepProfile, FrontsStay, FaultsStay, RecordsReadBack};
 ghost use Rattle.grpc_frame.specs.Laws.{AtMostOneSplit, EachSplits, SplitsGoOn, WrittenSplits};
 
 /// What the function on bytes says of the front is what the profile's words say of it.
@@ -12,6 +12,11 @@ pub fn fronts_keep_profile()
 /// A record in front, or a fault, stays there whatever comes behind it.
 pub fn fronts_stay()
     ensures { FrontsStay }
+{}
+
+/// Where an inbox met a fault, it answers that fault from then on, whatever is fed.
+pub fn faults_stay()
+    ensures { FaultsStay }
 {}
 
 /// A record's bytes read as that record, whatever follows them.

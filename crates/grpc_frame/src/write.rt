@@ -2,7 +2,7 @@
 
 ghost use Rattle.std.specs.Prelude.{◌≡◌, ◌++◌, ◌<◌, ◌≤◌, length};
 ghost use Rattle.grpc_frame.specs.declared.record.Record.TheVariants.{Open, Message, End};
-ghost use Rattle.grpc_frame.specs.Records.{spelling};
+ghost use Rattle.grpc_frame.specs.Records.{spelling, IsRecord};
 ghost use Rattle.grpc_frame.specs.Calls.{status_of};
 ghost use Rattle.grpc_frame.specs.Ends.{CountsFailure, FailsByTransport, Writes};
 
@@ -79,6 +79,7 @@ pub fn write_status<W: Output>(out: &mut W, fault: Option<Fault>) -> Result<(), 
     requires { W.failures out.old < 18446744073709551615 }
     ensures bytes { Writes result
         (W.contents out.old) (W.contents out.new) (spelling (status_of fault)) }
+    ensures record { IsRecord (status_of fault) }
     ensures counted { CountsFailure result (W.failures out.old) (W.failures out.new) }
     ensures kind { FailsByTransport result }
 {

@@ -1,5 +1,5 @@
 -- Worked rows: the definitions, tried on puts that were worked out by hand.
-use Rattle.std.proofs.Common.{ℕ, ◌≡◌, refl, pos, Bool, true, false, List, [], ◌∷◌, codes, Some, None, Ok, Err, replicate, map, is_ok}
+use Rattle.std.proofs.Common.{ℕ, ◌≡◌, refl, pos, true, false, List, [], ◌∷◌, codes, Some, Ok, Err, replicate, map, is_ok}
 use Rattle.std.specs.List.{range_with_len}
 use Rattle.scan_base.specs.declared.value.Value.TheVariants.{Int, Null, Text}
 use Rattle.scan_base.specs.declared.fault.Fault.TheVariants.{TableMissing, TableExists, LimitReached, BadBatch, SchemaMismatch}
@@ -13,8 +13,8 @@ use Rattle.table_versions.specs.declared.options.IfExists.TheVariants.{Unspecifi
 use Rattle.table_versions.specs.declared.options.IfNotExist.{IfNotExist}
 use Rattle.table_versions.specs.declared.options.IfNotExist.TheVariants as absent
 use Rattle.table_versions.specs.Table.{Name, Row, Table}
-use Rattle.table_versions.specs.Database.{Database, Put, after, database_of, version, table_at, logged}
-use Rattle.table_versions.specs.Stored.{PutAt, TableAt, kept, stored_after}
+use Rattle.table_versions.specs.Database.{Database, Put, after, database_of, version, logged}
+use Rattle.table_versions.specs.Stored.{stored_after}
 
 abbrev field : Name → DataType → Field
 field name data_type = record { name = name; nullable = false; data_type = data_type }

@@ -1,6 +1,6 @@
 -- Stored tables are plain tables, whatever their batches.
-use Rattle.std.proofs.Common.{◌≡◌, ◌≢◌, ℕ, zero, suc, Bool, true, false, if◌then◌else◌, List, [], ◌∷◌, ◌++◌, length, map, Option, Some, None, option_map, Result, Ok, Err, refl, sym, ap, ◌∙◌, arith, rules, nat_lt}
-use Rattle.std.specs.List.{flat_map, filter}
+use Rattle.std.proofs.Common.{◌≡◌, ℕ, zero, suc, Bool, true, false, if◌then◌else◌, List, [], ◌∷◌, ◌++◌, length, Option, Some, None, Result, Ok, Err, refl, sym, ap, ◌∙◌, arith, rules, nat_lt}
+use Rattle.std.specs.List.{flat_map}
 use Rattle.std.specs.Str.{bytes_eq}
 use Rattle.std.specs.Cmp.Lexicographic.{slice_cmp}
 use Rattle.std.specs.Ordering.{nat_cmp, is_lt}
@@ -8,14 +8,13 @@ use Rattle.std.proofs.lemmas.Grind.{flat_map-append}
 use Rattle.std.proofs.lemmas.Bool.{lt-ltb}
 use Rattle.std.proofs.lemmas.List.{length-map}
 use Rattle.scan_base.specs.declared.fault.Fault.{Fault}
-use Rattle.scan_base.specs.declared.fault.Fault.TheVariants.{OutOfMemory}
 use Rattle.scan_base.specs.Reading.{first_fault, unless, GivesUnlessMemory}
 use Rattle.arrow_schema.specs.Batch.{BatchAt, rows_of}
 use Rattle.table_versions.specs.declared.options.IfExists.{IfExists}
 use Rattle.table_versions.specs.declared.options.IfExists.TheVariants.{Unspecified, Fail, Append, Replace}
-use Rattle.table_versions.specs.Table.{Name, Table}
+use Rattle.table_versions.specs.Table.{Name}
 use Rattle.table_versions.specs.Database.{Database, table_at, with_table, table_after, faults_at, put_faults, after}
-use Rattle.table_versions.specs.Stored.{TableAt, CatalogAt, PutAt, table_of, tables_of, put_of, has_rows, kept, stored_after, catalog_after}
+use Rattle.table_versions.specs.Stored.{TableAt, CatalogAt, PutAt, table_of, plain, tables_of, put_of, kept, stored_after, catalog_after}
 
 -- a batch without rows adds none
 rows-kept : (batches : List BatchAt) → flat_map rows_of (kept batches) ≡ flat_map rows_of batches
@@ -30,12 +29,12 @@ rows-kept (batch ∷ batches) = one batch.rows refl (rows-kept batches)
         rw filled (ap (λ rows. rows_of batch ++ rows) rest)
 
 -- the table of a name
-pub table_at-tables_of : (catalog : CatalogAt) (name : Name) → table_at (tables_of catalog) name ≡ option_map table_of (table_at catalog name)
+pub table_at-tables_of : (catalog : CatalogAt) (name : Name) → table_at (tables_of catalog) name ≡ plain (table_at catalog name)
 table_at-tables_of [] name = refl
 table_at-tables_of (entry ∷ entries) name = found (bytes_eq entry.0 name) (table_at-tables_of entries name)
   where
-    found : (b : Bool) → table_at (tables_of entries) name ≡ option_map table_of (table_at entries name) → (if b then Some (table_of entry.1) else table_at (tables_of entries) name)
-        ≡ option_map table_of (if b then Some entry.1 else table_at entries name)
+    found : (b : Bool) → table_at (tables_of entries) name ≡ plain (table_at entries name) → (if b then Some (table_of entry.1) else table_at (tables_of entries) name)
+        ≡ plain (if b then Some entry.1 else table_at entries name)
     found true rest = refl
     found false rest = rest
 
@@ -56,7 +55,7 @@ alone put = ap (λ rows. record { schema = put.schema; rows = rows }) (sym (rows
 
 -- the table after a put
 pub table_of-stored_after : (if_exists : IfExists) (old : Option TableAt) (put : PutAt) →
-    table_after if_exists (option_map table_of old) (put_of put) ≡ table_of (stored_after if_exists old put)
+    table_after if_exists (plain old) (put_of put) ≡ table_of (stored_after if_exists old put)
 table_of-stored_after Append (Some old) put =
     ap (λ rows. record { schema = old.schema; rows = rows })
     (ap (λ rows. flat_map rows_of old.batches ++ rows) (sym (rows-kept put.batches)) ∙ sym (flat_map-append rows_of old.batches (kept put.batches)))
@@ -67,10 +66,10 @@ table_of-stored_after Replace old put = alone put
 
 -- why a put is refused at a catalog
 pub put_faults-tables_of : (catalog : CatalogAt) (n : ℕ) (put : PutAt) →
-    put_faults (tables_of catalog) n (put_of put) ≡ faults_at (option_map table_of (table_at catalog put.table)) (length catalog) n (put_of put)
+    put_faults (tables_of catalog) n (put_of put) ≡ faults_at (plain (table_at catalog put.table)) (length catalog) n (put_of put)
 put_faults-tables_of catalog n put =
     ap (λ there. faults_at there (length (tables_of catalog)) n (put_of put)) (table_at-tables_of catalog put.table)
-    ∙ ap (λ tables. faults_at (option_map table_of (table_at catalog put.table)) tables n (put_of put)) count
+    ∙ ap (λ tables. faults_at (plain (table_at catalog put.table)) tables n (put_of put)) count
   where
     count : length (tables_of catalog) ≡ length catalog
     count = search (rules, length-map)
@@ -106,12 +105,12 @@ gives_tables catalog n put (Err fault) h = λ real. after-tables_of catalog n pu
 -- a put is refused as its tests say
 module _ (catalog : CatalogAt) (n : ℕ) (put : PutAt) (there : Option TableAt) (tables : ℕ) (at : there ≡ table_at catalog put.table)
     (count : tables ≡ length catalog) where
-  faults : put_faults (tables_of catalog) n (put_of put) ≡ faults_at (option_map table_of there) tables n (put_of put)
+  faults : put_faults (tables_of catalog) n (put_of put) ≡ faults_at (plain there) tables n (put_of put)
   faults = put_faults-tables_of catalog n put
-      ∙ ap (λ old. faults_at (option_map table_of old) (length catalog) n (put_of put)) (sym at)
-      ∙ ap (λ number. faults_at (option_map table_of there) number n (put_of put)) (sym count)
+      ∙ ap (λ old. faults_at (plain old) (length catalog) n (put_of put)) (sym at)
+      ∙ ap (λ number. faults_at (plain there) number n (put_of put)) (sym count)
 
-  pub refused_by : (refused : Option Fault) → refused ≡ first_fault (faults_at (option_map table_of there) tables n (put_of put)) →
+  pub refused_by : (refused : Option Fault) → refused ≡ first_fault (faults_at (plain there) tables n (put_of put)) →
       catalog_after catalog n put ≡ unless refused (with_table put.table (stored_after put.if_exists there put) catalog)
   refused_by refused h =
       ap (λ old. unless (first_fault (put_faults (tables_of catalog) n (put_of put))) (with_table put.table (stored_after put.if_exists old put) catalog)) (sym at)

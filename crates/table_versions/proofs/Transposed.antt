@@ -1,13 +1,12 @@
 -- Tests of rows are tests of columns.
-use Rattle.std.proofs.Common.{◌≡◌, ◌<◌, ◌-◌, ℕ, zero, suc, ◌+◌, Bool, true, false, not, ◌&&◌, ◌||◌, List, [], ◌∷◌, ◌++◌, length, map, refl, sym, ap, ◌∙◌, arith}
-use Rattle.std.specs.List.{list_any, zip, range_with_len, All, AllByRecursion}
-use Rattle.std.proofs.lemmas.List.Folds.{list_any-append}
+use Rattle.std.proofs.Common.{◌≡◌, ◌<◌, ◌-◌, ℕ, suc, ◌+◌, Bool, true, false, not, ◌&&◌, ◌||◌, List, [], ◌∷◌, map, refl, sym, ap, ◌∙◌, arith}
+use Rattle.std.specs.List.{list_any, zip, range_with_len, AllByRecursion}
 use Rattle.std.proofs.lemmas.List.Elements.{recursion_from_All}
 use Rattle.arrow_schema.specs.declared.schema.Field.{Field}
-use Rattle.arrow_schema.specs.Column.{ColumnAt, slot_of, values_of}
+use Rattle.arrow_schema.specs.Column.{ColumnAt, slot_of}
 use Rattle.arrow_schema.specs.Batch.{BatchAt, AreLong, row_of, rows_of}
-use Rattle.table_versions.specs.Table.{is_null, is_bad_null, has_bad_null, is_long_text}
-use Rattle.table_versions.specs.Columns.{is_bad_column, has_bad_column, is_long_column}
+use Rattle.table_versions.specs.Table.{is_null, has_bad_null, is_long_text}
+use Rattle.table_versions.specs.Columns.{has_bad_column, is_long_column}
 
 -- the values from the j-th on
 pub any_from : {X : Type 0} (test : X → Bool) (f : ℕ → X) (j n : ℕ) → j < n →

@@ -1,5 +1,5 @@
 -- The database after a put, and after a log of puts.
-use Rattle.std.specs.Prelude.{◌≡◌, ℕ, ◌+◌, ◌==◌, Bool, true, false, not, ◌&&◌, ◌||◌, if◌then◌else◌, List, [], ◌∷◌, ◌++◌, length, take, nat_lt, nat_le, Option, Some, None, is_some, Result, Ok, Err}
+use Rattle.std.specs.Prelude.{ℕ, ◌+◌, ◌==◌, Bool, false, not, ◌&&◌, ◌||◌, if◌then◌else◌, List, [], ◌∷◌, ◌++◌, length, take, nat_lt, nat_le, Option, Some, None, is_some, Result, Ok, Err}
 use Rattle.std.specs.List.{list_any}
 use Rattle.std.specs.Str.{bytes_eq}
 use Rattle.std.specs.Cmp.Lexicographic.{slice_cmp}
@@ -10,7 +10,7 @@ use Rattle.scan_base.specs.declared.fault.Fault.TheVariants.{BadBatch, TableMiss
 use Rattle.scan_base.specs.Reading.{first_fault, unless}
 use Rattle.scan_base.specs.Lists.{repeats}
 use Rattle.table_versions.specs.declared.options.IfExists.{IfExists}
-use Rattle.table_versions.specs.declared.options.IfExists.TheVariants.{Unspecified, Fail, Append, Replace}
+use Rattle.table_versions.specs.declared.options.IfExists.TheVariants.{Append}
 use Rattle.table_versions.specs.declared.options.IfNotExist.{IfNotExist}
 use Rattle.table_versions.specs.Limits.{most_name_bytes, most_rows, most_tables, most_commits}
 use Rattle.table_versions.specs.Options.{refuses_present, refuses_absent}

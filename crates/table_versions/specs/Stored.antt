@@ -1,13 +1,12 @@
 -- What is stored: tables with their rows in batches, and what they are as plain lists.
-use Rattle.std.specs.Prelude.{ℕ, ◌==◌, Bool, ◌&&◌, List, ◌++◌, length, map, nat_lt, Option, Some, None, Result}
+use Rattle.std.specs.Prelude.{ℕ, ◌==◌, Bool, List, ◌++◌, length, map, nat_lt, Option, Some, None, Result}
 use Rattle.std.specs.List.{filter, flat_map}
-use Rattle.arrow_schema.specs.declared.schema.Field.{Field}
 use Rattle.arrow_schema.specs.declared.schema.Schema.{Schema}
 use Rattle.arrow_schema.specs.Batch.{BatchAt, rows_of}
 use Rattle.scan_base.specs.declared.fault.Fault.{Fault}
 use Rattle.scan_base.specs.Reading.{first_fault, unless}
 use Rattle.table_versions.specs.declared.options.IfExists.{IfExists}
-use Rattle.table_versions.specs.declared.options.IfExists.TheVariants.{Unspecified, Fail, Append, Replace}
+use Rattle.table_versions.specs.declared.options.IfExists.TheVariants.{Append}
 use Rattle.table_versions.specs.declared.options.IfNotExist.{IfNotExist}
 use Rattle.table_versions.specs.Table.{Name, Table}
 use Rattle.table_versions.specs.Database.{Database, Put, table_at, with_table, put_faults}
@@ -41,6 +40,11 @@ table_of stored = record { schema = stored.schema; rows = flat_map rows_of store
 -- the tables of a catalog
 abbrev pub tables_of : CatalogAt → Database
 tables_of catalog = map (λ entry. (entry.0, table_of entry.1)) catalog
+
+-- the plain table, where there is a stored one
+abbrev pub plain : Option TableAt → Option Table
+plain (Some stored) = Some (table_of stored)
+plain None = None
 
 -- the rows of a put's batches, in order
 abbrev pub put_of : PutAt → Put

@@ -1,6 +1,6 @@
 //! Lists of batches that are shared by pages, so that a longer list copies few handles.
 
-ghost use Rattle.std.specs.Prelude.{◌≡◌, ◌==◌, ◌<◌, ◌^◌, ◌∷◌, ◌++◌, [], Some, length, map, IfOk, slice_get};
+ghost use Rattle.std.specs.Prelude.{◌≡◌, ◌<◌, ◌^◌, ◌∷◌, ◌++◌, [], Some, length, IfOk, slice_get};
 ghost use Rattle.std.specs.Arc.{arc_value};
 ghost use Rattle.table_versions.specs.Batches.{page_size};
 
@@ -71,7 +71,7 @@ impl Page {
     }
 }
 
-// A list of batches. A longer one shares the full pages with it, and copies the handles of the last.
+// A list of batches. A longer one shares its full pages, and copies the handles of the last.
 #[derive(Drop)]
 pub(crate) struct BatchList {
     full: Vec<Arc<Page>>,

@@ -14,7 +14,8 @@ use std::marker::Model;
 use std::ops::Range;
 use std::sync::Arc;
 
-/// Tables by name, in byte order of the names. The next version shares the tables that stay as they are.
+/// Tables by name, in byte order of the names. The next version shares the tables that stay as
+/// they are.
 #[derive(Drop)]
 pub struct CatalogVersion {
     tables: Vec<Arc<(Text, TableVersion)>>,
@@ -98,7 +99,8 @@ fn find_in<'a>(tables: &'a [Arc<(Text, TableVersion)>], name: &Text) -> Option<&
     None
 }
 
-// The entries whose place a table of this name takes: the one of the name, or none before the next name.
+// The entries whose place a table of this name takes: the one of the name, or none, before the
+// next name.
 fn place_of(tables: &[Arc<(Text, TableVersion)>], name: &Text) -> Range<usize>
     ensures { IsPlace (map arc_value tables.now) name.now result.start result.end }
 {

@@ -1,15 +1,15 @@
 //! The next version of the catalog: a put is checked, and then its table is made.
 
-ghost use Rattle.std.specs.Prelude.{◌≡◌, ◌≤◌, ◌||◌, ◌==◌, ◌&&◌, ◌+◌, ◌++◌, not, true, false, Ok, None, IfOk, IsTrue, length, nat_lt, nat_le, is_some, option_map};
+ghost use Rattle.std.specs.Prelude.{◌≡◌, ◌≤◌, ◌||◌, ◌==◌, ◌+◌, ◌++◌, false, IfOk, IsTrue};
+ghost use Rattle.std.specs.Prelude.{length, nat_lt};
 ghost use Rattle.std.specs.List.{flat_map, list_all};
 ghost use Rattle.std.specs.Option.{option_copied};
 ghost use Rattle.arrow_schema.specs.Batch.{rows_of};
 ghost use Rattle.scan_base.specs.Reading.{GivesUnlessMemory, first_fault};
-ghost use Rattle.scan_base.specs.Lists.{repeats};
-ghost use Rattle.table_versions.specs.Limits.{most_name_bytes, most_rows, most_tables, most_commits};
-ghost use Rattle.table_versions.specs.Table.{same_name, same_fields};
-ghost use Rattle.table_versions.specs.Database.{table_at, table_after, columns_of, differs, faults_at, after};
-ghost use Rattle.table_versions.specs.Stored.{table_of, tables_of, put_of, is_wide, kept, stored_after, catalog_after};
+ghost use Rattle.table_versions.specs.Limits.{most_name_bytes, most_rows};
+ghost use Rattle.table_versions.specs.Database.{table_after, columns_of, differs, faults_at, after};
+ghost use Rattle.table_versions.specs.Stored.{tables_of, put_of, plain, is_wide, kept};
+ghost use Rattle.table_versions.specs.Stored.{stored_after, catalog_after};
 
 use crate::catalog::CatalogVersion;
 use crate::cells::{has_bad_null, has_long_row};
@@ -32,7 +32,8 @@ fn is_bad_name(name: &Text) -> bool
 
 // Whether an append comes with other columns than the table's.
 fn differs(old: Option<&TableVersion>, put: &Put) -> bool
-    ensures { result ≡ differs put.now.if_exists (columns_of (option_map table_of (option_copied old.entry))) put.now.schema }
+    ensures { result
+        ≡ differs put.now.if_exists (columns_of (plain (option_copied old.entry))) put.now.schema }
 {
     match (put.if_exists, old) {
         (IfExists::Append, Some(old)) => !same_fields(
@@ -60,8 +61,8 @@ fn has_too_many_rows(stored: usize, batches: &[Batch]) -> bool
 
 // Whether the table would have too many rows after the put.
 fn overflows(old: Option<&TableVersion>, put: &Put) -> bool
-    ensures { result ≡ nat_lt most_rows
-        (length (table_after put.now.if_exists (option_map table_of (option_copied old.entry)) (put_of put.now)).rows) }
+    ensures { result ≡ nat_lt most_rows (length
+        (table_after put.now.if_exists (plain (option_copied old.entry)) (put_of put.now)).rows) }
 {
     match (put.if_exists, old) {
         (IfExists::Append, Some(old)) => has_too_many_rows(old.rows(), put.batches.as_slice()),
@@ -71,7 +72,8 @@ fn overflows(old: Option<&TableVersion>, put: &Put) -> bool
 
 // Why a put is refused, if it is, where this is the table of its name and there are so many tables.
 fn refusal(old: Option<&TableVersion>, tables: usize, number: u64, put: &Put) -> Option<Fault>
-    ensures { result ≡ first_fault (faults_at (option_map table_of (option_copied old.entry)) tables number (put_of put.now)) }
+    ensures { result
+        ≡ first_fault (faults_at (plain (option_copied old.entry)) tables number (put_of put.now)) }
 {
     if is_bad_name(&put.table) {
         return Some(Fault::LimitReached);
@@ -104,8 +106,10 @@ fn appended(
     batches: Vec<Batch>,
 ) -> Result<TableVersion, AllocError>
     requires wide { IsTrue (list_all (is_wide old.now.schema) batches.items) }
-    requires few { length (flat_map rows_of old.now.batches ++ flat_map rows_of batches.items) ≤ most_rows }
-    ensures { IfOk result (λ table. table ≡ record { schema = old.now.schema; batches = old.now.batches ++ kept batches.items }) }
+    requires few { length (flat_map rows_of old.now.batches ++ flat_map rows_of batches.items)
+        ≤ most_rows }
+    ensures { IfOk result (λ table. table
+        ≡ record { schema = old.now.schema; batches = old.now.batches ++ kept batches.items }) }
 {
     old.share(alloc)?.extended(alloc, batches)
 }
@@ -114,7 +118,8 @@ fn appended(
 fn created(alloc: Global, schema: Schema, batches: Vec<Batch>) -> Result<TableVersion, AllocError>
     requires wide { IsTrue (list_all (is_wide schema) batches.items) }
     requires few { length (flat_map rows_of batches.items) ≤ most_rows }
-    ensures { IfOk result (λ table. table ≡ record { schema = schema; batches = kept batches.items }) }
+    ensures { IfOk result (λ table. table
+        ≡ record { schema = schema; batches = kept batches.items }) }
 {
     TableVersion::new(alloc, schema)?.extended(alloc, batches)
 }
@@ -125,9 +130,12 @@ fn made(
     old: Option<&TableVersion>,
     put: Put,
 ) -> Result<(Text, TableVersion), AllocError>
-    requires alike { differs put.if_exists (columns_of (option_map table_of (option_copied old))) put.schema ≡ false }
-    requires few { length (table_after put.if_exists (option_map table_of (option_copied old)) (put_of put)).rows ≤ most_rows }
-    ensures { IfOk result (λ entry. entry ≡ (put.table, stored_after put.if_exists (option_copied old.entry) put)) }
+    requires alike { differs put.if_exists (columns_of (plain (option_copied old))) put.schema
+        ≡ false }
+    requires few { length (table_after put.if_exists (plain (option_copied old)) (put_of put)).rows
+        ≤ most_rows }
+    ensures { IfOk result (λ entry. entry
+        ≡ (put.table, stored_after put.if_exists (option_copied old.entry) put)) }
 {
     let Put {
         table: name,
@@ -144,7 +152,8 @@ fn made(
 }
 
 fn next_catalog(alloc: Global, snapshot: &Snapshot, put: Put) -> Result<CatalogVersion, Fault>
-    ensures { GivesUnlessMemory (λ catalog. catalog) result (catalog_after snapshot.now.catalog snapshot.now.number put) }
+    ensures { GivesUnlessMemory (λ catalog. catalog) result
+        (catalog_after snapshot.now.catalog snapshot.now.number put) }
 {
     let catalog = snapshot.catalog();
     let old = catalog.get(&put.table);
@@ -155,16 +164,22 @@ fn next_catalog(alloc: Global, snapshot: &Snapshot, put: Put) -> Result<CatalogV
     Ok(catalog.with(alloc, name, table)?)
 }
 
-/// The catalog after a put, where the snapshot's number counts the puts that were accepted before it. The
-/// first fault is answered, in this order: F12 where the name has less than 1 or more than 64 bytes; F10
-/// where the table is there and is neither to be extended nor replaced; F9 where it is absent and is not to
-/// be created; F11 where two columns of the put have one name, or an append has other columns than the
-/// table; F8 where a cell is null in a column that takes no null; F12 where a text of a row has more than
-/// 65,536 bytes, where the table would have more than 16,777,216 rows, for a 257th table, and for a put
-/// behind 65,536 accepted ones. Any call may answer F21.
+/// The catalog after a put, where the snapshot's number counts the puts that were accepted before.
+/// The first fault is answered, in this order: F12 where the name has less than 1 or more than 64
+/// bytes; F10 where the table is there and is neither to be extended nor replaced; F9 where it is
+/// absent and is not to be created; F11 where two columns of the put have one name, or an append
+/// has other columns than the table; F8 where a cell is null in a column that takes no null; F12
+/// where a text of a row has more than 65,536 bytes, where the table would have more than
+/// 16,777,216 rows, for a 257th table, and for a put behind 65,536 accepted ones. Any call may
+/// answer F21.
+///
+/// Old tables and batches are shared: a put copies a handle for each table, and an append at most
+/// 255 handles of batches and one for each 256 batches before those.
 pub fn apply(alloc: Global, snapshot: &Snapshot, put: Put) -> Result<CatalogVersion, Fault>
-    ensures batches { GivesUnlessMemory (λ catalog. catalog) result (catalog_after snapshot.now.catalog snapshot.now.number put) }
-    ensures rows { GivesUnlessMemory tables_of result (after (tables_of snapshot.now.catalog) snapshot.now.number (put_of put)) }
+    ensures batches { GivesUnlessMemory (λ catalog. catalog) result
+        (catalog_after snapshot.now.catalog snapshot.now.number put) }
+    ensures rows { GivesUnlessMemory tables_of result
+        (after (tables_of snapshot.now.catalog) snapshot.now.number (put_of put)) }
 {
     next_catalog(alloc, snapshot, put)
 }

@@ -24,7 +24,8 @@ pub(crate) fn spliced<T: Drop>(
     requires ordered { place.start ≤ place.end }
     requires within { place.end ≤ length handles.now }
     ensures { IfOk result (λ all. map arc_value all.items
-        ≡ take place.start (map arc_value handles.now) ++ arc_value new ∷ drop place.end (map arc_value handles.now)) }
+        ≡ take place.start (map arc_value handles.now)
+        ++ arc_value new ∷ drop place.end (map arc_value handles.now)) }
 {
     let mut front = shared(alloc, &handles[..place.start])?;
     front.push(new)?;
@@ -37,7 +38,8 @@ pub(crate) fn extended<T: Drop>(
     list: Vec<Arc<T>>,
     handles: &[Arc<T>],
 ) -> Result<Vec<Arc<T>>, AllocError>
-    ensures { IfOk result (λ all. map arc_value all.items ≡ map arc_value list.items ++ map arc_value handles.now) }
+    ensures { IfOk result (λ all. map arc_value all.items
+        ≡ map arc_value list.items ++ map arc_value handles.now) }
 {
     let mut all = list;
     for handle in handles {

@@ -1,15 +1,21 @@
 //! What holds of every database and log. Each law is a function whose contract says it.
 
-ghost use Rattle.table_versions.specs.Laws.{TablesAreFound, LogsGrow, LogsStay};
+ghost use Rattle.table_versions.specs.Laws.{TablesAreFound, LogsGrow, LogsStay, NamesAreInOrder};
 
-/// Looking a table up after a put: the put's table is found at its name, and each other name has what it had.
+/// Looking a table up after a put: the put's table is found at its name, and each other name has
+/// what it had.
 pub fn tables_are_found()
     ensures { TablesAreFound }
 {}
 
-/// An accepted put is logged, gives the log's database, and changes no earlier version. A refused put is not
-/// logged.
+/// An accepted put is logged, gives the log's database, and changes no earlier version. A refused
+/// put is not logged.
 pub fn logs_grow()
     ensures accepted { LogsGrow }
     ensures refused { LogsStay }
+{}
+
+/// The names of every version are in byte order, and each stands once.
+pub fn names_are_in_order()
+    ensures { NamesAreInOrder }
 {}

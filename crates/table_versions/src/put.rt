@@ -9,8 +9,8 @@ use arrow_schema::{Batch, Schema};
 use scan_base::Text;
 use std::marker::Model;
 
-/// Batches for a table, and what to do where the table is absent and where it is there. Each batch has one
-/// column for each field of the schema.
+/// Batches for a table, and what to do where the table is absent and where it is there. Each batch
+/// has one column for each field of the schema.
 #[derive(Drop)]
 pub struct Put {
     pub(crate) table: Text,
@@ -39,7 +39,8 @@ impl Model for Put {
 }
 
 impl Put {
-    /// A put of these batches into the table of this name. Each batch has one column for each field.
+    /// A put of these batches into the table of this name. Each batch has one column for each
+    /// field.
     pub fn new(
         table: Text,
         if_not_exist: IfNotExist,

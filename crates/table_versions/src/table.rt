@@ -1,6 +1,7 @@
 //! A table as a version of the catalog has it.
 
-ghost use Rattle.std.specs.Prelude.{◌≡◌, ◌<◌, ◌+◌, ◌≤◌, ◌∷◌, ◌++◌, [], Some, length, IfOk, IsTrue, slice_get};
+ghost use Rattle.std.specs.Prelude.{◌≡◌, ◌<◌, ◌+◌, ◌≤◌, ◌∷◌, ◌++◌, [], Some, length, slice_get};
+ghost use Rattle.std.specs.Prelude.{IfOk, IsTrue};
 ghost use Rattle.std.specs.List.{flat_map, list_all};
 ghost use Rattle.std.specs.Arc.{arc_value};
 ghost use Rattle.arrow_schema.specs.Batch.{rows_of};
@@ -14,8 +15,8 @@ use std::alloc::{AllocError, Global};
 use std::marker::Model;
 use std::sync::Arc;
 
-/// A table: its schema, and its rows in batches. Each batch has rows, and one column for each field. A
-/// longer version of a table shares the batches with it.
+/// A table: its schema, and its rows in batches. Each batch has rows, and one column for each
+/// field. A longer version of the table shares these batches.
 #[derive(Drop)]
 pub struct TableVersion {
     schema: Arc<Schema>,
@@ -32,7 +33,8 @@ impl Model for TableVersion {
 
     ghost view = { λ t. record { schema = arc_value t.schema; batches = t.batches } };
 
-    ghost invariant = { λ t. IsKept (record { schema = arc_value t.schema; batches = t.batches }) t.rows };
+    ghost invariant = { λ t.
+        IsKept (record { schema = arc_value t.schema; batches = t.batches }) t.rows };
 }
 
 impl TableVersion {
@@ -94,7 +96,8 @@ impl TableVersion {
     fn with(self, alloc: Global, batch: Batch) -> Result<TableVersion, AllocError>
         requires kept { IsTrue (is_kept self.schema batch) }
         requires few { length (flat_map rows_of self.batches) + batch.rows ≤ most_rows }
-        ensures { IfOk result (λ table. table ≡ record self { batches = self.batches ++ batch ∷ [] }) }
+        ensures { IfOk result (λ table. table
+            ≡ record self { batches = self.batches ++ batch ∷ [] }) }
     {
         let TableVersion {
             schema,
@@ -117,7 +120,8 @@ impl TableVersion {
     ) -> Result<TableVersion, AllocError>
         requires wide { IsTrue (list_all (is_wide self.schema) batches.items) }
         requires few { length (flat_map rows_of (self.batches ++ batches.items)) ≤ most_rows }
-        ensures { IfOk result (λ table. table ≡ record self { batches = self.batches ++ kept batches.items }) }
+        ensures { IfOk result (λ table. table
+            ≡ record self { batches = self.batches ++ kept batches.items }) }
     {
         let mut table = self;
         for batch in batches {

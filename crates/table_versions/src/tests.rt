@@ -4,7 +4,7 @@ ghost use Rattle.std.specs.Prelude.{◌≡◌, [], ◌∷◌, length, IfOk, IsTr
 ghost use Rattle.std.specs.List.{list_all};
 ghost use Rattle.table_versions.specs.Stored.{is_wide};
 
-use crate::laws::{logs_grow, tables_are_found};
+use crate::laws::{logs_grow, names_are_in_order, tables_are_found};
 use crate::{
     CatalogVersion, IfExists, IfNotExist, MAX_COMMITS, MAX_ROWS, Put, Snapshot, TableVersion, apply,
 };
@@ -165,12 +165,14 @@ fn a_replace(rt: HostRuntime) -> Result<(), Fail> {
     Ok(())
 }
 
-// 16,777,216 rows are taken and one more is not; the last commit is taken and the one behind it is not.
+// 16,777,216 rows are taken and one more is not; the last commit is taken and the one behind it
+// is not.
 #[test]
 fn limits(rt: HostRuntime) -> Result<(), Fail> {
     let alloc = rt.alloc();
     tables_are_found();
     logs_grow();
+    names_are_in_order();
     let full = next(
         alloc,
         &first(alloc)?,

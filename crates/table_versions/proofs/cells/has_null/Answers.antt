@@ -1,4 +1,4 @@
-use Rattle.std.proofs.Common.{◌≡◌, ◌∙◌, sym, refl, false}
+use Rattle.std.proofs.Common.{◌∙◌, sym, refl}
 use Rattle.arrow_schema.specs.Column.{slot_of}
 use Rattle.table_versions.specs.Table.{is_null}
 use Rattle.table_versions.proofs.Transposed.{any_from}

@@ -1,4 +1,4 @@
-use Rattle.std.proofs.Common.{◌≡◌, ◌∙◌, ap}
+use Rattle.std.proofs.Common.{◌∙◌, ap}
 use Rattle.table_versions.specs.Columns.{has_bad_column}
 use Rattle.table_versions.proofs.Transposed.{bad_batch}
 use Rattle.table_versions.proofs.cells.is_bad_batch.Goals as goal

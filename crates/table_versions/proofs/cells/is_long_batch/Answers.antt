@@ -1,4 +1,4 @@
-use Rattle.std.proofs.Common.{◌≡◌, ◌∙◌, ap}
+use Rattle.std.proofs.Common.{◌∙◌, ap}
 use Rattle.std.specs.List.{list_any}
 use Rattle.table_versions.specs.Columns.{is_long_column}
 use Rattle.table_versions.proofs.Transposed.{long_batch}

@@ -1,4 +1,4 @@
-use Rattle.std.proofs.Common.{◌≡◌, ◌<◌, ◌+◌, rules, arith, length, sym, true, nat_lt}
+use Rattle.std.proofs.Common.{◌<◌, ◌+◌, arith, length}
 use Rattle.std.specs.List.{flat_map}
 use Rattle.arrow_schema.specs.Batch.{rows_of}
 use Rattle.table_versions.specs.Limits.{most_rows}

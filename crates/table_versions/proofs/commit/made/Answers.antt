@@ -1,4 +1,3 @@
-use Rattle.std.proofs.Common.{◌≡◌}
 use Rattle.table_versions.specs.Table.{same_fields}
 use Rattle.table_versions.proofs.Alike.{wide_alike}
 use Rattle.table_versions.proofs.ListTests.{not_false}

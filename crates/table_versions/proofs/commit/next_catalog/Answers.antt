@@ -1,9 +1,8 @@
-use Rattle.std.proofs.Common.{◌≡◌, ◌∙◌, Ok, List, length, rules, Option, Some, None, option_map, sym, ap}
+use Rattle.std.proofs.Common.{◌≡◌, ◌∙◌, Ok, length, rules, Some, None, sym, ap}
 use Rattle.std.specs.Option.{option_copied}
-use Rattle.scan_base.specs.declared.fault.Fault.{Fault}
-use Rattle.scan_base.specs.Reading.{first_fault, unless}
+use Rattle.scan_base.specs.Reading.{first_fault}
 use Rattle.table_versions.specs.Database.{table_at, with_table, faults_at}
-use Rattle.table_versions.specs.Stored.{table_of, put_of, stored_after, CatalogAt}
+use Rattle.table_versions.specs.Stored.{plain, put_of, stored_after, CatalogAt}
 use Rattle.table_versions.proofs.Stores.{refused_by}
 use Rattle.table_versions.proofs.commit.next_catalog.Goals as goal
 
@@ -13,7 +12,7 @@ returns-in-Some c =
     let there = option_copied c.get-old.result in
     let at : there ≡ table_at catalog c.args.put.table = search rules in
     let count : c.len.result ≡ length catalog = c.len.ensures ∙ ap (λ (c : CatalogAt). length c) c.catalog-catalog.ensures in
-    let refused : Some c.in-Some.fault ≡ first_fault (faults_at (option_map table_of there) c.len.result c.args.snapshot.now.number (put_of c.args.put)) = search rules in
+    let refused : Some c.in-Some.fault ≡ first_fault (faults_at (plain there) c.len.result c.args.snapshot.now.number (put_of c.args.put)) = search rules in
     λ _. refused_by catalog c.args.snapshot.now.number c.args.put there c.len.result at count (Some c.in-Some.fault) refused
 
 pub returns : goal.returns
@@ -22,6 +21,6 @@ returns c =
     let there = option_copied c.get-old.result in
     let at : there ≡ table_at catalog c.args.put.table = search rules in
     let count : c.len.result ≡ length catalog = c.len.ensures ∙ ap (λ (c : CatalogAt). length c) c.catalog-catalog.ensures in
-    let passes : None ≡ first_fault (faults_at (option_map table_of there) c.len.result c.args.snapshot.now.number (put_of c.args.put)) = search rules in
+    let passes : None ≡ first_fault (faults_at (plain there) c.len.result c.args.snapshot.now.number (put_of c.args.put)) = search rules in
     let new : c.in_ok-with.field-0 ≡ with_table c.args.put.table (stored_after c.args.put.if_exists there c.args.put) catalog = search rules in
     refused_by catalog c.args.snapshot.now.number c.args.put there c.len.result at count None passes ∙ ap (λ (new : CatalogAt). Ok new) (sym new)

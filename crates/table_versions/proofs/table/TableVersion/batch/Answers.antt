@@ -1,4 +1,3 @@
-use Rattle.std.proofs.Common.{◌≡◌, slice_get, Some}
 use Rattle.table_versions.specs.Kept.{is_kept}
 use Rattle.table_versions.proofs.ListTests.{all_at}
 use Rattle.table_versions.proofs.table.TableVersion.batch.Goals as goal

@@ -1,4 +1,4 @@
-use Rattle.std.proofs.Common.{arith, length, ◌+◌}
+use Rattle.std.proofs.Common.{arith}
 use Rattle.std.specs.Arc.{arc_value}
 use Rattle.table_versions.specs.Kept.{is_kept}
 use Rattle.table_versions.proofs.ListTests.{all_push}
