@@ -12,7 +12,7 @@ CountsFailure result old new = MatchResult result (λ _. new ≡ old) (λ _. new
 abbrev pub FailsByTransport : {A : Type 0} → Result A Fault → Type 0
 FailsByTransport result = MatchResult result (λ _. Unit {0}) (λ fault. fault ≡ Transport)
 
--- a read that gave bytes leaves fewer turns, and no call leaves more
+-- a read that gave bytes leaves fewer turns
 abbrev pub TakesTurn : {E : Type 0} → Result ℕ E → ℕ → ℕ → Type 0
 TakesTurn result old new = MatchResult result (λ count. 0 < count → new < old) (λ _. Unit {0})
 

@@ -8,8 +8,9 @@ use crate::ends::{Input, Output};
 use scan_base::Fault;
 use std::io::{ErrorKind, Read, Write};
 
-/// A reader or a writer whose failures are counted. A call that a signal interrupts is made again. After
-/// 18,446,744,073,709,551,615 calls of the reader or writer every further call fails.
+/// A reader or a writer whose failures are counted. A call that a signal interrupts is made
+/// again. After 18,446,744,073,709,551,615 calls of the reader or writer every further call
+/// fails.
 #[derive(Drop)]
 pub struct Counted<T> {
     end: T,

@@ -48,7 +48,8 @@ pub trait Output {
     ///
     /// # Errors
     ///
-    /// `Fault::Transport` where the write failed. It is counted, and a beginning of `piece` is written.
+    /// `Fault::Transport` where the write failed. It is counted, and a beginning of `piece` is
+    /// written.
     fn write(&mut self, piece: &[u8]) -> Result<(), Fault>
         requires { failures self.old < 18446744073709551615 }
         ensures bytes { Writes result (contents self.old) (contents self.new) piece.now }

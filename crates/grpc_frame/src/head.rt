@@ -1,13 +1,14 @@
 //! What the first bytes of a record say of it.
 
-ghost use Rattle.std.specs.Prelude.{◌≡◌, ◌≢◌, true, IsOk, IfOk, IfErr, IfSome, Ok, Err, if◌then◌else◌};
+ghost use Rattle.std.specs.Prelude.{◌≡◌, ◌≢◌, true, IsOk, IfOk, IfErr, IfSome};
 ghost use Rattle.std.specs.Str.{is_utf8};
-ghost use Rattle.scan_base.specs.declared.fault.Fault.TheVariants.{BadFrame, OutOfMemory};
-ghost use Rattle.grpc_frame.specs.Head.{open_head, message_head, status_head, head_of, AreBytes, HasBounds};
+ghost use Rattle.scan_base.specs.declared.fault.Fault.TheVariants.{OutOfMemory};
+ghost use Rattle.grpc_frame.specs.Head.{open_head, message_head, status_head, head_of};
+ghost use Rattle.grpc_frame.specs.Head.{AreBytes, HasBounds};
 ghost use Rattle.grpc_frame.specs.Front.{is_content, record_of, place_behind, FindsFront};
 
 use crate::place::Place;
-use crate::record::{MAX_MESSAGE_LEN, MAX_PATH_LEN, Record};
+use crate::record::{END, MAX_MESSAGE_LEN, MAX_PATH_LEN, MESSAGE, OPEN, Record, STATUS};
 use bytes::{ByteStr, Bytes};
 use scan_base::Fault;
 use std::str;
@@ -79,14 +80,6 @@ fn is_text(bytes: &[u8]) -> bool
     str::from_utf8(bytes).is_ok()
 }
 
-const OPEN: u8 = 1;
-
-const MESSAGE: u8 = 2;
-
-const END: u8 = 3;
-
-const STATUS: u8 = 4;
-
 // The head of an Open: the kind byte and a length of two bytes.
 fn read_open(bytes: &[u8]) -> Result<Option<Head>, Fault>
     ensures value { result ≡ open_head bytes.now }
@@ -153,8 +146,8 @@ fn read_status(bytes: &[u8]) -> Result<Option<Head>, Fault>
 ///
 /// # Errors
 ///
-/// `Fault::BadFrame` where the kind byte is none that may come at this place, a path is too long or a
-/// message's flag is not 0. `Fault::MessageTooLarge` where a message is too long.
+/// `Fault::BadFrame` where the kind byte is none that may come at this place, a path is too long
+/// or a message's flag is not 0. `Fault::MessageTooLarge` where a message is too long.
 #[tactic(auto, unfolding(crate::specs::Head::head_of))]
 pub fn read_head(place: Place, bytes: &[u8]) -> Result<Option<Head>, Fault>
     ensures value { result ≡ head_of place bytes.now }

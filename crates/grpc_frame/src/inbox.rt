@@ -14,8 +14,8 @@ use scan_base::Fault;
 use std::alloc::Global;
 use std::marker::Model;
 
-/// What has come of a connection and is not taken yet. A contract sees those bytes and the place of the
-/// record in front.
+/// What has come of a connection and is not taken yet. A contract sees those bytes and the place
+/// of the record in front.
 #[derive(Drop)]
 pub struct Inbox {
     buffer: BytesMut,
@@ -77,8 +77,8 @@ impl Inbox {
     ///
     /// # Errors
     ///
-    /// - `Fault::BadFrame` where the kind byte is none that may come at this place, a path has more than
-    ///   256 bytes, a message's flag is not 0, or a status text is not UTF-8.
+    /// - `Fault::BadFrame` where the kind byte is none that may come at this place, a path has more
+    ///   than 256 bytes, a message's flag is not 0, or a status text is not UTF-8.
     /// - `Fault::MessageTooLarge` where a message has more than 16,777,216 bytes.
     /// - `Fault::OutOfMemory` where memory is refused.
     ///

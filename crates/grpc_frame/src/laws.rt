@@ -1,5 +1,5 @@
-//! Laws of the definitions that the contracts cite. The functions do nothing: their contracts are the
-//! laws.
+//! Laws of the definitions that the contracts cite. The functions do nothing: their contracts are
+//! the laws.
 
 ghost use Rattle.grpc_frame.specs.Laws.{FrontsKeepProfile, FrontsStay, FaultsStay, RecordsReadBack};
 ghost use Rattle.grpc_frame.specs.Laws.{AtMostOneSplit, EachSplits, SplitsGoOn, WrittenSplits};

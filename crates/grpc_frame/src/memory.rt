@@ -3,7 +3,8 @@
 ghost use Rattle.std.specs.Prelude.{◌≡◌, ◌<◌, ◌≤◌, [], None, Some, true, false, OnOk, IfOk, OnErr};
 ghost use Rattle.std.specs.Io.{ReadsAtMost};
 ghost use Rattle.std.specs.Io.KnownBytes.{ReadConsumes};
-ghost use Rattle.grpc_frame.specs.Ends.{AppendsBeginning, CountsFailure, FailsByTransport, TakesTurn, Writes};
+ghost use Rattle.grpc_frame.specs.Ends.{CountsFailure, FailsByTransport, TakesTurn};
+ghost use Rattle.grpc_frame.specs.Ends.{AppendsBeginning, Writes};
 ghost use Rattle.grpc_frame.specs.Memory.{fails_now, plan_after};
 
 use crate::ends::{Input, Output};
@@ -29,8 +30,8 @@ fn take_call(plan: &mut Option<u64>) -> bool
     }
 }
 
-/// A reader over bytes in memory. A contract sees the bytes that are left, the most bytes of a read,
-/// how many calls go well before one fails, and the number of failures.
+/// A reader over bytes in memory. A contract sees the bytes that are left, the most bytes of a
+/// read, how many calls go well before one fails, and the number of failures.
 #[derive(Debug, Drop)]
 pub struct MemoryInput<'a> {
     bytes: &'a [u8],
@@ -119,8 +120,8 @@ impl Input for MemoryInput<'_> {
     }
 }
 
-/// A writer into memory. A contract sees the bytes that are written, how many calls go well before one
-/// fails, and the number of failures. Want of memory is a failed write too.
+/// A writer into memory. A contract sees the bytes that are written, how many calls go well
+/// before one fails, and the number of failures. Want of memory is a failed write too.
 #[derive(Debug, Drop)]
 pub struct MemoryOutput {
     bytes: Vec<u8>,
@@ -148,8 +149,8 @@ impl MemoryOutput {
         }
     }
 
-    /// So many calls go well, the next one fails with half of its bytes written, and those behind it go
-    /// well again.
+    /// So many calls go well, the next one fails with half of its bytes written, and those behind
+    /// it go well again.
     pub fn failing_after(self, calls: u64) -> MemoryOutput
         ensures { result ≡ record self { plan = Some calls } }
     {

@@ -8,6 +8,15 @@ pub const MAX_PATH_LEN: usize = 256;
 /// The most bytes of a message.
 pub const MAX_MESSAGE_LEN: usize = 16_777_216;
 
+// The kind byte of each record.
+pub(crate) const OPEN: u8 = 1;
+
+pub(crate) const MESSAGE: u8 = 2;
+
+pub(crate) const END: u8 = 3;
+
+pub(crate) const STATUS: u8 = 4;
+
 /// A record of a connection. What it holds shares the memory of the inbox that it was read from.
 #[derive(Debug, PartialEq, Eq, Drop)]
 pub enum Record {

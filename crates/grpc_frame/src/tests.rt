@@ -1,5 +1,5 @@
-//! Vectors from outside: the records of a first run, written by hand from the published formats, and
-//! ends that fail.
+//! Vectors from outside: the records of a first run, written by hand from the published formats,
+//! and ends that fail.
 
 ghost use Rattle.std.specs.Prelude.{◌≡◌, ◌<◌, IfOk, length};
 

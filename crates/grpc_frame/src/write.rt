@@ -7,6 +7,7 @@ ghost use Rattle.grpc_frame.specs.Calls.{status_of};
 ghost use Rattle.grpc_frame.specs.Ends.{CountsFailure, FailsByTransport, Writes};
 
 use crate::ends::Output;
+use crate::record::{END, MESSAGE, OPEN, STATUS};
 use scan_base::Fault;
 
 // Writes a head, and then the content that it announces.
@@ -25,7 +26,8 @@ fn write_parts<W: Output>(out: &mut W, head: &[u8], content: &[u8]) -> Result<()
 ///
 /// # Errors
 ///
-/// `Fault::Transport` where a write failed. It is counted, and a beginning of the record is written.
+/// `Fault::Transport` where a write failed. It is counted, and a beginning of the record is
+/// written.
 pub fn write_open<W: Output>(out: &mut W, path: &[u8]) -> Result<(), Fault>
     requires failures { W.failures out.old < 18446744073709551615 }
     requires short { length path.now ≤ 256 }
@@ -35,14 +37,15 @@ pub fn write_open<W: Output>(out: &mut W, path: &[u8]) -> Result<(), Fault>
     ensures kind { FailsByTransport result }
 {
     let [high, low] = (path.len() as u16).to_be_bytes();
-    write_parts(out, &[1, high, low], path)
+    write_parts(out, &[OPEN, high, low], path)
 }
 
 /// Writes a Message: its head, and then the bytes, of which no copy is made.
 ///
 /// # Errors
 ///
-/// `Fault::Transport` where a write failed. It is counted, and a beginning of the record is written.
+/// `Fault::Transport` where a write failed. It is counted, and a beginning of the record is
+/// written.
 pub fn write_message<W: Output>(out: &mut W, message: &[u8]) -> Result<(), Fault>
     requires failures { W.failures out.old < 18446744073709551615 }
     requires short { length message.now ≤ 16777216 }
@@ -52,29 +55,31 @@ pub fn write_message<W: Output>(out: &mut W, message: &[u8]) -> Result<(), Fault
     ensures kind { FailsByTransport result }
 {
     let [first, second, third, fourth] = (message.len() as u32).to_be_bytes();
-    write_parts(out, &[2, 0, first, second, third, fourth], message)
+    write_parts(out, &[MESSAGE, 0, first, second, third, fourth], message)
 }
 
 /// Writes an End, which ends a call.
 ///
 /// # Errors
 ///
-/// `Fault::Transport` where the write failed. It is counted, and a beginning of the record is written.
+/// `Fault::Transport` where the write failed. It is counted, and a beginning of the record is
+/// written.
 pub fn write_end<W: Output>(out: &mut W) -> Result<(), Fault>
     requires { W.failures out.old < 18446744073709551615 }
     ensures bytes { Writes result (W.contents out.old) (W.contents out.new) (spelling End) }
     ensures counted { CountsFailure result (W.failures out.old) (W.failures out.new) }
     ensures kind { FailsByTransport result }
 {
-    out.write(&[3])
+    out.write(&[END])
 }
 
-/// Writes a Status, which ends an answer: code 0 without a text, or the fault's code and text. It takes
-/// no memory.
+/// Writes a Status, which ends an answer: code 0 without a text, or the fault's code and text. It
+/// takes no memory.
 ///
 /// # Errors
 ///
-/// `Fault::Transport` where a write failed. It is counted, and a beginning of the record is written.
+/// `Fault::Transport` where a write failed. It is counted, and a beginning of the record is
+/// written.
 pub fn write_status<W: Output>(out: &mut W, fault: Option<Fault>) -> Result<(), Fault>
     requires { W.failures out.old < 18446744073709551615 }
     ensures bytes { Writes result
@@ -84,10 +89,10 @@ pub fn write_status<W: Output>(out: &mut W, fault: Option<Fault>) -> Result<(), 
     ensures kind { FailsByTransport result }
 {
     let Some(fault) = fault else {
-        return out.write(&[4, 0, 0, 0]);
+        return out.write(&[STATUS, 0, 0, 0]);
     };
     let text = fault.text();
     let text = text.as_str().as_bytes();
     let [high, low] = (text.len() as u16).to_be_bytes();
-    write_parts(out, &[4, fault.code().number(), high, low], text)
+    write_parts(out, &[STATUS, fault.code().number(), high, low], text)
 }

@@ -1,22 +1,19 @@
 -- A batch that was written is read again with the same rows.
-use Rattle.std.proofs.Common.{◌≡◌, ℕ, suc, ◌+◌, ◌*◌, ◌%◌, ◌==◌, ◌^◌, ◌≤◌, ◌<◌, List, [], ◌∷◌, ◌++◌, length, map, Some, Ok, refl, arith, ap, sym, subst, ◌∙◌, All}
+use Rattle.std.proofs.Common.{◌≡◌, ℕ, ◌+◌, ◌*◌, ◌%◌, ◌^◌, ◌≤◌, ◌<◌, List, [], ◌∷◌, length, map, Ok, refl, arith, ap, sym, subst, All}
 use Rattle.std.specs.List.{AllByRecursion, flat_map}
 use Rattle.std.proofs.lemmas.Bool.{eq-eqb}
 use Rattle.std.proofs.lemmas.List.{length-map}
 use Rattle.std.proofs.lemmas.List.Sums.{sum_by-cons}
 use Rattle.std.proofs.lemmas.List.Elements.{All-map, recursion_from_All}
 use Rattle.flatbuf.specs.Block.{Part, table_part}
-use Rattle.flatbuf.specs.Written.{table_at}
 use Rattle.arrow_schema.specs.declared.header.HeaderKind.TheVariants.{RecordBatch}
 use Rattle.arrow_schema.specs.declared.data_type.IntegerType.TheVariants.{Int64}
 use Rattle.arrow_schema.specs.declared.data_type.DataType.TheVariants.{Integer}
 use Rattle.arrow_schema.specs.declared.schema.Field.{Field}
 use Rattle.arrow_schema.specs.declared.schema.Schema.{Schema}
-use Rattle.arrow_schema.specs.Header.{message_of}
 use Rattle.arrow_schema.specs.Message.{message_bytes}
 use Rattle.arrow_schema.specs.Column.{ColumnAt, values_of}
-use Rattle.arrow_schema.specs.Batch.{BatchAt, AreLong, rows_of}
-use Rattle.ipc_batch.specs.Parts.{PartsAt, parts_of}
+use Rattle.arrow_schema.specs.Batch.{BatchAt, AreLong}
 use Rattle.ipc_batch.specs.Columns.{buffer_count, buffers_wanted, columns_of}
 use Rattle.ipc_batch.specs.Said.{Sent, news_of, batch_sent}
 use Rattle.ipc_batch.specs.Written.{parts_part, body_of, node_bytes, place_bytes, places_from, node_written, buffers_written, parts_written, FitsNode, FitParts, FitsLong, AreLongs, SaysParts, SaysBatch}

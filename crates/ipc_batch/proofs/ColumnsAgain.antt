@@ -1,14 +1,13 @@
 -- Columns that were written are read again with the same slots.
-use Rattle.std.proofs.Common.{◌≡◌, ◌≢◌, ℕ, zero, suc, ◌+◌, ◌*◌, ◌==◌, ◌&&◌, ◌^◌, ◌≤◌, ◌<◌, nat_le, ℤ, Bool, true, false, List, [], ◌∷◌, ◌++◌, length, map, get_or, Some, None, Ok, refl, arith, rules, ap, sym, subst, ◌∙◌, append-nil, All, if◌then◌else◌}
+use Rattle.std.proofs.Common.{◌≡◌, ◌≢◌, ℕ, zero, suc, ◌+◌, ◌*◌, ◌==◌, ◌^◌, ◌<◌, nat_le, ℤ, Bool, true, false, List, [], ◌∷◌, ◌++◌, length, map, get_or, None, Ok, refl, arith, rules, ap, sym, subst, ◌∙◌, append-nil, All, if◌then◌else◌}
 use Rattle.std.specs.Prelude.{FitsSigned}
 use Rattle.std.specs.Int.{w64, cast_signed, cast_unsigned}
-use Rattle.std.specs.List.{flat_map, range_with_len, AllByRecursion}
+use Rattle.std.specs.List.{range_with_len, AllByRecursion}
 use Rattle.std.proofs.lemmas.Bool.{le-leb, eq-eqb}
 use Rattle.std.proofs.lemmas.Int.{to_z-of_z}
-use Rattle.std.proofs.lemmas.List.{length-append, length-map}
-use Rattle.std.proofs.lemmas.List.Elements.{All-nil, All-cons, recursion_from_All}
+use Rattle.std.proofs.lemmas.List.{length-append}
+use Rattle.std.proofs.lemmas.List.Elements.{recursion_from_All}
 use Rattle.std.proofs.lemmas.List.FromFn.{get_or-map-range_with_len, length-map-range_with_len}
-use Rattle.scan_base.specs.declared.fault.Fault.{Fault}
 use Rattle.scan_base.specs.declared.value.Value.{Value}
 use Rattle.scan_base.specs.declared.value.Value.TheVariants.{Null, Int}
 use Rattle.flatbuf.specs.Layout.{Stands}
@@ -18,10 +17,10 @@ use Rattle.arrow_schema.specs.declared.data_type.IntegerType.TheVariants.{Int64}
 use Rattle.arrow_schema.specs.declared.data_type.DataType.TheVariants.{Integer}
 use Rattle.arrow_schema.specs.declared.schema.Field.{Field}
 use Rattle.arrow_schema.specs.Column.{ColumnAt, is_valid, slot_of, values_of, long_at, column_of}
-use Rattle.arrow_schema.specs.Batch.{BatchAt, row_of, rows_of}
+use Rattle.arrow_schema.specs.Batch.{row_of, rows_of}
 use Rattle.ipc_batch.specs.Parts.{word_at}
 use Rattle.ipc_batch.specs.Columns.{front_of, columns_from}
-use Rattle.ipc_batch.specs.Written.{value_written, values_written, node_written, column_written, buffers_written, FitsLong}
+use Rattle.ipc_batch.specs.Written.{value_written, values_written, node_written, buffers_written, FitsLong}
 use Rattle.ipc_batch.proofs.PartsAgain.{stands_word}
 
 -- a number of eight bytes

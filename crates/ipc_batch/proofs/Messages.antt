@@ -1,10 +1,9 @@
 -- What messages say, message by message.
-use Rattle.std.proofs.Common.{◌≡◌, ◌≢◌, ℕ, List, [], ◌∷◌, ◌++◌, length, map, Option, Some, None, Result, Ok, Err, refl, ap, sym, subst, ◌∙◌, append_assoc, append-nil, All, IfOk, get_or, ◌<◌}
+use Rattle.std.proofs.Common.{◌≡◌, ℕ, List, [], ◌∷◌, ◌++◌, length, Option, Some, None, Result, Ok, Err, refl, ap, sym, subst, ◌∙◌, append_assoc, append-nil, IfOk, get_or, ◌<◌}
 use Rattle.std.specs.List.{range_with_len}
 use Rattle.std.proofs.lemmas.List.{length-map}
 use Rattle.std.proofs.lemmas.List.Elements.{All-nil, All-map, All-append}
 use Rattle.scan_base.specs.declared.fault.Fault.{Fault}
-use Rattle.scan_base.specs.declared.fault.Fault.TheVariants.{BadBatch, OutOfMemory}
 use Rattle.scan_base.specs.declared.value.Value.{Value}
 use Rattle.scan_base.specs.Reading.{◌>>=◌}
 use Rattle.flatbuf.specs.Place.{TableAt}
@@ -17,7 +16,7 @@ use Rattle.arrow_schema.specs.Batch.{BatchAt, row_of, rows_of}
 use Rattle.ipc_batch.specs.Parts.{PartsAt, parts_of}
 use Rattle.ipc_batch.specs.Columns.{columns_of}
 use Rattle.ipc_batch.specs.State.{State}
-use Rattle.ipc_batch.specs.Said.{Sent, News, first_schema, next_batch, batch_sent, news_in, news_of, Rows, rows_in, Follows, Says, Tells, Extends, HasColumns, AreWide}
+use Rattle.ipc_batch.specs.Said.{Sent, News, first_schema, next_batch, batch_sent, news_in, news_of, Rows, rows_in, Follows, Tells, Extends, HasColumns, AreWide}
 use Rattle.ipc_batch.specs.Full.{HasNoNulls, HasNoNullsIfThere}
 use Rattle.ipc_batch.specs.Laws.{SayOneThing, JoinRows, RowsFitSchema}
 use Rattle.ipc_batch.proofs.Lengths.{fine, both, columns_many, columns_bare}

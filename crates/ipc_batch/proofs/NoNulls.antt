@@ -1,13 +1,12 @@
 -- Columns without validity bits have no nulls, and slices of what has none have none.
-use Rattle.std.proofs.Common.{◌≡◌, ◌≢◌, ℕ, ◌+◌, ◌-◌, ◌≤◌, ◌<◌, List, length, map, take, drop, get_or, Some, None, refl, arith, ap, sym, subst, ◌∙◌, All}
+use Rattle.std.proofs.Common.{◌≡◌, ◌≢◌, ℕ, ◌+◌, ◌-◌, ◌≤◌, ◌<◌, length, drop, get_or, None, refl, arith, sym, subst, All}
 use Rattle.std.specs.List.{range_with_len}
 use Rattle.std.proofs.lemmas.List.Elements.{All-map, All-take, All-drop}
 use Rattle.scan_base.specs.declared.value.Value.{Value}
 use Rattle.scan_base.specs.declared.value.Value.TheVariants.{Null, Int}
 use Rattle.arrow_schema.specs.Column.{ColumnAt, slot_of, values_of, long_at, cut}
-use Rattle.arrow_schema.specs.Batch.{BatchAt, cut_batch}
 use Rattle.arrow_schema.proofs.Slices.{columns_keep}
-use Rattle.ipc_batch.specs.Full.{HasNoNulls, SlicesHaveNoNulls}
+use Rattle.ipc_batch.specs.Full.{SlicesHaveNoNulls}
 use Rattle.ipc_batch.proofs.Lengths.{IsBare}
 
 abbrev NotNull : Value → Type 0

@@ -1,27 +1,25 @@
 -- Parts that were written are read again.
-use Rattle.std.proofs.Common.{◌≡◌, ℕ, zero, suc, ◌+◌, ◌-◌, ◌*◌, ◌/◌, ◌%◌, ◌^◌, ◌≤◌, ◌<◌, List, [], ◌∷◌, ◌++◌, length, map, take, drop, Some, None, Ok, refl, arith, ap, sym, ◌∙◌, append_assoc, append-nil, All}
+use Rattle.std.proofs.Common.{◌≡◌, ℕ, suc, ◌+◌, ◌*◌, ◌%◌, ◌^◌, ◌≤◌, ◌<◌, List, [], ◌∷◌, ◌++◌, length, map, None, Ok, refl, arith, ap, sym, ◌∙◌, append-nil, All}
 use Rattle.std.specs.List.{flat_map, range_with_len}
 use Rattle.std.specs.List.{AllByRecursion}
-use Rattle.std.proofs.lemmas.List.{length-append, length-map}
-use Rattle.std.proofs.lemmas.List.Elements.{All-nil, All-cons, All-from_recursion, recursion_from_All}
+use Rattle.std.proofs.lemmas.List.{length-append}
+use Rattle.std.proofs.lemmas.List.Elements.{All-nil, All-cons, recursion_from_All}
 use Rattle.std.proofs.lemmas.Bool.{le-leb}
 use Rattle.std.proofs.Math.Seq.{take-append_seam}
 use Rattle.byteorder.specs.Endian.{little_from}
 use Rattle.byteorder.specs.Numbers.{little_number-reads_back}
-use Rattle.scan_base.specs.declared.fault.Fault.{Fault}
 use Rattle.scan_base.specs.Lists.{each}
-use Rattle.flatbuf.specs.Place.{TableAt, field_of, table_of, structs_of, scalar_of}
+use Rattle.flatbuf.specs.Place.{TableAt, field_of, scalar_of}
 use Rattle.flatbuf.specs.Layout.{Stands}
-use Rattle.flatbuf.specs.Block.{Part, IsWhole, Given, Number, Offset, given_at, AreWhole, little, padding, padded, table_part, structs_part, children}
-use Rattle.flatbuf.specs.Fits.{FitsTable, FitsStructs}
+use Rattle.flatbuf.specs.Block.{IsWhole, Given, Number, Offset, given_at, AreWhole, little, padding, padded, table_part, structs_part, children}
+use Rattle.flatbuf.specs.Fits.{FitsTable}
 use Rattle.flatbuf.specs.Written.{table_at, LeadsToBlock, SlotReads}
 use Rattle.flatbuf.proofs.Numbers.{little_from-at}
-use Rattle.flatbuf.proofs.Standing.{stands_first, stands_then, stands_at, stands_whole, stands_drop, stands_within, length-little, length_padding, length_padded}
-use Rattle.flatbuf.proofs.Written.{table_reads, table_aligned}
+use Rattle.flatbuf.proofs.Standing.{stands_first, stands_then, stands_at, stands_drop, stands_within, length-little, length_padded}
+use Rattle.flatbuf.proofs.Written.{table_reads}
 use Rattle.flatbuf.proofs.Lengths.{whole_table, whole_structs, short_table, short_structs, fits_table}
 use Rattle.flatbuf.proofs.Led.{led_structs, absent_table}
 use Rattle.arrow_schema.specs.declared.header.HeaderKind.TheVariants.{RecordBatch}
-use Rattle.arrow_schema.specs.Header.{MessageAt, message_of, header_of, body_length_of}
 use Rattle.arrow_schema.specs.Message.{message_bytes, MessageReads}
 use Rattle.arrow_schema.proofs.Messages.{messages_read}
 use Rattle.ipc_batch.specs.declared.parts.FieldNode.{FieldNode}

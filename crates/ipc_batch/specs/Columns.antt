@@ -1,5 +1,5 @@
 -- The columns of a record batch: nodes and buffers stand in the order of the fields.
-use Rattle.std.specs.Prelude.{ℕ, ◌==◌, ◌&&◌, Bool, List, [], ◌∷◌, length, None, Result, Ok, Err}
+use Rattle.std.specs.Prelude.{ℕ, ◌==◌, Bool, List, [], ◌∷◌, length, None, Result, Ok, Err}
 use Rattle.std.specs.Prelude.{sum_by}
 use Rattle.scan_base.specs.declared.fault.Fault.{Fault}
 use Rattle.scan_base.specs.declared.fault.Fault.TheVariants.{UnsupportedArrow, BadBatch}

@@ -1,6 +1,6 @@
 -- What a record batch says before any type is looked at: how many rows it has, and the nodes and buffers
 -- that its columns are made of. The first thing that is not so gives the fault, in the order of the lines.
-use Rattle.std.specs.Prelude.{ℕ, ◌+◌, ◌*◌, ◌/◌, nat_le, List, length, map, take, drop, Option, is_none, Result, Ok}
+use Rattle.std.specs.Prelude.{ℕ, ◌+◌, ◌*◌, ◌/◌, nat_le, List, length, map, take, drop, is_none, Result, Ok}
 use Rattle.std.specs.List.{range_with_len}
 use Rattle.byteorder.specs.Endian.{little_from}
 use Rattle.scan_base.specs.declared.fault.Fault.{Fault}

@@ -1,9 +1,9 @@
 -- How a record batch is written: the body that its buffers make, and the table that says where they lie.
-use Rattle.std.specs.Prelude.{◌≡◌, ◌≢◌, ℕ, ◌+◌, ◌*◌, ◌^◌, ◌%◌, ◌≤◌, ◌<◌, List, [], ◌∷◌, ◌++◌, length, map, All, Some, Ok, FitsSigned}
+use Rattle.std.specs.Prelude.{◌≡◌, ℕ, ◌+◌, ◌^◌, ◌%◌, ◌≤◌, ◌<◌, List, [], ◌∷◌, ◌++◌, length, map, All, Some, Ok, FitsSigned}
 use Rattle.std.specs.Int.{w64, cast_unsigned}
 use Rattle.std.specs.List.{flat_map}
 use Rattle.scan_base.specs.declared.value.Value.{Value}
-use Rattle.scan_base.specs.declared.value.Value.TheVariants.{Null, Int}
+use Rattle.scan_base.specs.declared.value.Value.TheVariants.{Int}
 use Rattle.flatbuf.specs.Place.{TableAt}
 use Rattle.flatbuf.specs.Layout.{Stands}
 use Rattle.flatbuf.specs.Block.{Part, Number, Offset, little, padded, table_part, structs_part}

@@ -2,7 +2,8 @@
 
 ghost use Rattle.std.specs.Prelude.{◌≡◌, ◌==◌};
 ghost use Rattle.scan_base.specs.Reading.{Gives, GivesUnlessMemory};
-ghost use Rattle.ipc_batch.specs.Columns.{nulls_are_built, buffer_count, buffers_wanted, longs_of, front_of, columns_of, columns_from};
+ghost use Rattle.ipc_batch.specs.Columns.{nulls_are_built, buffer_count, buffers_wanted, longs_of};
+ghost use Rattle.ipc_batch.specs.Columns.{front_of, columns_of, columns_from};
 ghost use Rattle.ipc_batch.specs.Seen.{parts_seen, front_seen};
 
 use crate::parts::{FieldNode, Parts};

@@ -4,7 +4,8 @@ ghost use Rattle.std.specs.Prelude.{◌≡◌, ◌≤◌, ◌<◌, ◌+◌, ◌*
 ghost use Rattle.scan_base.specs.Reading.{Gives, GivesUnlessMemory};
 ghost use Rattle.scan_base.specs.Lists.{each};
 ghost use Rattle.arrow_schema.specs.Seen.{message_seen};
-ghost use Rattle.ipc_batch.specs.Parts.{word_at, node_at, place_at, nodes_in, places_in, struct_count};
+ghost use Rattle.ipc_batch.specs.Parts.{word_at, node_at, place_at, nodes_in, places_in};
+ghost use Rattle.ipc_batch.specs.Parts.{struct_count};
 ghost use Rattle.ipc_batch.specs.Parts.{structs_wanted, buffer_at, body_claimed, parts_of};
 ghost use Rattle.ipc_batch.specs.Seen.{parts_seen};
 

@@ -50,7 +50,8 @@ impl Reader {
     ///
     /// # Errors
     ///
-    /// After each the reader is as before. Of several causes the first in this order is answered.
+    /// After each the reader is as before. Where several causes stand in one message, the one that is met
+    /// first in reading is answered.
     ///
     /// - F6 (`Fault::BadFlatbuffer`) where something that is read lies outside the header, and where an
     ///   offset that has to be there is absent.

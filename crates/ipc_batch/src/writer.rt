@@ -1,13 +1,17 @@
 //! Writing record batches.
 
-ghost use Rattle.std.specs.Prelude.{◌≡◌, ◌≤◌, ◌<◌, ◌*◌, ◌%◌, ◌^◌, [], ◌∷◌, ◌++◌, All, length, map, IfOk, OnOk};
+ghost use Rattle.std.specs.Prelude.{◌≡◌, ◌≤◌, ◌<◌, ◌*◌, ◌%◌, ◌^◌, [], ◌∷◌, ◌++◌, All, length, map};
+ghost use Rattle.std.specs.Prelude.{IfOk, OnOk};
 ghost use Rattle.std.specs.Int.{w64, cast_unsigned};
 ghost use Rattle.std.specs.List.{flat_map};
 ghost use Rattle.scan_base.specs.Value.{value_of};
-ghost use Rattle.flatbuf.specs.Block.{Number, Offset, little, padding, padded, table_part, structs_part};
+ghost use Rattle.flatbuf.specs.Block.{Number, Offset, little, padding, padded, table_part};
+ghost use Rattle.flatbuf.specs.Block.{structs_part};
 ghost use Rattle.arrow_schema.specs.Column.{values_of};
-ghost use Rattle.ipc_batch.specs.Written.{node_bytes, place_bytes, body_of, places_from, parts_part};
-ghost use Rattle.ipc_batch.specs.Written.{value_written, values_written, node_written, column_written, buffers_written, parts_written};
+ghost use Rattle.ipc_batch.specs.Written.{node_bytes, place_bytes, body_of, places_from};
+ghost use Rattle.ipc_batch.specs.Written.{parts_part};
+ghost use Rattle.ipc_batch.specs.Written.{value_written, values_written, node_written};
+ghost use Rattle.ipc_batch.specs.Written.{column_written, buffers_written, parts_written};
 ghost use Rattle.ipc_batch.specs.Written.{FitsLong, SaysParts, SaysBatch};
 ghost use Rattle.ipc_batch.specs.Full.{HasNoNulls};
 ghost use Rattle.ipc_batch.specs.Seen.{written_seen};
@@ -67,7 +71,8 @@ fn put_long(out: &mut Vec<u8>, long: i64) -> Result<(), AllocError>
     out.extend_from_slice(&long.to_le_bytes())
 }
 
-// Writes a value, if it is a number.
+// Writes a value, if it is a number. Those of an Int64 column have 64 bits, which no contract of a
+// column says yet: another one would be refused.
 fn put_value(out: &mut Vec<u8>, value: ValueRef<'_>) -> Result<(), AllocError>
     ensures items { OnOk result (out.new.items ≡ out.old.items ++ value_written (value_of value.entry)) }
     ensures fits { OnOk result (FitsLong (value_of value.entry)) }
@@ -168,7 +173,8 @@ pub fn write_batch(alloc: Global, batch: &Batch) -> Result<WrittenMessage, Alloc
     ensures body { IfOk result (λ message. length message.body.items % 8 ≡ 0) }
     ensures parts { IfOk result (λ message. SaysParts (written_seen message) (parts_written batch.now)) }
     ensures rows { IfOk result (λ message. SaysBatch (written_seen message) batch.now) }
-    ensures zeros { IfOk result (λ message. message.body.items ≡ body_of (buffers_written batch.now.columns)) }
+    ensures zeros { IfOk result (λ message. message.body.items
+        ≡ body_of (buffers_written batch.now.columns)) }
 {
     let columns = batch.columns();
     let rows = batch.rows() as u64;

@@ -1,9 +1,8 @@
-use Rattle.std.proofs.Common.{◌≡◌, ◌+◌, ◌++◌, ◌∷◌, List, length, drop, arith, All, length-drop}
-use Rattle.std.specs.List.{flat_map}
-use Rattle.std.proofs.lemmas.List.Elements.{All-nil, All-cons}
+use Rattle.std.proofs.Common.{◌≡◌, ◌+◌, length, drop, arith, All, length-drop}
+use Rattle.std.proofs.lemmas.List.Elements.{All-cons}
 use Rattle.std.proofs.lemmas.List.{length-append}
 use Rattle.arrow_schema.specs.Column.{ColumnAt, values_of}
-use Rattle.ipc_batch.specs.Written.{body_of, places_from, place_bytes, column_written, buffers_written, FitsLong}
+use Rattle.ipc_batch.specs.Written.{body_of, column_written, FitsLong}
 use Rattle.ipc_batch.proofs.WriterLoops.{dropped, body_more, places_more}
 use Rattle.ipc_batch.proofs.writer.put_columns.Goals as goal
 

@@ -1,4 +1,4 @@
-use Rattle.std.proofs.Common.{◌≡◌, ◌≤◌, ◌^◌, length, arith, rules, refl}
+use Rattle.std.proofs.Common.{◌≤◌, ◌^◌, length, arith, rules, refl}
 use Rattle.ipc_batch.specs.Written.{buffers_written}
 use Rattle.ipc_batch.proofs.PartsAgain.{whole_body, short_batch}
 use Rattle.ipc_batch.proofs.BatchAgain.{nodes_small, places_small, Made, said}
