@@ -1,10 +1,11 @@
 -- How many rows the batches of a table have.
-use Rattle.std.proofs.Common.{◌≡◌, ◌≤◌, ◌<◌, ℕ, ◌+◌, true, List, [], ◌∷◌, ◌++◌, length, refl, ap, ◌∙◌, arith, rules, length-append, get_or, drop}
+use Rattle.std.proofs.Common.{◌≡◌, ◌≤◌, ◌<◌, ℕ, ◌+◌, true, List, [], ◌∷◌, ◌++◌, length, refl, ap, ◌∙◌, arith, rules, length-append, get_or, take, drop}
 use Rattle.std.specs.List.{flat_map, list_all}
 use Rattle.std.proofs.lemmas.Grind.{flat_map-append}
 use Rattle.std.proofs.lemmas.List.FromFn.{length-map-range_with_len}
 use Rattle.arrow_schema.specs.Batch.{BatchAt, rows_of, row_of}
 use Rattle.table_versions.specs.Stored.{has_rows}
+use Rattle.table_versions.specs.Standing.{rows_before}
 use Rattle.std.proofs.lemmas.Option.{slice_get_read}
 use Rattle.table_versions.proofs.Places.{split_at}
 use Rattle.table_versions.proofs.ListTests.{both}
@@ -42,3 +43,10 @@ pub rows-from : (batches : List BatchAt) (batch : BatchAt) (i : ℕ) → i < len
 rows-from batches batch i h at =
     ap (λ left. length (flat_map rows_of left)) (split_at batches i batch (slice_get_read batches (length batches) i batch refl h at)).0
     ∙ rows-cons batch (drop (i + 1) batches)
+
+-- the rows up to behind a batch
+pub rows-until : (batches : List BatchAt) (batch : BatchAt) (i : ℕ) → i < length batches → batch ≡ get_or batches i batch →
+    rows_before batches (i + 1) ≡ rows_before batches i + batch.rows
+rows-until batches batch i h at =
+    ap (λ front. length (flat_map rows_of front)) (split_at batches i batch (slice_get_read batches (length batches) i batch refl h at)).1
+    ∙ rows-push (take i batches) batch

@@ -2,6 +2,7 @@
 use Rattle.std.specs.Prelude.{◌≡◌, ◌≤◌, ℕ, if◌then◌else◌, List, [], ◌∷◌, ◌++◌, length, Some, Ok, Err}
 use Rattle.std.specs.Str.{bytes_eq}
 use Rattle.scan_base.specs.declared.fault.Fault.{Fault}
+use Rattle.table_versions.specs.Limits.{most_rows}
 use Rattle.table_versions.specs.Table.{Name, Table}
 use Rattle.table_versions.specs.Order.{IsInOrder}
 use Rattle.table_versions.specs.Database.{Database, Put, table_at, with_table, after, database_of, version, logged}
@@ -27,3 +28,7 @@ LogsStay =
 -- the names of every version are in byte order, and each stands once
 abbrev pub NamesAreInOrder : Type 0
 NamesAreInOrder = (log : List Put) → IsInOrder (database_of log)
+
+-- an accepted put has no more rows than a table may have
+abbrev pub AcceptedPutsAreFew : Type 0
+AcceptedPutsAreFew = (old : Database) (n : ℕ) (put : Put) (new : Database) → after old n put ≡ Ok new → length put.rows ≤ most_rows

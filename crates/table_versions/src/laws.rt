@@ -1,6 +1,7 @@
 //! What holds of every database, log and table. Each law is a function whose contract says it.
 
 ghost use Rattle.table_versions.specs.Laws.{TablesAreFound, LogsGrow, LogsStay, NamesAreInOrder};
+ghost use Rattle.table_versions.specs.Laws.{AcceptedPutsAreFew};
 ghost use Rattle.table_versions.specs.Standing.{BatchesAreRows};
 
 /// Looking a table up after a put: the put's table is found at its name, and each other name has
@@ -14,6 +15,11 @@ pub fn tables_are_found()
 pub fn logs_grow()
     ensures accepted { LogsGrow }
     ensures refused { LogsStay }
+{}
+
+/// An accepted put has at most 16,777,216 rows.
+pub fn accepted_puts_are_few()
+    ensures { AcceptedPutsAreFew }
 {}
 
 /// The names of every version are in byte order, and each stands once.

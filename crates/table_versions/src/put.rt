@@ -1,11 +1,11 @@
 //! What a client puts: batches for a table.
 
-ghost use Rattle.std.specs.Prelude.{◌≡◌, IsTrue, All};
+ghost use Rattle.std.specs.Prelude.{◌≡◌, ◌^◌, ◌-◌, IsTrue, All, length, min};
 ghost use Rattle.std.specs.List.{list_all};
 ghost use Rattle.arrow_schema.specs.Header.{is_built};
 ghost use Rattle.arrow_schema.specs.NoNulls.{HasNoNulls};
 ghost use Rattle.arrow_schema.specs.Schema.{IsSchema};
-ghost use Rattle.table_versions.specs.Stored.{is_wide};
+ghost use Rattle.table_versions.specs.Stored.{is_wide, put_of};
 
 use crate::options::{IfExists, IfNotExist};
 use arrow_schema::{Batch, Schema};
@@ -70,5 +70,17 @@ impl Put {
             schema,
             batches,
         }
+    }
+
+    /// How many rows are put, or the greatest `usize` where they are more. An accepted put has at
+    /// most 16,777,216 ([`crate::laws::accepted_puts_are_few`]).
+    pub fn rows(&self) -> usize
+        ensures { result ≡ min (length (put_of self.now).rows) (2 ^ 64 - 1) }
+    {
+        let mut rows = 0_usize;
+        for batch in self.batches.as_slice() {
+            rows = rows.saturating_add(batch.rows());
+        }
+        rows
     }
 }
