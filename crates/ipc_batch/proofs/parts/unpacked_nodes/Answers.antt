@@ -1,7 +1,7 @@
 use Rattle.std.proofs.Common.{refl, arith}
 use Rattle.std.proofs.lemmas.List.FromFn.{map-range_with_len_more}
 use Rattle.ipc_batch.specs.Parts.{node_at}
-use Rattle.ipc_batch.proofs.parts.nodes.Goals as goal
+use Rattle.ipc_batch.proofs.parts.unpacked_nodes.Goals as goal
 
 pub loop-j-preserved : goal.loop-j-preserved
 loop-j-preserved c =
