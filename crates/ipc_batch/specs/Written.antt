@@ -12,6 +12,7 @@ use Rattle.arrow_schema.specs.declared.schema.Schema.{Schema}
 use Rattle.arrow_schema.specs.Header.{MessageAt, message_of, header_of, body_length_of}
 use Rattle.arrow_schema.specs.Column.{ColumnAt, value_bytes}
 use Rattle.arrow_schema.specs.Batch.{BatchAt, rows_of}
+use Rattle.arrow_schema.specs.Limits.{most_columns}
 use Rattle.ipc_batch.specs.declared.parts.FieldNode.{FieldNode}
 use Rattle.ipc_batch.specs.declared.parts.BufferPlace.{BufferPlace}
 use Rattle.ipc_batch.specs.Parts.{parts_of, buffer_at}
@@ -53,12 +54,16 @@ pub record FitsNode (node : FieldNode) : Type 0 where
   pub long : node.length < 2 ^ 64
   pub counted : node.null_count < 2 ^ 64
 
--- parts that can be written: of at most 64 columns, of three buffers each
+-- the buffers of that many columns, each of at most three
+abbrev pub most_buffers : ℕ
+most_buffers = 3 * most_columns
+
+-- parts that can be written
 pub record FitParts (parts : WrittenParts) : Type 0 where
   pub rows : parts.rows < 2 ^ 64
   pub nodes : All FitsNode parts.nodes
-  pub few_nodes : length parts.nodes ≤ 64
-  pub few_buffers : length parts.buffers ≤ 192
+  pub few_nodes : length parts.nodes ≤ most_columns
+  pub few_buffers : length parts.buffers ≤ most_buffers
   pub small : length (body_of parts.buffers) < 2 ^ 64
 
 -- what a table says of parts in this body: the same rows and nodes, and places where these buffers lie

@@ -60,8 +60,8 @@ impl Reader {
     /// - F8 (`Fault::BadBatch`) where the first message is no schema, for a second schema, for a batch whose
     ///   counts, lengths or places do not agree with its schema or lie outside the body, and for a
     ///   dictionary, since no field has its id until dictionaries are built.
-    /// - F12 (`Fault::LimitReached`) for a schema of no column or more than 64, or a name that is absent,
-    ///   empty or above 64 bytes.
+    /// - F12 (`Fault::LimitReached`) for a schema of no column or too many, or a name that is absent, empty
+    ///   or too long.
     /// - F21 (`Fault::OutOfMemory`) where memory is refused.
     pub fn message(
         &mut self,

@@ -1,7 +1,7 @@
 //! The two headers of a stream of one column, and headers that lie.
 
 use crate::{Reader, append_body, body_length, write_batch, write_batch_header};
-use arrow_schema::Batch;
+use arrow_schema::{Batch, MAX_COLUMNS};
 use bytes::Bytes;
 use scan_base::{Fault, ValueRef};
 use std::alloc::{AllocError, Global};
@@ -258,7 +258,7 @@ fn written_again(rt: HostRuntime) -> Result<(), Fault> {
     let body = Bytes::from_static(&BODY);
     let batch = reader.message(rt.alloc(), Bytes::from_static(&BATCH), body)?;
     let batch = batch.ok_or(Fault::BadBatch)?;
-    if batch.columns().len() > 64 || batch.rows() != 2 {
+    if batch.columns().len() > MAX_COLUMNS || batch.rows() != 2 {
         return Err(Fault::BadBatch);
     }
     let one: [i128; 1] = [2];
@@ -284,7 +284,7 @@ fn written_parts(rt: HostRuntime) -> Result<(), Fault> {
     let body = Bytes::from_static(&BODY);
     let batch = reader.message(rt.alloc(), Bytes::from_static(&BATCH), body)?;
     let batch = batch.ok_or(Fault::BadBatch)?;
-    if batch.columns().len() > 64 || batch.rows() != 2 || body_length(&batch) != Some(16) {
+    if batch.columns().len() > MAX_COLUMNS || batch.rows() != 2 || body_length(&batch) != Some(16) {
         return Err(Fault::BadBatch);
     }
     let slice = batch.slice(rt.alloc(), 1, 2)?;
