@@ -53,7 +53,7 @@ built_is_said bytes schema is = (
 
 -- ---- what was read may be written
 
-byte_of : (bytes : List ℕ) → IsBytes bytes → (k : ℕ) → slice_index bytes k < 256
+pub byte_of : (bytes : List ℕ) → IsBytes bytes → (k : ℕ) → slice_index bytes k < 256
 byte_of bytes is k = elim (cases_lt k (length bytes)) [
   | inl inside ↦ All-get_or (λ byte. byte < 256) bytes k 0 inside is
   | inr past ↦ rw (get_or_past bytes k 0 past) (omega arith)

@@ -5,7 +5,7 @@ ghost use Rattle.arrow_schema.specs.Written.{SchemasReadBack};
 ghost use Rattle.arrow_schema.specs.Says.{ReadIsSaid, BuiltIsSaid, ReadIsSchema};
 ghost use Rattle.arrow_schema.specs.Column.{ColumnSlicesKeepValues};
 ghost use Rattle.arrow_schema.specs.Batch.{BatchSlicesKeepRows};
-ghost use Rattle.arrow_schema.specs.NoNulls.{SlicesHaveNoNulls};
+ghost use Rattle.arrow_schema.specs.NoNulls.{SlicesHaveNoNulls, ValuesArePacked};
 
 /// What is read of a written message is its kind, its header and the length of its body, wherever
 /// the header's block leads.
@@ -53,4 +53,11 @@ pub fn batch_slices_keep_rows()
 #[tactic(auto, using(crate::proofs::NoNulls::slices_full))]
 pub fn slices_have_no_nulls()
     ensures { SlicesHaveNoNulls }
+{}
+
+/// The bytes of the values of a column without nulls are those values in two's complement, one
+/// behind another.
+#[tactic(auto, using(crate::proofs::Packed::values_packed))]
+pub fn values_are_packed()
+    ensures { ValuesArePacked }
 {}
