@@ -11,6 +11,7 @@ use crate::handles::spliced;
 use crate::table::TableVersion;
 use scan_base::Text;
 use std::alloc::{AllocError, Global};
+use std::cmp::Ordering;
 use std::marker::Model;
 use std::ops::Range;
 use std::sync::Arc;
@@ -68,7 +69,7 @@ impl CatalogVersion {
         &self.tables[index]
     }
 
-    /// The table of a name.
+    /// The table of a name, looked for by halves.
     pub fn get(&self, name: &Text) -> Option<&TableVersion>
         ensures { option_copied result ≡ table_at self.now name.now }
     {
@@ -93,15 +94,21 @@ impl CatalogVersion {
     }
 }
 
+// The table of a name among entries in byte order of theirs, looked for in the half where it may be.
 fn find_in<'a>(tables: &'a [Arc<(Text, TableVersion)>], name: &Text) -> Option<&'a TableVersion>
+    requires { IsInOrder (map arc_value tables.now) }
     ensures { option_copied result ≡ table_at (map arc_value tables.now) name.now }
 {
-    for entry in tables {
-        if entry.0 == *name {
-            return Some(&entry.1);
-        }
+    if tables.is_empty() {
+        return None;
     }
-    None
+    let middle = tables.len() / 2;
+    let entry = &tables[middle];
+    match name.cmp(&entry.0) {
+        Ordering::Less => find_in(&tables[..middle], name),
+        Ordering::Equal => Some(&entry.1),
+        Ordering::Greater => find_in(&tables[middle + 1..], name),
+    }
 }
 
 // The entries whose place a table of this name takes: the one of the name, or none, before the

@@ -172,8 +172,8 @@ fn next_catalog(alloc: Global, snapshot: &Snapshot, put: Put) -> Result<CatalogV
 /// the old batches, and a replace has them alone. The snapshot stays as it is.
 ///
 /// Old tables and batches are shared: a put copies a handle for each table, and an append at most
-/// 255 handles of batches and one for each 256 batches before those. A put's values are looked at
-/// once, for nulls and texts, and only in columns that may have what is refused.
+/// 255 handles of batches and one for each 256 batches before those. Values are looked at for nulls
+/// only in columns that take none, and for long texts only in columns of texts.
 ///
 /// # Errors
 ///

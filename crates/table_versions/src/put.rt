@@ -14,7 +14,7 @@ use std::marker::Model;
 
 /// Batches for a table, and what to do where the table is absent and where it is there. The schema
 /// is one that can be written, and each batch has one column for each of its fields. Until every type
-/// and nulls are built, the types are those that are, and no slot is null.
+/// and nulls are built, the schema's types are built ones, and no slot is null.
 #[derive(Drop)]
 pub struct Put {
     pub(crate) table: Text,

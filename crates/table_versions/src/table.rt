@@ -19,7 +19,7 @@ use std::sync::Arc;
 
 /// A table: its schema, which can be written, and its rows in batches. Each batch has rows, and one
 /// column for each field. A longer version of the table shares these batches. Until every type and
-/// nulls are built, the types are those that are, and no slot is null.
+/// nulls are built, the schema's types are built ones, and no slot is null.
 #[derive(Drop)]
 pub struct TableVersion {
     schema: Arc<Schema>,
