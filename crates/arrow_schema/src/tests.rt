@@ -57,6 +57,8 @@ fn rows_of_a_slice(rt: HostRuntime) -> Result<(), Fail> {
             "row {j}"
         );
     }
+    let wanted = [1, 0, 0, 0, 0, 0, 0, 0, 2, 0, 0, 0, 0, 0, 0, 0];
+    assert_eq!(rt; rows.columns()[0].value_bytes(), wanted.as_slice());
     Ok(())
 }
 

@@ -30,8 +30,8 @@ pub(crate) struct BufferPlace {
     pub length: u64,
 }
 
-// How many bytes a node and a place have.
-const STRUCT_BYTES: usize = 16;
+/// How many bytes a node, or the place of a buffer, has in a header.
+pub(crate) const STRUCT_BYTES: usize = 16;
 
 /// The parts of a record batch: how many rows it has, and where they lie in the header the packed nodes of
 /// its columns and the packed places of their buffers.

@@ -13,6 +13,7 @@ ghost use Rattle.ipc_batch.specs.Written.{parts_written, body_length, IsPacked};
 ghost use Rattle.ipc_batch.specs.Written.{SaysParts, SaysBatch};
 ghost use Rattle.ipc_batch.specs.Seen.{written_seen};
 
+use crate::parts::STRUCT_BYTES;
 use arrow_schema::{Batch, Column, HeaderKind, write_message};
 use flatbuf::{Block, Builder, Slot};
 use std::alloc::{AllocError, Global};
@@ -23,9 +24,6 @@ pub struct WrittenMessage {
     pub header: Vec<u8>,
     pub body: Vec<u8>,
 }
-
-// How many bytes a node and a place have.
-const STRUCT_BYTES: usize = 16;
 
 // How many zeros stand behind so many bytes, up to a multiple of 8.
 fn zeros_behind(bytes: usize) -> usize
