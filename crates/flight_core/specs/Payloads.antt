@@ -1,0 +1,34 @@
+-- What the payloads of a stream say: each is a FlightData, whose header and body are an Arrow IPC message.
+use Rattle.std.specs.Prelude.{◌≡◌, ℕ, ◌==◌, Bool, not, List, ◌++◌, length, map, filter, Result, Ok}
+use Rattle.scan_base.specs.declared.fault.Fault.{Fault}
+use Rattle.scan_base.specs.Reading.{◌>>=◌}
+use Rattle.scan_base.specs.Lists.{each}
+use Rattle.arrow_schema.specs.declared.schema.Schema.{Schema}
+use Rattle.flight_proto.specs.FlightData.{DataSaid, data_of}
+use Rattle.ipc_batch.specs.Said.{Sent, Rows, Says}
+
+-- the bytes of a call's or of an answer's message
+abbrev pub Payload : Type 0
+Payload = List ℕ
+
+-- whether a FlightData carries an IPC message: one with an empty header is skipped
+abbrev pub carries_message : DataSaid → Bool
+carries_message carried = not (length carried.data_header == 0)
+
+-- the IPC message that a FlightData carries
+abbrev pub message_in : DataSaid → Sent
+message_in carried = record { header = carried.data_header; body = carried.data_body }
+
+-- the IPC messages that payloads carry, in order
+abbrev pub messages_of : List Payload → Result (List Sent) Fault
+messages_of payloads = each data_of payloads >>= λ all. Ok (map message_in (filter carries_message all))
+
+-- the payloads say this schema and these rows
+abbrev pub PayloadsSay : List Payload → Schema → Rows → Type 0
+PayloadsSay payloads schema rows =
+    (messages : List Sent) × (messages_of payloads ≡ Ok messages) × Says messages schema rows
+
+-- the payloads say this schema and a beginning of these rows
+abbrev pub PayloadsBegin : List Payload → Schema → Rows → Type 0
+PayloadsBegin payloads schema all =
+    (rows : Rows) × (rest : Rows) × (all ≡ rows ++ rest) × PayloadsSay payloads schema rows
