@@ -53,7 +53,14 @@ is_plain_name word = is_word word && not (is_one_of grammar_words word) && not (
 abbrev pub selects_all_from : List ℕ
 selects_all_from = codes "SELECT * FROM "
 
+-- what follows that beginning
+abbrev pub behind_from : List ℕ → Option (List ℕ)
+behind_from query = if bytes_eq (take 14 query) selects_all_from then Some (drop 14 query) else None
+
+abbrev pub if_plain_name : Option (List ℕ) → Option Name
+if_plain_name None = None
+if_plain_name (Some word) = if is_plain_name word then Some word else None
+
 -- the table of a query that is exactly this beginning and a name
 unfoldable pub table_named : List ℕ → Option Name
-table_named query =
-    if bytes_eq (take 14 query) selects_all_from && is_plain_name (drop 14 query) then Some (drop 14 query) else None
+table_named query = if_plain_name (behind_from query)

@@ -2,8 +2,9 @@
 
 ghost use Rattle.std.specs.Prelude.{◌≡◌, map, option_map};
 ghost use Rattle.std.specs.List.{list_all};
+ghost use Rattle.std.specs.Str.{str_eq_ignore_ascii_case};
 ghost use Rattle.flight_core.specs.Narrow.{is_word_byte, is_word, is_one_of, is_plain_name, table_named};
-ghost use Rattle.flight_core.specs.Narrow.{grammar_words, words_left_out};
+ghost use Rattle.flight_core.specs.Narrow.{grammar_words, words_left_out, behind_from};
 
 // Words of the grammar.
 const GRAMMAR_WORDS: [&str; 22] = [
@@ -77,12 +78,19 @@ fn is_word(bytes: &[u8]) -> bool
     }
 }
 
+// Whether two words are the same, in letters of either case.
+fn is_same_word(one: &str, other: &str) -> bool
+    ensures { result ≡ str_eq_ignore_ascii_case one.now other.now }
+{
+    one.eq_ignore_ascii_case(other)
+}
+
 // Whether a word is one of these, in letters of either case.
 fn is_one_of(words: &[&str], word: &str) -> bool
     ensures { result ≡ is_one_of (map (λ word. word.now) words.now) word.now }
 {
     for other in words {
-        if other.eq_ignore_ascii_case(word) {
+        if is_same_word(other, word) {
             return true;
         }
     }
@@ -97,14 +105,25 @@ fn is_plain_name(word: &str) -> bool
         && !is_one_of(&WORDS_LEFT_OUT, word)
 }
 
+// What follows the beginning of the one form of a query.
+fn behind_from(query: &str) -> Option<&str>
+    ensures { option_map (λ rest. rest.now) result ≡ behind_from query.now }
+{
+    query.strip_prefix(SELECTS_ALL_FROM)
+}
+
 /// The table of a query that is exactly `SELECT * FROM ` and a name.
 #[tactic(auto, unfolding(crate::specs::Narrow::table_named))]
 pub(crate) fn table_named(query: &str) -> Option<&str>
     ensures { option_map (λ name. name.now) result ≡ table_named query.now }
 {
-    let name = query.strip_prefix(SELECTS_ALL_FROM)?;
-    if !is_plain_name(name) {
-        return None;
+    match behind_from(query) {
+        Some(name) => {
+            if !is_plain_name(name) {
+                return None;
+            }
+            Some(name)
+        }
+        None => None,
     }
-    Some(name)
 }

@@ -49,6 +49,7 @@ impl Plain {
     /// # Errors
     ///
     /// F21 (`Fault::OutOfMemory`) where memory is refused.
+    #[tactic(auto, unfolding(crate::specs::Versions::versions_of))]
     pub fn new(alloc: Global) -> Result<Plain, Fault>
         ensures ok { IfOk result (λ plain. plain ≡ []) }
         ensures err { IfErr result (λ fault. fault ≡ OutOfMemory) }
