@@ -1,5 +1,5 @@
 -- A batch that was written is read again with the same rows.
-use Rattle.std.proofs.Common.{◌≡◌, ℕ, ◌+◌, ◌*◌, ◌%◌, ◌^◌, ◌≤◌, ◌<◌, List, [], ◌∷◌, length, map, Ok, refl, arith, ap, sym, subst, All}
+use Rattle.std.proofs.Common.{◌≡◌, ℕ, ◌+◌, ◌*◌, ◌%◌, ◌^◌, ◌≤◌, ◌<◌, List, [], ◌∷◌, length, map, Ok, refl, arith, sym, subst, All}
 use Rattle.std.specs.List.{AllByRecursion, flat_map}
 use Rattle.std.proofs.lemmas.Bool.{eq-eqb}
 use Rattle.std.proofs.lemmas.List.{length-map}
@@ -12,14 +12,14 @@ use Rattle.arrow_schema.specs.declared.data_type.DataType.TheVariants.{Integer}
 use Rattle.arrow_schema.specs.declared.schema.Field.{Field}
 use Rattle.arrow_schema.specs.declared.schema.Schema.{Schema}
 use Rattle.arrow_schema.specs.Message.{message_bytes}
-use Rattle.arrow_schema.specs.Column.{ColumnAt, values_of}
+use Rattle.arrow_schema.specs.Column.{ColumnAt}
 use Rattle.arrow_schema.specs.Batch.{BatchAt, AreLong}
 use Rattle.ipc_batch.specs.Columns.{buffer_count, buffers_wanted, columns_of}
 use Rattle.ipc_batch.specs.Said.{Sent, news_of, batch_sent}
-use Rattle.ipc_batch.specs.Written.{parts_part, body_of, node_bytes, place_bytes, places_from, node_written, buffers_written, parts_written, FitsNode, FitParts, FitsLong, AreLongs, SaysParts, SaysBatch}
-use Rattle.ipc_batch.specs.Full.{HasNoNulls}
+use Rattle.ipc_batch.specs.Written.{parts_part, body_of, node_bytes, place_bytes, places_from, node_written, buffers_written, parts_written, FitsNode, FitParts, IsPacked, AreLongs, SaysParts, SaysBatch, body_length}
+use Rattle.arrow_schema.specs.NoNulls.{HasNoNulls}
 use Rattle.ipc_batch.proofs.PartsAgain.{length-nodes, length-places, length-places_from, batch_slots, parts_read, message_reads, message_written, parts_said}
-use Rattle.ipc_batch.proofs.ColumnsAgain.{IsWritable, writable, column_read, columns_again, rows_again}
+use Rattle.ipc_batch.proofs.ColumnsAgain.{IsWritable, column_read, columns_again, rows_again}
 
 -- what is known of a batch that is written
 pub record Writes (batch : BatchAt) : Type 0 where
@@ -27,12 +27,12 @@ pub record Writes (batch : BatchAt) : Type 0 where
   pub few : length batch.columns ≤ 64
   pub long : AreLong batch.rows batch.columns
   pub some : HasNoNulls batch
-  pub fit : All (λ (column : ColumnAt). All FitsLong (values_of column)) batch.columns
-  pub small : length (body_of (buffers_written batch.columns)) < 2 ^ 64
+  pub packed : All IsPacked batch.columns
+  pub small : body_length batch < 2 ^ 63
 
 columns_writable : (batch : BatchAt) → Writes batch → AllByRecursion (IsWritable batch.rows) batch.columns
 columns_writable batch w = recursion_from_All (IsWritable batch.rows) batch.columns
-    (λ (k : ℕ) (d : ColumnAt) (low : k < length batch.columns). writable batch.rows _ (w.long k d low) (w.some k d low) (w.fit k d low))
+    (λ (k : ℕ) (d : ColumnAt) (low : k < length batch.columns). record { len = w.long k d low; full = w.some k d low; packed = w.packed k d low })
 
 pub length-buffers : (columns : List ColumnAt) → length (buffers_written columns) ≡ 2 * length columns
 length-buffers [] = refl
@@ -44,12 +44,13 @@ fit_parts batch w =
     let double = length-buffers batch.columns in
     let few = w.few in
     let rows = w.rows in
+    let small = w.small in
     record {
       rows = w.rows;
       nodes = All-map FitsNode node_written batch.columns (λ (k : ℕ) (d : ColumnAt) (low : k < length batch.columns). (let e = w.long k d low in record { long = omega arith; counted = omega arith }));
       few_nodes = omega arith;
       few_buffers = omega arith;
-      small = w.small;
+      small = omega arith;
     }
 
 -- columns of eight bytes have two buffers each
@@ -110,51 +111,47 @@ places_small columns few =
     (omega arith, omega arith)
 
 -- the bytes that are made of a batch, step by step
-pub record Made (batch : BatchAt) (columns : List ColumnAt) (rows n : ℕ) (header body nodes places : List ℕ) (block : Part) : Type 0 where
+pub record Made (batch : BatchAt) (columns : List ColumnAt) (rows n : ℕ) (header nodes places : List ℕ) (block : Part) : Type 0 where
   pub same : columns ≡ batch.columns
   pub counted : rows ≡ batch.rows
   pub low : rows < 2 ^ 64
   pub few : length batch.columns ≤ 64
   pub long : AreLong batch.rows columns
   pub some : HasNoNulls batch
-  pub fit : All (λ (column : ColumnAt). All FitsLong (values_of column)) columns
-  pub small : n < 2 ^ 64
-  pub all : n ≡ length body
-  pub body_is : body ≡ body_of (buffers_written columns)
+  pub packed : All IsPacked columns
+  pub small : body_length batch < 2 ^ 63
+  pub all : n ≡ length (body_of (buffers_written columns))
   pub nodes_is : nodes ≡ flat_map node_bytes (map node_written columns)
   pub places_is : places ≡ flat_map place_bytes (places_from 0 (buffers_written columns))
   pub block_is : block ≡ table_part (batch_slots rows nodes places)
   pub header_is : header ≡ message_bytes RecordBatch block n
 
-is_written : (batch : BatchAt) (columns : List ColumnAt) (rows n : ℕ) (header body nodes places : List ℕ) (block : Part) → Made batch columns rows n header body nodes places block →
-    record { header = header; body = body } ≡ message_written (parts_written batch)
+is_written : (batch : BatchAt) (columns : List ColumnAt) (rows n : ℕ) (header nodes places : List ℕ) (block : Part) → Made batch columns rows n header nodes places block →
+    record { header = header; body = body_of (buffers_written batch.columns) } ≡ message_written (parts_written batch)
 unfolding parts_part
-is_written batch columns rows n header body nodes places block m =
-    rw (m.header_is, m.block_is, m.nodes_is, m.places_is, m.all, m.body_is, m.same, m.counted) refl
+is_written batch columns rows n header nodes places block m =
+    rw (m.header_is, m.block_is, m.nodes_is, m.places_is, m.all, m.same, m.counted) refl
 
-writes : (batch : BatchAt) (columns : List ColumnAt) (rows n : ℕ) (header body nodes places : List ℕ) (block : Part) → Made batch columns rows n header body nodes places block → Writes batch
-writes batch columns rows n header body nodes places block m =
+writes : (batch : BatchAt) (columns : List ColumnAt) (rows n : ℕ) (header nodes places : List ℕ) (block : Part) → Made batch columns rows n header nodes places block → Writes batch
+writes batch columns rows n header nodes places block m =
     let a = m.counted in
     let b = m.low in
-    let c = ap length m.body_is in
-    let d = ap (λ (x : List ColumnAt). length (body_of (buffers_written x))) m.same in
-    let e = m.all in
-    let f = m.small in
     record {
       rows = omega arith;
       few = m.few;
       long = subst (λ (x : List ColumnAt). AreLong batch.rows x) m.same m.long;
       some = m.some;
-      fit = subst (λ (x : List ColumnAt). All (λ (column : ColumnAt). All FitsLong (values_of column)) x) m.same m.fit;
-      small = omega arith;
+      packed = subst (All IsPacked) m.same m.packed;
+      small = m.small;
     }
 
 -- what they say
-pub said : (batch : BatchAt) (columns : List ColumnAt) (rows n : ℕ) (header body nodes places : List ℕ) (block : Part) → Made batch columns rows n header body nodes places block →
-    SaysParts (record { header = header; body = body }) (parts_written batch) × SaysBatch (record { header = header; body = body }) batch
-said batch columns rows n header body nodes places block m =
-    let is = sym (is_written batch columns rows n header body nodes places block m) in
-    let w = writes batch columns rows n header body nodes places block m in (
+pub said : (batch : BatchAt) (columns : List ColumnAt) (rows n : ℕ) (header nodes places : List ℕ) (block : Part) → Made batch columns rows n header nodes places block →
+    SaysParts (record { header = header; body = body_of (buffers_written batch.columns) }) (parts_written batch)
+    × SaysBatch (record { header = header; body = body_of (buffers_written batch.columns) }) batch
+said batch columns rows n header nodes places block m =
+    let is = sym (is_written batch columns rows n header nodes places block m) in
+    let w = writes batch columns rows n header nodes places block m in (
       subst (λ (x : Sent). SaysParts x (parts_written batch)) is (parts_said (parts_written batch) (fit_parts batch w)),
       subst (λ (x : Sent). SaysBatch x batch) is (batch_said batch w),
     )

@@ -1,9 +1,12 @@
 -- How many columns a record batch has, and how long they are.
-use Rattle.std.proofs.Common.{◌≡◌, ℕ, suc, ◌*◌, ◌==◌, ◌&&◌, nat_le, Bool, true, false, List, [], ◌∷◌, length, None, Result, Ok, Err, refl, ap, sym, subst, All}
+use Rattle.std.proofs.Common.{◌≡◌, ℕ, suc, ◌+◌, ◌-◌, ◌*◌, ◌%◌, ◌∙◌, ◌==◌, ◌&&◌, nat_le, Bool, true, false, List, [], ◌∷◌, length, None, Result, Ok, Err, refl, ap, sym, subst, All, IfOk}
+use Rattle.std.proofs.lemmas.List.{length-append}
 use Rattle.std.proofs.lemmas.List.Elements.{All-nil, All-cons}
 use Rattle.scan_base.specs.declared.fault.Fault.{Fault}
 use Rattle.scan_base.specs.declared.fault.Fault.TheVariants.{UnsupportedArrow, BadBatch}
 use Rattle.scan_base.specs.Reading.{◌>>=◌, demand}
+use Rattle.flatbuf.specs.Block.{padding, padded}
+use Rattle.flatbuf.proofs.Standing.{length_padding}
 use Rattle.arrow_schema.specs.declared.data_type.IntegerType.TheVariants.{Int64}
 use Rattle.arrow_schema.specs.declared.data_type.DataType.{DataType}
 use Rattle.arrow_schema.specs.declared.data_type.DataType.TheVariants.{Integer}
@@ -22,6 +25,11 @@ fine x = Ok x
 pub both : {A B : Type 0} (read : Result A Fault) (next : A → Result B Fault) (y : B) → (read >>= next) ≡ Ok y → (x : A) × (read ≡ Ok x) × (next x ≡ Ok y)
 both (Ok x) next y e = (x, refl, e)
 both (Err fault) next y e = cc
+
+-- what follows of a result's value
+pub on_ok : {A E : Type 0} {P Q : A → Type 0} (result : Result A E) → ((x : A) → P x → Q x) → IfOk result P → IfOk result Q
+on_ok (Ok x) more holds = more x holds
+on_ok (Err e) more holds = tt
 
 -- what comes behind a condition, where both give a value
 pub demanded : {B : Type 0} (test : Bool) (fault : Fault) (next : Result B Fault) (y : B) → (demand test fault >>= λ _. next) ≡ Ok y → next ≡ Ok y
@@ -92,3 +100,7 @@ columns_long fields parts columns e = λ k d low. (columns_bare fields parts col
 -- there is a column for each field
 pub columns_many : (fields : List Field) (parts : PartsAt) (columns : List ColumnAt) → columns_of fields parts ≡ Ok columns → length columns ≡ length fields
 columns_many fields parts columns e = (columns_fit fields parts.rows parts.nodes parts.buffers columns (last_demand fields parts columns e)).1
+
+-- how many bytes a buffer has with its zeros
+pub length_with_zeros : (buffer : List ℕ) → length (padded buffer) ≡ length buffer + (8 - length buffer % 8) % 8
+length_with_zeros buffer = length-append buffer (padding (length buffer)) ∙ ap (λ (n : ℕ). length buffer + n) (length_padding (length buffer))

@@ -1,9 +1,6 @@
 -- How a record batch is written: the body that its buffers make, and the table that says where they lie.
-use Rattle.std.specs.Prelude.{◌≡◌, ℕ, ◌+◌, ◌^◌, ◌%◌, ◌≤◌, ◌<◌, List, [], ◌∷◌, ◌++◌, length, map, All, Some, Ok, FitsSigned}
-use Rattle.std.specs.Int.{w64, cast_unsigned}
+use Rattle.std.specs.Prelude.{◌≡◌, ℕ, ◌+◌, ◌*◌, ◌^◌, ◌%◌, ◌≤◌, ◌<◌, List, [], ◌∷◌, ◌++◌, length, map, All, Some, Ok}
 use Rattle.std.specs.List.{flat_map}
-use Rattle.scan_base.specs.declared.value.Value.{Value}
-use Rattle.scan_base.specs.declared.value.Value.TheVariants.{Int}
 use Rattle.flatbuf.specs.Place.{TableAt}
 use Rattle.flatbuf.specs.Layout.{Stands}
 use Rattle.flatbuf.specs.Block.{Part, Number, Offset, little, padded, table_part, structs_part}
@@ -12,7 +9,7 @@ use Rattle.arrow_schema.specs.declared.data_type.IntegerType.TheVariants.{Int64}
 use Rattle.arrow_schema.specs.declared.data_type.DataType.TheVariants.{Integer}
 use Rattle.arrow_schema.specs.declared.schema.Schema.{Schema}
 use Rattle.arrow_schema.specs.Header.{MessageAt, message_of, header_of, body_length_of}
-use Rattle.arrow_schema.specs.Column.{ColumnAt, values_of}
+use Rattle.arrow_schema.specs.Column.{ColumnAt, value_bytes}
 use Rattle.arrow_schema.specs.Batch.{BatchAt, rows_of}
 use Rattle.ipc_batch.specs.declared.parts.FieldNode.{FieldNode}
 use Rattle.ipc_batch.specs.declared.parts.BufferPlace.{BufferPlace}
@@ -65,20 +62,13 @@ PartsReadBack = (parts : PartsAt) (message : MessageAt) (bytes : List ℕ) (plac
 
 -- ---- columns of numbers of eight bytes
 
--- a number in two's complement
-abbrev pub value_written : Value → List ℕ
-value_written (Int z) = little 8 (cast_unsigned w64 z)
-value_written _ = []
-
-abbrev pub values_written : List Value → List ℕ
-values_written values = flat_map value_written values
-
--- a column is written as its own slots alone, with no validity bits, since none of them is null
+-- A column is written as the packed values of its own slots alone, with no validity bits, since none of
+-- them is null.
 abbrev pub node_written : ColumnAt → FieldNode
 node_written column = record { length = column.len; null_count = 0 }
 
 abbrev pub column_written : ColumnAt → List (List ℕ)
-column_written column = [] ∷ values_written (values_of column) ∷ []
+column_written column = [] ∷ value_bytes column ∷ []
 
 abbrev pub buffers_written : List ColumnAt → List (List ℕ)
 buffers_written columns = flat_map column_written columns
@@ -91,10 +81,13 @@ parts_written batch = record {
   buffers = buffers_written batch.columns;
 }
 
--- a number of eight bytes
-abbrev pub FitsLong : Value → Type 0
-FitsLong (Int z) = FitsSigned w64 z
-FitsLong _ = Unit {0}
+-- how many bytes the body of a batch has
+abbrev pub body_length : BatchAt → ℕ
+body_length batch = length (body_of (buffers_written batch.columns))
+
+-- a column's values have their eight bytes
+abbrev pub IsPacked : ColumnAt → Type 0
+IsPacked column = length (value_bytes column) ≡ 8 * column.len
 
 -- a schema of so many columns of Int64
 pub record AreLongs (count : ℕ) (schema : Schema) : Type 0 where

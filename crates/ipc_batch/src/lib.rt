@@ -9,7 +9,9 @@ pub mod writer;
 
 pub use crate::parts::{BufferPlace, FieldNode};
 pub use crate::reader::Reader;
-pub use crate::writer::{WrittenMessage, write_batch};
+pub use crate::writer::{
+    WrittenMessage, append_body, body_length, write_batch, write_batch_header,
+};
 
 #[cfg(test)]
 mod tests;
