@@ -65,10 +65,4 @@ impl Put {
             batches,
         }
     }
-    /// The batches, in order.
-    pub fn batches(&self) -> &[Batch]
-        ensures { result.now ≡ self.now.batches }
-    {
-        self.batches.as_slice()
-    }
 }
