@@ -21,7 +21,8 @@ fn is_null(value: ValueRef<'_>) -> bool
     }
 }
 
-fn is_long_text(value: ValueRef<'_>) -> bool
+// Whether a value is a text of more than 65,536 bytes.
+pub(crate) fn is_long_text(value: ValueRef<'_>) -> bool
     ensures { result ≡ is_long_text (value_of value.entry) }
 {
     match value {

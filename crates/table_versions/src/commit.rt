@@ -1,15 +1,17 @@
 //! The next version of the catalog: a put is checked, and then its table is made.
 
 ghost use Rattle.std.specs.Prelude.{◌≡◌, ◌≤◌, ◌||◌, ◌==◌, ◌+◌, ◌++◌, false, IfOk, IsTrue};
-ghost use Rattle.std.specs.Prelude.{length, nat_lt};
+ghost use Rattle.std.specs.Prelude.{length, nat_lt, All};
 ghost use Rattle.std.specs.List.{flat_map, list_all};
 ghost use Rattle.std.specs.Option.{option_copied};
 ghost use Rattle.arrow_schema.specs.Batch.{rows_of};
+ghost use Rattle.arrow_schema.specs.NoNulls.{HasNoNulls};
 ghost use Rattle.scan_base.specs.Reading.{GivesUnlessMemory, first_fault};
 ghost use Rattle.table_versions.specs.Limits.{most_name_bytes, most_rows};
 ghost use Rattle.table_versions.specs.Database.{table_after, columns_of, differs, faults_at, after};
 ghost use Rattle.table_versions.specs.Stored.{tables_of, put_of, plain, is_wide, kept};
 ghost use Rattle.table_versions.specs.Stored.{stored_after, catalog_after};
+ghost use Rattle.table_versions.specs.Kept.{IsStorable};
 
 use crate::catalog::CatalogVersion;
 use crate::cells::{has_bad_null, has_long_row};
@@ -106,6 +108,7 @@ fn appended(
     batches: Vec<Batch>,
 ) -> Result<TableVersion, AllocError>
     requires wide { IsTrue (list_all (is_wide old.now.schema) batches.items) }
+    requires full { All HasNoNulls batches.items }
     requires few { length (flat_map rows_of old.now.batches ++ flat_map rows_of batches.items)
         ≤ most_rows }
     ensures { IfOk result (λ table. table
@@ -116,7 +119,7 @@ fn appended(
 
 // A table of these batches alone.
 fn created(alloc: Global, schema: Schema, batches: Vec<Batch>) -> Result<TableVersion, AllocError>
-    requires wide { IsTrue (list_all (is_wide schema) batches.items) }
+    requires storable { IsStorable schema batches.items }
     requires few { length (flat_map rows_of batches.items) ≤ most_rows }
     ensures { IfOk result (λ table. table
         ≡ record { schema = schema; batches = kept batches.items }) }
