@@ -5,3 +5,4 @@ pub mod Fetches
 pub mod Machine
 pub mod Laws
 pub mod Versions
+pub mod Stored

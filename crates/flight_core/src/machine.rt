@@ -10,7 +10,7 @@ ghost use Rattle.flight_core.specs.Laws.{RefusalsLeaveNothing};
 use crate::event::{Event, Reply};
 use crate::fetch::{answer_fetch, read_ticket, version_of};
 use crate::plain::Plain;
-use crate::put::{read_put, row_count};
+use crate::put::read_put;
 use bytes::Bytes;
 use flight_proto::put_rows_put;
 use scan_base::Fault;
@@ -35,7 +35,7 @@ fn step_put(alloc: Global, plain: &mut Plain, payloads: &[Bytes]) -> Reply
         Ok(put) => put,
         Err(fault) => return Reply::refusal(alloc, fault),
     };
-    let Ok(answer) = put_answer(alloc, row_count(put.batches()) as i64) else {
+    let Ok(answer) = put_answer(alloc, put.rows() as i64) else {
         return Reply::refusal(alloc, Fault::OutOfMemory);
     };
     match plain.put(alloc, put) {

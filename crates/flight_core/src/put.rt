@@ -1,12 +1,13 @@
 //! Reading the payloads of a put.
 
-ghost use Rattle.std.specs.Prelude.{◌≡◌, ◌≢◌, ◌≤◌, ◌++◌, [], None, IfOk, length};
+ghost use Rattle.std.specs.Prelude.{◌≡◌, ◌≢◌, ◌==◌, ◌++◌, not, [], None, IfOk, ℕ, ◌<◌, List, length, slice_index};
 ghost use Rattle.std.specs.List.{flat_map};
 ghost use Rattle.scan_base.specs.Reading.{GivesUnlessMemory};
-ghost use Rattle.arrow_schema.specs.Batch.{rows_of};
-ghost use Rattle.table_versions.specs.Limits.{most_rows};
+ghost use Rattle.arrow_schema.specs.Batch.{BatchAt, rows_of};
 ghost use Rattle.table_versions.specs.Stored.{put_of};
-ghost use Rattle.flight_core.specs.Puts.{if_not_exist_put, if_exists_put, put_said};
+ghost use Rattle.flight_core.specs.Puts.{if_not_exist_put, if_exists_put};
+ghost use Rattle.flight_core.specs.Puts.{news_in_payload, told_by, put_said};
+ghost use Rattle.flight_core.specs.Stored.{MayBeStored, batches_in};
 
 use crate::schema_copy::copied;
 use arrow_schema::Batch;
@@ -39,25 +40,37 @@ fn if_exists(option: flight_proto::IfExists) -> IfExists
     }
 }
 
+// Whether a FlightData with this header carries a message.
+fn carries_message(header: &[u8]) -> bool
+    ensures value { result ≡ not (length header.now == 0) }
+    ensures bytes { (k : ℕ) → slice_index header.now k < 256 }
+{
+    !header.is_empty()
+}
+
 // Reads a payload: a batch, or `None` where it has the schema or no message.
-fn read_payload(
-    alloc: Global,
-    reader: &mut Reader,
-    payload: &Bytes,
-) -> Result<Option<Batch>, Fault> {
+#[tactic(auto, unfolding(crate::specs::Puts::news_in_payload))]
+fn read_payload(alloc: Global, reader: &mut Reader, payload: &Bytes) -> Result<Option<Batch>, Fault>
+    ensures told { GivesUnlessMemory (λ batch. record { state = reader.new; batch = batch })
+        result (news_in_payload reader.old payload.now) }
+    ensures stored { (batches : List BatchAt) → MayBeStored reader.old batches →
+        IfOk result (λ batch. MayBeStored reader.new (batches ++ batches_in batch)) }
+{
     let data = FlightData::read(payload)?;
-    if data.data_header.is_empty() {
+    if !carries_message(data.data_header.as_slice()) {
         return Ok(None);
     }
     reader.message(alloc, data.data_header, data.data_body)
 }
 
 // The batches of payloads. Their columns are cuts of the payloads.
-fn read_batches(
-    alloc: Global,
-    reader: &mut Reader,
-    payloads: &[Bytes],
-) -> Result<Vec<Batch>, Fault> {
+fn read_batches(alloc: Global, reader: &mut Reader, payloads: &[Bytes]) -> Result<Vec<Batch>, Fault>
+    ensures told { GivesUnlessMemory
+        (λ batches. record { state = reader.new; rows = flat_map rows_of batches.items })
+        result (told_by reader.old payloads.now) }
+    ensures stored { MayBeStored reader.old [] →
+        IfOk result (λ batches. MayBeStored reader.new batches.items) }
+{
     let mut batches = Vec::new(alloc);
     for payload in payloads {
         if let Some(batch) = read_payload(alloc, reader, payload)? {
@@ -80,14 +93,19 @@ fn read_batches(
 ///   header has none.
 /// - F8 (`Fault::BadBatch`) where no schema came.
 /// - F21 (`Fault::OutOfMemory`) where memory is refused.
+#[tactic(auto, unfolding(crate::specs::Puts::put_said))]
 pub fn read_put(alloc: Global, payloads: &[Bytes]) -> Result<Put, Fault>
     ensures { GivesUnlessMemory put_of result (put_said payloads.now) }
 {
-    let first = payloads.first().ok_or(Fault::UnknownCommand)?;
+    let Some(first) = payloads.first() else {
+        return Err(Fault::UnknownCommand);
+    };
     let ingest = read_ingest(first.as_slice())?;
     let mut reader = Reader::new();
     let batches = read_batches(alloc, &mut reader, payloads)?;
-    let schema = reader.schema().ok_or(Fault::BadBatch)?;
+    let Some(schema) = reader.schema() else {
+        return Err(Fault::BadBatch);
+    };
     let schema = copied(alloc, schema)?;
     Ok(Put::new(
         Text::new(alloc, ingest.table)?,
@@ -96,15 +114,4 @@ pub fn read_put(alloc: Global, payloads: &[Bytes]) -> Result<Put, Fault>
         schema,
         batches,
     ))
-}
-
-/// How many rows batches have, where they are at most as many as a table may have.
-pub(crate) fn row_count(batches: &[Batch]) -> usize
-    ensures { length (flat_map rows_of batches.now) ≤ most_rows → result ≡ length (flat_map rows_of batches.now) }
-{
-    let mut rows: usize = 0;
-    for batch in batches {
-        rows = rows.saturating_add(batch.rows());
-    }
-    rows
 }
