@@ -9,6 +9,9 @@ use Rattle.byteorder.specs.Numbers.{little_from-take}
 use Rattle.bytes.proofs.Ranges.{drop-take_less}
 use Rattle.scan_base.specs.declared.value.Value.{Value}
 use Rattle.scan_base.specs.declared.value.Value.TheVariants.{Null, Int}
+use Rattle.scan_base.specs.declared.fault.Fault.TheVariants.{BadBatch}
+use Rattle.scan_base.specs.Reading.{◌>>=◌, demand}
+use Rattle.scan_base.specs.Lists.{each}
 use Rattle.flatbuf.proofs.Numbers.{little_from-at, little_from-drop}
 use Rattle.arrow_schema.specs.declared.data_type.IntegerType.TheVariants.{Int64}
 use Rattle.arrow_schema.specs.declared.data_type.DataType.TheVariants.{Integer}
@@ -16,8 +19,11 @@ use Rattle.arrow_schema.specs.declared.schema.Field.{Field}
 use Rattle.arrow_schema.specs.Column.{ColumnAt, is_valid, slot_of, values_of, long_at, column_of, value_bytes}
 use Rattle.arrow_schema.specs.Batch.{row_of, rows_of}
 use Rattle.arrow_schema.specs.NoNulls.{IsFull}
+use Rattle.ipc_batch.specs.declared.parts.BufferPlace.{BufferPlace}
+use Rattle.ipc_batch.specs.Parts.{placed_in, buffer_at}
 use Rattle.ipc_batch.specs.Columns.{front_of, columns_from}
 use Rattle.ipc_batch.specs.Written.{node_written, buffers_written, IsPacked}
+use Rattle.ipc_batch.proofs.Lengths.{fine, both}
 
 -- the column that is read of one that was written
 abbrev pub column_read : ColumnAt → ColumnAt
@@ -71,17 +77,43 @@ column_again rows column is =
     let enough : nat_le (8 * rows) (length (value_bytes column)) ≡ true = le-leb (8 * rows) (length (value_bytes column)) (omega arith) in
     rw (enough, e) refl
 
+-- what is read of buffers that lie in a body
+placed : (body : List ℕ) (place : BufferPlace) (buffer : List ℕ) → buffer_at body place ≡ Ok buffer → placed_in body place ≡ Ok tt
+unfolding buffer_at
+placed body place buffer e = by (nat_le (place.offset + place.length) (length body)) e
+  where
+    by : (within : Bool) → (demand within BadBatch >>= λ _. Ok (take place.length (drop place.offset body))) ≡ Ok buffer → demand within BadBatch ≡ Ok tt
+    by true e = refl
+    by false e = absurd (let no : ⊥ = cc in no)
+
+-- the first of the places, and those behind it
+each_first : (body : List ℕ) (place : BufferPlace) (more : List BufferPlace) (buffer : List ℕ) (buffers : List (List ℕ)) → each (buffer_at body) (place ∷ more) ≡ Ok (buffer ∷ buffers) →
+    (buffer_at body place ≡ Ok buffer) × (each (buffer_at body) more ≡ Ok buffers)
+each_first body place more buffer buffers e =
+    let a = both (buffer_at body place) (λ (y : List ℕ). (each (buffer_at body) more >>= λ ys. fine (y ∷ ys))) (buffer ∷ buffers) e in
+    let b = both (each (buffer_at body) more) (λ (ys : List (List ℕ)). fine (a.0 ∷ ys)) (buffer ∷ buffers) a.2 in
+    let same : a.0 ∷ b.0 ≡ buffer ∷ buffers = let c = b.2 in cc in
+    let first : a.0 ≡ buffer = cc in
+    let rest : b.0 ≡ buffers = cc in
+    (a.1 ∙ ap (λ (x : List ℕ). fine x) first, b.1 ∙ ap (λ (x : List (List ℕ)). fine x) rest)
+
 -- the columns that were written are read again
-pub columns_again : (fields : List Field) (rows : ℕ) (columns : List ColumnAt) → AllByRecursion (λ (field : Field). field.data_type ≡ Integer Int64) fields → length fields ≡ length columns →
-    AllByRecursion (IsWritable rows) columns → columns_from fields rows (map node_written columns) (buffers_written columns) ≡ Ok (map column_read columns)
+pub columns_again : (fields : List Field) (rows : ℕ) (body : List ℕ) (places : List BufferPlace) (columns : List ColumnAt) → AllByRecursion (λ (field : Field). field.data_type ≡ Integer Int64) fields → length fields ≡ length columns →
+    AllByRecursion (IsWritable rows) columns → each (buffer_at body) places ≡ Ok (buffers_written columns) → columns_from fields rows body (map node_written columns) places ≡ Ok (map column_read columns)
 unfolding front_of
-columns_again [] rows [] longs many are = refl
-columns_again [] rows (column ∷ columns) longs many are = absurd (omega arith)
-columns_again (field ∷ fields) rows [] longs many are = absurd (omega arith)
-columns_again (field ∷ fields) rows (column ∷ columns) longs many are =
+columns_again [] rows body places [] longs many are found = refl
+columns_again [] rows body places (column ∷ columns) longs many are found = absurd (omega arith)
+columns_again (field ∷ fields) rows body places [] longs many are found = absurd (omega arith)
+columns_again (field ∷ fields) rows body [] (column ∷ columns) longs many are found = absurd (let no : ⊥ = cc in no)
+columns_again (field ∷ fields) rows body (validity ∷ []) (column ∷ columns) longs many are found =
+    let a = both (buffer_at body validity) (λ (y : List ℕ). fine (y ∷ [])) (buffers_written (column ∷ columns)) found in
+    absurd (let b = a.2 in let no : ⊥ = cc in no)
+columns_again (field ∷ fields) rows body (validity ∷ values ∷ behind) (column ∷ columns) longs many are found =
     let same : column.len == rows ≡ true = eq-eqb column.len rows are.0.len in
     let fewer : length fields ≡ length columns = omega arith in
-    rw (longs.0, same, column_again rows column are.0, columns_again fields rows columns longs.1 fewer are.1) refl
+    let first = each_first body validity (values ∷ behind) [] (value_bytes column ∷ buffers_written columns) found in
+    let second = each_first body values behind (value_bytes column) (buffers_written columns) first.1 in
+    rw (longs.0, same, placed body validity [] first.0, second.0, column_again rows column are.0, columns_again fields rows body behind columns longs.1 fewer are.1 second.1) refl
 
 -- rows of columns that have the same slots
 map_same : {X : Type 0} (f g : ℕ → X) (a n : ℕ) → ((j : ℕ) → j < a + n → f j ≡ g j) → map f (range_with_len a n) ≡ map g (range_with_len a n)

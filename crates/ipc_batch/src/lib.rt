@@ -7,7 +7,6 @@ pub mod parts;
 pub mod reader;
 pub mod writer;
 
-pub use crate::parts::{BufferPlace, FieldNode};
 pub use crate::reader::Reader;
 pub use crate::writer::{
     WrittenMessage, append_body, body_length, write_batch, write_batch_header,

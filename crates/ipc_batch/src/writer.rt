@@ -5,6 +5,7 @@ ghost use Rattle.std.specs.Prelude.{IfOk, OnOk, OnErr, SomeIff};
 ghost use Rattle.std.specs.List.{flat_map};
 ghost use Rattle.flatbuf.specs.Block.{Number, Offset, little, padded, table_part};
 ghost use Rattle.flatbuf.specs.Block.{structs_part};
+ghost use Rattle.arrow_schema.specs.Limits.{most_columns};
 ghost use Rattle.arrow_schema.specs.NoNulls.{HasNoNulls};
 ghost use Rattle.ipc_batch.specs.Written.{node_bytes, place_bytes, body_of, places_from};
 ghost use Rattle.ipc_batch.specs.Written.{node_written, column_written, buffers_written};
@@ -220,7 +221,7 @@ fn batch_block(alloc: Global, rows: u64, nodes: &[u8], places: &[u8]) -> Result<
 /// The header of the message of a batch, whose body [`append_body`] writes. The header and the body have a
 /// multiple of 8 bytes. It fails with [`AllocError`] where memory is refused, and with no other error.
 pub fn write_batch_header(alloc: Global, batch: &Batch) -> Result<Vec<u8>, AllocError>
-    requires few { length batch.now.columns ≤ 64 }
+    requires few { length batch.now.columns ≤ most_columns }
     requires full { HasNoNulls batch.now }
     requires short { body_length batch.now < 2 ^ 63 }
     ensures whole { IfOk result (λ header. length header.items % 8 ≡ 0) }
@@ -246,7 +247,7 @@ pub fn write_batch_header(alloc: Global, batch: &Batch) -> Result<Vec<u8>, Alloc
 /// batch is written as its own rows alone. It fails with [`AllocError`] where memory is refused, as for a
 /// body of 2 to the 63 bytes or more, and with no other error.
 pub fn write_batch(alloc: Global, batch: &Batch) -> Result<WrittenMessage, AllocError>
-    requires few { length batch.now.columns ≤ 64 }
+    requires few { length batch.now.columns ≤ most_columns }
     requires full { HasNoNulls batch.now }
     ensures header { IfOk result (λ message. length message.header.items % 8 ≡ 0) }
     ensures body { IfOk result (λ message. length message.body.items % 8 ≡ 0) }
