@@ -1,5 +1,5 @@
 -- What an accepted put tells.
-use Rattle.std.proofs.Common.{◌≡◌, ◌≤◌, ℕ, ◌+◌, Bool, true, false, if◌then◌else◌, List, [], ◌∷◌, ◌++◌, length, Option, Some, None, Ok, Err, refl, arith, rules, length-append, nat_lt, take, drop}
+use Rattle.std.proofs.Common.{◌≡◌, ◌≤◌, Bool, true, false, List, [], ◌∷◌, ◌++◌, length, Option, Some, None, Ok, refl, arith, rules, length-append, nat_lt, take, drop}
 use Rattle.scan_base.specs.declared.fault.Fault.{Fault}
 use Rattle.scan_base.specs.declared.fault.Fault.TheVariants.{LimitReached}
 use Rattle.scan_base.specs.Reading.{first_fault, unless}
@@ -7,7 +7,7 @@ use Rattle.table_versions.specs.declared.options.IfExists.{IfExists}
 use Rattle.table_versions.specs.declared.options.IfExists.TheVariants.{Unspecified, Fail, Append, Replace}
 use Rattle.table_versions.specs.Limits.{most_rows}
 use Rattle.table_versions.specs.Table.{Table}
-use Rattle.table_versions.specs.Database.{Database, Put, table_at, with_table, table_after, put_faults, after}
+use Rattle.table_versions.specs.Database.{Put, table_at, with_table, table_after, put_faults}
 use Rattle.table_versions.specs.Laws.{AcceptedPutsAreFew}
 
 -- where there is no fault, the first test is false, and so are the others
