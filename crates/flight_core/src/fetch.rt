@@ -52,7 +52,7 @@ fn find_table<'a>(
 }
 
 /// The answer to a handle at a version of the catalog: a schema message and then record batches of at most
-/// 65,536 rows, each a FlightData.
+/// 65,536 cells, each a FlightData.
 ///
 /// # Errors
 ///
