@@ -1,5 +1,5 @@
 -- Parts of a table's rows, put together.
-use Rattle.std.proofs.Common.{◌≡◌, ◌≤◌, ◌<◌, ℕ, zero, suc, ◌+◌, ◌-◌, List, [], ◌∷◌, ◌++◌, length, take, drop, min, map, Some, refl, sym, ap, subst, ◌∙◌, append_assoc, append-nil, length-append, arith, slice_get, ◌⊎◌, inl, inr}
+use Rattle.std.proofs.Common.{◌≡◌, ◌≤◌, ◌<◌, ℕ, zero, suc, ◌+◌, ◌-◌, List, [], ◌∷◌, ◌++◌, length, take, drop, min, map, refl, sym, ap, subst, ◌∙◌, append_assoc, append-nil, length-append, arith, true, ◌⊎◌, inl, inr}
 use Rattle.std.proofs.lemmas.Bool.{cases_lt}
 use Rattle.std.specs.List.{flat_map}
 use Rattle.std.proofs.Math.Seq.{take-add}
@@ -12,7 +12,8 @@ use Rattle.ipc_batch.specs.Said.{Rows}
 use Rattle.table_versions.specs.Stored.{TableAt, table_of}
 use Rattle.table_versions.specs.Standing.{rows_before, StandsAt}
 use Rattle.flight_core.specs.Payloads.{Payload, PayloadsSay, GoOn, SaysBatchBehind}
-use Rattle.flight_core.proofs.Streaming.{say_more}
+use Rattle.arrow_schema.specs.Header.{is_built}
+use Rattle.flight_core.proofs.Streaming.{say_more, are_longs}
 
 drop_none : {X : Type 0} (n : ℕ) → drop {A = X} n [] ≡ []
 drop_none zero = refl
@@ -101,10 +102,25 @@ rows_joined : {X : Type 0} (rows : List X) (start size from to : ℕ) → take (
     ++ take (min (to - start) size - (from - start)) (drop (start + (from - start)) rows) ≡ take (min to (start + size) - from) (drop from rows)
 rows_joined rows start size from to = joined_by rows start size from to (min to start) (from - start) (min (to - start) size) (min to (start + size)) refl refl refl refl
 
--- with one batch more, the payloads say the rows up to its end
+-- the payloads of a batch go on by the table's rows from there
 pub batch_more : (table : TableAt) (i : ℕ) (batch : BatchAt) (start from to : ℕ) (old new : List Payload) → StandsAt table i batch → start ≡ rows_before table.batches i
     → GoOn (length batch.columns) old new (take (min (to - start) batch.rows - (from - start)) (drop (from - start) (rows_of batch)))
     → GoOn (length batch.columns) old new (take (min (to - start) batch.rows - (from - start)) (drop (start + (from - start)) (table_of table).rows))
 batch_more table i batch start from to old new stands e on =
     subst (λ (r : Rows). GoOn (length batch.columns) old new r)
     (part_placed table i batch (from - start) (min (to - start) batch.rows) stands (omega arith) ∙ rw (← e) refl) on
+
+-- at the first batch nothing is said
+pub rows_first : {X : Type 0} (rows : List X) (from to : ℕ) → take (min to 0 - from) (drop from rows) ≡ []
+rows_first rows from to = let e : min to 0 - from ≡ 0 = omega arith in rw e refl
+
+-- with one batch more, the rows up to its end are said
+pub one_batch : (table : TableAt) (i : ℕ) (batch : BatchAt) (start next from to : ℕ) (old new : List Payload) → StandsAt table i batch → start ≡ rows_before table.batches i → next ≡ start + batch.rows
+    → is_built table.schema.fields ≡ true → length batch.columns ≡ length table.schema.fields
+    → PayloadsSay old table.schema (take (min to start - from) (drop from (table_of table).rows))
+    → GoOn (length batch.columns) old new (take (min (to - start) batch.rows - (from - start)) (drop (from - start) (rows_of batch)))
+    → PayloadsSay new table.schema (take (min to next - from) (drop from (table_of table).rows))
+one_batch table i batch start next from to old new stands e n built wide said on =
+    let rows = (table_of table).rows in
+    let more = batch_more table i batch start from to old new stands e on table.schema (take (min to start - from) (drop from rows)) (are_longs table.schema (length batch.columns) built wide) said in
+    subst (λ (r : Rows). PayloadsSay new table.schema r) (rows_joined rows start batch.rows from to ∙ rw n refl) more

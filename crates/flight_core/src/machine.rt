@@ -1,6 +1,7 @@
 //! Steps and runs.
 
-ghost use Rattle.std.specs.Prelude.{◌≡◌, ◌≢◌, [], ◌∷◌, pos, length, IfOk, IfErr};
+ghost use Rattle.std.specs.Prelude.{◌≡◌, ◌≢◌, [], ◌∷◌, pos, min, length, IfOk, IfErr};
+ghost use Rattle.table_versions.specs.Limits.{most_rows};
 ghost use Rattle.scan_base.specs.declared.fault.Fault.TheVariants.{OutOfMemory};
 ghost use Rattle.flight_proto.specs.PutResult.{rows_put_bytes};
 ghost use Rattle.flight_core.specs.Machine.{Log, PutStep, Step, Run, put_answer};
@@ -15,14 +16,14 @@ use bytes::Bytes;
 use flight_proto::put_rows_put;
 use scan_base::Fault;
 use std::alloc::{AllocError, Global};
-use table_versions::Put;
+use table_versions::MAX_ROWS;
 
-// The answer to a put of these rows.
-fn put_answer(alloc: Global, rows: i64) -> Result<Vec<Bytes>, AllocError>
-    ensures { IfOk result (λ payloads. payloads.items ≡ rows_put_bytes rows ∷ []) }
+// The answer to a put of so many rows, or of as many as a table may have where they are more.
+fn put_answer(alloc: Global, rows: usize) -> Result<Vec<Bytes>, AllocError>
+    ensures { IfOk result (λ payloads. payloads.items ≡ rows_put_bytes (pos (min rows most_rows)) ∷ []) }
 {
     let mut payload = Vec::new(alloc);
-    put_rows_put(&mut payload, rows)?;
+    put_rows_put(&mut payload, rows.min(MAX_ROWS) as i64)?;
     let mut payloads = Vec::new(alloc);
     payloads.push(Bytes::from_vec(payload)?)?;
     Ok(payloads)
@@ -35,7 +36,7 @@ fn step_put(alloc: Global, plain: &mut Plain, payloads: &[Bytes]) -> Reply
         Ok(put) => put,
         Err(fault) => return Reply::refusal(alloc, fault),
     };
-    let Ok(answer) = put_answer(alloc, put.rows() as i64) else {
+    let Ok(answer) = put_answer(alloc, put.rows()) else {
         return Reply::refusal(alloc, Fault::OutOfMemory);
     };
     match plain.put(alloc, put) {
