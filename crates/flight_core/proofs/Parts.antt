@@ -44,8 +44,8 @@ pub slice_more : (batch : BatchAt) (from at end : ℕ) (old mid new : List Paylo
 slice_more batch from at end old mid new payload low high within on said e =
     let one = say_more (length batch.columns) mid payload (cut_batch batch at end) (length-map batch.columns (λ column. cut column at end)) said in
     let rows : rows_of (cut_batch batch from at) ++ rows_of (cut_batch batch at end) ≡ rows_of (cut_batch batch from end) =
-        rw (batches_keep batch from at low (omega (arith, high, within)), batches_keep batch at end high within, batches_keep batch from end (omega (arith, low, high)) within)
-        (parts_join from at end (rows_of batch) low high) in
+    rw (batches_keep batch from at low (omega (arith, high, within)), batches_keep batch at end high within, batches_keep batch from end (omega (arith, low, high)) within)
+    (parts_join from at end (rows_of batch) low high) in
     subst (λ (p : List Payload). GoOn (length batch.columns) old p (rows_of (cut_batch batch from end))) (sym e)
     (subst (λ (r : Rows). GoOn (length batch.columns) old (mid ++ payload ∷ []) r) rows
     (go_further (length batch.columns) old mid (mid ++ payload ∷ []) (rows_of (cut_batch batch from at)) (rows_of (cut_batch batch at end)) on one))
@@ -90,6 +90,7 @@ joined_by rows start size from to before first last after p q r s = by (cases_lt
         let b : start + first ≡ from = omega (arith, q, high) in
         let d : last - first ≡ after - from = omega (arith, p, q, r, s, some, high) in
         rw (a, b, d) refl
+
     by : (first < last) ⊎ (last ≤ first) → take (before - from) (drop from rows) ++ take (last - first) (drop (start + first) rows) ≡ take (after - from) (drop from rows)
     by (inr none) =
         let nothing : last - first ≡ 0 = omega (arith, none) in

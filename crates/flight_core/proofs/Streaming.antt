@@ -100,9 +100,9 @@ message_more payloads payload messages message e c =
     let same : map message_in (filter carries_message all.0) ≡ messages = let last = all.2 in cc in
     let more = each_more data_of payloads payload all.0 c.carried all.1 c.read in
     rw more (ap good_messages (
-      ap (map message_in) (filter-append carries_message all.0 (c.carried ∷ []))
-      ∙ map-append message_in (filter carries_message all.0) (filter carries_message (c.carried ∷ []))
-      ∙ rw (same, c.there, c.same) refl))
+    ap (map message_in) (filter-append carries_message all.0 (c.carried ∷ []))
+    ∙ map-append message_in (filter carries_message all.0) (filter carries_message (c.carried ∷ []))
+    ∙ rw (same, c.there, c.same) refl))
   where
     good_messages : List Sent → Result (List Sent) Fault
     good_messages messages = Ok messages
@@ -119,9 +119,11 @@ pub say_more : (columns : ℕ) (payloads : List Payload) (payload : Payload) (ba
 say_more columns payloads payload batch many s schema rows longs said =
     let read = s.said schema (rw many longs) in
     let news : News = record { state = Some schema; batch = Some read.0 } in
-    let one : Follows (Some schema) (s.message ∷ []) (Some schema) (rows_of read.0) = (news, [], read.1, sym (append-nil (rows_of read.0)), (refl, refl)) in
-    (said.0 ++ s.message ∷ [], message_more payloads payload said.0 s.message said.1 s.carries,
-      subst (λ (more : Rows). Follows None (said.0 ++ s.message ∷ []) (Some schema) (rows ++ more)) read.2 (joined None said.0 (s.message ∷ []) (Some schema) (Some schema) rows (rows_of read.0) said.2 one))
+    let one : Follows (Some schema) (s.message ∷ []) (Some schema) (rows_of read.0) = (news, [], read.1, sym (append-nil (rows_of read.0)), (refl, refl)) in (
+      said.0 ++ s.message ∷ [],
+      message_more payloads payload said.0 s.message said.1 s.carries,
+      subst (λ (more : Rows). Follows None (said.0 ++ s.message ∷ []) (Some schema) (rows ++ more)) read.2 (joined None said.0 (s.message ∷ []) (Some schema) (Some schema) rows (rows_of read.0) said.2 one),
+    )
 
 -- nothing more
 pub go_nowhere : (columns : ℕ) (payloads : List Payload) → GoOn columns payloads payloads []

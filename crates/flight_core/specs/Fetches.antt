@@ -26,12 +26,17 @@ version_of (Tables number) = number
 abbrev pub part_of : Table → ℕ → ℕ → Table
 part_of table from to = record { schema = table.schema; rows = take (to - from) (drop from table.rows) }
 
+-- the table that a query names
+abbrev pub table_asked : Database → List ℕ → Result Table Fault
+table_asked database query = do
+  name ← wanted (table_named query) BadTicket
+  wanted (table_at database name) BadTicket
+
 -- What a handle means on a database, as a table. Any fault of its query or its range is that the ticket is
 -- bad.
 unfoldable pub meaning_of : Database → HandleAt → Result Table Fault
 meaning_of database (Query number from to query) = do
-  name ← wanted (table_named query) BadTicket
-  table ← wanted (table_at database name) BadTicket
+  table ← table_asked database query
   _ ← demand (nat_le from to && nat_le to (length table.rows)) BadTicket
   Ok (part_of table from to)
 meaning_of database (Tables number) = Err BadTicket

@@ -1,10 +1,13 @@
 //! Answering a fetch at a version.
 
-ghost use Rattle.std.specs.Prelude.{◌≡◌, ◌≢◌};
-ghost use Rattle.scan_base.specs.Reading.{Gives};
+ghost use Rattle.std.specs.Prelude.{◌≡◌, ◌≢◌, ◌≤◌, ◌⊎◌, length, IfOk, IfErr};
+ghost use Rattle.scan_base.specs.declared.fault.Fault.TheVariants.{BadTicket, OutOfMemory};
+ghost use Rattle.scan_base.specs.Reading.{Gives, GivesUnlessMemory};
 ghost use Rattle.endpoint_split.specs.Seen.{handle_seen};
-ghost use Rattle.table_versions.specs.Stored.{tables_of};
-ghost use Rattle.flight_core.specs.Fetches.{version_of, handle_asked, FetchAt};
+ghost use Rattle.table_versions.specs.Limits.{most_rows};
+ghost use Rattle.table_versions.specs.Stored.{table_of, tables_of};
+ghost use Rattle.flight_core.specs.Fetches.{version_of, handle_asked, part_of};
+ghost use Rattle.flight_core.specs.Fetches.{table_asked, meaning_of, FetchAt};
 
 use crate::event::Reply;
 use crate::named_table::table_named;
@@ -41,14 +44,63 @@ pub fn version_of(handle: &Handle<'_>) -> u64
     }
 }
 
+// Rows of a table: `from` up to, not with, `to`.
+#[derive(Clone, Copy, Drop)]
+struct TablePart<'a> {
+    table: &'a TableVersion,
+    from: usize,
+    to: usize,
+}
+
 // The table that a query names.
 fn find_table<'a>(
     alloc: Global,
     catalog: &'a CatalogVersion,
     query: &str,
-) -> Result<&'a TableVersion, Fault> {
-    let name = Text::new(alloc, table_named(query).ok_or(Fault::BadTicket)?)?;
-    catalog.get(&name).ok_or(Fault::BadTicket)
+) -> Result<&'a TableVersion, Fault>
+    ensures found { GivesUnlessMemory (λ table. table_of table.now) result
+        (table_asked (tables_of catalog.now) query.now) }
+    ensures kinds { IfErr result (λ fault. (fault ≡ OutOfMemory) ⊎ (fault ≡ BadTicket)) }
+{
+    let Some(name) = table_named(query) else {
+        return Err(Fault::BadTicket);
+    };
+    let name = Text::new(alloc, name)?;
+    let Some(table) = catalog.get(&name) else {
+        return Err(Fault::BadTicket);
+    };
+    Ok(table)
+}
+
+// What a handle means.
+#[tactic(auto, unfolding(crate::specs::Fetches::meaning_of))]
+fn find_part<'a>(
+    alloc: Global,
+    catalog: &'a CatalogVersion,
+    handle: &Handle<'_>,
+) -> Result<TablePart<'a>, Fault>
+    ensures found { GivesUnlessMemory (λ part. part_of (table_of part.table.now) part.from part.to) result
+        (meaning_of (tables_of catalog.now) (handle_seen handle.now)) }
+    ensures kinds { IfErr result (λ fault. (fault ≡ OutOfMemory) ⊎ (fault ≡ BadTicket)) }
+    ensures ordered { IfOk result (λ part. part.from ≤ part.to) }
+    ensures within { IfOk result (λ part. part.to ≤ length (table_of part.table.now).rows) }
+    ensures few { IfOk result (λ part. length (table_of part.table.now).rows ≤ most_rows) }
+{
+    let Handle::Query {
+        from,
+        to,
+        query,
+        ..
+    } = handle
+    else {
+        return Err(Fault::BadTicket);
+    };
+    let table = find_table(alloc, catalog, query)?;
+    let (from, to) = (*from as usize, *to as usize);
+    if from > to || to > table.rows() {
+        return Err(Fault::BadTicket);
+    }
+    Ok(TablePart { table, from, to })
 }
 
 /// The answer to a handle at a version of the catalog: a schema message and then record batches of at most
@@ -60,25 +112,14 @@ fn find_table<'a>(
 /// version, and where the range is not within the table's rows; F21 (`Fault::OutOfMemory`) where memory is
 /// refused.
 pub fn answer_fetch(alloc: Global, snapshot: &Snapshot, handle: &Handle<'_>) -> Reply
-    ensures { FetchAt (tables_of snapshot.now.catalog) (handle_seen handle.now) result.payloads.items result.fault }
+    ensures { FetchAt (tables_of snapshot.now.catalog) (handle_seen handle.now)
+        result.payloads.items result.fault }
 {
-    let Handle::Query {
-        from,
-        to,
-        query,
-        ..
-    } = handle
-    else {
-        return Reply::refusal(alloc, Fault::BadTicket);
-    };
-    let table = match find_table(alloc, snapshot.catalog(), query) {
-        Ok(table) => table,
+    let part = match find_part(alloc, snapshot.catalog(), handle) {
+        Ok(part) => part,
         Err(fault) => return Reply::refusal(alloc, fault),
     };
-    if *from > *to || *to as usize > table.rows() {
-        return Reply::refusal(alloc, Fault::BadTicket);
-    }
-    match write_rows(alloc, table, *from as usize, *to as usize) {
+    match write_rows(alloc, part.table, part.from, part.to) {
         Ok(payloads) => Reply::whole(payloads),
         Err(_) => Reply::refusal(alloc, Fault::OutOfMemory),
     }

@@ -58,12 +58,7 @@ fn rows_in_message(columns: usize) -> usize
 }
 
 // The payload of the rows `from` up to, not with, `to` of a batch.
-fn slice_payload(
-    alloc: Global,
-    batch: &Batch,
-    from: usize,
-    to: usize,
-) -> Result<Bytes, AllocError>
+fn slice_payload(alloc: Global, batch: &Batch, from: usize, to: usize) -> Result<Bytes, AllocError>
     requires long { AreLong batch.now.rows batch.now.columns }
     requires few { length batch.now.columns ≤ 64 }
     requires full { HasNoNulls batch.now }
@@ -113,7 +108,7 @@ fn push_part(
     requires full { HasNoNulls batch.now }
     ensures { OnOk result (GoOn (length batch.now.columns) payloads.old.items payloads.new.items
         (take (min (to - start) batch.now.rows - (from - start))
-            (drop (from - start) (rows_of batch.now)))) }
+        (drop (from - start) (rows_of batch.now)))) }
 {
     let first = from.saturating_sub(start);
     let last = to.saturating_sub(start).min(batch.rows());

@@ -18,7 +18,7 @@ loop-at-preserved c =
       low = omega (arith, low);
       high = omega (arith, c.min.ensures, c.loop-at-test.true);
       on = slice_more c.args.batch.now c.args.from c.loop-at.at (c.loop-at.at + c.min.result) c.args.payloads.now.items c.loop-at.payloads.items c.push.new.self.items c.in_ok-slice_payload.field-0
-      low (omega arith) (omega (arith, c.min.ensures, c.loop-at-test.true, c.requires.within)) c.loop-at.invariant.on c.in_ok-slice_payload.ensures c.in_ok-push.ensures.items;
+          low (omega arith) (omega (arith, c.min.ensures, c.loop-at-test.true, c.requires.within)) c.loop-at.invariant.on c.in_ok-slice_payload.ensures c.in_ok-push.ensures.items;
     }
 
 pub returns : goal.returns
