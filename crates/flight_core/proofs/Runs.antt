@@ -1,5 +1,5 @@
 -- Runs: cut, joined, and without a refused event.
-use Rattle.std.proofs.Common.{◌≡◌, ℕ, zero, suc, ◌+◌, ◌<◌, get_or, List, [], ◌∷◌, ◌++◌, length, take, drop, refl, sym, ap, subst, ◌∙◌, arith, add-one, Option, None, Some, Result, Ok, Err, IfOk, Vec, Global}
+use Rattle.std.proofs.Common.{◌≡◌, ℕ, zero, suc, ◌+◌, ◌<◌, get_or, List, [], ◌∷◌, ◌++◌, length, take, drop, refl, sym, ap, subst, ◌∙◌, add-one, Option, None, Some, Result, Ok, Err, IfOk, Vec, Global}
 use Rattle.std.specs.List.{slice_get}
 use Rattle.std.proofs.lemmas.List.{take_more}
 use Rattle.scan_base.specs.declared.fault.Fault.{Fault}
@@ -8,7 +8,7 @@ use Rattle.flight_core.specs.declared.event.Event.TheVariants as event
 use Rattle.flight_core.specs.declared.event.Reply.{Reply}
 use Rattle.flight_core.specs.Payloads.{Payload}
 use Rattle.flight_core.specs.Machine.{Log, PutStep, Step, Run}
-use Rattle.flight_core.specs.Laws.{RefusalsLeaveNothing, without}
+use Rattle.flight_core.specs.Laws.{RefusalsLeaveNothing}
 
 pub run_joins : (old : Log) (events : List Event) (replies : List Reply) (mid : Log) (more : List Event) (others : List Reply) (new : Log)
     → Run old events replies mid → Run mid more others new → Run old (events ++ more) (replies ++ others) new

@@ -1,5 +1,5 @@
 -- What payloads say.
-use Rattle.std.proofs.Common.{◌≡◌, ◌==◌, Bool, true, false, not, List, [], ◌∷◌, ◌++◌, length, map, filter, Option, Some, None, Result, Ok, Err, refl, sym, ap, subst, ◌∙◌}
+use Rattle.std.proofs.Common.{◌≡◌, ◌==◌, Bool, true, false, List, [], ◌∷◌, ◌++◌, length, map, filter, Option, Some, None, Result, Ok, refl, sym, subst}
 use Rattle.scan_base.specs.declared.fault.Fault.{Fault}
 use Rattle.scan_base.specs.declared.fault.Fault.TheVariants.{BadBatch}
 use Rattle.scan_base.specs.Reading.{◌>>=◌, wanted}
@@ -8,9 +8,9 @@ use Rattle.arrow_schema.specs.declared.schema.Schema.{Schema}
 use Rattle.flight_proto.specs.FlightData.{DataSaid, data_of}
 use Rattle.flight_proto.specs.Ingest.{IngestSaid, ingest_of}
 use Rattle.ipc_batch.specs.State.{State}
-use Rattle.ipc_batch.specs.Said.{Sent, News, Rows, rows_in, news_of, Follows, Says}
+use Rattle.ipc_batch.specs.Said.{Sent, News, Rows, rows_in, Follows}
 use Rattle.table_versions.specs.Database.{Put}
-use Rattle.flight_core.specs.Payloads.{Payload, carries_message, message_in, messages_of, PayloadsSay}
+use Rattle.flight_core.specs.Payloads.{Payload, carries_message, message_in, PayloadsSay}
 use Rattle.flight_core.specs.Puts.{Told, news_carried, news_in_payload, told_by, put_made, put_said}
 use Rattle.flight_core.specs.Laws.{PutsAreSaid}
 use Rattle.flight_core.proofs.Storing.{both}

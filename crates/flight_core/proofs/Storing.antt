@@ -1,16 +1,14 @@
 -- What is read of payloads may be stored.
-use Rattle.std.proofs.Common.{◌≡◌, ◌<◌, ℕ, ◌==◌, Bool, true, false, List, [], ◌∷◌, ◌++◌, length, All, IsTrue, IfOk, Option, Some, None, Result, Ok, Err, refl, sym, ap, subst, ◌∙◌, append-nil}
+use Rattle.std.proofs.Common.{◌≡◌, ◌<◌, ℕ, List, [], ◌++◌, length, IfOk, Option, Some, None, Result, Ok, Err, refl, sym, ap, ◌∙◌}
 use Rattle.std.specs.Prelude.{slice_index}
 use Rattle.std.proofs.lemmas.Bool.{eq-eqb}
 use Rattle.std.proofs.lemmas.List.Elements.{All-nil, All-push}
 use Rattle.scan_base.specs.declared.fault.Fault.{Fault}
-use Rattle.scan_base.specs.declared.fault.Fault.TheVariants.{UnsupportedArrow}
 use Rattle.scan_base.specs.Reading.{◌>>=◌}
 use Rattle.arrow_schema.specs.declared.header.HeaderKind.{HeaderKind}
 use Rattle.arrow_schema.specs.declared.header.HeaderKind.TheVariants as header
 use Rattle.arrow_schema.specs.declared.schema.Schema.{Schema}
-use Rattle.arrow_schema.specs.Header.{MessageAt, message_of, schema_in, schema_message_of, schema_of, is_built}
-use Rattle.arrow_schema.specs.Schema.{IsSchema}
+use Rattle.arrow_schema.specs.Header.{MessageAt, message_of, schema_in, schema_message_of, schema_of}
 use Rattle.arrow_schema.specs.Batch.{BatchAt}
 use Rattle.arrow_schema.specs.NoNulls.{HasNoNulls, HasNoNullsIfThere}
 use Rattle.arrow_schema.proofs.SaidLaws.{given_is_schema, built_was_read}

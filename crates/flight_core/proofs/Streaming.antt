@@ -1,19 +1,18 @@
 -- Payloads that are written say what they are written for.
-use Rattle.std.proofs.Common.{◌≡◌, ◌≤◌, ◌<◌, ◌^◌, ℕ, ◌==◌, Bool, true, false, not, List, [], ◌∷◌, ◌++◌, length, map, filter, All, IsTrue, Option, Some, None, Result, Ok, Err, refl, sym, ap, subst, ◌∙◌, append-nil, arith}
+use Rattle.std.proofs.Common.{◌≡◌, ◌<◌, ◌^◌, ℕ, ◌==◌, true, false, not, List, [], ◌∷◌, ◌++◌, length, map, filter, All, Some, None, Result, Ok, refl, sym, ap, subst, ◌∙◌, append-nil, arith}
 use Rattle.std.proofs.lemmas.Bool.{ne_eqb}
 use Rattle.std.proofs.lemmas.List.{map-append}
 use Rattle.std.proofs.lemmas.List.Elements.{filter-append, All-nil, All-cons}
 use Rattle.scan_base.specs.declared.fault.Fault.{Fault}
-use Rattle.scan_base.specs.Reading.{◌>>=◌, demand}
+use Rattle.scan_base.specs.Reading.{◌>>=◌}
 use Rattle.scan_base.specs.Lists.{each}
 use Rattle.arrow_schema.specs.declared.header.HeaderKind.TheVariants as header
-use Rattle.arrow_schema.specs.declared.data_type.IntegerType.{IntegerType}
 use Rattle.arrow_schema.specs.declared.data_type.IntegerType.TheVariants.{Int8, Int16, Int32, Int64, UInt8, UInt16, UInt32, UInt64}
 use Rattle.arrow_schema.specs.declared.data_type.DataType.{DataType}
 use Rattle.arrow_schema.specs.declared.data_type.DataType.TheVariants.{Integer, Utf8, Bool as Flags, Decimal128, Dictionary}
 use Rattle.arrow_schema.specs.declared.schema.Field.{Field}
 use Rattle.arrow_schema.specs.declared.schema.Schema.{Schema}
-use Rattle.arrow_schema.specs.Header.{MessageAt, message_of, body_length_of, schema_in, schema_in_all_types, schema_message_of, schema_of_all_types, is_built, is_long}
+use Rattle.arrow_schema.specs.Header.{MessageAt, message_of, schema_in, schema_in_all_types, schema_message_of, schema_of_all_types, is_built, is_long}
 use Rattle.arrow_schema.specs.Schema.{IsSchema}
 use Rattle.arrow_schema.specs.Batch.{BatchAt, rows_of}
 use Rattle.arrow_schema.specs.Written.{schema_part, schema_bytes}
@@ -23,9 +22,8 @@ use Rattle.flight_proto.specs.FlightData.{DataSaid, data_of, data_bytes, data_he
 use Rattle.flight_proto.specs.Laws.{FitsMemory}
 use Rattle.flight_proto.proofs.ReadsBack.{data_back}
 use Rattle.flight_proto.proofs.Heads.{bodies_follow_heads}
-use Rattle.ipc_batch.specs.State.{State}
 use Rattle.ipc_batch.specs.Parts.{body_claimed}
-use Rattle.ipc_batch.specs.Said.{Sent, News, Rows, rows_in, schema_sent, news_of, news_in, Follows, Says}
+use Rattle.ipc_batch.specs.Said.{Sent, News, Rows, schema_sent, news_of, Follows}
 use Rattle.ipc_batch.specs.Written.{AreLongs, SaysBatch, SaysParts, WrittenParts}
 use Rattle.ipc_batch.proofs.Messages.{joined}
 use Rattle.flight_core.specs.Payloads.{Payload, carries_message, message_in, messages_of, PayloadsSay, Carries, SaysSchema, SaysBatchBehind, GoOn}

@@ -1,12 +1,12 @@
 -- What holds of all runs, and of the payloads of a put.
-use Rattle.std.specs.Prelude.{◌≡◌, ℕ, ◌+◌, List, [], ◌++◌, take, drop, Option, Some, Ok, slice_get}
+use Rattle.std.specs.Prelude.{◌≡◌, ℕ, ◌+◌, List, [], ◌++◌, take, drop, Some, Ok, slice_get}
 use Rattle.scan_base.specs.declared.fault.Fault.{Fault}
 use Rattle.table_versions.specs.Database.{Put}
 use Rattle.flight_core.specs.declared.event.Event.{Event}
 use Rattle.flight_core.specs.declared.event.Reply.{Reply}
 use Rattle.flight_core.specs.Payloads.{Payload, PayloadsSay}
 use Rattle.flight_core.specs.Puts.{put_said}
-use Rattle.flight_core.specs.Machine.{Log, Step, Run}
+use Rattle.flight_core.specs.Machine.{Log, Run}
 
 -- the list without the item at a place
 abbrev pub without : {X : Type 0} → ℕ → List X → List X

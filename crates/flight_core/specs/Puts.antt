@@ -1,6 +1,6 @@
 -- The put that payloads say, or the first fault: payload by payload, and of the first one its command before
 -- its message.
-use Rattle.std.specs.Prelude.{ℕ, ◌==◌, List, [], ◌∷◌, ◌++◌, length, Option, None, Result, Ok, Err, if◌then◌else◌}
+use Rattle.std.specs.Prelude.{◌==◌, List, [], ◌∷◌, ◌++◌, length, None, Result, Ok, Err, if◌then◌else◌}
 use Rattle.scan_base.specs.declared.fault.Fault.{Fault}
 use Rattle.scan_base.specs.declared.fault.Fault.TheVariants.{UnknownCommand, BadBatch}
 use Rattle.scan_base.specs.Reading.{◌>>=◌, wanted}

@@ -1,4 +1,3 @@
-use Rattle.std.proofs.Common.{rules}
 use Rattle.endpoint_split.specs.Seen.{handle_seen}
 use Rattle.table_versions.specs.Stored.{table_of, tables_of}
 use Rattle.flight_core.specs.Fetches.{part_of}

@@ -1,4 +1,4 @@
-use Rattle.std.proofs.Common.{◌≡◌, ◌++◌, ◌∷◌, [], Ok, rules, refl}
+use Rattle.std.proofs.Common.{rules}
 use Rattle.table_versions.specs.Stored.{put_of}
 use Rattle.flight_core.proofs.Replies.{accepted_reply}
 use Rattle.flight_core.proofs.machine.step_put.Goals as goal

@@ -1,4 +1,3 @@
-use Rattle.std.proofs.Common.{codes}
 use Rattle.flight_core.proofs.Beginnings.{stripped}
 use Rattle.flight_core.specs.Narrow.{selects_all_from}
 use Rattle.flight_core.proofs.named_table.behind_from.Goals as goal

@@ -1,4 +1,4 @@
-use Rattle.std.proofs.Common.{◌≡◌, ◌++◌, rules, arith, length}
+use Rattle.std.proofs.Common.{◌≡◌, ◌++◌, rules, length}
 use Rattle.flight_proto.specs.FlightData.{data_head}
 use Rattle.ipc_batch.specs.Written.{body_of, buffers_written}
 use Rattle.flight_core.proofs.Streaming.{batch_said}

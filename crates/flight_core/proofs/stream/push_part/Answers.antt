@@ -1,4 +1,4 @@
-use Rattle.std.proofs.Common.{◌≡◌, ◌≤◌, ◌<◌, ◌-◌, length, take, drop, min, subst, arith, rules, refl, sym, ap, ◌∙◌}
+use Rattle.std.proofs.Common.{◌≡◌, ◌-◌, length, take, drop, min, subst, arith, rules, refl, ◌∙◌}
 use Rattle.arrow_schema.specs.Batch.{rows_of, cut_batch}
 use Rattle.arrow_schema.proofs.Slices.{batches_keep}
 use Rattle.ipc_batch.specs.Said.{Rows}

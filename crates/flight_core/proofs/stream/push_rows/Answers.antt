@@ -1,6 +1,4 @@
-use Rattle.std.proofs.Common.{◌≡◌, ◌+◌, arith, rules, sym, subst, length}
-use Rattle.flight_core.specs.Payloads.{GoOn}
-use Rattle.arrow_schema.specs.Batch.{rows_of, cut_batch}
+use Rattle.std.proofs.Common.{◌≡◌, ◌+◌, arith, length}
 use Rattle.flight_core.proofs.Parts.{slice_more, slice_none}
 use Rattle.flight_core.proofs.Streaming.{go_nowhere}
 use Rattle.flight_core.proofs.stream.push_rows.Goals as goal

@@ -1,4 +1,3 @@
-use Rattle.std.proofs.Common.{◌≡◌}
 use Rattle.arrow_schema.proofs.NoNulls.{slices_full}
 use Rattle.flight_core.proofs.stream.slice_payload.Goals as goal
 

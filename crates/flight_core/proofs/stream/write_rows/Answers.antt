@@ -1,10 +1,7 @@
-use Rattle.std.proofs.Common.{◌≡◌, ◌+◌, ◌≤◌, [], ◌∷◌, length, refl, sym, subst, List, ap, ◌∙◌, arith, rules}
-use Rattle.arrow_schema.specs.Batch.{BatchAt}
-use Rattle.ipc_batch.specs.Said.{Rows}
+use Rattle.std.proofs.Common.{◌≡◌, ◌+◌, ◌≤◌, [], ◌∷◌, length, refl, ap, arith}
 use Rattle.table_versions.specs.Stored.{table_of}
-use Rattle.table_versions.specs.Standing.{rows_before, StandsAt}
+use Rattle.table_versions.specs.Standing.{StandsAt}
 use Rattle.table_versions.proofs.Standing.{batches_are_rows}
-use Rattle.flight_core.specs.Payloads.{PayloadsSay}
 use Rattle.flight_core.proofs.Parts.{rows_first, one_batch, before_few}
 use Rattle.flight_core.proofs.Streaming.{say_first}
 use Rattle.flight_core.proofs.stream.write_rows.Goals as goal

@@ -1,4 +1,4 @@
-use Rattle.std.proofs.Common.{◌≡◌, List, Ok, length, map, rules, subst, sym, ap, ◌∙◌}
+use Rattle.std.proofs.Common.{◌≡◌, List, Ok, length, map, rules, subst, sym, ap}
 use Rattle.std.specs.Arc.{arc_value}
 use Rattle.table_versions.specs.Database.{Put, after, database_of}
 use Rattle.table_versions.specs.Stored.{put_of, tables_of}
