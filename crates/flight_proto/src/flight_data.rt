@@ -203,10 +203,10 @@ pub fn put_flight_data_head(
     ensures ok { OnOk result (out.new.items ≡ out.old.items ++ data_head data_header.now body_length) }
     ensures err { OnErr result (out.new.items ≡ out.old.items) }
 {
-    let start = out.len();
+    let len = out.len();
     let written = append_flight_data_head(out, data_header, body_length);
     if written.is_err() {
-        out.truncate(start);
+        out.truncate(len);
     }
     written
 }
