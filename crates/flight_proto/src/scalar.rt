@@ -5,18 +5,14 @@ ghost use Rattle.scan_base.specs.Reading.{Gives};
 ghost use Rattle.scan_base.specs.declared.fault.Fault.TheVariants.{BadProto};
 ghost use Rattle.flight_proto.specs.Message.{text_of, enum_of};
 
-use scan_base::Fault;
-use simdutf8::basic::from_utf8;
+use scan_base::{Fault, read_text};
 
 // The bytes of a field as text.
 pub(crate) fn utf8(bytes: &[u8]) -> Result<&str, Fault>
     ensures value { Gives (λ text. text.now) result (text_of bytes.now) }
     ensures fault { IfErr result (λ fault. fault ≡ BadProto) }
 {
-    match from_utf8(bytes) {
-        Ok(text) => Ok(text),
-        Err(_) => Err(Fault::BadProto),
-    }
+    read_text(bytes, Fault::BadProto)
 }
 
 // The number of an enum: the low 32 bits of its varint.

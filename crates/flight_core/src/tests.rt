@@ -1,0 +1,242 @@
+//! The first run: one put and one fetch, and what refuses them.
+
+use crate::{Event, Plain, Reply, run, step};
+use arrow_schema::Batch;
+use bytes::Bytes;
+use flight_proto::FlightData;
+use ipc_batch::Reader;
+use scan_base::{Fault, ValueRef};
+use std::alloc::{AllocError, Global};
+use std::test::Fail;
+
+// The first FlightData of a put that creates table `t`: its command and the header of a schema of one
+// nullable Int64 column `a`. Its descriptor begins at byte 2, and the ingest's options at byte 80.
+static FIRST: [u8; 199] = [
+    0x0a, 0x53, 0x08, 0x02, 0x12, 0x4f, 0x0a, 0x44, 0x74, 0x79, 0x70, 0x65, 0x2e, 0x67, 0x6f, 0x6f,
+    0x67, 0x6c, 0x65, 0x61, 0x70, 0x69, 0x73, 0x2e, 0x63, 0x6f, 0x6d, 0x2f, 0x61, 0x72, 0x72, 0x6f,
+    0x77, 0x2e, 0x66, 0x6c, 0x69, 0x67, 0x68, 0x74, 0x2e, 0x70, 0x72, 0x6f, 0x74, 0x6f, 0x63, 0x6f,
+    0x6c, 0x2e, 0x73, 0x71, 0x6c, 0x2e, 0x43, 0x6f, 0x6d, 0x6d, 0x61, 0x6e, 0x64, 0x53, 0x74, 0x61,
+    0x74, 0x65, 0x6d, 0x65, 0x6e, 0x74, 0x49, 0x6e, 0x67, 0x65, 0x73, 0x74, 0x12, 0x07, 0x0a, 0x02,
+    0x08, 0x01, 0x12, 0x01, 0x74, 0x12, 0x70, 0x10, 0x00, 0x00, 0x00, 0x00, 0x00, 0x0a, 0x00, 0x0c,
+    0x00, 0x08, 0x00, 0x0a, 0x00, 0x04, 0x00, 0x0a, 0x00, 0x00, 0x00, 0x10, 0x00, 0x00, 0x00, 0x04,
+    0x00, 0x01, 0x00, 0x08, 0x00, 0x08, 0x00, 0x00, 0x00, 0x04, 0x00, 0x08, 0x00, 0x00, 0x00, 0x04,
+    0x00, 0x00, 0x00, 0x01, 0x00, 0x00, 0x00, 0x10, 0x00, 0x00, 0x00, 0x0c, 0x00, 0x10, 0x00, 0x04,
+    0x00, 0x0c, 0x00, 0x0d, 0x00, 0x08, 0x00, 0x0c, 0x00, 0x00, 0x00, 0x0c, 0x00, 0x00, 0x00, 0x18,
+    0x00, 0x00, 0x00, 0x01, 0x02, 0x00, 0x00, 0x01, 0x00, 0x00, 0x00, 0x61, 0x00, 0x00, 0x00, 0x08,
+    0x00, 0x0c, 0x00, 0x04, 0x00, 0x08, 0x00, 0x08, 0x00, 0x00, 0x00, 0x40, 0x00, 0x00, 0x00, 0x01,
+    0x00, 0x00, 0x00, 0x00, 0x00, 0x00, 0x00,
+];
+
+// Its second FlightData: the header of a batch of 2 rows, and the body, 1 and 2.
+static SECOND: [u8; 150] = [
+    0x12, 0x80, 0x01, 0x10, 0x00, 0x00, 0x00, 0x0c, 0x00, 0x14, 0x00, 0x10, 0x00, 0x12, 0x00, 0x04,
+    0x00, 0x08, 0x00, 0x0c, 0x00, 0x00, 0x00, 0x1c, 0x00, 0x00, 0x00, 0x10, 0x00, 0x00, 0x00, 0x00,
+    0x00, 0x00, 0x00, 0x04, 0x00, 0x03, 0x00, 0x00, 0x00, 0x0a, 0x00, 0x14, 0x00, 0x08, 0x00, 0x04,
+    0x00, 0x10, 0x00, 0x0a, 0x00, 0x00, 0x00, 0x10, 0x00, 0x00, 0x00, 0x02, 0x00, 0x00, 0x00, 0x00,
+    0x00, 0x00, 0x00, 0x1c, 0x00, 0x00, 0x00, 0x01, 0x00, 0x00, 0x00, 0x02, 0x00, 0x00, 0x00, 0x00,
+    0x00, 0x00, 0x00, 0x00, 0x00, 0x00, 0x00, 0x00, 0x00, 0x00, 0x00, 0x00, 0x00, 0x00, 0x00, 0x02,
+    0x00, 0x00, 0x00, 0x00, 0x00, 0x00, 0x00, 0x00, 0x00, 0x00, 0x00, 0x00, 0x00, 0x00, 0x00, 0x00,
+    0x00, 0x00, 0x00, 0x00, 0x00, 0x00, 0x00, 0x00, 0x00, 0x00, 0x00, 0x10, 0x00, 0x00, 0x00, 0x00,
+    0x00, 0x00, 0x00, 0xc2, 0x3e, 0x10, 0x01, 0x00, 0x00, 0x00, 0x00, 0x00, 0x00, 0x00, 0x02, 0x00,
+    0x00, 0x00, 0x00, 0x00, 0x00, 0x00,
+];
+
+// The ticket of the handle `01`, version 1, rows 0 up to 2, `SELECT * FROM t`. The handle begins at byte
+// 74: its version ends at byte 82, its range at bytes 86 and 90, and its query begins at byte 91.
+static TICKET: [u8; 106] = [
+    0x0a, 0x68, 0x0a, 0x42, 0x74, 0x79, 0x70, 0x65, 0x2e, 0x67, 0x6f, 0x6f, 0x67, 0x6c, 0x65, 0x61,
+    0x70, 0x69, 0x73, 0x2e, 0x63, 0x6f, 0x6d, 0x2f, 0x61, 0x72, 0x72, 0x6f, 0x77, 0x2e, 0x66, 0x6c,
+    0x69, 0x67, 0x68, 0x74, 0x2e, 0x70, 0x72, 0x6f, 0x74, 0x6f, 0x63, 0x6f, 0x6c, 0x2e, 0x73, 0x71,
+    0x6c, 0x2e, 0x54, 0x69, 0x63, 0x6b, 0x65, 0x74, 0x53, 0x74, 0x61, 0x74, 0x65, 0x6d, 0x65, 0x6e,
+    0x74, 0x51, 0x75, 0x65, 0x72, 0x79, 0x12, 0x22, 0x0a, 0x20, 0x01, 0x00, 0x00, 0x00, 0x00, 0x00,
+    0x00, 0x00, 0x01, 0x00, 0x00, 0x00, 0x00, 0x00, 0x00, 0x00, 0x02, 0x53, 0x45, 0x4c, 0x45, 0x43,
+    0x54, 0x20, 0x2a, 0x20, 0x46, 0x52, 0x4f, 0x4d, 0x20, 0x74,
+];
+
+// Bytes with some of them changed.
+fn changed(alloc: Global, bytes: &[u8], changes: &[(usize, u8)]) -> Result<Bytes, Fault> {
+    let mut copy = Vec::new(alloc);
+    copy.extend_from_slice(bytes)?;
+    for (place, byte) in changes {
+        if let Some(slot) = copy.get_mut(*place) {
+            *slot = *byte;
+        }
+    }
+    Ok(Bytes::from_vec(copy)?)
+}
+
+// A put of the batch into `t`, with changes of its first message.
+fn put(alloc: Global, changes: &[(usize, u8)]) -> Result<Event, Fault> {
+    let mut payloads = Vec::new(alloc);
+    payloads.push(changed(alloc, &FIRST, changes)?)?;
+    payloads.push(Bytes::from_static(&SECOND))?;
+    Ok(Event::Put(payloads))
+}
+
+// A fetch, with changes of its ticket.
+fn fetch(alloc: Global, changes: &[(usize, u8)]) -> Result<Event, Fault> {
+    Ok(Event::Fetch(changed(alloc, &TICKET, changes)?))
+}
+
+// The options of an ingest that appends, and does not create.
+const APPENDS: [(usize, u8); 2] = [(80, 0x10), (81, 2)];
+
+// Adds the numbers of a batch's first column.
+fn push_numbers(numbers: &mut Vec<i128>, batch: &Batch) -> Result<(), AllocError> {
+    if let Some(column) = batch.columns().first() {
+        for j in 0..column.len() {
+            if let ValueRef::Int(number) = column.value_at(j) {
+                numbers.push(number)?;
+            }
+        }
+    }
+    Ok(())
+}
+
+// The numbers that the payloads of a reply say.
+fn numbers(alloc: Global, reply: &Reply) -> Result<Vec<i128>, Fault> {
+    let mut reader = Reader::new();
+    let mut numbers = Vec::new(alloc);
+    for payload in &reply.payloads {
+        let data = FlightData::read(payload)?;
+        if data.data_header.is_empty() {
+            continue;
+        }
+        if let Some(batch) = reader.message(alloc, data.data_header, data.data_body)? {
+            push_numbers(&mut numbers, &batch)?;
+        }
+    }
+    Ok(numbers)
+}
+
+// The versions after one put.
+fn after_put(alloc: Global) -> Result<Plain, Fault> {
+    let mut plain = Plain::new(alloc)?;
+    match step(alloc, &mut plain, &put(alloc, &[])?).fault {
+        None => Ok(plain),
+        Some(fault) => Err(fault),
+    }
+}
+
+// How many rows were put, and the rows that are fetched.
+#[test]
+fn first_run(rt: HostRuntime) -> Result<(), Fail> {
+    let alloc = rt.alloc();
+    let mut plain = Plain::new(alloc)?;
+    let answer = step(alloc, &mut plain, &put(alloc, &[])?);
+    assert_eq!(rt; (answer.fault, answer.payloads.len()), (None, 1));
+    for payload in &answer.payloads {
+        assert_eq!(rt; payload.as_slice(), [0x0a, 2, 8, 2].as_slice());
+    }
+    let rows = step(alloc, &mut plain, &fetch(alloc, &[])?);
+    let numbers = numbers(alloc, &rows)?;
+    assert_eq!(rt; (rows.fault, numbers.as_slice()), (None, [1, 2].as_slice()));
+    Ok(())
+}
+
+// A change of the ticket, and the fault. The range 2..2 is empty, and 0..3 and 2..1 are no ranges of 2 rows.
+#[test]
+fn refused_fetches(rt: HostRuntime) -> Result<(), Fail> {
+    let alloc = rt.alloc();
+    let mut plain = after_put(alloc)?;
+    let table: [(&[(usize, u8)], Option<Fault>); 10] = [
+        (&[(0, 0x0b)], Some(Fault::BadProto)),
+        (&[(2, 0x0b)], Some(Fault::BadTicket)),
+        (&[(74, 3)], Some(Fault::BadTicket)),
+        (&[(82, 9)], Some(Fault::VersionUnknown)),
+        (&[(82, 0)], Some(Fault::BadTicket)),
+        (&[(90, 3)], Some(Fault::BadTicket)),
+        (&[(86, 2), (90, 1)], Some(Fault::BadTicket)),
+        (&[(86, 2)], None),
+        (&[(91, b's')], Some(Fault::BadTicket)),
+        (&[(105, b'u')], Some(Fault::BadTicket)),
+    ];
+    for (changes, fault) in table {
+        let reply = step(alloc, &mut plain, &fetch(alloc, changes)?);
+        assert_eq!(rt;
+            (reply.fault, reply.payloads.is_empty()),
+            (fault, fault.is_some())
+        );
+    }
+    Ok(())
+}
+
+// A change of the first message, and the fault: the table is there, or it is absent.
+#[test]
+fn refused_puts(rt: HostRuntime) -> Result<(), Fail> {
+    let alloc = rt.alloc();
+    let mut there = after_put(alloc)?;
+    let mut absent = Plain::new(alloc)?;
+    let table: [(&[(usize, u8)], Fault, Fault); 5] = [
+        (&[], Fault::TableExists, Fault::OutOfMemory),
+        (&[(0, 0x0b)], Fault::BadProto, Fault::BadProto),
+        (
+            &[(80, 0x10), (81, 1)],
+            Fault::TableExists,
+            Fault::TableMissing,
+        ),
+        (&[(81, 3)], Fault::BadProto, Fault::BadProto),
+        (&[(87, 0xff)], Fault::BadFlatbuffer, Fault::BadFlatbuffer),
+    ];
+    for (changes, at_table, at_none) in table {
+        let first = step(alloc, &mut there, &put(alloc, changes)?).fault;
+        assert_eq!(rt; first, Some(at_table));
+        if at_none != Fault::OutOfMemory {
+            let second = step(alloc, &mut absent, &put(alloc, changes)?).fault;
+            assert_eq!(rt; second, Some(at_none));
+        }
+    }
+    Ok(())
+}
+
+// An append before the table is there, a put, an append, a put that is refused, and fetches of both versions.
+#[test]
+fn versions(rt: HostRuntime) -> Result<(), Fail> {
+    let alloc = rt.alloc();
+    let mut events = Vec::new(alloc);
+    events.push(put(alloc, &APPENDS)?)?;
+    events.push(put(alloc, &[])?)?;
+    events.push(put(alloc, &APPENDS)?)?;
+    events.push(put(alloc, &[])?)?;
+    events.push(fetch(alloc, &[(82, 2), (86, 1), (90, 4)])?)?;
+    events.push(fetch(alloc, &[])?)?;
+    events.push(fetch(alloc, &[(82, 3)])?)?;
+    events.push(Event::Put(Vec::new(alloc)))?;
+    let expected: [(Option<Fault>, &[i128]); 8] = [
+        (Some(Fault::TableMissing), &[]),
+        (None, &[]),
+        (None, &[]),
+        (Some(Fault::TableExists), &[]),
+        (None, &[2, 1, 2]),
+        (None, &[1, 2]),
+        (Some(Fault::VersionUnknown), &[]),
+        (Some(Fault::UnknownCommand), &[]),
+    ];
+    let replies = run(alloc, &events)?;
+    assert_eq!(rt; replies.len(), expected.len());
+    for (reply, (fault, rows)) in replies.iter().zip(expected) {
+        let said = numbers(alloc, reply)?;
+        assert_eq!(rt; (reply.fault, said.as_slice()), (fault, rows));
+    }
+    Ok(())
+}
+
+// An empty range says the schema alone.
+#[test]
+fn schema(rt: HostRuntime) -> Result<(), Fail> {
+    let alloc = rt.alloc();
+    let mut plain = after_put(alloc)?;
+    let reply = step(alloc, &mut plain, &fetch(alloc, &[(90, 0)])?);
+    assert_eq!(rt; (reply.fault, reply.payloads.len()), (None, 1));
+    let mut reader = Reader::new();
+    for payload in &reply.payloads {
+        let data = FlightData::read(payload)?;
+        reader.message(alloc, data.data_header, data.data_body)?;
+    }
+    let schema = reader.schema().ok_or(Fault::BadBatch)?;
+    for field in schema.fields.as_slice() {
+        assert_eq!(rt; (field.name.as_str(), field.nullable), ("a", true));
+    }
+    assert_eq!(rt; schema.fields.len(), 1);
+    Ok(())
+}
