@@ -5,3 +5,4 @@ mod Again
 mod Stands
 mod Streams
 mod Splitting
+pub mod Coming
