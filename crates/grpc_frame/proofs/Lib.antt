@@ -4,5 +4,5 @@ mod Found
 mod Again
 mod Stands
 mod Streams
-mod Splitting
+pub mod Splitting
 pub mod Coming

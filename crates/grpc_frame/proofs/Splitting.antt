@@ -216,7 +216,7 @@ each_one all fits =
 
 -- ---- pieces
 
-place_after_all-append : (place mid : Place) (records others : List Record) → place_after_all place records ≡ Some mid → place_after_all place (records ++ others) ≡ place_after_all mid others
+pub place_after_all-append : (place mid : Place) (records others : List Record) → place_after_all place records ≡ Some mid → place_after_all place (records ++ others) ≡ place_after_all mid others
 place_after_all-append place mid [] others e = let here : place ≡ mid = cc in rw here refl
 place_after_all-append place mid (first ∷ records) others e =
     let m = moves_on place first records mid e in
