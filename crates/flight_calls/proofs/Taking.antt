@@ -13,7 +13,7 @@ use Rattle.grpc_frame.specs.declared.place.Place.{Place}
 use Rattle.grpc_frame.specs.declared.place.Place.TheVariants.{BetweenCalls, InsideCall, InAnswer}
 use Rattle.grpc_frame.specs.declared.record.Record.{Record}
 use Rattle.grpc_frame.specs.declared.record.Record.TheVariants.{Open, Message, End, Status}
-use Rattle.grpc_frame.specs.Records.{spelling, IsRecord, place_after, place_after_all, Received, with_more, Leads, Breaks, IsCut, Ending, nothing_more, cut, broken, Ends, Splits}
+use Rattle.grpc_frame.specs.Records.{spelling, IsRecord, place_after, place_after_all, Received, with_more, Leads, Breaks, IsCut, Ending, nothing_more, cut, broken, Ends}
 use Rattle.grpc_frame.specs.Arrivals.{Arrives}
 use Rattle.grpc_frame.proofs.Splitting.{place_after_all-append}
 use Rattle.flight_core.specs.Payloads.{Payload}
@@ -239,13 +239,17 @@ module _ (a b c : Option (List ℕ)) (old mid new : Received) (path : List ℕ) 
 
   pub call_whole : (messages : List Payload) → (more : List ℕ) × Consumes b c more × MessagesArrive (Ok (Some messages)) mid new more
       → (came : List ℕ) × Consumes a c came × Fronts (Open path ∷ (map Message messages ++ End ∷ [])) (with_more old came) new
-  call_whole messages q = (together q.0, both_consumed q.0 q.1, record {
-    whole = (opened q.0).whole ∙ ap (λ (t : List ℕ). flat_map spelling (Open path ∷ []) ++ t) q.2.whole
-        ∙ sym (append_assoc (flat_map spelling (Open path ∷ [])) (flat_map spelling (map Message messages ++ End ∷ [])) new.bytes)
-        ∙ ap (λ (t : List ℕ). t ++ new.bytes) (sym (flat_map-append spelling (Open path ∷ []) (map Message messages ++ End ∷ [])));
-    fits = All-append IsRecord (Open path ∷ []) (map Message messages ++ End ∷ []) (opened q.0).fits q.2.fits;
-    behind = q.2.behind;
-  })
+  call_whole messages q = (
+    together q.0,
+    both_consumed q.0 q.1,
+    record {
+      whole = (opened q.0).whole ∙ ap (λ (t : List ℕ). flat_map spelling (Open path ∷ []) ++ t) q.2.whole
+          ∙ sym (append_assoc (flat_map spelling (Open path ∷ [])) (flat_map spelling (map Message messages ++ End ∷ [])) new.bytes)
+          ∙ ap (λ (t : List ℕ). t ++ new.bytes) (sym (flat_map-append spelling (Open path ∷ []) (map Message messages ++ End ∷ [])));
+      fits = All-append IsRecord (Open path ∷ []) (map Message messages ++ End ∷ []) (opened q.0).fits q.2.fits;
+      behind = q.2.behind;
+    },
+  )
 
   pub call_cut : (more : List ℕ) × Consumes b c more × MessagesArrive (Ok None) mid new more → (came : List ℕ) × Consumes a c came × CallArrives (Ok arrival.CutShort) old new came
   call_cut q = (together q.0, both_consumed q.0 q.1, ((λ none. some (sym none ∙ (opened q.0).whole)), by q.2))

@@ -1,5 +1,5 @@
 -- What a server owes for the bytes that came, and what it did with a connection.
-use Rattle.std.specs.Prelude.{◌≡◌, ◌≢◌, ◌⊎◌, ℕ, ◌+◌, List, [], ◌++◌, All, Option, Some, Result, Ok, Err}
+use Rattle.std.specs.Prelude.{◌≡◌, ◌≢◌, ◌⊎◌, ℕ, ◌+◌, ◌≤◌, List, [], ◌++◌, length, All, Option, Some, Result, Ok, Err}
 use Rattle.std.specs.List.{flat_map}
 use Rattle.std.specs.Io.KnownBytes.{Appends, Consumes, IsAtEnd}
 use Rattle.scan_base.specs.declared.fault.Fault.{Fault}
@@ -23,6 +23,10 @@ calls_bytes calls = flat_map spelling (flat_map call_records calls)
 abbrev pub answers_bytes : List Reply → List ℕ
 answers_bytes replies = flat_map spelling (flat_map answer_records replies)
 
+-- each payload fits a Message
+abbrev pub FitsMessages : Reply → Type 0
+FitsMessages reply = All (λ payload. length payload ≤ 16777216) reply.payloads.items
+
 -- What came is whole calls and then this rest, and the replies answer the calls, one each, from one log to
 -- the other.
 pub record Served (log : Log) (came rest : List ℕ) (replies : List Reply) (new : Log) : Type 0 where
@@ -30,7 +34,7 @@ pub record Served (log : Log) (came rest : List ℕ) (replies : List Reply) (new
   pub whole : came ≡ calls_bytes calls ++ rest
   pub fits : All IsRecord (flat_map call_records calls)
   pub answers : Answers log calls replies new
-  pub sent : All IsRecord (flat_map answer_records replies)
+  pub sent : All FitsMessages replies
 
 -- ---- what follows the whole calls
 

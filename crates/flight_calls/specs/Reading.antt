@@ -1,5 +1,5 @@
 -- What reading one call gives.
-use Rattle.std.specs.Prelude.{◌≡◌, ◌≢◌, ◌⊎◌, ℕ, ◌+◌, List, [], ◌∷◌, ◌++◌, map, All, Option, Some, None, Result, Ok, Err}
+use Rattle.std.specs.Prelude.{◌≡◌, ◌≢◌, ◌⊎◌, ℕ, List, [], ◌∷◌, ◌++◌, map, All, Option, Some, None, Result, Ok, Err}
 use Rattle.std.specs.List.{flat_map}
 use Rattle.scan_base.specs.declared.fault.Fault.{Fault}
 use Rattle.scan_base.specs.declared.fault.Fault.TheVariants.{OutOfMemory, Transport}
@@ -8,7 +8,6 @@ use Rattle.grpc_frame.specs.declared.record.Record.{Record}
 use Rattle.grpc_frame.specs.declared.record.Record.TheVariants.{Message, End}
 use Rattle.grpc_frame.specs.Records.{spelling, IsRecord, Received, with_more, nothing_more, cut, broken}
 use Rattle.flight_core.specs.Payloads.{Payload}
-use Rattle.flight_calls.specs.declared.call.Call.{Call}
 use Rattle.flight_calls.specs.declared.call.Arrival.{Arrival}
 use Rattle.flight_calls.specs.declared.call.Arrival.TheVariants as arrival
 use Rattle.flight_calls.specs.Calls.{call_records}

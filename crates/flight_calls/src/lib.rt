@@ -4,4 +4,8 @@
 //! the bytes that it reads.
 #![tactic(auto)]
 
+mod answer;
 mod call;
+mod server;
+
+pub use crate::server::serve;

@@ -1,5 +1,5 @@
 mod Texts
-mod Growing
+pub mod Growing
 mod Found
 mod Again
 mod Stands

@@ -1,4 +1,4 @@
-use Rattle.std.proofs.Common.{refl, rules, ◌∙◌, sym, ap}
+use Rattle.std.proofs.Common.{rules}
 use Rattle.std.proofs.lemmas.Result.{err_from_is_err_and}
 use Rattle.flight_calls.proofs.Taking.{since, first_stops, first_cut, call_whole, call_cut, call_stops}
 use Rattle.flight_calls.proofs.call.read_call.Goals as goal

@@ -1,4 +1,4 @@
-use Rattle.std.proofs.Common.{refl, rules, ◌∙◌, sym, ap}
+use Rattle.std.proofs.Common.{refl, rules}
 use Rattle.std.proofs.lemmas.Result.{err_from_is_err_and}
 use Rattle.flight_calls.proofs.Taking.{since, collected_none, collected_more, collected_end, collected_cut, collected_stop, collected_lost}
 use Rattle.flight_calls.proofs.call.read_messages.Goals as goal
