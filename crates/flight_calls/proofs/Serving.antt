@@ -6,7 +6,7 @@ use Rattle.std.proofs.KnownBytes.{Consumes-nil, Consumes-trans, Appends-nil, App
 use Rattle.std.proofs.lemmas.Grind.{flat_map-append}
 use Rattle.std.proofs.lemmas.List.Elements.{All-append, All-cons, All-nil}
 use Rattle.scan_base.specs.declared.fault.Fault.{Fault}
-use Rattle.scan_base.specs.declared.fault.Fault.TheVariants.{Transport}
+use Rattle.scan_base.specs.declared.fault.Fault.TheVariants.{OutOfMemory, Transport}
 use Rattle.grpc_frame.specs.declared.place.Place.{Place}
 use Rattle.grpc_frame.specs.declared.place.Place.TheVariants.{BetweenCalls}
 use Rattle.grpc_frame.specs.Records.{spelling, IsRecord, Received, with_more}
@@ -219,3 +219,10 @@ module _ (old mid : Connection) (left : Received) (p : Progress old mid left) wh
       let none = counted.1 fails.other in
       let one = fails.counted in
       rw fails.result_is (inr (status_failed new left' fault q fails.other fails.wrote log (omega arith)))
+
+-- a connection that is refused before anything came
+pub refused_first : (old new : Connection) (fault : Fault) (result : Result (Unit {0}) Fault) (reads writes writes' : ℕ) → old.log ≡ [] → new.log ≡ [] → new.input ≡ old.input → fault ≡ OutOfMemory
+    → RefusesBy fault result old.output new.output writes writes' → old.failures ≡ reads + writes → new.failures ≡ reads + writes' → Serves result old new
+refused_first old new fault result reads writes writes' begins same input memory refuses before after =
+    ended_by old old (behind_calls []) (started old (behind_calls []) refl) new (behind_calls []) fault result reads writes reads writes'
+    ([], rw input (Consumes-nil old.input), inr (inl memory)) ((λ e. let both : OutOfMemory ≡ Transport = sym memory ∙ e in absurd cc), λ _. refl) refuses (same ∙ sym begins) before after

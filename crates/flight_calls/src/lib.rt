@@ -8,4 +8,4 @@ mod answer;
 mod call;
 mod server;
 
-pub use crate::server::serve;
+pub use crate::server::{serve, serve_alone};

@@ -1,6 +1,7 @@
 //! Serving a connection.
 
-ghost use Rattle.std.specs.Prelude.{◌+◌, ◌<◌};
+ghost use Rattle.std.specs.Prelude.{◌+◌, ◌<◌, []};
+ghost use Rattle.flight_core.specs.Machine.{Log};
 ghost use Rattle.flight_calls.specs.Owed.{Serves};
 ghost use Rattle.flight_calls.specs.Ending.{RefusesBy};
 
@@ -57,6 +58,38 @@ pub fn serve<R: Input, W: Output>(
         let Ok(()) = write_answer(writer, &reply) else {
             return Err(Fault::Transport);
         };
+    }
+}
+
+/// Serves a connection on a catalog of its own, which is empty at first.
+///
+/// # Errors
+///
+/// Those of `serve`, and `Fault::OutOfMemory` (F21) where memory for the catalog is refused.
+pub fn serve_alone<R: Input, W: Output>(
+    alloc: Global,
+    reader: &mut R,
+    writer: &mut W,
+) -> Result<(), Fault>
+    requires reads { R.failures reader.old < 18446744073709551615 }
+    requires writes { W.failures writer.old < 18446744073709551615 }
+    ensures { (log : Log) × Serves result
+        (record {
+          input = R.remaining reader.old;
+          output = W.contents writer.old;
+          failures = R.failures reader.old + W.failures writer.old;
+          log = [];
+        })
+        (record {
+          input = R.remaining reader.new;
+          output = W.contents writer.new;
+          failures = R.failures reader.new + W.failures writer.new;
+          log = log;
+        }) }
+{
+    match Plain::new(alloc) {
+        Ok(mut plain) => serve(alloc, reader, writer, &mut plain),
+        Err(fault) => refuse(writer, fault),
     }
 }
 
