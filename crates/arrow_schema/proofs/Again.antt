@@ -350,7 +350,7 @@ fits_schema schema is =
 whole_schema_slots : (schema : Schema) → AreWhole (schema_slots schema)
 whole_schema_slots schema = (whole_tables (map field_part schema.fields) (whole_fields schema.fields), tt)
 
-whole_schema : (schema : Schema) → IsWhole (schema_part schema)
+pub whole_schema : (schema : Schema) → IsWhole (schema_part schema)
 unfolding schema_part
 whole_schema schema = whole_table (schema_slots schema) (whole_schema_slots schema)
 

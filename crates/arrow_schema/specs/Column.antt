@@ -39,6 +39,10 @@ slot_of column j =
 abbrev pub values_of : ColumnAt → List Value
 values_of column = map (slot_of column) (range_with_len 0 column.len)
 
+-- the bytes of its own slots' packed values, which for a null slot say nothing
+abbrev pub value_bytes : ColumnAt → List ℕ
+value_bytes column = take (8 * column.len) (drop (8 * column.first) column.values)
+
 -- the slots `from` up to, not with, `to`
 abbrev pub cut : ColumnAt → ℕ → ℕ → ColumnAt
 cut column from to = record column { first = column.first + from; len = to - from }

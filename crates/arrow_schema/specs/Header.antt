@@ -8,6 +8,7 @@ use Rattle.scan_base.specs.Reading.{◌>>=◌, demand, wanted}
 use Rattle.scan_base.specs.Lists.{each, repeats}
 use Rattle.flatbuf.specs.Layout.{TableAt, VectorAt}
 use Rattle.flatbuf.specs.Place.{root_of, scalar_of, table_of, text_of, vector_of, element_of}
+use Rattle.arrow_schema.specs.Limits.{most_columns, most_name_bytes}
 use Rattle.arrow_schema.specs.declared.header.HeaderKind.{HeaderKind}
 use Rattle.arrow_schema.specs.declared.header.HeaderKind.TheVariants as header
 use Rattle.arrow_schema.specs.declared.data_type.IntegerType.{IntegerType}
@@ -56,9 +57,9 @@ body_length_of message = scalar_of 8 message.table 3 0
 
 -- ---- fields
 
--- a name of 1 to 64 bytes
+-- a name of one byte or more, up to the limit
 abbrev pub is_name : List ℕ → Bool
-is_name name = nat_lt 0 (length name) && nat_le (length name) 64
+is_name name = nat_lt 0 (length name) && nat_le (length name) most_name_bytes
 
 unfoldable pub name_of : TableAt → Result (List ℕ) Fault
 name_of field = do
@@ -175,13 +176,13 @@ same_dictionary one other = shares_dictionary one.data_type other.data_type
 unfoldable pub field_at : VectorAt → ℕ → Result Field Fault
 field_at vector index = element_of vector index >>= λ field. field_in field
 
--- each field of a vector of 1 to 64 Field tables, in order
+-- each field of a vector of one Field table or more, up to the limit, in order
 unfoldable pub fields_of : VectorAt → Result (List Field) Fault
 fields_of vector = do
-  _ ← demand (nat_lt 0 vector.count && nat_le vector.count 64) LimitReached
+  _ ← demand (nat_lt 0 vector.count && nat_le vector.count most_columns) LimitReached
   each (field_at vector) (range_with_len 0 vector.count)
 
--- the schema that a message names, of 1 to 64 little-endian columns of any type
+-- the schema that a message names, of little-endian columns of any type
 unfoldable pub schema_in_all_types : MessageAt → Result Schema Fault
 schema_in_all_types message = do
   header ← header_of message

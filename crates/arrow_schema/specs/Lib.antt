@@ -2,7 +2,9 @@ pub mod Batch
 pub mod Column
 pub mod DataType
 pub mod Header
+pub mod Limits
 pub mod Message
+pub mod NoNulls
 pub mod Says
 pub mod Schema
 pub mod Seen

@@ -3,6 +3,7 @@
 use Rattle.std.specs.Prelude.{◌≡◌, ◌↔◌, ◌≤◌, ℕ, ◌==◌, not, Bool, false, List, length, Option, Some, None, Ok, IsTrue, slice_get}
 use Rattle.scan_base.specs.Lists.{repeats}
 use Rattle.flatbuf.specs.Layout.{TableAt, VectorAt, IsBytes, HasRoot, HasScalar, HasTable, HasVector, HasText, HasElement}
+use Rattle.arrow_schema.specs.Limits.{most_columns, most_name_bytes}
 use Rattle.arrow_schema.specs.declared.data_type.IntegerType.{IntegerType}
 use Rattle.arrow_schema.specs.declared.data_type.IntegerType.TheVariants.{Int32}
 use Rattle.arrow_schema.specs.declared.data_type.DataType.{DataType}
@@ -61,7 +62,7 @@ SaysEncoding values (Some table) data_type =
 pub record SaysField (table : TableAt) (field : Field) : Type 0 where
   pub name : HasText table 0 (Some field.name)
   pub some : 1 ≤ length field.name
-  pub few : length field.name ≤ 64
+  pub few : length field.name ≤ most_name_bytes
   pub nullable : HasFlag table 1 field.nullable
   pub values : DataType
   pub kind : HasScalar 1 table 2 0 (type_number values)
@@ -79,14 +80,14 @@ pub record SaysField (table : TableAt) (field : Field) : Type 0 where
 abbrev pub SaysFieldAt : VectorAt → ℕ → Field → Type 0
 SaysFieldAt vector index field = (table : TableAt) × HasElement vector index table × SaysField table field
 
--- a Schema table: little-endian (0), and 1 to 64 fields, of which no two have one dictionary
+-- a Schema table: little-endian (0), and one field or more, up to the limit, of which no two have one dictionary
 pub record SaysColumns (table : TableAt) (schema : Schema) : Type 0 where
   pub endianness : HasScalar 2 table 0 0 0
   pub vector : VectorAt
   pub listed : HasVector table 1 (Some vector)
   pub count : length schema.fields ≡ vector.count
   pub some : 1 ≤ vector.count
-  pub few : vector.count ≤ 64
+  pub few : vector.count ≤ most_columns
   pub fields : (index : ℕ) (field : Field) → slice_get schema.fields index ≡ Some field → SaysFieldAt vector index field
   pub apart : repeats same_dictionary schema.fields ≡ false
 

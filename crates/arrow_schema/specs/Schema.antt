@@ -1,16 +1,17 @@
 -- What a schema may be.
 use Rattle.std.specs.Prelude.{◌≡◌, ℕ, ◌≤◌, ◌<◌, ◌^◌, false, List, length, All, IsUtf8}
 use Rattle.scan_base.specs.Lists.{repeats}
+use Rattle.arrow_schema.specs.Limits.{most_columns, most_name_bytes}
 use Rattle.arrow_schema.specs.declared.data_type.DataType.{DataType}
 use Rattle.arrow_schema.specs.declared.data_type.DataType.TheVariants.{Dictionary}
 use Rattle.arrow_schema.specs.declared.schema.Field.{Field}
 use Rattle.arrow_schema.specs.declared.schema.Schema.{Schema}
 use Rattle.arrow_schema.specs.Header.{same_dictionary}
 
--- a name has 1 to 64 bytes, which are UTF-8
+-- a name has one byte or more, up to the limit, which are UTF-8
 pub record IsName (name : List ℕ) : Type 0 where
   pub some : 1 ≤ length name
-  pub few : length name ≤ 64
+  pub few : length name ≤ most_name_bytes
   pub utf8 : IsUtf8 name
 
 -- a dictionary's id is a number of 64 bits
@@ -23,9 +24,9 @@ pub record IsField (field : Field) : Type 0 where
   pub named : IsName field.name
   pub typed : IsType field.data_type
 
--- 1 to 64 columns, of which no two have one dictionary
+-- one column or more, up to the limit, of which no two have one dictionary
 pub record IsSchema (schema : Schema) : Type 0 where
   pub some : 1 ≤ length schema.fields
-  pub few : length schema.fields ≤ 64
+  pub few : length schema.fields ≤ most_columns
   pub fields : All IsField schema.fields
   pub apart : repeats same_dictionary schema.fields ≡ false

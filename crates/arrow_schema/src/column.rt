@@ -4,7 +4,7 @@ ghost use Rattle.std.specs.Prelude.{◌≡◌, ◌==◌, ◌≤◌, ◌<◌, ◌
 ghost use Rattle.scan_base.specs.Reading.{Gives};
 ghost use Rattle.scan_base.specs.Value.{value_of};
 ghost use Rattle.arrow_schema.specs.Column.{slot_of, bit_of, is_valid, bits_suffice};
-ghost use Rattle.arrow_schema.specs.Column.{long_at, cut, column_of};
+ghost use Rattle.arrow_schema.specs.Column.{long_at, cut, column_of, value_bytes};
 
 use byteorder::{ByteOrder, LittleEndian};
 use bytes::Bytes;
@@ -80,6 +80,15 @@ impl Column {
             return ValueRef::Null;
         }
         ValueRef::Int(i128::from(long(values, place)))
+    }
+
+    /// The bytes of the slots' values, as they are packed in the buffer: 8 little-endian bytes a
+    /// slot, in order. Those of a null slot say nothing. No value is copied.
+    pub fn value_bytes(&self) -> &[u8]
+        ensures bytes { result.now ≡ value_bytes self.now }
+        ensures length { length result.now ≡ 8 * self.now.len }
+    {
+        &self.values.as_slice()[8 * self.first..8 * (self.first + self.len)]
     }
 
     /// The slots `from` up to, not with, `to`, over the same buffers: no value is copied.

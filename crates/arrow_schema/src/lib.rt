@@ -15,7 +15,7 @@ pub use crate::column::Column;
 pub use crate::data_type::{DataType, DictionaryEncoding, IntegerType};
 pub use crate::header::{HeaderKind, Message, read_message};
 pub use crate::reading::read_schema;
-pub use crate::schema::{Field, Schema};
+pub use crate::schema::{Field, MAX_COLUMNS, MAX_NAME_BYTES, Schema};
 pub use crate::writing::{encapsulate, write_message, write_schema};
 
 #[cfg(test)]

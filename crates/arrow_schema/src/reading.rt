@@ -15,7 +15,7 @@ ghost use Rattle.arrow_schema.specs.Seen.{message_seen};
 
 use crate::data_type::{DataType, DictionaryEncoding, IntegerType};
 use crate::header::{HeaderKind, Message, read_message, table_wanted};
-use crate::schema::{Field, Schema};
+use crate::schema::{Field, MAX_COLUMNS, MAX_NAME_BYTES, Schema};
 use flatbuf::{Table, Vector, Width};
 use scan_base::{Fault, Items, Text};
 use std::alloc::Global;
@@ -36,13 +36,13 @@ fn vector_wanted<'a>(table: &Table<'a>, slot: u16) -> Result<Vector<'a>, Fault>
     table.vector(slot)?.ok_or(Fault::BadFlatbuffer)
 }
 
-// A name of 1 to 64 bytes.
+// A name of one byte or more, up to the limit.
 #[tactic(auto, unfolding(crate::specs::Header::name_of))]
 fn name<'a>(field: &Table<'a>) -> Result<&'a str, Fault>
     ensures { Gives (λ name. name.now) result (name_of field.now) }
 {
     let name = field.text(0)?.ok_or(Fault::LimitReached)?;
-    if name.is_empty() || name.len() > 64 {
+    if name.is_empty() || name.len() > MAX_NAME_BYTES {
         return Err(Fault::LimitReached);
     }
     Ok(name)
@@ -194,12 +194,12 @@ fn field_at(alloc: Global, vector: &Vector<'_>, index: usize) -> Result<Field, F
     field_from(alloc, &vector.table(index)?)
 }
 
-// Each field of a vector of 1 to 64 of them.
+// Each field of a vector of one or more, up to the limit.
 #[tactic(auto, unfolding(crate::specs::Header::fields_of))]
 fn fields(alloc: Global, vector: &Vector<'_>) -> Result<Items<Field>, Fault>
     ensures { GivesUnlessMemory (λ fields. fields) result (fields_of vector.now) }
 {
-    if vector.is_empty() || vector.len() > 64 {
+    if vector.is_empty() || vector.len() > MAX_COLUMNS {
         return Err(Fault::LimitReached);
     }
     each_field(alloc, vector)
@@ -278,8 +278,10 @@ fn is_built(fields: &[Field]) -> bool
 }
 
 impl Message<'_> {
-    /// The schema that the header names, of 1 to 64 columns. The first fault in the order of the
-    /// reads is the answer. The one thing that is kept in memory is each column's name.
+    /// The schema that the header names, of 1 to [`MAX_COLUMNS`] columns, as Arrow's `Schema.fbs`
+    /// says. The header's kind is not looked at: it is the caller who knows that it is a Schema. The
+    /// first fault in the order of the reads is the answer. The one thing that is kept in memory is
+    /// each column's name.
     ///
     /// # Errors
     ///
@@ -287,9 +289,10 @@ impl Message<'_> {
     ///   is not UTF-8, or the header, its fields, a type or a type's kind is absent.
     /// - F7 (`Fault::UnsupportedArrow`) for big-endian data, another type or width, children, a
     ///   dictionary of other values than Utf8 or of another kind, and one dictionary id on two
-    ///   columns.
-    /// - F12 (`Fault::LimitReached`) for no column, more than 64, and a name that is absent, empty
-    ///   or above 64 bytes.
+    ///   columns. Until every type is built, also for a schema other than one Int64 column, once all
+    ///   of it was read.
+    /// - F12 (`Fault::LimitReached`) for no column, more than [`MAX_COLUMNS`], and a name that is
+    ///   absent, empty or above [`MAX_NAME_BYTES`].
     /// - F21 (`Fault::OutOfMemory`) where memory is refused.
     #[tactic(auto, unfolding(crate::specs::Header::schema_in))]
     pub fn schema(&self, alloc: Global) -> Result<Schema, Fault>

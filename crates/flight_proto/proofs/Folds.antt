@@ -1,12 +1,12 @@
 -- A message is read field by field.
-use Rattle.std.proofs.Common.{◌≡◌, ℕ, zero, suc, List, [], ◌∷◌, length, Option, Some, None, Result, Ok, Err, refl, sym, ap, ◌∙◌}
+use Rattle.std.proofs.Common.{◌≡◌, ℕ, zero, suc, List, [], ◌∷◌, length, Result, Ok, Err, refl, sym, ap, ◌∙◌}
 use Rattle.scan_base.specs.declared.fault.Fault.{Fault}
 use Rattle.scan_base.specs.declared.fault.Fault.TheVariants.{BadProto}
 use Rattle.scan_base.specs.Reading.{◌>>=◌}
 use Rattle.proto_wire.specs.declared.field.Field.{Field}
 use Rattle.proto_wire.specs.Standard.{Content, Entry}
 use Rattle.proto_wire.specs.Reading.{field_at, fields_within, fields_of}
-use Rattle.proto_wire.specs.Calls.{content_of, entry_of, ReadsOn}
+use Rattle.proto_wire.specs.Calls.{content_of, entry_of}
 use Rattle.proto_wire.proofs.Then.{same_Err}
 use Rattle.proto_wire.proofs.Faults.{field_fault}
 use Rattle.flight_proto.specs.Message.{with_all, merged}

@@ -1,11 +1,10 @@
 -- Two lists of fields, one behind the other, are one list of fields.
-use Rattle.std.proofs.Common.{◌≡◌, ℕ, ◌+◌, ◌<◌, List, [], ◌∷◌, ◌++◌, length, Result, Ok, Err, refl, sym, ap, ◌∙◌, append_assoc, arith}
-use Rattle.std.proofs.lemmas.List.{length-append}
+use Rattle.std.proofs.Common.{◌≡◌, ℕ, List, [], ◌∷◌, ◌++◌, length, Result, Ok, Err, refl, sym, ap, ◌∙◌, append_assoc, arith}
 use Rattle.scan_base.specs.declared.fault.Fault.{Fault}
 use Rattle.scan_base.specs.Reading.{◌>>=◌}
 use Rattle.proto_wire.specs.Standard.{Content, Entry, IsField, IsFields, StandsInFront}
-use Rattle.proto_wire.specs.Reading.{field_at, fields_of}
-use Rattle.proto_wire.proofs.Then.{same_Ok, then_ok}
+use Rattle.proto_wire.specs.Reading.{fields_of}
+use Rattle.proto_wire.proofs.Then.{then_ok}
 use Rattle.proto_wire.proofs.Fronts.{front_shorter, at_most_one_front}
 use Rattle.proto_wire.proofs.Lists.{list_law}
 use Rattle.flight_proto.specs.Message.{with_all, merged}

@@ -5,3 +5,4 @@ pub mod Names
 pub mod Joins
 pub mod Says
 pub mod ReadsBack
+pub mod Heads

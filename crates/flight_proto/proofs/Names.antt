@@ -1,5 +1,5 @@
 -- The name of a message's type is the last part of its URL.
-use Rattle.std.proofs.Common.{◌≡◌, ◌≢◌, ℕ, zero, suc, ◌+◌, ◌<◌, ◌≤◌, List, [], ◌∷◌, ◌++◌, length, get_or, take, drop, Option, Some, None, MatchOption, Bool, true, false, cond, ◌⊎◌, inl, inr, ◌↔◌, Bor, option_map, refl, sym, ap, ◌∙◌, arith, ne_eqb, take-append-drop}
+use Rattle.std.proofs.Common.{◌≡◌, ℕ, zero, suc, ◌+◌, ◌≤◌, List, [], ◌∷◌, ◌++◌, length, take, drop, Option, Some, None, MatchOption, Bool, true, false, cond, ◌⊎◌, inl, inr, ◌↔◌, Bor, option_map, refl, sym, ap, ◌∙◌, arith, ne_eqb, take-append-drop}
 use Rattle.std.specs.Prelude.{◌==◌}
 use Rattle.std.specs.Option.{option_or}
 use Rattle.std.specs.Str.Pattern.{RFindsChar}

@@ -1,22 +1,20 @@
 -- What is written for each message reads back.
-use Rattle.std.proofs.Common.{◌≡◌, ℕ, ◌+◌, ◌<◌, ◌≤◌, ◌^◌, ◌%◌, ℤ, pos, Bool, true, false, List, [], ◌∷◌, ◌++◌, length, Option, Some, None, Result, Ok, Err, IsUtf8, refl, sym, ap, ◌∙◌, arith, rules}
-use Rattle.std.specs.Prelude.{◌==◌, ◌&&◌, not, codes, FitsSigned, IfSome}
+use Rattle.std.proofs.Common.{◌≡◌, ℕ, ◌+◌, ◌<◌, ◌^◌, ℤ, pos, Bool, true, false, List, [], ◌∷◌, length, Option, Some, None, Ok, refl, sym, ◌∙◌, arith, rules}
+use Rattle.std.specs.Prelude.{FitsSigned, IfSome}
 use Rattle.std.specs.Int.{w64, cast_signed, cast_unsigned}
 use Rattle.std.proofs.Math.Facts.{Fits-of_z}
 use Rattle.std.proofs.lemmas.Int.{to_z-of_z}
 use lib.Utf8.{encode}
 use Rattle.std.proofs.lemmas.Str.{is_utf8-from_IsUtf8}
-use Rattle.scan_base.specs.Reading.{◌>>=◌}
-use Rattle.proto_wire.specs.Standard.{Content, Entry, IsFieldNumber}
 use Rattle.proto_wire.specs.Calls.{varint_entry, chunk_entry}
 use Rattle.flight_proto.specs.Message.{merged, chunk_with, enum_of, bool_of, set_fields, spelled}
-use Rattle.flight_proto.specs.Any.{slash, type_url_of, AnySaid, any_empty, any_with, any_of, any_fields, any_bytes}
+use Rattle.flight_proto.specs.Any.{type_url_of, AnySaid, any_empty, any_with, any_of, any_fields, any_bytes}
 use Rattle.flight_proto.specs.FlightDescriptor.{DescriptorSaid, descriptor_empty, descriptor_with, descriptor_of, descriptor_fields, descriptor_bytes}
 use Rattle.flight_proto.specs.FlightData.{DataSaid, data_empty, data_with, data_of, data_fields, data_bytes, stream_with, stream_descriptor_of}
-use Rattle.flight_proto.specs.PutResult.{update_with, update_of, update_fields, update_bytes, put_result_of, put_result_bytes, rows_put_of, rows_put_bytes}
+use Rattle.flight_proto.specs.PutResult.{update_with, update_of, update_fields, update_bytes, rows_put_of, rows_put_bytes}
 use Rattle.flight_proto.specs.StatementIngest.{OptionsSaid, options_empty, options_with, options_of, options_fields, options_bytes, StatementSaid, statement_empty, statement_with, statement_of, statement_fields, statement_bytes, bool_number}
 use Rattle.flight_proto.specs.Ticket.{ticket_query_name, handle_any, statement_handle_of, statement_ticket_bytes}
-use Rattle.flight_proto.specs.Laws.{LacksSlash, FitsMemory, IsText, IsDescriptor, AreOptions}
+use Rattle.flight_proto.specs.Laws.{FitsMemory, IsText, IsDescriptor, AreOptions}
 use Rattle.flight_proto.proofs.Says.{Says, says_back, says_nothing, says_chunk, says_varint, says_embedded}
 
 -- the low 32 bits of a number that has no more

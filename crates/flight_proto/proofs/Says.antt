@@ -1,18 +1,16 @@
 -- What the fields that are written say.
-use Rattle.std.proofs.Common.{◌≡◌, ℕ, zero, suc, ◌+◌, ◌*◌, ◌<◌, ◌≤◌, ◌^◌, Bool, true, false, not, eqb, List, [], ◌∷◌, ◌++◌, length, Option, Some, None, Result, Ok, Err, refl, sym, ap, ◌∙◌, arith}
+use Rattle.std.proofs.Common.{◌≡◌, ℕ, ◌+◌, ◌*◌, ◌<◌, ◌≤◌, ◌^◌, Bool, true, false, List, [], ◌∷◌, length, Result, Ok, refl, arith}
 use Rattle.std.specs.Prelude.{All, ◌==◌}
 use Rattle.std.proofs.lemmas.List.{length-append}
 use Rattle.std.proofs.lemmas.List.Elements.{All-nil, All-cons}
 use Rattle.std.proofs.lemmas.Bool.{not-false, eqb-true}
 use Rattle.scan_base.specs.declared.fault.Fault.{Fault}
-use Rattle.scan_base.specs.Reading.{◌>>=◌}
-use Rattle.proto_wire.specs.Standard.{Content, Varint, Fixed64, Chunk, Fixed32, Entry, IsFieldNumber, IsVarint, wire_type}
-use Rattle.proto_wire.specs.Reading.{fields_of}
-use Rattle.proto_wire.specs.Writing.{varint, body, spelling, Fits, IsWritable}
+use Rattle.proto_wire.specs.Standard.{Content, Varint, Chunk, Entry, IsFieldNumber, wire_type}
+use Rattle.proto_wire.specs.Writing.{varint, body, spelling, IsWritable}
 use Rattle.proto_wire.specs.Calls.{varint_entry, chunk_entry}
 use Rattle.proto_wire.proofs.Lists.{list_law}
 use Rattle.proto_wire.proofs.Written.{varint_is, spellings_are}
-use Rattle.flight_proto.specs.Message.{with_all, merged, is_set, set_fields, embedded_field, spelled}
+use Rattle.flight_proto.specs.Message.{with_all, merged, is_set, set_fields, spelled}
 
 -- reading the fields upon the message gives this one, they can be written, and in so many bytes
 pub record Says {A : Type 0} (with : A → ℕ → Content → Result A Fault) (message more : A) (entries : List Entry) (size : ℕ) : Type 0 where
@@ -66,7 +64,7 @@ says_set with message next more entry entries len size e same writable short s =
     by false unset = rw (unset, ← same unset) (record { reads = s.reads; writable = s.writable; sized = let rest = s.sized in omega arith })
 
 -- an empty chunk is not set, and no other
-unset_chunk : (bytes : List ℕ) → is_set (Chunk bytes) ≡ false → bytes ≡ []
+pub unset_chunk : (bytes : List ℕ) → is_set (Chunk bytes) ≡ false → bytes ≡ []
 unset_chunk [] e = refl
 unset_chunk (b ∷ bytes) e =
     absurd (let long = eqb-true (length (b ∷ bytes)) 0 (not-false (length (b ∷ bytes) == 0) e) in omega arith)

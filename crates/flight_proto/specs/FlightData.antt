@@ -1,8 +1,9 @@
 -- arrow.flight.protocol.FlightData: one message of a stream. The first one also has the descriptor of
 -- the stream. It is read apart, since a descriptor behind the first message is not read at all.
-use Rattle.std.specs.Prelude.{ℕ, ◌==◌, List, [], ◌∷◌, ◌++◌, Option, None, Result, Ok, Err, option_map, if◌then◌else◌}
+use Rattle.std.specs.Prelude.{ℕ, ◌==◌, List, [], ◌∷◌, ◌++◌, Option, None, Result, Ok, option_map, if◌then◌else◌}
 use Rattle.scan_base.specs.declared.fault.Fault.{Fault}
 use Rattle.proto_wire.specs.Standard.{Content, Chunk, Entry}
+use Rattle.proto_wire.specs.Writing.{chunk_head}
 use Rattle.proto_wire.specs.Calls.{chunk_entry}
 use Rattle.flight_proto.specs.Message.{merged, embedded, set_fields, embedded_field, spelled}
 use Rattle.flight_proto.specs.FlightDescriptor.{DescriptorSaid, descriptor_empty, descriptor_with, descriptor_bytes, descriptor_said}
@@ -54,6 +55,14 @@ data_fields descriptor carried =
 
 abbrev pub data_bytes : Option DescriptorSaid → DataSaid → List ℕ
 data_bytes descriptor carried = spelled (data_fields descriptor carried)
+
+-- what is written before a body of so many bytes: the header's field, and the head of the body's, which is
+-- left out where the body is empty
+abbrev pub body_head : ℕ → List ℕ
+body_head len = if len == 0 then [] else chunk_head 1000 len
+
+abbrev pub data_head : List ℕ → ℕ → List ℕ
+data_head data_header len = spelled (set_fields (chunk_entry 2 data_header ∷ [])) ++ body_head len
 
 -- what the code holds
 abbrev pub data_said : FlightData → DataSaid

@@ -1,5 +1,5 @@
 -- arrow.flight.protocol.FlightDescriptor: what a call or a stream is about.
-use Rattle.std.specs.Prelude.{ℕ, ◌==◌, List, [], ◌∷◌, Result, Ok, Err, if◌then◌else◌}
+use Rattle.std.specs.Prelude.{ℕ, ◌==◌, List, [], ◌∷◌, Result, Ok, if◌then◌else◌}
 use Rattle.scan_base.specs.declared.fault.Fault.{Fault}
 use Rattle.scan_base.specs.Reading.{◌>>=◌}
 use Rattle.proto_wire.specs.Standard.{Content, Varint, Chunk, Entry}

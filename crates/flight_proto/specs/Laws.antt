@@ -1,12 +1,12 @@
 -- What holds of all messages.
-use Rattle.std.specs.Prelude.{◌≡◌, ◌≢◌, ◌↔◌, ◌<◌, ◌^◌, ◌++◌, ◌∷◌, ℕ, ℤ, List, length, slice_index, Option, Some, Result, Ok, IsUtf8, FitsSigned, IfSome}
+use Rattle.std.specs.Prelude.{◌≡◌, ◌≢◌, ◌↔◌, ◌<◌, ◌^◌, ◌++◌, ◌∷◌, ℕ, ℤ, List, length, slice_index, Option, None, Some, Result, Ok, IsUtf8, FitsSigned, IfSome}
 use Rattle.std.specs.Int.{w64}
 use Rattle.scan_base.specs.declared.fault.Fault.{Fault}
 use Rattle.proto_wire.specs.Standard.{Content}
 use Rattle.flight_proto.specs.Message.{merged}
 use Rattle.flight_proto.specs.Any.{AnySaid, slash, message_name, any_of, any_bytes}
 use Rattle.flight_proto.specs.FlightDescriptor.{DescriptorSaid, descriptor_of, descriptor_bytes}
-use Rattle.flight_proto.specs.FlightData.{DataSaid, data_of, stream_descriptor_of, data_bytes}
+use Rattle.flight_proto.specs.FlightData.{DataSaid, data_of, stream_descriptor_of, data_bytes, data_head}
 use Rattle.flight_proto.specs.PutResult.{put_result_of, put_result_bytes, update_of, update_bytes, rows_put_of, rows_put_bytes}
 use Rattle.flight_proto.specs.Ticket.{ticket_of, ticket_bytes, ticket_query_of, ticket_query_bytes, statement_handle_of, statement_ticket_bytes}
 use Rattle.flight_proto.specs.StatementIngest.{OptionsSaid, options_of, options_bytes, StatementSaid, statement_of, statement_bytes}
@@ -61,6 +61,12 @@ DataReadsBack =
     → IfSome descriptor IsDescriptor → FitsMemory carried.data_header → FitsMemory carried.data_body
     → (stream_descriptor_of (data_bytes descriptor carried) ≡ Ok descriptor)
     × (data_of (data_bytes descriptor carried) ≡ Ok carried)
+
+-- a message without a descriptor is its head, and then its body
+abbrev pub BodiesFollowHeads : Type 0
+BodiesFollowHeads =
+    (carried : DataSaid)
+    → data_bytes None carried ≡ data_head carried.data_header (length carried.data_body) ++ carried.data_body
 
 abbrev pub PutResultReadsBack : Type 0
 PutResultReadsBack =

@@ -1,5 +1,5 @@
 -- arrow.flight.protocol.sql.CommandStatementIngest: put the rows of a stream into a table.
-use Rattle.std.specs.Prelude.{ℕ, ◌==◌, Bool, true, false, List, [], ◌∷◌, ◌++◌, Option, None, Result, Ok, Err, option_map, if◌then◌else◌}
+use Rattle.std.specs.Prelude.{ℕ, ◌==◌, Bool, true, false, List, [], ◌∷◌, ◌++◌, Option, None, Result, Ok, option_map, if◌then◌else◌}
 use Rattle.scan_base.specs.declared.fault.Fault.{Fault}
 use Rattle.scan_base.specs.Reading.{◌>>=◌}
 use Rattle.proto_wire.specs.Standard.{Content, Varint, Chunk, Entry}

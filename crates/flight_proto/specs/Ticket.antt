@@ -1,6 +1,6 @@
 -- What a fetch begins with: arrow.flight.protocol.Ticket, which holds an Any of
 -- arrow.flight.protocol.sql.TicketStatementQuery, which holds the handle of a statement.
-use Rattle.std.specs.Prelude.{List, [], ◌∷◌, ◌++◌, ℕ, Result, Ok, Err, codes, bytes_eq}
+use Rattle.std.specs.Prelude.{List, [], ◌∷◌, ℕ, Result, Ok, Err, codes, bytes_eq}
 use Rattle.scan_base.specs.declared.fault.Fault.{Fault}
 use Rattle.scan_base.specs.declared.fault.Fault.TheVariants.{BadTicket}
 use Rattle.scan_base.specs.Reading.{◌>>=◌, demand, wanted}

@@ -5,14 +5,14 @@ ghost use Rattle.scan_base.specs.Reading.{GivesUnlessMemory};
 ghost use Rattle.proto_wire.specs.Calls.{content_of};
 ghost use Rattle.flight_proto.specs.Message.{embedded_field, spelled};
 ghost use Rattle.flight_proto.specs.FlightDescriptor.{descriptor_said, descriptor_bytes};
-ghost use Rattle.flight_proto.specs.FlightData.{data_with, data_of, data_said, data_bytes};
+ghost use Rattle.flight_proto.specs.FlightData.{data_with, data_of, data_said, data_bytes, data_head};
 ghost use Rattle.flight_proto.specs.Cut.{EndsBefore, IfChunkEndsBefore};
 
 use crate::flight_descriptor::FlightDescriptor;
 use crate::message::Message;
 use crate::written::put_set_fields;
 use bytes::Bytes;
-use proto_wire::{Field, Fields, Payload, put_bytes};
+use proto_wire::{Field, Fields, Payload, put_bytes, put_bytes_head};
 use scan_base::Fault;
 use std::alloc::AllocError;
 
@@ -167,6 +167,44 @@ pub fn put_flight_data(
 {
     let start = out.len();
     let written = append_flight_data(out, descriptor, data_header, data_body);
+    if written.is_err() {
+        out.truncate(start);
+    }
+    written
+}
+
+// Writes what comes before a body, and may leave a piece where memory runs out.
+fn append_flight_data_head(
+    out: &mut Vec<u8>,
+    data_header: &[u8],
+    body_length: u64,
+) -> Result<(), AllocError>
+    ensures ok { OnOk result (out.new.items ≡ out.old.items ++ data_head data_header.now body_length) }
+    ensures err { take (length out.old.items) out.new.items ≡ out.old.items }
+{
+    put_set_fields(out, &[Field::bytes(2, data_header)])?;
+    if body_length == 0 {
+        return Ok(());
+    }
+    put_bytes_head(out, 1000, body_length)
+}
+
+/// Writes at the end a message of a stream without a descriptor, up to its body. The caller writes a body of
+/// so many bytes behind it, and so copies that once.
+///
+/// # Errors
+///
+/// `AllocError` where memory is refused. Nothing has changed then.
+pub fn put_flight_data_head(
+    out: &mut Vec<u8>,
+    data_header: &[u8],
+    body_length: u64,
+) -> Result<(), AllocError>
+    ensures ok { OnOk result (out.new.items ≡ out.old.items ++ data_head data_header.now body_length) }
+    ensures err { OnErr result (out.new.items ≡ out.old.items) }
+{
+    let start = out.len();
+    let written = append_flight_data_head(out, data_header, body_length);
     if written.is_err() {
         out.truncate(start);
     }

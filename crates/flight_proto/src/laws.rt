@@ -3,6 +3,7 @@
 
 ghost use Rattle.flight_proto.specs.Laws.{MergingJoins, NameIsLastPart};
 ghost use Rattle.flight_proto.specs.Laws.{AnyReadsBack, DescriptorReadsBack, DataReadsBack};
+ghost use Rattle.flight_proto.specs.Laws.{BodiesFollowHeads};
 ghost use Rattle.flight_proto.specs.Laws.{PutResultReadsBack, UpdateReadsBack, RowsPutReadBack};
 ghost use Rattle.flight_proto.specs.Laws.{TicketReadsBack, TicketQueryReadsBack};
 ghost use Rattle.flight_proto.specs.Laws.{StatementTicketReadsBack};
@@ -33,6 +34,11 @@ pub fn descriptor_reads_back()
 /// A FlightData that is written reads back, with its descriptor.
 pub fn data_reads_back()
     ensures { DataReadsBack }
+{}
+
+/// A FlightData without a descriptor is its head, and then its body.
+pub fn bodies_follow_heads()
+    ensures { BodiesFollowHeads }
 {}
 
 /// A PutResult that is written reads back.

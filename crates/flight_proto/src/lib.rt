@@ -21,7 +21,7 @@ mod written;
 
 pub use crate::any::Any;
 pub use crate::command::Command;
-pub use crate::flight_data::{FlightData, StreamDescriptor, put_flight_data};
+pub use crate::flight_data::{FlightData, StreamDescriptor, put_flight_data, put_flight_data_head};
 pub use crate::flight_descriptor::FlightDescriptor;
 pub use crate::ingest::{IfExists, IfNotExist, Ingest, read_ingest};
 pub use crate::message::Message;

@@ -1,10 +1,12 @@
 -- A batch that was written is read again with the same rows.
-use Rattle.std.proofs.Common.{◌≡◌, ℕ, ◌+◌, ◌*◌, ◌%◌, ◌^◌, ◌≤◌, ◌<◌, List, [], ◌∷◌, length, map, Ok, refl, arith, ap, sym, subst, All}
+use Rattle.std.proofs.Common.{◌≡◌, ◌∙◌, ℕ, suc, ◌+◌, ◌*◌, ◌%◌, ◌^◌, ◌≤◌, ◌<◌, List, [], ◌∷◌, length, map, Ok, refl, arith, ap, sym, subst, All}
 use Rattle.std.specs.List.{AllByRecursion, flat_map}
 use Rattle.std.proofs.lemmas.Bool.{eq-eqb}
 use Rattle.std.proofs.lemmas.List.{length-map}
 use Rattle.std.proofs.lemmas.List.Sums.{sum_by-cons}
 use Rattle.std.proofs.lemmas.List.Elements.{All-map, recursion_from_All}
+use Rattle.scan_base.specs.Reading.{◌>>=◌}
+use Rattle.scan_base.specs.Lists.{each}
 use Rattle.flatbuf.specs.Block.{Part, table_part}
 use Rattle.arrow_schema.specs.declared.header.HeaderKind.TheVariants.{RecordBatch}
 use Rattle.arrow_schema.specs.declared.data_type.IntegerType.TheVariants.{Int64}
@@ -12,14 +14,17 @@ use Rattle.arrow_schema.specs.declared.data_type.DataType.TheVariants.{Integer}
 use Rattle.arrow_schema.specs.declared.schema.Field.{Field}
 use Rattle.arrow_schema.specs.declared.schema.Schema.{Schema}
 use Rattle.arrow_schema.specs.Message.{message_bytes}
-use Rattle.arrow_schema.specs.Column.{ColumnAt, values_of}
+use Rattle.arrow_schema.specs.Column.{ColumnAt}
 use Rattle.arrow_schema.specs.Batch.{BatchAt, AreLong}
-use Rattle.ipc_batch.specs.Columns.{buffer_count, buffers_wanted, columns_of}
+use Rattle.ipc_batch.specs.declared.parts.BufferPlace.{BufferPlace}
+use Rattle.ipc_batch.specs.Parts.{buffer_at}
+use Rattle.ipc_batch.specs.Columns.{buffer_count, buffers_wanted, batch_columns}
 use Rattle.ipc_batch.specs.Said.{Sent, news_of, batch_sent}
-use Rattle.ipc_batch.specs.Written.{parts_part, body_of, node_bytes, place_bytes, places_from, node_written, buffers_written, parts_written, FitsNode, FitParts, FitsLong, AreLongs, SaysParts, SaysBatch}
-use Rattle.ipc_batch.specs.Full.{HasNoNulls}
+use Rattle.ipc_batch.specs.Written.{parts_part, body_of, node_bytes, place_bytes, places_from, node_written, buffers_written, parts_written, FitsNode, FitParts, IsPacked, AreLongs, SaysParts, SaysBatch, body_length}
+use Rattle.arrow_schema.specs.NoNulls.{HasNoNulls}
+use Rattle.ipc_batch.proofs.Lengths.{fine, both}
 use Rattle.ipc_batch.proofs.PartsAgain.{length-nodes, length-places, length-places_from, batch_slots, parts_read, message_reads, message_written, parts_said}
-use Rattle.ipc_batch.proofs.ColumnsAgain.{IsWritable, writable, column_read, columns_again, rows_again}
+use Rattle.ipc_batch.proofs.ColumnsAgain.{IsWritable, column_read, columns_again, rows_again}
 
 -- what is known of a batch that is written
 pub record Writes (batch : BatchAt) : Type 0 where
@@ -27,12 +32,12 @@ pub record Writes (batch : BatchAt) : Type 0 where
   pub few : length batch.columns ≤ 64
   pub long : AreLong batch.rows batch.columns
   pub some : HasNoNulls batch
-  pub fit : All (λ (column : ColumnAt). All FitsLong (values_of column)) batch.columns
-  pub small : length (body_of (buffers_written batch.columns)) < 2 ^ 64
+  pub packed : All IsPacked batch.columns
+  pub small : body_length batch < 2 ^ 63
 
 columns_writable : (batch : BatchAt) → Writes batch → AllByRecursion (IsWritable batch.rows) batch.columns
 columns_writable batch w = recursion_from_All (IsWritable batch.rows) batch.columns
-    (λ (k : ℕ) (d : ColumnAt) (low : k < length batch.columns). writable batch.rows _ (w.long k d low) (w.some k d low) (w.fit k d low))
+    (λ (k : ℕ) (d : ColumnAt) (low : k < length batch.columns). record { len = w.long k d low; full = w.some k d low; packed = w.packed k d low })
 
 pub length-buffers : (columns : List ColumnAt) → length (buffers_written columns) ≡ 2 * length columns
 length-buffers [] = refl
@@ -44,13 +49,23 @@ fit_parts batch w =
     let double = length-buffers batch.columns in
     let few = w.few in
     let rows = w.rows in
+    let small = w.small in
     record {
       rows = w.rows;
       nodes = All-map FitsNode node_written batch.columns (λ (k : ℕ) (d : ColumnAt) (low : k < length batch.columns). (let e = w.long k d low in record { long = omega arith; counted = omega arith }));
       few_nodes = omega arith;
       few_buffers = omega arith;
-      small = w.small;
+      small = omega arith;
     }
+
+-- there is a place for each buffer
+length-each : (body : List ℕ) (places : List BufferPlace) (buffers : List (List ℕ)) → each (buffer_at body) places ≡ Ok buffers → length places ≡ length buffers
+length-each body [] buffers e = let same : [] ≡ buffers = cc in ap length same
+length-each body (place ∷ more) buffers e =
+    let a = both (buffer_at body place) (λ (y : List ℕ). (each (buffer_at body) more >>= λ ys. fine (y ∷ ys))) buffers e in
+    let b = both (each (buffer_at body) more) (λ (ys : List (List ℕ)). fine (a.0 ∷ ys)) buffers a.2 in
+    let same : a.0 ∷ b.0 ≡ buffers = let c = b.2 in cc in
+    ap suc (length-each body more b.0 b.1) ∙ ap length same
 
 -- columns of eight bytes have two buffers each
 longs_wanted : (fields : List Field) → AllByRecursion (λ (field : Field). field.data_type ≡ Integer Int64) fields → buffers_wanted fields ≡ 2 * length fields
@@ -62,20 +77,22 @@ longs_wanted (field ∷ fields) longs =
     let two : buffer_count field.data_type ≡ 2 = rw e refl in
     omega arith
 
-columns_found : (schema : Schema) (batch : BatchAt) → Writes batch → AreLongs (length batch.columns) schema → columns_of schema.fields (parts_written batch) ≡ Ok (map column_read batch.columns)
-unfolding columns_of
-columns_found schema batch w are =
+columns_found : (schema : Schema) (batch : BatchAt) (body : List ℕ) (places : List BufferPlace) → Writes batch → AreLongs (length batch.columns) schema →
+    each (buffer_at body) places ≡ Ok (buffers_written batch.columns) → length places ≡ length (buffers_written batch.columns) →
+    batch_columns schema.fields (record { rows = batch.rows; nodes = map node_written batch.columns; places = places }) body ≡ Ok (map column_read batch.columns)
+unfolding batch_columns
+columns_found schema batch body places w are found all =
     let longs = recursion_from_All (λ (field : Field). field.data_type ≡ Integer Int64) schema.fields are.longs in
     let many = are.many in
     let nodes = length-map batch.columns node_written in
     let double = length-buffers batch.columns in
     let wanted = longs_wanted schema.fields longs in
     let as_many : length (map node_written batch.columns) ≡ length schema.fields = omega arith in
-    let enough : length (buffers_written batch.columns) ≡ buffers_wanted schema.fields = omega arith in
+    let enough : length places ≡ buffers_wanted schema.fields = omega arith in
     rw (
       eq-eqb (length (map node_written batch.columns)) (length schema.fields) as_many,
-      eq-eqb (length (buffers_written batch.columns)) (buffers_wanted schema.fields) enough,
-      columns_again schema.fields batch.rows batch.columns longs many (columns_writable batch w),
+      eq-eqb (length places) (buffers_wanted schema.fields) enough,
+      columns_again schema.fields batch.rows body places batch.columns longs many (columns_writable batch w) found,
     ) refl
 
 -- the message of a batch says its rows
@@ -87,9 +104,10 @@ batch_said batch w schema are =
     let bytes = message_bytes RecordBatch (parts_part parts) (length (body_of parts.buffers)) in
     let m = message_reads parts fit in
     let kind = m.kind_again in
-    let said = parts_read parts m.message bytes m.place fit m.stands m.body_length_again in (
+    let same = parts_read parts m.message bytes m.place fit m.stands m.body_length_again in
+    let found = columns_found schema batch (body_of parts.buffers) same.places w are same.buffers (length-each (body_of parts.buffers) same.places parts.buffers same.buffers) in (
       record { columns = map column_read batch.columns; rows = batch.rows },
-      rw (m.found, kind, m.header_again, said, columns_found schema batch w are) refl,
+      rw (m.found, kind, m.header_again, same.said, found) refl,
       rows_again batch.rows batch.columns (columns_writable batch w),
     )
 
@@ -110,51 +128,47 @@ places_small columns few =
     (omega arith, omega arith)
 
 -- the bytes that are made of a batch, step by step
-pub record Made (batch : BatchAt) (columns : List ColumnAt) (rows n : ℕ) (header body nodes places : List ℕ) (block : Part) : Type 0 where
+pub record Made (batch : BatchAt) (columns : List ColumnAt) (rows n : ℕ) (header nodes places : List ℕ) (block : Part) : Type 0 where
   pub same : columns ≡ batch.columns
   pub counted : rows ≡ batch.rows
   pub low : rows < 2 ^ 64
   pub few : length batch.columns ≤ 64
   pub long : AreLong batch.rows columns
   pub some : HasNoNulls batch
-  pub fit : All (λ (column : ColumnAt). All FitsLong (values_of column)) columns
-  pub small : n < 2 ^ 64
-  pub all : n ≡ length body
-  pub body_is : body ≡ body_of (buffers_written columns)
+  pub packed : All IsPacked columns
+  pub small : body_length batch < 2 ^ 63
+  pub all : n ≡ length (body_of (buffers_written columns))
   pub nodes_is : nodes ≡ flat_map node_bytes (map node_written columns)
   pub places_is : places ≡ flat_map place_bytes (places_from 0 (buffers_written columns))
   pub block_is : block ≡ table_part (batch_slots rows nodes places)
   pub header_is : header ≡ message_bytes RecordBatch block n
 
-is_written : (batch : BatchAt) (columns : List ColumnAt) (rows n : ℕ) (header body nodes places : List ℕ) (block : Part) → Made batch columns rows n header body nodes places block →
-    record { header = header; body = body } ≡ message_written (parts_written batch)
+is_written : (batch : BatchAt) (columns : List ColumnAt) (rows n : ℕ) (header nodes places : List ℕ) (block : Part) → Made batch columns rows n header nodes places block →
+    record { header = header; body = body_of (buffers_written batch.columns) } ≡ message_written (parts_written batch)
 unfolding parts_part
-is_written batch columns rows n header body nodes places block m =
-    rw (m.header_is, m.block_is, m.nodes_is, m.places_is, m.all, m.body_is, m.same, m.counted) refl
+is_written batch columns rows n header nodes places block m =
+    rw (m.header_is, m.block_is, m.nodes_is, m.places_is, m.all, m.same, m.counted) refl
 
-writes : (batch : BatchAt) (columns : List ColumnAt) (rows n : ℕ) (header body nodes places : List ℕ) (block : Part) → Made batch columns rows n header body nodes places block → Writes batch
-writes batch columns rows n header body nodes places block m =
+writes : (batch : BatchAt) (columns : List ColumnAt) (rows n : ℕ) (header nodes places : List ℕ) (block : Part) → Made batch columns rows n header nodes places block → Writes batch
+writes batch columns rows n header nodes places block m =
     let a = m.counted in
     let b = m.low in
-    let c = ap length m.body_is in
-    let d = ap (λ (x : List ColumnAt). length (body_of (buffers_written x))) m.same in
-    let e = m.all in
-    let f = m.small in
     record {
       rows = omega arith;
       few = m.few;
       long = subst (λ (x : List ColumnAt). AreLong batch.rows x) m.same m.long;
       some = m.some;
-      fit = subst (λ (x : List ColumnAt). All (λ (column : ColumnAt). All FitsLong (values_of column)) x) m.same m.fit;
-      small = omega arith;
+      packed = subst (All IsPacked) m.same m.packed;
+      small = m.small;
     }
 
 -- what they say
-pub said : (batch : BatchAt) (columns : List ColumnAt) (rows n : ℕ) (header body nodes places : List ℕ) (block : Part) → Made batch columns rows n header body nodes places block →
-    SaysParts (record { header = header; body = body }) (parts_written batch) × SaysBatch (record { header = header; body = body }) batch
-said batch columns rows n header body nodes places block m =
-    let is = sym (is_written batch columns rows n header body nodes places block m) in
-    let w = writes batch columns rows n header body nodes places block m in (
+pub said : (batch : BatchAt) (columns : List ColumnAt) (rows n : ℕ) (header nodes places : List ℕ) (block : Part) → Made batch columns rows n header nodes places block →
+    SaysParts (record { header = header; body = body_of (buffers_written batch.columns) }) (parts_written batch)
+    × SaysBatch (record { header = header; body = body_of (buffers_written batch.columns) }) batch
+said batch columns rows n header nodes places block m =
+    let is = sym (is_written batch columns rows n header nodes places block m) in
+    let w = writes batch columns rows n header nodes places block m in (
       subst (λ (x : Sent). SaysParts x (parts_written batch)) is (parts_said (parts_written batch) (fit_parts batch w)),
       subst (λ (x : Sent). SaysBatch x batch) is (batch_said batch w),
     )

@@ -1,7 +1,6 @@
 pub mod BatchAgain
 pub mod ColumnsAgain
 pub mod Lengths
-pub mod Loops
 pub mod Messages
 pub mod NoNulls
 pub mod PartsAgain

@@ -4,6 +4,7 @@ use Rattle.std.specs.List.{range_with_len}
 use Rattle.std.proofs.lemmas.List.{length-map}
 use Rattle.std.proofs.lemmas.List.Elements.{All-nil, All-map, All-append}
 use Rattle.scan_base.specs.declared.fault.Fault.{Fault}
+use Rattle.scan_base.specs.declared.fault.Fault.TheVariants.{BadBatch}
 use Rattle.scan_base.specs.declared.value.Value.{Value}
 use Rattle.scan_base.specs.Reading.{◌>>=◌}
 use Rattle.flatbuf.specs.Place.{TableAt}
@@ -13,11 +14,11 @@ use Rattle.arrow_schema.specs.declared.schema.Schema.{Schema}
 use Rattle.arrow_schema.specs.Header.{MessageAt, message_of, header_of}
 use Rattle.arrow_schema.specs.Column.{ColumnAt, slot_of}
 use Rattle.arrow_schema.specs.Batch.{BatchAt, row_of, rows_of}
-use Rattle.ipc_batch.specs.Parts.{PartsAt, parts_of}
-use Rattle.ipc_batch.specs.Columns.{columns_of}
+use Rattle.ipc_batch.specs.Parts.{PartsAt, parts_of, dictionary_parts}
+use Rattle.ipc_batch.specs.Columns.{batch_columns}
 use Rattle.ipc_batch.specs.State.{State}
 use Rattle.ipc_batch.specs.Said.{Sent, News, first_schema, next_batch, batch_sent, news_in, news_of, Rows, rows_in, Follows, Tells, Extends, HasColumns, AreWide}
-use Rattle.ipc_batch.specs.Full.{HasNoNulls, HasNoNullsIfThere}
+use Rattle.arrow_schema.specs.NoNulls.{HasNoNulls, HasNoNullsIfThere}
 use Rattle.ipc_batch.specs.Laws.{SayOneThing, JoinRows, RowsFitSchema}
 use Rattle.ipc_batch.proofs.Lengths.{fine, both, columns_many, columns_bare}
 use Rattle.ipc_batch.proofs.NoNulls.{bare_full}
@@ -69,16 +70,21 @@ pub record IsBatchOf (schema : Schema) (batch : BatchAt) : Type 0 where
 batch_wide : (schema : Schema) (message : MessageAt) (body : List ℕ) (batch : BatchAt) → batch_sent schema message body ≡ Ok batch → IsBatchOf schema batch
 unfolding batch_sent
 batch_wide schema message body batch e =
-    let a = both (header_of message) (λ (table : TableAt). (parts_of message table body >>= λ parts. (columns_of schema.fields parts >>= λ columns. Ok (record { columns = columns; rows = parts.rows })))) batch e in
-    let b = both (parts_of message a.0 body) (λ (parts : PartsAt). (columns_of schema.fields parts >>= λ columns. Ok (record { columns = columns; rows = parts.rows }))) batch a.2 in
-    let c = both (columns_of schema.fields b.0) (λ (columns : List ColumnAt). fine (record { columns = columns; rows = b.0.rows })) batch b.2 in
-    let same : record { columns = c.0; rows = b.0.rows } ≡ batch = let d = c.2 in cc in
-    let bare = columns_bare schema.fields b.0 c.0 c.1 in
-    subst (IsBatchOf schema) same (record { many = columns_many schema.fields b.0 c.0 c.1; full = λ (k : ℕ) (d : ColumnAt) (low : k < length c.0). bare_full b.0.rows (get_or c.0 k d) (bare k d low) })
+    let a = both (header_of message) (λ (table : TableAt). (parts_of message table body >>= λ parts. (batch_columns schema.fields parts body >>= λ columns. Ok (record { columns = columns; rows = parts.rows })))) batch e in
+    let b = both (parts_of message a.0 body) (λ (parts : PartsAt). (batch_columns schema.fields parts body >>= λ columns. Ok (record { columns = columns; rows = parts.rows }))) batch a.2 in
+    let c = both (batch_columns schema.fields b.0 body) (λ (columns : List ColumnAt). fine (record { columns = columns; rows = b.0.rows })) batch b.2 in
+    let made : BatchAt = record { columns = c.0; rows = b.0.rows } in
+    let same : made ≡ batch = let d = c.2 in cc in
+    let bare = columns_bare schema.fields b.0 body c.0 c.1 in
+    subst (IsBatchOf schema) {x = made} same (record { many = columns_many schema.fields b.0 body c.0 c.1; full = λ (k : ℕ) (d : ColumnAt) (low : k < length c.0). bare_full b.0.rows (get_or c.0 k d) (bare k d low) })
+
+-- a reading that met a fault
+abbrev stop : Fault → Result BatchAt Fault
+stop fault = Err fault
 
 next_wide : (kind : HeaderKind) (schema : Schema) (message : MessageAt) (body : List ℕ) (batch : BatchAt) → next_batch kind schema message body ≡ Ok batch → IsBatchOf schema batch
 next_wide header.Schema schema message body batch e = cc
-next_wide header.DictionaryBatch schema message body batch e = cc
+next_wide header.DictionaryBatch schema message body batch e = let a = both (dictionary_parts message body) (λ (parts : PartsAt). stop BadBatch) batch e in let b = a.2 in cc
 next_wide header.RecordBatch schema message body batch e = batch_wide schema message body batch e
 
 -- what the news of a message are, once there is a schema, and before

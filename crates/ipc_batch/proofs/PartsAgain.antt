@@ -24,9 +24,9 @@ use Rattle.arrow_schema.specs.Message.{message_bytes, MessageReads}
 use Rattle.arrow_schema.proofs.Messages.{messages_read}
 use Rattle.ipc_batch.specs.declared.parts.FieldNode.{FieldNode}
 use Rattle.ipc_batch.specs.declared.parts.BufferPlace.{BufferPlace}
-use Rattle.ipc_batch.specs.Parts.{PartsAt, word_at, node_at, place_at, nodes_in, places_in, struct_count, structs_wanted, buffer_at, body_claimed, parts_of}
+use Rattle.ipc_batch.specs.Parts.{word_at, node_at, place_at, nodes_in, places_in, struct_count, structs_wanted, buffer_at, body_claimed, parts_of}
 use Rattle.ipc_batch.specs.Said.{Sent}
-use Rattle.ipc_batch.specs.Written.{node_bytes, place_bytes, body_of, places_from, parts_part, FitsNode, FitParts, PartsReadBack, SaysParts}
+use Rattle.ipc_batch.specs.Written.{node_bytes, place_bytes, body_of, places_from, parts_part, WrittenParts, FitsNode, FitParts, PartsReadBack, SaysParts}
 
 -- a number that stands at a place is the one that is read there
 pub stands_word : (n : ℕ) (bytes : List ℕ) (at : ℕ) → n < 2 ^ 64 → Stands (little 8 n) bytes at → word_at bytes at ≡ n
@@ -164,43 +164,43 @@ short_batch rows nodes places few less =
     omega arith
 
 -- the packed nodes and places of parts
-abbrev pub nodes_packed : PartsAt → List ℕ
+abbrev pub nodes_packed : WrittenParts → List ℕ
 nodes_packed parts = flat_map node_bytes parts.nodes
 
-abbrev pub places_packed : PartsAt → List ℕ
+abbrev pub places_packed : WrittenParts → List ℕ
 places_packed parts = flat_map place_bytes (places_from 0 parts.buffers)
 
 -- the slots of parts
-abbrev pub parts_slots : PartsAt → List Given
+abbrev pub parts_slots : WrittenParts → List Given
 parts_slots parts = batch_slots parts.rows (nodes_packed parts) (places_packed parts)
 
-pub length-nodes_packed : (parts : PartsAt) → FitParts parts → (length (nodes_packed parts) ≡ 16 * length parts.nodes) × (length (nodes_packed parts) ≤ 2 ^ 20)
+pub length-nodes_packed : (parts : WrittenParts) → FitParts parts → (length (nodes_packed parts) ≡ 16 * length parts.nodes) × (length (nodes_packed parts) ≤ 2 ^ 20)
 length-nodes_packed parts fit =
     let a = length-nodes parts.nodes in
     let few = fit.few_nodes in
     (a, omega arith)
 
-pub length-places_packed : (parts : PartsAt) → FitParts parts → (length (places_packed parts) ≡ 16 * length parts.buffers) × (length (places_packed parts) ≤ 2 ^ 20)
+pub length-places_packed : (parts : WrittenParts) → FitParts parts → (length (places_packed parts) ≡ 16 * length parts.buffers) × (length (places_packed parts) ≤ 2 ^ 20)
 length-places_packed parts fit =
     let b = length-places (places_from 0 parts.buffers) in
     let c = length-places_from 0 parts.buffers in
     let few = fit.few_buffers in
     (omega arith, omega arith)
 
-whole_parts : (parts : PartsAt) → AreWhole (parts_slots parts)
+whole_parts : (parts : WrittenParts) → AreWhole (parts_slots parts)
 whole_parts parts = (whole_structs 16 (nodes_packed parts), (whole_structs 16 (places_packed parts), tt))
 
-fits_parts : (parts : PartsAt) → FitParts parts → FitsTable (parts_slots parts)
+fits_parts : (parts : WrittenParts) → FitParts parts → FitsTable (parts_slots parts)
 fits_parts parts fit = fits_batch parts.rows (nodes_packed parts) (places_packed parts) (length-nodes_packed parts fit).1 (length-places_packed parts fit).1
 
 -- each slot of the table of parts
-parts_told : (parts : PartsAt) (bytes : List ℕ) (place : ℕ) → FitParts parts → Stands (parts_part parts).bytes bytes place →
+parts_told : (parts : WrittenParts) (bytes : List ℕ) (place : ℕ) → FitParts parts → Stands (parts_part parts).bytes bytes place →
     (slot : ℕ) → SlotReads (table_at bytes place (parts_part parts)) slot (given_at (parts_slots parts) slot)
 unfolding parts_part
 parts_told parts bytes place fit s slot = table_reads (parts_slots parts) bytes place (fits_parts parts fit) (whole_parts parts) s slot
 
 -- the places of the buffers are read again
-pub places_read : (parts : PartsAt) (bytes : List ℕ) (place : ℕ) → FitParts parts → Stands (parts_part parts).bytes bytes place →
+pub places_read : (parts : WrittenParts) (bytes : List ℕ) (place : ℕ) → FitParts parts → Stands (parts_part parts).bytes bytes place →
     (structs_wanted (table_at bytes place (parts_part parts)) 2 ≡ Ok (places_packed parts)) × (places_in (places_packed parts) ≡ places_from 0 parts.buffers)
 places_read parts bytes place fit s =
     let t = table_at bytes place (parts_part parts) in
@@ -217,7 +217,7 @@ places_read parts bytes place fit s =
     (structs_again t 2 packed (omega arith) (omega arith) led, rw (many, places_again places packed 0 (places_fit 0 parts.buffers (omega arith)) self) refl)
 
 -- and so are the nodes
-nodes_read : (parts : PartsAt) (bytes : List ℕ) (place : ℕ) → FitParts parts → Stands (parts_part parts).bytes bytes place →
+nodes_read : (parts : WrittenParts) (bytes : List ℕ) (place : ℕ) → FitParts parts → Stands (parts_part parts).bytes bytes place →
     (structs_wanted (table_at bytes place (parts_part parts)) 1 ≡ Ok (nodes_packed parts)) × (nodes_in (nodes_packed parts) ≡ parts.nodes)
 nodes_read parts bytes place fit s =
     let t = table_at bytes place (parts_part parts) in
@@ -243,39 +243,39 @@ parts_read parts message bytes place fit s claimed =
     let nodes = nodes_read parts bytes place fit s in
     let places = places_read parts bytes place fit s in
     let self : Stands body body 0 = record { before = []; after = []; whole = sym (append-nil body); place = refl } in
-    rw (rows, nodes.0, places.0, absent_table t 3 none, claimed, le-leb (length body) (length body) (omega arith), places.1, buffers_again parts.buffers body 0 self, nodes.1) refl
+    record {
+      places = places_from 0 parts.buffers;
+      said = rw (rows, nodes.0, places.0, absent_table t 3 none, claimed, le-leb (length body) (length body) (omega arith), places.1, nodes.1) refl;
+      buffers = buffers_again parts.buffers body 0 self;
+      aligned = places_aligned 0 parts.buffers refl;
+    }
 
-pub short_parts : (parts : PartsAt) → FitParts parts → length (parts_part parts).bytes < 2 ^ 30
+pub short_parts : (parts : WrittenParts) → FitParts parts → length (parts_part parts).bytes < 2 ^ 30
 unfolding parts_part
 short_parts parts fit = short_batch parts.rows (nodes_packed parts) (places_packed parts) (length-nodes_packed parts fit).1 (length-places_packed parts fit).1
 
-is_whole : (parts : PartsAt) → IsWhole (parts_part parts)
+is_whole : (parts : WrittenParts) → IsWhole (parts_part parts)
 unfolding parts_part
 is_whole parts = whole_table (parts_slots parts) (whole_parts parts)
 
 -- the message of parts
-pub message_reads : (parts : PartsAt) → FitParts parts → MessageReads (message_bytes RecordBatch (parts_part parts) (length (body_of parts.buffers))) RecordBatch (parts_part parts) (length (body_of parts.buffers))
+pub message_reads : (parts : WrittenParts) → FitParts parts → MessageReads (message_bytes RecordBatch (parts_part parts) (length (body_of parts.buffers))) RecordBatch (parts_part parts) (length (body_of parts.buffers))
 message_reads parts fit =
     let small = fit.small in
     messages_read RecordBatch (parts_part parts) (length (body_of parts.buffers)) (is_whole parts) (short_parts parts fit) (omega arith)
 
-abbrev pub message_written : PartsAt → Sent
+abbrev pub message_written : WrittenParts → Sent
 message_written parts = record { header = message_bytes RecordBatch (parts_part parts) (length (body_of parts.buffers)); body = body_of parts.buffers }
 
 -- what the message of parts says
-pub parts_said : (parts : PartsAt) → FitParts parts → SaysParts (message_written parts) parts
+pub parts_said : (parts : WrittenParts) → FitParts parts → SaysParts (message_written parts) parts
 parts_said parts fit =
     let bytes = message_bytes RecordBatch (parts_part parts) (length (body_of parts.buffers)) in
     let m = message_reads parts fit in
-    let places = places_read parts bytes m.place fit m.stands in
-    let same = places.1 in
     record {
       message = m.message;
       table = table_at bytes m.place (parts_part parts);
-      places = places_packed parts;
       found = m.found;
       header = m.header_again;
-      said = parts_read parts m.message bytes m.place fit m.stands m.body_length_again;
-      placed = places.0;
-      aligned = rw same (places_aligned 0 parts.buffers refl);
+      same = parts_read parts m.message bytes m.place fit m.stands m.body_length_again;
     }

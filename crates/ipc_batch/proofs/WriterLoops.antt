@@ -1,29 +1,13 @@
--- Writing values and columns one by one: what a loop keeps.
-use Rattle.std.proofs.Common.{◌≡◌, ℕ, suc, ◌+◌, ◌<◌, List, [], ◌∷◌, ◌++◌, length, map, drop, get_or, refl, arith, ap, sym, subst, ◌∙◌, append_assoc, append-nil, All, drop-cons, add-one}
-use Rattle.std.specs.List.{flat_map, range_with_len}
+-- Writing columns one by one: what a loop keeps.
+use Rattle.std.proofs.Common.{◌≡◌, ℕ, suc, ◌+◌, ◌<◌, ◌≤◌, List, [], ◌∷◌, ◌++◌, length, drop, get_or, refl, arith, ap, sym, ◌∙◌, append_assoc, append-nil, drop-cons, add-one}
+use Rattle.std.specs.List.{flat_map}
 use Rattle.std.proofs.lemmas.Grind.{flat_map-append}
-use Rattle.std.proofs.lemmas.List.{length-append}
-use Rattle.std.proofs.lemmas.List.Elements.{All-push}
-use Rattle.std.proofs.lemmas.List.FromFn.{map-range_with_len_more}
-use Rattle.scan_base.specs.declared.value.Value.{Value}
+use Rattle.std.proofs.lemmas.List.{length-append, drop_all}
 use Rattle.flatbuf.specs.Block.{padded}
-use Rattle.arrow_schema.specs.Column.{ColumnAt}
+use Rattle.arrow_schema.specs.Column.{ColumnAt, value_bytes}
 use Rattle.ipc_batch.specs.declared.parts.BufferPlace.{BufferPlace}
-use Rattle.ipc_batch.specs.Written.{place_bytes, body_of, places_from, value_written, values_written, column_written, buffers_written, FitsLong}
-
--- with one value more
-pub values_more : (slot : ℕ → Value) (j : ℕ) (old new : List ℕ) (value : Value) → old ≡ values_written (map slot (range_with_len 0 j)) →
-    new ≡ old ++ value_written value → value ≡ slot j → new ≡ values_written (map slot (range_with_len 0 (j + 1)))
-values_more slot j old new value before more is =
-    let front = map slot (range_with_len 0 j) in
-    let nil : value_written (slot j) ++ [] ≡ value_written (slot j) = append-nil (value_written (slot j)) in
-    rw (map-range_with_len_more slot 0 j j (omega arith), flat_map-append value_written front (slot j ∷ []), nil, more, before, is) refl
-
-pub fit_more : (slot : ℕ → Value) (j : ℕ) (value : Value) → All FitsLong (map slot (range_with_len 0 j)) → FitsLong value → value ≡ slot j →
-    All FitsLong (map slot (range_with_len 0 (j + 1)))
-fit_more slot j value before fits is =
-    let here : FitsLong (slot j) = subst FitsLong is fits in
-    rw (map-range_with_len_more slot 0 j j (omega arith)) (All-push FitsLong (map slot (range_with_len 0 j)) (slot j) before here)
+use Rattle.ipc_batch.specs.Written.{place_bytes, body_of, places_from, column_written, buffers_written}
+use Rattle.ipc_batch.proofs.Lengths.{length_with_zeros}
 
 -- the columns from one on are that one and those behind it
 pub dropped : (columns : List ColumnAt) (i : ℕ) (column : ColumnAt) → i < length columns → column ≡ get_or columns i column → drop i columns ≡ column ∷ drop (i + 1) columns
@@ -57,3 +41,22 @@ places_more at next old new column more whole e f all =
     ∙ flat_map-append place_bytes here behind in
     ap (λ (x : List ℕ). x ++ flat_map place_bytes behind) e ∙ append_assoc old (flat_map place_bytes here) (flat_map place_bytes behind)
     ∙ ap (λ (x : List ℕ). old ++ x) (sym joined) ∙ all
+
+-- how long the body of columns is, the first one's part and the others'
+pub length_more : (columns more : List ColumnAt) (i : ℕ) (column : ColumnAt) → drop i columns ≡ column ∷ more →
+    length (body_of (buffers_written (drop i columns))) ≡ length (body_of (column_written column)) + length (body_of (buffers_written more))
+length_more columns more i column e =
+    rw (e, flat_map-append padded (column_written column) (buffers_written more)) (length-append (body_of (column_written column)) (body_of (buffers_written more)))
+
+-- behind the last column there is none
+pub length_end : (columns : List ColumnAt) (i : ℕ) → length columns ≤ i → length (body_of (buffers_written (drop i columns))) ≡ 0
+length_end columns i past = rw (drop_all i columns past) refl
+
+-- how long the body of one column is
+pub length_column : (column : ColumnAt) → length (body_of (column_written column)) ≡ length (padded (value_bytes column))
+length_column column =
+    let values = padded (value_bytes column) in
+    let e = length-append (padded []) (values ++ []) in
+    let f = length_with_zeros [] in
+    let g = ap length (append-nil values) in
+    omega arith

@@ -10,12 +10,13 @@ use Rattle.arrow_schema.specs.declared.data_type.DataType.TheVariants.{Integer, 
 use Rattle.arrow_schema.specs.declared.schema.Field.{Field}
 use Rattle.arrow_schema.specs.Column.{ColumnAt, column_of}
 use Rattle.ipc_batch.specs.declared.parts.FieldNode.{FieldNode}
-use Rattle.ipc_batch.specs.Parts.{PartsAt}
+use Rattle.ipc_batch.specs.declared.parts.BufferPlace.{BufferPlace}
+use Rattle.ipc_batch.specs.Parts.{PartsAt, placed_in, buffer_at}
 
--- the column at the front, and the buffers behind it
+-- the column at the front, and where the buffers behind it lie
 pub record FrontAt : Type 0 where
   pub column : ColumnAt
-  pub behind : List (List ℕ)
+  pub behind : List BufferPlace
 
 -- Until nulls are built: a node counts none.
 abbrev pub nulls_are_built : FieldNode → Bool
@@ -27,36 +28,39 @@ buffer_count Utf8 = 3
 buffer_count _ = 2
 
 -- A column of numbers of eight bytes, of validity and values. Where no slot is null, the validity is not
--- read.
-abbrev pub longs_of : ℕ → FieldNode → List (List ℕ) → Result FrontAt Fault
-longs_of rows node (validity ∷ values ∷ behind) = do
+-- read, and yet lies within the body.
+abbrev pub longs_of : ℕ → List ℕ → FieldNode → List BufferPlace → Result FrontAt Fault
+longs_of rows body node (validity ∷ values ∷ behind) = do
   _ ← demand (node.length == rows) BadBatch
   _ ← demand (nulls_are_built node) UnsupportedArrow
-  column ← column_of None values rows
+  _ ← placed_in body validity
+  bytes ← buffer_at body values
+  column ← column_of None bytes rows
   Ok (record { column = column; behind = behind })
-longs_of rows node _ = Err BadBatch
+longs_of rows body node _ = Err BadBatch
 
 -- the column of a type, over the buffers at the front
-unfoldable pub front_of : DataType → ℕ → FieldNode → List (List ℕ) → Result FrontAt Fault
-front_of (Integer Int64) rows node buffers = longs_of rows node buffers
-front_of _ rows node buffers = Err UnsupportedArrow
+unfoldable pub front_of : DataType → ℕ → List ℕ → FieldNode → List BufferPlace → Result FrontAt Fault
+front_of (Integer Int64) rows body node places = longs_of rows body node places
+front_of _ rows body node places = Err UnsupportedArrow
 
--- the columns of fields that have a node each, from the first on
-abbrev pub columns_from : List Field → ℕ → List FieldNode → List (List ℕ) → Result (List ColumnAt) Fault
-columns_from [] rows nodes buffers = Ok []
-columns_from (field ∷ fields) rows [] buffers = Err BadBatch
-columns_from (field ∷ fields) rows (node ∷ nodes) buffers = do
-  front ← front_of field.data_type rows node buffers
-  others ← columns_from fields rows nodes front.behind
+-- the columns of fields that have a node each, from the first on: of each its node, and then its buffers
+abbrev pub columns_from : List Field → ℕ → List ℕ → List FieldNode → List BufferPlace → Result (List ColumnAt) Fault
+columns_from [] rows body nodes places = Ok []
+columns_from (field ∷ fields) rows body [] places = Err BadBatch
+columns_from (field ∷ fields) rows body (node ∷ nodes) places = do
+  front ← front_of field.data_type rows body node places
+  others ← columns_from fields rows body nodes front.behind
   Ok (front.column ∷ others)
 
 -- how many buffers the columns of these fields have
 abbrev pub buffers_wanted : List Field → ℕ
 buffers_wanted fields = sum_by (λ field. buffer_count field.data_type) fields
 
--- the columns of these fields; no node and no buffer is left over
-unfoldable pub columns_of : List Field → PartsAt → Result (List ColumnAt) Fault
-columns_of fields parts = do
+-- The columns of these fields, in this body. The counts come first, so that no node and no buffer is left
+-- over, and none is looked at where they do not agree.
+unfoldable pub batch_columns : List Field → PartsAt → List ℕ → Result (List ColumnAt) Fault
+batch_columns fields parts body = do
   _ ← demand (length parts.nodes == length fields) BadBatch
-  _ ← demand (length parts.buffers == buffers_wanted fields) BadBatch
-  columns_from fields parts.rows parts.nodes parts.buffers
+  _ ← demand (length parts.places == buffers_wanted fields) BadBatch
+  columns_from fields parts.rows body parts.nodes parts.places

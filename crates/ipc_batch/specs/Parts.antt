@@ -1,22 +1,22 @@
--- What a record batch says before any type is looked at: how many rows it has, and the nodes and buffers
--- that its columns are made of. The first thing that is not so gives the fault, in the order of the lines.
+-- What a RecordBatch table says before any type is looked at: how many rows there are, and the nodes and
+-- buffers that the columns are made of. The first thing that is not so gives the fault, in the order of the
+-- lines.
 use Rattle.std.specs.Prelude.{ℕ, ◌+◌, ◌*◌, ◌/◌, nat_le, List, length, map, take, drop, is_none, Result, Ok}
 use Rattle.std.specs.List.{range_with_len}
 use Rattle.byteorder.specs.Endian.{little_from}
 use Rattle.scan_base.specs.declared.fault.Fault.{Fault}
 use Rattle.scan_base.specs.declared.fault.Fault.TheVariants.{BadFlatbuffer, UnsupportedArrow, BadBatch}
 use Rattle.scan_base.specs.Reading.{◌>>=◌, demand, wanted}
-use Rattle.scan_base.specs.Lists.{each}
 use Rattle.flatbuf.specs.Place.{TableAt, scalar_of, table_of, structs_of}
-use Rattle.arrow_schema.specs.Header.{MessageAt, body_length_of}
+use Rattle.arrow_schema.specs.Header.{MessageAt, body_length_of, header_of, table_wanted}
 use Rattle.ipc_batch.specs.declared.parts.FieldNode.{FieldNode}
 use Rattle.ipc_batch.specs.declared.parts.BufferPlace.{BufferPlace}
 
--- the rows, a node for each column, and the bytes of each buffer
+-- the rows, a node for each column, and where each buffer lies in the body
 pub record PartsAt : Type 0 where
   pub rows : ℕ
   pub nodes : List FieldNode
-  pub buffers : List (List ℕ)
+  pub places : List BufferPlace
 
 -- the number in the eight bytes at a place, the lowest first
 unfoldable pub word_at : List ℕ → ℕ → ℕ
@@ -43,10 +43,14 @@ places_in structs = map (place_at structs) (range_with_len 0 (struct_count struc
 unfoldable pub structs_wanted : TableAt → ℕ → Result (List ℕ) Fault
 structs_wanted table slot = structs_of 16 table slot >>= λ found. wanted found BadFlatbuffer
 
--- the bytes of a buffer, which lie within the body
+-- a buffer lies within the body
+abbrev pub placed_in : List ℕ → BufferPlace → Result (Unit {0}) Fault
+placed_in body place = demand (nat_le (place.offset + place.length) (length body)) BadBatch
+
+-- the bytes of a buffer
 unfoldable pub buffer_at : List ℕ → BufferPlace → Result (List ℕ) Fault
 buffer_at body place = do
-  _ ← demand (nat_le (place.offset + place.length) (length body)) BadBatch
+  _ ← placed_in body place
   Ok (take place.length (drop place.offset body))
 
 -- A message claims no longer body than it has. It may claim a shorter one, and that binds nothing else.
@@ -55,7 +59,7 @@ body_claimed message body = do
   claimed ← body_length_of message
   demand (nat_le claimed (length body)) BadBatch
 
--- what a RecordBatch table of a message says of the message's body
+-- what a RecordBatch table of a message with this body says
 unfoldable pub parts_of : MessageAt → TableAt → List ℕ → Result PartsAt Fault
 parts_of message table body = do
   rows ← scalar_of 8 table 0 0
@@ -64,5 +68,14 @@ parts_of message table body = do
   compression ← table_of table 3
   _ ← demand (is_none compression) UnsupportedArrow
   _ ← body_claimed message body
-  buffers ← each (buffer_at body) (places_in places)
-  Ok (record { rows = rows; nodes = nodes_in nodes; buffers = buffers })
+  Ok (record { rows = rows; nodes = nodes_in nodes; places = places_in places })
+
+-- what a DictionaryBatch table of a message with this body says: an id, the values, and whether they stand
+-- behind the old ones
+unfoldable pub dictionary_parts : MessageAt → List ℕ → Result PartsAt Fault
+dictionary_parts message body = do
+  table ← header_of message
+  _ ← scalar_of 8 table 0 0
+  values ← table_wanted table 1
+  _ ← scalar_of 1 table 2 0
+  parts_of message values body

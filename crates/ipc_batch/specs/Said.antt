@@ -9,8 +9,8 @@ use Rattle.arrow_schema.specs.declared.header.HeaderKind.TheVariants as header
 use Rattle.arrow_schema.specs.declared.schema.Schema.{Schema}
 use Rattle.arrow_schema.specs.Header.{MessageAt, message_of, header_of, schema_in}
 use Rattle.arrow_schema.specs.Batch.{BatchAt, rows_of}
-use Rattle.ipc_batch.specs.Parts.{body_claimed, parts_of}
-use Rattle.ipc_batch.specs.Columns.{columns_of}
+use Rattle.ipc_batch.specs.Parts.{body_claimed, parts_of, dictionary_parts}
+use Rattle.ipc_batch.specs.Columns.{batch_columns}
 use Rattle.ipc_batch.specs.State.{State}
 
 -- a message as it comes: its header and its body
@@ -35,7 +35,7 @@ unfoldable pub batch_sent : Schema → MessageAt → List ℕ → Result BatchAt
 batch_sent schema message body = do
   table ← header_of message
   parts ← parts_of message table body
-  columns ← columns_of schema.fields parts
+  columns ← batch_columns schema.fields parts body
   Ok (record { columns = columns; rows = parts.rows })
 
 -- The first message is a schema.
@@ -43,10 +43,12 @@ abbrev pub first_schema : HeaderKind → MessageAt → List ℕ → Result Schem
 first_schema header.Schema message body = schema_sent message body
 first_schema _ message body = Err BadBatch
 
--- No second schema comes. Until dictionaries are built, no field has one, and so no dictionary comes.
+-- No second schema comes. Until dictionaries are built, no field has one: a dictionary is read, and then no
+-- field has its id.
 abbrev pub next_batch : HeaderKind → Schema → MessageAt → List ℕ → Result BatchAt Fault
 next_batch header.RecordBatch schema message body = batch_sent schema message body
-next_batch _ schema message body = Err BadBatch
+next_batch header.DictionaryBatch schema message body = dictionary_parts message body >>= λ _. Err BadBatch
+next_batch header.Schema schema message body = Err BadBatch
 
 -- what a message says to a reader
 abbrev pub news_in : State → MessageAt → List ℕ → Result News Fault

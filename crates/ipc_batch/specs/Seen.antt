@@ -2,12 +2,12 @@
 use Rattle.ipc_batch.specs.declared.parts.Parts.{Parts}
 use Rattle.ipc_batch.specs.declared.columns.Front.{Front}
 use Rattle.ipc_batch.specs.declared.writer.WrittenMessage.{WrittenMessage}
-use Rattle.ipc_batch.specs.Parts.{PartsAt}
+use Rattle.ipc_batch.specs.Parts.{PartsAt, nodes_in, places_in}
 use Rattle.ipc_batch.specs.Columns.{FrontAt}
 use Rattle.ipc_batch.specs.Said.{Sent}
 
 abbrev pub parts_seen : Parts → PartsAt
-parts_seen parts = record { rows = parts.rows; nodes = parts.nodes.items; buffers = parts.buffers.items }
+parts_seen parts = record { rows = parts.rows; nodes = nodes_in parts.nodes.now; places = places_in parts.places.now }
 
 abbrev pub front_seen : Front → FrontAt
 front_seen front = record { column = front.column; behind = front.behind.now }

@@ -1,9 +1,7 @@
 -- How a record batch is written: the body that its buffers make, and the table that says where they lie.
-use Rattle.std.specs.Prelude.{◌≡◌, ℕ, ◌+◌, ◌^◌, ◌%◌, ◌≤◌, ◌<◌, List, [], ◌∷◌, ◌++◌, length, map, All, Some, Ok, FitsSigned}
-use Rattle.std.specs.Int.{w64, cast_unsigned}
+use Rattle.std.specs.Prelude.{◌≡◌, ℕ, ◌+◌, ◌*◌, ◌^◌, ◌%◌, ◌≤◌, ◌<◌, List, [], ◌∷◌, ◌++◌, length, map, All, Some, Ok}
 use Rattle.std.specs.List.{flat_map}
-use Rattle.scan_base.specs.declared.value.Value.{Value}
-use Rattle.scan_base.specs.declared.value.Value.TheVariants.{Int}
+use Rattle.scan_base.specs.Lists.{each}
 use Rattle.flatbuf.specs.Place.{TableAt}
 use Rattle.flatbuf.specs.Layout.{Stands}
 use Rattle.flatbuf.specs.Block.{Part, Number, Offset, little, padded, table_part, structs_part}
@@ -12,14 +10,21 @@ use Rattle.arrow_schema.specs.declared.data_type.IntegerType.TheVariants.{Int64}
 use Rattle.arrow_schema.specs.declared.data_type.DataType.TheVariants.{Integer}
 use Rattle.arrow_schema.specs.declared.schema.Schema.{Schema}
 use Rattle.arrow_schema.specs.Header.{MessageAt, message_of, header_of, body_length_of}
-use Rattle.arrow_schema.specs.Column.{ColumnAt, values_of}
+use Rattle.arrow_schema.specs.Column.{ColumnAt, value_bytes}
 use Rattle.arrow_schema.specs.Batch.{BatchAt, rows_of}
+use Rattle.arrow_schema.specs.Limits.{most_columns}
 use Rattle.ipc_batch.specs.declared.parts.FieldNode.{FieldNode}
 use Rattle.ipc_batch.specs.declared.parts.BufferPlace.{BufferPlace}
-use Rattle.ipc_batch.specs.Parts.{PartsAt, parts_of, structs_wanted, places_in}
+use Rattle.ipc_batch.specs.Parts.{parts_of, buffer_at}
 use Rattle.ipc_batch.specs.Said.{Sent, news_of}
 
 -- ---- parts, of any types
+
+-- the rows, a node for each column, and the bytes of each buffer
+pub record WrittenParts : Type 0 where
+  pub rows : ℕ
+  pub nodes : List FieldNode
+  pub buffers : List (List ℕ)
 
 -- each is a struct of two numbers of eight bytes
 abbrev pub node_bytes : FieldNode → List ℕ
@@ -39,7 +44,7 @@ places_from at (buffer ∷ more) =
     record { offset = at; length = length buffer } ∷ places_from (at + length (padded buffer)) more
 
 -- the RecordBatch table
-unfoldable pub parts_part : PartsAt → Part
+unfoldable pub parts_part : WrittenParts → Part
 parts_part parts = table_part (Number parts.rows
     ∷ Offset (structs_part 16 (flat_map node_bytes parts.nodes))
     ∷ Offset (structs_part 16 (flat_map place_bytes (places_from 0 parts.buffers))) ∷ [])
@@ -49,52 +54,59 @@ pub record FitsNode (node : FieldNode) : Type 0 where
   pub long : node.length < 2 ^ 64
   pub counted : node.null_count < 2 ^ 64
 
--- parts that can be written: of at most 64 columns, of three buffers each
-pub record FitParts (parts : PartsAt) : Type 0 where
+-- the buffers of that many columns, each of at most three
+abbrev pub most_buffers : ℕ
+most_buffers = 3 * most_columns
+
+-- parts that can be written
+pub record FitParts (parts : WrittenParts) : Type 0 where
   pub rows : parts.rows < 2 ^ 64
   pub nodes : All FitsNode parts.nodes
-  pub few_nodes : length parts.nodes ≤ 64
-  pub few_buffers : length parts.buffers ≤ 192
+  pub few_nodes : length parts.nodes ≤ most_columns
+  pub few_buffers : length parts.buffers ≤ most_buffers
   pub small : length (body_of parts.buffers) < 2 ^ 64
+
+-- what a table says of parts in this body: the same rows and nodes, and places where these buffers lie
+pub record SaysSame (message : MessageAt) (table : TableAt) (body : List ℕ) (parts : WrittenParts) : Type 0 where
+  pub places : List BufferPlace
+  pub said : parts_of message table body ≡ Ok (record { rows = parts.rows; nodes = parts.nodes; places = places })
+  pub buffers : each (buffer_at body) places ≡ Ok parts.buffers
+  pub aligned : All (λ place. place.offset % 8 ≡ 0) places
 
 -- Wherever the table stands in a message of that body's length, the parts are read again.
 abbrev pub PartsReadBack : Type 0
-PartsReadBack = (parts : PartsAt) (message : MessageAt) (bytes : List ℕ) (place : ℕ) → FitParts parts →
+PartsReadBack = (parts : WrittenParts) (message : MessageAt) (bytes : List ℕ) (place : ℕ) → FitParts parts →
     Stands (parts_part parts).bytes bytes place → body_length_of message ≡ Ok (length (body_of parts.buffers)) →
-    parts_of message (table_at bytes place (parts_part parts)) (body_of parts.buffers) ≡ Ok parts
+    SaysSame message (table_at bytes place (parts_part parts)) (body_of parts.buffers) parts
 
 -- ---- columns of numbers of eight bytes
 
--- a number in two's complement
-abbrev pub value_written : Value → List ℕ
-value_written (Int z) = little 8 (cast_unsigned w64 z)
-value_written _ = []
-
-abbrev pub values_written : List Value → List ℕ
-values_written values = flat_map value_written values
-
--- a column is written as its own slots alone, with no validity bits, since none of them is null
+-- A column is written as the packed values of its own slots alone, with no validity bits, since none of
+-- them is null.
 abbrev pub node_written : ColumnAt → FieldNode
 node_written column = record { length = column.len; null_count = 0 }
 
 abbrev pub column_written : ColumnAt → List (List ℕ)
-column_written column = [] ∷ values_written (values_of column) ∷ []
+column_written column = [] ∷ value_bytes column ∷ []
 
 abbrev pub buffers_written : List ColumnAt → List (List ℕ)
 buffers_written columns = flat_map column_written columns
 
 -- what is written of a batch
-abbrev pub parts_written : BatchAt → PartsAt
+abbrev pub parts_written : BatchAt → WrittenParts
 parts_written batch = record {
   rows = batch.rows;
   nodes = map node_written batch.columns;
   buffers = buffers_written batch.columns;
 }
 
--- a number of eight bytes
-abbrev pub FitsLong : Value → Type 0
-FitsLong (Int z) = FitsSigned w64 z
-FitsLong _ = Unit {0}
+-- how many bytes the body of a batch has
+abbrev pub body_length : BatchAt → ℕ
+body_length batch = length (body_of (buffers_written batch.columns))
+
+-- a column's values have their eight bytes
+abbrev pub IsPacked : ColumnAt → Type 0
+IsPacked column = length (value_bytes column) ≡ 8 * column.len
 
 -- a schema of so many columns of Int64
 pub record AreLongs (count : ℕ) (schema : Schema) : Type 0 where
@@ -104,15 +116,12 @@ pub record AreLongs (count : ℕ) (schema : Schema) : Type 0 where
 -- ---- messages
 
 -- a message says these parts, each of whose buffers lies at a multiple of 8
-pub record SaysParts (sent : Sent) (parts : PartsAt) : Type 0 where
+pub record SaysParts (sent : Sent) (parts : WrittenParts) : Type 0 where
   pub message : MessageAt
   pub table : TableAt
-  pub places : List ℕ
   pub found : message_of sent.header ≡ Ok message
   pub header : header_of message ≡ Ok table
-  pub said : parts_of message table sent.body ≡ Ok parts
-  pub placed : structs_wanted table 2 ≡ Ok places
-  pub aligned : All (λ place. place.offset % 8 ≡ 0) (places_in places)
+  pub same : SaysSame message table sent.body parts
 
 -- after a schema of as many columns of Int64, a message says a batch with the same rows
 abbrev pub SaysBatch : Sent → BatchAt → Type 0

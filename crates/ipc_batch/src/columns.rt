@@ -1,22 +1,22 @@
 //! The columns of a record batch.
 
-ghost use Rattle.std.specs.Prelude.{◌≡◌, ◌==◌};
-ghost use Rattle.scan_base.specs.Reading.{Gives, GivesUnlessMemory};
+ghost use Rattle.std.specs.Prelude.{◌≡◌, ◌==◌, length};
+ghost use Rattle.scan_base.specs.Reading.{GivesUnlessMemory};
 ghost use Rattle.ipc_batch.specs.Columns.{nulls_are_built, buffer_count, buffers_wanted, longs_of};
-ghost use Rattle.ipc_batch.specs.Columns.{front_of, columns_of, columns_from};
+ghost use Rattle.ipc_batch.specs.Columns.{front_of, columns_from, batch_columns};
 ghost use Rattle.ipc_batch.specs.Seen.{parts_seen, front_seen};
 
-use crate::parts::{FieldNode, Parts};
+use crate::parts::{BufferPlace, FieldNode, Parts, buffer, check_place};
 use arrow_schema::{Column, DataType, Field, IntegerType};
 use bytes::Bytes;
 use scan_base::Fault;
 use std::alloc::Global;
 
-/// The column at the front of the buffers, and the buffers behind it.
+/// The column at the front of the buffers, and where the buffers behind it lie.
 #[derive(Drop)]
 pub(crate) struct Front<'a> {
     pub column: Column,
-    pub behind: &'a [Bytes],
+    pub behind: &'a [BufferPlace],
 }
 
 // Until nulls are built: whether a node counts none.
@@ -52,10 +52,15 @@ fn have_buffers(fields: &[Field], count: usize) -> bool
 }
 
 // A column of numbers of eight bytes, of validity and values.
-fn longs<'a>(rows: u64, node: FieldNode, buffers: &'a [Bytes]) -> Result<Front<'a>, Fault>
-    ensures { GivesUnlessMemory front_seen result (longs_of rows node buffers.now) }
+fn longs<'a>(
+    rows: u64,
+    body: &Bytes,
+    node: FieldNode,
+    places: &'a [BufferPlace],
+) -> Result<Front<'a>, Fault>
+    ensures { GivesUnlessMemory front_seen result (longs_of rows body.now node places.now) }
 {
-    let [_, values, behind @ ..] = buffers else {
+    let [validity, values, behind @ ..] = places else {
         return Err(Fault::BadBatch);
     };
     if node.length != rows {
@@ -64,7 +69,8 @@ fn longs<'a>(rows: u64, node: FieldNode, buffers: &'a [Bytes]) -> Result<Front<'
     if !nulls_are_built(node) {
         return Err(Fault::UnsupportedArrow);
     }
-    let column = Column::new(None, values.clone()?, rows as usize)?;
+    check_place(body, *validity)?;
+    let column = Column::new(None, buffer(body, *values)?, rows as usize)?;
     Ok(Front { column, behind })
 }
 
@@ -73,37 +79,65 @@ fn longs<'a>(rows: u64, node: FieldNode, buffers: &'a [Bytes]) -> Result<Front<'
 fn read_front<'a>(
     data_type: DataType,
     rows: u64,
+    body: &Bytes,
     node: FieldNode,
-    buffers: &'a [Bytes],
+    places: &'a [BufferPlace],
 ) -> Result<Front<'a>, Fault>
-    ensures { GivesUnlessMemory front_seen result (front_of data_type rows node buffers.now) }
+    ensures { GivesUnlessMemory front_seen result (front_of data_type rows body.now node places.now) }
 {
     match data_type {
-        DataType::Integer(IntegerType::Int64) => longs(rows, node, buffers),
+        DataType::Integer(IntegerType::Int64) => longs(rows, body, node, places),
         _ => Err(Fault::UnsupportedArrow),
     }
 }
 
-/// The columns of these fields. F8 where a node or a buffer is missing, left over or too short, and F7
-/// where a column has nulls. No value is copied.
-#[tactic(auto, unfolding(crate::specs::Columns::columns_of))]
+// The columns of fields that have a node each.
+fn read_each(
+    alloc: Global,
+    fields: &[Field],
+    rows: u64,
+    body: &Bytes,
+    nodes: &[FieldNode],
+    places: &[BufferPlace],
+) -> Result<Vec<Column>, Fault>
+    requires { length fields.now ≡ length nodes.now }
+    ensures { GivesUnlessMemory (λ columns. columns.items) result
+        (columns_from fields.now rows body.now nodes.now places.now) }
+{
+    let mut columns = Vec::with_capacity(alloc, fields.len())?;
+    let mut places = places;
+    for (j, field) in fields.iter().enumerate() {
+        let front = read_front(field.data_type, rows, body, nodes[j], places)?;
+        columns.push(front.column)?;
+        places = front.behind;
+    }
+    Ok(columns)
+}
+
+/// The columns of these fields, which are cuts of the body. F8 where a node or a buffer is missing, left
+/// over, outside the body or too short, and F7 where a column has nulls. Where the counts do not agree, no
+/// node and no buffer is looked at. No value is copied.
+#[tactic(auto, unfolding(crate::specs::Columns::batch_columns))]
 pub(crate) fn read_columns(
     alloc: Global,
     fields: &[Field],
-    parts: &Parts,
+    parts: &Parts<'_>,
+    body: &Bytes,
 ) -> Result<Vec<Column>, Fault>
     ensures { GivesUnlessMemory (λ columns. columns.items) result
-        (columns_of fields.now (parts_seen parts.now)) }
+        (batch_columns fields.now (parts_seen parts.now) body.now) }
 {
-    if parts.nodes.len() != fields.len() || !have_buffers(fields, parts.buffers.len()) {
+    if parts.node_count() != fields.len() || !have_buffers(fields, parts.place_count()) {
         return Err(Fault::BadBatch);
     }
-    let mut columns = Vec::with_capacity(alloc, fields.len())?;
-    let mut buffers = parts.buffers.as_slice();
-    for (j, field) in fields.iter().enumerate() {
-        let front = read_front(field.data_type, parts.rows, parts.nodes[j], buffers)?;
-        columns.push(front.column)?;
-        buffers = front.behind;
-    }
-    Ok(columns)
+    let nodes = parts.nodes(alloc)?;
+    let places = parts.places(alloc)?;
+    read_each(
+        alloc,
+        fields,
+        parts.rows,
+        body,
+        nodes.as_slice(),
+        places.as_slice(),
+    )
 }

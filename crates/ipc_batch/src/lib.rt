@@ -7,9 +7,10 @@ pub mod parts;
 pub mod reader;
 pub mod writer;
 
-pub use crate::parts::{BufferPlace, FieldNode};
 pub use crate::reader::Reader;
-pub use crate::writer::{WrittenMessage, write_batch};
+pub use crate::writer::{
+    WrittenMessage, append_body, body_length, write_batch, write_batch_header,
+};
 
 #[cfg(test)]
 mod tests;

@@ -1,12 +1,11 @@
 //! The parts of a record batch, before any type is looked at.
 
-ghost use Rattle.std.specs.Prelude.{◌≡◌, ◌≤◌, ◌<◌, ◌+◌, ◌*◌, length, IfOk};
+ghost use Rattle.std.specs.Prelude.{◌≡◌, ◌≤◌, ◌<◌, ◌+◌, ◌*◌, ◌^◌, length, IfOk, OnOk};
 ghost use Rattle.scan_base.specs.Reading.{Gives, GivesUnlessMemory};
-ghost use Rattle.scan_base.specs.Lists.{each};
 ghost use Rattle.arrow_schema.specs.Seen.{message_seen};
 ghost use Rattle.ipc_batch.specs.Parts.{word_at, node_at, place_at, nodes_in, places_in};
-ghost use Rattle.ipc_batch.specs.Parts.{struct_count};
-ghost use Rattle.ipc_batch.specs.Parts.{structs_wanted, buffer_at, body_claimed, parts_of};
+ghost use Rattle.ipc_batch.specs.Parts.{structs_wanted, placed_in, buffer_at, body_claimed};
+ghost use Rattle.ipc_batch.specs.Parts.{parts_of, dictionary_parts};
 ghost use Rattle.ipc_batch.specs.Seen.{parts_seen};
 
 use arrow_schema::Message;
@@ -16,27 +15,63 @@ use flatbuf::{Table, Width};
 use scan_base::Fault;
 use std::alloc::{AllocError, Global};
 
-/// A node: how many slots a column has, and how many of them are null.
-#[derive(Clone, Copy, Debug, PartialEq, Eq)]
-pub struct FieldNode {
+/// A node: how many slots a column has, and how many of them are null. A negative number reads as 2 to the
+/// 63 or more.
+#[derive(Clone, Copy)]
+pub(crate) struct FieldNode {
     pub length: u64,
     pub null_count: u64,
 }
 
-/// Where a buffer lies in a message's body, in bytes.
-#[derive(Clone, Copy, Debug, PartialEq, Eq)]
-pub struct BufferPlace {
+/// Where a buffer lies in a message's body, in bytes. A negative number reads as 2 to the 63 or more.
+#[derive(Clone, Copy)]
+pub(crate) struct BufferPlace {
     pub offset: u64,
     pub length: u64,
 }
 
-/// The parts of a record batch: how many rows it has, a node for each column, and the buffers, which are
-/// cuts of the body.
+// How many bytes a node and a place have.
+const STRUCT_BYTES: usize = 16;
+
+/// The parts of a record batch: how many rows it has, and where they lie in the header the packed nodes of
+/// its columns and the packed places of their buffers.
 #[derive(Drop)]
-pub(crate) struct Parts {
+pub(crate) struct Parts<'a> {
     pub rows: u64,
-    pub nodes: Vec<FieldNode>,
-    pub buffers: Vec<Bytes>,
+    nodes: &'a [u8],
+    places: &'a [u8],
+}
+
+impl Parts<'_> {
+    /// How many nodes there are. It takes no memory, however many they are.
+    #[tactic(auto, using(crate::proofs::Lengths::nodes_many))]
+    pub fn node_count(&self) -> usize
+        ensures { result ≡ length (parts_seen self.now).nodes }
+    {
+        self.nodes.len() / STRUCT_BYTES
+    }
+
+    /// How many places of buffers there are. It takes no memory, however many they are.
+    #[tactic(auto, using(crate::proofs::Lengths::places_many))]
+    pub fn place_count(&self) -> usize
+        ensures { result ≡ length (parts_seen self.now).places }
+    {
+        self.places.len() / STRUCT_BYTES
+    }
+
+    /// The nodes, in order.
+    pub fn nodes(&self, alloc: Global) -> Result<Vec<FieldNode>, AllocError>
+        ensures { IfOk result (λ nodes. nodes.items ≡ (parts_seen self.now).nodes) }
+    {
+        unpacked_nodes(alloc, self.nodes)
+    }
+
+    /// The places, in order.
+    pub fn places(&self, alloc: Global) -> Result<Vec<BufferPlace>, AllocError>
+        ensures { IfOk result (λ places. places.items ≡ (parts_seen self.now).places) }
+    {
+        unpacked_places(alloc, self.places)
+    }
 }
 
 // The number of eight bytes at a place.
@@ -59,23 +94,15 @@ fn node(structs: &[u8], j: usize) -> FieldNode
 }
 
 // The nodes that lie in packed structs.
-fn nodes(alloc: Global, structs: &[u8]) -> Result<Vec<FieldNode>, AllocError>
+fn unpacked_nodes(alloc: Global, structs: &[u8]) -> Result<Vec<FieldNode>, AllocError>
     ensures { IfOk result (λ nodes. nodes.items ≡ nodes_in structs.now) }
 {
-    let count = structs.len() / 16;
+    let count = structs.len() / STRUCT_BYTES;
     let mut nodes = Vec::with_capacity(alloc, count)?;
     for j in 0..count {
         nodes.push(node(structs, j))?;
     }
     Ok(nodes)
-}
-
-// The structs of a slot, which has to be there.
-#[tactic(auto, unfolding(crate::specs::Parts::structs_wanted))]
-fn structs<'a>(table: &Table<'a>, slot: u16) -> Result<&'a [u8], Fault>
-    ensures { Gives (λ structs. structs.now) result (structs_wanted table.now slot) }
-{
-    table.structs(slot, 16)?.ok_or(Fault::BadFlatbuffer)
 }
 
 // The place that lies in struct j of packed structs.
@@ -89,33 +116,51 @@ fn place(structs: &[u8], j: usize) -> BufferPlace
     }
 }
 
-// The bytes of a buffer, cut from the body: they are shared, not copied.
-#[tactic(auto, unfolding(crate::specs::Parts::buffer_at))]
-fn buffer(body: &Bytes, place: BufferPlace) -> Result<Bytes, Fault>
-    ensures { GivesUnlessMemory (λ buffer. buffer) result (buffer_at body.now place) }
+// The places that lie in packed structs.
+fn unpacked_places(alloc: Global, structs: &[u8]) -> Result<Vec<BufferPlace>, AllocError>
+    ensures { IfOk result (λ places. places.items ≡ places_in structs.now) }
+{
+    let count = structs.len() / STRUCT_BYTES;
+    let mut places = Vec::with_capacity(alloc, count)?;
+    for j in 0..count {
+        places.push(place(structs, j))?;
+    }
+    Ok(places)
+}
+
+// The structs of a slot, which has to be there.
+#[tactic(auto, unfolding(crate::specs::Parts::structs_wanted))]
+fn structs<'a>(table: &Table<'a>, slot: u16) -> Result<&'a [u8], Fault>
+    ensures { Gives (λ structs. structs.now) result (structs_wanted table.now slot) }
+{
+    table.structs(slot, 16)?.ok_or(Fault::BadFlatbuffer)
+}
+
+/// That a buffer lies within the body: F8 where it does not.
+pub(crate) fn check_place(body: &Bytes, place: BufferPlace) -> Result<(), Fault>
+    ensures exact { Gives (λ done. done) result (placed_in body.now place) }
+    ensures within { OnOk result (place.offset + place.length ≤ length body.now) }
+    ensures fits { OnOk result (place.offset + place.length < 2 ^ 64) }
 {
     let room = body.len() as u64;
     if place.offset > room || room - place.offset < place.length {
         return Err(Fault::BadBatch);
     }
+    Ok(())
+}
+
+/// The bytes of a buffer, cut from the body: they are shared, not copied. F8 where they do not lie within
+/// it.
+#[tactic(auto, unfolding(crate::specs::Parts::buffer_at))]
+pub(crate) fn buffer(body: &Bytes, place: BufferPlace) -> Result<Bytes, Fault>
+    ensures { GivesUnlessMemory (λ buffer. buffer) result (buffer_at body.now place) }
+{
+    check_place(body, place)?;
     let end = place.offset + place.length;
     Ok(body.slice(place.offset as usize..end as usize)?)
 }
 
-// The buffers at the places that lie in packed structs.
-fn buffers(alloc: Global, body: &Bytes, structs: &[u8]) -> Result<Vec<Bytes>, Fault>
-    ensures { GivesUnlessMemory (λ buffers. buffers.items) result
-        (each (buffer_at body.now) (places_in structs.now)) }
-{
-    let count = structs.len() / 16;
-    let mut buffers = Vec::with_capacity(alloc, count)?;
-    for j in 0..count {
-        buffers.push(buffer(body, place(structs, j))?)?;
-    }
-    Ok(buffers)
-}
-
-/// Whether the body has as many bytes as the message claims: F8 where it has less.
+/// That the body has as many bytes as the message claims: F8 where it has less.
 #[tactic(auto, unfolding(crate::specs::Parts::body_claimed))]
 pub(crate) fn check_body(message: &Message<'_>, body: &Bytes) -> Result<(), Fault>
     ensures { Gives (λ done. done) result (body_claimed (message_seen message.now) body.now) }
@@ -128,27 +173,35 @@ pub(crate) fn check_body(message: &Message<'_>, body: &Bytes) -> Result<(), Faul
 
 /// The parts of the record batch whose table a message has.
 #[tactic(auto, unfolding(crate::specs::Parts::parts_of))]
-pub(crate) fn read_parts(
-    alloc: Global,
-    message: &Message<'_>,
-    table: &Table<'_>,
+pub(crate) fn read_parts<'a>(
+    message: &Message<'a>,
+    table: &Table<'a>,
     body: &Bytes,
-) -> Result<Parts, Fault>
-    ensures { GivesUnlessMemory parts_seen result
-        (parts_of (message_seen message.now) table.now body.now) }
+) -> Result<Parts<'a>, Fault>
+    ensures { Gives parts_seen result (parts_of (message_seen message.now) table.now body.now) }
 {
     let rows = table.scalar(0, Width::Eight, 0)?;
-    let node_structs = structs(table, 1)?;
-    let place_structs = structs(table, 2)?;
+    let nodes = structs(table, 1)?;
+    let places = structs(table, 2)?;
     if table.table(3)?.is_some() {
         return Err(Fault::UnsupportedArrow);
     }
     check_body(message, body)?;
-    let buffers = buffers(alloc, body, place_structs)?;
-    let nodes = nodes(alloc, node_structs)?;
     Ok(Parts {
         rows,
         nodes,
-        buffers,
+        places,
     })
+}
+
+/// The parts of the values of a dictionary message.
+#[tactic(auto, unfolding(crate::specs::Parts::dictionary_parts, arrow_schema::specs::Header::table_wanted))]
+pub(crate) fn read_dictionary<'a>(message: &Message<'a>, body: &Bytes) -> Result<Parts<'a>, Fault>
+    ensures { Gives parts_seen result (dictionary_parts (message_seen message.now) body.now) }
+{
+    let table = message.header()?;
+    table.scalar(0, Width::Eight, 0)?;
+    let values = table.table(1)?.ok_or(Fault::BadFlatbuffer)?;
+    table.scalar(2, Width::One, 0)?;
+    read_parts(message, &values, body)
 }

@@ -4,11 +4,11 @@ ghost use Rattle.std.specs.Prelude.{◌≡◌, length, None, option_map, IfOk, I
 ghost use Rattle.scan_base.specs.Reading.{GivesUnlessMemory};
 ghost use Rattle.arrow_schema.specs.Header.{schema_in};
 ghost use Rattle.arrow_schema.specs.Seen.{message_seen};
-ghost use Rattle.ipc_batch.specs.Said.{first_schema, next_batch, Tells, Extends, HasColumns};
-ghost use Rattle.ipc_batch.specs.Full.{HasNoNullsIfThere};
+ghost use Rattle.ipc_batch.specs.Said.{first_schema, next_batch, batch_sent, Tells, Extends, HasColumns};
+ghost use Rattle.arrow_schema.specs.NoNulls.{HasNoNullsIfThere};
 
 use crate::columns::read_columns;
-use crate::parts::{check_body, read_parts};
+use crate::parts::{check_body, read_dictionary, read_parts};
 use arrow_schema::{Batch, HeaderKind, Message, Schema, read_message};
 use bytes::Bytes;
 use scan_base::Fault;
@@ -57,10 +57,11 @@ impl Reader {
     ///   offset that has to be there is absent.
     /// - F7 (`Fault::UnsupportedArrow`) for another metadata version than V5, another kind of header, a
     ///   schema of other types than are built, compressed bodies, and a node that counts nulls.
-    /// - F8 (`Fault::BadBatch`) where the first message is no schema, for a second schema, and for a batch
-    ///   whose counts, lengths or places do not agree with its schema or lie outside the body.
-    /// - F12 (`Fault::LimitReached`) for a schema of no column or more than 64, or a name that is absent,
-    ///   empty or above 64 bytes.
+    /// - F8 (`Fault::BadBatch`) where the first message is no schema, for a second schema, for a batch whose
+    ///   counts, lengths or places do not agree with its schema or lie outside the body, and for a
+    ///   dictionary, since no field has its id until dictionaries are built.
+    /// - F12 (`Fault::LimitReached`) for a schema of no column or too many, or a name that is absent, empty
+    ///   or too long.
     /// - F21 (`Fault::OutOfMemory`) where memory is refused.
     pub fn message(
         &mut self,
@@ -106,8 +107,8 @@ fn first_schema(alloc: Global, message: &Message<'_>, body: &Bytes) -> Result<Sc
     Ok(schema)
 }
 
-// The batch of a message behind the schema.
-#[tactic(auto, using(crate::proofs::Lengths::columns_long), unfolding(crate::specs::Said::batch_sent))]
+// The batch of a message behind the schema. Until dictionaries are built, no field has one: a dictionary
+// is read, and then no field has its id.
 fn next_batch(
     alloc: Global,
     schema: &Schema,
@@ -117,11 +118,29 @@ fn next_batch(
     ensures { GivesUnlessMemory (λ batch. batch) result
         (next_batch (message_seen message.now).kind schema.now (message_seen message.now) body.now) }
 {
-    if message.kind != HeaderKind::RecordBatch {
-        return Err(Fault::BadBatch);
+    match message.kind {
+        HeaderKind::RecordBatch => read_batch(alloc, schema, message, body),
+        HeaderKind::DictionaryBatch => {
+            read_dictionary(message, body)?;
+            Err(Fault::BadBatch)
+        }
+        HeaderKind::Schema => Err(Fault::BadBatch),
     }
+}
+
+// The record batch of a message.
+#[tactic(auto, using(crate::proofs::Lengths::columns_long), unfolding(crate::specs::Said::batch_sent))]
+fn read_batch(
+    alloc: Global,
+    schema: &Schema,
+    message: &Message<'_>,
+    body: &Bytes,
+) -> Result<Batch, Fault>
+    ensures { GivesUnlessMemory (λ batch. batch) result
+        (batch_sent schema.now (message_seen message.now) body.now) }
+{
     let table = message.header()?;
-    let parts = read_parts(alloc, message, &table, body)?;
-    let columns = read_columns(alloc, schema.fields.as_slice(), &parts)?;
+    let parts = read_parts(message, &table, body)?;
+    let columns = read_columns(alloc, schema.fields.as_slice(), &parts, body)?;
     Ok(Batch::new(columns, parts.rows as usize))
 }

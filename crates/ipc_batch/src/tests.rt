@@ -1,7 +1,7 @@
 //! The two headers of a stream of one column, and headers that lie.
 
-use crate::{Reader, write_batch};
-use arrow_schema::Batch;
+use crate::{Reader, append_body, body_length, write_batch, write_batch_header};
+use arrow_schema::{Batch, MAX_COLUMNS};
 use bytes::Bytes;
 use scan_base::{Fault, ValueRef};
 use std::alloc::{AllocError, Global};
@@ -39,15 +39,39 @@ fn reader(alloc: Global) -> Result<Reader, Fault> {
     Ok(reader)
 }
 
-// The batch's header with some of its bytes changed.
-fn changed(alloc: Global, changes: &[(usize, u8)]) -> Result<Bytes, AllocError> {
-    let mut header = BATCH;
-    for (place, byte) in changes {
-        if let Some(slot) = header.get_mut(*place) {
+// The header of a dictionary with id 5, not a delta: that of the batch, with a table that leads to it.
+static DICTIONARY: [u8; 160] = [
+    0x10, 0x00, 0x00, 0x00, 0x0c, 0x00, 0x14, 0x00, 0x10, 0x00, 0x12, 0x00, 0x04, 0x00, 0x08, 0x00,
+    0x0c, 0x00, 0x00, 0x00, 0x1c, 0x00, 0x00, 0x00, 0x10, 0x00, 0x00, 0x00, 0x00, 0x00, 0x00, 0x00,
+    0x04, 0x00, 0x02, 0x00, 0x0a, 0x00, 0x14, 0x00, 0x08, 0x00, 0x04, 0x00, 0x10, 0x00, 0x00, 0x00,
+    0x0c, 0x00, 0x00, 0x00, 0x1c, 0x00, 0x00, 0x00, 0x05, 0x00, 0x00, 0x00, 0x00, 0x00, 0x00, 0x00,
+    0x00, 0x00, 0x00, 0x00, 0x00, 0x00, 0x0a, 0x00, 0x14, 0x00, 0x08, 0x00, 0x04, 0x00, 0x10, 0x00,
+    0x0a, 0x00, 0x00, 0x00, 0x10, 0x00, 0x00, 0x00, 0x02, 0x00, 0x00, 0x00, 0x00, 0x00, 0x00, 0x00,
+    0x1c, 0x00, 0x00, 0x00, 0x01, 0x00, 0x00, 0x00, 0x02, 0x00, 0x00, 0x00, 0x00, 0x00, 0x00, 0x00,
+    0x00, 0x00, 0x00, 0x00, 0x00, 0x00, 0x00, 0x00, 0x02, 0x00, 0x00, 0x00, 0x00, 0x00, 0x00, 0x00,
+    0x00, 0x00, 0x00, 0x00, 0x00, 0x00, 0x00, 0x00, 0x00, 0x00, 0x00, 0x00, 0x00, 0x00, 0x00, 0x00,
+    0x00, 0x00, 0x00, 0x00, 0x00, 0x00, 0x00, 0x00, 0x10, 0x00, 0x00, 0x00, 0x00, 0x00, 0x00, 0x00,
+];
+
+// A header with some of its bytes changed, and zeros behind it.
+fn changed(
+    alloc: Global,
+    header: &[u8],
+    changes: &[(usize, u8)],
+    zeros: usize,
+) -> Result<Bytes, AllocError> {
+    let mut bytes = Vec::from_elem(alloc, 0, header.len().saturating_add(zeros))?;
+    for (place, byte) in header.iter().enumerate() {
+        if let Some(slot) = bytes.get_mut(place) {
             *slot = *byte;
         }
     }
-    Bytes::copy_from_slice(alloc, &header)
+    for (place, byte) in changes {
+        if let Some(slot) = bytes.get_mut(*place) {
+            *slot = *byte;
+        }
+    }
+    Ok(Bytes::from_vec(bytes)?)
 }
 
 // The values of the first column.
@@ -94,7 +118,7 @@ fn lying_bytes(rt: HostRuntime) -> Result<(), Fault> {
         (20, 0xff, Fault::BadFlatbuffer), // the header lies past the end
         (32, 3, Fault::UnsupportedArrow), // another version
         (34, 4, Fault::UnsupportedArrow), // another kind
-        (34, 2, Fault::BadBatch), // a dictionary that no field has
+        (34, 2, Fault::BadFlatbuffer), // a dictionary, whose data is no table
         (24, 0x18, Fault::BadBatch), // bodyLength 24 of 16
         (56, 3, Fault::BadBatch), // the batch's length
         (72, 3, Fault::BadBatch), // the node's length
@@ -108,7 +132,7 @@ fn lying_bytes(rt: HostRuntime) -> Result<(), Fault> {
     ];
     let mut reader = reader(rt.alloc())?;
     for (place, byte, fault) in table {
-        let lying = changed(rt.alloc(), &[(place, byte)])?;
+        let lying = changed(rt.alloc(), &BATCH, &[(place, byte)], 0)?;
         let refused = told(rt.alloc(), &mut reader, lying).err();
         let numbers = told(rt.alloc(), &mut reader, Bytes::from_static(&BATCH))?;
         assert_eq!(rt;
@@ -116,6 +140,63 @@ fn lying_bytes(rt: HostRuntime) -> Result<(), Fault> {
             (Some(fault), [1, 2].as_slice()),
             "byte {place} is {byte}"
         );
+    }
+    Ok(())
+}
+
+// Headers in which two causes stand: the first one in the order of reading is answered.
+#[test]
+fn first_cause(rt: HostRuntime) -> Result<(), Fault> {
+    let table: [(&[(usize, u8)], Fault); 5] = [
+        (&[(38, 12), (24, 0x18)], Fault::UnsupportedArrow), // compression, then bodyLength
+        (&[(92, 1), (80, 1)], Fault::BadBatch), // the count of buffers, then a null
+        (&[(68, 2), (80, 1)], Fault::BadBatch), // the count of nodes, then a null
+        (&[(72, 3), (80, 1)], Fault::BadBatch), // the node's length, then its null
+        (&[(80, 1), (96, 0x11)], Fault::UnsupportedArrow), // a null, then a buffer past the body
+    ];
+    let mut reader = reader(rt.alloc())?;
+    for (changes, fault) in table {
+        let header = changed(rt.alloc(), &BATCH, changes, 0)?;
+        let refused = told(rt.alloc(), &mut reader, header).err();
+        assert_eq!(rt; refused, Some(fault));
+    }
+    Ok(())
+}
+
+// A million nodes, or a million buffers, behind the batch's header, and a null in its node: the counts come
+// first.
+#[test]
+fn million(rt: HostRuntime) -> Result<(), Fault> {
+    let counted = [(128, 0x40), (129, 0x42), (130, 0x0f), (80, 1)];
+    let mut reader = reader(rt.alloc())?;
+    for (place, byte) in [(52, 76), (64, 64)] {
+        let [first, second, third, null] = counted;
+        let changes = [(place, byte), first, second, third, null];
+        let header = changed(rt.alloc(), &BATCH, &changes, 16_000_004)?;
+        let refused = told(rt.alloc(), &mut reader, header).err();
+        assert_eq!(rt; refused, Some(Fault::BadBatch), "at {place}");
+    }
+    Ok(())
+}
+
+// A dictionary is read, and no field has its id. Before the schema nothing of it is read.
+#[test]
+fn dictionary(rt: HostRuntime) -> Result<(), Fault> {
+    let table: [(&[(usize, u8)], Fault); 7] = [
+        (&[], Fault::BadBatch),
+        (&[(20, 0xff)], Fault::BadFlatbuffer), // the header lies past the end
+        (&[(41, 0xff)], Fault::BadFlatbuffer), // the id lies past the end
+        (&[(42, 0)], Fault::BadFlatbuffer), // no data
+        (&[(45, 0xff)], Fault::BadFlatbuffer), // the sign of a delta lies past the end
+        (&[(84, 0xff)], Fault::BadFlatbuffer), // the nodes of the data lie past the end
+        (&[(70, 12)], Fault::UnsupportedArrow), // slot 3 of the data's vtable, which is compression
+    ];
+    let mut reader = reader(rt.alloc())?;
+    for (changes, fault) in table {
+        let header = changed(rt.alloc(), &DICTIONARY, changes, 0)?;
+        let early = told(rt.alloc(), &mut Reader::new(), header.clone()?).err();
+        let refused = told(rt.alloc(), &mut reader, header).err();
+        assert_eq!(rt; (early, refused), (Some(Fault::BadBatch), Some(fault)));
     }
     Ok(())
 }
@@ -135,7 +216,7 @@ fn free_places(rt: HostRuntime) -> Result<(), Fault> {
     ];
     let mut reader = reader(rt.alloc())?;
     for (changes, wanted) in table {
-        let header = changed(rt.alloc(), changes)?;
+        let header = changed(rt.alloc(), &BATCH, changes, 0)?;
         let numbers = told(rt.alloc(), &mut reader, header)?;
         assert_eq!(rt; numbers.as_slice(), wanted);
     }
@@ -162,7 +243,7 @@ fn every_byte(rt: HostRuntime) -> Result<(), Fault> {
     let mut reader = reader(rt.alloc())?;
     for change in 0..128 * 256_usize {
         let byte = (change % 256) as u8;
-        let header = changed(rt.alloc(), &[(change / 256, byte)])?;
+        let header = changed(rt.alloc(), &BATCH, &[(change / 256, byte)], 0)?;
         if let Err(fault) = told(rt.alloc(), &mut reader, header) {
             assert!(rt; fault != Fault::OutOfMemory, "change {change}");
         }
@@ -177,7 +258,7 @@ fn written_again(rt: HostRuntime) -> Result<(), Fault> {
     let body = Bytes::from_static(&BODY);
     let batch = reader.message(rt.alloc(), Bytes::from_static(&BATCH), body)?;
     let batch = batch.ok_or(Fault::BadBatch)?;
-    if batch.columns().len() > 64 || batch.rows() != 2 {
+    if batch.columns().len() > MAX_COLUMNS || batch.rows() != 2 {
         return Err(Fault::BadBatch);
     }
     let one: [i128; 1] = [2];
@@ -193,5 +274,25 @@ fn written_again(rt: HostRuntime) -> Result<(), Fault> {
         let numbers = numbers(rt.alloc(), &batch.ok_or(Fault::BadBatch)?)?;
         assert_eq!(rt; numbers.as_slice(), wanted);
     }
+    Ok(())
+}
+
+// A body behind what was there, and the header that goes with it.
+#[test]
+fn written_parts(rt: HostRuntime) -> Result<(), Fault> {
+    let mut reader = reader(rt.alloc())?;
+    let body = Bytes::from_static(&BODY);
+    let batch = reader.message(rt.alloc(), Bytes::from_static(&BATCH), body)?;
+    let batch = batch.ok_or(Fault::BadBatch)?;
+    if batch.columns().len() > MAX_COLUMNS || batch.rows() != 2 || body_length(&batch) != Some(16) {
+        return Err(Fault::BadBatch);
+    }
+    let slice = batch.slice(rt.alloc(), 1, 2)?;
+    let mut out = Vec::from_slice(rt.alloc(), &[7])?;
+    append_body(&mut out, &slice)?;
+    assert_eq!(rt; out.as_slice(), [7, 2, 0, 0, 0, 0, 0, 0, 0].as_slice());
+    let header = Bytes::from_vec(write_batch_header(rt.alloc(), &batch)?)?;
+    let numbers = told(rt.alloc(), &mut reader, header)?;
+    assert_eq!(rt; numbers.as_slice(), [1, 2].as_slice());
     Ok(())
 }

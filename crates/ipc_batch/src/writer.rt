@@ -1,24 +1,20 @@
 //! Writing record batches.
 
-ghost use Rattle.std.specs.Prelude.{◌≡◌, ◌≤◌, ◌<◌, ◌*◌, ◌%◌, ◌^◌, [], ◌∷◌, ◌++◌, All, length, map};
-ghost use Rattle.std.specs.Prelude.{IfOk, OnOk};
-ghost use Rattle.std.specs.Int.{w64, cast_unsigned};
+ghost use Rattle.std.specs.Prelude.{◌≡◌, ◌≤◌, ◌<◌, ◌+◌, ◌-◌, ◌%◌, ◌^◌, [], ◌∷◌, ◌++◌, All, length, map, take};
+ghost use Rattle.std.specs.Prelude.{IfOk, OnOk, OnErr, SomeIff};
 ghost use Rattle.std.specs.List.{flat_map};
-ghost use Rattle.scan_base.specs.Value.{value_of};
-ghost use Rattle.flatbuf.specs.Block.{Number, Offset, little, padding, padded, table_part};
+ghost use Rattle.flatbuf.specs.Block.{Number, Offset, little, padded, table_part};
 ghost use Rattle.flatbuf.specs.Block.{structs_part};
-ghost use Rattle.arrow_schema.specs.Column.{values_of};
+ghost use Rattle.arrow_schema.specs.Limits.{most_columns};
+ghost use Rattle.arrow_schema.specs.NoNulls.{HasNoNulls};
 ghost use Rattle.ipc_batch.specs.Written.{node_bytes, place_bytes, body_of, places_from};
-ghost use Rattle.ipc_batch.specs.Written.{parts_part};
-ghost use Rattle.ipc_batch.specs.Written.{value_written, values_written, node_written};
-ghost use Rattle.ipc_batch.specs.Written.{column_written, buffers_written, parts_written};
-ghost use Rattle.ipc_batch.specs.Written.{FitsLong, SaysParts, SaysBatch};
-ghost use Rattle.ipc_batch.specs.Full.{HasNoNulls};
+ghost use Rattle.ipc_batch.specs.Written.{node_written, column_written, buffers_written};
+ghost use Rattle.ipc_batch.specs.Written.{parts_written, body_length, IsPacked};
+ghost use Rattle.ipc_batch.specs.Written.{SaysParts, SaysBatch};
 ghost use Rattle.ipc_batch.specs.Seen.{written_seen};
 
 use arrow_schema::{Batch, Column, HeaderKind, write_message};
 use flatbuf::{Block, Builder, Slot};
-use scan_base::ValueRef;
 use std::alloc::{AllocError, Global};
 
 /// A message: the bytes of its header and of its body.
@@ -28,20 +24,106 @@ pub struct WrittenMessage {
     pub body: Vec<u8>,
 }
 
+// How many bytes a node and a place have.
+const STRUCT_BYTES: usize = 16;
+
+// How many zeros stand behind so many bytes, up to a multiple of 8.
+fn zeros_behind(bytes: usize) -> usize
+    ensures { result ≡ (8 - bytes % 8) % 8 }
+{
+    (8 - bytes % 8) % 8
+}
+
+// ---- the body
+
+// How many bytes a buffer has in a body, with the zeros behind it.
+#[tactic(auto, using(crate::proofs::Lengths::length_with_zeros))]
+fn padded_length(buffer: &[u8]) -> Option<usize>
+    ensures { SomeIff result (length (padded buffer.now) < 2 ^ 64) (length (padded buffer.now)) }
+{
+    buffer.len().checked_add(zeros_behind(buffer.len()))
+}
+
+// How many bytes the buffers of columns have in a body.
+fn columns_length(columns: &[Column]) -> Option<usize>
+    ensures { SomeIff result (length (body_of (buffers_written columns.now)) < 2 ^ 64)
+        (length (body_of (buffers_written columns.now))) }
+{
+    let mut length: usize = 0;
+    for column in columns {
+        length = length.checked_add(padded_length(column.value_bytes())?)?;
+    }
+    Some(length)
+}
+
+/// How many bytes the body of a batch has where it is written, and `None` where they would be 2 to the 63
+/// or more, which no message can claim.
+pub fn body_length(batch: &Batch) -> Option<usize>
+    ensures { SomeIff result (body_length batch.now < 2 ^ 63) (body_length batch.now) }
+{
+    let length = columns_length(batch.columns())?;
+    if length >= 1 << 63 {
+        return None;
+    }
+    Some(length)
+}
+
+// Writes a buffer behind the others, and zeros behind it.
+#[tactic(auto, unfolding(flatbuf::specs::Block::padding))]
+fn append_buffer(body: &mut Vec<u8>, buffer: &[u8]) -> Result<(), AllocError>
+    ensures ok { OnOk result (body.new.items ≡ body.old.items ++ padded buffer.now) }
+    ensures begins { take (length body.old.items) body.new.items ≡ body.old.items }
+{
+    body.extend_from_slice(buffer)?;
+    body.extend_from_slice(&[0; 8][..zeros_behind(buffer.len())])
+}
+
+// Writes the buffers of a column: no validity bits, and the values.
+fn append_column(body: &mut Vec<u8>, column: &Column) -> Result<(), AllocError>
+    ensures ok { OnOk result (body.new.items ≡ body.old.items ++ body_of (column_written column.now)) }
+    ensures begins { take (length body.old.items) body.new.items ≡ body.old.items }
+{
+    append_buffer(body, &[])?;
+    append_buffer(body, column.value_bytes())
+}
+
+// Writes the buffers of columns.
+fn append_columns(body: &mut Vec<u8>, columns: &[Column]) -> Result<(), AllocError>
+    ensures ok { OnOk result (body.new.items
+        ≡ body.old.items ++ body_of (buffers_written columns.now)) }
+    ensures begins { take (length body.old.items) body.new.items ≡ body.old.items }
+{
+    for column in columns {
+        append_column(body, column)?;
+    }
+    Ok(())
+}
+
+/// Writes the body of a batch behind what `out` has: its buffers one behind another, each with zeros
+/// behind it up to a multiple of 8. Room is made once, the values are copied once, and a slice has its own
+/// rows alone. It fails with [`AllocError`] where memory is refused, and then `out` is as it was.
+pub fn append_body(out: &mut Vec<u8>, batch: &Batch) -> Result<(), AllocError>
+    ensures ok { OnOk result (out.new.items
+        ≡ out.old.items ++ body_of (buffers_written batch.now.columns)) }
+    ensures err { OnErr result (out.new.items ≡ out.old.items) }
+{
+    out.reserve(body_length(batch).ok_or(AllocError)?)?;
+    let start = out.len();
+    let written = append_columns(out, batch.columns());
+    if written.is_err() {
+        out.truncate(start);
+    }
+    written
+}
+
+// ---- the header
+
 // Writes a number of eight bytes.
 #[tactic(auto, unfolding(flatbuf::specs::Block::little))]
 fn put_word(out: &mut Vec<u8>, word: u64) -> Result<(), AllocError>
     ensures { OnOk result (out.new.items ≡ out.old.items ++ little 8 word) }
 {
     out.extend_from_slice(&word.to_le_bytes())
-}
-
-// Writes zeros up to a multiple of 8 behind so many bytes.
-#[tactic(auto, unfolding(flatbuf::specs::Block::padding))]
-fn put_padding(out: &mut Vec<u8>, written: usize) -> Result<(), AllocError>
-    ensures { OnOk result (out.new.items ≡ out.old.items ++ padding written) }
-{
-    out.extend_from_slice(&[0; 8][..(8 - written % 8) % 8])
 }
 
 // Writes a struct of two numbers.
@@ -52,96 +134,70 @@ fn put_pair(structs: &mut Vec<u8>, first: u64, second: u64) -> Result<(), AllocE
     put_word(structs, second)
 }
 
-// Writes a buffer behind the others, and where it lies.
-fn put_buffer(body: &mut Vec<u8>, places: &mut Vec<u8>, buffer: &[u8]) -> Result<(), AllocError>
-    ensures body { OnOk result (body.new.items ≡ body.old.items ++ padded buffer.now) }
-    ensures places { OnOk result (places.new.items ≡ places.old.items
-        ++ place_bytes (record { offset = length body.old.items; length = length buffer.now })) }
-{
-    put_pair(places, body.len() as u64, buffer.len() as u64)?;
-    body.extend_from_slice(buffer)?;
-    put_padding(body, buffer.len())
-}
-
-// Writes a number in eight bytes of two's complement.
-#[tactic(auto, unfolding(flatbuf::specs::Block::little))]
-fn put_long(out: &mut Vec<u8>, long: i64) -> Result<(), AllocError>
-    ensures { OnOk result (out.new.items ≡ out.old.items ++ little 8 (cast_unsigned w64 long)) }
-{
-    out.extend_from_slice(&long.to_le_bytes())
-}
-
-// Writes a value, if it is a number. Those of an Int64 column have 64 bits, which no contract of a
-// column says yet: another one would be refused.
-fn put_value(out: &mut Vec<u8>, value: ValueRef<'_>) -> Result<(), AllocError>
-    ensures items { OnOk result (out.new.items ≡ out.old.items ++ value_written (value_of value.entry)) }
-    ensures fits { OnOk result (FitsLong (value_of value.entry)) }
-{
-    match value {
-        ValueRef::Int(number) => put_long(out, i64::try_from(number).map_err(|_| AllocError)?),
-        _ => Ok(()),
-    }
-}
-
-// The values of the slots of a column that has no nulls, in eight bytes each.
-fn value_bytes(alloc: Global, column: &Column) -> Result<Vec<u8>, AllocError>
-    ensures items { IfOk result (λ bytes. bytes.items ≡ values_written (values_of column.now)) }
-    ensures fit { IfOk result (λ _. All FitsLong (values_of column.now)) }
-{
-    let mut bytes = Vec::with_capacity(alloc, column.len().saturating_mul(8))?;
-    for j in 0..column.len() {
-        put_value(&mut bytes, column.value_at(j))?;
-    }
-    Ok(bytes)
-}
-
-// Writes the buffers of a column, and where they lie.
-fn put_column(
-    alloc: Global,
-    body: &mut Vec<u8>,
-    places: &mut Vec<u8>,
-    column: &Column,
-) -> Result<(), AllocError>
-    ensures body { OnOk result (body.new.items
-        ≡ body.old.items ++ body_of (column_written column.now)) }
-    ensures places { OnOk result (places.new.items ≡ places.old.items
-        ++ flat_map place_bytes (places_from (length body.old.items) (column_written column.now))) }
-    ensures fit { OnOk result (All FitsLong (values_of column.now)) }
-{
-    let values = value_bytes(alloc, column)?;
-    put_buffer(body, places, &[])?;
-    put_buffer(body, places, values.as_slice())
-}
-
-// Writes the buffers of columns, and where they lie.
-fn put_columns(
-    alloc: Global,
-    body: &mut Vec<u8>,
-    places: &mut Vec<u8>,
-    columns: &[Column],
-) -> Result<(), AllocError>
-    ensures body { OnOk result (body.new.items
-        ≡ body.old.items ++ body_of (buffers_written columns.now)) }
-    ensures places { OnOk result (places.new.items ≡ places.old.items
-        ++ flat_map place_bytes (places_from (length body.old.items) (buffers_written columns.now))) }
-    ensures fit { OnOk result (All (λ column. All FitsLong (values_of column)) columns.now) }
-{
-    for column in columns {
-        put_column(alloc, body, places, column)?;
-    }
-    Ok(())
-}
-
 // The nodes of columns without nulls.
 fn node_structs(alloc: Global, columns: &[Column]) -> Result<Vec<u8>, AllocError>
     ensures { IfOk result (λ structs. structs.items
         ≡ flat_map node_bytes (map node_written columns.now)) }
 {
-    let mut structs = Vec::with_capacity(alloc, columns.len().saturating_mul(16))?;
+    let mut structs = Vec::with_capacity(alloc, columns.len().saturating_mul(STRUCT_BYTES))?;
     for column in columns {
         put_pair(&mut structs, column.len() as u64, 0)?;
     }
     Ok(structs)
+}
+
+// The places of buffers that stand one behind another in a body, and where the next one begins.
+#[derive(Drop)]
+struct Places {
+    structs: Vec<u8>,
+    end: usize,
+}
+
+impl Places {
+    // Adds a buffer's place.
+    #[tactic(auto, using(crate::proofs::Lengths::length_with_zeros))]
+    fn put(&mut self, buffer: &[u8]) -> Result<(), AllocError>
+        requires { self.old.end + length (padded buffer.now) < 2 ^ 64 }
+        ensures structs { OnOk result (self.new.structs.items ≡ self.old.structs.items
+            ++ place_bytes (record { offset = self.old.end; length = length buffer.now })) }
+        ensures end { OnOk result (self.new.end ≡ self.old.end + length (padded buffer.now)) }
+    {
+        put_pair(&mut self.structs, self.end as u64, buffer.len() as u64)?;
+        self.end += buffer.len() + zeros_behind(buffer.len());
+        Ok(())
+    }
+
+    // Adds the places of a column's buffers: no validity bits, and the values.
+    fn put_column(&mut self, column: &Column) -> Result<(), AllocError>
+        requires { self.old.end + length (body_of (column_written column.now)) < 2 ^ 64 }
+        ensures structs { OnOk result (self.new.structs.items ≡ self.old.structs.items
+            ++ flat_map place_bytes (places_from self.old.end (column_written column.now))) }
+        ensures end { OnOk result
+            (self.new.end ≡ self.old.end + length (body_of (column_written column.now))) }
+        ensures packed { OnOk result (IsPacked column.now) }
+    {
+        self.put(&[])?;
+        self.put(column.value_bytes())
+    }
+}
+
+// The places of the buffers of columns, in a body of their own.
+fn column_places(alloc: Global, columns: &[Column]) -> Result<Places, AllocError>
+    requires { length (body_of (buffers_written columns.now)) < 2 ^ 63 }
+    ensures structs { IfOk result (λ places. places.structs.items
+        ≡ flat_map place_bytes (places_from 0 (buffers_written columns.now))) }
+    ensures end { IfOk result (λ places. places.end
+        ≡ length (body_of (buffers_written columns.now))) }
+    ensures packed { OnOk result (All IsPacked columns.now) }
+{
+    let mut places = Places {
+        structs: Vec::with_capacity(alloc, columns.len().saturating_mul(2 * STRUCT_BYTES))?,
+        end: 0,
+    };
+    for column in columns {
+        places.put_column(column)?;
+    }
+    Ok(places)
 }
 
 // The RecordBatch table of so many rows, and of packed nodes and places.
@@ -162,12 +218,36 @@ fn batch_block(alloc: Global, rows: u64, nodes: &[u8], places: &[u8]) -> Result<
     ])
 }
 
+/// The header of the message of a batch, whose body [`append_body`] writes. The header and the body have a
+/// multiple of 8 bytes. It fails with [`AllocError`] where memory is refused, and with no other error.
+pub fn write_batch_header(alloc: Global, batch: &Batch) -> Result<Vec<u8>, AllocError>
+    requires few { length batch.now.columns ≤ most_columns }
+    requires full { HasNoNulls batch.now }
+    requires short { body_length batch.now < 2 ^ 63 }
+    ensures whole { IfOk result (λ header. length header.items % 8 ≡ 0) }
+    ensures parts { IfOk result (λ header. SaysParts (record {
+      header = header.items;
+      body = body_of (buffers_written batch.now.columns);
+    }) (parts_written batch.now)) }
+    ensures rows { IfOk result (λ header. SaysBatch (record {
+      header = header.items;
+      body = body_of (buffers_written batch.now.columns);
+    }) batch.now) }
+{
+    let columns = batch.columns();
+    let nodes = node_structs(alloc, columns)?;
+    let places = column_places(alloc, columns)?;
+    let rows = batch.rows() as u64;
+    let block = batch_block(alloc, rows, nodes.as_slice(), places.structs.as_slice())?;
+    write_message(alloc, HeaderKind::RecordBatch, &block, places.end as u64)
+}
+
 /// The message of a record batch. Each buffer begins at a multiple of 8 in the body, with zeros between,
 /// no validity bits are written, and the header and the body have a multiple of 8 bytes. A slice of a
-/// batch is written as its own rows alone. It fails with [`AllocError`] where memory is refused, and with
-/// no other error.
+/// batch is written as its own rows alone. It fails with [`AllocError`] where memory is refused, as for a
+/// body of 2 to the 63 bytes or more, and with no other error.
 pub fn write_batch(alloc: Global, batch: &Batch) -> Result<WrittenMessage, AllocError>
-    requires few { length batch.now.columns ≤ 64 }
+    requires few { length batch.now.columns ≤ most_columns }
     requires full { HasNoNulls batch.now }
     ensures header { IfOk result (λ message. length message.header.items % 8 ≡ 0) }
     ensures body { IfOk result (λ message. length message.body.items % 8 ≡ 0) }
@@ -176,13 +256,9 @@ pub fn write_batch(alloc: Global, batch: &Batch) -> Result<WrittenMessage, Alloc
     ensures zeros { IfOk result (λ message. message.body.items
         ≡ body_of (buffers_written batch.now.columns)) }
 {
-    let columns = batch.columns();
-    let rows = batch.rows() as u64;
+    body_length(batch).ok_or(AllocError)?;
+    let header = write_batch_header(alloc, batch)?;
     let mut body = Vec::new(alloc);
-    let mut places = Vec::new(alloc);
-    put_columns(alloc, &mut body, &mut places, columns)?;
-    let nodes = node_structs(alloc, columns)?;
-    let block = batch_block(alloc, rows, nodes.as_slice(), places.as_slice())?;
-    let header = write_message(alloc, HeaderKind::RecordBatch, &block, body.len() as u64)?;
+    append_body(&mut body, batch)?;
     Ok(WrittenMessage { header, body })
 }

@@ -9,7 +9,8 @@ use Rattle.std.proofs.lemmas.Grind.{flat_map-append}
 use Rattle.std.proofs.lemmas.List.Elements.{All-push}
 use Rattle.proto_wire.specs.Standard.{Content, Varint, Fixed64, Chunk, Fixed32, Entry, IsFieldNumber, IsVarint, Holds, IsField, IsFields, wire_type}
 use Rattle.proto_wire.specs.Reading.{varint_at}
-use Rattle.proto_wire.specs.Writing.{groups_of, varint, body, spelling, Fits, IsWritable}
+use Rattle.proto_wire.specs.Writing.{groups_of, varint, body, spelling, chunk_head, Fits, IsWritable}
+use Rattle.proto_wire.specs.Laws.{ChunksFollowHeads}
 use Rattle.proto_wire.specs.declared.field.Field.{Field}
 use Rattle.proto_wire.specs.Calls.{GainsField, HaveFieldNumbers, entry_of, message_of, chunk_entry}
 use Rattle.proto_wire.proofs.Groups.{Says, varint_again}
@@ -158,3 +159,7 @@ message_written number old chunk filled tagged whole turned start len n a b d e 
     let same : turned ≡ old ++ (head ++ chunk) = t ∙ rw (middle, last, front) refl in
     let as_long : length turned ≡ length whole = omega (arith, ap length same, ap length split, length-append old (head ++ chunk), length-append head chunk, length-append old (chunk ++ head), length-append chunk head) in
     take_at turned (drop (length turned) whole) n (as_long ∙ sym l) ∙ same ∙ ap (λ (t : List ℕ). old ++ t) (append_assoc (varint (8 * number + 2)) (varint (length chunk)) chunk)
+
+pub chunks_follow_heads : ChunksFollowHeads
+unfolding spelling chunk_head
+chunks_follow_heads number chunk = sym (append_assoc (varint (8 * number + 2)) (varint (length chunk)) chunk)

@@ -1,8 +1,8 @@
 -- What holds of all bytes and fields.
-use Rattle.std.specs.Prelude.{◌≡◌, ◌↔◌, ◌<◌, ◌^◌, ◌++◌, ℕ, List, All, Ok, flat_map}
-use Rattle.proto_wire.specs.Standard.{Entry, IsFields, StandsInFront}
+use Rattle.std.specs.Prelude.{◌≡◌, ◌↔◌, ◌<◌, ◌^◌, ◌++◌, ℕ, List, length, All, Ok, flat_map}
+use Rattle.proto_wire.specs.Standard.{Chunk, Entry, IsFields, StandsInFront}
 use Rattle.proto_wire.specs.Reading.{varint_at, field_at, fields_of}
-use Rattle.proto_wire.specs.Writing.{varint, spelling, IsWritable}
+use Rattle.proto_wire.specs.Writing.{varint, spelling, chunk_head, IsWritable}
 
 -- the bytes that read as a list of fields are that list in the standard's words, and no others are
 abbrev pub ReadingKeepsStandard : Type 0
@@ -35,3 +35,8 @@ VarintReadsBack = (n : ℕ) (rest : List ℕ) → n < 2 ^ 64 → varint_at (vari
 abbrev pub SpellingKeepsStandard : Type 0
 SpellingKeepsStandard =
     (entries : List Entry) → All IsWritable entries → IsFields (flat_map spelling entries) entries
+
+-- a field of bytes is its head, and then the bytes
+abbrev pub ChunksFollowHeads : Type 0
+ChunksFollowHeads = (number : ℕ) (chunk : List ℕ) →
+    spelling (record { number = number; content = Chunk chunk }) ≡ chunk_head number (length chunk) ++ chunk

@@ -23,6 +23,10 @@ body (Fixed32 value) = to_le_bytes w32 value
 unfoldable pub spelling : Entry → List ℕ
 spelling entry = varint (8 * entry.number + wire_type entry.content) ++ body entry.content
 
+-- what is written before the bytes of a field of so many bytes: its tag, of wire type 2, and its length
+unfoldable pub chunk_head : ℕ → ℕ → List ℕ
+chunk_head number len = varint (8 * number + 2) ++ varint len
+
 -- the wire has room for this
 abbrev pub Fits : Content → Type 0
 Fits (Varint value) = value < 2 ^ 64

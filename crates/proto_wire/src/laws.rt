@@ -4,6 +4,7 @@
 ghost use Rattle.proto_wire.specs.Laws.{ReadingKeepsStandard, FrontKeepsStandard};
 ghost use Rattle.proto_wire.specs.Laws.{AtMostOneFront, AtMostOneList};
 ghost use Rattle.proto_wire.specs.Laws.{VarintReadsBack, SpellingKeepsStandard};
+ghost use Rattle.proto_wire.specs.Laws.{ChunksFollowHeads};
 
 /// Bytes read as a list of fields exactly where they are that list in the standard's words.
 pub fn reading_keeps_standard()
@@ -33,4 +34,9 @@ pub fn varint_reads_back()
 /// What is written for fields are those fields in the standard's words.
 pub fn spelling_keeps_standard()
     ensures { SpellingKeepsStandard }
+{}
+
+/// A field of bytes is its head, and then the bytes.
+pub fn chunks_follow_heads()
+    ensures { ChunksFollowHeads }
 {}

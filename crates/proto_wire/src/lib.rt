@@ -13,7 +13,7 @@ pub mod varint;
 
 pub use crate::field::{Field, MAX_FIELD_NUMBER, Payload};
 pub use crate::fields::Fields;
-pub use crate::put::{put_bytes, put_field, put_message, put_varint};
+pub use crate::put::{put_bytes, put_bytes_head, put_field, put_message, put_varint};
 
 #[cfg(test)]
 mod tests;

@@ -3,7 +3,7 @@
 ghost use Rattle.std.specs.Prelude.{◌≡◌, ◌+◌, ◌*◌, ◌<◌, ◌≤◌, ◌++◌, take, drop, length, map, All};
 ghost use Rattle.std.specs.Prelude.{OnOk, OnErr};
 ghost use Rattle.proto_wire.specs.Standard.{IsFieldNumber, IsFields};
-ghost use Rattle.proto_wire.specs.Writing.{spelling, varint, IsWritable};
+ghost use Rattle.proto_wire.specs.Writing.{spelling, varint, chunk_head, IsWritable};
 ghost use Rattle.proto_wire.specs.Calls.{entry_of, varint_entry, chunk_entry, message_of};
 ghost use Rattle.proto_wire.specs.Calls.{message_entry, HaveFieldNumbers, GainsField};
 
@@ -170,6 +170,36 @@ pub fn put_message(out: &mut Vec<u8>, number: u32, fields: &[Field<'_>]) -> Resu
 {
     let start = out.len();
     let written = append_message(out, number, fields);
+    if written.is_err() {
+        out.truncate(start);
+    }
+    written
+}
+
+// Writes the head of a field of bytes, and may leave a piece where memory runs out.
+#[tactic(auto, unfolding(crate::specs::Writing::chunk_head))]
+fn append_bytes_head(out: &mut Vec<u8>, number: u32, len: u64) -> Result<(), AllocError>
+    requires { IsFieldNumber number }
+    ensures ok { OnOk result (out.new.items ≡ out.old.items ++ chunk_head number len) }
+    ensures err { take (length out.old.items) out.new.items ≡ out.old.items }
+{
+    append_tag(out, number, 2)?;
+    append_varint(out, len)
+}
+
+/// Writes at the end what comes before the bytes of a field of so many bytes: its tag and its length.
+/// The caller writes the bytes behind it, and so copies them once.
+///
+/// # Errors
+///
+/// `AllocError` where memory is refused. Nothing has changed then.
+pub fn put_bytes_head(out: &mut Vec<u8>, number: u32, len: u64) -> Result<(), AllocError>
+    requires { IsFieldNumber number }
+    ensures ok { OnOk result (out.new.items ≡ out.old.items ++ chunk_head number len) }
+    ensures err { OnErr result (out.new.items ≡ out.old.items) }
+{
+    let start = out.len();
+    let written = append_bytes_head(out, number, len);
     if written.is_err() {
         out.truncate(start);
     }

@@ -4,6 +4,7 @@ ghost use Rattle.std.specs.Prelude.{◌≡◌, ◌==◌, ◌<◌, [], Some, leng
 ghost use Rattle.std.specs.Option.{option_copied};
 ghost use Rattle.std.specs.Arc.{arc_value};
 ghost use Rattle.table_versions.specs.Database.{table_at, with_table};
+ghost use Rattle.table_versions.specs.Order.{IsInOrder};
 ghost use Rattle.table_versions.specs.Place.{IsPlace};
 
 use crate::handles::spliced;
@@ -24,11 +25,14 @@ pub struct CatalogVersion {
 impl Model for CatalogVersion {
     ghost use Rattle.std.specs.Prelude.{List, ℕ, map};
     ghost use Rattle.std.specs.Arc.{arc_value};
+    ghost use Rattle.table_versions.specs.Order.{IsInOrder};
     ghost use Rattle.table_versions.specs.Stored.{TableAt};
 
     ghost Value = { List (List ℕ × TableAt) };
 
     ghost view = { λ catalog. map arc_value catalog.tables.items };
+
+    ghost invariant = { λ catalog. IsInOrder (map arc_value catalog.tables.items) };
 }
 
 impl CatalogVersion {
@@ -41,9 +45,10 @@ impl CatalogVersion {
         }
     }
 
-    /// How many tables there are.
+    /// How many tables there are. Their names are in byte order, and each stands once.
     pub fn len(&self) -> usize
-        ensures { result ≡ length self.now }
+        ensures count { result ≡ length self.now }
+        ensures ordered { IsInOrder self.now }
     {
         self.tables.len()
     }

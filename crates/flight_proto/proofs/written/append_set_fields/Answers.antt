@@ -1,4 +1,4 @@
-use Rattle.proto_wire.proofs.Written.{has_number, kept_before}
+use Rattle.proto_wire.proofs.Written.{has_number}
 use Rattle.flight_proto.proofs.Writes.{set_more}
 use Rattle.flight_proto.proofs.written.append_set_fields.Goals as goal
 

@@ -1,4 +1,4 @@
-use Rattle.std.proofs.Common.{◌≡◌, rules}
+use Rattle.std.proofs.Common.{rules}
 use Rattle.flight_proto.proofs.Names.{name_by_split}
 use Rattle.flight_proto.proofs.any.Any.message_name.Goals as goal
 

@@ -1,6 +1,5 @@
-use Rattle.std.proofs.Common.{◌≡◌, ◌∙◌, sym, length, rules}
+use Rattle.std.proofs.Common.{◌∙◌, sym}
 use Rattle.proto_wire.specs.Calls.{entry_of}
-use Rattle.flight_proto.specs.Cut.{IfChunkEndsBefore}
 use Rattle.flight_proto.specs.FlightData.{data_with}
 use Rattle.flight_proto.proofs.Folds.{field_more}
 use Rattle.flight_proto.proofs.Cuts.{ends_before, still_end}

@@ -1,4 +1,4 @@
-use Rattle.std.proofs.Common.{◌≡◌, ◌∙◌, sym, rules}
+use Rattle.std.proofs.Common.{rules}
 use Rattle.flight_proto.proofs.Folds.{field_refused}
 use Rattle.flight_proto.proofs.message.Message.merge.Goals as goal
 

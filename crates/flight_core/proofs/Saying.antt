@@ -1,0 +1,79 @@
+-- What payloads say.
+use Rattle.std.proofs.Common.{◌≡◌, ◌==◌, Bool, true, false, not, List, [], ◌∷◌, ◌++◌, length, map, filter, Option, Some, None, Result, Ok, Err, refl, sym, ap, subst, ◌∙◌}
+use Rattle.scan_base.specs.declared.fault.Fault.{Fault}
+use Rattle.scan_base.specs.declared.fault.Fault.TheVariants.{BadBatch}
+use Rattle.scan_base.specs.Reading.{◌>>=◌, wanted}
+use Rattle.scan_base.specs.Lists.{each}
+use Rattle.arrow_schema.specs.declared.schema.Schema.{Schema}
+use Rattle.flight_proto.specs.FlightData.{DataSaid, data_of}
+use Rattle.flight_proto.specs.Ingest.{IngestSaid, ingest_of}
+use Rattle.ipc_batch.specs.State.{State}
+use Rattle.ipc_batch.specs.Said.{Sent, News, Rows, rows_in, news_of, Follows, Says}
+use Rattle.table_versions.specs.Database.{Put}
+use Rattle.flight_core.specs.Payloads.{Payload, carries_message, message_in, messages_of, PayloadsSay}
+use Rattle.flight_core.specs.Puts.{Told, news_carried, news_in_payload, told_by, put_made, put_said}
+use Rattle.flight_core.specs.Laws.{PutsAreSaid}
+use Rattle.flight_core.proofs.Storing.{both}
+
+-- the messages of FlightData
+messages_in : List DataSaid → List Sent
+messages_in all = map message_in (filter carries_message all)
+
+-- payloads are read, and their messages follow
+pub record Follow (state : State) (payloads : List Payload) (end : State) (rows : Rows) : Type 0 where
+  pub all : List DataSaid
+  pub read : each data_of payloads ≡ Ok all
+  pub follows : Follows state (map message_in (filter carries_message all)) end rows
+
+-- one payload before others
+follow_more : (state : State) (payload : Payload) (payloads : List Payload) (carried : DataSaid) (news : News) (end : State) (rows : Rows) → data_of payload ≡ Ok carried
+    → news_carried state carried ≡ Ok news → Follow news.state payloads end rows → Follow state (payload ∷ payloads) end (rows_in news.batch ++ rows)
+follow_more state payload payloads carried news end rows carries told rest = record {
+  all = carried ∷ rest.all;
+  read = rw (carries, rest.read) refl;
+  follows = by (length carried.data_header == 0) refl;
+}
+  where
+    by : (empty : Bool) → (length carried.data_header == 0) ≡ empty → Follows state (map message_in (filter carries_message (carried ∷ rest.all))) end (rows_in news.batch ++ rows)
+    by true e =
+        let same : record { state = state; batch = None } ≡ news = let t = rw e at told in cc in
+        rw (e, ← same) (subst (λ (n : News). Follows n.state (map message_in (filter carries_message rest.all)) end rows) (sym same) rest.follows)
+    by false e = rw e (news, rows, rw e at told, refl, rest.follows)
+
+-- what payloads tell, their messages say
+told_follows : (state : State) (payloads : List Payload) (told : Told) → told_by state payloads ≡ Ok told → Follow state payloads told.state told.rows
+unfolding news_in_payload
+told_follows state [] told e =
+    let same : record { state = state; rows = [] } ≡ told = cc in
+    rw (← same) (record { all = []; read = refl; follows = (refl, refl) })
+told_follows state (payload ∷ payloads) told e =
+    let news = both (news_in_payload state payload) (λ (news : News). (told_by news.state payloads >>= λ told. Ok (record { state = told.state; rows = rows_in news.batch ++ told.rows }))) told e in
+    let carried = both (data_of payload) (news_carried state) news.0 news.1 in
+    let rest = both (told_by (news.0).state payloads) (λ (told : Told). good_told (record { state = told.state; rows = rows_in (news.0).batch ++ told.rows })) told news.2 in
+    let same : record { state = (rest.0).state; rows = rows_in (news.0).batch ++ (rest.0).rows } ≡ told = let last = rest.2 in cc in
+    rw (← same) (follow_more state payload payloads carried.0 news.0 (rest.0).state (rest.0).rows carried.1 carried.2 (told_follows (news.0).state payloads rest.0 rest.1))
+  where
+    good_told : Told → Result Told Fault
+    good_told told = Ok told
+
+-- payloads that follow say
+pub says : (payloads : List Payload) (schema : Schema) (rows : Rows) → Follow None payloads (Some schema) rows → PayloadsSay payloads schema rows
+says payloads schema rows f = (map message_in (filter carries_message f.all), rw (f.read) refl, f.follows)
+
+wanted_there : {A : Type 0} (found : Option A) (fault : Fault) (x : A) → wanted found fault ≡ Ok x → found ≡ Some x
+wanted_there (Some y) fault x e = cc
+wanted_there None fault x e = cc
+
+pub puts_are_said : PutsAreSaid
+unfolding put_said
+puts_are_said [] put e = cc
+puts_are_said (first ∷ payloads) put e =
+    let ingest = both (ingest_of first) (λ (ingest : IngestSaid). (told_by None (first ∷ payloads) >>= λ told. (wanted told.state BadBatch >>= λ schema. Ok (put_made ingest schema told.rows)))) put e in
+    let told = both (told_by None (first ∷ payloads)) (λ (told : Told). (wanted told.state BadBatch >>= λ schema. Ok (put_made ingest.0 schema told.rows))) put ingest.2 in
+    let schema = both (wanted (told.0).state BadBatch) (λ (schema : Schema). good_put (put_made ingest.0 schema (told.0).rows)) put told.2 in
+    let same : put_made ingest.0 schema.0 (told.0).rows ≡ put = let last = schema.2 in cc in
+    let follows = told_follows None (first ∷ payloads) told.0 told.1 in
+    rw (← same) (says (first ∷ payloads) schema.0 (told.0).rows (subst (λ (s : State). Follow None (first ∷ payloads) s (told.0).rows) (wanted_there (told.0).state BadBatch schema.0 schema.1) follows))
+  where
+    good_put : Put → Result Put Fault
+    good_put put = Ok put

@@ -1,0 +1,154 @@
+-- Payloads that are written say what they are written for.
+use Rattle.std.proofs.Common.{◌≡◌, ◌≤◌, ◌<◌, ◌^◌, ℕ, ◌==◌, Bool, true, false, not, List, [], ◌∷◌, ◌++◌, length, map, filter, All, IsTrue, Option, Some, None, Result, Ok, Err, refl, sym, ap, subst, ◌∙◌, append-nil, arith}
+use Rattle.std.proofs.lemmas.Bool.{ne_eqb}
+use Rattle.std.proofs.lemmas.List.{map-append}
+use Rattle.std.proofs.lemmas.List.Elements.{filter-append, All-nil, All-cons}
+use Rattle.scan_base.specs.declared.fault.Fault.{Fault}
+use Rattle.scan_base.specs.Reading.{◌>>=◌, demand}
+use Rattle.scan_base.specs.Lists.{each}
+use Rattle.arrow_schema.specs.declared.header.HeaderKind.TheVariants as header
+use Rattle.arrow_schema.specs.declared.data_type.IntegerType.{IntegerType}
+use Rattle.arrow_schema.specs.declared.data_type.IntegerType.TheVariants.{Int8, Int16, Int32, Int64, UInt8, UInt16, UInt32, UInt64}
+use Rattle.arrow_schema.specs.declared.data_type.DataType.{DataType}
+use Rattle.arrow_schema.specs.declared.data_type.DataType.TheVariants.{Integer, Utf8, Bool as Flags, Decimal128, Dictionary}
+use Rattle.arrow_schema.specs.declared.schema.Field.{Field}
+use Rattle.arrow_schema.specs.declared.schema.Schema.{Schema}
+use Rattle.arrow_schema.specs.Header.{MessageAt, message_of, body_length_of, schema_in, schema_in_all_types, schema_message_of, schema_of_all_types, is_built, is_long}
+use Rattle.arrow_schema.specs.Schema.{IsSchema}
+use Rattle.arrow_schema.specs.Batch.{BatchAt, rows_of}
+use Rattle.arrow_schema.specs.Written.{schema_part, schema_bytes}
+use Rattle.arrow_schema.proofs.Messages.{messages_read}
+use Rattle.arrow_schema.proofs.Again.{whole_schema, short_schema, schemas_read}
+use Rattle.flight_proto.specs.FlightData.{DataSaid, data_of, data_bytes, data_head}
+use Rattle.flight_proto.specs.Laws.{FitsMemory}
+use Rattle.flight_proto.proofs.ReadsBack.{data_back}
+use Rattle.flight_proto.proofs.Heads.{bodies_follow_heads}
+use Rattle.ipc_batch.specs.State.{State}
+use Rattle.ipc_batch.specs.Parts.{body_claimed}
+use Rattle.ipc_batch.specs.Said.{Sent, News, Rows, rows_in, schema_sent, news_of, news_in, Follows, Says}
+use Rattle.ipc_batch.specs.Written.{AreLongs, SaysBatch, SaysParts, WrittenParts}
+use Rattle.ipc_batch.proofs.Messages.{joined}
+use Rattle.flight_core.specs.Payloads.{Payload, carries_message, message_in, messages_of, PayloadsSay, Carries, SaysSchema, SaysBatchBehind, GoOn}
+use Rattle.flight_core.proofs.Storing.{both}
+
+-- ---- one payload
+
+-- a header that was read is there
+header_there : (bytes : List ℕ) (message : MessageAt) → message_of bytes ≡ Ok message → (length bytes == 0) ≡ false
+unfolding message_of
+header_there [] message e = cc
+header_there (b ∷ bytes) message e = ne_eqb (length (b ∷ bytes)) 0 (λ same. absurd (omega arith))
+
+-- what is written of a message is carried
+carried_back : (payload header body : List ℕ) → payload ≡ data_bytes None (record { data_header = header; data_body = body })
+    → FitsMemory header → FitsMemory body → (length header == 0) ≡ false → Carries payload (record { header = header; body = body })
+carried_back payload header body e long wide some = record {
+  carried = record { data_header = header; data_body = body };
+  read = ap data_of e ∙ (data_back None (record { data_header = header; data_body = body }) tt long wide).1;
+  there = ap not some;
+  same = refl;
+}
+
+-- the payload of a schema
+pub schema_said : (payload : List ℕ) (schema : Schema) → IsSchema schema → is_built schema.fields ≡ true
+    → payload ≡ data_bytes None (record { data_header = schema_bytes schema; data_body = [] }) → length (schema_bytes schema) < 2 ^ 20 → SaysSchema payload schema
+unfolding schema_of_all_types schema_message_of schema_in schema_sent news_of body_claimed
+schema_said payload schema is built e short =
+    let bytes = schema_bytes schema in
+    let part = short_schema schema is in
+    let m = messages_read header.Schema (schema_part schema) 0 (whole_schema schema) (omega arith) (omega arith) in
+    let again = schemas_read schema is in
+    let told : schema_in_all_types m.message ≡ Ok schema = rw (m.found, m.kind_again) at again in
+    record {
+      message = record { header = bytes; body = [] };
+      carries = carried_back payload bytes [] e (omega arith) (omega arith) (header_there bytes m.message m.found);
+      said = rw (m.found, m.kind_again, told, built, m.body_length_again) refl;
+    }
+
+-- the payload of a batch
+pub batch_said : (payload header body : List ℕ) (batch : BatchAt) (parts : WrittenParts) → payload ≡ data_head header (length body) ++ body → FitsMemory header → FitsMemory body
+    → SaysParts (record { header = header; body = body }) parts → SaysBatch (record { header = header; body = body }) batch → SaysBatchBehind payload batch
+batch_said payload header body batch parts e long wide there said = record {
+  message = record { header = header; body = body };
+  carries = carried_back payload header body (e ∙ sym (bodies_follow_heads (record { data_header = header; data_body = body }))) long wide (header_there header there.message there.found);
+  said = said;
+}
+
+-- ---- payloads
+
+each_step : {A B : Type 0} (read : A → Result B Fault) (x : A) (xs : List A) (y : B) (ys : List B) → read x ≡ Ok y → each read xs ≡ Ok ys → each read (x ∷ xs) ≡ Ok (y ∷ ys)
+each_step read x xs y ys one all = rw (one, all) refl
+
+each_more : {A B : Type 0} (read : A → Result B Fault) (xs : List A) (x : A) (ys : List B) (y : B) → each read xs ≡ Ok ys → read x ≡ Ok y → each read (xs ++ x ∷ []) ≡ Ok (ys ++ y ∷ [])
+each_more {B = B} read [] x ys y all one =
+    let same : [] ≡ ys = cc in
+    rw (one, ← same) refl
+each_more {B = B} read (a ∷ xs) x ys y all one =
+    let first = both (read a) (λ (b : B). (each read xs >>= λ bs. Ok (b ∷ bs))) ys all in
+    let rest = both (each read xs) (λ (bs : List B). good_list (first.0 ∷ bs)) ys first.2 in
+    let same : first.0 ∷ rest.0 ≡ ys = let last = rest.2 in cc in
+    subst (λ (l : List B). each read ((a ∷ xs) ++ x ∷ []) ≡ good_list (l ++ y ∷ [])) same (each_step read a (xs ++ x ∷ []) first.0 (rest.0 ++ y ∷ []) first.1 (each_more read xs x rest.0 y rest.1 one))
+  where
+    good_list : List B → Result (List B) Fault
+    good_list bs = Ok bs
+
+-- one payload more that carries a message
+message_more : (payloads : List Payload) (payload : Payload) (messages : List Sent) (message : Sent) → messages_of payloads ≡ Ok messages → Carries payload message
+    → messages_of (payloads ++ payload ∷ []) ≡ Ok (messages ++ message ∷ [])
+message_more payloads payload messages message e c =
+    let all = both (each data_of payloads) (λ (all : List DataSaid). good_messages (map message_in (filter carries_message all))) messages e in
+    let same : map message_in (filter carries_message all.0) ≡ messages = let last = all.2 in cc in
+    let more = each_more data_of payloads payload all.0 c.carried all.1 c.read in
+    rw more (ap good_messages (
+    ap (map message_in) (filter-append carries_message all.0 (c.carried ∷ []))
+    ∙ map-append message_in (filter carries_message all.0) (filter carries_message (c.carried ∷ []))
+    ∙ rw (same, c.there, c.same) refl))
+  where
+    good_messages : List Sent → Result (List Sent) Fault
+    good_messages messages = Ok messages
+
+-- a schema alone says no rows
+pub say_first : (payload : Payload) (schema : Schema) → SaysSchema payload schema → PayloadsSay (payload ∷ []) schema []
+say_first payload schema s =
+    let news : News = record { state = Some schema; batch = None } in
+    (s.message ∷ [], message_more [] payload [] s.message refl s.carries, (news, [], s.said, refl, (refl, refl)))
+
+-- and one batch more says its rows behind the others
+pub say_more : (columns : ℕ) (payloads : List Payload) (payload : Payload) (batch : BatchAt) → length batch.columns ≡ columns → SaysBatchBehind payload batch
+    → GoOn columns payloads (payloads ++ payload ∷ []) (rows_of batch)
+say_more columns payloads payload batch many s schema rows longs said =
+    let read = s.said schema (rw many longs) in
+    let news : News = record { state = Some schema; batch = Some read.0 } in
+    let one : Follows (Some schema) (s.message ∷ []) (Some schema) (rows_of read.0) = (news, [], read.1, sym (append-nil (rows_of read.0)), (refl, refl)) in (
+      said.0 ++ s.message ∷ [],
+      message_more payloads payload said.0 s.message said.1 s.carries,
+      subst (λ (more : Rows). Follows None (said.0 ++ s.message ∷ []) (Some schema) (rows ++ more)) read.2 (joined None said.0 (s.message ∷ []) (Some schema) (Some schema) rows (rows_of read.0) said.2 one),
+    )
+
+-- nothing more
+pub go_nowhere : (columns : ℕ) (payloads : List Payload) → GoOn columns payloads payloads []
+go_nowhere columns payloads schema rows longs said = rw (append-nil rows) said
+
+-- ---- a schema that is built is one of Int64
+
+long_type : (t : DataType) → is_long t ≡ true → t ≡ Integer Int64
+long_type (Integer Int64) e = refl
+long_type (Integer Int8) e = cc
+long_type (Integer Int16) e = cc
+long_type (Integer Int32) e = cc
+long_type (Integer UInt8) e = cc
+long_type (Integer UInt16) e = cc
+long_type (Integer UInt32) e = cc
+long_type (Integer UInt64) e = cc
+long_type Utf8 e = cc
+long_type Flags e = cc
+long_type Decimal128 e = cc
+long_type (Dictionary encoding) e = cc
+
+long_fields : (fields : List Field) → is_built fields ≡ true → All (λ field. field.data_type ≡ Integer Int64) fields
+long_fields [] e = cc
+long_fields (field ∷ []) e = All-cons (λ (field : Field). field.data_type ≡ Integer Int64) field [] (long_type field.data_type e) (All-nil (λ (field : Field). field.data_type ≡ Integer Int64))
+long_fields (field ∷ other ∷ fields) e = cc
+
+pub are_longs : (schema : Schema) (columns : ℕ) → is_built schema.fields ≡ true → columns ≡ length schema.fields → AreLongs columns schema
+are_longs schema columns built many = record { many = sym many; longs = long_fields schema.fields built }

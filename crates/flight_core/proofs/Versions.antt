@@ -1,0 +1,57 @@
+-- The versions of a log, one after another.
+use Rattle.std.proofs.Common.{◌≡◌, ℕ, zero, suc, ◌+◌, ◌-◌, ◌<◌, ◌≤◌, List, [], ◌∷◌, ◌++◌, length, map, take, refl, sym, ap, ◌∙◌, arith, Option, Some, Result, Ok}
+use Rattle.std.specs.List.{slice_get}
+use Rattle.std.specs.Option.{option_map}
+use Rattle.std.proofs.lemmas.Option.{slice_get-map}
+use Rattle.std.proofs.lemmas.List.{map-append, length-map}
+use Rattle.table_versions.specs.Database.{Database, Put, after, accepted, after_all, database_of}
+use Rattle.flight_core.specs.Versions.{versions_from, versions_of}
+
+after_all-more : (old : Database) (n : ℕ) (log : List Put) (put : Put) → after_all old n (log ++ put ∷ []) ≡ accepted (after_all old n log) (after (after_all old n log) (n + length log) put)
+after_all-more old n [] put = ap (λ k. accepted old (after old k put)) (omega arith)
+after_all-more old n (p ∷ ps) put =
+    let mid = accepted old (after old n p) in
+    after_all-more mid (n + 1) ps put ∙ ap (λ k. accepted (after_all mid (n + 1) ps) (after (after_all mid (n + 1) ps) k put)) (omega arith)
+
+versions_from-more : (old : Database) (n : ℕ) (log : List Put) (put : Put) → versions_from old n (log ++ put ∷ []) ≡ versions_from old n log ++ after_all old n (log ++ put ∷ []) ∷ []
+versions_from-more old n [] put = refl
+versions_from-more old n (p ∷ ps) put = ap (λ l. accepted old (after old n p) ∷ l) (versions_from-more (accepted old (after old n p)) (n + 1) ps put)
+
+versions_from-at : (old : Database) (n : ℕ) (log : List Put) (k : ℕ) → k < length log → slice_get (versions_from old n log) k ≡ Some (after_all old n (take (suc k) log))
+versions_from-at old n [] k lt = absurd (omega arith)
+versions_from-at old n (p ∷ ps) zero lt = refl
+versions_from-at old n (p ∷ ps) (suc k) lt = versions_from-at (accepted old (after old n p)) (n + 1) ps k (omega arith)
+
+database_of-more : (log : List Put) (put : Put) (new : Database) → after (database_of log) (length log) put ≡ Ok new → database_of (log ++ put ∷ []) ≡ new
+database_of-more log put new e = after_all-more [] 0 log put ∙ ap (accepted (after_all [] 0 log)) (ap (λ k. after (after_all [] 0 log) k put) (omega arith) ∙ e)
+
+versions_of-more : (log : List Put) (put : Put) → versions_of (log ++ put ∷ []) ≡ versions_of log ++ database_of (log ++ put ∷ []) ∷ []
+unfolding versions_of
+versions_of-more log put = versions_from-more [] 0 log put
+
+versions_of-at : (log : List Put) (k : ℕ) → k < length log → slice_get (versions_of log) k ≡ Some (database_of (take (suc k) log))
+unfolding versions_of
+versions_of-at log k lt = versions_from-at [] 0 log k lt
+
+-- ---- a list of entries, each seen as a version and as the put that made it
+
+same_some : {X : Type 0} {a b : X} → Some a ≡ Some b → a ≡ b
+same_some e = cc
+
+-- entry n - 1 is version n
+pub entry_at : {X : Type 0} (view : X → Database) (put : X → Put) (xs : List X) (n : ℕ) (x : X) → map view xs ≡ versions_of (map put xs)
+    → 0 < n → n ≤ length xs → slice_get xs (n - 1) ≡ Some x → view x ≡ database_of (take n (map put xs))
+entry_at view put xs n x kept some within at =
+    let k = n - 1 in
+    let next : suc k ≡ n = omega arith in
+    let lt : k < length (map put xs) = omega (arith, length-map {B = Put} xs put) in
+    same_some (ap (option_map view) (sym at) ∙ sym (slice_get-map view xs k) ∙ ap (λ l. slice_get l k) kept ∙ versions_of-at (map put xs) k lt)
+    ∙ ap (λ m. database_of (take m (map put xs))) next
+
+-- one entry more
+pub kept_more : {X : Type 0} (view : X → Database) (put : X → Put) (xs : List X) (x : X) (new : Database) → map view xs ≡ versions_of (map put xs)
+    → after (database_of (map put xs)) (length (map put xs)) (put x) ≡ Ok new → view x ≡ new → map view (xs ++ x ∷ []) ≡ versions_of (map put (xs ++ x ∷ []))
+kept_more view put xs x new kept made is =
+    let log = map put xs in
+    map-append view xs (x ∷ []) ∙ ap (λ l. l ++ view x ∷ []) kept ∙ ap (λ d. versions_of log ++ d ∷ []) (is ∙ sym (database_of-more log (put x) new made))
+    ∙ sym (versions_of-more log (put x)) ∙ ap versions_of (sym (map-append put xs (x ∷ [])))

@@ -1,0 +1,24 @@
+-- What holds of all runs, and of the payloads of a put.
+use Rattle.std.specs.Prelude.{◌≡◌, ℕ, ◌+◌, List, [], ◌++◌, take, drop, Option, Some, Ok, slice_get}
+use Rattle.scan_base.specs.declared.fault.Fault.{Fault}
+use Rattle.table_versions.specs.Database.{Put}
+use Rattle.flight_core.specs.declared.event.Event.{Event}
+use Rattle.flight_core.specs.declared.event.Reply.{Reply}
+use Rattle.flight_core.specs.Payloads.{Payload, PayloadsSay}
+use Rattle.flight_core.specs.Puts.{put_said}
+use Rattle.flight_core.specs.Machine.{Log, Step, Run}
+
+-- the list without the item at a place
+abbrev pub without : {X : Type 0} → ℕ → List X → List X
+without place xs = take place xs ++ drop (place + 1) xs
+
+-- A refused event, and so a refused put, changes nothing: without it the other events are answered by the
+-- other replies, and the log is the same.
+abbrev pub RefusalsLeaveNothing : List Event → List Reply → Type 0
+RefusalsLeaveNothing events replies = (place : ℕ) (asked : Event) (reply : Reply) (fault : Fault) (log : Log)
+    → slice_get events place ≡ Some asked → slice_get replies place ≡ Some reply → reply.fault ≡ Some fault
+    → Run [] events replies log → Run [] (without place events) (without place replies) log
+
+-- the payloads of a put say its schema and its rows
+abbrev pub PutsAreSaid : Type 0
+PutsAreSaid = (payloads : List Payload) (put : Put) → put_said payloads ≡ Ok put → PayloadsSay payloads put.schema put.rows

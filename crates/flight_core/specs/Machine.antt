@@ -1,0 +1,46 @@
+-- The core as a machine: one event, one step.
+use Rattle.std.specs.Prelude.{◌≡◌, ◌≢◌, ℕ, pos, List, [], ◌∷◌, ◌++◌, length, Option, Some, None, Result, Ok, Err, IsOk}
+use Rattle.scan_base.specs.declared.fault.Fault.{Fault}
+use Rattle.scan_base.specs.declared.fault.Fault.TheVariants.{OutOfMemory}
+use Rattle.scan_base.specs.Reading.{◌>>=◌}
+use Rattle.flight_proto.specs.PutResult.{rows_put_bytes}
+use Rattle.table_versions.specs.Database.{Database, Put, after, database_of}
+use Rattle.flight_core.specs.declared.event.Event.{Event}
+use Rattle.flight_core.specs.declared.event.Event.TheVariants as event
+use Rattle.flight_core.specs.declared.event.Reply.{Reply}
+use Rattle.flight_core.specs.Payloads.{Payload}
+use Rattle.flight_core.specs.Puts.{put_said}
+use Rattle.flight_core.specs.Fetches.{FetchIn}
+
+-- the accepted puts, in order
+abbrev pub Log : Type 0
+Log = List Put
+
+-- the database after the put that payloads say, at a log, or the first fault
+abbrev pub database_put : Log → List Payload → Result Database Fault
+database_put log payloads = put_said payloads >>= λ put. after (database_of log) (length log) put
+
+-- the message that answers an accepted put
+abbrev pub put_answer : Put → Payload
+put_answer put = rows_put_bytes (pos (length put.rows))
+
+-- A put: an accepted one stands at the end of the log, and is answered by how many rows it put. A refused one
+-- changes nothing and has no payload.
+abbrev pub PutStep : Log → List Payload → List Payload → Option Fault → Log → Type 0
+PutStep log payloads answers None new = (put : Put) × (put_said payloads ≡ Ok put)
+    × IsOk (after (database_of log) (length log) put) × (new ≡ log ++ put ∷ []) × (answers ≡ put_answer put ∷ [])
+PutStep log payloads answers (Some fault) new = (new ≡ log) × (answers ≡ [])
+    × (fault ≢ OutOfMemory → database_put log payloads ≡ Err fault)
+
+-- at this log the event may be answered by this reply, and then the log is the last one
+abbrev pub Step : Log → Event → Reply → Log → Type 0
+Step log (event.Put payloads) reply new = PutStep log payloads.items reply.payloads.items reply.fault new
+Step log (event.Fetch ticket) reply new = (new ≡ log) × FetchIn log ticket reply.payloads.items reply.fault
+
+-- these replies answer these events, one step after another, from one log to the other
+abbrev pub Run : Log → List Event → List Reply → Log → Type 0
+Run old [] [] new = new ≡ old
+Run old (event ∷ events) (reply ∷ replies) new =
+    (middle : Log) × Step old event reply middle × Run middle events replies new
+Run old [] (reply ∷ replies) new = ⊥
+Run old (event ∷ events) [] new = ⊥

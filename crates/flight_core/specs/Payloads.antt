@@ -1,0 +1,61 @@
+-- What the payloads of a stream say: each is a FlightData, whose header and body are an Arrow IPC message.
+use Rattle.std.specs.Prelude.{◌≡◌, ℕ, ◌==◌, Bool, true, not, List, ◌++◌, length, map, filter, Some, None, Result, Ok}
+use Rattle.scan_base.specs.declared.fault.Fault.{Fault}
+use Rattle.scan_base.specs.Reading.{◌>>=◌}
+use Rattle.scan_base.specs.Lists.{each}
+use Rattle.arrow_schema.specs.declared.schema.Schema.{Schema}
+use Rattle.arrow_schema.specs.Batch.{BatchAt}
+use Rattle.flight_proto.specs.FlightData.{DataSaid, data_of}
+use Rattle.ipc_batch.specs.Said.{Sent, Rows, Says, news_of}
+use Rattle.ipc_batch.specs.Written.{AreLongs, SaysBatch}
+
+-- the bytes of a call's or of an answer's message
+abbrev pub Payload : Type 0
+Payload = List ℕ
+
+-- whether a FlightData carries an IPC message: one with an empty header is skipped
+abbrev pub carries_message : DataSaid → Bool
+carries_message carried = not (length carried.data_header == 0)
+
+-- the IPC message that a FlightData carries
+abbrev pub message_in : DataSaid → Sent
+message_in carried = record { header = carried.data_header; body = carried.data_body }
+
+-- the IPC messages that payloads carry, in order
+abbrev pub messages_of : List Payload → Result (List Sent) Fault
+messages_of payloads = each data_of payloads >>= λ all. Ok (map message_in (filter carries_message all))
+
+-- the payloads say this schema and these rows
+abbrev pub PayloadsSay : List Payload → Schema → Rows → Type 0
+PayloadsSay payloads schema rows =
+    (messages : List Sent) × (messages_of payloads ≡ Ok messages) × Says messages schema rows
+
+-- the payloads say this schema and a beginning of these rows
+abbrev pub PayloadsBegin : List Payload → Schema → Rows → Type 0
+PayloadsBegin payloads schema all =
+    (rows : Rows) × (rest : Rows) × (all ≡ rows ++ rest) × PayloadsSay payloads schema rows
+
+-- a payload carries this message
+pub record Carries (payload : Payload) (message : Sent) : Type 0 where
+  pub carried : DataSaid
+  pub read : data_of payload ≡ Ok carried
+  pub there : carries_message carried ≡ true
+  pub same : message_in carried ≡ message
+
+-- a payload says a schema, as the first of payloads
+pub record SaysSchema (payload : Payload) (schema : Schema) : Type 0 where
+  pub message : Sent
+  pub carries : Carries payload message
+  pub said : news_of None message ≡ Ok (record { state = Some schema; batch = None })
+
+-- behind a schema, a payload says a batch
+pub record SaysBatchBehind (payload : Payload) (batch : BatchAt) : Type 0 where
+  pub message : Sent
+  pub carries : Carries payload message
+  pub said : SaysBatch message batch
+
+-- Payloads go on from others: they say these rows behind those of the others, under a schema of so many
+-- columns of Int64.
+abbrev pub GoOn : ℕ → List Payload → List Payload → Rows → Type 0
+GoOn columns old new more = (schema : Schema) (rows : Rows) → AreLongs columns schema →
+    PayloadsSay old schema rows → PayloadsSay new schema (rows ++ more)

@@ -1,0 +1,24 @@
+//! The core: one event is answered by one step on a log of accepted puts.
+//!
+//! `specs/Machine.antt` says what a step and a run are, `specs/Puts.antt` what a put's payloads say, and
+//! `specs/Fetches.antt` what a fetch answers. What of them is not built yet stands in `specs/Narrow.antt`.
+#![tactic(auto)]
+
+pub mod event;
+pub mod fetch;
+pub mod laws;
+pub mod machine;
+mod named_table;
+pub mod plain;
+pub mod put;
+mod schema_copy;
+mod stream;
+
+pub use crate::event::{Event, Reply};
+pub use crate::fetch::{answer_fetch, read_ticket};
+pub use crate::machine::{run, step};
+pub use crate::plain::Plain;
+pub use crate::put::read_put;
+
+#[cfg(test)]
+mod tests;

@@ -1,0 +1,99 @@
+//! Steps and runs.
+
+ghost use Rattle.std.specs.Prelude.{◌≡◌, ◌≢◌, [], ◌∷◌, pos, min, length, IfOk, IfErr};
+ghost use Rattle.table_versions.specs.Limits.{most_rows};
+ghost use Rattle.scan_base.specs.declared.fault.Fault.TheVariants.{OutOfMemory};
+ghost use Rattle.flight_proto.specs.PutResult.{rows_put_bytes};
+ghost use Rattle.flight_core.specs.Machine.{Log, PutStep, Step, Run, put_answer};
+ghost use Rattle.flight_core.specs.Fetches.{FetchIn};
+ghost use Rattle.flight_core.specs.Laws.{RefusalsLeaveNothing};
+
+use crate::event::{Event, Reply};
+use crate::fetch::{answer_fetch, read_ticket, version_of};
+use crate::plain::Plain;
+use crate::put::read_put;
+use bytes::Bytes;
+use flight_proto::put_rows_put;
+use scan_base::Fault;
+use std::alloc::{AllocError, Global};
+use table_versions::MAX_ROWS;
+
+// The answer to a put of so many rows, or of as many as a table may have where they are more.
+fn put_answer(alloc: Global, rows: usize) -> Result<Vec<Bytes>, AllocError>
+    ensures { IfOk result (λ payloads. payloads.items ≡ rows_put_bytes (pos (min rows most_rows)) ∷ []) }
+{
+    let mut payload = Vec::new(alloc);
+    put_rows_put(&mut payload, rows.min(MAX_ROWS) as i64)?;
+    let mut payloads = Vec::new(alloc);
+    payloads.push(Bytes::from_vec(payload)?)?;
+    Ok(payloads)
+}
+
+fn step_put(alloc: Global, plain: &mut Plain, payloads: &[Bytes]) -> Reply
+    ensures { PutStep plain.old payloads.now result.payloads.items result.fault plain.new }
+{
+    let put = match read_put(alloc, payloads) {
+        Ok(put) => put,
+        Err(fault) => return Reply::refusal(alloc, fault),
+    };
+    let Ok(answer) = put_answer(alloc, put.rows()) else {
+        return Reply::refusal(alloc, Fault::OutOfMemory);
+    };
+    match plain.put(alloc, put) {
+        Ok(()) => Reply::whole(answer),
+        Err(fault) => Reply::refusal(alloc, fault),
+    }
+}
+
+fn step_fetch(alloc: Global, plain: &Plain, ticket: &[u8]) -> Reply
+    ensures { FetchIn plain.now ticket.now result.payloads.items result.fault }
+{
+    let handle = match read_ticket(ticket) {
+        Ok(handle) => handle,
+        Err(fault) => return Reply::refusal(alloc, fault),
+    };
+    match plain.at(version_of(&handle)) {
+        Ok(snapshot) => answer_fetch(alloc, &snapshot, &handle),
+        Err(fault) => Reply::refusal(alloc, fault),
+    }
+}
+
+/// Answers one event. A put that is accepted stands at the end of the log; any other event changes nothing.
+/// The reply's fault is one of those of `read_put` and `Plain::put`, or of `read_ticket`, `Plain::at` and
+/// `answer_fetch`, in that order.
+pub fn step(alloc: Global, plain: &mut Plain, event: &Event) -> Reply
+    ensures { Step plain.old event.now result plain.new }
+{
+    match event {
+        Event::Put(payloads) => step_put(alloc, plain, payloads.as_slice()),
+        Event::Fetch(ticket) => step_fetch(alloc, plain, ticket.as_slice()),
+    }
+}
+
+fn run_all(alloc: Global, events: &[Event]) -> Result<Vec<Reply>, Fault>
+    ensures run { IfOk result (λ replies. (log : Log) × Run [] events.now replies.items log) }
+    ensures err { IfErr result (λ fault. fault ≡ OutOfMemory) }
+{
+    let mut plain = Plain::new(alloc)?;
+    let mut replies = Vec::new(alloc);
+    for event in events {
+        let reply = step(alloc, &mut plain, event);
+        replies.push(reply)?;
+    }
+    Ok(replies)
+}
+
+/// The replies to a list of events, from the empty log on: one for each.
+///
+/// # Errors
+///
+/// F21 (`Fault::OutOfMemory`) where memory is refused for the list itself, and no other.
+pub fn run(alloc: Global, events: &[Event]) -> Result<Vec<Reply>, Fault>
+    // Each event is answered by a step.
+    ensures run { IfOk result (λ replies. (log : Log) × Run [] events.now replies.items log) }
+    // A refused put changes nothing.
+    ensures refused { IfOk result (λ replies. RefusalsLeaveNothing events.now replies.items) }
+    ensures err { IfErr result (λ fault. fault ≡ OutOfMemory) }
+{
+    run_all(alloc, events)
+}

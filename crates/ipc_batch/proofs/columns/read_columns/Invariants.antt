@@ -1,9 +1,0 @@
-use Rattle.std.proofs.Common.{◌≡◌, drop}
-use Rattle.scan_base.specs.Lists.{behind}
-use Rattle.ipc_batch.specs.Columns.{columns_from}
-use Rattle.ipc_batch.proofs.columns.read_columns.Given as goal
-
-abbrev pub invariant-loop-j : goal.invariant-loop-j
-invariant-loop-j l =
-    behind l.columns.items (columns_from (drop l.j l.fields) l.parts.rows (drop l.j l.parts.nodes.items) l.buffers)
-    ≡ columns_from l.fields l.parts.rows l.parts.nodes.items l.parts.buffers.items
