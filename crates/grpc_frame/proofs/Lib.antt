@@ -1,7 +1,8 @@
 mod Texts
-mod Growing
+pub mod Growing
 mod Found
 mod Again
 mod Stands
 mod Streams
-mod Splitting
+pub mod Splitting
+pub mod Coming

@@ -9,10 +9,9 @@ use Rattle.scan_base.specs.declared.fault.Fault.{Fault}
 use Rattle.grpc_frame.specs.declared.place.Place.{Place}
 use Rattle.grpc_frame.specs.declared.record.Record.{Record}
 use Rattle.grpc_frame.specs.declared.record.Record.TheVariants.{Open, Message, End, Status}
-use Rattle.grpc_frame.specs.Records.{Received, spelling, IsRecord, place_after, place_after_all, Leads, wrong_kind, long_path, wrong_flag, long_message, bad_text, shown_by, Flaw, Breaks, IsCut, Ending, nothing_more, cut, broken, Ends, Splits}
+use Rattle.grpc_frame.specs.Records.{Received, with_more, spelling, IsRecord, place_after, place_after_all, Leads, wrong_kind, long_path, wrong_flag, long_message, bad_text, shown_by, Flaw, Breaks, IsCut, Ending, nothing_more, cut, broken, Ends, Splits}
 use Rattle.grpc_frame.specs.Head.{AreBytes}
 use Rattle.grpc_frame.specs.Front.{Front, Wanting, Faulty, Whole, front_of}
-use Rattle.grpc_frame.specs.Laws.{with_more}
 use Rattle.grpc_frame.proofs.Again.{at, leads_front, breaks_front}
 use Rattle.grpc_frame.proofs.Stands.{FrontIs, front_is}
 use Rattle.grpc_frame.proofs.Streams.{wanting_cut}
@@ -217,7 +216,7 @@ each_one all fits =
 
 -- ---- pieces
 
-place_after_all-append : (place mid : Place) (records others : List Record) → place_after_all place records ≡ Some mid → place_after_all place (records ++ others) ≡ place_after_all mid others
+pub place_after_all-append : (place mid : Place) (records others : List Record) → place_after_all place records ≡ Some mid → place_after_all place (records ++ others) ≡ place_after_all mid others
 place_after_all-append place mid [] others e = let here : place ≡ mid = cc in rw here refl
 place_after_all-append place mid (first ∷ records) others e =
     let m = moves_on place first records mid e in

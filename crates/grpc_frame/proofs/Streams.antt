@@ -2,11 +2,11 @@
 use Rattle.std.proofs.Common.{◌≡◌, ℕ, List, ◌++◌, Option, Some, None, Result, Ok, Err, refl, sym, ap, ◌∙◌, append_assoc}
 use Rattle.grpc_frame.specs.declared.record.Record.{Record}
 use Rattle.scan_base.specs.declared.fault.Fault.{Fault}
-use Rattle.grpc_frame.specs.Records.{Received, Leads, shown_by, Breaks, IsCut}
+use Rattle.grpc_frame.specs.Records.{Received, with_more, Leads, shown_by, Breaks, IsCut}
 use Rattle.grpc_frame.specs.Head.{AreBytes}
 use Rattle.grpc_frame.specs.Front.{Front, Wanting, Faulty, Whole, front_of}
 use Rattle.grpc_frame.specs.Calls.{TakesFront, KeepsProfile}
-use Rattle.grpc_frame.specs.Laws.{FrontKeepsProfile, with_more}
+use Rattle.grpc_frame.specs.Laws.{FrontKeepsProfile}
 use Rattle.grpc_frame.proofs.Again.{leads_front, breaks_front}
 use Rattle.grpc_frame.proofs.Stands.{FrontIs, front_is}
 

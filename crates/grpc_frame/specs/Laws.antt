@@ -4,7 +4,7 @@ use Rattle.std.specs.List.{flat_map}
 use Rattle.scan_base.specs.declared.fault.Fault.{Fault}
 use Rattle.grpc_frame.specs.declared.place.Place.{Place}
 use Rattle.grpc_frame.specs.declared.record.Record.{Record}
-use Rattle.grpc_frame.specs.Records.{spelling, IsRecord, place_after, place_after_all, Received, Leads, Breaks, IsCut, Ending, nothing_more, Splits}
+use Rattle.grpc_frame.specs.Records.{spelling, IsRecord, place_after, place_after_all, Received, with_more, Leads, Breaks, IsCut, Ending, nothing_more, Splits}
 use Rattle.grpc_frame.specs.Head.{AreBytes}
 use Rattle.grpc_frame.specs.Calls.{TakesFront}
 use Rattle.grpc_frame.specs.Front.{Wanting, Faulty, Whole, front_of}
@@ -17,10 +17,6 @@ pub record FrontKeepsProfile (left : Received) : Type 0 where
 
 abbrev pub FrontsKeepProfile : Type 0
 FrontsKeepProfile = (left : Received) → AreBytes left.bytes → FrontKeepsProfile left
-
--- what came, with more bytes behind it
-abbrev pub with_more : Received → List ℕ → Received
-with_more left more = record { bytes = left.bytes ++ more; place = left.place }
 
 -- a record in front stays there whatever comes, and so does a fault
 abbrev pub FrontsStay : Type 0

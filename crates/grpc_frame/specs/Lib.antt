@@ -3,5 +3,6 @@ pub mod Head
 pub mod Front
 pub mod Calls
 pub mod Ends
+pub mod Arrivals
 pub mod Laws
 pub mod Memory

@@ -46,6 +46,10 @@ pub record Received : Type 0 where
   pub bytes : List ℕ
   pub place : Place
 
+-- what came, with more bytes behind it
+abbrev pub with_more : Received → List ℕ → Received
+with_more left more = record { bytes = left.bytes ++ more; place = left.place }
+
 -- the record stands in front, and the rest follows it
 pub record Leads (found : Record) (old new : Received) : Type 0 where
   pub whole : old.bytes ≡ spelling found ++ new.bytes

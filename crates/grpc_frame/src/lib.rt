@@ -5,6 +5,7 @@
 //! project's own. `specs/Records.antt` has the rules.
 #![tactic(auto)]
 
+mod arrivals;
 mod counted;
 mod ends;
 mod head;

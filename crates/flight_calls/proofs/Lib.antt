@@ -1,0 +1,5 @@
+pub mod Taking
+pub mod Short
+pub mod Replying
+pub mod Writing
+pub mod Serving

@@ -1,0 +1,228 @@
+-- How far a server is: what came, and what it wrote for it.
+use Rattle.std.proofs.Common.{◌≡◌, ◌≢◌, ℕ, ◌+◌, List, [], ◌∷◌, ◌++◌, All, Result, Ok, Err, refl, sym, ap, subst, ◌∙◌, append_assoc, append-nil, inl, inr, arith}
+use Rattle.std.specs.List.{flat_map}
+use Rattle.std.specs.Io.KnownBytes.{Appends, Consumes, IsAtEnd}
+use Rattle.std.proofs.KnownBytes.{Consumes-nil, Consumes-trans, Appends-nil, Appends-trans}
+use Rattle.std.proofs.lemmas.Grind.{flat_map-append}
+use Rattle.std.proofs.lemmas.List.Elements.{All-append, All-cons, All-nil}
+use Rattle.scan_base.specs.declared.fault.Fault.{Fault}
+use Rattle.scan_base.specs.declared.fault.Fault.TheVariants.{OutOfMemory, Transport}
+use Rattle.grpc_frame.specs.declared.place.Place.{Place}
+use Rattle.grpc_frame.specs.declared.place.Place.TheVariants.{BetweenCalls}
+use Rattle.grpc_frame.specs.Records.{spelling, IsRecord, Received, with_more}
+use Rattle.grpc_frame.specs.Ends.{AppendsBeginning}
+use Rattle.grpc_frame.proofs.Growing.{beginning_of_content}
+use Rattle.flight_core.specs.declared.event.Reply.{Reply}
+use Rattle.flight_core.specs.Machine.{Log}
+use Rattle.flight_calls.specs.declared.call.Call.{Call}
+use Rattle.flight_calls.specs.declared.call.Arrival.TheVariants as arrival
+use Rattle.flight_calls.specs.Calls.{call_records, answer_records, asked_by, ReplyTo, Answers}
+use Rattle.flight_calls.specs.Owed.{calls_bytes, answers_bytes, FitsMessages, Served, behind_calls, IsCause, last_status, Connection, Finished, CutShort, Refused, Failed, Serves}
+use Rattle.flight_calls.specs.Ending.{RefusesBy}
+use Rattle.flight_calls.specs.Reading.{Stops, CallArrives}
+
+pub record Progress (old now : Connection) (left : Received) : Type 0 where
+  pub came : List ℕ
+  pub consumed : Consumes old.input now.input came
+  pub replies : List Reply
+  pub served : Served old.log came left.bytes replies now.log
+  pub wrote : Appends old.output now.output (answers_bytes replies)
+  pub between : left.place ≡ BetweenCalls
+
+pub started : (old : Connection) (left : Received) → left ≡ behind_calls [] → Progress old old left
+started old left e = rw e (record {
+  came = [];
+  consumed = Consumes-nil old.input;
+  replies = [];
+  served = record { calls = []; whole = refl; fits = All-nil IsRecord; answers = refl; sent = All-nil FitsMessages };
+  wrote = Appends-nil old.output;
+  between = refl;
+})
+
+-- ---- what was served
+
+-- more came, behind what is left
+served_then : (log new : Log) (came rest more : List ℕ) (replies : List Reply) → Served log came rest replies new → Served log (came ++ more) (rest ++ more) replies new
+served_then log new came rest more replies s = record {
+  calls = s.calls;
+  whole = ap (λ (l : List ℕ). l ++ more) s.whole ∙ append_assoc (calls_bytes s.calls) rest more;
+  fits = s.fits;
+  answers = s.answers;
+  sent = s.sent;
+}
+
+answers_more : (old mid new : Log) (calls : List Call) (replies : List Reply) (call : Call) (reply : Reply) → Answers old calls replies mid → ReplyTo (asked_by call) mid reply new
+    → Answers old (calls ++ call ∷ []) (replies ++ reply ∷ []) new
+answers_more old mid new [] [] call reply s r = (new, subst (λ (log : Log). ReplyTo (asked_by call) log reply new) s r, refl)
+answers_more old mid new [] (one ∷ replies) call reply s r = absurd s
+answers_more old mid new (one ∷ calls) [] call reply s r = absurd s
+answers_more old mid new (one ∷ calls) (answer ∷ replies) call reply s r = (s.0, s.1, answers_more s.0 mid new calls replies call reply s.2 r)
+
+-- one call more, with its reply
+served_more : (log mid new : Log) (came rest rest' : List ℕ) (replies : List Reply) (call : Call) (reply : Reply) → Served log came rest replies mid
+    → rest ≡ flat_map spelling (call_records call) ++ rest' → All IsRecord (call_records call) → ReplyTo (asked_by call) mid reply new → FitsMessages reply
+    → Served log came rest' (replies ++ reply ∷ []) new
+served_more log mid new came rest rest' replies call reply s whole fits replied sent = record {
+  calls = s.calls ++ call ∷ [];
+  whole = s.whole ∙ ap (λ (l : List ℕ). calls_bytes s.calls ++ l) whole ∙ sym (append_assoc (calls_bytes s.calls) (flat_map spelling (call_records call)) rest') ∙ ap (λ (l : List ℕ). l ++ rest') (sym bytes);
+  fits = rw records (All-append IsRecord (flat_map call_records s.calls) (call_records call) s.fits fits);
+  answers = answers_more log mid new s.calls replies call reply s.answers replied;
+  sent = All-append FitsMessages replies (reply ∷ []) s.sent (All-cons FitsMessages reply [] sent (All-nil FitsMessages));
+}
+  where
+    records : flat_map call_records (s.calls ++ call ∷ []) ≡ flat_map call_records s.calls ++ call_records call
+    records = flat_map-append call_records s.calls (call ∷ []) ∙ ap (λ l. flat_map call_records s.calls ++ l) (append-nil (call_records call))
+
+    bytes : calls_bytes (s.calls ++ call ∷ []) ≡ calls_bytes s.calls ++ flat_map spelling (call_records call)
+    bytes = ap (flat_map spelling) records ∙ flat_map-append spelling (flat_map call_records s.calls) (call_records call)
+
+-- the bytes of one answer more
+answers_last : (replies : List Reply) (reply : Reply) → answers_bytes (replies ++ reply ∷ []) ≡ answers_bytes replies ++ flat_map spelling (answer_records reply)
+answers_last replies reply =
+    ap (flat_map spelling) (flat_map-append answer_records replies (reply ∷ []) ∙ ap (λ l. flat_map answer_records replies ++ l) (append-nil (answer_records reply)))
+    ∙ flat_map-append spelling (flat_map answer_records replies) (answer_records reply)
+
+-- ---- a call is served
+
+module _ (old mid : Connection) (left : Received) (p : Progress old mid left) where
+  -- what is left, once more came, is behind calls
+  behind : (more : List ℕ) → with_more left more ≡ behind_calls (left.bytes ++ more)
+  behind more = ap (λ (place : Place). received (left.bytes ++ more) place) p.between
+    where
+      received : List ℕ → Place → Received
+      received bytes place = record { bytes = bytes; place = place }
+
+  -- a call came, and was answered
+  pub call_served : (new : Connection) (left' : Received) (call : Call) (reply : Reply) → (more : List ℕ) × Consumes mid.input new.input more × CallArrives (Ok (arrival.Whole call)) left left' more
+      → ReplyTo (asked_by call) mid.log reply new.log → FitsMessages reply → Appends mid.output new.output (flat_map spelling (answer_records reply)) → Progress old new left'
+  call_served new left' call reply q replied sent wrote = record {
+    came = p.came ++ q.0;
+    consumed = Consumes-trans old.input mid.input new.input p.came q.0 p.consumed q.1;
+    replies = p.replies ++ reply ∷ [];
+    served = served_more old.log mid.log new.log (p.came ++ q.0) (left.bytes ++ q.0) left'.bytes p.replies call reply (served_then old.log mid.log p.came left.bytes q.0 p.replies p.served) q.2.whole q.2.fits replied sent;
+    wrote = rw (answers_last p.replies reply) (Appends-trans old.output mid.output new.output (answers_bytes p.replies) (flat_map spelling (answer_records reply)) p.wrote wrote);
+    between = q.2.behind;
+  }
+
+  -- its answer was begun
+  pub answer_failed : (new : Connection) (left' : Received) (call : Call) (reply : Reply) → (more : List ℕ) × Consumes mid.input new.input more × CallArrives (Ok (arrival.Whole call)) left left' more
+      → ReplyTo (asked_by call) mid.log reply new.log → FitsMessages reply → AppendsBeginning mid.output new.output (flat_map spelling (answer_records reply)) → new.failures ≡ old.failures + 1 → Failed old new
+  answer_failed new left' call reply q replied sent wrote counted = record {
+    came = p.came ++ q.0;
+    consumed = Consumes-trans old.input mid.input new.input p.came q.0 p.consumed q.1;
+    rest = left'.bytes;
+    last = [];
+    is_last = inl refl;
+    replies = p.replies ++ reply ∷ [];
+    served = served_more old.log mid.log new.log (p.came ++ q.0) (left.bytes ++ q.0) left'.bytes p.replies call reply (served_then old.log mid.log p.came left.bytes q.0 p.replies p.served) q.2.whole q.2.fits replied sent;
+    wrote = rw (append-nil (answers_bytes (p.replies ++ reply ∷ [])), answers_last p.replies reply) (beginning_of_content old.output mid.output new.output (answers_bytes p.replies) (flat_map spelling (answer_records reply)) p.wrote wrote);
+    counted = counted;
+  }
+
+  -- the input ended
+  pub input_ended : (new : Connection) (left' : Received) → (more : List ℕ) × Consumes mid.input new.input more × CallArrives (Ok arrival.Nothing) left left' more → IsAtEnd new.input
+      → new.output ≡ mid.output → new.log ≡ mid.log → new.failures ≡ old.failures → Finished old new
+  input_ended new left' q at_end output log quiet =
+      let nothing : left.bytes ++ q.0 ≡ [] = ap (λ (r : Received). r.bytes) q.2 in
+      let served = served_then old.log mid.log p.came left.bytes q.0 p.replies p.served in
+      record {
+        came = p.came ++ q.0;
+        consumed = Consumes-trans old.input mid.input new.input p.came q.0 p.consumed q.1;
+        at_end = at_end;
+        replies = p.replies;
+        served = rw (log, ← nothing) served;
+        wrote = rw output p.wrote;
+        quiet = quiet;
+      }
+
+  -- the input ended inside a call
+  pub call_cut_short : (new : Connection) (left' : Received) → (more : List ℕ) × Consumes mid.input new.input more × CallArrives (Ok arrival.CutShort) left left' more → IsAtEnd new.input
+      → new.output ≡ mid.output → new.log ≡ mid.log → new.failures ≡ old.failures → CutShort old new
+  call_cut_short new left' q at_end output log quiet = record {
+    came = p.came ++ q.0;
+    consumed = Consumes-trans old.input mid.input new.input p.came q.0 p.consumed q.1;
+    at_end = at_end;
+    rest = left.bytes ++ q.0;
+    open_call = rw (behind q.0) at q.2;
+    replies = p.replies;
+    served = rw log (served_then old.log mid.log p.came left.bytes q.0 p.replies p.served);
+    wrote = rw output p.wrote;
+    quiet = quiet;
+  }
+
+  -- why reading stopped
+  cause : (fault : Fault) (more : List ℕ) → fault ≢ Transport → Stops fault (with_more left more) → IsCause fault (left.bytes ++ more)
+  cause fault more other (inl e) = absurd (other e)
+  cause fault more other (inr (inl e)) = inl e
+  cause fault more other (inr (inr ends)) = inr (rw (behind more) at ends)
+
+  -- a faulty record, or want of memory
+  pub connection_refused : (new : Connection) (left' : Received) (fault : Fault) → (more : List ℕ) × Consumes mid.input new.input more × CallArrives (Err fault) left left' more → fault ≢ Transport
+      → Appends mid.output new.output (last_status fault) → new.log ≡ mid.log → new.failures ≡ old.failures → Refused fault old new
+  connection_refused new left' fault q other wrote log quiet = record {
+    came = p.came ++ q.0;
+    consumed = Consumes-trans old.input mid.input new.input p.came q.0 p.consumed q.1;
+    rest = left.bytes ++ q.0;
+    cause = cause fault q.0 other q.2;
+    replies = p.replies;
+    served = rw log (served_then old.log mid.log p.came left.bytes q.0 p.replies p.served);
+    wrote = Appends-trans old.output mid.output new.output (answers_bytes p.replies) (last_status fault) p.wrote wrote;
+    quiet = quiet;
+  }
+
+  -- its status was begun
+  pub status_failed : (new : Connection) (left' : Received) (fault : Fault) → (more : List ℕ) × Consumes mid.input new.input more × CallArrives (Err fault) left left' more → fault ≢ Transport
+      → AppendsBeginning mid.output new.output (last_status fault) → new.log ≡ mid.log → new.failures ≡ old.failures + 1 → Failed old new
+  status_failed new left' fault q other wrote log counted = record {
+    came = p.came ++ q.0;
+    consumed = Consumes-trans old.input mid.input new.input p.came q.0 p.consumed q.1;
+    rest = left.bytes ++ q.0;
+    last = last_status fault;
+    is_last = inr (fault, cause fault q.0 other q.2, refl);
+    replies = p.replies;
+    served = rw log (served_then old.log mid.log p.came left.bytes q.0 p.replies p.served);
+    wrote = beginning_of_content old.output mid.output new.output (answers_bytes p.replies) (last_status fault) p.wrote wrote;
+    counted = counted;
+  }
+
+  -- a read failed
+  pub read_failed : (new : Connection) → (more : List ℕ) → Consumes mid.input new.input more → new.output ≡ mid.output → new.log ≡ mid.log → new.failures ≡ old.failures + 1 → Failed old new
+  read_failed new more consumed output log counted = record {
+    came = p.came ++ more;
+    consumed = Consumes-trans old.input mid.input new.input p.came more p.consumed consumed;
+    rest = left.bytes ++ more;
+    last = [];
+    is_last = inl refl;
+    replies = p.replies;
+    served = rw log (served_then old.log mid.log p.came left.bytes more p.replies p.served);
+    wrote = rw (append-nil (answers_bytes p.replies), output) (record { front = answers_bytes p.replies; rest = []; splits = sym (append-nil (answers_bytes p.replies)); wrote = p.wrote });
+    counted = counted;
+  }
+
+  -- by a fault while a call was read
+  pub ended_by : (new : Connection) (left' : Received) (fault : Fault) (result : Result (Unit {0}) Fault) (reads writes reads' writes' : ℕ) → (more : List ℕ) × Consumes mid.input new.input more × CallArrives (Err fault) left left' more
+      → (fault ≡ Transport → reads' ≡ reads + 1) × (fault ≢ Transport → reads' ≡ reads) → RefusesBy fault result mid.output new.output writes writes' → new.log ≡ mid.log
+      → old.failures ≡ reads + writes → new.failures ≡ reads' + writes' → Serves result old new
+  ended_by new left' fault result reads writes reads' writes' q counted (inl stays) log before after =
+      let one = counted.0 stays.transport in
+      let none = stays.quiet in
+      rw stays.result_is (inr (read_failed new q.0 q.1 stays.same log (omega arith)))
+  ended_by new left' fault result reads writes reads' writes' q counted (inr (inl says)) log before after =
+      let none = counted.1 says.other in
+      let quiet = says.quiet in
+      rw says.result_is (by_fault fault says.other (connection_refused new left' fault q says.other says.wrote log (omega arith)))
+    where
+      by_fault : (fault : Fault) → fault ≢ Transport → Refused fault old new → Serves (Err fault) old new
+      by_fault Transport other refused = absurd (other refl)
+      by_fault fault other refused = refused
+  ended_by new left' fault result reads writes reads' writes' q counted (inr (inr fails)) log before after =
+      let none = counted.1 fails.other in
+      let one = fails.counted in
+      rw fails.result_is (inr (status_failed new left' fault q fails.other fails.wrote log (omega arith)))
+
+-- a connection that is refused before anything came
+pub refused_first : (old new : Connection) (fault : Fault) (result : Result (Unit {0}) Fault) (reads writes writes' : ℕ) → old.log ≡ [] → new.log ≡ [] → new.input ≡ old.input → fault ≡ OutOfMemory
+    → RefusesBy fault result old.output new.output writes writes' → old.failures ≡ reads + writes → new.failures ≡ reads + writes' → Serves result old new
+refused_first old new fault result reads writes writes' begins same input memory refuses before after =
+    ended_by old old (behind_calls []) (started old (behind_calls []) refl) new (behind_calls []) fault result reads writes reads writes'
+    ([], rw input (Consumes-nil old.input), inr (inl memory)) ((λ e. let both : OutOfMemory ≡ Transport = sym memory ∙ e in absurd cc), λ _. refl) refuses (same ∙ sym begins) before after

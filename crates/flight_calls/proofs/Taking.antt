@@ -1,0 +1,270 @@
+-- Records taken one after another from what comes.
+use Rattle.std.proofs.Common.{◌≡◌, ◌≢◌, ◌⊎◌, ℕ, List, [], ◌∷◌, ◌++◌, map, All, Option, Some, None, Result, Ok, Err, refl, sym, ap, subst, ◌∙◌, append_assoc, append-nil, inl, inr}
+use Rattle.std.specs.List.{flat_map}
+use Rattle.std.specs.Option.{option_and_then}
+use Rattle.std.proofs.lemmas.Grind.{flat_map-append}
+use Rattle.std.proofs.lemmas.List.{map-append}
+use Rattle.std.proofs.lemmas.List.Elements.{All-append, All-cons, All-nil}
+use Rattle.std.specs.Io.KnownBytes.{Consumes}
+use Rattle.std.proofs.KnownBytes.{Consumes-nil, Consumes-trans}
+use Rattle.scan_base.specs.declared.fault.Fault.{Fault}
+use Rattle.scan_base.specs.declared.fault.Fault.TheVariants.{OutOfMemory, Transport}
+use Rattle.grpc_frame.specs.declared.place.Place.{Place}
+use Rattle.grpc_frame.specs.declared.place.Place.TheVariants.{BetweenCalls, InsideCall, InAnswer}
+use Rattle.grpc_frame.specs.declared.record.Record.{Record}
+use Rattle.grpc_frame.specs.declared.record.Record.TheVariants.{Open, Message, End, Status}
+use Rattle.grpc_frame.specs.Records.{spelling, IsRecord, place_after, place_after_all, Received, with_more, Leads, Breaks, IsCut, Ending, nothing_more, cut, broken, Ends}
+use Rattle.grpc_frame.specs.Arrivals.{Arrives}
+use Rattle.grpc_frame.proofs.Splitting.{place_after_all-append}
+use Rattle.flight_core.specs.Payloads.{Payload}
+use Rattle.flight_calls.specs.Owed.{EndsIn}
+use Rattle.flight_calls.specs.Reading.{Fronts, EndsInside, Stops, MessagesArrive, CallArrives}
+use Rattle.flight_calls.specs.declared.call.Arrival.TheVariants as arrival
+
+-- these records stand in front, none ends a call, and what is left follows them
+pub record Passed (from : Received) (records : List Record) (left : Received) : Type 0 where
+  pub whole : from.bytes ≡ flat_map spelling records ++ left.bytes
+  pub fits : All IsRecord records
+  pub places : place_after_all from.place records ≡ Some left.place
+  pub no_end : All (λ found. found ≢ End) records
+
+pub passed_none : (from : Received) → Passed from [] from
+passed_none from = record { whole = refl; fits = All-nil IsRecord; places = refl; no_end = All-nil (λ found. found ≢ End) }
+
+-- more bytes came
+pub passed_then : (from left : Received) (records : List Record) (more : List ℕ) → Passed from records left → Passed (with_more from more) records (with_more left more)
+passed_then from left records more p = record {
+  whole = ap (λ (b : List ℕ). b ++ more) p.whole ∙ append_assoc (flat_map spelling records) left.bytes more;
+  fits = p.fits;
+  places = p.places;
+  no_end = p.no_end;
+}
+
+-- the bytes of one record more
+one_more : (records : List Record) (found : Record) → flat_map spelling (records ++ found ∷ []) ≡ flat_map spelling records ++ spelling found
+one_more records found = flat_map-append spelling records (found ∷ []) ∙ ap (λ l. flat_map spelling records ++ l) (append-nil (spelling found))
+
+whole_more : (from left new : Received) (records : List Record) (found : Record) → from.bytes ≡ flat_map spelling records ++ left.bytes → Leads found left new
+    → from.bytes ≡ flat_map spelling (records ++ found ∷ []) ++ new.bytes
+whole_more from left new records found whole leads =
+    whole ∙ ap (λ (b : List ℕ). flat_map spelling records ++ b) leads.whole
+    ∙ sym (append_assoc (flat_map spelling records) (spelling found) new.bytes)
+    ∙ ap (λ (b : List ℕ). b ++ new.bytes) (sym (one_more records found))
+
+pub passed_more : (from left new : Received) (records : List Record) (found : Record) → Passed from records left → Leads found left new → found ≢ End → Passed from (records ++ found ∷ []) new
+passed_more from left new records found p leads not_end = record {
+  whole = whole_more from left new records found p.whole leads;
+  fits = All-append IsRecord records (found ∷ []) p.fits (All-cons IsRecord found [] leads.fits (All-nil IsRecord));
+  places = place_after_all-append from.place left.place records (found ∷ []) p.places ∙ ap (λ (o : Option Place). option_and_then (λ next. Some next) o) leads.moves;
+  no_end = All-append (λ r. r ≢ End) records (found ∷ []) p.no_end (All-cons (λ r. r ≢ End) found [] not_end (All-nil (λ r. r ≢ End)));
+}
+
+-- the place behind an End
+behind_end : (place next : Place) → place_after place End ≡ Some next → next ≡ BetweenCalls
+behind_end BetweenCalls next e = absurd cc
+behind_end InsideCall next e = cc
+behind_end InAnswer next e = absurd cc
+
+-- the call's End
+pub passed_end : (from left new : Received) (records : List Record) → Passed from records left → Leads End left new → Fronts (records ++ End ∷ []) from new
+passed_end from left new records p leads = record {
+  whole = whole_more from left new records End p.whole leads;
+  fits = All-append IsRecord records (End ∷ []) p.fits (All-cons IsRecord End [] leads.fits (All-nil IsRecord));
+  behind = behind_end left.place new.place leads.moves;
+}
+
+-- how it ends behind them
+pub passed_ends : (from left : Received) (records : List Record) (ending : Ending) → Passed from records left → Ends left ending → EndsIn from ending
+passed_ends from left records ending p ends = record {
+  records = records;
+  rest = left;
+  splits = record { whole = p.whole; each = p.fits; places = p.places; ends = ends };
+  no_end = p.no_end;
+}
+
+-- more has to come behind them
+pub passed_cut : (from left : Received) (records : List Record) → Passed from records left → IsCut left → EndsInside from
+passed_cut from left records p is_cut = by left.bytes refl
+  where
+    by : (bytes : List ℕ) → left.bytes ≡ bytes → EndsInside from
+    by [] e = inr (passed_ends from left records nothing_more p e)
+    by (byte ∷ bytes) e = inl (passed_ends from left records cut p ((λ none. let both : byte ∷ bytes ≡ [] = sym e ∙ none in cc), is_cut))
+
+-- ---- a call's messages
+
+-- bytes that came in two parts
+twice : (old : Received) (came more : List ℕ) → with_more (with_more old came) more ≡ with_more old (came ++ more)
+twice old came more = ap (λ (b : List ℕ). with_place old.place b) (append_assoc old.bytes came more)
+  where
+    with_place : Place → List ℕ → Received
+    with_place place bytes = record { bytes = bytes; place = place }
+
+-- the messages so far
+pub record Collected (source source' : Option (List ℕ)) (old left : Received) (messages : List Payload) : Type 0 where
+  pub came : List ℕ
+  pub consumed : Consumes source source' came
+  pub passed : Passed (with_more old came) (map Message messages) left
+  pub inside : left.place ≡ InsideCall
+
+pub collected_none : (source : Option (List ℕ)) (old : Received) → old.place ≡ InsideCall → Collected source source old old []
+collected_none source old inside = record {
+  came = [];
+  consumed = Consumes-nil source;
+  passed = record { whole = append-nil old.bytes; fits = All-nil IsRecord; places = refl; no_end = All-nil (λ found. found ≢ End) };
+  inside = inside;
+}
+
+-- and of what came since, what arrived
+pub record Since (source source' : Option (List ℕ)) (old new : Received) (arrived : Result (Option Record) Fault) : Type 0 where
+  pub came : List ℕ
+  pub consumed : Consumes source source' came
+  pub arrives : Arrives arrived old new came
+
+pub since : (source source' : Option (List ℕ)) (old new : Received) (arrived : Result (Option Record) Fault) → (came : List ℕ) × Consumes source source' came × Arrives arrived old new came
+    → Since source source' old new arrived
+since source source' old new arrived p = record { came = p.0; consumed = p.1; arrives = p.2 }
+
+module _ (a b c : Option (List ℕ)) (old mid new : Received) (messages : List Payload) (p : Collected a b old mid messages) where
+  abbrev all_came : List ℕ → List ℕ
+  all_came more = p.came ++ more
+
+  -- they stand before what came since
+  stand : (more : List ℕ) → Passed (with_more old (all_came more)) (map Message messages) (with_more mid more)
+  stand more = subst (λ (from : Received). Passed from (map Message messages) (with_more mid more)) (twice old p.came more) (passed_then (with_more old p.came) mid (map Message messages) more p.passed)
+
+  all_consumed : (more : List ℕ) → Consumes b c more → Consumes a c (all_came more)
+  all_consumed more q = Consumes-trans a b c p.came more p.consumed q
+
+  pub collected_more : (message : Payload) → Since b c mid new (Ok (Some (Message message))) → Collected a c old new (messages ++ message ∷ [])
+  collected_more message q = record {
+    came = all_came q.came;
+    consumed = all_consumed q.came q.consumed;
+    passed = rw (map-append Message messages (message ∷ [])) (passed_more (with_more old (all_came q.came)) (with_more mid q.came) new (map Message messages) (Message message) (stand q.came) q.arrives (λ e. cc));
+    inside = stays new.place (rw p.inside at q.arrives.moves);
+  }
+    where
+      stays : (next : Place) → place_after InsideCall (Message message) ≡ Some next → next ≡ InsideCall
+      stays next e = cc
+
+  pub collected_end : (found : Record) → ((message : Payload) → found ≢ Message message) → Since b c mid new (Ok (Some found)) → (came : List ℕ) × Consumes a c came × MessagesArrive (Ok (Some messages)) old new came
+  collected_end found other q = (all_came q.came, all_consumed q.came q.consumed, by found other q.arrives)
+    where
+      by : (found : Record) → ((message : Payload) → found ≢ Message message) → Leads found (with_more mid q.came) new → Fronts (map Message messages ++ End ∷ []) (with_more old (all_came q.came)) new
+      by (Open path) other leads = let moves = rw p.inside at leads.moves in absurd cc
+      by (Message message) other leads = absurd (other message refl)
+      by End other leads = passed_end (with_more old (all_came q.came)) (with_more mid q.came) new (map Message messages) (stand q.came) leads
+      by (Status code text) other leads = let moves = rw p.inside at leads.moves in absurd cc
+
+  pub collected_cut : Since b c mid new (Ok None) → (came : List ℕ) × Consumes a c came × MessagesArrive (Ok None) old new came
+  collected_cut q = (
+    all_came q.came,
+    all_consumed q.came q.consumed,
+    passed_cut (with_more old (all_came q.came)) (with_more mid q.came) (map Message messages) (stand q.came) (rw q.arrives.0 at q.arrives.1),
+  )
+
+  pub collected_stop : (fault : Fault) → Since b c mid new (Err fault) → (came : List ℕ) × Consumes a c came × MessagesArrive (Err fault) old new came
+  collected_stop fault q = (all_came q.came, all_consumed q.came q.consumed, by q.arrives)
+    where
+      by : (fault ≡ Transport) ⊎ ((fault ≡ OutOfMemory) ⊎ Breaks (with_more mid q.came) fault) → Stops fault (with_more old (all_came q.came))
+      by (inl e) = inl e
+      by (inr (inl e)) = inr (inl e)
+      by (inr (inr breaks)) = inr (inr (passed_ends (with_more old (all_came q.came)) (with_more mid q.came) (map Message messages) (broken fault) (stand q.came) breaks))
+
+  -- a message came, and memory for it was refused
+  pub collected_lost : (message : Payload) → Since b c mid new (Ok (Some (Message message))) → (fault : Fault) → fault ≡ OutOfMemory → (came : List ℕ) × Consumes a c came × MessagesArrive (Err fault) old new came
+  collected_lost message q fault e = (all_came q.came, all_consumed q.came q.consumed, inr (inl e))
+
+-- ---- a call
+
+-- records that end so behind others
+ends_after : (from left : Received) (records : List Record) (ending : Ending) → Passed from records left → EndsIn left ending → EndsIn from ending
+ends_after from left records ending p q = record {
+  records = records ++ q.records;
+  rest = q.rest;
+  splits = record {
+    whole = p.whole ∙ ap (λ (b : List ℕ). flat_map spelling records ++ b) q.splits.whole
+        ∙ sym (append_assoc (flat_map spelling records) (flat_map spelling q.records) q.rest.bytes)
+        ∙ ap (λ (b : List ℕ). b ++ q.rest.bytes) (sym (flat_map-append spelling records q.records));
+    each = All-append IsRecord records q.records p.fits q.splits.each;
+    places = place_after_all-append from.place left.place records q.records p.places ∙ q.splits.places;
+    ends = q.splits.ends;
+  };
+  no_end = All-append (λ r. r ≢ End) records q.records p.no_end q.no_end;
+}
+
+-- a fault before the first record
+pub first_stops : (a b : Option (List ℕ)) (old new : Received) (fault : Fault) → Since a b old new (Err fault) → (came : List ℕ) × Consumes a b came × CallArrives (Err fault) old new came
+first_stops a b old new fault q = (q.came, q.consumed, by q.arrives)
+  where
+    by : (fault ≡ Transport) ⊎ ((fault ≡ OutOfMemory) ⊎ Breaks (with_more old q.came) fault) → Stops fault (with_more old q.came)
+    by (inl e) = inl e
+    by (inr (inl e)) = inr (inl e)
+    by (inr (inr breaks)) = inr (inr (passed_ends (with_more old q.came) (with_more old q.came) [] (broken fault) (passed_none (with_more old q.came)) breaks))
+
+-- the input ended before the first record was whole
+pub first_cut : (a b : Option (List ℕ)) (old new : Received) → old.place ≡ BetweenCalls → ¬ (new ≡ record { bytes = []; place = BetweenCalls }) → Since a b old new (Ok None)
+    → (came : List ℕ) × Consumes a b came × CallArrives (Ok arrival.CutShort) old new came
+first_cut a b old new between some q = (
+  q.came,
+  q.consumed,
+  (
+    (λ none. some (q.arrives.0 ∙ empty (with_more old q.came) none between)),
+    passed_cut (with_more old q.came) (with_more old q.came) [] (passed_none (with_more old q.came)) (rw q.arrives.0 at q.arrives.1),
+  ),
+)
+  where
+    empty : (left : Received) → left.bytes ≡ [] → left.place ≡ BetweenCalls → left ≡ record { bytes = []; place = BetweenCalls }
+    empty left none place = ap (λ (b : List ℕ). received b left.place) none ∙ ap (λ (p : Place). received [] p) place
+      where
+        received : List ℕ → Place → Received
+        received bytes place = record { bytes = bytes; place = place }
+
+module _ (a b c : Option (List ℕ)) (old mid new : Received) (path : List ℕ) (between : old.place ≡ BetweenCalls) (p : Since a b old mid (Ok (Some (Open path)))) where
+  pub call_is_open : mid.place ≡ InsideCall
+  call_is_open = by mid.place (rw between at p.arrives.moves)
+    where
+      by : (next : Place) → place_after BetweenCalls (Open path) ≡ Some next → next ≡ InsideCall
+      by next e = cc
+
+  abbrev together : List ℕ → List ℕ
+  together more = p.came ++ more
+
+  -- the Open stands in front
+  opened : (more : List ℕ) → Passed (with_more old (together more)) (Open path ∷ []) (with_more mid more)
+  opened more = subst (λ (from : Received). Passed from (Open path ∷ []) (with_more mid more)) (twice old p.came more)
+      (passed_then (with_more old p.came) mid (Open path ∷ []) more (passed_more (with_more old p.came) (with_more old p.came) mid [] (Open path) (passed_none (with_more old p.came)) p.arrives (λ e. cc)))
+
+  both_consumed : (more : List ℕ) → Consumes b c more → Consumes a c (together more)
+  both_consumed more q = Consumes-trans a b c p.came more p.consumed q
+
+  pub call_whole : (messages : List Payload) → (more : List ℕ) × Consumes b c more × MessagesArrive (Ok (Some messages)) mid new more
+      → (came : List ℕ) × Consumes a c came × Fronts (Open path ∷ (map Message messages ++ End ∷ [])) (with_more old came) new
+  call_whole messages q = (
+    together q.0,
+    both_consumed q.0 q.1,
+    record {
+      whole = (opened q.0).whole ∙ ap (λ (t : List ℕ). flat_map spelling (Open path ∷ []) ++ t) q.2.whole
+          ∙ sym (append_assoc (flat_map spelling (Open path ∷ [])) (flat_map spelling (map Message messages ++ End ∷ [])) new.bytes)
+          ∙ ap (λ (t : List ℕ). t ++ new.bytes) (sym (flat_map-append spelling (Open path ∷ []) (map Message messages ++ End ∷ [])));
+      fits = All-append IsRecord (Open path ∷ []) (map Message messages ++ End ∷ []) (opened q.0).fits q.2.fits;
+      behind = q.2.behind;
+    },
+  )
+
+  pub call_cut : (more : List ℕ) × Consumes b c more × MessagesArrive (Ok None) mid new more → (came : List ℕ) × Consumes a c came × CallArrives (Ok arrival.CutShort) old new came
+  call_cut q = (together q.0, both_consumed q.0 q.1, ((λ none. some (sym none ∙ (opened q.0).whole)), by q.2))
+    where
+      some : ¬ ([] ≡ flat_map spelling (Open path ∷ []) ++ (with_more mid q.0).bytes)
+      some e = cc
+
+      by : EndsInside (with_more mid q.0) → EndsInside (with_more old (together q.0))
+      by (inl ends) = inl (ends_after (with_more old (together q.0)) (with_more mid q.0) (Open path ∷ []) cut (opened q.0) ends)
+      by (inr ends) = inr (ends_after (with_more old (together q.0)) (with_more mid q.0) (Open path ∷ []) nothing_more (opened q.0) ends)
+
+  pub call_stops : (fault : Fault) → (more : List ℕ) × Consumes b c more × MessagesArrive (Err fault) mid new more → (came : List ℕ) × Consumes a c came × CallArrives (Err fault) old new came
+  call_stops fault q = (together q.0, both_consumed q.0 q.1, by q.2)
+    where
+      by : Stops fault (with_more mid q.0) → Stops fault (with_more old (together q.0))
+      by (inl e) = inl e
+      by (inr (inl e)) = inr (inl e)
+      by (inr (inr ends)) = inr (inr (ends_after (with_more old (together q.0)) (with_more mid q.0) (Open path ∷ []) (broken fault) (opened q.0) ends))

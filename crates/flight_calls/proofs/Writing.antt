@@ -1,0 +1,58 @@
+-- An answer as it is written.
+use Rattle.std.proofs.Common.{◌≡◌, ℕ, ◌+◌, ◌<◌, List, [], ◌∷◌, ◌++◌, length, map, take, drop, get_or, Option, sym, ap, ◌∙◌, append_assoc, append-nil}
+use Rattle.std.specs.List.{flat_map}
+use Rattle.std.specs.Io.KnownBytes.{Appends}
+use Rattle.std.specs.Prelude.{Result}
+use Rattle.std.proofs.lemmas.Grind.{flat_map-append}
+use Rattle.std.proofs.lemmas.List.{map-append, take-append-drop, drop_more}
+use Rattle.grpc_frame.specs.declared.record.Record.{Record}
+use Rattle.grpc_frame.specs.declared.record.Record.TheVariants.{Message}
+use Rattle.grpc_frame.specs.Records.{spelling}
+use Rattle.grpc_frame.specs.Ends.{AppendsBeginning, Writes}
+use Rattle.grpc_frame.proofs.Growing.{beginning_of_head, beginning_of_content, content_behind}
+use Rattle.flight_core.specs.Payloads.{Payload}
+
+-- the bytes of messages, and of an answer
+
+abbrev pub messages_bytes : List Payload → List ℕ
+messages_bytes payloads = flat_map spelling (map Message payloads)
+
+abbrev pub answer_bytes : List Payload → Record → List ℕ
+answer_bytes payloads status = flat_map spelling (map Message payloads ++ status ∷ [])
+
+-- the messages, and then the status
+status_last : (payloads : List Payload) (status : Record) → answer_bytes payloads status ≡ messages_bytes payloads ++ spelling status
+status_last payloads status = flat_map-append spelling (map Message payloads) (status ∷ []) ∙ ap (λ l. messages_bytes payloads ++ l) (append-nil (spelling status))
+
+-- the messages before one, that one, and the rest of the answer
+record Cut (payloads : List Payload) (status : Record) (i : ℕ) (payload : Payload) : Type 0 where
+  rest : List ℕ
+  whole : answer_bytes payloads status ≡ messages_bytes (take i payloads) ++ (spelling (Message payload) ++ rest)
+
+cut_at : (payloads : List Payload) (status : Record) (i : ℕ) (payload : Payload) → i < length payloads → payload ≡ get_or payloads i payload → Cut payloads status i payload
+cut_at payloads status i payload inside is =
+    let behind = flat_map spelling (map Message (drop (i + 1) payloads) ++ status ∷ []) in
+    let parts : payloads ≡ take i payloads ++ (payload ∷ drop (i + 1) payloads) =
+    sym (take-append-drop i payloads) ∙ ap (λ l. take i payloads ++ l) (drop_more payloads i payload inside ∙ ap (λ (p : Payload). p ∷ drop (i + 1) payloads) (sym is)) in
+    let front = map Message (take i payloads) in
+    let back = map Message (payload ∷ drop (i + 1) payloads) in
+    record {
+      rest = behind;
+      whole = ap (λ (l : List Payload). answer_bytes l status) parts
+          ∙ ap (λ l. flat_map spelling (l ++ status ∷ [])) (map-append Message (take i payloads) (payload ∷ drop (i + 1) payloads))
+          ∙ ap (flat_map spelling) (append_assoc front back (status ∷ []))
+          ∙ flat_map-append spelling front (back ++ status ∷ []);
+    }
+
+-- a message was begun
+pub message_begun : (a b c : Option (List ℕ)) (payloads : List Payload) (status : Record) (i : ℕ) (payload : Payload) → i < length payloads → payload ≡ get_or payloads i payload
+    → Appends a b (messages_bytes (take i payloads)) → AppendsBeginning b c (spelling (Message payload)) → AppendsBeginning a c (answer_bytes payloads status)
+message_begun a b c payloads status i payload inside is wrote begun =
+    let at = cut_at payloads status i payload inside is in
+    rw at.whole (beginning_of_content a b c (messages_bytes (take i payloads)) (spelling (Message payload) ++ at.rest) wrote (beginning_of_head b c (spelling (Message payload)) at.rest begun))
+
+-- the status was written, or begun
+pub status_written : {A E : Type 0} (r : Result A E) (a b c : Option (List ℕ)) (payloads : List Payload) (status : Record)
+    → Appends a b (messages_bytes payloads) → Writes r b c (spelling status) → Writes r a c (answer_bytes payloads status)
+status_written r a b c payloads status wrote last =
+    rw (status_last payloads status) (content_behind r a b c (messages_bytes payloads) (spelling status) wrote last)

@@ -1,0 +1,27 @@
+use Rattle.std.proofs.Common.{◌≡◌, ◌+◌}
+use Rattle.grpc_frame.specs.Arrivals.{work_left}
+use Rattle.flight_calls.proofs.Serving.{Progress}
+use Rattle.flight_calls.proofs.server.serve.Given as goal
+
+abbrev pub invariant-loop-call : goal.invariant-loop-call
+invariant-loop-call g l = record {
+  progress : Progress
+      (record {
+        input = g.R.Input.remaining l.initial.reader;
+        output = g.W.Output.contents l.initial.writer;
+        failures = g.R.Input.failures l.initial.reader + g.W.Output.failures l.initial.writer;
+        log = l.initial.plain;
+      })
+      (record {
+        input = g.R.Input.remaining l.reader;
+        output = g.W.Output.contents l.writer;
+        failures = g.R.Input.failures l.reader + g.W.Output.failures l.writer;
+        log = l.plain;
+      })
+      l.inbox;
+  reads : g.R.Input.failures l.reader ≡ g.R.Input.failures l.initial.reader;
+  writes : g.W.Output.failures l.writer ≡ g.W.Output.failures l.initial.writer;
+}
+
+abbrev pub decreases-loop-call : goal.decreases-loop-call
+decreases-loop-call g l = work_left (g.R.Input.turns l.reader) l.inbox

@@ -1,0 +1,75 @@
+-- Calls and their answers.
+use Rattle.std.specs.Prelude.{◌≡◌, ℕ, List, [], ◌∷◌, ◌++◌, map, Option, Some, None, Result, Ok, Err, codes, if◌then◌else◌}
+use Rattle.std.specs.Str.{bytes_eq}
+use Rattle.scan_base.specs.declared.fault.Fault.{Fault}
+use Rattle.scan_base.specs.declared.fault.Fault.TheVariants.{UnknownMethod, BadProto}
+use Rattle.scan_base.specs.Reading.{◌>>=◌, wanted}
+use Rattle.grpc_frame.specs.declared.record.Record.{Record}
+use Rattle.grpc_frame.specs.declared.record.Record.TheVariants.{Open, Message, End}
+use Rattle.grpc_frame.specs.Calls.{status_of}
+use Rattle.flight_core.specs.declared.event.Event.{Event}
+use Rattle.flight_core.specs.declared.event.Event.TheVariants as event
+use Rattle.flight_core.specs.declared.event.Reply.{Reply}
+use Rattle.flight_core.specs.Payloads.{Payload}
+use Rattle.flight_core.specs.Machine.{Log, Step}
+use Rattle.flight_calls.specs.declared.call.Call.{Call}
+use Rattle.flight_calls.specs.declared.call.Method.{Method}
+use Rattle.flight_calls.specs.declared.call.Method.TheVariants as method
+
+-- the records of a call, and of an answer
+
+abbrev pub call_records : Call → List Record
+call_records call = Open call.path ∷ (map Message call.messages ++ End ∷ [])
+
+abbrev pub answer_records : Reply → List Record
+answer_records reply = map Message reply.payloads.items ++ status_of reply.fault ∷ []
+
+-- ---- what a call asks
+
+abbrev pub service : List ℕ
+service = codes "/arrow.flight.protocol.FlightService/"
+
+-- The method at a path. Until flight infos and actions are built, GetFlightInfo, GetSchema and DoAction are no
+-- methods.
+unfoldable pub method_at : List ℕ → Option Method
+method_at path =
+    if bytes_eq path (service ++ codes "DoPut") then Some method.DoPut
+    else (if bytes_eq path (service ++ codes "DoGet") then Some method.DoGet
+    else None)
+
+pub data Asked : Type 0 where
+  put : List Payload → Asked
+  fetch : Payload → Asked
+
+-- what the messages ask of a method: of a fetch there is one
+abbrev pub asked_of : Method → List Payload → Result Asked Fault
+asked_of method.DoPut messages = Ok (put messages)
+asked_of method.DoGet (ticket ∷ []) = Ok (fetch ticket)
+asked_of method.DoGet _ = Err BadProto
+
+-- what a call asks, or the fault of its path or of the number of its messages
+abbrev pub asked_by : Call → Result Asked Fault
+asked_by call = do
+  found ← wanted (method_at call.path) UnknownMethod
+  asked_of found call.messages
+
+-- ---- what answers it
+
+-- the event holds what is asked
+abbrev pub Holds : Asked → Event → Type 0
+Holds (put messages) (event.Put payloads) = payloads.items ≡ messages
+Holds (fetch message) (event.Fetch ticket) = ticket ≡ message
+Holds _ _ = ⊥
+
+-- a step of the core on that event; or the fault, and the log stays
+abbrev pub ReplyTo : Result Asked Fault → Log → Reply → Log → Type 0
+ReplyTo (Ok asked) log reply new = (event : Event) × Holds asked event × Step log event reply new
+ReplyTo (Err fault) log reply new = (new ≡ log) × (reply.payloads.items ≡ []) × (reply.fault ≡ Some fault)
+
+-- one reply a call, in order, each from the log that the one before left
+abbrev pub Answers : Log → List Call → List Reply → Log → Type 0
+Answers old [] [] new = new ≡ old
+Answers old (call ∷ calls) (reply ∷ replies) new =
+    (middle : Log) × ReplyTo (asked_by call) old reply middle × Answers middle calls replies new
+Answers old [] (reply ∷ replies) new = ⊥
+Answers old (call ∷ calls) [] new = ⊥

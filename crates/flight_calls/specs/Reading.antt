@@ -1,0 +1,47 @@
+-- What reading one call gives.
+use Rattle.std.specs.Prelude.{◌≡◌, ◌≢◌, ◌⊎◌, ℕ, List, [], ◌∷◌, ◌++◌, map, All, Option, Some, None, Result, Ok, Err}
+use Rattle.std.specs.List.{flat_map}
+use Rattle.scan_base.specs.declared.fault.Fault.{Fault}
+use Rattle.scan_base.specs.declared.fault.Fault.TheVariants.{OutOfMemory, Transport}
+use Rattle.grpc_frame.specs.declared.place.Place.TheVariants.{BetweenCalls}
+use Rattle.grpc_frame.specs.declared.record.Record.{Record}
+use Rattle.grpc_frame.specs.declared.record.Record.TheVariants.{Message, End}
+use Rattle.grpc_frame.specs.Records.{spelling, IsRecord, Received, with_more, nothing_more, cut, broken}
+use Rattle.flight_core.specs.Payloads.{Payload}
+use Rattle.flight_calls.specs.declared.call.Arrival.{Arrival}
+use Rattle.flight_calls.specs.declared.call.Arrival.TheVariants as arrival
+use Rattle.flight_calls.specs.Calls.{call_records}
+use Rattle.flight_calls.specs.Owed.{EndsIn}
+
+-- the records stand in front, and the rest, which begins behind a call, follows them
+pub record Fronts (records : List Record) (old new : Received) : Type 0 where
+  pub whole : old.bytes ≡ flat_map spelling records ++ new.bytes
+  pub fits : All IsRecord records
+  pub behind : new.place ≡ BetweenCalls
+
+-- the input ended where no call may end
+abbrev pub EndsInside : Received → Type 0
+EndsInside left = EndsIn left cut ⊎ EndsIn left nothing_more
+
+-- why reading a call may stop: a fault of the transport, want of memory, or a faulty record in the call
+abbrev pub Stops : Fault → Received → Type 0
+Stops fault left = (fault ≡ Transport) ⊎ ((fault ≡ OutOfMemory) ⊎ EndsIn left (broken fault))
+
+-- The messages of a call, up to its End, of which these bytes came behind what was there. Nothing where the
+-- input ends before.
+abbrev pub MessagesArrive : Result (Option (List Payload)) Fault → Received → Received → List ℕ → Type 0
+MessagesArrive (Ok (Some messages)) old new came = Fronts (map Message messages ++ End ∷ []) (with_more old came) new
+MessagesArrive (Ok None) old new came = EndsInside (with_more old came)
+MessagesArrive (Err fault) old new came = Stops fault (with_more old came)
+
+-- A call, of which these bytes came behind what was there; or the input ended, behind a call or inside one.
+abbrev pub CallArrives : Result Arrival Fault → Received → Received → List ℕ → Type 0
+CallArrives (Ok (arrival.Whole call)) old new came = Fronts (call_records call) (with_more old came) new
+CallArrives (Ok arrival.Nothing) old new came = with_more old came ≡ record { bytes = []; place = BetweenCalls }
+CallArrives (Ok arrival.CutShort) old new came = ((with_more old came).bytes ≢ []) × EndsInside (with_more old came)
+CallArrives (Err fault) old new came = Stops fault (with_more old came)
+
+-- this holds of a call that came
+abbrev pub FallsForCall : Arrival → Type 0 → Type 0
+FallsForCall (arrival.Whole call) holds = holds
+FallsForCall _ holds = Unit {0}

@@ -1,0 +1,125 @@
+//! Calls, and reading them.
+
+ghost use Rattle.std.specs.Prelude.{◌≡◌, ◌≢◌, ◌<◌, ℕ, List, Ok, None, IfOk, OnSome, MatchOption};
+ghost use Rattle.std.specs.Io.KnownBytes.{Consumes, IsAtEnd};
+ghost use Rattle.grpc_frame.specs.declared.place.Place.TheVariants.{BetweenCalls, InsideCall};
+ghost use Rattle.grpc_frame.specs.declared.record.Record.TheVariants.{Open, Message};
+ghost use Rattle.grpc_frame.specs.Arrivals.{CountsTransport, work_left};
+ghost use Rattle.flight_calls.specs.declared.call.Arrival.TheVariants as arrival;
+ghost use Rattle.flight_calls.specs.Reading.{MessagesArrive, CallArrives, FallsForCall};
+
+use bytes::Bytes;
+use grpc_frame::{Inbox, Input, Record};
+use scan_base::{Fault, Items};
+use std::alloc::Global;
+
+/// The methods that are built.
+#[derive(Clone, Copy, Debug, PartialEq, Eq)]
+pub enum Method {
+    DoPut,
+    DoGet,
+}
+
+/// A whole call: the path of its method and its messages.
+#[derive(Debug, Drop)]
+pub struct Call {
+    pub path: Bytes,
+    pub messages: Items<Bytes>,
+}
+
+/// What comes of an input behind whole calls.
+#[derive(Debug, Drop)]
+pub enum Arrival {
+    /// One more call.
+    Whole(Call),
+    /// The input ended.
+    Nothing,
+    /// The input ended inside a call.
+    CutShort,
+}
+
+/// Reads the next call.
+///
+/// # Errors
+///
+/// `Fault::BadFrame` and `Fault::MessageTooLarge` where a record of the call is faulty, `Fault::Transport`
+/// where a read failed, and `Fault::OutOfMemory` where memory is refused. Nothing more can be read then.
+pub fn read_call<R: Input>(
+    alloc: Global,
+    inbox: &mut Inbox,
+    input: &mut R,
+) -> Result<Arrival, Fault>
+    requires failures { R.failures input.old < 18446744073709551615 }
+    requires between { inbox.old.place ≡ BetweenCalls }
+    ensures arrives { (came : List ℕ)
+        × Consumes (R.remaining input.old) (R.remaining input.new) came
+        × CallArrives result inbox.old inbox.new came }
+    ensures ended { result ≡ Ok arrival.Nothing → IsAtEnd (R.remaining input.new) }
+    ensures cut { result ≡ Ok arrival.CutShort → IsAtEnd (R.remaining input.new) }
+    ensures counted { CountsTransport result (R.failures input.old) (R.failures input.new) }
+    ensures fewer { IfOk result (λ found. FallsForCall found
+        (work_left (R.turns input.new) inbox.new < work_left (R.turns input.old) inbox.old)) }
+{
+    let Some(found) = inbox.next_from(input)? else {
+        if inbox.is_between_calls() {
+            return Ok(Arrival::Nothing);
+        }
+        return Ok(Arrival::CutShort);
+    };
+    let Some(path) = path_of(found) else {
+        return Err(Fault::BadFrame);
+    };
+    match read_messages(alloc, inbox, input)? {
+        Some(messages) => Ok(Arrival::Whole(Call { path, messages })),
+        None => Ok(Arrival::CutShort),
+    }
+}
+
+// Reads the messages of a call that is open, up to its End. Nothing where the input ends before.
+fn read_messages<R: Input>(
+    alloc: Global,
+    inbox: &mut Inbox,
+    input: &mut R,
+) -> Result<Option<Items<Bytes>>, Fault>
+    requires failures { R.failures input.old < 18446744073709551615 }
+    requires inside { inbox.old.place ≡ InsideCall }
+    ensures arrives { (came : List ℕ)
+        × Consumes (R.remaining input.old) (R.remaining input.new) came
+        × MessagesArrive result inbox.old inbox.new came }
+    ensures ended { result ≡ Ok None → IsAtEnd (R.remaining input.new) }
+    ensures counted { CountsTransport result (R.failures input.old) (R.failures input.new) }
+    ensures fewer { IfOk result (λ found. OnSome found
+        (work_left (R.turns input.new) inbox.new < work_left (R.turns input.old) inbox.old)) }
+{
+    let mut messages = Items::new(alloc);
+    loop {
+        let Some(found) = inbox.next_from(input)? else {
+            return Ok(None);
+        };
+        let Some(message) = message_of(found) else {
+            return Ok(Some(messages));
+        };
+        messages.push(message)?;
+    }
+}
+
+// The path of an Open.
+fn path_of(found: Record) -> Option<Bytes>
+    ensures { MatchOption result ((path : List ℕ) → found ≢ Open path) (λ path. found ≡ Open path) }
+{
+    match found {
+        Record::Open(path) => Some(path),
+        _ => None,
+    }
+}
+
+// The message of a Message.
+fn message_of(found: Record) -> Option<Bytes>
+    ensures { MatchOption result ((message : List ℕ) → found ≢ Message message)
+        (λ message. found ≡ Message message) }
+{
+    match found {
+        Record::Message(message) => Some(message),
+        _ => None,
+    }
+}

@@ -1,0 +1,11 @@
+//! The calls of a connection, answered one after another.
+//!
+//! `specs/Calls.antt` says what a call asks and what answers it, and `specs/Owed.antt` what a server owes for
+//! the bytes that it reads.
+#![tactic(auto)]
+
+mod answer;
+mod call;
+mod server;
+
+pub use crate::server::{serve, serve_alone};

@@ -1,0 +1,106 @@
+//! Serving a connection.
+
+ghost use Rattle.std.specs.Prelude.{◌+◌, ◌<◌, []};
+ghost use Rattle.flight_core.specs.Machine.{Log};
+ghost use Rattle.flight_calls.specs.Owed.{Serves};
+ghost use Rattle.flight_calls.specs.Ending.{RefusesBy};
+
+use crate::answer::{answer, write_answer};
+use crate::call::{Arrival, read_call};
+use flight_core::Plain;
+use grpc_frame::{Inbox, Input, Output, write_status};
+use scan_base::Fault;
+use std::alloc::Global;
+
+/// Serves a connection: answers its calls one after another, up to the end of its input.
+///
+/// An answer is begun once the call's End has come, and is written before the next call is looked at. A fault
+/// of a call is its answer, and the connection goes on.
+///
+/// # Errors
+///
+/// - `Fault::BadFrame` (F1) and `Fault::MessageTooLarge` (F2) where a record is faulty, and
+///   `Fault::OutOfMemory` (F21) where memory is refused while a call is read. The fault's Status is written.
+/// - `Fault::Transport` (F22) where a read or a write failed, and where the input ended inside a call.
+///
+/// Nothing is done for the call in which the connection ended.
+pub fn serve<R: Input, W: Output>(
+    alloc: Global,
+    reader: &mut R,
+    writer: &mut W,
+    plain: &mut Plain,
+) -> Result<(), Fault>
+    requires reads { R.failures reader.old < 18446744073709551615 }
+    requires writes { W.failures writer.old < 18446744073709551615 }
+    ensures { Serves result
+        (record {
+          input = R.remaining reader.old;
+          output = W.contents writer.old;
+          failures = R.failures reader.old + W.failures writer.old;
+          log = plain.old;
+        })
+        (record {
+          input = R.remaining reader.new;
+          output = W.contents writer.new;
+          failures = R.failures reader.new + W.failures writer.new;
+          log = plain.new;
+        }) }
+{
+    let mut inbox = Inbox::of_server(alloc);
+    loop {
+        let call = match read_call(alloc, &mut inbox, reader) {
+            Ok(Arrival::Whole(call)) => call,
+            Ok(Arrival::Nothing) => return Ok(()),
+            Ok(Arrival::CutShort) => return Err(Fault::Transport),
+            Err(fault) => return refuse(writer, fault),
+        };
+        let reply = answer(alloc, plain, call);
+        let Ok(()) = write_answer(writer, &reply) else {
+            return Err(Fault::Transport);
+        };
+    }
+}
+
+/// Serves a connection on a catalog of its own, which is empty at first.
+///
+/// # Errors
+///
+/// Those of `serve`, and `Fault::OutOfMemory` (F21) where memory for the catalog is refused.
+pub fn serve_alone<R: Input, W: Output>(
+    alloc: Global,
+    reader: &mut R,
+    writer: &mut W,
+) -> Result<(), Fault>
+    requires reads { R.failures reader.old < 18446744073709551615 }
+    requires writes { W.failures writer.old < 18446744073709551615 }
+    ensures { (log : Log) × Serves result
+        (record {
+          input = R.remaining reader.old;
+          output = W.contents writer.old;
+          failures = R.failures reader.old + W.failures writer.old;
+          log = [];
+        })
+        (record {
+          input = R.remaining reader.new;
+          output = W.contents writer.new;
+          failures = R.failures reader.new + W.failures writer.new;
+          log = log;
+        }) }
+{
+    match Plain::new(alloc) {
+        Ok(mut plain) => serve(alloc, reader, writer, &mut plain),
+        Err(fault) => refuse(writer, fault),
+    }
+}
+
+// Says why the connection ends, where its transport has not failed.
+fn refuse<W: Output>(writer: &mut W, fault: Fault) -> Result<(), Fault>
+    requires { W.failures writer.old < 18446744073709551615 }
+    ensures { RefusesBy fault result (W.contents writer.old) (W.contents writer.new)
+        (W.failures writer.old) (W.failures writer.new) }
+{
+    if fault == Fault::Transport || write_status(writer, Some(fault)).is_err() {
+        return Err(Fault::Transport);
+    }
+    Err(fault)
+}

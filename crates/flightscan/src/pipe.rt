@@ -1,0 +1,61 @@
+//! `flightscan pipe`: one connection, from a reader to a writer.
+
+ghost use Rattle.std.specs.Prelude.{◌+◌, ◌<◌, []};
+ghost use Rattle.grpc_frame.specs.Ends.{Writes};
+ghost use Rattle.flight_core.specs.Machine.{Log};
+ghost use Rattle.flightscan.specs.Pipe.{Pipes, fault_line};
+
+use flight_calls::serve_alone;
+use grpc_frame::{Input, Output};
+use scan_base::Fault;
+use std::alloc::Global;
+
+// The exit statuses.
+const DONE: u8 = 0;
+
+const FAULT_AT_THIS_END: u8 = 3;
+
+/// Serves one connection, from the reader to the writer, on a catalog that is empty at first. Answers the exit
+/// status: 0 at the input's end, and 3 at a fault of this end, which is then said on `faults` in a line.
+pub fn pipe<R: Input, W: Output, E: Output>(
+    alloc: Global,
+    reader: &mut R,
+    writer: &mut W,
+    faults: &mut E,
+) -> u8
+    requires reads { R.failures reader.old < 18446744073709551615 }
+    requires writes { W.failures writer.old < 18446744073709551615 }
+    requires says { E.failures faults.old < 18446744073709551615 }
+    ensures { (log : Log) × Pipes result
+        (record {
+          input = R.remaining reader.old;
+          output = W.contents writer.old;
+          failures = R.failures reader.old + W.failures writer.old;
+          log = [];
+        })
+        (record {
+          input = R.remaining reader.new;
+          output = W.contents writer.new;
+          failures = R.failures reader.new + W.failures writer.new;
+          log = log;
+        })
+        (E.contents faults.old) (E.contents faults.new) }
+{
+    match serve_alone(alloc, reader, writer) {
+        Ok(()) => DONE,
+        Err(fault) => {
+            let _ = say(faults, fault);
+            FAULT_AT_THIS_END
+        }
+    }
+}
+
+// Says a fault in a line.
+fn say<E: Output>(faults: &mut E, fault: Fault) -> Result<(), Fault>
+    requires { E.failures faults.old < 18446744073709551615 }
+    ensures { Writes result (E.contents faults.old) (E.contents faults.new) (fault_line fault) }
+{
+    faults.write(b"fault: ")?;
+    faults.write(fault.text().as_str().as_bytes())?;
+    faults.write(b"\n")
+}
