@@ -9,3 +9,6 @@ mod call;
 mod server;
 
 pub use crate::server::{serve, serve_alone};
+
+#[cfg(test)]
+mod tests;

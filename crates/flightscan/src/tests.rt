@@ -215,94 +215,124 @@ fn cut_input(rt: HostRuntime) -> Result<(), Fail> {
     Ok(())
 }
 
-const NO_METHOD: &[u8] = b"\x01\x00\x02/x\x03";
+const TWO_MESSAGES: &[u8] = b"\x02\x00\x00\x00\x00\x00\x02\x00\x00\x00\x00\x00";
+
+// Of another kind, and of version 9.
+const STRANGE_HANDLE: &[u8] =
+    b"\x03\x00\x00\x00\x00\x00\x00\x00\x01\x00\x00\x00\x00\x00\x00\x00\x02SELECT * FROM t";
+
+const LATER_HANDLE: &[u8] =
+    b"\x01\x00\x00\x00\x00\x00\x00\x00\x09\x00\x00\x00\x00\x00\x00\x00\x02SELECT * FROM t";
 
 const GET_PATH: &[u8] = b"\x01\x00\x2a/arrow.flight.protocol.FlightService/DoGet";
 
+// What two calls write, which end without a fault of the connection.
+fn answered(alloc: Global, calls: &[&[u8]]) -> Result<(u8, MemoryOutput), AllocError> {
+    let bytes = joined(alloc, calls)?;
+    let (status, written, _) = piped(alloc, &bytes, 65_536);
+    Ok((status, written))
+}
+
 // Faults of a call: they are its answer, and the connection goes on.
 #[test]
-fn faults_of_calls(rt: HostRuntime) -> Result<(), Fail> {
-    let alloc = rt.alloc();
-    let put = put(alloc)?;
-    let strange = fetch(
-        alloc,
-        b"\x03\x00\x00\x00\x00\x00\x00\x00\x01\x00\x00\x00\x00\x00\x00\x00\x02SELECT * FROM t",
-    )?;
-    let above = fetch(
-        alloc,
-        b"\x01\x00\x00\x00\x00\x00\x00\x00\x09\x00\x00\x00\x00\x00\x00\x00\x02SELECT * FROM t",
-    )?;
-    let empty_get = joined(alloc, &[GET_PATH, b"\x03"])?;
-    let two = joined(
-        alloc,
-        &[
+fn faults_before_a_put(rt: HostRuntime) -> Result<(), Fail> {
+    let put = put(rt.alloc())?;
+    for (path, messages, fault) in [
+        (
+            b"\x01\x00\x02/x".as_slice(),
+            b"".as_slice(),
+            b"\x04\x0c\x00\x10F3 UnknownMethod".as_slice(),
+        ),
+        (GET_PATH, b"", b"\x04\x03\x00\x0bF4 BadProto"),
+        (GET_PATH, TWO_MESSAGES, b"\x04\x03\x00\x0bF4 BadProto"),
+        (
             GET_PATH,
-            b"\x02\x00\x00\x00\x00\x00\x02\x00\x00\x00\x00\x00\x03",
-        ],
-    )?;
-    let table: [([&[u8]; 2], [&[u8]; 2]); 6] = [
-        (
-            [&put, &strange],
-            [PUT_ANSWER, b"\x04\x03\x00\x0dF17 BadTicket"],
+            b"\x02\x00\x00\x00\x00\x00",
+            b"\x04\x03\x00\x0dF17 BadTicket",
         ),
-        (
-            [&put, &above],
-            [PUT_ANSWER, b"\x04\x05\x00\x12F18 VersionUnknown"],
-        ),
-        (
-            [&put, &put],
-            [PUT_ANSWER, b"\x04\x06\x00\x0fF10 TableExists"],
-        ),
-        (
-            [NO_METHOD, &put],
-            [b"\x04\x0c\x00\x10F3 UnknownMethod", PUT_ANSWER],
-        ),
-        (
-            [&empty_get, &put],
-            [b"\x04\x03\x00\x0bF4 BadProto", PUT_ANSWER],
-        ),
-        ([&two, &put], [b"\x04\x03\x00\x0bF4 BadProto", PUT_ANSWER]),
-    ];
-    for (calls, answers) in table {
-        let bytes = joined(alloc, &calls)?;
-        let (status, written, said) = piped(alloc, &bytes, 65_536);
-        let want = joined(alloc, &answers)?;
-        assert_eq!(rt;
-            (status, written.as_slice(), said.as_slice()),
-            (0, want.as_slice(), b"".as_slice())
-        );
+    ] {
+        let (status, written) = answered(rt.alloc(), &[path, messages, b"\x03", &put])?;
+        let want = joined(rt.alloc(), &[fault, PUT_ANSWER])?;
+        assert_eq!(rt; (status, written.as_slice()), (0, want.as_slice()));
     }
+    Ok(())
+}
+
+#[test]
+fn faults_behind_a_put(rt: HostRuntime) -> Result<(), Fail> {
+    let put = put(rt.alloc())?;
+    for (handle, fault) in [
+        (STRANGE_HANDLE, b"\x04\x03\x00\x0dF17 BadTicket".as_slice()),
+        (LATER_HANDLE, b"\x04\x05\x00\x12F18 VersionUnknown"),
+    ] {
+        let fetch = fetch(rt.alloc(), handle)?;
+        let (status, written) = answered(rt.alloc(), &[&put, &fetch])?;
+        let want = joined(rt.alloc(), &[PUT_ANSWER, fault])?;
+        assert_eq!(rt; (status, written.as_slice()), (0, want.as_slice()));
+    }
+    Ok(())
+}
+
+#[test]
+fn a_put_twice(rt: HostRuntime) -> Result<(), Fail> {
+    let put = put(rt.alloc())?;
+    let (status, written) = answered(rt.alloc(), &[&put, &put])?;
+    let want = joined(
+        rt.alloc(),
+        &[PUT_ANSWER, b"\x04\x06\x00\x0fF10 TableExists"],
+    )?;
+    assert_eq!(rt; (status, written.as_slice()), (0, want.as_slice()));
     Ok(())
 }
 
 const PUT_PATH: &[u8] = b"\x01\x00\x2a/arrow.flight.protocol.FlightService/DoPut";
 
+const BAD_FRAME: &[u8] = b"\x04\x03\x00\x0bF1 BadFrame";
+
+const BAD_FRAME_LINE: &[u8] = b"fault: F1 BadFrame\n";
+
+const TOO_LARGE: &[u8] = b"\x04\x08\x00\x12F2 MessageTooLarge";
+
+const TOO_LARGE_LINE: &[u8] = b"fault: F2 MessageTooLarge\n";
+
+// What a faulty record in a call to this path writes and says. A put stands before it and behind it.
+fn broken(
+    alloc: Global,
+    path: &[u8],
+    flaw: &[u8],
+) -> Result<(u8, MemoryOutput, MemoryOutput), AllocError> {
+    let put = put(alloc)?;
+    let bytes = joined(alloc, &[&put, path, flaw, &put])?;
+    Ok(piped(alloc, &bytes, 65_536))
+}
+
 // Faulty records: their status, and the end of the connection. What follows is not looked at.
 #[test]
 fn faulty_records(rt: HostRuntime) -> Result<(), Fail> {
-    let alloc = rt.alloc();
-    let put = put(alloc)?;
-    let frame: (&[u8], &[u8]) = (b"\x04\x03\x00\x0bF1 BadFrame", b"fault: F1 BadFrame\n");
-    let large: (&[u8], &[u8]) = (
-        b"\x04\x08\x00\x12F2 MessageTooLarge",
-        b"fault: F2 MessageTooLarge\n",
-    );
-    let table: [(&[u8], &[u8], (&[u8], &[u8])); 5] = [
-        (b"", b"\x05", frame),
-        (b"", b"\x03", frame),
-        (PUT_PATH, b"\x02\x01", frame),
-        (PUT_PATH, b"\x01", frame),
-        (PUT_PATH, b"\x02\x00\x01\x00\x00\x01", large),
-    ];
-    for (path, flaw, (last, line)) in table {
-        let bytes = joined(alloc, &[&put, path, flaw, &put])?;
-        let (status, written, said) = piped(alloc, &bytes, 65_536);
-        let want = joined(alloc, &[PUT_ANSWER, last])?;
+    for (path, flaw) in [
+        (b"".as_slice(), b"\x05".as_slice()),
+        (b"", b"\x03"),
+        (PUT_PATH, b"\x02\x01"),
+        (PUT_PATH, b"\x01"),
+    ] {
+        let (status, written, said) = broken(rt.alloc(), path, flaw)?;
+        let want = joined(rt.alloc(), &[PUT_ANSWER, BAD_FRAME])?;
         assert_eq!(rt;
             (status, written.as_slice(), said.as_slice()),
-            (3, want.as_slice(), line)
+            (3, want.as_slice(), BAD_FRAME_LINE)
         );
     }
+    Ok(())
+}
+
+#[test]
+fn too_large_a_message(rt: HostRuntime) -> Result<(), Fail> {
+    let (status, written, said) = broken(rt.alloc(), PUT_PATH, b"\x02\x00\x01\x00\x00\x01")?;
+    let want = joined(rt.alloc(), &[PUT_ANSWER, TOO_LARGE])?;
+    assert_eq!(rt;
+        (status, written.as_slice(), said.as_slice()),
+        (3, want.as_slice(), TOO_LARGE_LINE)
+    );
     Ok(())
 }
 

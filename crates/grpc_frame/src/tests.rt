@@ -316,6 +316,20 @@ fn each_read_fails(rt: HostRuntime) -> Result<(), Fail> {
     Ok(())
 }
 
+// The records of an input, each however it is cut, and what ends it.
+#[test]
+fn records_of_an_input(rt: HostRuntime) -> Result<(), Fail> {
+    for most in [1, 4, 100] {
+        let mut input = MemoryInput::new(b"\x01\x00\x02/x\x03\x05").in_pieces_of(most);
+        let mut inbox = Inbox::of_server(rt.alloc());
+        let first = inbox.next_from(&mut input)?;
+        assert_eq!(rt; first, Some(Record::Open(Bytes::from_static(b"/x"))));
+        assert_eq!(rt; inbox.next_from(&mut input)?, Some(Record::End));
+        assert_eq!(rt; inbox.next_from(&mut input), Err(Fault::BadFrame));
+    }
+    Ok(())
+}
+
 // An end of the system's: each call fails in this way, or moves one byte.
 #[derive(Drop)]
 struct Scripted {
