@@ -233,26 +233,33 @@ fn answered(alloc: Global, calls: &[&[u8]]) -> Result<(u8, MemoryOutput), AllocE
     Ok((status, written))
 }
 
+// What a call to this path writes that has these messages, and a put behind it.
+fn before_a_put(
+    alloc: Global,
+    path: &[u8],
+    messages: &[u8],
+) -> Result<(u8, MemoryOutput), AllocError> {
+    let put = put(alloc)?;
+    answered(alloc, &[path, messages, b"\x03", &put])
+}
+
 // Faults of a call: they are its answer, and the connection goes on.
 #[test]
-fn faults_before_a_put(rt: HostRuntime) -> Result<(), Fail> {
-    let put = put(rt.alloc())?;
-    for (path, messages, fault) in [
-        (
-            b"\x01\x00\x02/x".as_slice(),
-            b"".as_slice(),
-            b"\x04\x0c\x00\x10F3 UnknownMethod".as_slice(),
-        ),
-        (GET_PATH, b"", b"\x04\x03\x00\x0bF4 BadProto"),
-        (GET_PATH, TWO_MESSAGES, b"\x04\x03\x00\x0bF4 BadProto"),
-        (
-            GET_PATH,
-            b"\x02\x00\x00\x00\x00\x00",
-            b"\x04\x03\x00\x0dF17 BadTicket",
-        ),
-    ] {
-        let (status, written) = answered(rt.alloc(), &[path, messages, b"\x03", &put])?;
-        let want = joined(rt.alloc(), &[fault, PUT_ANSWER])?;
+fn a_call_of_no_method(rt: HostRuntime) -> Result<(), Fail> {
+    let (status, written) = before_a_put(rt.alloc(), b"\x01\x00\x02/x", b"")?;
+    let want = joined(
+        rt.alloc(),
+        &[b"\x04\x0c\x00\x10F3 UnknownMethod", PUT_ANSWER],
+    )?;
+    assert_eq!(rt; (status, written.as_slice()), (0, want.as_slice()));
+    Ok(())
+}
+
+#[test]
+fn fetches_of_another_number_of_messages(rt: HostRuntime) -> Result<(), Fail> {
+    for messages in [b"".as_slice(), TWO_MESSAGES] {
+        let (status, written) = before_a_put(rt.alloc(), GET_PATH, messages)?;
+        let want = joined(rt.alloc(), &[b"\x04\x03\x00\x0bF4 BadProto", PUT_ANSWER])?;
         assert_eq!(rt; (status, written.as_slice()), (0, want.as_slice()));
     }
     Ok(())
