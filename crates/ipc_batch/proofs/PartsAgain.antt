@@ -277,5 +277,6 @@ parts_said parts fit =
       table = table_at bytes m.place (parts_part parts);
       found = m.found;
       header = m.header_again;
+      claimed = m.body_length_again;
       same = parts_read parts m.message bytes m.place fit m.stands m.body_length_again;
     }

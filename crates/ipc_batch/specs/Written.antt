@@ -115,12 +115,13 @@ pub record AreLongs (count : ℕ) (schema : Schema) : Type 0 where
 
 -- ---- messages
 
--- a message says these parts, each of whose buffers lies at a multiple of 8
+-- a message says these parts, each of whose buffers lies at a multiple of 8, and claims all of its body
 pub record SaysParts (sent : Sent) (parts : WrittenParts) : Type 0 where
   pub message : MessageAt
   pub table : TableAt
   pub found : message_of sent.header ≡ Ok message
   pub header : header_of message ≡ Ok table
+  pub claimed : body_length_of message ≡ Ok (length sent.body)
   pub same : SaysSame message table sent.body parts
 
 -- after a schema of as many columns of Int64, a message says a batch with the same rows

@@ -216,8 +216,8 @@ fn batch_block(alloc: Global, rows: u64, nodes: &[u8], places: &[u8]) -> Result<
     ])
 }
 
-/// The header of the message of a batch, whose body [`append_body`] writes. The header and the body have a
-/// multiple of 8 bytes. It fails with [`AllocError`] where memory is refused, and with no other error.
+/// The header of the message of a batch, whose body [`append_body`] writes, and which claims all of that
+/// body. The header and the body have a multiple of 8 bytes. It fails with [`AllocError`] where memory is refused, and with no other error.
 pub fn write_batch_header(alloc: Global, batch: &Batch) -> Result<Vec<u8>, AllocError>
     requires few { length batch.now.columns ≤ most_columns }
     requires full { HasNoNulls batch.now }
@@ -241,8 +241,8 @@ pub fn write_batch_header(alloc: Global, batch: &Batch) -> Result<Vec<u8>, Alloc
 }
 
 /// The message of a record batch. Each buffer begins at a multiple of 8 in the body, with zeros between,
-/// no validity bits are written, and the header and the body have a multiple of 8 bytes. A slice of a
-/// batch is written as its own rows alone. It fails with [`AllocError`] where memory is refused, as for a
+/// no validity bits are written, the header claims all of the body, and both have a multiple of 8 bytes. A
+/// slice of a batch is written as its own rows alone. It fails with [`AllocError`] where memory is refused, as for a
 /// body of 2 to the 63 bytes or more, and with no other error.
 pub fn write_batch(alloc: Global, batch: &Batch) -> Result<WrittenMessage, AllocError>
     requires few { length batch.now.columns ≤ most_columns }
