@@ -1,0 +1,10 @@
+//! The tokens of a query: words, delimited names, strings, digits and symbols.
+#![tactic(auto)]
+
+pub mod symbol;
+pub mod token;
+pub mod word;
+
+pub use crate::symbol::Symbol;
+pub use crate::token::{Token, TokenKind};
+pub use crate::word::Keyword;
