@@ -1,8 +1,9 @@
 -- The words that have a meaning of their own. The case of their letters has none.
-use Rattle.std.specs.Prelude.{ℕ, List, [], ◌∷◌, ◌++◌, Option, Some, None, unwrap_or, map, codes, if◌then◌else◌}
+use Rattle.std.specs.Prelude.{Bool, true, false, ℕ, List, [], ◌∷◌, ◌++◌, Option, Some, None, unwrap_or, map, codes, if◌then◌else◌}
 use Rattle.std.specs.Str.{str_eq_ignore_ascii_case}
 use Rattle.sql_text.specs.declared.word.Keyword.{Keyword}
 use Rattle.sql_text.specs.declared.word.Keyword.TheVariants as word
+use Rattle.sql_text.specs.declared.symbol.Symbol.TheVariants as symbol
 use Rattle.sql_text.specs.declared.token.TokenKind.{TokenKind}
 use Rattle.sql_text.specs.declared.token.TokenKind.TheVariants as kind
 
@@ -18,10 +19,10 @@ grammar_words =
     (codes "AS", word.As) ∷ (codes "COUNT", word.Count) ∷ (codes "SUM", word.Sum) ∷
     (codes "DATE", word.Date) ∷ []
 
--- The words of SQL that are left out. `NULL` and `DATE` have their place in the grammar too.
+-- the words of SQL that are left out and have no place in the grammar
 abbrev pub left_out_words : List (List ℕ)
 left_out_words =
-    codes "NULL" ∷ codes "DATE" ∷ codes "ORDER" ∷ codes "LIMIT" ∷ codes "OFFSET" ∷ codes "FETCH" ∷
+    codes "ORDER" ∷ codes "LIMIT" ∷ codes "OFFSET" ∷ codes "FETCH" ∷
     codes "DISTINCT" ∷ codes "ALL" ∷ codes "HAVING" ∷ codes "UNION" ∷ codes "EXCEPT" ∷
     codes "INTERSECT" ∷ codes "LEFT" ∷ codes "RIGHT" ∷ codes "FULL" ∷ codes "OUTER" ∷
     codes "CROSS" ∷ codes "NATURAL" ∷ codes "USING" ∷ codes "LIKE" ∷ codes "ESCAPE" ∷
@@ -29,7 +30,7 @@ left_out_words =
     codes "MAX" ∷ codes "AVG" ∷ codes "WITH" ∷ codes "VALUES" ∷ codes "INSERT" ∷ codes "UPDATE" ∷
     codes "DELETE" ∷ []
 
--- what each of these words is: where it stands in both lists, a word of the grammar
+-- what each of these words is
 abbrev pub meanings : List (List ℕ × TokenKind)
 meanings =
     map (λ (row : List ℕ × Keyword). (row.0, kind.Keyword row.1)) grammar_words
@@ -44,3 +45,17 @@ meaning_in (row ∷ rows) text =
 -- what a word is; a name, where it has no meaning of its own
 unfoldable pub word_kind : List ℕ → TokenKind
 word_kind text = unwrap_or (meaning_in meanings text) kind.Name
+
+-- Whether SQL has the token where this server leaves it out: such a token offends with a fault of its own.
+-- `NULL` and `DATE` have their place in the grammar, and are left out elsewhere.
+abbrev pub is_left_out : TokenKind → Bool
+is_left_out kind.LeftOut = true
+is_left_out (kind.Keyword word.Null) = true
+is_left_out (kind.Keyword word.Date) = true
+is_left_out (kind.Symbol symbol.Plus) = true
+is_left_out (kind.Symbol symbol.Minus) = true
+is_left_out (kind.Symbol symbol.Asterisk) = true
+is_left_out (kind.Symbol symbol.Solidus) = true
+is_left_out (kind.Symbol symbol.Percent) = true
+is_left_out (kind.Symbol symbol.Concatenation) = true
+is_left_out _ = false
