@@ -1,2 +1,5 @@
 pub mod Words
+pub mod Quotes
+pub mod Cuts
+pub mod Numbers
 pub mod Rows

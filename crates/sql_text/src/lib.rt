@@ -2,6 +2,7 @@
 #![tactic(auto)]
 
 mod front;
+mod number;
 pub mod symbol;
 pub mod token;
 pub mod word;
