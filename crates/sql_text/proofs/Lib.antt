@@ -1,5 +1,6 @@
 pub mod Words
 pub mod Quotes
+pub mod Groups
 pub mod Cuts
 pub mod Numbers
 pub mod Rows

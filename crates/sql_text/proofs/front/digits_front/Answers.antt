@@ -1,8 +1,7 @@
-use Rattle.std.proofs.Common.{◌≡◌, ◌∙◌, take, Some, None, false, true}
+use Rattle.std.proofs.Common.{◌≡◌, take, Some, None}
 use Rattle.std.specs.Char.{is_ascii_digit}
 use Rattle.std.specs.List.{prefix_len}
-use Rattle.sql_text.specs.Values.{number_of, is_small}
-use Rattle.sql_text.specs.Reading.{digits_front}
+use Rattle.sql_text.specs.Values.{number_of}
 use Rattle.sql_text.proofs.Numbers.{front_refused, front_taken}
 use Rattle.sql_text.proofs.front.digits_front.Goals as goal
 
