@@ -3,4 +3,5 @@ pub mod Quotes
 pub mod Groups
 pub mod Cuts
 pub mod Numbers
+pub mod Fronts
 pub mod Rows

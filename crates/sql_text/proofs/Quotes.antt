@@ -90,7 +90,7 @@ closed_of quote at (b ∷ c ∷ bytes) len found = go (closed_of quote (at + 2) 
     go two one false y e f found = plain_before quote at b (c ∷ bytes) len e (one found)
 
 -- no quote closes
-pub Open : ℕ → List ℕ → Type 0
+unfoldable pub Open : ℕ → List ℕ → Type 0
 Open quote bytes = (value : List ℕ) × (bytes ≡ flat_map (doubled quote) value)
 
 pub open_of : (quote at : ℕ) (bytes : List ℕ) → closed_at quote at bytes ≡ None → Open quote bytes
