@@ -4,4 +4,5 @@ pub mod Groups
 pub mod Cuts
 pub mod Numbers
 pub mod Fronts
+pub mod Boundaries
 pub mod Rows
