@@ -1,18 +1,18 @@
 -- A text may be cut behind a piece.
-use Rattle.std.proofs.Common.{◌≡◌, ◌≢◌, ◌<◌, ◌≤◌, ℕ, zero, suc, ◌+◌, Bool, true, false, cond, List, [], ◌∷◌, ◌++◌, length, get_or, Option, Some, None, refl, sym, ap, subst, ◌∙◌, arith, append_assoc, append-nil, add-one}
-use Rattle.std.specs.Prelude.{◌==◌, ◌&&◌}
+use Rattle.std.proofs.Common.{◌≡◌, ◌≢◌, ◌<◌, ◌≤◌, ℕ, ◌+◌, Bool, true, false, cond, List, [], ◌∷◌, ◌++◌, length, get_or, Option, Some, None, refl, sym, ap, subst, arith, append_assoc, append-nil}
+use Rattle.std.specs.Prelude.{◌==◌, ◌&&◌, IfSome}
 use Rattle.std.specs.Char.{is_ascii_digit}
 use Rattle.std.specs.List.{list_all}
 use Rattle.std.specs.Str.{IsUtf8, IsCharBoundary}
 use Rattle.std.proofs.Math.Seq.{get_or-append_seam}
-use Rattle.std.proofs.lemmas.Bool.{eqb-true, ne_eqb}
+use Rattle.std.proofs.lemmas.Bool.{eqb-true}
 use Rattle.std.proofs.lemmas.Bool.Decides.{nat_tests}
 use Rattle.std.proofs.lemmas.List.{length-append}
 use Rattle.std.proofs.lemmas.Str.{IsCharBoundary-end, IsCharBoundary-before_ascii, IsCharBoundary-after_ascii}
 use Rattle.sql_text.specs.declared.front.Front.{Front}
 use Rattle.sql_text.specs.declared.symbol.Symbol.{Symbol}
-use Rattle.sql_text.specs.Values.{opened, quoted}
-use Rattle.sql_text.specs.Standard.{begins_word, continues_word, is_separator, continues_comment, symbols, symbol_in, Form, separator, comment, word, delimited_name, string, unclosed, digits, mark, Spells, Piece, StandsInFront, is_sound}
+use Rattle.sql_text.specs.Values.{opened}
+use Rattle.sql_text.specs.Standard.{begins_word, continues_word, is_separator, continues_comment, symbols, symbol_in, Form, separator, comment, word, delimited_name, string, unclosed, digits, mark, Spells, StandsInFront, is_sound}
 use Rattle.sql_text.specs.Reading.{front_at}
 use Rattle.sql_text.proofs.Groups.{mark_short, some_byte}
 use Rattle.sql_text.proofs.Fronts.{front_read}
@@ -94,8 +94,10 @@ comment_cut front (c ∷ rest) h longest = go (c == 10) refl
   where
     here : get_or (front ++ (c ∷ rest)) (length front) 0 ≡ c
     here = get_or-append_seam front c rest 0
+
     within : length front < length (front ++ (c ∷ rest))
     within = omega (arith, length-append front (c ∷ rest))
+
     go : (t : Bool) → (c == 10) ≡ t → IsCharBoundary (front ++ (c ∷ rest)) (length front)
     go true e =
         let lf : c ≡ 10 = eqb-true c 10 e in
@@ -117,6 +119,7 @@ ends_of word front h sound other =
   where
     continues : (b : ℕ) → begins_word b ≡ true → continues_word b ≡ true
     continues b e = grind (arith, nat_tests)
+
     ascii : (b : ℕ) → continues_word b ≡ true → b < 128
     ascii b e = grind (arith, nat_tests)
 ends_of delimited_name front h sound other = record { before = opened 34 h.0; last = 34; whole = h.1; ascii = omega arith }
@@ -137,12 +140,28 @@ some_bytes : (form : Form) (front : List ℕ) → Spells form front → 0 < leng
 some_bytes form [] h = absurd (some_byte form h)
 some_bytes form (b ∷ front) h = omega arith
 
--- what is read at the front may be cut off, and is not empty
-pub front_cut : (text : List ℕ) (front : Front) → IsUtf8 text → front_at text ≡ Some front → IsCharBoundary text front.len × (0 < front.len)
+-- what is read at the front is not empty
+pub front_some : (text : List ℕ) (front : Front) → front_at text ≡ Some front → 0 < front.len
+front_some text front e =
+    let r = front_read text front e in
+    rw r.stands.len_is (some_bytes r.form r.stands.front r.stands.stands.spells)
+
+-- and may be cut off
+pub front_cut : (text : List ℕ) (front : Front) → IsUtf8 text → front_at text ≡ Some front → IsCharBoundary text front.len
 front_cut text front utf8 e =
     let r = front_read text front e in
     let s = r.stands.stands in
     let whole : r.stands.front ++ r.stands.rest ≡ text = sym s.whole in
     let at_whole = subst (λ (t : List ℕ). StandsInFront (record { form = r.form; text = r.stands.front }) t r.stands.rest) s.whole s in
     let cut = sound_cut r.form r.stands.front r.stands.rest at_whole r.sound (rw whole utf8) in
-    (rw r.stands.len_is (subst (λ (t : List ℕ). IsCharBoundary t (length r.stands.front)) whole cut), rw r.stands.len_is (some_bytes r.form r.stands.front s.spells))
+    rw r.stands.len_is (subst (λ (t : List ℕ). IsCharBoundary t (length r.stands.front)) whole cut)
+
+-- the same of what a call gave
+
+pub given_cut : (text : List ℕ) (given : Option Front) → IsUtf8 text → given ≡ front_at text → IfSome given (λ front. IsCharBoundary text front.len)
+given_cut text None utf8 e = tt
+given_cut text (Some front) utf8 e = front_cut text front utf8 (sym e)
+
+pub given_some : (text : List ℕ) (given : Option Front) → given ≡ front_at text → IfSome given (λ front. 0 < front.len)
+given_some text None e = tt
+given_some text (Some front) e = front_some text front (sym e)

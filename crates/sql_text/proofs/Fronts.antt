@@ -1,8 +1,8 @@
 -- What is read at the front of a text stands there: the piece that is the longest.
-use Rattle.std.proofs.Common.{◌≡◌, ◌≢◌, ◌<◌, ◌≤◌, ℕ, zero, suc, ◌+◌, Bool, true, false, cond, List, [], ◌∷◌, ◌++◌, length, take, drop, Option, Some, None, refl, sym, ap, subst, ◌∙◌, arith, append_assoc, append-nil}
+use Rattle.std.proofs.Common.{◌≡◌, ◌≤◌, ℕ, suc, ◌+◌, Bool, true, false, cond, List, [], ◌∷◌, ◌++◌, length, take, drop, Option, Some, None, refl, sym, ap, subst, ◌∙◌, arith, append_assoc, append-nil}
 use Rattle.std.specs.Prelude.{nat_eq, ◌==◌, ◌&&◌, option_and_then}
 use Rattle.std.specs.Char.{is_ascii_digit}
-use Rattle.std.specs.List.{prefix_len, list_all, flat_map}
+use Rattle.std.specs.List.{prefix_len, flat_map}
 use Rattle.std.specs.Str.{bytes_eq}
 use Rattle.std.specs.Cmp.Lexicographic.{unequal}
 use Rattle.std.proofs.lemmas.Bool.{eqb-true, eqb-false}
@@ -11,14 +11,13 @@ use Rattle.std.proofs.lemmas.List.{take-append-drop, length-append}
 use Rattle.std.proofs.lemmas.List.Folds.{length-prefix_len}
 use Rattle.sql_text.specs.declared.front.Front.{Front}
 use Rattle.sql_text.specs.declared.symbol.Symbol.{Symbol}
-use Rattle.sql_text.specs.declared.token.TokenKind.{TokenKind}
 use Rattle.sql_text.specs.declared.token.TokenKind.TheVariants as kind
 use Rattle.sql_text.specs.Words.{word_kind}
 use Rattle.sql_text.specs.Values.{doubled, opened, quoted, is_small}
-use Rattle.sql_text.specs.Standard.{begins_word, continues_word, is_separator, is_quote, continues_comment, symbols, symbol_in, Form, separator, comment, word, delimited_name, string, unclosed, digits, mark, Spells, Piece, StandsInFront, is_sound, kind_of}
+use Rattle.sql_text.specs.Standard.{begins_word, continues_word, is_separator, is_quote, continues_comment, Form, separator, comment, word, delimited_name, string, unclosed, digits, mark, Spells, Piece, StandsInFront, is_sound, kind_of}
 use Rattle.sql_text.specs.Reading.{space, token, closed_at, string_front, delimited_front, word_front, digits_front, comment_front, pair, single, one_mark, two_marks, mark_front, front_at}
-use Rattle.sql_text.proofs.Groups.{Group, words, numerals, separators, double_quotes, single_quotes, marks, group, Begins, of_word, of_digit, of_separator, mark_short, some_byte, longest_of, all_fits}
-use Rattle.sql_text.proofs.Quotes.{Closed, Parts, Open, closed_of, open_of, no_longer}
+use Rattle.sql_text.proofs.Groups.{words, numerals, separators, double_quotes, single_quotes, marks, group, Begins, of_word, of_digit, of_separator, mark_short, some_byte, longest_of, all_fits}
+use Rattle.sql_text.proofs.Quotes.{Closed, Open, closed_of, no_longer}
 use Rattle.sql_text.proofs.Cuts.{run_passes}
 
 -- a piece stands in front of the text
@@ -312,6 +311,7 @@ digits_read b tail first front e = go (is_small text) refl (rw (digits_len b tai
   where
     text : List ℕ
     text = b ∷ take (prefix_len is_ascii_digit tail) tail
+
     go : (x : Bool) → is_small text ≡ x → cond (is_small text) (token kind.Digits (suc (prefix_len is_ascii_digit tail))) None ≡ Some front → Read (b ∷ tail) front
     go true small e =
         let d : token kind.Digits (suc (prefix_len is_ascii_digit tail)) ≡ Some front = rw small at e in
@@ -324,6 +324,7 @@ delimited_read tail front e = go (closed_at 34 0 tail) refl e
   where
     made : ℕ → Option Front
     made len = cond (len == 1) None (token kind.DelimitedName (1 + len))
+
     take_it : (len : ℕ) → Closed 34 0 tail len → (x : Bool) → (len == 1) ≡ x → made len ≡ Some front → Read (34 ∷ tail) front
     take_it len c true one e = let d : None ≡ Some front = rw one at e in absurd cc
     take_it len c false one e =
@@ -331,6 +332,7 @@ delimited_read tail front e = go (closed_at 34 0 tail) refl e
         let more : ¬ (length (quoted 34 c.value) ≡ 2) = λ two. eqb-false len 1 one (omega (arith, c.len_is, length-append (flat_map (doubled 34) c.value) (34 ∷ []))) in
         let sound : bytes_eq (quoted 34 c.value) (34 ∷ 34 ∷ []) ≡ false = unequal nat_eq (quoted 34 c.value) (34 ∷ 34 ∷ []) more in
         read_as (34 ∷ tail) _ front d (record { form = delimited_name; stands = double_stands tail len c; sound = rw sound refl; kind_is = refl })
+
     go : (o : Option ℕ) → closed_at 34 0 tail ≡ o → option_and_then made o ≡ Some front → Read (34 ∷ tail) front
     go None f e = absurd cc
     go (Some len) f e = take_it len (closed_of 34 0 tail len f) (len == 1) refl e

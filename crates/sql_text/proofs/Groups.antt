@@ -1,13 +1,13 @@
 -- The byte that a piece begins with tells its form, but for a few.
-use Rattle.std.proofs.Common.{◌≡◌, ◌≢◌, ◌<◌, ◌≤◌, ℕ, zero, suc, ◌+◌, Bool, true, false, cond, List, [], ◌∷◌, ◌++◌, length, Option, Some, None, refl, sym, ap, subst, ◌∙◌, arith, append_assoc}
-use Rattle.std.specs.Prelude.{◌==◌, ◌&&◌, IsTrue}
+use Rattle.std.proofs.Common.{◌≡◌, ◌≤◌, ℕ, ◌+◌, Bool, true, false, cond, List, [], ◌∷◌, ◌++◌, length, Option, Some, refl, subst, arith}
+use Rattle.std.specs.Prelude.{◌==◌, ◌&&◌}
 use Rattle.std.specs.Char.{is_ascii_digit}
 use Rattle.std.specs.List.{prefix_len, list_all}
 use Rattle.std.proofs.Math.Bool.{and-false}
 use Rattle.std.proofs.lemmas.Bool.{eqb-true}
 use Rattle.std.proofs.lemmas.Bool.Decides.{nat_tests}
 use Rattle.sql_text.specs.declared.symbol.Symbol.{Symbol}
-use Rattle.sql_text.specs.Standard.{begins_word, continues_word, is_separator, is_quote, symbols, symbol_in, Form, separator, comment, word, delimited_name, string, unclosed, digits, mark, Spells}
+use Rattle.sql_text.specs.Standard.{begins_word, is_separator, is_quote, symbols, symbol_in, Form, separator, comment, word, delimited_name, string, unclosed, digits, mark, Spells}
 
 pub data Group : Type 0 where
   words : Group

@@ -5,4 +5,5 @@ pub mod Cuts
 pub mod Numbers
 pub mod Fronts
 pub mod Boundaries
+pub mod Scanning
 pub mod Rows

@@ -1,5 +1,5 @@
 -- What stands between quotes, read byte by byte.
-use Rattle.std.proofs.Common.{◌≡◌, ◌≢◌, ◌<◌, ◌≤◌, ℕ, ◌+◌, ◌-◌, Bool, true, false, List, [], ◌∷◌, length, drop, get_or, Some, None, refl, ap, ◌∙◌, sym, arith}
+use Rattle.std.proofs.Common.{◌≡◌, ◌≢◌, ◌<◌, ◌≤◌, ℕ, ◌+◌, Bool, true, false, List, [], ◌∷◌, length, drop, get_or, Some, None, refl, ap, arith}
 use Rattle.std.specs.Prelude.{◌==◌}
 use Rattle.std.proofs.Common.{cond, ◌++◌}
 use Rattle.std.specs.List.{flat_map}
@@ -138,8 +138,10 @@ no_longer quote (x ∷ value) (y ∷ other) rest more p e = go (no_longer quote 
   where
     vs : List ℕ
     vs = flat_map (doubled quote) value
+
     os : List ℕ
     os = flat_map (doubled quote) other
+
     go : (vs ++ (quote ∷ rest) ≡ os ++ more → length os ≤ length vs) → (a b : Bool) → (x == quote) ≡ a → (y == quote) ≡ b
         → length (doubled quote y ++ os) ≤ length (doubled quote x ++ vs)
     go rest_of true true f g =

@@ -8,7 +8,6 @@ use Rattle.scan_base.specs.declared.fault.Fault.TheVariants.{LimitReached, BadSq
 use Rattle.scan_base.specs.Reading.{◌>>=◌, demand, wanted}
 use Rattle.sql_text.specs.declared.front.Front.{Front}
 use Rattle.sql_text.specs.declared.symbol.Symbol.{Symbol}
-use Rattle.sql_text.specs.declared.symbol.Symbol.TheVariants as symbol
 use Rattle.sql_text.specs.declared.token.TokenKind.{TokenKind}
 use Rattle.sql_text.specs.declared.token.TokenKind.TheVariants as kind
 use Rattle.sql_text.specs.Words.{word_kind}

@@ -1,13 +1,14 @@
 //! What stands at the front of a text.
 
-ghost use Rattle.std.specs.Prelude.{◌≡◌, IsTrue, slice_index, length, ◌≤◌, IfSome};
+ghost use Rattle.std.specs.Prelude.{◌≡◌, IsTrue, slice_index, length, ◌≤◌, ◌<◌, IfSome};
 ghost use Rattle.std.specs.Char.{is_ascii_digit};
+ghost use Rattle.std.specs.Str.{IsCharBoundary};
 ghost use Rattle.std.specs.List.{prefix_len};
 ghost use Rattle.sql_text.specs.Standard.{begins_word, continues_word, is_separator, continues_comment};
 ghost use Rattle.sql_text.specs.Reading.{closed_at, string_front, delimited_front, word_front, digits_front, mark_front, front_at, space, token};
 
-use crate::symbol::Symbol;
 use crate::number::number;
+use crate::symbol::Symbol;
 use crate::token::TokenKind;
 use crate::word::word_kind;
 
@@ -145,9 +146,8 @@ fn mark_front(first: u8, bytes: &[u8]) -> Option<Front>
     Front::token(TokenKind::Symbol(mark), 1)
 }
 
-/// What stands at the front; none, where that is a lexical fault.
 #[tactic(auto, unfolding(crate::specs::Reading::front_at))]
-pub(crate) fn front_of(text: &str) -> Option<Front>
+fn read_front(text: &str) -> Option<Front>
     ensures { result ≡ front_at text.now }
 {
     let [first, bytes @ ..] = text.as_bytes() else {
@@ -161,4 +161,13 @@ pub(crate) fn front_of(text: &str) -> Option<Front>
         b'\'' => string_front(bytes),
         b => mark_front(b, bytes),
     }
+}
+
+/// What stands at the front; none, where that is a lexical fault.
+pub(crate) fn front_of(text: &str) -> Option<Front>
+    ensures front { result ≡ front_at text.now }
+    ensures cut { IfSome result (λ front. IsCharBoundary text.now front.len) }
+    ensures some { IfSome result (λ front. 0 < front.len) }
+{
+    read_front(text)
 }

@@ -3,12 +3,12 @@
 
 mod front;
 mod number;
-// mod scan;
+mod scan;
 pub mod symbol;
 pub mod token;
 pub mod word;
 
+pub use crate::scan::{MOST_BYTES, tokens};
 pub use crate::symbol::Symbol;
 pub use crate::token::{Token, TokenKind};
-// pub use crate::scan::{MOST_BYTES, tokens};
 pub use crate::word::Keyword;
