@@ -6,4 +6,5 @@ pub mod Numbers
 pub mod Fronts
 pub mod Boundaries
 pub mod Scanning
+pub mod Pairs
 pub mod Rows

@@ -6,6 +6,7 @@ mod number;
 mod scan;
 pub mod symbol;
 pub mod token;
+mod value;
 pub mod word;
 
 pub use crate::scan::{MOST_BYTES, tokens};
