@@ -1,8 +1,8 @@
 -- Pairs of quotes, undone one by one.
-use Rattle.std.proofs.Common.{◌≡◌, ◌≢◌, ◌<◌, ◌≤◌, ℕ, zero, suc, ◌+◌, ◌-◌, Bool, true, false, cond, List, [], ◌∷◌, ◌++◌, length, take, drop, get_or, Option, Some, None, refl, sym, ap, ◌∙◌, arith, append_assoc}
+use Rattle.std.proofs.Common.{◌≡◌, ◌<◌, ◌≤◌, ℕ, zero, suc, ◌+◌, Bool, true, false, cond, List, [], ◌∷◌, ◌++◌, length, take, drop, get_or, Some, None, refl, sym, ap, arith}
 use Rattle.std.specs.Prelude.{◌==◌, ◌&&◌}
 use Rattle.std.proofs.lemmas.Bool.{eqb-true}
-use Rattle.std.proofs.lemmas.List.{length-drop, get_or-drop}
+use Rattle.std.proofs.lemmas.List.{length-drop, length-append, length-take-le, get_or-drop}
 use Rattle.std.specs.Str.{IsUtf8, IsCharBoundary}
 use Rattle.std.proofs.lemmas.Str.{IsUtf8-drop, IsCharBoundary-after_ascii}
 use Rattle.sql_text.specs.Values.{undoubled, pair_at}
@@ -86,3 +86,14 @@ pair_front quote at rest ascii utf8 e =
       undone = rw (← both, ← s, ← n_is) h.undone;
       utf8 = IsUtf8-drop (drop (at + 1) rest) 1 utf8_after cut_one;
     }
+
+-- with one pair undone, the rest is that much shorter
+pub pair_less : (quote at : ℕ) (rest : List ℕ) → pair_at quote 0 rest ≡ Some at
+    → length (undoubled quote rest) + length (drop (at + 2) rest) + 1 ≡ length (undoubled quote (drop (at + 2) rest)) + length rest
+pair_less quote at rest e =
+    let h = paired_of quote 0 rest at e in
+    let n_is : h.n ≡ at = omega (arith, h.place_is) in
+    let s : suc (suc at) ≡ at + 2 = omega arith in
+    let undone : undoubled quote rest ≡ take (suc at) rest ++ undoubled quote (drop (at + 2) rest) = rw (← s, ← n_is) h.undone in
+    let within : at + 1 < length rest = rw (← n_is) h.within in
+    omega (arith, ap length undone, length-append (take (suc at) rest) (undoubled quote (drop (at + 2) rest)), length-take-le (suc at) rest (omega arith), length-drop (at + 2) rest)

@@ -48,3 +48,17 @@ pub(crate) fn unquoted(alloc: Global, quote: u8, text: &str) -> Result<String, A
     value.push_str(rest)?;
     Ok(value)
 }
+
+/// How many bytes that value has.
+pub(crate) fn unquoted_len(quote: u8, text: &str) -> usize
+    requires { quote < 128 }
+    ensures { result ≡ length (unquoted quote text.now) }
+{
+    let mut rest = inside(quote, text).as_bytes();
+    let mut len = rest.len();
+    while let Some(at) = first_pair(quote, rest) {
+        len -= 1;
+        rest = rest.split_at(at + 2).1;
+    }
+    len
+}

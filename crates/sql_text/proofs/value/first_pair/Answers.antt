@@ -1,4 +1,4 @@
-use Rattle.std.proofs.Common.{◌≤◌, ◌≡◌, sym, ◌∙◌, length, drop, arith}
+use Rattle.std.proofs.Common.{◌≤◌, sym, ◌∙◌, length, drop, arith}
 use Rattle.std.proofs.lemmas.List.{length-drop}
 use Rattle.sql_text.proofs.Pairs.{pair_none}
 use Rattle.sql_text.proofs.value.first_pair.Goals as goal

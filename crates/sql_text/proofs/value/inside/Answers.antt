@@ -1,4 +1,4 @@
-use Rattle.std.proofs.Common.{◌≡◌, ◌<◌, ◌≤◌, length, get_or, ◌-◌, ap, arith}
+use Rattle.std.proofs.Common.{◌≡◌, ◌≤◌, length, get_or, ◌-◌, arith}
 use Rattle.std.proofs.lemmas.Str.{IsCharBoundary-before_ascii, IsCharBoundary-after_ascii}
 use Rattle.sql_text.proofs.value.inside.Goals as goal
 

@@ -1,6 +1,6 @@
-use Rattle.std.proofs.Common.{◌≡◌, ◌+◌, ◌++◌, take, drop, Some, None, sym, ap, ◌∙◌, refl, append_assoc}
+use Rattle.std.proofs.Common.{◌≡◌, ◌++◌, Some, None, sym, ap, ◌∙◌, refl, append_assoc}
 use Rattle.std.specs.Prelude.{string_bytes}
-use Rattle.sql_text.specs.Values.{undoubled, unquoted, pair_at}
+use Rattle.sql_text.specs.Values.{unquoted, pair_at}
 use Rattle.sql_text.proofs.Pairs.{pair_front, undoubled_none}
 use Rattle.sql_text.proofs.value.unquoted.Goals as goal
 
@@ -30,8 +30,8 @@ loop-at-preserved c =
     record {
       utf8 = rw (c.split_at-in-Some.ensures.back, c.split_at.ensures.back) h.utf8;
       left =
-        rw (pushed, front, c.split_at-in-Some.ensures.back, c.split_at.ensures.back)
-        (append_assoc (string_bytes c.loop-at.value) _ _ ∙ ap (λ x. string_bytes c.loop-at.value ++ x) (sym h.undone) ∙ c.loop-at.invariant.left);
+          rw (pushed, front, c.split_at-in-Some.ensures.back, c.split_at.ensures.back)
+          (append_assoc (string_bytes c.loop-at.value) _ _ ∙ ap (λ x. string_bytes c.loop-at.value ++ x) (sym h.undone) ∙ c.loop-at.invariant.left);
     }
 
 pub returns : goal.returns
