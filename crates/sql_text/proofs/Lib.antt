@@ -7,4 +7,6 @@ pub mod Fronts
 pub mod Boundaries
 pub mod Scanning
 pub mod Pairs
+pub mod Unique
+pub mod Faulty
 pub mod Rows
