@@ -1,15 +1,14 @@
 -- Where nothing is read, no sound piece stands.
-use Rattle.std.proofs.Common.{◌≡◌, ◌≢◌, ◌<◌, ◌≤◌, ℕ, zero, suc, ◌+◌, Bool, true, false, cond, List, [], ◌∷◌, ◌++◌, length, take, drop, Option, Some, None, refl, sym, ap, subst, ◌∙◌, arith}
+use Rattle.std.proofs.Common.{◌≡◌, ℕ, suc, ◌+◌, Bool, true, false, cond, List, [], ◌∷◌, length, take, Option, Some, None, refl, subst, arith}
 use Rattle.std.specs.Prelude.{◌==◌, ◌&&◌, option_and_then}
 use Rattle.std.specs.Char.{is_ascii_digit}
 use Rattle.std.specs.List.{prefix_len, flat_map}
 use Rattle.std.proofs.lemmas.Bool.{eqb-true, eqb-false}
-use Rattle.std.proofs.lemmas.List.{length-append}
 use Rattle.sql_text.specs.declared.front.Front.{Front}
 use Rattle.sql_text.specs.declared.symbol.Symbol.{Symbol}
 use Rattle.sql_text.specs.declared.token.TokenKind.TheVariants as kind
-use Rattle.sql_text.specs.Values.{doubled, quoted, is_small}
-use Rattle.sql_text.specs.Standard.{begins_word, is_separator, Form, delimited_name, string, unclosed, digits, Piece, StandsInFront, IsSound, is_sound}
+use Rattle.sql_text.specs.Values.{doubled, is_small}
+use Rattle.sql_text.specs.Standard.{begins_word, is_separator, Form, delimited_name, unclosed, digits, Piece, StandsInFront, sound, is_sound}
 use Rattle.sql_text.specs.Reading.{space, token, closed_at, string_front, delimited_front, word_front, digits_front, comment_front, pair, single, one_mark, two_marks, mark_front, front_at}
 use Rattle.sql_text.proofs.Groups.{group, marks}
 use Rattle.sql_text.proofs.Quotes.{Closed, closed_of, open_of}
@@ -18,14 +17,13 @@ use Rattle.sql_text.proofs.Unique.{same_piece}
 
 -- no sound piece stands in front of the text
 abbrev pub NoneSound : List ℕ → Type 0
-NoneSound text = (piece : Piece) (more : List ℕ) → StandsInFront piece text more → IsSound piece → ⊥
+NoneSound text = (piece : Piece) (more : List ℕ) → StandsInFront piece text more → sound piece ≡ false
 
 unsound_only : (text : List ℕ) (form : Form) (len : ℕ) (s : Stands text form len) → is_sound form s.front ≡ false → NoneSound text
-unsound_only text form len s unsound piece more t sound =
+unsound_only text form len s unsound piece more t =
     let same = same_piece text (record { form = form; text = s.front }) piece s.rest more s.stands t in
     let forms = subst (λ (x : Form). is_sound x s.front ≡ false) same.forms unsound in
-    let here = subst (λ (x : List ℕ). is_sound piece.form x ≡ false) same.texts forms in
-    cc
+    subst (λ (x : List ℕ). is_sound piece.form x ≡ false) same.texts forms
 
 digits_none : (b : ℕ) (tail : List ℕ) → is_ascii_digit b ≡ true → digits_front (b ∷ tail) ≡ None → NoneSound (b ∷ tail)
 unfolding digits_stands
@@ -33,6 +31,7 @@ digits_none b tail first e = go (is_small text) refl (rw (digits_len b tail firs
   where
     text : List ℕ
     text = b ∷ take (prefix_len is_ascii_digit tail) tail
+
     go : (x : Bool) → is_small text ≡ x → cond (is_small text) (token kind.Digits (suc (prefix_len is_ascii_digit tail))) None ≡ None → NoneSound (b ∷ tail)
     go true small e = let d : token kind.Digits (suc (prefix_len is_ascii_digit tail)) ≡ None = rw small at e in absurd cc
     go false small e = unsound_only (b ∷ tail) digits _ (digits_stands b tail first) small
@@ -47,12 +46,14 @@ delimited_none tail e = go (closed_at 34 0 tail) refl e
   where
     made : ℕ → Option Front
     made len = cond (len == 1) None (token kind.DelimitedName (1 + len))
+
     empty : (len : ℕ) → Closed 34 0 tail len → (x : Bool) → (len == 1) ≡ x → made len ≡ None → NoneSound (34 ∷ tail)
     empty len c true one e =
         let len_is : len ≡ 1 = eqb-true len 1 one in
         let none : flat_map (doubled 34) c.value ≡ [] = nil_of (flat_map (doubled 34) c.value) (omega (arith, c.len_is)) in
         unsound_only (34 ∷ tail) delimited_name _ (double_stands tail len c) (rw none refl)
     empty len c false one e = let d : token kind.DelimitedName (1 + len) ≡ None = rw one at e in absurd cc
+
     go : (o : Option ℕ) → closed_at 34 0 tail ≡ o → option_and_then made o ≡ None → NoneSound (34 ∷ tail)
     go None f e = unsound_only (34 ∷ tail) unclosed _ (unclosed_stands 34 tail refl (open_of 34 0 tail f)) refl
     go (Some len) f e = empty len (closed_of 34 0 tail len f) (len == 1) refl e
@@ -80,21 +81,21 @@ no_pair first second e = go (pair first second) refl e
     go (Some s) f e = absurd cc
 
 two_none : (first second : ℕ) (bytes : List ℕ) → group first ≡ marks → NoComment first (second ∷ bytes) → two_marks first (pair first second) ≡ None → NoneSound (first ∷ second ∷ bytes)
-two_none first second bytes g nc e piece more s sound =
+two_none first second bytes g nc e piece more s =
     let h = no_pair first second e in
     let m : Marked first (second ∷ bytes) 0 = record {
       no_comment = nc;
       ones = λ t k. (let none = h.1 in absurd cc);
       twos = λ t c rest f k. (let same : c ≡ second = cc in let none : pair first c ≡ None = rw same h.0 in absurd cc);
     } in
-    none_stands first (second ∷ bytes) g m piece more s
+    absurd (none_stands first (second ∷ bytes) g m piece more s)
 
 mark_none : (first : ℕ) (tail : List ℕ) → group first ≡ marks → mark_front first tail ≡ None → NoneSound (first ∷ tail)
 unfolding mark_front
-mark_none first [] g e = λ piece more s sound.
+mark_none first [] g e = λ piece more s.
     let none = no_symbol first e in
     let m : Marked first [] 0 = record { no_comment = λ rest f h. cc; ones = λ t k. absurd cc; twos = λ t c rest f k. absurd cc } in
-    none_stands first [] g m piece more s
+    absurd (none_stands first [] g m piece more s)
 mark_none first (second ∷ bytes) g e = go (first == 45) (second == 45) refl refl e
   where
     go : (x y : Bool) → (first == 45) ≡ x → (second == 45) ≡ y → cond (x && y) (comment_front bytes) (two_marks first (pair first second)) ≡ None → NoneSound (first ∷ second ∷ bytes)

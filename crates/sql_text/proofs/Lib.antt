@@ -9,4 +9,6 @@ pub mod Scanning
 pub mod Pairs
 pub mod Unique
 pub mod Faulty
+pub mod Cutting
+pub mod Kept
 pub mod Rows

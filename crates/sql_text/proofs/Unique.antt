@@ -1,10 +1,10 @@
 -- At most one piece stands in front of a text.
-use Rattle.std.proofs.Common.{◌≡◌, ◌≢◌, ◌<◌, ◌≤◌, ℕ, zero, suc, ◌+◌, ◌⊎◌, inl, inr, Bool, true, false, List, [], ◌∷◌, ◌++◌, length, take, drop, Some, None, refl, sym, ap, subst, ◌∙◌, arith, append-nil}
+use Rattle.std.proofs.Common.{◌≡◌, ℕ, ◌⊎◌, inl, inr, List, [], ◌∷◌, ◌++◌, length, take, drop, Some, None, refl, sym, ap, subst, ◌∙◌, arith, append-nil}
 use Rattle.std.specs.List.{flat_map}
 use Rattle.std.proofs.lemmas.List.{length-append, take_at, drop_at}
 use Rattle.sql_text.specs.declared.symbol.Symbol.{Symbol}
 use Rattle.sql_text.specs.Values.{doubled, opened, quoted}
-use Rattle.sql_text.specs.Standard.{symbols, symbol_in, Form, separator, comment, word, delimited_name, string, unclosed, digits, mark, Spells, Piece, StandsInFront}
+use Rattle.sql_text.specs.Standard.{Form, separator, comment, word, delimited_name, string, unclosed, digits, mark, Spells, Piece, StandsInFront}
 use Rattle.sql_text.proofs.Groups.{Group, words, numerals, separators, double_quotes, single_quotes, marks, group, Begins, begins, mark_short, some_byte}
 use Rattle.sql_text.proofs.Quotes.{no_longer}
 
@@ -92,17 +92,17 @@ in_group words text f g a b h k = only_word f a ∙ sym (only_word g b)
 in_group numerals text f g a b h k = only_digits f a ∙ sym (only_digits g b)
 in_group separators text f g a b h k = only_separator f a ∙ sym (only_separator g b)
 in_group double_quotes text f g a b h k = elim (two_doubles f a) [
-    | inl e ↦ e ∙ delimited_again text g b (subst (λ (x : Form). Spells x text) e h) k
-    | inr e ↦ e ∙ unclosed_double text g b (subst (λ (x : Form). Spells x text) e h) k
-  ]
+  | inl e ↦ e ∙ delimited_again text g b (subst (λ (x : Form). Spells x text) e h) k
+  | inr e ↦ e ∙ unclosed_double text g b (subst (λ (x : Form). Spells x text) e h) k
+]
 in_group single_quotes text f g a b h k = elim (two_singles f a) [
-    | inl e ↦ e ∙ string_again text g b (subst (λ (x : Form). Spells x text) e h) k
-    | inr e ↦ e ∙ unclosed_single text g b (subst (λ (x : Form). Spells x text) e h) k
-  ]
+  | inl e ↦ e ∙ string_again text g b (subst (λ (x : Form). Spells x text) e h) k
+  | inr e ↦ e ∙ unclosed_single text g b (subst (λ (x : Form). Spells x text) e h) k
+]
 in_group marks text f g a b h k = elim (two_marks f a) [
-    | inl e ↦ e ∙ comment_again text g b (subst (λ (x : Form). Spells x text) e h) k
-    | inr e ↦ e.1 ∙ mark_again text e.0 g b (subst (λ (x : Form). Spells x text) e.1 h) k
-  ]
+  | inl e ↦ e ∙ comment_again text g b (subst (λ (x : Form). Spells x text) e h) k
+  | inr e ↦ e.1 ∙ mark_again text e.0 g b (subst (λ (x : Form). Spells x text) e.1 h) k
+]
 
 same_form : (text : List ℕ) (f g : Form) → Spells f text → Spells g text → f ≡ g
 same_form [] f g h k = absurd (some_byte f h)
