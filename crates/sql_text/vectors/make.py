@@ -118,4 +118,5 @@ def main():
     target.write_text("\n".join(lines))
 
 
-main()
+if __name__ == "__main__":
+    main()
