@@ -1,0 +1,14 @@
+pub mod Words
+pub mod Quotes
+pub mod Groups
+pub mod Cuts
+pub mod Numbers
+pub mod Fronts
+pub mod Boundaries
+pub mod Scanning
+pub mod Pairs
+pub mod Unique
+pub mod Faulty
+pub mod Cutting
+pub mod Kept
+pub mod Rows

@@ -1,0 +1,9 @@
+use Rattle.sql_text.proofs.Kept.{kept, placed}
+use Rattle.sql_text.proofs.scan.tokens.Goals as goal
+
+pub returns-clause-pieces : goal.returns-clause-pieces
+returns-clause-pieces c = kept c.read_tokens.result c.args.sql.now c.read_tokens.ensures
+
+pub returns-clause-places : goal.returns-clause-places
+returns-clause-places c =
+    placed c.read_tokens.result c.args.sql.now (kept c.read_tokens.result c.args.sql.now c.read_tokens.ensures)

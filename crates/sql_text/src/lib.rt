@@ -1,0 +1,20 @@
+//! The tokens of a query: words, delimited names, strings, digits and symbols.
+#![tactic(auto)]
+
+mod front;
+pub mod laws;
+mod number;
+mod scan;
+pub mod symbol;
+#[cfg(test)]
+mod tests;
+pub mod token;
+mod value;
+#[cfg(test)]
+mod vectors;
+pub mod word;
+
+pub use crate::scan::{MOST_BYTES, tokens};
+pub use crate::symbol::Symbol;
+pub use crate::token::{Token, TokenKind};
+pub use crate::word::Keyword;
