@@ -1,1 +1,2 @@
 mod Masks
+mod Rows

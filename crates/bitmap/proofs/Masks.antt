@@ -9,8 +9,8 @@ use Rattle.std.proofs.lemmas.Bool.{cases_lt}
 use Rattle.std.proofs.lemmas.List.{same_lists, map-append, get_or-drop, append-nil, get_or-append-add, get_or_default}
 use Rattle.std.proofs.lemmas.List.FromFn.{length-map-range_with_len, get_or-map-range_with_len, take-map-range_with_len}
 use Rattle.std.proofs.Math.Seq.{drop-append_seam}
-use Rattle.std.proofs.lemmas.Nat.Bits.{bit_at_cat_low, bit_at_cat_high, same_from_bits_below, same_from_bits, bit_at_and, bit_at_or, bit_at_xor, bit_at_above, bit_at-zero, bit_at-lt}
-use Rattle.std.proofs.lemmas.Simd.{bit_mask_l, mask_l-lt, get_or-zip2, length-zip2, ones-mask_l}
+use Rattle.std.proofs.lemmas.Nat.Bits.{bit_at_cat_low, bit_at_cat_high, same_from_bits, bit_at_and, bit_at_or, bit_at_xor, bit_at_above, bit_at-zero, bit_at-lt}
+use Rattle.std.proofs.lemmas.Simd.{bit_mask_l, mask_l-lt, length-zip2, ones-mask_l}
 use Rattle.std.proofs.lemmas.Nat.{pow_pos, pow-add}
 use Rattle.std.proofs.lemmas.List.Sums.{sum_by-append, count_by-le-length}
 use Rattle.std.proofs.Math.Nat.{div-add-mod', div-div-eq-div-mul, mod-lt, pow-le-pow_right}
@@ -31,13 +31,13 @@ bit_little (suc n) p i xs h lt =
     let small : x < 2 ^ 8 = h p in
     elim (cases_lt i 8) [
       | inl low ↦
-        let a : p + i / 8 ≡ p = omega arith in
-        let b : i % 8 ≡ i = omega arith in
-        rw (e, a, b) (bit_at_cat_low r 8 x i low)
+          let a : p + i / 8 ≡ p = omega arith in
+          let b : i % 8 ≡ i = omega arith in
+          rw (e, a, b) (bit_at_cat_low r 8 x i low)
       | inr high ↦
-        let a : suc p + (i - 8) / 8 ≡ p + i / 8 = omega arith in
-        let b : (i - 8) % 8 ≡ i % 8 = omega arith in
-        rw (e, ← a, ← b) (bit_at_cat_high r 8 x i small high ∙ bit_little n (suc p) (i - 8) xs h (omega arith))
+          let a : suc p + (i - 8) / 8 ≡ p + i / 8 = omega arith in
+          let b : (i - 8) % 8 ≡ i % 8 = omega arith in
+          rw (e, ← a, ← b) (bit_at_cat_high r 8 x i small high ∙ bit_little n (suc p) (i - 8) xs h (omega arith))
     ]
 
 pub length-bits_of : (bytes : List ℕ) (first len : ℕ) → length (bits_of bytes first len) ≡ len
@@ -76,6 +76,7 @@ up_high x t i le = let e : x * 2 ^ t + 0 ≡ x * 2 ^ t = omega arith in ap (λ y
 
 max_left : (a b c : ℕ) → a ≡ c → b ≡ 0 → max a b ≡ c
 max_left a b c e f = omega arith
+
 max_right : (a b c : ℕ) → a ≡ 0 → b ≡ c → max a b ≡ c
 max_right a b c e f = omega arith
 
@@ -87,33 +88,33 @@ across at low high xs h fits is_low is_high shifted =
     let t = 64 - s in
     word_is 64 (bit_or (low / 2 ^ s) (high * 2 ^ t % 2 ^ 64)) (bits_of xs at 64) (length-bits_of xs at 64)
     (λ i lt.
-      let shown : cond (get_or (bits_of xs at 64) i false) 1 0 ≡ bit_at (slice_index xs ((at + i) / 8)) ((at + i) % 8) =
-        ap (λ b. cond b 1 0) (get_or-bits_of xs at 64 i false lt) ∙ sym (bool_of (bit_at (slice_index xs ((at + i) / 8)) ((at + i) % 8)) (bit_at-lt (slice_index xs ((at + i) / 8)) ((at + i) % 8))) in
-      bit_at_or (low / 2 ^ s) (high * 2 ^ t % 2 ^ 64) i ∙ elim (cases_lt (s + i) 64) [
-        | inl inside ↦
+    let shown : cond (get_or (bits_of xs at 64) i false) 1 0 ≡ bit_at (slice_index xs ((at + i) / 8)) ((at + i) % 8) =
+    ap (λ b. cond b 1 0) (get_or-bits_of xs at 64 i false lt) ∙ sym (bool_of (bit_at (slice_index xs ((at + i) / 8)) ((at + i) % 8)) (bit_at-lt (slice_index xs ((at + i) / 8)) ((at + i) % 8))) in
+    bit_at_or (low / 2 ^ s) (high * 2 ^ t % 2 ^ 64) i ∙ elim (cases_lt (s + i) 64) [
+      | inl inside ↦
           let a : at / 8 + (s + i) / 8 ≡ (at + i) / 8 = omega arith in
           let b : (s + i) % 8 ≡ (at + i) % 8 = omega arith in
           max_left _ _ _ (down_bits low s i ∙ ap (λ y. bit_at y (s + i)) is_low ∙ bit_little 8 (at / 8) (s + i) xs h inside ∙ rw (a, b) (sym shown))
-            (low_bits (high * 2 ^ t) 64 i lt ∙ up_low high t i (omega arith))
-        | inr outside ↦
+          (low_bits (high * 2 ^ t) 64 i lt ∙ up_low high t i (omega arith))
+      | inr outside ↦
           let a : at / 8 + 8 ≡ (at + i) / 8 = omega arith in
           let b : i - t ≡ (at + i) % 8 = omega arith in
           max_right _ _ _ (down_bits low s i ∙ bit_at_above low 64 (s + i) fits outside)
-            (low_bits (high * 2 ^ t) 64 i lt ∙ up_high high t i (omega arith) ∙ rw (is_high, a, b) (sym shown))
-      ])
+          (low_bits (high * 2 ^ t) 64 i lt ∙ up_high high t i (omega arith) ∙ rw (is_high, a, b) (sym shown))
+    ])
     (λ i le. bit_at_or (low / 2 ^ s) (high * 2 ^ t % 2 ^ 64) i ∙ max_left _ _ _ (down_bits low s i ∙ bit_at_above low 64 (s + i) fits (omega arith))
-      (bit_at_above (high * 2 ^ t % 2 ^ 64) 64 i (mod-lt (high * 2 ^ t) (pow_pos 64)) le))
+    (bit_at_above (high * 2 ^ t % 2 ^ 64) 64 i (mod-lt (high * 2 ^ t) (pow_pos 64)) le))
 
 -- a word at the start of a byte
 pub at_start : (at low : ℕ) (xs : List ℕ) → ((k : ℕ) → slice_index xs k < 256) → low < 2 ^ 64 → low ≡ little_from (at / 8) 8 xs → at % 8 ≡ 0 → low ≡ mask_l (bits_of xs at 64)
 at_start at low xs h fits is_low whole =
     word_is 64 low (bits_of xs at 64) (length-bits_of xs at 64)
     (λ i lt.
-      let shown : cond (get_or (bits_of xs at 64) i false) 1 0 ≡ bit_at (slice_index xs ((at + i) / 8)) ((at + i) % 8) =
-        ap (λ b. cond b 1 0) (get_or-bits_of xs at 64 i false lt) ∙ sym (bool_of (bit_at (slice_index xs ((at + i) / 8)) ((at + i) % 8)) (bit_at-lt (slice_index xs ((at + i) / 8)) ((at + i) % 8))) in
-      let a : at / 8 + i / 8 ≡ (at + i) / 8 = omega arith in
-      let b : i % 8 ≡ (at + i) % 8 = omega arith in
-      ap (λ y. bit_at y i) is_low ∙ bit_little 8 (at / 8) i xs h (omega arith) ∙ rw (a, b) (sym shown))
+    let shown : cond (get_or (bits_of xs at 64) i false) 1 0 ≡ bit_at (slice_index xs ((at + i) / 8)) ((at + i) % 8) =
+    ap (λ b. cond b 1 0) (get_or-bits_of xs at 64 i false lt) ∙ sym (bool_of (bit_at (slice_index xs ((at + i) / 8)) ((at + i) % 8)) (bit_at-lt (slice_index xs ((at + i) / 8)) ((at + i) % 8))) in
+    let a : at / 8 + i / 8 ≡ (at + i) / 8 = omega arith in
+    let b : i % 8 ≡ (at + i) % 8 = omega arith in
+    ap (λ y. bit_at y i) is_low ∙ bit_little 8 (at / 8) i xs h (omega arith) ∙ rw (a, b) (sym shown))
     (λ i le. bit_at_above low 64 i fits le)
 
 pub little_drop : (p i n : ℕ) (xs : List ℕ) → little_from i n (drop p xs) ≡ little_from (p + i) n xs
@@ -271,14 +272,14 @@ zip2-append f (a ∷ vs) bs (c ∷ cs) ds len = ap (λ r. f a c ∷ r) (zip2-app
 front_bits : (xs ys : List ℕ) (n : ℕ) → n ≤ 8 * length xs → bits_of (xs ++ ys) 0 n ≡ bits_of xs 0 n
 front_bits xs ys n le = same_lists (bits_of (xs ++ ys) 0 n) (bits_of xs 0 n) (length-bits_of (xs ++ ys) 0 n ∙ sym (length-bits_of xs 0 n))
     (λ k d lt. let h : k < n = omega (arith, length-bits_of (xs ++ ys) 0 n) in
-      get_or-bits_of (xs ++ ys) 0 n k d h ∙ ap (λ y. bit_at y ((0 + k) % 8) == 1) (get_or-append xs ys 0 ((0 + k) / 8) (omega arith)) ∙ sym (get_or-bits_of xs 0 n k d h))
+    get_or-bits_of (xs ++ ys) 0 n k d h ∙ ap (λ y. bit_at y ((0 + k) % 8) == 1) (get_or-append xs ys 0 ((0 + k) / 8) (omega arith)) ∙ sym (get_or-bits_of xs 0 n k d h))
 
 -- the bits of a word that was appended
 last_bits : (xs : List ℕ) (w n : ℕ) (ms : List Bool) → w < 2 ^ 64 → n ≤ 64 → length ms ≡ n → w ≡ mask_l ms → bits_of (xs ++ to_le_bytes w64 w) (8 * length xs) n ≡ ms
 last_bits xs w n ms fits le len is = same_lists (bits_of (xs ++ to_le_bytes w64 w) (8 * length xs) n) ms (length-bits_of (xs ++ to_le_bytes w64 w) (8 * length xs) n ∙ sym len)
     (λ k d lt. let h : k < n = omega (arith, length-bits_of (xs ++ to_le_bytes w64 w) (8 * length xs) n) in
-      get_or-bits_of (xs ++ to_le_bytes w64 w) (8 * length xs) n k d h ∙ written w k xs fits (omega arith)
-      ∙ ap (λ y. bit_at y k == 1) is ∙ ap (λ y. y == 1) (bit_mask_l ms k) ∙ back (get_or ms k false) ∙ get_or_default ms k false d (omega (arith, len)))
+    get_or-bits_of (xs ++ to_le_bytes w64 w) (8 * length xs) n k d h ∙ written w k xs fits (omega arith)
+    ∙ ap (λ y. bit_at y k == 1) is ∙ ap (λ y. y == 1) (bit_mask_l ms k) ∙ back (get_or ms k false) ∙ get_or_default ms k false d (omega (arith, len)))
   where
     back : (b : Bool) → (cond b 1 0 == 1) ≡ b
     back true = refl

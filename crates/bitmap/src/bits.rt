@@ -34,7 +34,8 @@ impl Bits {
     /// The `len` bits of a buffer from bit `first_bit` on. It takes no memory.
     pub fn new(bytes: Bytes, first_bit: usize, len: usize) -> Bits
         requires { IsRoomy bytes first_bit len }
-        ensures { result ≡ bits_of bytes first_bit len }
+        ensures value { result ≡ bits_of bytes first_bit len }
+        ensures long { length result ≡ len }
     {
         Bits {
             bytes,
@@ -112,7 +113,8 @@ impl Bits {
     pub fn slice(&self, from: usize, to: usize) -> Result<Bits, AllocError>
         requires ordered { from ≤ to }
         requires within { to ≤ length self.now }
-        ensures { IfOk result (λ bits. bits ≡ take (to - from) (drop from self.now)) }
+        ensures value { IfOk result (λ bits. bits ≡ take (to - from) (drop from self.now)) }
+        ensures long { IfOk result (λ bits. length bits ≡ to - from) }
     {
         Ok(Bits {
             bytes: self.bytes.clone()?,
@@ -124,12 +126,21 @@ impl Bits {
     // What two lists of one length make, bit by bit.
     fn join(&self, alloc: Global, operation: Operation, other: &Bits) -> Result<Bits, AllocError>
         requires { length self.now ≡ length other.now }
-        ensures { IfOk result (λ bits. bits ≡ zip2 (joined operation) self.now other.now) }
+        ensures value { IfOk result (λ bits. bits ≡ zip2 (joined operation) self.now other.now) }
+        ensures long { IfOk result (λ bits. length bits ≡ length self.now) }
     {
         let _ = &other.bytes;
         let left = self.bytes.as_slice();
         let right = other.bytes.as_slice();
-        let made = join_bits(alloc, operation, left, self.first, right, other.first, self.len)?;
+        let made = join_bits(
+            alloc,
+            operation,
+            left,
+            self.first,
+            right,
+            other.first,
+            self.len,
+        )?;
         Ok(Bits {
             bytes: BytesMut::from(made).freeze()?,
             first: 0,
@@ -144,7 +155,8 @@ impl Bits {
     /// `AllocError` where memory is refused.
     pub fn and(&self, alloc: Global, other: &Bits) -> Result<Bits, AllocError>
         requires { length self.now ≡ length other.now }
-        ensures { IfOk result (λ bits. bits ≡ zip2 (λ a b. a && b) self.now other.now) }
+        ensures value { IfOk result (λ bits. bits ≡ zip2 (λ a b. a && b) self.now other.now) }
+        ensures long { IfOk result (λ bits. length bits ≡ length self.now) }
     {
         self.join(alloc, Operation::And, other)
     }
@@ -156,7 +168,8 @@ impl Bits {
     /// `AllocError` where memory is refused.
     pub fn or(&self, alloc: Global, other: &Bits) -> Result<Bits, AllocError>
         requires { length self.now ≡ length other.now }
-        ensures { IfOk result (λ bits. bits ≡ zip2 (λ a b. a || b) self.now other.now) }
+        ensures value { IfOk result (λ bits. bits ≡ zip2 (λ a b. a || b) self.now other.now) }
+        ensures long { IfOk result (λ bits. length bits ≡ length self.now) }
     {
         self.join(alloc, Operation::Or, other)
     }
@@ -168,7 +181,8 @@ impl Bits {
     /// `AllocError` where memory is refused.
     pub fn and_not(&self, alloc: Global, other: &Bits) -> Result<Bits, AllocError>
         requires { length self.now ≡ length other.now }
-        ensures { IfOk result (λ bits. bits ≡ zip2 (λ a b. a && not b) self.now other.now) }
+        ensures value { IfOk result (λ bits. bits ≡ zip2 (λ a b. a && not b) self.now other.now) }
+        ensures long { IfOk result (λ bits. length bits ≡ length self.now) }
     {
         self.join(alloc, Operation::AndNot, other)
     }

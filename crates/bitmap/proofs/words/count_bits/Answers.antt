@@ -1,6 +1,5 @@
-use Rattle.std.proofs.Common.{◌∙◌, ◌≡◌, ◌*◌, ◌+◌, ◌/◌, ◌%◌, ◌≤◌, ap, sym, arith, count_by}
+use Rattle.std.proofs.Common.{◌≡◌, ◌*◌, ◌+◌, ◌/◌, ◌%◌, ap, arith}
 use Rattle.std.specs.Int.RustNames.{count_ones}
-use Rattle.bitmap.specs.Bits.{bits_of}
 use Rattle.bitmap.proofs.Masks.{count_more, count-le, no_count}
 use Rattle.bitmap.proofs.words.count_bits.Goals as goal
 

@@ -21,7 +21,7 @@ loop-i-preserved c =
     let e : m + 64 ≡ 64 * (c.loop-i.i + 1) = omega arith in
     let added : c.extend_from_slice.new.self.items ≡ c.loop-i.made.items ++ to_le_bytes w64 w = c.in_ok-extend_from_slice.ensures.items ∙ ap (λ r. c.loop-i.made.items ++ r) c.to_le_bytes.ensures in
     let is : w ≡ mask_l (zip2 (joined c.args.operation) ls rs) =
-      c.join_words.ensures ls rs (length-bits_of c.args.left.now (c.args.left_first + m) 64 ∙ sym (length-bits_of c.args.right.now (c.args.right_first + m) 64)) c.word-one.ensures c.word-other.ensures in
+    c.join_words.ensures ls rs (length-bits_of c.args.left.now (c.args.left_first + m) 64 ∙ sym (length-bits_of c.args.right.now (c.args.right_first + m) 64)) c.word-one.ensures c.word-other.ensures in
     record {
       long = ap length added ∙ omega (arith, length-append c.loop-i.made.items (to_le_bytes w64 w), length-bytes_low_first 0 8 w, c.loop-i.invariant.long);
       made = rw (added, ← e) (join_more (joined c.args.operation) c.loop-i.made.items c.args.left.now c.args.right.now c.args.left_first c.args.right_first m 64 w (omega (arith, c.loop-i.invariant.long)) (omega arith) (omega (arith, c.join_words.type_inv)) c.loop-i.invariant.made is);
@@ -39,5 +39,5 @@ returns-clause-bits c =
     let e : m + n ≡ c.args.len = omega arith in
     let added : c.extend_from_slice-2.new.self.items ≡ c.loop-i.made.items ++ to_le_bytes w64 w = c.in_ok-extend_from_slice-2.ensures.items ∙ ap (λ r. c.loop-i.made.items ++ r) c.to_le_bytes-2.ensures in
     let is : w ≡ mask_l (zip2 (joined c.args.operation) ls rs) =
-      c.join_words-2.ensures ls rs (length-bits_of c.args.left.now (c.args.left_first + m) n ∙ sym (length-bits_of c.args.right.now (c.args.right_first + m) n)) c.short_word-one.ensures c.short_word-other.ensures in
+    c.join_words-2.ensures ls rs (length-bits_of c.args.left.now (c.args.left_first + m) n ∙ sym (length-bits_of c.args.right.now (c.args.right_first + m) n)) c.short_word-one.ensures c.short_word-other.ensures in
     rw added (rw (← e) (join_more (joined c.args.operation) c.loop-i.made.items c.args.left.now c.args.right.now c.args.left_first c.args.right_first m n w (omega (arith, c.loop-i.invariant.long)) (omega arith) (omega (arith, c.join_words-2.type_inv)) had is))

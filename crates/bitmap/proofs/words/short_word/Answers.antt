@@ -1,6 +1,4 @@
-use Rattle.std.proofs.Common.{◌≡◌, ◌+◌, ◌-◌, ◌*◌, ◌<◌, ◌^◌, ◌∙◌, arith, ap, sym, ℕ}
-use Rattle.std.specs.Simd.Lanes.{mask_l}
-use Rattle.bitmap.specs.Bits.{bits_of, bit_of}
+use Rattle.std.proofs.Common.{◌≡◌, ◌+◌, ◌-◌, arith}
 use Rattle.bitmap.proofs.Masks.{no_bits, short_step, short_room, byte_cond, byte_small}
 use Rattle.bitmap.proofs.words.short_word.Goals as goal
 

@@ -1,6 +1,6 @@
-use Rattle.std.proofs.Common.{◌≡◌, ◌+◌, ◌*◌, ◌∙◌, ◌≤◌, ap, arith, length, sym, subst, List, ℕ, Bool}
+use Rattle.std.proofs.Common.{◌≡◌, ◌∙◌, ap, arith, length, sym, List, ℕ, Bool}
 use Rattle.std.specs.Simd.Lanes.{zip2}
-use Rattle.bitmap.specs.Bits.{bits_of, joined, IsRoomy}
+use Rattle.bitmap.specs.Bits.{bits_of, joined}
 use Rattle.bitmap.proofs.Masks.{length-bits_of}
 use Rattle.bitmap.proofs.bits.Bits.join.Goals as goal
 
@@ -11,8 +11,8 @@ join_bits-requires-clause-right c =
     let e : c.self.inside.len ≡ c.other.inside.len = sym a ∙ ap length c.self.view_is ∙ c.requires ∙ sym (ap length c.other.view_is) ∙ b in
     record { within = omega (arith, e, c.other.invariant.within, ap length c.as_slice-right.ensures); small = omega (arith, e, c.other.invariant.small) }
 
-pub returns : goal.returns
-returns c =
+pub returns-clause-value : goal.returns-clause-value
+returns-clause-value c =
     let f = joined c.args.operation in
     let a = length-bits_of c.self.inside.bytes c.self.inside.first c.self.inside.len in
     let b = length-bits_of c.other.inside.bytes c.other.inside.first c.other.inside.len in
@@ -24,3 +24,8 @@ returns c =
     ∙ ap (λ (n : ℕ). zip2 f (bits_of c.self.inside.bytes c.self.inside.first c.self.inside.len) (bits_of c.other.inside.bytes c.other.inside.first n)) e
     ∙ ap (λ (r : List Bool). zip2 f r (bits_of c.other.inside.bytes c.other.inside.first c.other.inside.len)) c.self.view_is
     ∙ ap (λ (r : List Bool). zip2 f c.args.self.now r) c.other.view_is
+
+pub returns-clause-long : goal.returns-clause-long
+returns-clause-long c =
+    let a = length-bits_of c.self.inside.bytes c.self.inside.first c.self.inside.len in
+    length-bits_of c.in_ok-freeze.field-0 0 c.self.inside.len ∙ sym a ∙ ap length c.self.view_is

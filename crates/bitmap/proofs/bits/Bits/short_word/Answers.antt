@@ -1,4 +1,4 @@
-use Rattle.std.proofs.Common.{◌∙◌, ◌+◌, ◌<◌, ◌≤◌, ap, length, arith, List, ℕ}
+use Rattle.std.proofs.Common.{◌∙◌, ◌+◌, ap, length, arith, List, ℕ}
 use Rattle.std.specs.Simd.Lanes.{mask_l}
 use Rattle.bitmap.specs.Bits.{bits_of}
 use Rattle.bitmap.proofs.Masks.{view_length, view_part}
