@@ -1,2 +1,2 @@
-mod Masks
+pub mod Masks
 mod Rows
