@@ -1,1 +1,5 @@
 pub mod Number
+pub mod Validity
+pub mod Integers
+pub mod Decimals
+pub mod Bools

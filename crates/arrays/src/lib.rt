@@ -1,4 +1,14 @@
 //! Columns of every type, and batches of them, over cuts of the body that they came in.
 #![tactic(auto)]
 
+pub mod bools;
+pub mod cells;
+pub mod decimals;
+pub mod integers;
 mod numbers;
+mod validity;
+
+pub use crate::bools::Bools;
+pub use crate::cells::Cells;
+pub use crate::decimals::Decimals;
+pub use crate::integers::Integers;

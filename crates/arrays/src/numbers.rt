@@ -1,21 +1,21 @@
 //! Packed little-endian numbers.
 
-ghost use Rattle.std.specs.Prelude.{◌≡◌, ◌≤◌, ◌+◌, ◌*◌, length};
+ghost use Rattle.std.specs.Prelude.{◌≡◌, ◌≤◌, ◌+◌, ◌*◌, length, nat_le};
 ghost use Rattle.std.specs.Int.{w8, w16, w32, w64, w128, cast_signed};
 ghost use Rattle.arrays.specs.Number.{byte_width, element_at, integer_at, decimal_at};
 
 use arrow_schema::IntegerType;
 use byteorder::{ByteOrder, LittleEndian};
 
-/// How many bytes a number of a type has.
-pub(crate) fn byte_width(integer: IntegerType) -> usize
-    ensures { result ≡ byte_width integer }
+/// Whether the bytes are enough for so many numbers.
+pub(crate) fn has_elements(integer: IntegerType, values: &[u8], len: usize) -> bool
+    ensures { result ≡ nat_le (byte_width integer * len) (length values.now) }
 {
     match integer {
-        IntegerType::Int8 | IntegerType::UInt8 => 1,
-        IntegerType::Int16 | IntegerType::UInt16 => 2,
-        IntegerType::Int32 | IntegerType::UInt32 => 4,
-        IntegerType::Int64 | IntegerType::UInt64 => 8,
+        IntegerType::Int8 | IntegerType::UInt8 => len <= values.len(),
+        IntegerType::Int16 | IntegerType::UInt16 => len <= values.len() / 2,
+        IntegerType::Int32 | IntegerType::UInt32 => len <= values.len() / 4,
+        IntegerType::Int64 | IntegerType::UInt64 => len <= values.len() / 8,
     }
 }
 
