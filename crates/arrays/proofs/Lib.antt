@@ -1,1 +1,3 @@
 mod Elements
+mod Slots
+mod TextSlots

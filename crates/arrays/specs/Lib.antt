@@ -3,3 +3,4 @@ pub mod Validity
 pub mod Integers
 pub mod Decimals
 pub mod Bools
+pub mod Texts

@@ -6,9 +6,11 @@ pub mod cells;
 pub mod decimals;
 pub mod integers;
 mod numbers;
+pub mod texts;
 mod validity;
 
 pub use crate::bools::Bools;
 pub use crate::cells::Cells;
 pub use crate::decimals::Decimals;
 pub use crate::integers::Integers;
+pub use crate::texts::Texts;
