@@ -4,3 +4,5 @@ pub mod Integers
 pub mod Decimals
 pub mod Bools
 pub mod Texts
+pub mod Dictionary
+pub mod Indices

@@ -4,6 +4,8 @@
 pub mod bools;
 pub mod cells;
 pub mod decimals;
+pub mod dictionary;
+pub mod indices;
 pub mod integers;
 mod numbers;
 pub mod texts;
@@ -12,5 +14,7 @@ mod validity;
 pub use crate::bools::Bools;
 pub use crate::cells::Cells;
 pub use crate::decimals::Decimals;
+pub use crate::dictionary::Dictionary;
+pub use crate::indices::Indices;
 pub use crate::integers::Integers;
 pub use crate::texts::Texts;

@@ -10,5 +10,5 @@ from_utf8_unchecked-requires c =
     let within : c.args.place < c.self.inside.len = omega (arith, ap (λ (cells : TextsAt). cells.len) c.self.view_is) in
     let here : TextsAt = record { validity = c.self.inside.validity; offsets = c.self.inside.offsets; bytes = c.self.inside.bytes; len = c.self.inside.len } in
     let read : c.text-text.result.now ≡ text_at here c.args.place =
-      c.text-text.ensures ∙ ap (λ (cells : TextsAt). text_at cells c.args.place) (c.parts.ensures ∙ sym c.self.view_is) in
+    c.text-text.ensures ∙ ap (λ (cells : TextsAt). text_at cells c.args.place) (c.parts.ensures ∙ sym c.self.view_is) in
     subst IsUtf8 (sym read) (text_is_utf8 here c.args.place (c.self.invariant.texts c.args.place within) valid)
