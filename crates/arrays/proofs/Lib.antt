@@ -1,3 +1,4 @@
 mod Elements
 mod Slots
 mod TextSlots
+mod Entries

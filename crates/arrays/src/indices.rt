@@ -94,8 +94,9 @@ impl<'a> Parts<'a> {
 fn has_entry(dictionary: &Dictionary, index: i128) -> bool
     ensures { result ≡ is_some (entry_at dictionary.now index) }
 {
+    let count = dictionary.len();
     match usize::try_from(index) {
-        Ok(index) => index < dictionary.len(),
+        Ok(index) => index < count,
         Err(_) => false,
     }
 }
@@ -104,6 +105,7 @@ fn has_entry(dictionary: &Dictionary, index: i128) -> bool
 fn entry(dictionary: &Dictionary, index: i128) -> Option<ValueRef<'_>>
     ensures { option_map value_of result ≡ entry_at dictionary.now index }
 {
+    let _count = dictionary.len();
     match usize::try_from(index) {
         Ok(index) => dictionary.get(index),
         Err(_) => None,

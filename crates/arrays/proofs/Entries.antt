@@ -1,0 +1,85 @@
+-- The values of a dictionary's parts, and the entries that indices lead to.
+use Rattle.std.proofs.Common.{◌≡◌, ◌<◌, ◌≤◌, ℕ, zero, suc, ◌+◌, ◌-◌, ◌*◌, ◌^◌, ℤ, pos, negsuc, List, [], ◌∷◌, ◌++◌, length, drop, take, get_or, slice_get, Option, Some, None, Bool, true, false, nat_le, inl, inr, refl, sym, ap, ◌∙◌, arith, add-one}
+use Rattle.std.specs.Int.{w64, FitsUnsigned}
+use Rattle.std.specs.List.{flat_map, list_all, range_with_len}
+use Rattle.std.proofs.Math.ListN.{get_or-append}
+use Rattle.std.proofs.Math.Seq.{drop-cons}
+use Rattle.std.proofs.Math.Facts.{yes_ltb, yes_leb}
+use Rattle.std.proofs.lemmas.Bool.{cases_lt, leb-true}
+use Rattle.std.proofs.lemmas.List.{length-append}
+use Rattle.std.proofs.lemmas.List.FromFn.{length-map-range_with_len, get_or-map-range_with_len}
+use Rattle.std.proofs.lemmas.Grind.{flat_map-append}
+use Rattle.std.proofs.lemmas.Option.{slice_get-get_or, slice_get_past}
+use Rattle.arrow_schema.specs.declared.data_type.IntegerType.{IntegerType}
+use Rattle.scan_base.specs.declared.value.Value.{Value}
+use Rattle.scan_base.specs.declared.value.Value.TheVariants.{Null}
+use Rattle.arrays.specs.Number.{byte_width}
+use Rattle.arrays.specs.Validity.{IsLong}
+use Rattle.arrays.specs.Texts.{TextsAt, texts_slot, texts_values}
+use Rattle.arrays.specs.Dictionary.{parts_values, entry_at, most_values, IsDictionary}
+use Rattle.arrays.specs.Indices.{IndicesAt, index_stands, AreIndices}
+use Rattle.arrays.proofs.Slots.{slots_at}
+
+-- the item at a place stands in front of those behind it
+pub dropped : {X : Type 0} (xs : List X) (i : ℕ) (x : X) → i < length xs → x ≡ get_or xs i x → drop i xs ≡ x ∷ drop (i + 1) xs
+dropped {X = X} xs i x low is = rw (add-one, drop-cons xs i x low) (ap (λ (y : X). y ∷ drop (suc i) xs) (sym is))
+
+pub length-texts_values : (part : TextsAt) → length (texts_values part) ≡ part.len
+length-texts_values part = length-map-range_with_len (texts_slot part) 0 part.len
+
+-- a place within the first part, and one behind it
+pub in_part : (part : TextsAt) (more : List Value) (place : ℕ) → place < part.len → slice_get (texts_values part ++ more) place ≡ Some (texts_slot part place)
+in_part part more place low =
+    let long = length-texts_values part in
+    let both = length-append (texts_values part) more in
+    slice_get-get_or (texts_values part ++ more) place Null (omega (arith, long, both))
+    ∙ ap Some (get_or-append (texts_values part) more Null place (omega (arith, long)) ∙ get_or-map-range_with_len (texts_slot part) 0 part.len place place Null low (omega arith))
+
+behind_list : (xs ys : List Value) (place : ℕ) → length xs ≤ place → slice_get (xs ++ ys) place ≡ slice_get ys (place - length xs)
+behind_list [] ys place le = let e : place - 0 ≡ place = omega arith in rw e refl
+behind_list (x ∷ xs) ys zero le = absurd (omega arith)
+behind_list (x ∷ xs) ys (suc place) le = let e : suc place - suc (length xs) ≡ place - length xs = omega arith in rw e (behind_list xs ys place (omega arith))
+
+pub behind_part : (part : TextsAt) (more : List Value) (place : ℕ) → part.len ≤ place → slice_get (texts_values part ++ more) place ≡ slice_get more (place - part.len)
+behind_part part more place le =
+    let long = length-texts_values part in
+    behind_list (texts_values part) more place (omega (arith, long)) ∙ ap (λ (n : ℕ). slice_get more (place - n)) long
+
+-- the values with a part more
+pub parts_more : (parts : List TextsAt) (part : TextsAt) → parts_values (parts ++ part ∷ []) ≡ parts_values parts ++ (texts_values part ++ [])
+parts_more parts part = flat_map-append texts_values parts (part ∷ [])
+
+pub counted_more : (parts : List TextsAt) (part : TextsAt) (count : ℕ) → IsDictionary parts count → count + part.len ≤ most_values → IsDictionary (parts ++ part ∷ []) (count + part.len)
+counted_more parts part count had small =
+    let nothing : List Value = [] in
+    let last = length-append (texts_values part) nothing in
+    let all = length-append (parts_values parts) (texts_values part ++ nothing) in
+    record {
+      counted = rw (parts_more parts part) (omega (arith, had.counted, length-texts_values part, last, all));
+      small = small;
+    }
+
+-- a number that is no place of the machine's is no index of so few values
+pub no_entry : (values : List Value) (index : ℤ) → length values < 2 ^ 64 → (FitsUnsigned w64 index → ⊥) → entry_at values index ≡ None
+no_entry values (pos index) small wide = elim (cases_lt index (length values)) [
+    | inl low ↦ absurd (wide (record { le = yes_leb (omega arith) }, record { lt = yes_ltb (omega arith) }))
+    | inr high ↦ slice_get_past values index high
+  ]
+no_entry values (negsuc index) small wide = refl
+
+-- slots that were tested are indices
+pub tested_are_indices : (cells : IndicesAt) → IsLong cells.validity cells.len → nat_le (byte_width cells.index * cells.len) (length cells.values) ≡ true →
+    list_all (index_stands cells) (range_with_len 0 cells.len) ≡ true → AreIndices cells
+tested_are_indices cells long room all = record {
+    validity = long;
+    values = leb-true (byte_width cells.index * cells.len) (length cells.values) room;
+    indices = λ place low. slots_at (index_stands cells) 0 cells.len place all (omega arith) (omega arith);
+  }
+
+-- the same of buffers that were read through slices
+pub read_are_indices : (index : IntegerType) (validity : Option (List Bool)) (values tested_values read_values : List ℕ) (dictionary read_dictionary : List Value) (len : ℕ) →
+    tested_values ≡ values → read_values ≡ values → read_dictionary ≡ dictionary → IsLong validity len → nat_le (byte_width index * len) (length tested_values) ≡ true →
+    list_all (index_stands (record { index = index; validity = validity; values = read_values; dictionary = read_dictionary; len = len })) (range_with_len 0 len) ≡ true →
+    AreIndices (record { index = index; validity = validity; values = values; dictionary = dictionary; len = len })
+read_are_indices index validity values tested_values read_values dictionary read_dictionary len same_tested same_values same_dictionary long room all =
+    tested_are_indices (record { index = index; validity = validity; values = values; dictionary = dictionary; len = len }) long (rw (← same_tested) room) (rw (← same_values, ← same_dictionary) all)
