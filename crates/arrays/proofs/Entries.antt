@@ -62,19 +62,19 @@ counted_more parts part count had small =
 -- a number that is no place of the machine's is no index of so few values
 pub no_entry : (values : List Value) (index : ℤ) → length values < 2 ^ 64 → (FitsUnsigned w64 index → ⊥) → entry_at values index ≡ None
 no_entry values (pos index) small wide = elim (cases_lt index (length values)) [
-    | inl low ↦ absurd (wide (record { le = yes_leb (omega arith) }, record { lt = yes_ltb (omega arith) }))
-    | inr high ↦ slice_get_past values index high
-  ]
+  | inl low ↦ absurd (wide (record { le = yes_leb (omega arith) }, record { lt = yes_ltb (omega arith) }))
+  | inr high ↦ slice_get_past values index high
+]
 no_entry values (negsuc index) small wide = refl
 
 -- slots that were tested are indices
 pub tested_are_indices : (cells : IndicesAt) → IsLong cells.validity cells.len → nat_le (byte_width cells.index * cells.len) (length cells.values) ≡ true →
     list_all (index_stands cells) (range_with_len 0 cells.len) ≡ true → AreIndices cells
 tested_are_indices cells long room all = record {
-    validity = long;
-    values = leb-true (byte_width cells.index * cells.len) (length cells.values) room;
-    indices = λ place low. slots_at (index_stands cells) 0 cells.len place all (omega arith) (omega arith);
-  }
+  validity = long;
+  values = leb-true (byte_width cells.index * cells.len) (length cells.values) room;
+  indices = λ place low. slots_at (index_stands cells) 0 cells.len place all (omega arith) (omega arith);
+}
 
 -- the same of buffers that were read through slices
 pub read_are_indices : (index : IntegerType) (validity : Option (List Bool)) (values tested_values read_values : List ℕ) (dictionary read_dictionary : List Value) (len : ℕ) →

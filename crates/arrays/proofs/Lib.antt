@@ -2,3 +2,4 @@ mod Elements
 mod Slots
 mod TextSlots
 mod Entries
+mod Slices

@@ -6,3 +6,6 @@ pub mod Bools
 pub mod Texts
 pub mod Dictionary
 pub mod Indices
+pub mod Layout
+pub mod Column
+pub mod Batch
