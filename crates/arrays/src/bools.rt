@@ -1,6 +1,6 @@
 //! Columns of truth values.
 
-ghost use Rattle.std.specs.Prelude.{◌≡◌, IfOk};
+ghost use Rattle.std.specs.Prelude.{◌≡◌, IfOk, length};
 ghost use Rattle.scan_base.specs.Reading.{Gives};
 ghost use Rattle.arrays.specs.Bools.{bools_slot, bools_of};
 
@@ -39,7 +39,8 @@ impl Bools {
     /// value, and one for each slot where there are validity bits.
     #[tactic(auto, unfolding(crate::specs::Bools::bools_of))]
     pub fn new(validity: Option<Bytes>, values: Bytes, len: usize) -> Result<Bools, Fault>
-        ensures { Gives (λ cells. cells) result (bools_of validity values len) }
+        ensures value { Gives (λ cells. cells) result (bools_of validity values len) }
+        ensures long { IfOk result (λ cells. length cells.values ≡ len) }
     {
         let validity = read_validity(validity, len)?;
         if values.len() < len.div_ceil(8) {

@@ -42,7 +42,8 @@ impl Decimals {
     /// value, and a bit for each slot where there are validity bits.
     #[tactic(auto, unfolding(crate::specs::Decimals::decimals_of))]
     pub fn new(validity: Option<Bytes>, values: Bytes, len: usize) -> Result<Decimals, Fault>
-        ensures { Gives (λ cells. cells) result (decimals_of validity values len) }
+        ensures value { Gives (λ cells. cells) result (decimals_of validity values len) }
+        ensures long { IfOk result (λ cells. cells.len ≡ len) }
     {
         let validity = read_validity(validity, len)?;
         if values.len() / 16 < len {

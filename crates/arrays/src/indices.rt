@@ -128,8 +128,9 @@ impl Indices {
         dictionary: Arc<Dictionary>,
         len: usize,
     ) -> Result<Indices, Fault>
-        ensures { Gives (λ cells. cells) result
+        ensures value { Gives (λ cells. cells) result
             (indices_of index validity values (arc_value dictionary) len) }
+        ensures long { IfOk result (λ cells. cells.len ≡ len) }
     {
         let validity = read_validity(validity, len)?;
         if !has_elements(index, values.as_slice(), len) {

@@ -48,7 +48,8 @@ impl Integers {
         values: Bytes,
         len: usize,
     ) -> Result<Integers, Fault>
-        ensures { Gives (λ cells. cells) result (integers_of integer validity values len) }
+        ensures value { Gives (λ cells. cells) result (integers_of integer validity values len) }
+        ensures long { IfOk result (λ cells. cells.len ≡ len) }
     {
         let validity = read_validity(validity, len)?;
         if !has_elements(integer, values.as_slice(), len) {

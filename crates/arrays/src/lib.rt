@@ -25,3 +25,6 @@ pub use crate::indices::Indices;
 pub use crate::integers::Integers;
 pub use crate::layout::Layout;
 pub use crate::texts::Texts;
+
+#[cfg(test)]
+mod tests;

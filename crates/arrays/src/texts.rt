@@ -159,7 +159,8 @@ impl Texts {
         bytes: Bytes,
         len: usize,
     ) -> Result<Texts, Fault>
-        ensures { Gives (λ cells. cells) result (texts_of validity offsets bytes len) }
+        ensures value { Gives (λ cells. cells) result (texts_of validity offsets bytes len) }
+        ensures long { IfOk result (λ cells. cells.len ≡ len) }
     {
         let validity = read_validity(validity, len)?;
         let parts = Parts {
