@@ -3,3 +3,4 @@ mod Slots
 mod TextSlots
 mod Entries
 mod Slices
+mod Rows
