@@ -1,6 +1,6 @@
 -- A number read from the bytes from its place on is the element at that place.
-use Rattle.std.proofs.Common.{◌≡◌, ℕ, ◌+◌, ◌-◌, ◌*◌, ◌≤◌, List, length, drop, take, arith, refl, ap, ◌∙◌, slice_index}
-use Rattle.byteorder.specs.Endian.{little_from, little_number}
+use Rattle.std.proofs.Common.{◌≡◌, ℕ, ◌+◌, ◌-◌, ◌*◌, ◌≤◌, List, length, drop, take, arith, slice_index}
+use Rattle.byteorder.specs.Endian.{little_number}
 use Rattle.bitmap.proofs.Masks.{little_part}
 use Rattle.arrays.specs.Number.{element_at}
 

@@ -1,13 +1,11 @@
 -- Worked rows: the definitions, tried on buffers whose values were worked out by hand.
-use Rattle.std.proofs.Common.{◌≡◌, ℕ, pos, negsuc, Bool as Bit, true, false, List, [], ◌∷◌, map, Option, Some, None, Ok, Err, codes, replicate, refl}
+use Rattle.std.proofs.Common.{◌≡◌, pos, negsuc, Bool as Bit, true, false, List, [], ◌∷◌, map, Option, Some, None, codes, replicate, refl}
 use Rattle.std.specs.List.{range_with_len}
 use Rattle.arrow_schema.specs.declared.data_type.IntegerType.TheVariants.{Int8, Int64}
-use Rattle.scan_base.specs.declared.fault.Fault.TheVariants.{BadBatch}
-use Rattle.scan_base.specs.declared.value.Value.{Value}
 use Rattle.scan_base.specs.declared.value.Value.TheVariants.{Null, Bool, Int, Text}
 use Rattle.arrays.specs.Number.{element_at}
 use Rattle.arrays.specs.Integers.{IntegersAt, integers_slot}
-use Rattle.arrays.specs.Decimals.{DecimalsAt, decimals_slot}
+use Rattle.arrays.specs.Decimals.{decimals_slot}
 use Rattle.arrays.specs.Bools.{BoolsAt, bools_slot}
 use Rattle.arrays.specs.Texts.{TextsAt, texts_values, texts_stand}
 use Rattle.arrays.specs.Indices.{IndicesAt, indices_slot, index_stands}

@@ -1,10 +1,9 @@
 -- What the texts of slots that stand are.
-use Rattle.std.proofs.Common.{◌≡◌, ◌<◌, ◌≤◌, ℕ, ◌+◌, ◌*◌, ◌^◌, ◌==◌, ◌&&◌, ◌||◌, not, Bool, true, false, List, Option, length, nat_le, nat_lt, nat_eq, inl, inr, arith, sym, refl, IsUtf8}
+use Rattle.std.proofs.Common.{◌≡◌, ℕ, ◌+◌, ◌*◌, ◌==◌, ◌&&◌, ◌||◌, not, Bool, true, false, List, Option, length, nat_le, inl, inr, arith, IsUtf8}
 use Rattle.std.specs.List.{list_all, range_with_len}
 use Rattle.std.specs.Str.{is_utf8}
 use Rattle.std.proofs.lemmas.Str.{IsUtf8-from_is_utf8}
 use Rattle.std.proofs.lemmas.Bool.{eqb-true, leb-true, and_parts}
-use Rattle.arrays.specs.Number.{element_at}
 use Rattle.arrays.specs.Validity.{is_valid, IsLong}
 use Rattle.arrays.specs.Texts.{TextsAt, text_at, is_offset, text_stands, texts_stand, lack_offsets, AreTexts}
 use Rattle.arrays.proofs.Slots.{one_holds, slots_at}

@@ -1,5 +1,5 @@
 -- Slots of indices into a dictionary.
-use Rattle.std.specs.Prelude.{◌≡◌, ◌≤◌, ◌<◌, ℕ, ◌*◌, ◌&&◌, ◌||◌, not, Bool, true, List, length, Option, is_some, unwrap_or, nat_le, Result, Ok}
+use Rattle.std.specs.Prelude.{◌≡◌, ◌≤◌, ◌<◌, ℕ, ◌*◌, ◌||◌, not, Bool, true, List, length, Option, is_some, unwrap_or, nat_le, Result, Ok}
 use Rattle.std.specs.List.{list_all, range_with_len}
 use Rattle.arrow_schema.specs.declared.data_type.IntegerType.{IntegerType}
 use Rattle.scan_base.specs.declared.fault.Fault.{Fault}

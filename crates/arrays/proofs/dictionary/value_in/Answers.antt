@@ -1,4 +1,4 @@
-use Rattle.std.proofs.Common.{◌≡◌, ◌∙◌, ◌+◌, sym, ap, arith, List, drop, slice_get, Some}
+use Rattle.std.proofs.Common.{◌∙◌, ◌+◌, sym, ap, arith, List, drop, slice_get, Some}
 use Rattle.arrays.specs.Texts.{TextsAt}
 use Rattle.arrays.specs.Dictionary.{parts_values}
 use Rattle.arrays.proofs.Entries.{dropped, in_part, behind_part}

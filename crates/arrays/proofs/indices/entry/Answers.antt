@@ -1,4 +1,4 @@
-use Rattle.std.proofs.Common.{sym, ap, is_some, arith}
+use Rattle.std.proofs.Common.{sym, arith}
 use Rattle.std.specs.Int.{w128}
 use Rattle.std.proofs.lemmas.Int.{to_z-of_z}
 use Rattle.arrays.proofs.Entries.{no_entry}

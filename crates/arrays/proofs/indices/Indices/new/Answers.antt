@@ -1,4 +1,4 @@
-use Rattle.std.proofs.Common.{◌≡◌, ◌∙◌, sym, true}
+use Rattle.std.proofs.Common.{◌∙◌, sym}
 use Rattle.std.specs.Arc.{arc_value}
 use Rattle.arrays.proofs.Entries.{read_are_indices}
 use Rattle.arrays.proofs.indices.Indices.new.Goals as goal

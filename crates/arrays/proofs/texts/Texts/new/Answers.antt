@@ -1,4 +1,4 @@
-use Rattle.std.proofs.Common.{◌≡◌, ◌∙◌, sym, true}
+use Rattle.std.proofs.Common.{◌∙◌, sym}
 use Rattle.arrays.proofs.TextSlots.{read_are_texts}
 use Rattle.arrays.proofs.texts.Texts.new.Goals as goal
 

@@ -1,4 +1,4 @@
-use Rattle.std.proofs.Common.{◌≡◌, ◌∙◌, ◌<◌, sym, ap, true, subst, arith, IsUtf8, List, ℕ}
+use Rattle.std.proofs.Common.{◌≡◌, ◌∙◌, ◌<◌, sym, ap, true, subst, arith, IsUtf8}
 use Rattle.arrays.specs.Validity.{is_valid}
 use Rattle.arrays.specs.Texts.{TextsAt, text_at}
 use Rattle.arrays.proofs.TextSlots.{text_is_utf8}
