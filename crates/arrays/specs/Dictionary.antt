@@ -1,5 +1,5 @@
 -- The values of a dictionary: those of one part after another.
-use Rattle.std.specs.Prelude.{◌≡◌, ◌≤◌, ℕ, ◌+◌, ℤ, pos, negsuc, List, ◌++◌, length, Option, None, slice_get, nat_le, Result, Ok}
+use Rattle.std.specs.Prelude.{◌≡◌, ◌≤◌, ◌<◌, ℕ, ◌+◌, ℤ, pos, negsuc, List, ◌++◌, length, take, slice_index, Option, None, slice_get, nat_le, Result, Ok}
 use Rattle.std.specs.List.{flat_map}
 use Rattle.scan_base.specs.declared.fault.Fault.{Fault}
 use Rattle.scan_base.specs.declared.fault.Fault.TheVariants.{LimitReached}
@@ -14,10 +14,13 @@ parts_values parts = flat_map texts_values parts
 abbrev pub most_values : ℕ
 most_values = 16777216
 
--- a dictionary counts its values, and has no more than it may
-pub record IsDictionary (parts : List TextsAt) (count : ℕ) : Type 0 where
+-- A dictionary counts its values, of which it has no more than it may, and knows how many of them stand in
+-- front of each part.
+pub record IsDictionary (parts : List TextsAt) (starts : List ℕ) (count : ℕ) : Type 0 where
   pub counted : length (parts_values parts) ≡ count
   pub small : count ≤ most_values
+  pub many : length starts ≡ length parts
+  pub fronts : (i : ℕ) → i < length parts → slice_index starts i ≡ length (parts_values (take i parts))
 
 -- the values with those of one more part behind them
 unfoldable pub extended_by : List Value → TextsAt → Result (List Value) Fault

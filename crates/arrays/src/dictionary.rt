@@ -1,6 +1,6 @@
 //! Dictionaries of texts.
 
-ghost use Rattle.std.specs.Prelude.{◌≡◌, ◌==◌, ◌≤◌, [], length, slice_get, option_map, IfOk, nat_lt};
+ghost use Rattle.std.specs.Prelude.{◌≡◌, ◌==◌, ◌≤◌, ◌<◌, ◌+◌, [], length, slice_get, slice_index, option_map, IfOk, nat_lt};
 ghost use Rattle.scan_base.specs.Reading.{GivesUnlessMemory};
 ghost use Rattle.scan_base.specs.Value.{value_of};
 ghost use Rattle.arrays.specs.Dictionary.{parts_values, extended_by, most_values};
@@ -19,6 +19,7 @@ const MOST_VALUES: usize = 16_777_216;
 #[derive(Drop)]
 pub struct Dictionary {
     parts: Vec<Texts>,
+    starts: Vec<usize>,
     len: usize,
 }
 
@@ -31,7 +32,7 @@ impl Model for Dictionary {
 
     ghost view = { λ d. parts_values d.parts.items };
 
-    ghost invariant = { λ d. IsDictionary d.parts.items d.len };
+    ghost invariant = { λ d. IsDictionary d.parts.items d.starts.items d.len };
 }
 
 impl Dictionary {
@@ -41,6 +42,7 @@ impl Dictionary {
     {
         Dictionary {
             parts: Vec::new(alloc),
+            starts: Vec::new(alloc),
             len: 0,
         }
     }
@@ -63,7 +65,11 @@ impl Dictionary {
     pub fn get(&self, index: usize) -> Option<ValueRef<'_>>
         ensures { option_map value_of result ≡ slice_get self.now index }
     {
-        value_in(self.parts.as_slice(), index)
+        if self.len <= index {
+            return None;
+        }
+        let part = part_of(self.starts.as_slice(), index);
+        Some(self.parts[part].value_at(index - self.starts[part]))
     }
 
     /// The same values with those of one more part behind them. It takes memory for parts, and copies no
@@ -81,24 +87,34 @@ impl Dictionary {
             return Err(Fault::LimitReached);
         }
         let len = self.len + part.len();
+        let mut starts = Vec::with_capacity(alloc, self.starts.len() + 1)?;
+        starts.extend_from_slice(self.starts.as_slice())?;
+        starts.push(self.len)?;
         let mut parts = shared(alloc, self.parts.as_slice())?;
         parts.push(part)?;
-        Ok(Dictionary { parts, len })
+        Ok(Dictionary { parts, starts, len })
     }
 }
 
-// The value of a number in parts that stand one behind another.
-fn value_in(parts: &[Texts], index: usize) -> Option<ValueRef<'_>>
-    ensures { option_map value_of result ≡ slice_get (parts_values parts.now) index }
+// The last part that starts at an index or before it: the one that holds it, by halving.
+fn part_of(starts: &[usize], index: usize) -> usize
+    requires some { 0 < length starts.now }
+    requires first { slice_index starts.now 0 ≤ index }
+    ensures within { result < length starts.now }
+    ensures starts { slice_index starts.now result ≤ index }
+    ensures ends { result + 1 < length starts.now → index < slice_index starts.now (result + 1) }
 {
-    let mut place = index;
-    for part in parts {
-        if place < part.len() {
-            return Some(part.value_at(place));
+    let mut low = 0;
+    let mut high = starts.len();
+    while high - low > 1 {
+        let middle = low + (high - low) / 2;
+        if starts[middle] <= index {
+            low = middle;
+        } else {
+            high = middle;
         }
-        place -= part.len();
     }
-    None
+    low
 }
 
 // The same parts, once more.

@@ -1,5 +1,5 @@
 -- Worked rows: the definitions, tried on bytes whose bits were worked out by hand.
-use Rattle.std.proofs.Common.{◌≡◌, ◌-◌, List, ℕ, Bool, true, false, [], ◌∷◌, take, drop, count_by, refl}
+use Rattle.std.proofs.Common.{◌≡◌, ◌-◌, List, Bool, true, false, [], ◌∷◌, take, drop, count_by, refl}
 use Rattle.bitmap.specs.Bits.{bits_of}
 
 -- `FB 01` and `FB FD`: of ten bits, those at 2 and 9 are 0
