@@ -65,7 +65,7 @@ pub in_parts : (parts : List TextsAt) (i index : ℕ) (part : TextsAt) → i < l
 in_parts parts i index part low is front within =
     let before = parts_values (take i parts) in
     let whole : parts_values parts ≡ before ++ parts_values (drop i parts) =
-      ap parts_values (sym (take-append-drop i parts)) ∙ flat_map-append texts_values (take i parts) (drop i parts) in
+    ap parts_values (sym (take-append-drop i parts)) ∙ flat_map-append texts_values (take i parts) (drop i parts) in
     ap (λ (values : List Value). slice_get values index) whole
     ∙ behind_list before (parts_values (drop i parts)) index front
     ∙ ap (λ (left : List TextsAt). slice_get (parts_values left) (index - length before)) (dropped parts i part low is)
@@ -75,20 +75,20 @@ in_parts parts i index part low is front within =
 pub counted_more : (parts : List TextsAt) (starts : List ℕ) (part : TextsAt) (count : ℕ) → IsDictionary parts starts count → count + part.len ≤ most_values →
     IsDictionary (parts ++ part ∷ []) (starts ++ count ∷ []) (count + part.len)
 counted_more parts starts part count had small = record {
-    counted = length-parts_more parts part ∙ ap (λ (n : ℕ). n + part.len) had.counted;
-    small = small;
-    many = omega (arith, length-append starts (count ∷ []), length-append parts (part ∷ []), had.many);
-    fronts = λ i low. elim (cases_lt i (length parts)) [
-      | inl inside ↦
+  counted = length-parts_more parts part ∙ ap (λ (n : ℕ). n + part.len) had.counted;
+  small = small;
+  many = omega (arith, length-append starts (count ∷ []), length-append parts (part ∷ []), had.many);
+  fronts = λ i low. elim (cases_lt i (length parts)) [
+    | inl inside ↦
         get_or-append starts (count ∷ []) 0 i (omega (arith, had.many)) ∙ had.fronts i inside
         ∙ ap (λ (front : List TextsAt). length (parts_values front)) (sym (take-append-le i parts (part ∷ []) (omega arith)))
-      | inr last ↦
+    | inr last ↦
         let here : i ≡ length parts = omega (arith, length-append parts (part ∷ [])) in
         let z : length starts + 0 ≡ i = omega (arith, had.many, here) in
         ap (λ (n : ℕ). slice_index (starts ++ count ∷ []) n) (sym z) ∙ get_or-append-add starts (count ∷ []) 0 0 ∙ sym had.counted
         ∙ ap (λ (front : List TextsAt). length (parts_values front)) (sym (ap (λ (n : ℕ). take n (parts ++ part ∷ [])) here ∙ take-append_seam parts (part ∷ [])))
-    ];
-  }
+  ];
+}
 
 -- the part that an index is in
 pub in_last : (parts : List TextsAt) (starts : List ℕ) (count i index : ℕ) (part : TextsAt) → IsDictionary parts starts count → i < length parts → part ≡ get_or parts i part →
@@ -98,13 +98,13 @@ in_last parts starts count i index part had low is few ends starts_at =
     let front = had.fronts i low in
     elim (cases_lt (i + 1) (length parts)) [
       | inl more ↦
-        let next = had.fronts (i + 1) more in
-        let before = ends (omega (arith, had.many)) in
-        omega (arith, through, front, next, before)
+          let next = had.fronts (i + 1) more in
+          let before = ends (omega (arith, had.many)) in
+          omega (arith, through, front, next, before)
       | inr last ↦
-        let all : take (i + 1) parts ≡ parts = take_all (i + 1) parts last in
-        let total : length (parts_values (take (i + 1) parts)) ≡ count = ap (λ (left : List TextsAt). length (parts_values left)) all ∙ had.counted in
-        omega (arith, through, front, total)
+          let all : take (i + 1) parts ≡ parts = take_all (i + 1) parts last in
+          let total : length (parts_values (take (i + 1) parts)) ≡ count = ap (λ (left : List TextsAt). length (parts_values left)) all ∙ had.counted in
+          omega (arith, through, front, total)
     ]
 
 -- a number that is no place of the machine's is no index of so few values

@@ -180,6 +180,27 @@ impl Texts {
         })
     }
 
+    /// The validity bits, where there are some: one for each slot.
+    pub fn validity(&self) -> &Option<Bits>
+        ensures { result.now ≡ (self.now).validity }
+    {
+        &self.validity
+    }
+
+    /// The packed offsets.
+    pub fn offsets(&self) -> &[u8]
+        ensures { result.now ≡ (self.now).offsets }
+    {
+        self.offsets.as_slice()
+    }
+
+    /// The data that the offsets cut.
+    pub fn bytes(&self) -> &[u8]
+        ensures { result.now ≡ (self.now).bytes }
+    {
+        self.bytes.as_slice()
+    }
+
     /// The same slots once more, over the same buffers: nothing is copied.
     ///
     /// # Errors

@@ -15,7 +15,7 @@ value_at-requires c =
     let ends : i + 1 < length starts → c.args.index < slice_index starts (i + 1) = rw c.as_slice.ensures.value at c.part_of-part.ensures.ends in
     let start : c.index-2.result.now ≡ slice_index starts i = c.index-2.ensures ∙ get_or_default starts i c.index-2.result.now 0 few in
     rw start (in_last c.self.inside.parts.items starts c.self.inside.len i c.args.index c.index.result.now c.self.invariant
-      (omega (arith, few, c.self.invariant.many)) c.index.ensures c.if-self-index.false ends at_or_before)
+    (omega (arith, few, c.self.invariant.many)) c.index.ensures c.if-self-index.false ends at_or_before)
 
 pub returns : goal.returns
 returns c =
