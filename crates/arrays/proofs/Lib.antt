@@ -1,0 +1,6 @@
+mod Elements
+mod Slots
+mod TextSlots
+mod Entries
+mod Slices
+mod Rows

@@ -1,0 +1,74 @@
+-- Worked rows: the definitions, tried on buffers whose values were worked out by hand.
+use Rattle.std.proofs.Common.{◌≡◌, pos, negsuc, Bool as Bit, true, false, List, [], ◌∷◌, map, Option, Some, None, codes, replicate, refl}
+use Rattle.std.specs.List.{range_with_len}
+use Rattle.arrow_schema.specs.declared.data_type.IntegerType.TheVariants.{Int8, Int64}
+use Rattle.scan_base.specs.declared.value.Value.TheVariants.{Null, Bool, Int, Text}
+use Rattle.arrays.specs.Number.{element_at}
+use Rattle.arrays.specs.Integers.{IntegersAt, integers_slot}
+use Rattle.arrays.specs.Decimals.{decimals_slot}
+use Rattle.arrays.specs.Bools.{BoolsAt, bools_slot}
+use Rattle.arrays.specs.Texts.{TextsAt, texts_values, texts_stand}
+use Rattle.arrays.specs.Indices.{IndicesAt, indices_slot, index_stands}
+
+-- offsets 0, 2, 2, 2 of `ab`, with validity `05`: 'ab', NULL, ''
+abbrev three_texts : TextsAt
+three_texts = record {
+  validity = Some (true ∷ false ∷ true ∷ []);
+  offsets = 0 ∷ 0 ∷ 0 ∷ 0 ∷ 2 ∷ 0 ∷ 0 ∷ 0 ∷ 2 ∷ 0 ∷ 0 ∷ 0 ∷ 2 ∷ 0 ∷ 0 ∷ 0 ∷ [];
+  bytes = codes "ab";
+  len = 3;
+}
+
+texts : texts_values three_texts ≡ Text (codes "ab") ∷ Null ∷ Text [] ∷ []
+unfolding element_at
+texts = refl
+
+-- an offset past the data
+past_the_data : texts_stand (record three_texts { bytes = codes "a" }) ≡ false
+unfolding element_at
+past_the_data = refl
+
+-- data `09` or `0B` with validity `0D`: TRUE, NULL, FALSE, TRUE
+abbrev four_bools : Bit → BoolsAt
+four_bools second = record { validity = Some (true ∷ false ∷ true ∷ true ∷ []); values = true ∷ second ∷ false ∷ true ∷ [] }
+
+bools : (second : Bit) → map (bools_slot (four_bools second)) (range_with_len 0 4) ≡ Bool true ∷ Null ∷ Bool false ∷ Bool true ∷ []
+bools second = refl
+
+-- sixteen bytes `FF`: -1
+decimals : decimals_slot (record { validity = None; values = replicate 16 255; len = 1 }) 0 ≡ Int (negsuc 0)
+unfolding element_at
+decimals = refl
+
+-- 1, 2; and with validity `02` NULL, 2
+abbrev two_numbers : Option (List Bit) → IntegersAt
+two_numbers validity = record { integer = Int64; validity = validity; values = 1 ∷ 0 ∷ 0 ∷ 0 ∷ 0 ∷ 0 ∷ 0 ∷ 0 ∷ 2 ∷ 0 ∷ 0 ∷ 0 ∷ 0 ∷ 0 ∷ 0 ∷ 0 ∷ []; len = 2 }
+
+numbers : map (integers_slot (two_numbers None)) (range_with_len 0 2) ≡ Int (pos 1) ∷ Int (pos 2) ∷ []
+unfolding element_at
+numbers = refl
+
+a_null : map (integers_slot (two_numbers (Some (false ∷ true ∷ [])))) (range_with_len 0 2) ≡ Null ∷ Int (pos 2) ∷ []
+unfolding element_at
+a_null = refl
+
+-- dictionary 'x', NULL with indices 0, 1 and a null: 'x', NULL, NULL
+abbrev three_indices : IndicesAt
+three_indices = record { index = Int8; validity = Some (true ∷ true ∷ false ∷ []); values = 0 ∷ 1 ∷ 9 ∷ []; dictionary = Text (codes "x") ∷ Null ∷ []; len = 3 }
+
+indices : map (indices_slot three_indices) (range_with_len 0 3) ≡ Text (codes "x") ∷ Null ∷ Null ∷ []
+unfolding element_at
+indices = refl
+
+-- the null's index may lie outside the dictionary, and a valid one may not
+outside : map (index_stands three_indices) (range_with_len 0 3) ≡ true ∷ true ∷ true ∷ []
+unfolding element_at
+outside = refl
+
+refused : index_stands (record three_indices { validity = None }) 2 ≡ false
+unfolding element_at
+refused = refl
+
+negative : index_stands (record three_indices { values = 255 ∷ [] }) 0 ≡ false
+unfolding element_at
+negative = refl

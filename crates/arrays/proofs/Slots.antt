@@ -1,0 +1,33 @@
+-- A test of each slot, from the first on.
+use Rattle.std.proofs.Common.{◌≡◌, ◌<◌, ◌≤◌, ℕ, zero, suc, ◌+◌, ◌-◌, Bool, true, false, ◌||◌, ◌⊎◌, refl, arith, inl, inr}
+use Rattle.std.specs.List.{list_all, range_with_len}
+use Rattle.std.proofs.lemmas.Bool.{cases_lt, and_parts}
+
+-- what a disjunction says
+pub one_holds : (a b : Bool) → (a || b) ≡ true → (a ≡ true) ⊎ (b ≡ true)
+one_holds true b e = inl refl
+one_holds false b e = inr e
+
+-- with one slot tested, those behind it are left
+pub slots_more : (stands : ℕ → Bool) (place len : ℕ) → place < len → stands place ≡ true →
+    list_all stands (range_with_len place (len - place)) ≡ list_all stands (range_with_len (place + 1) (len - (place + 1)))
+slots_more stands place len lt e = let f : len - place ≡ suc (len - (place + 1)) = omega arith in rw (f, e) refl
+
+-- at one that fails, that is the answer
+pub slots_stop : (stands : ℕ → Bool) (place len : ℕ) → place < len → stands place ≡ false →
+    list_all stands (range_with_len place (len - place)) ≡ false
+slots_stop stands place len lt e = let f : len - place ≡ suc (len - (place + 1)) = omega arith in rw (f, e) refl
+
+-- with none left, all passed
+pub slots_end : (stands : ℕ → Bool) (place len : ℕ) → len ≤ place → list_all stands (range_with_len place (len - place)) ≡ true
+slots_end stands place len le = let f : len - place ≡ 0 = omega arith in rw f refl
+
+-- where all pass, each does
+pub slots_at : (stands : ℕ → Bool) (first len place : ℕ) → list_all stands (range_with_len first len) ≡ true → first ≤ place → place < first + len → stands place ≡ true
+slots_at stands first zero place all low high = absurd (omega arith)
+slots_at stands first (suc len) place all low high =
+    let parts = and_parts (stands first) (list_all stands (range_with_len (first + 1) len)) all in
+    elim (cases_lt first place) [
+      | inl lt ↦ slots_at stands (first + 1) len place parts.1 (omega arith) (omega arith)
+      | inr le ↦ let same : place ≡ first = omega arith in rw same parts.0
+    ]

@@ -1,0 +1,30 @@
+-- Slots of packed decimals of 128 bits.
+use Rattle.std.specs.Prelude.{◌≤◌, ℕ, ◌*◌, Bool, List, length, Option, nat_le, Result, Ok}
+use Rattle.scan_base.specs.declared.fault.Fault.{Fault}
+use Rattle.scan_base.specs.declared.fault.Fault.TheVariants.{BadBatch}
+use Rattle.scan_base.specs.declared.value.Value.{Value}
+use Rattle.scan_base.specs.declared.value.Value.TheVariants.{Int}
+use Rattle.scan_base.specs.Reading.{◌>>=◌, demand}
+use Rattle.arrays.specs.Number.{decimal_at}
+use Rattle.arrays.specs.Validity.{where_valid, validity_of, IsLong}
+
+pub record DecimalsAt : Type 0 where
+  pub validity : Option (List Bool)
+  pub values : List ℕ
+  pub len : ℕ
+
+-- the value of the slot at a place
+abbrev pub decimals_slot : DecimalsAt → ℕ → Value
+decimals_slot cells place = where_valid cells.validity (λ at. Int (decimal_at cells.values at)) place
+
+-- the slots of these buffers, which have room for them
+unfoldable pub decimals_of : Option (List ℕ) → List ℕ → ℕ → Result DecimalsAt Fault
+decimals_of validity values len = do
+  bits ← validity_of validity len
+  _ ← demand (nat_le (16 * len) (length values)) BadBatch
+  Ok (record { validity = bits; values = values; len = len })
+
+-- the buffers have room for the slots
+pub record AreDecimals (cells : DecimalsAt) : Type 0 where
+  pub validity : IsLong cells.validity cells.len
+  pub values : 16 * cells.len ≤ length cells.values

@@ -1,0 +1,34 @@
+-- The values of a dictionary: those of one part after another.
+use Rattle.std.specs.Prelude.{◌≡◌, ◌≤◌, ◌<◌, ℕ, ◌+◌, ℤ, pos, negsuc, List, ◌++◌, length, take, slice_index, Option, None, slice_get, nat_le, Result, Ok}
+use Rattle.std.specs.List.{flat_map}
+use Rattle.scan_base.specs.declared.fault.Fault.{Fault}
+use Rattle.scan_base.specs.declared.fault.Fault.TheVariants.{LimitReached}
+use Rattle.scan_base.specs.declared.value.Value.{Value}
+use Rattle.scan_base.specs.Reading.{◌>>=◌, demand}
+use Rattle.arrays.specs.Texts.{TextsAt, texts_values}
+
+abbrev pub parts_values : List TextsAt → List Value
+parts_values parts = flat_map texts_values parts
+
+-- how many values a dictionary may have
+abbrev pub most_values : ℕ
+most_values = 16777216
+
+-- A dictionary counts its values, of which it has no more than it may, and knows how many of them stand in
+-- front of each part.
+pub record IsDictionary (parts : List TextsAt) (starts : List ℕ) (count : ℕ) : Type 0 where
+  pub counted : length (parts_values parts) ≡ count
+  pub small : count ≤ most_values
+  pub many : length starts ≡ length parts
+  pub fronts : (i : ℕ) → i < length parts → slice_index starts i ≡ length (parts_values (take i parts))
+
+-- the values with those of one more part behind them
+unfoldable pub extended_by : List Value → TextsAt → Result (List Value) Fault
+extended_by values part = do
+  _ ← demand (nat_le (length values + part.len) most_values) LimitReached
+  Ok (values ++ texts_values part)
+
+-- the value at an index, which a negative one and one past the end do not have
+abbrev pub entry_at : List Value → ℤ → Option Value
+entry_at values (pos index) = slice_get values index
+entry_at values (negsuc index) = None

@@ -1,0 +1,32 @@
+-- Slots of packed integers.
+use Rattle.std.specs.Prelude.{◌≤◌, ℕ, ◌*◌, Bool, List, length, Option, nat_le, Result, Ok}
+use Rattle.arrow_schema.specs.declared.data_type.IntegerType.{IntegerType}
+use Rattle.scan_base.specs.declared.fault.Fault.{Fault}
+use Rattle.scan_base.specs.declared.fault.Fault.TheVariants.{BadBatch}
+use Rattle.scan_base.specs.declared.value.Value.{Value}
+use Rattle.scan_base.specs.declared.value.Value.TheVariants.{Int}
+use Rattle.scan_base.specs.Reading.{◌>>=◌, demand}
+use Rattle.arrays.specs.Number.{byte_width, integer_at}
+use Rattle.arrays.specs.Validity.{where_valid, validity_of, IsLong}
+
+pub record IntegersAt : Type 0 where
+  pub integer : IntegerType
+  pub validity : Option (List Bool)
+  pub values : List ℕ
+  pub len : ℕ
+
+-- the value of the slot at a place
+abbrev pub integers_slot : IntegersAt → ℕ → Value
+integers_slot cells place = where_valid cells.validity (λ at. Int (integer_at cells.integer cells.values at)) place
+
+-- the slots of these buffers, which have room for them
+unfoldable pub integers_of : IntegerType → Option (List ℕ) → List ℕ → ℕ → Result IntegersAt Fault
+integers_of integer validity values len = do
+  bits ← validity_of validity len
+  _ ← demand (nat_le (byte_width integer * len) (length values)) BadBatch
+  Ok (record { integer = integer; validity = bits; values = values; len = len })
+
+-- the buffers have room for the slots
+pub record AreIntegers (cells : IntegersAt) : Type 0 where
+  pub validity : IsLong cells.validity cells.len
+  pub values : byte_width cells.integer * cells.len ≤ length cells.values

@@ -1,0 +1,97 @@
+//! One column of a batch.
+
+ghost use Rattle.std.specs.Prelude.{◌≡◌, ◌==◌, ◌≤◌, IfOk};
+ghost use Rattle.arrays.specs.Column.{cut, whole};
+
+use crate::cells::Cells;
+use crate::layout::Layout;
+use scan_base::ValueRef;
+use std::alloc::AllocError;
+use std::marker::Model;
+
+/// Slots of one layout, or those of them from one up to another. Its buffers are cuts of the body that they
+/// came in. A contract sees the layout and the range.
+#[derive(Drop)]
+pub struct Column {
+    layout: Layout,
+    first: usize,
+    len: usize,
+}
+
+impl Model for Column {
+    ghost use Rattle.arrays.specs.Column.{ColumnAt, IsWithin};
+
+    ghost Value = { ColumnAt };
+
+    ghost view = { λ c. record { layout = c.layout; first = c.first; len = c.len } };
+
+    ghost invariant = { λ c. IsWithin (record { layout = c.layout; first = c.first; len = c.len }) };
+}
+
+impl Column {
+    /// A column of all slots of a layout.
+    pub fn new(layout: Layout) -> Column
+        ensures { result ≡ whole layout }
+    {
+        let len = layout.len();
+        Column {
+            layout,
+            first: 0,
+            len,
+        }
+    }
+
+    /// Whether there is no slot.
+    pub fn is_empty(&self) -> bool
+        ensures { result ≡ ((self.now).len == 0) }
+    {
+        self.len == 0
+    }
+
+    /// The layout, whose slots from `first` on are this column's.
+    pub fn layout(&self) -> &Layout
+        ensures { result.now ≡ (self.now).layout }
+    {
+        &self.layout
+    }
+
+    /// The place of this column's first slot in its layout.
+    pub fn first(&self) -> usize
+        ensures { result ≡ (self.now).first }
+    {
+        self.first
+    }
+
+    /// The slots `from` up to, not with, `to`, over the same buffers: no value is copied.
+    ///
+    /// # Errors
+    ///
+    /// `AllocError` where a buffer or a dictionary refuses another owner.
+    pub fn slice(&self, from: usize, to: usize) -> Result<Column, AllocError>
+        requires ordered { from ≤ to }
+        requires within { to ≤ (self.now).len }
+        ensures { IfOk result (λ column. column ≡ cut self.now from to) }
+    {
+        Ok(Column {
+            layout: self.layout.share()?,
+            first: self.first + from,
+            len: to - from,
+        })
+    }
+}
+
+impl Cells for Column {
+    ghost use Rattle.arrays.specs.Column.{slot_of};
+
+    ghost slot_count = { λ column. column.len };
+
+    ghost slot = { slot_of };
+
+    fn len(&self) -> usize {
+        self.len
+    }
+
+    fn value_at(&self, place: usize) -> ValueRef<'_> {
+        self.layout.value_at(self.first + place)
+    }
+}

@@ -1,0 +1,106 @@
+//! Columns of decimals of 38 digits with none behind the point.
+
+ghost use Rattle.std.specs.Prelude.{◌≡◌, IfOk};
+ghost use Rattle.scan_base.specs.Reading.{Gives};
+ghost use Rattle.arrays.specs.Decimals.{decimals_slot, decimals_of};
+
+use crate::cells::Cells;
+use crate::numbers::decimal_at;
+use crate::validity::{is_valid, read_validity, share};
+use bitmap::Bits;
+use bytes::Bytes;
+use scan_base::{Fault, ValueRef};
+use std::alloc::AllocError;
+use std::marker::Model;
+
+/// Slots of packed little-endian numbers of 128 bits, and where there may be nulls the bits that say which
+/// are valid.
+/// A contract sees the layout.
+#[derive(Drop)]
+pub struct Decimals {
+    validity: Option<Bits>,
+    values: Bytes,
+    len: usize,
+}
+
+impl Model for Decimals {
+    ghost use Rattle.arrays.specs.Decimals.{DecimalsAt, AreDecimals};
+
+    ghost Value = { DecimalsAt };
+
+    ghost view = { λ s. record { validity = s.validity; values = s.values; len = s.len } };
+
+    ghost invariant = { λ s. AreDecimals (record { validity = s.validity; values = s.values; len = s.len }) };
+}
+
+impl Decimals {
+    /// `len` slots over these buffers.
+    ///
+    /// # Errors
+    ///
+    /// F8 (`Fault::BadBatch`) where a buffer is shorter than its slots need: 16 bytes for each
+    /// value, and a bit for each slot where there are validity bits.
+    #[tactic(auto, unfolding(crate::specs::Decimals::decimals_of))]
+    pub fn new(validity: Option<Bytes>, values: Bytes, len: usize) -> Result<Decimals, Fault>
+        ensures value { Gives (λ cells. cells) result (decimals_of validity values len) }
+        ensures long { IfOk result (λ cells. cells.len ≡ len) }
+    {
+        let validity = read_validity(validity, len)?;
+        if values.len() / 16 < len {
+            return Err(Fault::BadBatch);
+        }
+        Ok(Decimals {
+            validity,
+            values,
+            len,
+        })
+    }
+
+    /// The validity bits, where there are some: one for each slot.
+    pub fn validity(&self) -> &Option<Bits>
+        ensures { result.now ≡ (self.now).validity }
+    {
+        &self.validity
+    }
+
+    /// The packed numbers.
+    pub fn values(&self) -> &[u8]
+        ensures { result.now ≡ (self.now).values }
+    {
+        self.values.as_slice()
+    }
+
+    /// The same slots once more, over the same buffers: nothing is copied.
+    ///
+    /// # Errors
+    ///
+    /// `AllocError` where a buffer refuses another owner.
+    pub fn share(&self) -> Result<Decimals, AllocError>
+        ensures { IfOk result (λ cells. cells ≡ self.now) }
+    {
+        Ok(Decimals {
+            validity: share(&self.validity)?,
+            values: self.values.clone()?,
+            len: self.len,
+        })
+    }
+}
+
+impl Cells for Decimals {
+    ghost use Rattle.arrays.specs.Decimals.{decimals_slot};
+
+    ghost slot_count = { λ cells. cells.len };
+
+    ghost slot = { decimals_slot };
+
+    fn len(&self) -> usize {
+        self.len
+    }
+
+    fn value_at(&self, place: usize) -> ValueRef<'_> {
+        if !is_valid(&self.validity, place) {
+            return ValueRef::Null;
+        }
+        ValueRef::Int(decimal_at(self.values.as_slice(), place))
+    }
+}

@@ -1,0 +1,30 @@
+//! Columns of every type, and batches of them, over cuts of the body that they came in.
+#![tactic(auto)]
+
+pub mod batch;
+pub mod bools;
+pub mod cells;
+pub mod column;
+pub mod decimals;
+pub mod dictionary;
+pub mod indices;
+pub mod integers;
+pub mod laws;
+pub mod layout;
+mod numbers;
+pub mod texts;
+mod validity;
+
+pub use crate::batch::Batch;
+pub use crate::bools::Bools;
+pub use crate::cells::Cells;
+pub use crate::column::Column;
+pub use crate::decimals::Decimals;
+pub use crate::dictionary::Dictionary;
+pub use crate::indices::Indices;
+pub use crate::integers::Integers;
+pub use crate::layout::Layout;
+pub use crate::texts::Texts;
+
+#[cfg(test)]
+mod tests;
