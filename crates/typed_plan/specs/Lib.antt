@@ -1,0 +1,4 @@
+pub mod Scope
+pub mod Joined
+pub mod Grouped
+pub mod Meaning

@@ -1,0 +1,4 @@
+//! What a query means, and the plan that gives its rows.
+#![tactic(auto)]
+
+pub mod laws;
