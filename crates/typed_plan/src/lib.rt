@@ -1,4 +1,7 @@
 //! What a query means, and the plan that gives its rows.
 #![tactic(auto)]
 
+pub mod class;
 pub mod laws;
+
+pub use crate::class::Class;
