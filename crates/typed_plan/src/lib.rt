@@ -3,5 +3,6 @@
 
 pub mod class;
 pub mod laws;
+mod scope;
 
 pub use crate::class::Class;
