@@ -53,9 +53,10 @@ class_of_column scope (Err fault) = Err fault
 abbrev pub class_of_name : Scope → ColumnName → Result Class Fault
 class_of_name scope name = class_of_column scope (column_of scope name)
 
-abbrev pub class_of : Scope → Operand ColumnName → Result Class Fault
-class_of scope (Column name) = class_of_name scope name
-class_of scope (Literal value) = Ok (value_class value)
+-- the class of an operand, where `class_of` says each column's
+abbrev pub operand_class : {C : Type 0} → (C → Result Class Fault) → Operand C → Result Class Fault
+operand_class class_of (Column column) = class_of column
+operand_class class_of (Literal value) = Ok (value_class value)
 
 -- the left name, the right name, then whether the classes agree
 abbrev pub compare_fault : Result Class Fault → Result Class Fault → Option Fault
@@ -64,26 +65,26 @@ compare_fault (Ok left) (Err fault) = Some fault
 compare_fault (Ok left) (Ok right) = must (same_class left right) TypeClash
 
 -- each item's name, and whether its class agrees
-abbrev pub items_fault : Scope → Result Class Fault → List (Operand ColumnName) → Option Fault
-items_fault scope class [] = None
-items_fault scope class (item ∷ items) = compare_fault class (class_of scope item) then items_fault scope class items
+abbrev pub items_fault : {C : Type 0} → (C → Result Class Fault) → Result Class Fault → List (Operand C) → Option Fault
+items_fault class_of class [] = None
+items_fault class_of class (item ∷ items) = compare_fault class (operand_class class_of item) then items_fault class_of class items
 
--- a predicate from the left
-abbrev pub predicate_fault : Scope → Pred ColumnName → Option Fault
-predicate_fault scope (conjunction p q) = predicate_fault scope p then predicate_fault scope q
-predicate_fault scope (disjunction p q) = predicate_fault scope p then predicate_fault scope q
-predicate_fault scope (negation p) = predicate_fault scope p
-predicate_fault scope (truth_test negated tested p) = predicate_fault scope p
-predicate_fault scope (comparing comparison left right) = compare_fault (class_of scope left) (class_of scope right)
-predicate_fault scope (between negated operand low high) =
-    fault_in (class_of scope operand) then items_fault scope (class_of scope operand) (low ∷ high ∷ [])
-predicate_fault scope (membership negated operand items) =
-    fault_in (class_of scope operand) then items_fault scope (class_of scope operand) items
-predicate_fault scope (null_test negated operand) = fault_in (class_of scope operand)
+-- a predicate from the left, where `class_of` says each column's class
+abbrev pub predicate_fault : {C : Type 0} → (C → Result Class Fault) → Pred C → Option Fault
+predicate_fault class_of (conjunction p q) = predicate_fault class_of p then predicate_fault class_of q
+predicate_fault class_of (disjunction p q) = predicate_fault class_of p then predicate_fault class_of q
+predicate_fault class_of (negation p) = predicate_fault class_of p
+predicate_fault class_of (truth_test negated tested p) = predicate_fault class_of p
+predicate_fault class_of (comparing comparison left right) = compare_fault (operand_class class_of left) (operand_class class_of right)
+predicate_fault class_of (between negated operand low high) =
+    fault_in (operand_class class_of operand) then items_fault class_of (operand_class class_of operand) (low ∷ high ∷ [])
+predicate_fault class_of (membership negated operand items) =
+    fault_in (operand_class class_of operand) then items_fault class_of (operand_class class_of operand) items
+predicate_fault class_of (null_test negated operand) = fault_in (operand_class class_of operand)
 
 abbrev pub filter_fault : Scope → Option (Pred ColumnName) → Option Fault
 filter_fault scope None = None
-filter_fault scope (Some predicate) = predicate_fault scope predicate
+filter_fault scope (Some predicate) = predicate_fault (class_of_name scope) predicate
 
 -- a place's table is there, and its name differs from the earlier ones
 abbrev pub place_fault : Database → List Name → Place → Option Fault

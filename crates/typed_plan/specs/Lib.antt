@@ -5,3 +5,5 @@ pub mod Grouped
 pub mod Meaning
 pub mod Bound
 pub mod ResultSchema
+pub mod Numbered
+pub mod Outcome

@@ -3,6 +3,7 @@
 
 pub mod class;
 pub mod laws;
+mod predicate;
 mod scope;
 
 pub use crate::class::Class;
