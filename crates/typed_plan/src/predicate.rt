@@ -1,6 +1,7 @@
 //! Predicates whose columns are numbers, from those of names.
 
 ghost use Rattle.std.specs.Prelude.{◌≡◌, Ok, map};
+ghost use Rattle.scan_base.specs.Predicate.{between, membership};
 ghost use Rattle.scan_base.specs.View.{pred_of};
 ghost use Rattle.typed_plan.specs.Scope.{numbered};
 ghost use Rattle.typed_plan.specs.Bound.{class_of_name, operand_class, compare_fault, items_fault, predicate_fault, fault_in};
@@ -83,4 +84,112 @@ fn number_items(
         bound.push(number_operand(scope, item)?)?;
     }
     Ok(bound)
+}
+
+// `operand BETWEEN low AND high`: the operand, then each end's name and class.
+fn number_between(
+    scope: &Scope<'_>,
+    negated: bool,
+    operand: &Operand<ColumnName>,
+    low: &Operand<ColumnName>,
+    high: &Operand<ColumnName>,
+) -> Result<Predicate<usize>, Fault>
+    ensures { Binds (predicate_fault (class_of_name scope.now) (between negated operand.now low.now high.now))
+        (λ bound. pred_of bound ≡ predicate_map (numbered scope.now) (between negated operand.now low.now high.now)) result }
+{
+    let class = operand_class(scope, operand)?;
+    agree(class, operand_class(scope, low))?;
+    agree(class, operand_class(scope, high))?;
+    Ok(Predicate::Between {
+        negated,
+        operand: number_operand(scope, operand)?,
+        low: number_operand(scope, low)?,
+        high: number_operand(scope, high)?,
+    })
+}
+
+// `operand IN (items)`: the operand, then each item's name and class.
+fn number_in(
+    alloc: Global,
+    scope: &Scope<'_>,
+    negated: bool,
+    operand: &Operand<ColumnName>,
+    items: &[Operand<ColumnName>],
+) -> Result<Predicate<usize>, Fault>
+    ensures { Binds (predicate_fault (class_of_name scope.now) (membership negated operand.now items.now))
+        (λ bound. pred_of bound ≡ predicate_map (numbered scope.now) (membership negated operand.now items.now)) result }
+{
+    let class = operand_class(scope, operand)?;
+    let items = number_items(alloc, scope, class, items)?;
+    Ok(Predicate::In {
+        negated,
+        operand: number_operand(scope, operand)?,
+        items,
+    })
+}
+
+// The predicate by numbers of columns, or its first fault from the left.
+pub(crate) fn number_predicate(
+    alloc: Global,
+    scope: &Scope<'_>,
+    predicate: &Predicate<ColumnName>,
+) -> Result<Predicate<usize>, Fault>
+    ensures { Binds (predicate_fault (class_of_name scope.now) (pred_of predicate.now))
+        (λ bound. pred_of bound ≡ predicate_map (numbered scope.now) (pred_of predicate.now)) result }
+{
+    match predicate {
+        Predicate::And(left, right) => {
+            let left = number_predicate(alloc, scope, left)?;
+            let right = number_predicate(alloc, scope, right)?;
+            Ok(Predicate::And(Box::new(alloc, left)?, Box::new(alloc, right)?))
+        }
+        Predicate::Or(left, right) => {
+            let left = number_predicate(alloc, scope, left)?;
+            let right = number_predicate(alloc, scope, right)?;
+            Ok(Predicate::Or(Box::new(alloc, left)?, Box::new(alloc, right)?))
+        }
+        Predicate::Not(predicate) => {
+            let predicate = number_predicate(alloc, scope, predicate)?;
+            Ok(Predicate::Not(Box::new(alloc, predicate)?))
+        }
+        Predicate::Is {
+            negated,
+            tested,
+            predicate,
+        } => {
+            let predicate = number_predicate(alloc, scope, predicate)?;
+            Ok(Predicate::Is {
+                negated: *negated,
+                tested: *tested,
+                predicate: Box::new(alloc, predicate)?,
+            })
+        }
+        Predicate::Compare {
+            comparison,
+            left,
+            right,
+        } => {
+            let (left, right) = number_sides(scope, left, right)?;
+            Ok(Predicate::Compare {
+                comparison: *comparison,
+                left,
+                right,
+            })
+        }
+        Predicate::Between {
+            negated,
+            operand,
+            low,
+            high,
+        } => number_between(scope, *negated, operand, low, high),
+        Predicate::In {
+            negated,
+            operand,
+            items,
+        } => number_in(alloc, scope, *negated, operand, items.as_slice()),
+        Predicate::IsNull { negated, operand } => Ok(Predicate::IsNull {
+            negated: *negated,
+            operand: number_operand(scope, operand)?,
+        }),
+    }
 }
