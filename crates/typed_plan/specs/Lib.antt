@@ -7,3 +7,8 @@ pub mod Bound
 pub mod ResultSchema
 pub mod Numbered
 pub mod Outcome
+pub mod Plan
+pub mod View
+pub mod Typed
+pub mod Binding
+pub mod Plain

@@ -3,7 +3,9 @@
 
 pub mod class;
 pub mod laws;
+pub mod plan;
 mod predicate;
 mod scope;
 
 pub use crate::class::Class;
+pub use crate::plan::{Columns, Output, Plan, TypedPlan};
