@@ -1,11 +1,14 @@
 //! What a query means, and the plan that gives its rows.
 #![tactic(auto)]
 
+mod answer;
 pub mod class;
 pub mod laws;
 pub mod plan;
 mod predicate;
 mod scope;
+mod selection;
 
 pub use crate::class::Class;
+pub use crate::selection::MAX_COLUMNS;
 pub use crate::plan::{Columns, Output, Plan, TypedPlan};

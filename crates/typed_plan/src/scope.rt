@@ -2,9 +2,12 @@
 
 ghost use Rattle.std.specs.Prelude.{◌≡◌, ◌<◌, IfOk, Some, length, option_map, slice_get};
 ghost use Rattle.typed_plan.specs.Scope.{columns_in, stands_for as is_named, column_of, numbers_of};
+ghost use Rattle.typed_plan.specs.ResultSchema.{select_fields};
+ghost use Rattle.sql_query.specs.declared.query.Select.TheVariants.{All};
 
+use crate::answer::answer_field;
 use arrow_schema::Field;
-use scan_base::{Fault, Text};
+use scan_base::{Fault, Items, Text};
 use sql_query::ColumnName;
 use std::alloc::{AllocError, Global};
 use std::marker::Model;
@@ -68,6 +71,17 @@ impl<'a> Scope<'a> {
         ensures { option_map (λ column. column.field) (slice_get self.now number) ≡ Some result.now }
     {
         self.columns[number].field
+    }
+
+    // All columns, as a result has them.
+    pub(crate) fn answer_fields(&self, alloc: Global) -> Result<Items<Field>, AllocError>
+        ensures { IfOk result (λ fields. fields ≡ select_fields self.now All) }
+    {
+        let mut fields = Items::new(alloc);
+        for column in &self.columns {
+            fields.push(answer_field(column.field, &None)?)?;
+        }
+        Ok(fields)
     }
 
     // The number of the column that a name means.
