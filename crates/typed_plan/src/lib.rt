@@ -2,6 +2,7 @@
 #![tactic(auto)]
 
 mod answer;
+pub mod binding;
 pub mod class;
 pub mod laws;
 pub mod plan;
@@ -9,6 +10,7 @@ mod predicate;
 mod scope;
 mod selection;
 
+pub use crate::binding::bind;
 pub use crate::class::Class;
 pub use crate::selection::MAX_COLUMNS;
 pub use crate::plan::{Columns, Output, Plan, TypedPlan};
