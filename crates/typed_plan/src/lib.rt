@@ -12,5 +12,5 @@ mod selection;
 
 pub use crate::binding::bind;
 pub use crate::class::Class;
-pub use crate::selection::MAX_COLUMNS;
 pub use crate::plan::{Columns, Output, Plan, TypedPlan};
+pub use crate::selection::MAX_COLUMNS;

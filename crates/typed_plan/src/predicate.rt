@@ -42,10 +42,7 @@ fn agree(class: Class, other: Result<Class, Fault>) -> Result<(), Fault>
     }
 }
 
-fn number_operand(
-    scope: &Scope<'_>,
-    operand: &Operand<ColumnName>,
-) -> Result<Operand<usize>, Fault>
+fn number_operand(scope: &Scope<'_>, operand: &Operand<ColumnName>) -> Result<Operand<usize>, Fault>
     ensures { Binds (fault_in (operand_class (class_of_name scope.now) operand.now))
         (λ bound. bound ≡ operand_map (numbered scope.now) operand.now) result }
 {

@@ -22,7 +22,7 @@ pub const MAX_COLUMNS: usize = 64;
 fn bind_item(scope: &Scope<'_>, item: &SelectItem) -> Result<(usize, Field), Fault>
     ensures { Binds (column_fault scope.now item.now.expression)
         (λ bound. (bound.0 ≡ number_of_item scope.now item.now)
-            × ((position : ℕ) → bound.1 ≡ item_field scope.now position item.now)) result }
+        × ((position : ℕ) → bound.1 ≡ item_field scope.now position item.now)) result }
 {
     let Expression::Column(name) = &item.expression else {
         return Err(Fault::NotInSubset);
@@ -39,7 +39,7 @@ fn bind_items(
 ) -> Result<(Items<usize>, Items<Field>), Fault>
     ensures { Binds (columns_fault scope.now items.now)
         (λ bound. (bound.0 ≡ map (number_of_item scope.now) items.now)
-            × (bound.1 ≡ list_fields scope.now 1 items.now)) result }
+        × (bound.1 ≡ list_fields scope.now 1 items.now)) result }
 {
     let mut numbers = Items::new(alloc);
     let mut fields = Items::new(alloc);
@@ -69,7 +69,7 @@ pub(crate) fn bind_select(
 ) -> Result<(Columns, Schema), Fault>
     ensures { Binds (chosen_fault scope.now select.now)
         (λ bound. (bound.0 ≡ chosen scope.now select.now)
-            × (bound.1 ≡ record { fields = select_fields scope.now select.now })) result }
+        × (bound.1 ≡ record { fields = select_fields scope.now select.now })) result }
 {
     match select {
         Select::All => {
