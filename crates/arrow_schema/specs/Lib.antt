@@ -3,6 +3,7 @@ pub mod Column
 pub mod DataType
 pub mod Header
 pub mod Message
+pub mod NoNulls
 pub mod Says
 pub mod Schema
 pub mod Seen

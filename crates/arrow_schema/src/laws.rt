@@ -5,6 +5,7 @@ ghost use Rattle.arrow_schema.specs.Written.{SchemasReadBack};
 ghost use Rattle.arrow_schema.specs.Says.{ReadIsSaid, BuiltIsSaid, ReadIsSchema};
 ghost use Rattle.arrow_schema.specs.Column.{ColumnSlicesKeepValues};
 ghost use Rattle.arrow_schema.specs.Batch.{BatchSlicesKeepRows};
+ghost use Rattle.arrow_schema.specs.NoNulls.{SlicesHaveNoNulls};
 
 /// What is read of a written message is its kind, its header and the length of its body, wherever
 /// the header's block leads.
@@ -46,4 +47,10 @@ pub fn column_slices_keep_values()
 #[tactic(auto, using(crate::proofs::Slices::batches_keep))]
 pub fn batch_slices_keep_rows()
     ensures { BatchSlicesKeepRows }
+{}
+
+/// A slice of a batch without nulls has none.
+#[tactic(auto, using(crate::proofs::NoNulls::slices_full))]
+pub fn slices_have_no_nulls()
+    ensures { SlicesHaveNoNulls }
 {}

@@ -17,7 +17,7 @@ use Rattle.arrow_schema.specs.Batch.{BatchAt, AreLong}
 use Rattle.ipc_batch.specs.Columns.{buffer_count, buffers_wanted, columns_of}
 use Rattle.ipc_batch.specs.Said.{Sent, news_of, batch_sent}
 use Rattle.ipc_batch.specs.Written.{parts_part, body_of, node_bytes, place_bytes, places_from, node_written, buffers_written, parts_written, FitsNode, FitParts, FitsLong, AreLongs, SaysParts, SaysBatch}
-use Rattle.ipc_batch.specs.Full.{HasNoNulls}
+use Rattle.arrow_schema.specs.NoNulls.{HasNoNulls}
 use Rattle.ipc_batch.proofs.PartsAgain.{length-nodes, length-places, length-places_from, batch_slots, parts_read, message_reads, message_written, parts_said}
 use Rattle.ipc_batch.proofs.ColumnsAgain.{IsWritable, writable, column_read, columns_again, rows_again}
 

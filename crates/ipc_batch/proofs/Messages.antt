@@ -17,7 +17,7 @@ use Rattle.ipc_batch.specs.Parts.{PartsAt, parts_of}
 use Rattle.ipc_batch.specs.Columns.{columns_of}
 use Rattle.ipc_batch.specs.State.{State}
 use Rattle.ipc_batch.specs.Said.{Sent, News, first_schema, next_batch, batch_sent, news_in, news_of, Rows, rows_in, Follows, Tells, Extends, HasColumns, AreWide}
-use Rattle.ipc_batch.specs.Full.{HasNoNulls, HasNoNullsIfThere}
+use Rattle.arrow_schema.specs.NoNulls.{HasNoNulls, HasNoNullsIfThere}
 use Rattle.ipc_batch.specs.Laws.{SayOneThing, JoinRows, RowsFitSchema}
 use Rattle.ipc_batch.proofs.Lengths.{fine, both, columns_many, columns_bare}
 use Rattle.ipc_batch.proofs.NoNulls.{bare_full}

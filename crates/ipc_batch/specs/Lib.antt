@@ -1,4 +1,3 @@
-pub mod Full
 pub mod Laws
 pub mod Parts
 pub mod Columns

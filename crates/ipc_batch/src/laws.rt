@@ -1,7 +1,6 @@
 //! What holds of all messages. Each function here has an empty body: its contract is a law.
 
 ghost use Rattle.ipc_batch.specs.Laws.{SayOneThing, JoinRows, RowsFitSchema};
-ghost use Rattle.ipc_batch.specs.Full.{SlicesHaveNoNulls};
 ghost use Rattle.ipc_batch.specs.Written.{PartsReadBack};
 
 /// Messages say at most one schema and one list of rows.
@@ -22,9 +21,4 @@ pub fn rows_fit_the_schema()
 /// What is read of written parts is those parts, whatever the types of their columns are.
 pub fn parts_read_back()
     ensures { PartsReadBack }
-{}
-
-/// A slice of a batch without nulls has none.
-pub fn slices_have_no_nulls()
-    ensures { SlicesHaveNoNulls }
 {}

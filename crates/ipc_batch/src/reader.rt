@@ -5,7 +5,7 @@ ghost use Rattle.scan_base.specs.Reading.{GivesUnlessMemory};
 ghost use Rattle.arrow_schema.specs.Header.{schema_in};
 ghost use Rattle.arrow_schema.specs.Seen.{message_seen};
 ghost use Rattle.ipc_batch.specs.Said.{first_schema, next_batch, Tells, Extends, HasColumns};
-ghost use Rattle.ipc_batch.specs.Full.{HasNoNullsIfThere};
+ghost use Rattle.arrow_schema.specs.NoNulls.{HasNoNullsIfThere};
 
 use crate::columns::read_columns;
 use crate::parts::{check_body, read_parts};

@@ -13,7 +13,7 @@ ghost use Rattle.ipc_batch.specs.Written.{parts_part};
 ghost use Rattle.ipc_batch.specs.Written.{value_written, values_written, node_written};
 ghost use Rattle.ipc_batch.specs.Written.{column_written, buffers_written, parts_written};
 ghost use Rattle.ipc_batch.specs.Written.{FitsLong, SaysParts, SaysBatch};
-ghost use Rattle.ipc_batch.specs.Full.{HasNoNulls};
+ghost use Rattle.arrow_schema.specs.NoNulls.{HasNoNulls};
 ghost use Rattle.ipc_batch.specs.Seen.{written_seen};
 
 use arrow_schema::{Batch, Column, HeaderKind, write_message};

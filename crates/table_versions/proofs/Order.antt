@@ -10,7 +10,8 @@ use Rattle.scan_base.specs.declared.fault.Fault.{Fault}
 use Rattle.scan_base.specs.Reading.{first_fault, unless}
 use Rattle.table_versions.specs.Table.{Name}
 use Rattle.table_versions.specs.Database.{Database, Put, table_at, with_table, table_after, put_faults, after, accepted, after_all}
-use Rattle.table_versions.specs.Laws.{StandsBefore, IsInOrder, NamesAreInOrder}
+use Rattle.table_versions.specs.Order.{StandsBefore, IsInOrder}
+use Rattle.table_versions.specs.Laws.{NamesAreInOrder}
 
 -- of two names that are not the same, one is the lower
 lower : (name other : Name) → bytes_eq other name ≡ false → is_lt (slice_cmp nat_cmp name other) ≡ false → is_lt (slice_cmp nat_cmp other name) ≡ true

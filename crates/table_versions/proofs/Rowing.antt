@@ -1,12 +1,11 @@
 -- How many rows the batches of a table have.
-use Rattle.std.proofs.Common.{◌≡◌, ◌≤◌, ◌<◌, ℕ, ◌+◌, true, List, [], ◌∷◌, ◌++◌, length, refl, ap, ◌∙◌, arith, rules, length-append, get_or, drop}
+use Rattle.std.proofs.Common.{◌≡◌, ◌≤◌, ◌<◌, ℕ, ◌+◌, true, List, [], ◌∷◌, ◌++◌, length, refl, ap, ◌∙◌, arith, rules, length-append, get_or, take, drop}
 use Rattle.std.specs.List.{flat_map, list_all}
 use Rattle.std.proofs.lemmas.Grind.{flat_map-append}
 use Rattle.std.proofs.lemmas.List.FromFn.{length-map-range_with_len}
-use Rattle.arrow_schema.specs.declared.schema.Schema.{Schema}
 use Rattle.arrow_schema.specs.Batch.{BatchAt, rows_of, row_of}
-use Rattle.table_versions.specs.Stored.{has_rows, is_wide}
-use Rattle.table_versions.specs.Kept.{is_kept}
+use Rattle.table_versions.specs.Stored.{has_rows}
+use Rattle.table_versions.specs.Standing.{rows_before}
 use Rattle.std.proofs.lemmas.Option.{slice_get_read}
 use Rattle.table_versions.proofs.Places.{split_at}
 use Rattle.table_versions.proofs.ListTests.{both}
@@ -30,15 +29,13 @@ pub rows-push : (batches : List BatchAt) (batch : BatchAt) →
     length (flat_map rows_of (batches ++ batch ∷ [])) ≡ length (flat_map rows_of batches) + batch.rows
 rows-push batches batch = omega (arith, rows-append batches (batch ∷ []), rows-cons batch [])
 
--- stored batches are no more than their rows
-pub length-kept-le : (schema : Schema) (batches : List BatchAt) → list_all (is_kept schema) batches ≡ true →
-    length batches ≤ length (flat_map rows_of batches)
-length-kept-le schema [] h = omega arith
-length-kept-le schema (batch ∷ batches) h =
-    let parts = both (is_kept schema batch) (list_all (is_kept schema) batches) h in
-    let filled = (both (has_rows batch) (is_wide schema batch) parts.0).0 in
-    let some : 1 ≤ batch.rows = search (rules, filled) in
-    omega (arith, some, rows-cons batch batches, length-kept-le schema batches parts.1)
+-- batches that have rows are no more than those
+pub length-filled-le : (batches : List BatchAt) → list_all has_rows batches ≡ true → length batches ≤ length (flat_map rows_of batches)
+length-filled-le [] h = omega arith
+length-filled-le (batch ∷ batches) h =
+    let parts = both (has_rows batch) (list_all has_rows batches) h in
+    let some : 1 ≤ batch.rows = search (rules, parts.0) in
+    omega (arith, some, rows-cons batch batches, length-filled-le batches parts.1)
 
 -- the rows from a batch on
 pub rows-from : (batches : List BatchAt) (batch : BatchAt) (i : ℕ) → i < length batches → batch ≡ get_or batches i batch →
@@ -46,3 +43,10 @@ pub rows-from : (batches : List BatchAt) (batch : BatchAt) (i : ℕ) → i < len
 rows-from batches batch i h at =
     ap (λ left. length (flat_map rows_of left)) (split_at batches i batch (slice_get_read batches (length batches) i batch refl h at)).0
     ∙ rows-cons batch (drop (i + 1) batches)
+
+-- the rows up to behind a batch
+pub rows-until : (batches : List BatchAt) (batch : BatchAt) (i : ℕ) → i < length batches → batch ≡ get_or batches i batch →
+    rows_before batches (i + 1) ≡ rows_before batches i + batch.rows
+rows-until batches batch i h at =
+    ap (λ front. length (flat_map rows_of front)) (split_at batches i batch (slice_get_read batches (length batches) i batch refl h at)).1
+    ∙ rows-push (take i batches) batch

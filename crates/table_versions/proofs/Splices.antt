@@ -4,7 +4,7 @@ use Rattle.std.proofs.lemmas.Grind.{common_steps}
 use Rattle.std.proofs.lemmas.List.{take-map, drop-map, map-append}
 
 -- the end of a list, cut at its length
-rest : {X : Type 0} (xs : List X) (to : ℕ) → take (length xs - to) (drop to xs) ≡ drop to xs
+pub rest : {X : Type 0} (xs : List X) (to : ℕ) → take (length xs - to) (drop to xs) ≡ drop to xs
 rest xs to = grind (arith, common_steps)
 
 pub spliced_of : {A X : Type 0} (view : A → X) (old front pushed all : List A) (new : A) (from to : ℕ) →

@@ -1,10 +1,10 @@
 -- Laws of databases and logs.
-use Rattle.std.specs.Prelude.{◌≡◌, ◌≤◌, ℕ, true, if◌then◌else◌, List, [], ◌∷◌, ◌++◌, length, Some, Ok, Err}
+use Rattle.std.specs.Prelude.{◌≡◌, ◌≤◌, ℕ, if◌then◌else◌, List, [], ◌∷◌, ◌++◌, length, Some, Ok, Err}
 use Rattle.std.specs.Str.{bytes_eq}
-use Rattle.std.specs.Cmp.Lexicographic.{slice_cmp}
-use Rattle.std.specs.Ordering.{nat_cmp, is_lt}
 use Rattle.scan_base.specs.declared.fault.Fault.{Fault}
+use Rattle.table_versions.specs.Limits.{most_rows}
 use Rattle.table_versions.specs.Table.{Name, Table}
+use Rattle.table_versions.specs.Order.{IsInOrder}
 use Rattle.table_versions.specs.Database.{Database, Put, table_at, with_table, after, database_of, version, logged}
 
 -- the table that was put is found at its name, and each other name has what it had
@@ -25,16 +25,10 @@ abbrev pub LogsStay : Type 0
 LogsStay =
     (log : List Put) (put : Put) (fault : Fault) → after (database_of log) (length log) put ≡ Err fault → logged log put ≡ log
 
--- whether a name is lower than the first of these
-abbrev pub StandsBefore : {T : Type 0} → Name → List (Name × T) → Type 0
-StandsBefore name [] = Unit {0}
-StandsBefore name (entry ∷ entries) = is_lt (slice_cmp nat_cmp name entry.0) ≡ true
-
--- each name is lower than the next
-abbrev pub IsInOrder : {T : Type 0} → List (Name × T) → Type 0
-IsInOrder [] = Unit {0}
-IsInOrder (entry ∷ entries) = StandsBefore entry.0 entries × IsInOrder entries
-
 -- the names of every version are in byte order, and each stands once
 abbrev pub NamesAreInOrder : Type 0
 NamesAreInOrder = (log : List Put) → IsInOrder (database_of log)
+
+-- an accepted put has no more rows than a table may have
+abbrev pub AcceptedPutsAreFew : Type 0
+AcceptedPutsAreFew = (old : Database) (n : ℕ) (put : Put) (new : Database) → after old n put ≡ Ok new → length put.rows ≤ most_rows

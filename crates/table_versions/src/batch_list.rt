@@ -8,7 +8,6 @@ use crate::handles::shared;
 use arrow_schema::Batch;
 use std::alloc::{AllocError, Global};
 use std::marker::Model;
-use std::mem;
 use std::sync::Arc;
 
 // How many batches a full page has.
@@ -52,12 +51,12 @@ impl Page {
         &self.batches[index]
     }
 
-    // The same batches once more.
+    // The same batches once more, with room for one more.
     fn share(&self, alloc: Global) -> Result<Page, AllocError>
         ensures { IfOk result (λ page. page ≡ self.now) }
     {
         Ok(Page {
-            batches: shared(alloc, self.batches.as_slice())?,
+            batches: shared(alloc, self.batches.as_slice(), self.batches.len() + 1)?,
         })
     }
 
@@ -127,7 +126,7 @@ impl BatchList {
     pub(crate) fn share(&self, alloc: Global) -> Result<BatchList, AllocError>
         ensures { IfOk result (λ list. list ≡ self.now) }
     {
-        let full = shared(alloc, self.full.as_slice())?;
+        let full = shared(alloc, self.full.as_slice(), self.full.len() + 1)?;
         let last = self.last.share(alloc)?;
         Ok(BatchList { full, last })
     }

@@ -4,12 +4,14 @@ ghost use Rattle.std.specs.Prelude.{◌≡◌, ◌==◌, ◌<◌, [], Some, leng
 ghost use Rattle.std.specs.Option.{option_copied};
 ghost use Rattle.std.specs.Arc.{arc_value};
 ghost use Rattle.table_versions.specs.Database.{table_at, with_table};
+ghost use Rattle.table_versions.specs.Order.{IsInOrder};
 ghost use Rattle.table_versions.specs.Place.{IsPlace};
 
 use crate::handles::spliced;
 use crate::table::TableVersion;
 use scan_base::Text;
 use std::alloc::{AllocError, Global};
+use std::cmp::Ordering;
 use std::marker::Model;
 use std::ops::Range;
 use std::sync::Arc;
@@ -24,11 +26,14 @@ pub struct CatalogVersion {
 impl Model for CatalogVersion {
     ghost use Rattle.std.specs.Prelude.{List, ℕ, map};
     ghost use Rattle.std.specs.Arc.{arc_value};
+    ghost use Rattle.table_versions.specs.Order.{IsInOrder};
     ghost use Rattle.table_versions.specs.Stored.{TableAt};
 
     ghost Value = { List (List ℕ × TableAt) };
 
     ghost view = { λ catalog. map arc_value catalog.tables.items };
+
+    ghost invariant = { λ catalog. IsInOrder (map arc_value catalog.tables.items) };
 }
 
 impl CatalogVersion {
@@ -41,9 +46,10 @@ impl CatalogVersion {
         }
     }
 
-    /// How many tables there are.
+    /// How many tables there are. Their names are in byte order, and each stands once.
     pub fn len(&self) -> usize
-        ensures { result ≡ length self.now }
+        ensures count { result ≡ length self.now }
+        ensures ordered { IsInOrder self.now }
     {
         self.tables.len()
     }
@@ -63,7 +69,7 @@ impl CatalogVersion {
         &self.tables[index]
     }
 
-    /// The table of a name.
+    /// The table of a name, looked for by halves.
     pub fn get(&self, name: &Text) -> Option<&TableVersion>
         ensures { option_copied result ≡ table_at self.now name.now }
     {
@@ -88,15 +94,21 @@ impl CatalogVersion {
     }
 }
 
+// The table of a name among entries in byte order of theirs, looked for in the half where it may be.
 fn find_in<'a>(tables: &'a [Arc<(Text, TableVersion)>], name: &Text) -> Option<&'a TableVersion>
+    requires { IsInOrder (map arc_value tables.now) }
     ensures { option_copied result ≡ table_at (map arc_value tables.now) name.now }
 {
-    for entry in tables {
-        if entry.0 == *name {
-            return Some(&entry.1);
-        }
+    if tables.is_empty() {
+        return None;
     }
-    None
+    let middle = tables.len() / 2;
+    let entry = &tables[middle];
+    match name.cmp(&entry.0) {
+        Ordering::Less => find_in(&tables[..middle], name),
+        Ordering::Equal => Some(&entry.1),
+        Ordering::Greater => find_in(&tables[middle + 1..], name),
+    }
 }
 
 // The entries whose place a table of this name takes: the one of the name, or none, before the

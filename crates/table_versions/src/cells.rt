@@ -6,10 +6,10 @@ ghost use Rattle.scan_base.specs.Value.{value_of};
 ghost use Rattle.arrow_schema.specs.Batch.{rows_of};
 ghost use Rattle.arrow_schema.specs.Column.{values_of};
 ghost use Rattle.table_versions.specs.Table.{is_null, is_long_text, has_bad_null};
-ghost use Rattle.table_versions.specs.Columns.{has_bad_column, is_long_column};
+ghost use Rattle.table_versions.specs.Columns.{has_bad_column, is_long_column, holds_texts};
 
 use crate::limits::MAX_TEXT_BYTES;
-use arrow_schema::{Batch, Column, Field};
+use arrow_schema::{Batch, Column, DataType, Field};
 use scan_base::ValueRef;
 
 fn is_null(value: ValueRef<'_>) -> bool
@@ -21,7 +21,8 @@ fn is_null(value: ValueRef<'_>) -> bool
     }
 }
 
-fn is_long_text(value: ValueRef<'_>) -> bool
+// Whether a value is a text of more than 65,536 bytes.
+pub(crate) fn is_long_text(value: ValueRef<'_>) -> bool
     ensures { result ≡ is_long_text (value_of value.entry) }
 {
     match value {
@@ -72,16 +73,39 @@ fn is_bad_batch(fields: &[Field], batch: &Batch) -> bool
     has_bad_column(fields, batch.columns())
 }
 
-fn is_long_batch(batch: &Batch) -> bool
-    ensures { result ≡ list_any (list_any is_long_text) (rows_of batch.now) }
+fn holds_texts(data_type: DataType) -> bool
+    ensures { result ≡ holds_texts data_type }
 {
-    has_long_column(batch.columns())
+    matches!(data_type, DataType::Utf8 | DataType::Dictionary(_))
 }
 
-fn has_long_column(columns: &[Column]) -> bool
+// Whether a column has a text that is too long. A column of a type without texts is not looked at.
+// Until columns of texts are built, none has one.
+#[tactic(auto, using(crate::proofs::Texts::short_column))]
+fn is_long_column(field: &Field, column: &Column) -> bool
+    ensures { result ≡ is_long_column column.now }
+{
+    holds_texts(field.data_type) && has_long_text(column)
+}
+
+#[tactic(auto, using(crate::proofs::Texts::short_columns))]
+fn has_long_column(fields: &[Field], columns: &[Column]) -> bool
     ensures { result ≡ list_any is_long_column columns.now }
 {
-    columns.iter().any(|column| has_long_text(column))
+    match fields {
+        [] => false,
+        [field, fields @ ..] => match columns {
+            [] => false,
+            [column, columns @ ..] => is_long_column(field, column)
+                || has_long_column(fields, columns),
+        },
+    }
+}
+
+fn is_long_batch(fields: &[Field], batch: &Batch) -> bool
+    ensures { result ≡ list_any (list_any is_long_text) (rows_of batch.now) }
+{
+    has_long_column(fields, batch.columns())
 }
 
 // Whether a row has a null in a column that takes none.
@@ -97,11 +121,11 @@ pub(crate) fn has_bad_null(fields: &[Field], batches: &[Batch]) -> bool
 }
 
 // Whether a row has a text that is too long.
-pub(crate) fn has_long_row(batches: &[Batch]) -> bool
+pub(crate) fn has_long_row(fields: &[Field], batches: &[Batch]) -> bool
     ensures { result ≡ list_any (list_any is_long_text) (flat_map rows_of batches.now) }
 {
     for batch in batches {
-        if is_long_batch(batch) {
+        if is_long_batch(fields, batch) {
             return true;
         }
     }

@@ -1,15 +1,17 @@
 //! The next version of the catalog: a put is checked, and then its table is made.
 
 ghost use Rattle.std.specs.Prelude.{◌≡◌, ◌≤◌, ◌||◌, ◌==◌, ◌+◌, ◌++◌, false, IfOk, IsTrue};
-ghost use Rattle.std.specs.Prelude.{length, nat_lt};
+ghost use Rattle.std.specs.Prelude.{length, nat_lt, All};
 ghost use Rattle.std.specs.List.{flat_map, list_all};
 ghost use Rattle.std.specs.Option.{option_copied};
 ghost use Rattle.arrow_schema.specs.Batch.{rows_of};
+ghost use Rattle.arrow_schema.specs.NoNulls.{HasNoNulls};
 ghost use Rattle.scan_base.specs.Reading.{GivesUnlessMemory, first_fault};
 ghost use Rattle.table_versions.specs.Limits.{most_name_bytes, most_rows};
 ghost use Rattle.table_versions.specs.Database.{table_after, columns_of, differs, faults_at, after};
 ghost use Rattle.table_versions.specs.Stored.{tables_of, put_of, plain, is_wide, kept};
 ghost use Rattle.table_versions.specs.Stored.{stored_after, catalog_after};
+ghost use Rattle.table_versions.specs.Kept.{IsStorable};
 
 use crate::catalog::CatalogVersion;
 use crate::cells::{has_bad_null, has_long_row};
@@ -90,7 +92,7 @@ fn refusal(old: Option<&TableVersion>, tables: usize, number: u64, put: &Put) ->
     if has_bad_null(put.schema.fields.as_slice(), put.batches.as_slice()) {
         return Some(Fault::BadBatch);
     }
-    if has_long_row(put.batches.as_slice()) || overflows(old, put) {
+    if has_long_row(put.schema.fields.as_slice(), put.batches.as_slice()) || overflows(old, put) {
         return Some(Fault::LimitReached);
     }
     if old.is_none() && tables >= MAX_TABLES || number >= MAX_COMMITS {
@@ -106,6 +108,7 @@ fn appended(
     batches: Vec<Batch>,
 ) -> Result<TableVersion, AllocError>
     requires wide { IsTrue (list_all (is_wide old.now.schema) batches.items) }
+    requires full { All HasNoNulls batches.items }
     requires few { length (flat_map rows_of old.now.batches ++ flat_map rows_of batches.items)
         ≤ most_rows }
     ensures { IfOk result (λ table. table
@@ -116,7 +119,7 @@ fn appended(
 
 // A table of these batches alone.
 fn created(alloc: Global, schema: Schema, batches: Vec<Batch>) -> Result<TableVersion, AllocError>
-    requires wide { IsTrue (list_all (is_wide schema) batches.items) }
+    requires storable { IsStorable schema batches.items }
     requires few { length (flat_map rows_of batches.items) ≤ most_rows }
     ensures { IfOk result (λ table. table
         ≡ record { schema = schema; batches = kept batches.items }) }
@@ -164,17 +167,30 @@ fn next_catalog(alloc: Global, snapshot: &Snapshot, put: Put) -> Result<CatalogV
     Ok(catalog.with(alloc, name, table)?)
 }
 
-/// The catalog after a put, where the snapshot's number counts the puts that were accepted before.
-/// The first fault is answered, in this order: F12 where the name has less than 1 or more than 64
-/// bytes; F10 where the table is there and is neither to be extended nor replaced; F9 where it is
-/// absent and is not to be created; F11 where two columns of the put have one name, or an append
-/// has other columns than the table; F8 where a cell is null in a column that takes no null; F12
-/// where a text of a row has more than 65,536 bytes, where the table would have more than
-/// 16,777,216 rows, for a 257th table, and for a put behind 65,536 accepted ones. Any call may
-/// answer F21.
+/// The catalog after a put, where the snapshot's number counts the puts that were accepted before:
+/// a table that is absent is made of the put's schema and batches, an append goes on with them behind
+/// the old batches, and a replace has them alone. The snapshot stays as it is.
 ///
 /// Old tables and batches are shared: a put copies a handle for each table, and an append at most
-/// 255 handles of batches and one for each 256 batches before those.
+/// 255 handles of batches and one for each 256 batches before those. Values are looked at for nulls
+/// only in columns that take none, and for long texts only in columns of texts.
+///
+/// # Errors
+///
+/// The first fault is answered, in this order:
+///
+/// - F12 (`Fault::LimitReached`) where the table's name has less than 1 or more than 64 bytes.
+/// - F10 (`Fault::TableExists`) where the table is there and is neither to be extended nor replaced.
+/// - F9 (`Fault::TableMissing`) where it is absent and is not to be created.
+/// - F11 (`Fault::SchemaMismatch`) where two columns of the put have one name, or an append has other
+///   columns than the table: other names, types or nullable flags, or another order. A dictionary's
+///   id and index type are not compared.
+/// - F8 (`Fault::BadBatch`) where a cell is null in a column that takes no null.
+/// - F12 (`Fault::LimitReached`) where a text of a row has more than 65,536 bytes, where the table
+///   would have more than 16,777,216 rows, for a 257th table, and for a put behind 65,536 accepted
+///   ones.
+///
+/// F21 (`Fault::OutOfMemory`) is answered where memory is refused.
 pub fn apply(alloc: Global, snapshot: &Snapshot, put: Put) -> Result<CatalogVersion, Fault>
     ensures batches { GivesUnlessMemory (λ catalog. catalog) result
         (catalog_after snapshot.now.catalog snapshot.now.number put) }

@@ -7,11 +7,15 @@ use std::alloc::{AllocError, Global};
 use std::ops::Range;
 use std::sync::Arc;
 
-// The same handles once more, in a list with room for one more.
-pub(crate) fn shared<T: Drop>(alloc: Global, handles: &[Arc<T>]) -> Result<Vec<Arc<T>>, AllocError>
+// The same handles once more, in a list with room for so many.
+pub(crate) fn shared<T: Drop>(
+    alloc: Global,
+    handles: &[Arc<T>],
+    room: usize,
+) -> Result<Vec<Arc<T>>, AllocError>
     ensures { IfOk result (λ all. map arc_value all.items ≡ map arc_value handles.now) }
 {
-    extended(Vec::with_capacity(alloc, handles.len() + 1)?, handles)
+    extended(Vec::with_capacity(alloc, room)?, handles)
 }
 
 // The same handles once more, with this one in the place of those of a range.
@@ -27,7 +31,7 @@ pub(crate) fn spliced<T: Drop>(
         ≡ take place.start (map arc_value handles.now)
         ++ arc_value new ∷ drop place.end (map arc_value handles.now)) }
 {
-    let mut front = shared(alloc, &handles[..place.start])?;
+    let mut front = shared(alloc, &handles[..place.start], handles.len() + 1)?;
     front.push(new)?;
     let all = extended(front, &handles[place.end..])?;
     Ok(all)

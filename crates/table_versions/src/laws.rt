@@ -1,6 +1,8 @@
-//! What holds of every database and log. Each law is a function whose contract says it.
+//! What holds of every database, log and table. Each law is a function whose contract says it.
 
 ghost use Rattle.table_versions.specs.Laws.{TablesAreFound, LogsGrow, LogsStay, NamesAreInOrder};
+ghost use Rattle.table_versions.specs.Laws.{AcceptedPutsAreFew};
+ghost use Rattle.table_versions.specs.Standing.{BatchesAreRows};
 
 /// Looking a table up after a put: the put's table is found at its name, and each other name has
 /// what it had.
@@ -15,7 +17,18 @@ pub fn logs_grow()
     ensures refused { LogsStay }
 {}
 
+/// An accepted put has at most 16,777,216 rows.
+pub fn accepted_puts_are_few()
+    ensures { AcceptedPutsAreFew }
+{}
+
 /// The names of every version are in byte order, and each stands once.
 pub fn names_are_in_order()
     ensures { NamesAreInOrder }
+{}
+
+/// The rows of a table are those of its batches, in order: a batch begins where the one before it
+/// ends, the last one ends with the table, and a cut of a batch is a cut of the table's rows.
+pub fn batches_are_rows()
+    ensures { BatchesAreRows }
 {}

@@ -1,16 +1,20 @@
 //! What a client puts: batches for a table.
 
-ghost use Rattle.std.specs.Prelude.{◌≡◌, IsTrue};
+ghost use Rattle.std.specs.Prelude.{◌≡◌, ◌^◌, ◌-◌, IsTrue, All, length, min};
 ghost use Rattle.std.specs.List.{list_all};
-ghost use Rattle.table_versions.specs.Stored.{is_wide};
+ghost use Rattle.arrow_schema.specs.Header.{is_built};
+ghost use Rattle.arrow_schema.specs.NoNulls.{HasNoNulls};
+ghost use Rattle.arrow_schema.specs.Schema.{IsSchema};
+ghost use Rattle.table_versions.specs.Stored.{is_wide, put_of};
 
 use crate::options::{IfExists, IfNotExist};
 use arrow_schema::{Batch, Schema};
 use scan_base::Text;
 use std::marker::Model;
 
-/// Batches for a table, and what to do where the table is absent and where it is there. Each batch
-/// has one column for each field of the schema.
+/// Batches for a table, and what to do where the table is absent and where it is there. The schema
+/// is one that can be written, and each batch has one column for each of its fields. Until every type
+/// and nulls are built, the schema's types are built ones, and no slot is null.
 #[derive(Drop)]
 pub struct Put {
     pub(crate) table: Text,
@@ -21,9 +25,8 @@ pub struct Put {
 }
 
 impl Model for Put {
-    ghost use Rattle.std.specs.Prelude.{IsTrue};
-    ghost use Rattle.std.specs.List.{list_all};
-    ghost use Rattle.table_versions.specs.Stored.{PutAt, is_wide};
+    ghost use Rattle.table_versions.specs.Stored.{PutAt};
+    ghost use Rattle.table_versions.specs.Kept.{IsStorable};
 
     ghost Value = { PutAt };
 
@@ -35,12 +38,12 @@ impl Model for Put {
       batches = p.batches.items;
     } };
 
-    ghost invariant = { λ p. IsTrue (list_all (is_wide p.schema) p.batches.items) };
+    ghost invariant = { λ p. IsStorable p.schema p.batches.items };
 }
 
 impl Put {
-    /// A put of these batches into the table of this name. Each batch has one column for each
-    /// field.
+    /// A put of these batches into the table of this name. What a reader of IPC messages gives meets
+    /// the conditions.
     pub fn new(
         table: Text,
         if_not_exist: IfNotExist,
@@ -48,7 +51,10 @@ impl Put {
         schema: Schema,
         batches: Vec<Batch>,
     ) -> Put
-        requires { IsTrue (list_all (is_wide schema) batches.items) }
+        requires valid { IsSchema schema }
+        requires wide { IsTrue (list_all (is_wide schema) batches.items) }
+        requires built { IsTrue (is_built schema.fields) }
+        requires full { All HasNoNulls batches.items }
         ensures { result ≡ record {
           table = table;
           if_not_exist = if_not_exist;
@@ -64,5 +70,17 @@ impl Put {
             schema,
             batches,
         }
+    }
+
+    /// How many rows are put, or the greatest `usize` where they are more. An accepted put has at
+    /// most 16,777,216 ([`crate::laws::accepted_puts_are_few`]).
+    pub fn rows(&self) -> usize
+        ensures { result ≡ min (length (put_of self.now).rows) (2 ^ 64 - 1) }
+    {
+        let mut rows = 0_usize;
+        for batch in self.batches.as_slice() {
+            rows = rows.saturating_add(batch.rows());
+        }
+        rows
     }
 }

@@ -1,13 +1,15 @@
 //! A table as a version of the catalog has it.
 
 ghost use Rattle.std.specs.Prelude.{◌≡◌, ◌<◌, ◌+◌, ◌≤◌, ◌∷◌, ◌++◌, [], Some, length, slice_get};
-ghost use Rattle.std.specs.Prelude.{IfOk, IsTrue};
+ghost use Rattle.std.specs.Prelude.{IfOk, IsTrue, All};
 ghost use Rattle.std.specs.List.{flat_map, list_all};
 ghost use Rattle.std.specs.Arc.{arc_value};
 ghost use Rattle.arrow_schema.specs.Batch.{rows_of};
+ghost use Rattle.arrow_schema.specs.Header.{is_built};
+ghost use Rattle.arrow_schema.specs.NoNulls.{HasNoNulls};
+ghost use Rattle.arrow_schema.specs.Schema.{IsSchema};
 ghost use Rattle.table_versions.specs.Limits.{most_rows};
-ghost use Rattle.table_versions.specs.Stored.{table_of, is_wide, kept};
-ghost use Rattle.table_versions.specs.Kept.{is_kept};
+ghost use Rattle.table_versions.specs.Stored.{table_of, has_rows, is_wide, kept};
 
 use crate::batch_list::BatchList;
 use arrow_schema::{Batch, Schema};
@@ -15,8 +17,9 @@ use std::alloc::{AllocError, Global};
 use std::marker::Model;
 use std::sync::Arc;
 
-/// A table: its schema, and its rows in batches. Each batch has rows, and one column for each
-/// field. A longer version of the table shares these batches.
+/// A table: its schema, which can be written, and its rows in batches. Each batch has rows, and one
+/// column for each field. A longer version of the table shares these batches. Until every type and
+/// nulls are built, the schema's types are built ones, and no slot is null.
 #[derive(Drop)]
 pub struct TableVersion {
     schema: Arc<Schema>,
@@ -38,9 +41,11 @@ impl Model for TableVersion {
 }
 
 impl TableVersion {
-    /// The columns.
+    /// The columns, 1 to 64 of them.
     pub fn schema(&self) -> &Schema
-        ensures { result.now ≡ self.now.schema }
+        ensures schema { result.now ≡ self.now.schema }
+        ensures valid { IsSchema result.now }
+        ensures built { IsTrue (is_built result.now.fields) }
     {
         &self.schema
     }
@@ -55,23 +60,28 @@ impl TableVersion {
 
     /// How many batches there are.
     pub fn batch_count(&self) -> usize
-        ensures count { result ≡ length self.now.batches }
-        ensures kept { IsTrue (list_all (is_kept self.now.schema) self.now.batches) }
+        ensures { result ≡ length self.now.batches }
     {
         self.batches.len()
     }
 
-    /// The batch of a number, counted from 0. It has rows, and one column for each field.
+    /// The batch of a number, counted from 0. It has rows, and one column for each field. The rows of
+    /// the batches, in order, are those of the table.
     pub fn batch(&self, index: usize) -> &Batch
         requires { index < length self.now.batches }
         ensures batch { slice_get self.now.batches index ≡ Some result.now }
-        ensures kept { IsTrue (is_kept self.now.schema result.now) }
+        ensures filled { 0 < result.now.rows }
+        ensures wide { length result.now.columns ≡ length self.now.schema.fields }
+        ensures few { length result.now.columns ≤ 64 }
+        ensures full { HasNoNulls result.now }
     {
         self.batches.batch(index)
     }
 
     // A table of no rows.
     pub(crate) fn new(alloc: Global, schema: Schema) -> Result<TableVersion, AllocError>
+        requires valid { IsSchema schema }
+        requires built { IsTrue (is_built schema.fields) }
         ensures { IfOk result (λ table. table ≡ record { schema = schema; batches = [] }) }
     {
         Ok(TableVersion {
@@ -94,7 +104,9 @@ impl TableVersion {
 
     // The table with one batch more behind its others.
     fn with(self, alloc: Global, batch: Batch) -> Result<TableVersion, AllocError>
-        requires kept { IsTrue (is_kept self.schema batch) }
+        requires filled { IsTrue (has_rows batch) }
+        requires wide { IsTrue (is_wide self.schema batch) }
+        requires full { HasNoNulls batch }
         requires few { length (flat_map rows_of self.batches) + batch.rows ≤ most_rows }
         ensures { IfOk result (λ table. table
             ≡ record self { batches = self.batches ++ batch ∷ [] }) }
@@ -119,6 +131,7 @@ impl TableVersion {
         batches: Vec<Batch>,
     ) -> Result<TableVersion, AllocError>
         requires wide { IsTrue (list_all (is_wide self.schema) batches.items) }
+        requires full { All HasNoNulls batches.items }
         requires few { length (flat_map rows_of (self.batches ++ batches.items)) ≤ most_rows }
         ensures { IfOk result (λ table. table
             ≡ record self { batches = self.batches ++ kept batches.items }) }

@@ -1,12 +1,16 @@
-//! Each public call once, and the limit of rows, which no worked row reaches.
+//! Each public call once, and the limits, with puts of one Int64 column `a`.
 
-ghost use Rattle.std.specs.Prelude.{◌≡◌, [], ◌∷◌, length, IfOk, IsTrue};
-ghost use Rattle.std.specs.List.{list_all};
-ghost use Rattle.table_versions.specs.Stored.{is_wide};
+ghost use Rattle.std.specs.Prelude.{◌≡◌, length, IfOk, IsTrue};
+ghost use Rattle.arrow_schema.specs.Header.{is_built, is_long};
+ghost use Rattle.arrow_schema.specs.NoNulls.{HasNoNulls};
+ghost use Rattle.arrow_schema.specs.Schema.{IsField, IsSchema};
 
-use crate::laws::{logs_grow, names_are_in_order, tables_are_found};
+use crate::cells::is_long_text;
+use crate::fields::has_repeat;
+use crate::laws::{batches_are_rows, logs_grow, names_are_in_order, tables_are_found};
 use crate::{
-    CatalogVersion, IfExists, IfNotExist, MAX_COMMITS, MAX_ROWS, Put, Snapshot, TableVersion, apply,
+    CatalogVersion, IfExists, IfNotExist, MAX_COMMITS, MAX_NAME_BYTES, MAX_ROWS, MAX_TABLES,
+    MAX_TEXT_BYTES, Put, Snapshot, TableVersion, apply,
 };
 use arrow_schema::{Batch, Column, DataType, Field, IntegerType, Schema};
 use bytes::Bytes;
@@ -15,90 +19,104 @@ use std::alloc::Global;
 use std::sync::Arc;
 use std::test::Fail;
 
-// A batch of one Int64 column with this value in each of its rows.
-fn batch(alloc: Global, value: u8, rows: usize) -> Result<Batch, Fault>
-    ensures { IfOk result (λ batch. length batch.columns ≡ 1) }
+// A batch of one Int64 column over these bytes.
+fn batch(alloc: Global, values: Bytes, rows: usize) -> Result<Batch, Fault>
+    ensures one { IfOk result (λ batch. length batch.columns ≡ 1) }
+    ensures full { IfOk result HasNoNulls }
 {
-    let mut bytes = Vec::new(alloc);
-    for _ in 0..rows {
-        for byte in [value, 0, 0, 0, 0, 0, 0, 0] {
-            bytes.push(byte)?;
-        }
-    }
-    let column = Column::new(None, Bytes::from_vec(bytes)?, rows)?;
+    let column = Column::new(None, values, rows)?;
     let rows = column.len();
     let mut columns = Vec::new(alloc);
     columns.push(column)?;
     Ok(Batch::new(columns, rows))
 }
 
-// One column `a`, not nullable.
-fn schema(alloc: Global, data_type: DataType) -> Result<Schema, Fault>
-    ensures { IfOk result (λ schema. length schema.fields ≡ 1) }
+fn field(alloc: Global, nullable: bool) -> Result<Field, Fault>
+    ensures valid { IfOk result IsField }
+    ensures typed { IfOk result (λ field. IsTrue (is_long field.data_type)) }
+{
+    Ok(Field {
+        name: Text::new(alloc, "a")?,
+        nullable,
+        data_type: DataType::Integer(IntegerType::Int64),
+    })
+}
+
+fn schema(alloc: Global, nullable: bool) -> Result<Schema, Fault>
+    ensures one { IfOk result (λ schema. length schema.fields ≡ 1) }
+    ensures valid { IfOk result IsSchema }
+    ensures built { IfOk result (λ schema. IsTrue (is_built schema.fields)) }
 {
     let mut fields = Items::new(alloc);
-    fields.push(Field {
-        name: Text::new(alloc, "a")?,
-        nullable: false,
-        data_type,
-    })?;
+    fields.push(field(alloc, nullable)?)?;
     Ok(Schema { fields })
 }
 
-// A put of one batch with this value in each of its rows.
+// So many packed numbers of this value.
+fn longs(alloc: Global, value: u8, rows: usize) -> Result<Bytes, Fault> {
+    let mut bytes = Vec::with_capacity(alloc, rows.saturating_mul(8))?;
+    for _ in 0..rows {
+        for byte in [value, 0, 0, 0, 0, 0, 0, 0] {
+            bytes.push(byte)?;
+        }
+    }
+    Ok(Bytes::from_vec(bytes)?)
+}
+
+// A put of one batch: so many of these numbers.
 fn put(
     alloc: Global,
     name: &str,
-    if_exists: IfExists,
-    data_type: DataType,
-    value: u8,
+    options: (IfNotExist, IfExists),
+    nullable: bool,
+    values: Bytes,
     rows: usize,
 ) -> Result<Put, Fault> {
     let mut batches = Vec::new(alloc);
-    batches.push(batch(alloc, value, rows)?)?;
-    Ok(Put::new(
-        Text::new(alloc, name)?,
-        IfNotExist::Create,
-        if_exists,
-        schema(alloc, data_type)?,
-        batches,
-    ))
+    batches.push(batch(alloc, values, rows)?)?;
+    let name = Text::new(alloc, name)?;
+    let schema = schema(alloc, nullable)?;
+    Ok(Put::new(name, options.0, options.1, schema, batches))
 }
 
-// A put of so many rows without columns.
-fn rows(alloc: Global, if_exists: IfExists, rows: usize) -> Result<Put, Fault> {
-    let mut batches = Vec::new(alloc);
-    batches.push(Batch::new(Vec::new(alloc), rows))?;
-    let fields = Items::new(alloc);
-    Ok(Put::new(
-        Text::new(alloc, "r")?,
-        IfNotExist::Create,
-        if_exists,
-        Schema { fields },
-        batches,
-    ))
-}
+const APPEND: (IfNotExist, IfExists) = (IfNotExist::Create, IfExists::Append);
 
-// The version after a put.
-fn next(alloc: Global, snapshot: &Snapshot, put: Put) -> Result<Snapshot, Fault> {
+const REPLACE: (IfNotExist, IfExists) = (IfNotExist::Create, IfExists::Replace);
+
+// The version after a put of rows with this value, by these options.
+fn next(
+    alloc: Global,
+    snapshot: &Snapshot,
+    name: &str,
+    options: (IfNotExist, IfExists),
+    value: u8,
+    rows: usize,
+) -> Result<Snapshot, Fault> {
+    let put = put(
+        alloc,
+        name,
+        options,
+        false,
+        longs(alloc, value, rows)?,
+        rows,
+    )?;
     let catalog = apply(alloc, snapshot, put)?;
     let number = snapshot.number().saturating_add(1);
     Ok(Snapshot::new(number, Arc::new(alloc, catalog)?))
 }
 
-fn first(alloc: Global) -> Result<Snapshot, Fault> {
-    Ok(Snapshot::new(0, Arc::new(alloc, CatalogVersion::empty(alloc))?))
+// A version of no tables, of this number.
+fn bare(alloc: Global, number: u64) -> Result<Snapshot, Fault> {
+    let catalog = CatalogVersion::empty(alloc);
+    Ok(Snapshot::new(number, Arc::new(alloc, catalog)?))
 }
-
-const INT64: DataType = DataType::Integer(IntegerType::Int64);
 
 // So many appends of one row each, with values that count up to 255 and begin again.
 fn appended(alloc: Global, appends: u16) -> Result<Snapshot, Fault> {
-    let mut snapshot = first(alloc)?;
+    let mut snapshot = bare(alloc, 0)?;
     for number in 0..appends {
         let value = (number % 256) as u8;
-        let put = put(alloc, "t", IfExists::Append, INT64, value, 1)?;
-        snapshot = next(alloc, &snapshot, put)?;
+        snapshot = next(alloc, &snapshot, "t", APPEND, value, 1)?;
     }
     Ok(snapshot)
 }
@@ -134,18 +152,15 @@ fn appends(rt: HostRuntime) -> Result<(), Fail> {
     Ok(())
 }
 
-// Another schema in the place of rows, and a table of a lower name before it.
+// A nullable column in the place of rows, and a table of a lower name before it.
 #[test]
 fn a_replace(rt: HostRuntime) -> Result<(), Fail> {
     let alloc = rt.alloc();
     let old = appended(alloc, 2)?;
-    let other = put(alloc, "t", IfExists::Replace, DataType::Bool, 0, 0)?;
-    let replaced = next(alloc, &old, other)?;
-    let last = next(
-        alloc,
-        &replaced,
-        put(alloc, "s", IfExists::Fail, INT64, 7, 2)?,
-    )?;
+    let other = put(alloc, "t", REPLACE, true, Bytes::new(), 0)?;
+    let catalog = apply(alloc, &old, other)?;
+    let replaced = Snapshot::new(3, Arc::new(alloc, catalog)?);
+    let last = next(alloc, &replaced, "s", APPEND, 7, 2)?;
     let catalog = last.catalog();
     assert!(rt; !catalog.is_empty() && catalog.len() == 2);
     let (low, high) = (catalog.entry(0), catalog.entry(1));
@@ -158,47 +173,116 @@ fn a_replace(rt: HostRuntime) -> Result<(), Fail> {
         ("t", 0, 0)
     );
     let fields = high.1.schema().fields.as_slice();
+    assert_eq!(rt; fields.first().map(|field| field.nullable), Some(true));
+    Ok(())
+}
+
+// What the options refuse, and the order of the first faults: the name, the options, the columns.
+#[test]
+fn refusals(rt: HostRuntime) -> Result<(), Fail> {
+    let alloc = rt.alloc();
+    let snapshot = appended(alloc, 1)?;
+    let long = "aaaaaaaaaaaaaaaaaaaaaaaaaaaaaaaaaaaaaaaaaaaaaaaaaaaaaaaaaaaaaaaaa";
+    let append = (IfNotExist::Unspecified, IfExists::Append);
+    let create = (IfNotExist::Create, IfExists::Unspecified);
+    let fail = (IfNotExist::Fail, IfExists::Fail);
+    let wanted = [
+        ("t", append, false, None),
+        ("u", append, false, Some(Fault::TableMissing)),
+        ("u", create, true, None),
+        ("t", create, true, Some(Fault::TableExists)),
+        ("t", fail, false, Some(Fault::TableExists)),
+        ("u", fail, false, Some(Fault::TableMissing)),
+        ("t", append, true, Some(Fault::SchemaMismatch)),
+        ("t", REPLACE, true, None),
+        ("", fail, false, Some(Fault::LimitReached)),
+        (long, fail, false, Some(Fault::LimitReached)),
+        (&long[1..], APPEND, false, None),
+    ];
+    for (name, options, nullable, fault) in wanted {
+        let put = put(alloc, name, options, nullable, Bytes::new(), 0)?;
+        assert_eq!(rt; (name, apply(alloc, &snapshot, put).err()), (name, fault));
+    }
+    assert_eq!(rt; (long.len(), MAX_NAME_BYTES), (65, 64));
+    Ok(())
+}
+
+// 16,777,216 rows are taken and one more is not, put at once or appended.
+#[test]
+fn most_rows(rt: HostRuntime) -> Result<(), Fail> {
+    let alloc = rt.alloc();
+    let values = Bytes::from_vec(vec![in alloc; 0; 8 * (MAX_ROWS + 1)]?)?;
+    let full = put(alloc, "t", APPEND, true, values.clone()?, MAX_ROWS)?;
+    let full = apply(alloc, &bare(alloc, 0)?, full)?;
+    let full = Snapshot::new(1, Arc::new(alloc, full)?);
+    let wanted = [
+        (APPEND, 0, None),
+        (APPEND, 1, Some(Fault::LimitReached)),
+        (REPLACE, MAX_ROWS, None),
+        (REPLACE, MAX_ROWS + 1, Some(Fault::LimitReached)),
+    ];
+    for (options, rows, fault) in wanted {
+        let put = put(alloc, "t", options, true, values.clone()?, rows)?;
+        assert_eq!(rt; apply(alloc, &full, put).err(), fault, "{rows}");
+    }
+    Ok(())
+}
+
+// The 65,536th commit is taken and the one behind it is not.
+#[test]
+fn most_commits(rt: HostRuntime) -> Result<(), Fail> {
+    let alloc = rt.alloc();
+    let last = next(alloc, &bare(alloc, MAX_COMMITS - 1)?, "t", APPEND, 1, 1)?;
+    let past = next(alloc, &last, "t", APPEND, 1, 1).err();
+    assert_eq!(rt; (last.number(), past), (65_536, Some(Fault::LimitReached)));
+    Ok(())
+}
+
+// The 256th table is taken and the one behind it is not, but rows of one that is there.
+#[test]
+fn most_tables(rt: HostRuntime) -> Result<(), Fail> {
+    let alloc = rt.alloc();
+    let mut snapshot = bare(alloc, 0)?;
+    for number in 0..MAX_TABLES {
+        let name = format!(in alloc; "{number}")?;
+        snapshot = next(alloc, &snapshot, name.as_str(), APPEND, 1, 1)?;
+    }
+    let past = next(alloc, &snapshot, "256", APPEND, 1, 1).err();
+    let again = next(alloc, &snapshot, "255", APPEND, 1, 1).err();
     assert_eq!(rt;
-        fields.first().map(|field| field.data_type),
-        Some(DataType::Bool)
+        (snapshot.catalog().len(), past, again),
+        (256, Some(Fault::LimitReached), None)
     );
     Ok(())
 }
 
-// 16,777,216 rows are taken and one more is not; the last commit is taken and the one behind it
-// is not.
+// What no put reaches until every type is built: a text of 65,536 bytes and of one more, and two
+// columns of one name.
 #[test]
-fn limits(rt: HostRuntime) -> Result<(), Fail> {
+fn other_types(rt: HostRuntime) -> Result<(), Fail> {
     let alloc = rt.alloc();
+    let text = String::from_utf8(vec![in alloc; b'a'; MAX_TEXT_BYTES + 1]?)?;
+    let mut fields = Vec::new(alloc);
+    fields.push(field(alloc, true)?)?;
+    let once = has_repeat(fields.as_slice());
+    fields.push(field(alloc, false)?)?;
+    let twice = has_repeat(fields.as_slice());
+    assert_eq!(rt; (once, twice), (false, true));
+    assert_eq!(rt;
+        (
+            is_long_text(ValueRef::Text(&text[1..])),
+            is_long_text(ValueRef::Text(&text))
+        ),
+        (false, true)
+    );
+    Ok(())
+}
+
+// The laws are functions, which give what they say.
+#[test]
+fn laws(_rt: HostRuntime) {
     tables_are_found();
     logs_grow();
     names_are_in_order();
-    let full = next(
-        alloc,
-        &first(alloc)?,
-        rows(alloc, IfExists::Fail, MAX_ROWS)?,
-    )?;
-    let last = Snapshot::new(
-        MAX_COMMITS - 1,
-        Arc::new(alloc, CatalogVersion::empty(alloc))?,
-    );
-    let past = next(alloc, &last, rows(alloc, IfExists::Fail, 1)?)?;
-    let wanted = [
-        (&full, IfExists::Append, 0usize, None),
-        (&full, IfExists::Append, 1, Some(Fault::LimitReached)),
-        (&full, IfExists::Replace, MAX_ROWS, None),
-        (
-            &full,
-            IfExists::Replace,
-            MAX_ROWS + 1,
-            Some(Fault::LimitReached),
-        ),
-        (&full, IfExists::Unspecified, 1, Some(Fault::TableExists)),
-        (&past, IfExists::Append, 1, Some(Fault::LimitReached)),
-    ];
-    for (snapshot, if_exists, count, fault) in wanted {
-        let put = rows(alloc, if_exists, count)?;
-        assert_eq!(rt; apply(alloc, snapshot, put).err(), fault);
-    }
-    Ok(())
+    batches_are_rows();
 }

@@ -1,7 +1,7 @@
 use Rattle.std.proofs.Common.{◌≡◌, Some, arith, subst}
 use Rattle.arrow_schema.specs.Batch.{AreLong}
-use Rattle.ipc_batch.specs.Full.{HasNoNulls, HasNoNullsIfThere}
-use Rattle.ipc_batch.proofs.NoNulls.{slices_full}
+use Rattle.arrow_schema.specs.NoNulls.{HasNoNulls, HasNoNullsIfThere}
+use Rattle.arrow_schema.proofs.NoNulls.{slices_full}
 use Rattle.ipc_batch.proofs.tests.written_again.Goals as goal
 
 pub write_batch-requires-2-clause-full : goal.write_batch-requires-2-clause-full

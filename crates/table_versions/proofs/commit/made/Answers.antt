@@ -7,4 +7,4 @@ pub appended-requires-clause-wide : goal.appended-requires-clause-wide
 appended-requires-clause-wide c =
     let schema = c.in-Append-Some.old.now.schema in
     let alike = rw (← c.put.view_is, c.in-Append-Some.is-0, c.in-Append-Some.is-1) at c.requires.alike in
-    wide_alike schema c.put.inside.schema c.put.inside.batches.items (not_false (same_fields schema.fields c.put.inside.schema.fields) alike) c.put.invariant
+    wide_alike schema c.put.inside.schema c.put.inside.batches.items (not_false (same_fields schema.fields c.put.inside.schema.fields) alike) c.put.invariant.wide

@@ -11,7 +11,7 @@ returns-in-Some c =
     let catalog = c.args.snapshot.now.catalog in
     let there = option_copied c.get-old.result in
     let at : there ≡ table_at catalog c.args.put.table = search rules in
-    let count : c.len.result ≡ length catalog = c.len.ensures ∙ ap (λ (c : CatalogAt). length c) c.catalog-catalog.ensures in
+    let count : c.len.result ≡ length catalog = c.len.ensures.count ∙ ap (λ (c : CatalogAt). length c) c.catalog-catalog.ensures in
     let refused : Some c.in-Some.fault ≡ first_fault (faults_at (plain there) c.len.result c.args.snapshot.now.number (put_of c.args.put)) = search rules in
     λ _. refused_by catalog c.args.snapshot.now.number c.args.put there c.len.result at count (Some c.in-Some.fault) refused
 
@@ -20,7 +20,7 @@ returns c =
     let catalog = c.args.snapshot.now.catalog in
     let there = option_copied c.get-old.result in
     let at : there ≡ table_at catalog c.args.put.table = search rules in
-    let count : c.len.result ≡ length catalog = c.len.ensures ∙ ap (λ (c : CatalogAt). length c) c.catalog-catalog.ensures in
+    let count : c.len.result ≡ length catalog = c.len.ensures.count ∙ ap (λ (c : CatalogAt). length c) c.catalog-catalog.ensures in
     let passes : None ≡ first_fault (faults_at (plain there) c.len.result c.args.snapshot.now.number (put_of c.args.put)) = search rules in
     let new : c.in_ok-with.field-0 ≡ with_table c.args.put.table (stored_after c.args.put.if_exists there c.args.put) catalog = search rules in
     refused_by catalog c.args.snapshot.now.number c.args.put there c.len.result at count None passes ∙ ap (λ (new : CatalogAt). Ok new) (sym new)

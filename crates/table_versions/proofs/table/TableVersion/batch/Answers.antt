@@ -1,7 +1,19 @@
-use Rattle.table_versions.specs.Kept.{is_kept}
-use Rattle.table_versions.proofs.ListTests.{all_at}
+use Rattle.std.specs.Arc.{arc_value}
+use Rattle.table_versions.proofs.Storable.{IsBatch, batch_at}
 use Rattle.table_versions.proofs.table.TableVersion.batch.Goals as goal
 
-pub returns-clause-kept : goal.returns-clause-kept
-returns-clause-kept c =
-    rw (← c.self.view_is) (all_at (is_kept _) c.self.inside.batches c.batch.result.now c.args.index c.self.invariant.batches c.batch.ensures)
+here : (c : goal.After-batch) → IsBatch (arc_value c.self.inside.schema) c.batch.result.now
+here c = batch_at (record { schema = arc_value c.self.inside.schema; batches = c.self.inside.batches }) c.self.inside.rows c.args.index
+    c.batch.result.now c.self.invariant c.batch.ensures
+
+pub returns-clause-filled : goal.returns-clause-filled
+returns-clause-filled c = (here c).filled
+
+pub returns-clause-wide : goal.returns-clause-wide
+returns-clause-wide c = rw (← c.self.view_is) (here c).wide
+
+pub returns-clause-few : goal.returns-clause-few
+returns-clause-few c = (here c).few
+
+pub returns-clause-full : goal.returns-clause-full
+returns-clause-full c = (here c).full

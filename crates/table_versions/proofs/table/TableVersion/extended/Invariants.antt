@@ -1,7 +1,8 @@
-use Rattle.std.proofs.Common.{◌≡◌, ◌≤◌, ◌++◌, length, IsTrue}
+use Rattle.std.proofs.Common.{◌≡◌, ◌≤◌, ◌++◌, length, IsTrue, All}
 use Rattle.std.specs.List.{flat_map, list_all}
 use Rattle.std.specs.Vec.Iter.{into_iter_items}
 use Rattle.arrow_schema.specs.Batch.{rows_of}
+use Rattle.arrow_schema.specs.NoNulls.{HasNoNulls}
 use Rattle.table_versions.specs.Limits.{most_rows}
 use Rattle.table_versions.specs.Stored.{is_wide, kept}
 use Rattle.table_versions.proofs.table.TableVersion.extended.Given as goal
@@ -12,5 +13,6 @@ invariant-loop-batch l =
       schema : l.table.schema ≡ l.fn.self.schema;
       stored : l.table.batches ++ kept left ≡ l.fn.self.batches ++ kept l.fn.batches.items;
       wide : IsTrue (list_all (is_wide l.fn.self.schema) left);
+      full : All HasNoNulls left;
       few : length (flat_map rows_of (l.table.batches ++ left)) ≤ most_rows;
     }

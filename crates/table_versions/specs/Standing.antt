@@ -1,0 +1,21 @@
+-- Where the rows of a table stand among its batches.
+use Rattle.std.specs.Prelude.{◌≡◌, ◌≤◌, ℕ, ◌+◌, ◌-◌, List, length, take, drop, Some, slice_get}
+use Rattle.std.specs.List.{flat_map}
+use Rattle.arrow_schema.specs.Batch.{BatchAt, rows_of, cut_batch}
+use Rattle.table_versions.specs.Stored.{TableAt, table_of}
+
+-- how many rows stand before batch i
+abbrev pub rows_before : List BatchAt → ℕ → ℕ
+rows_before batches i = length (flat_map rows_of (take i batches))
+
+-- batch i of a table: the next one begins behind its rows, and a cut of it is the table's rows from there
+pub record StandsAt (table : TableAt) (i : ℕ) (batch : BatchAt) : Type 0 where
+  pub next : rows_before table.batches (i + 1) ≡ rows_before table.batches i + batch.rows
+  pub cut : (from to : ℕ) → from ≤ to → to ≤ batch.rows →
+      rows_of (cut_batch batch from to) ≡ take (to - from) (drop (rows_before table.batches i + from) (table_of table).rows)
+
+-- the rows of a table are those of its batches, in order
+abbrev pub BatchesAreRows : Type 0
+BatchesAreRows = (table : TableAt) →
+    (rows_before table.batches (length table.batches) ≡ length (table_of table).rows)
+    × ((i : ℕ) (batch : BatchAt) → slice_get table.batches i ≡ Some batch → StandsAt table i batch)
