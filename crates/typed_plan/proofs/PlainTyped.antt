@@ -31,7 +31,7 @@ use Rattle.typed_plan.specs.Plain.{column_fault, columns_fault, chosen_fault, pl
 use Rattle.typed_plan.specs.ResultSchema.{answer_type, answer_field, field_at, expression_field, list_fields, select_fields}
 use Rattle.typed_plan.specs.Typed.{types_of, tree_types, class_if_there, class_of_number, IsTypedTree, IsTypedOutput, IsTyped}
 
-then_none : (a b : Option Fault) → (a then b) ≡ None → (a ≡ None) × (b ≡ None)
+pub then_none : (a b : Option Fault) → (a then b) ≡ None → (a ≡ None) × (b ≡ None)
 then_none None b e = (refl, e)
 then_none (Some fault) b e = cc
 
@@ -107,10 +107,10 @@ only_within [] width number below e = cc
 only_within (first ∷ []) width number below e = let same : first ≡ number = cc in omega (arith, same, below first [] refl)
 only_within (first ∷ other ∷ rest) width number below e = cc
 
-meant_within : (scope : Scope) (name : ColumnName) (number : ℕ) → column_of scope name ≡ Ok number → number < length scope
+pub meant_within : (scope : Scope) (name : ColumnName) (number : ℕ) → column_of scope name ≡ Ok number → number < length scope
 meant_within scope name number e = only_within (numbers_of 0 name scope) (length scope) number (λ first rest f. omega (arith, above 0 name scope first rest f)) e
 
-abbrev placed : Name → Field → ScopeColumn
+abbrev pub placed : Name → Field → ScopeColumn
 placed place field = record { place = place; field = field }
 
 abbrev type_in : ScopeColumn → DataType

@@ -7,6 +7,7 @@ pub mod Bound
 pub mod ResultSchema
 pub mod Numbered
 pub mod Outcome
+pub mod Named
 pub mod Plan
 pub mod View
 pub mod Typed

@@ -1,11 +1,13 @@
 //! Binding: the names of a query become columns, and the query a plan.
 
 ghost use Rattle.std.specs.Prelude.{◌≡◌, IfOk, option_map};
+ghost use Rattle.arrow_schema.specs.Schema.{IsSchema};
 ghost use Rattle.scan_base.specs.View.{pred_of};
 ghost use Rattle.sql_query.specs.Sentence.{sentence_of};
 ghost use Rattle.table_versions.specs.Stored.{tables_of};
 ghost use Rattle.typed_plan.specs.Binding.{IsPlanOf};
 ghost use Rattle.typed_plan.specs.Bound.{filter_fault, fault_of};
+ghost use Rattle.typed_plan.specs.Named.{HasNames};
 ghost use Rattle.typed_plan.specs.Outcome.{Binds};
 ghost use Rattle.typed_plan.specs.Plain.{plain_fault, place_scope, plain_plan, numbered_filter, where_kept};
 ghost use Rattle.typed_plan.specs.Plan.{scan};
@@ -24,7 +26,8 @@ use std::alloc::{AllocError, Global};
 use table_versions::{CatalogVersion, TableVersion};
 
 /// The plan of a query at a version of the catalog. It gives the rows that the query means, on every
-/// range of the first place, and has the schema of the result.
+/// range of the first place, and has the schema of the result, which can be written where the query's
+/// aliases are names.
 ///
 /// # Errors
 ///
@@ -35,8 +38,9 @@ use table_versions::{CatalogVersion, TableVersion};
 /// (`Fault::LimitReached`) where the result has more than 64 columns. F21 (`Fault::OutOfMemory`) where
 /// memory is refused.
 pub fn bind(alloc: Global, query: &Query, catalog: &CatalogVersion) -> Result<TypedPlan, Fault>
-    ensures { Binds (fault_of (sentence_of query.now) (tables_of catalog.now))
+    ensures bound { Binds (fault_of (sentence_of query.now) (tables_of catalog.now))
         (λ plan. IsPlanOf (sentence_of query.now) (tables_of catalog.now) (plan_of plan)) result }
+    ensures named { HasNames query.now.select → IfOk result (λ plan. IsSchema plan.schema) }
 {
     if !query.joins.is_empty() || query.is_grouped() {
         return Err(Fault::NotInSubset);
@@ -49,9 +53,10 @@ pub fn bind(alloc: Global, query: &Query, catalog: &CatalogVersion) -> Result<Ty
 
 // The plan of a query of one place, over its table.
 fn bind_place(alloc: Global, query: &Query, table: &TableVersion) -> Result<TypedPlan, Fault>
-    ensures { Binds (plain_fault (sentence_of query.now) (place_scope (sentence_of query.now) table.now.schema))
+    ensures bound { Binds (plain_fault (sentence_of query.now) (place_scope (sentence_of query.now) table.now.schema))
         (λ plan. plan_of plan ≡ plain_plan (sentence_of query.now) (place_scope (sentence_of query.now) table.now.schema) table.now.schema)
         result }
+    ensures named { HasNames query.now.select → IfOk result (λ plan. IsSchema plan.schema) }
 {
     let schema = table.schema();
     let scope = Scope::of_place(alloc, query.first.name(), schema.fields.as_slice())?;
