@@ -1,0 +1,15 @@
+pub mod Class
+pub mod Scope
+pub mod Joined
+pub mod Grouped
+pub mod Meaning
+pub mod Bound
+pub mod ResultSchema
+pub mod Numbered
+pub mod Outcome
+pub mod Named
+pub mod Plan
+pub mod View
+pub mod Typed
+pub mod Binding
+pub mod Plain

@@ -1,0 +1,42 @@
+//! Which values may be compared.
+
+ghost use Rattle.std.specs.Prelude.{◌≡◌};
+ghost use Rattle.typed_plan.specs.Class.{type_class, value_class};
+
+use arrow_schema::DataType;
+use scan_base::Value;
+
+/// What a value is a value of. Only values of one class are compared.
+#[derive(Clone, Copy, Debug, PartialEq, Eq)]
+pub enum Class {
+    /// Integers of every width, and decimals.
+    Number,
+    /// Texts, and dictionaries of texts.
+    Text,
+    /// Truth values.
+    Truth,
+}
+
+impl Class {
+    /// The class of a column's values.
+    pub fn of_type(data_type: DataType) -> Class
+        ensures { result ≡ type_class data_type }
+    {
+        match data_type {
+            DataType::Integer(_) | DataType::Decimal128 => Class::Number,
+            DataType::Utf8 | DataType::Dictionary(_) => Class::Text,
+            DataType::Bool => Class::Truth,
+        }
+    }
+
+    /// The class of a literal, which is no null.
+    pub fn of_value(value: &Value) -> Class
+        ensures { result ≡ value_class value.now }
+    {
+        match value {
+            Value::Null | Value::Int(_) => Class::Number,
+            Value::Text(_) => Class::Text,
+            Value::Bool(_) => Class::Truth,
+        }
+    }
+}
