@@ -2,7 +2,7 @@
 
 ghost use Rattle.std.specs.Prelude.{◌≡◌, IfOk, length};
 ghost use Rattle.scan_base.specs.Reading.{Gives};
-ghost use Rattle.arrays.specs.Bools.{bools_slot, bools_of};
+ghost use Rattle.arrays.specs.Bools.{bools_of};
 
 use crate::cells::Cells;
 use crate::validity::{is_valid, read_validity, share};

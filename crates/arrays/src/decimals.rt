@@ -2,7 +2,7 @@
 
 ghost use Rattle.std.specs.Prelude.{◌≡◌, IfOk};
 ghost use Rattle.scan_base.specs.Reading.{Gives};
-ghost use Rattle.arrays.specs.Decimals.{decimals_slot, decimals_of};
+ghost use Rattle.arrays.specs.Decimals.{decimals_of};
 
 use crate::cells::Cells;
 use crate::numbers::decimal_at;

@@ -1,9 +1,9 @@
 //! Dictionaries of texts.
 
-ghost use Rattle.std.specs.Prelude.{◌≡◌, ◌==◌, ◌≤◌, ◌<◌, ◌+◌, [], length, slice_get, slice_index, option_map, IfOk, nat_lt};
+ghost use Rattle.std.specs.Prelude.{◌≡◌, ◌==◌, ◌≤◌, ◌<◌, ◌+◌, [], length, slice_get, slice_index, option_map, IfOk};
 ghost use Rattle.scan_base.specs.Reading.{GivesUnlessMemory};
 ghost use Rattle.scan_base.specs.Value.{value_of};
-ghost use Rattle.arrays.specs.Dictionary.{parts_values, extended_by, most_values};
+ghost use Rattle.arrays.specs.Dictionary.{extended_by};
 
 use crate::cells::Cells;
 use crate::texts::Texts;

@@ -8,7 +8,7 @@ ghost use Rattle.scan_base.specs.Value.{value_of};
 ghost use Rattle.arrays.specs.Number.{byte_width};
 ghost use Rattle.arrays.specs.Validity.{IsLong};
 ghost use Rattle.arrays.specs.Dictionary.{entry_at};
-ghost use Rattle.arrays.specs.Indices.{indices_slot, indices_of, index_stands, entry_of};
+ghost use Rattle.arrays.specs.Indices.{indices_of, index_stands};
 
 use crate::cells::Cells;
 use crate::dictionary::Dictionary;

@@ -2,7 +2,7 @@
 
 ghost use Rattle.std.specs.Prelude.{◌≡◌, IfOk};
 ghost use Rattle.scan_base.specs.Reading.{Gives};
-ghost use Rattle.arrays.specs.Integers.{integers_slot, integers_of};
+ghost use Rattle.arrays.specs.Integers.{integers_of};
 
 use crate::cells::Cells;
 use crate::numbers::{has_elements, integer_at};

@@ -1,7 +1,7 @@
 //! Packed little-endian numbers.
 
 ghost use Rattle.std.specs.Prelude.{◌≡◌, ◌≤◌, ◌+◌, ◌*◌, length, nat_le};
-ghost use Rattle.std.specs.Int.{w8, w16, w32, w64, w128, cast_signed};
+ghost use Rattle.std.specs.Int.{w8, w16, w32, w64, cast_signed};
 ghost use Rattle.arrays.specs.Number.{byte_width, element_at, integer_at, decimal_at};
 
 use arrow_schema::IntegerType;

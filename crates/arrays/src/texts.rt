@@ -1,12 +1,12 @@
 //! Columns of texts.
 
-ghost use Rattle.std.specs.Prelude.{◌≡◌, ◌≤◌, ◌<◌, ◌+◌, ◌*◌, ◌||◌, IfOk, length, true, nat_le, IsUtf8};
+ghost use Rattle.std.specs.Prelude.{◌≡◌, ◌≤◌, ◌<◌, ◌+◌, ◌*◌, ◌||◌, IfOk, length};
 ghost use Rattle.std.specs.List.{list_all, range_with_len};
 ghost use Rattle.scan_base.specs.Reading.{Gives};
 ghost use Rattle.arrays.specs.Number.{element_at};
 ghost use Rattle.std.specs.Str.{is_utf8};
 ghost use Rattle.arrays.specs.Validity.{IsLong};
-ghost use Rattle.arrays.specs.Texts.{texts_slot, texts_of, text_at, is_offset, text_stands, texts_stand, lack_offsets, TextsAt};
+ghost use Rattle.arrays.specs.Texts.{texts_of, text_at, is_offset, text_stands, texts_stand, lack_offsets};
 
 use crate::cells::Cells;
 use crate::numbers::uint32_at;
