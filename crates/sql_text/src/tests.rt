@@ -1,6 +1,6 @@
 //! Texts with their tokens by a lexer of another making (`vectors/`), the limits, and the values.
 
-use crate::vectors::TEXTS;
+use crate::vectors::{DIGITS, NAMES, SEVERAL, STRANGERS, STRINGS, SYMBOLS, WHOLE, WORDS};
 use crate::{Keyword, MOST_BYTES, Symbol, TokenKind, laws, tokens};
 use scan_base::Fault;
 use std::alloc::{AllocError, Global};
@@ -22,12 +22,65 @@ fn told(alloc: Global, sql: &str) -> Result<String, AllocError> {
     }
 }
 
-#[test]
-fn texts(rt: HostRuntime) -> Result<(), Fail> {
-    for (sql, wanted) in &TEXTS {
-        let told = told(rt.alloc(), sql)?;
-        assert_eq!(rt; (*sql, told.as_str()), (*sql, *wanted));
+// The first text that is told otherwise.
+fn first_wrong<'a>(
+    alloc: Global,
+    texts: &'a [(&'a str, &'a str)],
+) -> Result<Option<&'a str>, AllocError> {
+    for (sql, wanted) in texts {
+        let told = told(alloc, sql)?;
+        if told.as_str() != *wanted {
+            return Ok(Some(*sql));
+        }
     }
+    Ok(None)
+}
+
+#[test]
+fn words(rt: HostRuntime) -> Result<(), Fail> {
+    assert_eq!(rt; first_wrong(rt.alloc(), &WORDS)?, None);
+    Ok(())
+}
+
+#[test]
+fn names(rt: HostRuntime) -> Result<(), Fail> {
+    assert_eq!(rt; first_wrong(rt.alloc(), &NAMES)?, None);
+    Ok(())
+}
+
+#[test]
+fn strings(rt: HostRuntime) -> Result<(), Fail> {
+    assert_eq!(rt; first_wrong(rt.alloc(), &STRINGS)?, None);
+    Ok(())
+}
+
+#[test]
+fn digits(rt: HostRuntime) -> Result<(), Fail> {
+    assert_eq!(rt; first_wrong(rt.alloc(), &DIGITS)?, None);
+    Ok(())
+}
+
+#[test]
+fn symbols(rt: HostRuntime) -> Result<(), Fail> {
+    assert_eq!(rt; first_wrong(rt.alloc(), &SYMBOLS)?, None);
+    Ok(())
+}
+
+#[test]
+fn what_begins_no_token(rt: HostRuntime) -> Result<(), Fail> {
+    assert_eq!(rt; first_wrong(rt.alloc(), &STRANGERS)?, None);
+    Ok(())
+}
+
+#[test]
+fn first_of_several_faults(rt: HostRuntime) -> Result<(), Fail> {
+    assert_eq!(rt; first_wrong(rt.alloc(), &SEVERAL)?, None);
+    Ok(())
+}
+
+#[test]
+fn whole_texts(rt: HostRuntime) -> Result<(), Fail> {
+    assert_eq!(rt; first_wrong(rt.alloc(), &WHOLE)?, None);
     Ok(())
 }
 

@@ -1,7 +1,8 @@
 //! Texts, and the tokens or the fault of each. `vectors/make.py` writes this file.
 
-/// A text; and what each of its tokens is, where it begins and how many bytes it has, or its fault.
-pub(crate) static TEXTS: [(&str, &str); 133] = [
+// A text; and what each of its tokens is, where it begins and how many bytes it has, or its fault.
+
+pub(crate) static WORDS: [(&str, &str); 5] = [
     (
         "SELECT FROM WHERE INNER JOIN ON AND OR NOT IS NULL TRUE FALSE UNKNOWN IN BETWEEN GROUP BY AS COUNT SUM DATE",
         "Keyword(Select) 0 6;Keyword(From) 7 4;Keyword(Where) 12 5;Keyword(Inner) 18 5;Keyword(Join) 24 4;Keyword(On) 29 2;Keyword(And) 32 3;Keyword(Or) 36 2;Keyword(Not) 39 3;Keyword(Is) 43 2;Keyword(Null) 46 4;Keyword(True) 51 4;Keyword(False) 56 5;Keyword(Unknown) 62 7;Keyword(In) 70 2;Keyword(Between) 73 7;Keyword(Group) 81 5;Keyword(By) 87 2;Keyword(As) 90 2;Keyword(Count) 93 5;Keyword(Sum) 99 3;Keyword(Date) 103 4;",
@@ -22,6 +23,9 @@ pub(crate) static TEXTS: [(&str, &str); 133] = [
         "Order Limit Offset Fetch Distinct All Having Union Except Intersect Left Right Full Outer Cross Natural Using Like Escape Exists Any Some Case Cast Min Max Avg With Values Insert Update Delete",
         "LeftOut 0 5;LeftOut 6 5;LeftOut 12 6;LeftOut 19 5;LeftOut 25 8;LeftOut 34 3;LeftOut 38 6;LeftOut 45 5;LeftOut 51 6;LeftOut 58 9;LeftOut 68 4;LeftOut 73 5;LeftOut 79 4;LeftOut 84 5;LeftOut 90 5;LeftOut 96 7;LeftOut 104 5;LeftOut 110 4;LeftOut 115 6;LeftOut 122 6;LeftOut 129 3;LeftOut 133 4;LeftOut 138 4;LeftOut 143 4;LeftOut 148 3;LeftOut 152 3;LeftOut 156 3;LeftOut 160 4;LeftOut 165 6;LeftOut 172 6;LeftOut 179 6;LeftOut 186 6;",
     ),
+];
+
+pub(crate) static NAMES: [(&str, &str); 32] = [
     ("a", "Name 0 1;"),
     ("_", "Name 0 1;"),
     ("_9", "Name 0 2;"),
@@ -54,6 +58,9 @@ pub(crate) static TEXTS: [(&str, &str); 133] = [
     ("\"a\nb\"", "DelimitedName 0 5;"),
     ("\"--\"", "DelimitedName 0 4;"),
     ("\"'\"", "DelimitedName 0 3;"),
+];
+
+pub(crate) static STRINGS: [(&str, &str); 17] = [
     ("''", "String 0 2;"),
     ("'a'", "String 0 3;"),
     ("'a''b'", "String 0 6;"),
@@ -71,6 +78,9 @@ pub(crate) static TEXTS: [(&str, &str); 133] = [
     ("'a'b'", "F13 BadSql at byte 4"),
     ("''a''", "String 0 2;Name 2 1;String 3 2;"),
     ("'' ''", "String 0 2;String 3 2;"),
+];
+
+pub(crate) static DIGITS: [(&str, &str); 14] = [
     ("0", "Digits 0 1;"),
     ("007", "Digits 0 3;"),
     ("12 34", "Digits 0 2;Digits 3 2;"),
@@ -103,6 +113,9 @@ pub(crate) static TEXTS: [(&str, &str); 133] = [
     ("1.5", "Digits 0 1;Symbol(Period) 1 1;Digits 2 1;"),
     ("-1", "Symbol(Minus) 0 1;Digits 1 1;"),
     ("+1", "Symbol(Plus) 0 1;Digits 1 1;"),
+];
+
+pub(crate) static SYMBOLS: [(&str, &str); 27] = [
     (
         "( ) , . ; * = <> != < <= > >= + - / % ||",
         "Symbol(LeftParenthesis) 0 1;Symbol(RightParenthesis) 2 1;Symbol(Comma) 4 1;Symbol(Period) 6 1;Symbol(Semicolon) 8 1;Symbol(Asterisk) 10 1;Symbol(Equal) 12 1;Symbol(NotEqual) 14 2;Symbol(NotEqual) 17 2;Symbol(Less) 20 1;Symbol(LessOrEqual) 22 2;Symbol(Greater) 25 1;Symbol(GreaterOrEqual) 27 2;Symbol(Plus) 30 1;Symbol(Minus) 32 1;Symbol(Solidus) 34 1;Symbol(Percent) 36 1;Symbol(Concatenation) 38 2;",
@@ -145,6 +158,9 @@ pub(crate) static TEXTS: [(&str, &str); 133] = [
     ),
     ("-- \u{e9}", ""),
     ("--\ra\n b", "Name 6 1;"),
+];
+
+pub(crate) static STRANGERS: [(&str, &str); 19] = [
     ("@", "F13 BadSql at byte 0"),
     ("a @ b", "F13 BadSql at byte 2"),
     ("a\tb\r\nc", "Name 0 1;Name 2 1;Name 5 1;"),
@@ -164,6 +180,9 @@ pub(crate) static TEXTS: [(&str, &str); 133] = [
     ("?", "F13 BadSql at byte 0"),
     ("\\", "F13 BadSql at byte 0"),
     ("a\u{2003}b", "F13 BadSql at byte 1"),
+];
+
+pub(crate) static SEVERAL: [(&str, &str); 5] = [
     ("a @ ' # \"", "F13 BadSql at byte 2"),
     ("\"\" @", "F13 BadSql at byte 0"),
     ("'a' @ '", "F13 BadSql at byte 4"),
@@ -172,6 +191,9 @@ pub(crate) static TEXTS: [(&str, &str); 133] = [
         "100000000000000000000000000000000000000 @",
         "F13 BadSql at byte 0",
     ),
+];
+
+pub(crate) static WHOLE: [(&str, &str); 14] = [
     ("", ""),
     (" ", ""),
     ("\n\n", ""),

@@ -61,33 +61,45 @@ def lex(query):
 
 
 LIMIT = str(10**38)
-TEXTS = [
+GROUPS = {
     # the words, in three spellings
+    "WORDS": [
     " ".join(GRAMMAR), " ".join(word.lower() for word in GRAMMAR), "sElEcT nUlL fRoM oRdEr uNkNoWn",
     " ".join(LEFT_OUT), " ".join(word.title() for word in LEFT_OUT),
-    # names
+    ],
+    "NAMES": [
     "a", "_", "_9", "a1_B", "selects", "SELEC", "NULLS", "dates", "selec\u00e9", "\u00e9", "a\u00e9", "9a", "a9", "a.b", "a. b",
     '"a"', '"select"', '"a b"', '"a""b"', '"\u00e9"', '""""', '""', 'a ""', '"""', '"a', '"a""', '"a" "b"', '"a"b"', '"a""b""',
     '"a\nb"', '"--"', '"\'"',
-    # strings
+    ],
+    "STRINGS": [
     "''", "'a'", "'a''b'", "''''", "'''", "'", "'x''", "'x' 'y'", "'x''y'", "'--'", "'\"'", "'\u00e9'", "'a\nb'", "SELECT a FROM t WHERE 'x",
     "'a'b'", "''a''", "'' ''",
-    # digits
+    ],
+    "DIGITS": [
     "0", "007", "12 34", "12a", str(10**38 - 1), LIMIT, "0" * 50 + "1", "0" * 50 + str(10**38 - 1), "0" * 50 + LIMIT, "9" * 39,
     "a " + LIMIT + " '", "1.5", "-1", "+1",
-    # symbols
+    ],
+    "SYMBOLS": [
     "( ) , . ; * = <> != < <= > >= + - / % ||", "(),.;*=<>!=<<=>>=+-/%||", "<=>", "<<", "<>=", "><", "!", "a ! b", "!==", "|", "a | b", "|||",
     "= =", "===", "-", "- -", "--", "a--b", "a = --1", "a -- b\nc", "--\n--\na", "-- 'x\n'y'", "---", "a- -b", "a-\n-b", "-- \u00e9", "--\ra\n b",
+    ],
     # what begins no token
+    "STRANGERS": [
     "@", "a @ b", "a\tb\r\nc", "\x0b", "\x0c", "a\x00b", "\u00a0", "a#", "[", "{", "^", "&", "~", "`", "$", ":", "?", "\\", "a\u2003b",
+    ],
     # the first of several faults
+    "SEVERAL": [
     "a @ ' # \"", "\"\" @", "'a' @ '", "@@", LIMIT + " @",
+    ],
     # whole queries
+    "WHOLE": [
     "", " ", "\n\n", "SELECT a FROM t", "select \"a\"\"b\" from t -- c", "SELECT a,, b FROM t", "SELECT a FROM t;;",
     "SELECT a FROM t WHERE a BETWEEN 1 2", "SELECT a FROM t WHERE a + 1 = 2", "SELECT a FROM t WHERE a = --1",
     "SELECT x.i, y.i FROM t AS x JOIN t AS y ON x.a = y.a", "SELECT COUNT(*), SUM(a) FROM t GROUP BY b;",
     "SELECT a FROM t WHERE a IS NULL IS NOT TRUE", "SELECT a FROM t WHERE b <> 'it''s' AND c != -7",
-]
+    ],
+}
 
 
 def literal(text):
@@ -110,10 +122,11 @@ def literal(text):
 
 def main():
     lines = ["//! Texts, and the tokens or the fault of each. `vectors/make.py` writes this file.", ""]
-    lines += ["/// A text; and what each of its tokens is, where it begins and how many bytes it has, or its fault."]
-    lines += [f"pub(crate) static TEXTS: [(&str, &str); {len(TEXTS)}] = ["]
-    lines += [f"    ({literal(text)}, {literal(lex(text))})," for text in TEXTS]
-    lines += ["];", ""]
+    lines += ["// A text; and what each of its tokens is, where it begins and how many bytes it has, or its fault.", ""]
+    for name, texts in GROUPS.items():
+        lines += [f"pub(crate) static {name}: [(&str, &str); {len(texts)}] = ["]
+        lines += [f"    ({literal(text)}, {literal(lex(text))})," for text in texts]
+        lines += ["];", ""]
     target = pathlib.Path(__file__).parent.parent / "src" / "vectors.rt"
     target.write_text("\n".join(lines))
 
