@@ -242,8 +242,8 @@ pub fn write_batch_header(alloc: Global, batch: &Batch) -> Result<Vec<u8>, Alloc
 
 /// The message of a record batch. Each buffer begins at a multiple of 8 in the body, with zeros between,
 /// no validity bits are written, the header claims all of the body, and both have a multiple of 8 bytes. A
-/// slice of a batch is written as its own rows alone. It fails with [`AllocError`] where memory is refused, as for a
-/// body of 2 to the 63 bytes or more, and with no other error.
+/// slice of a batch is written as its own rows alone. It fails with [`AllocError`] where memory is refused,
+/// as for a body of 2 to the 63 bytes or more, and with no other error.
 pub fn write_batch(alloc: Global, batch: &Batch) -> Result<WrittenMessage, AllocError>
     requires few { length batch.now.columns ≤ most_columns }
     requires full { HasNoNulls batch.now }

@@ -1,5 +1,5 @@
 -- Stored tables are plain tables, whatever their batches.
-use Rattle.std.proofs.Common.{◌≡◌, ℕ, zero, suc, Bool, true, false, if◌then◌else◌, List, [], ◌∷◌, ◌++◌, length, Option, Some, None, Result, Ok, Err, refl, sym, ap, ◌∙◌, arith, rules, nat_lt}
+use Rattle.std.proofs.Common.{◌≡◌, ℕ, zero, suc, Bool, true, false, if◌then◌else◌, List, [], ◌∷◌, ◌++◌, length, Option, Some, None, Result, Ok, Err, refl, sym, subst, ap, ◌∙◌, arith, rules, nat_lt}
 use Rattle.std.specs.List.{flat_map}
 use Rattle.std.specs.Str.{bytes_eq}
 use Rattle.std.specs.Cmp.Lexicographic.{slice_cmp}
@@ -14,7 +14,7 @@ use Rattle.table_versions.specs.declared.options.IfExists.{IfExists}
 use Rattle.table_versions.specs.declared.options.IfExists.TheVariants.{Unspecified, Fail, Append, Replace}
 use Rattle.table_versions.specs.Table.{Name}
 use Rattle.table_versions.specs.Database.{Database, table_at, with_table, table_after, faults_at, put_faults, after}
-use Rattle.table_versions.specs.Stored.{TableAt, CatalogAt, PutAt, table_of, plain, tables_of, put_of, kept, stored_after, catalog_after}
+use Rattle.table_versions.specs.Stored.{TableAt, CatalogAt, PutAt, table_of, plain, tables_of, put_of, kept, stored_after, catalog_after, RefusesFirst}
 
 -- a batch without rows adds none
 rows-kept : (batches : List BatchAt) → flat_map rows_of (kept batches) ≡ flat_map rows_of batches
@@ -116,3 +116,13 @@ module _ (catalog : CatalogAt) (n : ℕ) (put : PutAt) (there : Option TableAt) 
       ap (λ old. unless (first_fault (put_faults (tables_of catalog) n (put_of put))) (with_table put.table (stored_after put.if_exists old put) catalog)) (sym at)
       ∙ ap (λ rows. unless (first_fault rows) (with_table put.table (stored_after put.if_exists there put) catalog)) faults
       ∙ ap (λ f. unless f (with_table put.table (stored_after put.if_exists there put) catalog)) (sym h)
+
+  pub refuses_by : (fault : Fault) → Some fault ≡ first_fault (faults_at (plain there) tables n (put_of put)) →
+      RefusesFirst {X = CatalogAt} (Err fault) (catalog_after catalog n put)
+  refuses_by fault h =
+      subst (λ (read : Result CatalogAt Fault). RefusesFirst {X = CatalogAt} (Err fault) read) (sym (refused_by (Some fault) h)) refl
+
+  -- one that passes them may be answered in any way
+  pub passes_by : (result : Result CatalogAt Fault) → None ≡ first_fault (faults_at (plain there) tables n (put_of put)) →
+      RefusesFirst result (catalog_after catalog n put)
+  passes_by result h = subst (λ (read : Result CatalogAt Fault). RefusesFirst result read) (sym (refused_by None h)) tt

@@ -1,5 +1,5 @@
 -- What is stored: tables with their rows in batches, and what they are as plain lists.
-use Rattle.std.specs.Prelude.{ℕ, ◌==◌, Bool, List, ◌++◌, length, map, nat_lt, Option, Some, None, Result}
+use Rattle.std.specs.Prelude.{◌≡◌, ℕ, ◌==◌, Bool, List, ◌++◌, length, map, nat_lt, Option, Some, None, Result, Ok, Err}
 use Rattle.std.specs.List.{filter, flat_map}
 use Rattle.arrow_schema.specs.declared.schema.Schema.{Schema}
 use Rattle.arrow_schema.specs.Batch.{BatchAt, rows_of}
@@ -79,3 +79,8 @@ abbrev pub catalog_after : CatalogAt → ℕ → PutAt → Result CatalogAt Faul
 catalog_after catalog n put =
     unless (first_fault (put_faults (tables_of catalog) n (put_of put)))
     (with_table put.table (stored_after put.if_exists (table_at catalog put.table) put) catalog)
+
+-- a put that is refused is answered by its first fault, and never by want of memory
+abbrev pub RefusesFirst : {X Y : Type 0} → Result X Fault → Result Y Fault → Type 0
+RefusesFirst result (Ok x) = Unit {0}
+RefusesFirst result (Err fault) = result ≡ Err fault

@@ -10,7 +10,7 @@ ghost use Rattle.scan_base.specs.Reading.{GivesUnlessMemory, first_fault};
 ghost use Rattle.table_versions.specs.Limits.{most_name_bytes, most_rows};
 ghost use Rattle.table_versions.specs.Database.{table_after, columns_of, differs, faults_at, after};
 ghost use Rattle.table_versions.specs.Stored.{tables_of, put_of, plain, is_wide, kept};
-ghost use Rattle.table_versions.specs.Stored.{stored_after, catalog_after};
+ghost use Rattle.table_versions.specs.Stored.{stored_after, catalog_after, RefusesFirst};
 ghost use Rattle.table_versions.specs.Kept.{IsStorable};
 
 use crate::catalog::CatalogVersion;
@@ -155,7 +155,9 @@ fn made(
 }
 
 fn next_catalog(alloc: Global, snapshot: &Snapshot, put: Put) -> Result<CatalogVersion, Fault>
-    ensures { GivesUnlessMemory (λ catalog. catalog) result
+    ensures exact { GivesUnlessMemory (λ catalog. catalog) result
+        (catalog_after snapshot.now.catalog snapshot.now.number put) }
+    ensures refused { RefusesFirst result
         (catalog_after snapshot.now.catalog snapshot.now.number put) }
 {
     let catalog = snapshot.catalog();
@@ -190,12 +192,15 @@ fn next_catalog(alloc: Global, snapshot: &Snapshot, put: Put) -> Result<CatalogV
 ///   would have more than 16,777,216 rows, for a 257th table, and for a put behind 65,536 accepted
 ///   ones.
 ///
-/// F21 (`Fault::OutOfMemory`) is answered where memory is refused.
+/// F21 (`Fault::OutOfMemory`) is answered where memory is refused, and not for a put that is refused: to
+/// check it takes no memory.
 pub fn apply(alloc: Global, snapshot: &Snapshot, put: Put) -> Result<CatalogVersion, Fault>
     ensures batches { GivesUnlessMemory (λ catalog. catalog) result
         (catalog_after snapshot.now.catalog snapshot.now.number put) }
     ensures rows { GivesUnlessMemory tables_of result
         (after (tables_of snapshot.now.catalog) snapshot.now.number (put_of put)) }
+    ensures refused { RefusesFirst result
+        (catalog_after snapshot.now.catalog snapshot.now.number put) }
 {
     next_catalog(alloc, snapshot, put)
 }

@@ -3,11 +3,11 @@ use Rattle.std.specs.Option.{option_copied}
 use Rattle.scan_base.specs.Reading.{first_fault}
 use Rattle.table_versions.specs.Database.{table_at, with_table, faults_at}
 use Rattle.table_versions.specs.Stored.{plain, put_of, stored_after, CatalogAt}
-use Rattle.table_versions.proofs.Stores.{refused_by}
+use Rattle.table_versions.proofs.Stores.{refused_by, refuses_by, passes_by}
 use Rattle.table_versions.proofs.commit.next_catalog.Goals as goal
 
-pub returns-in-Some : goal.returns-in-Some
-returns-in-Some c =
+pub returns-in-Some-clause-exact : goal.returns-in-Some-clause-exact
+returns-in-Some-clause-exact c =
     let catalog = c.args.snapshot.now.catalog in
     let there = option_copied c.get-old.result in
     let at : there ≡ table_at catalog c.args.put.table = search rules in
@@ -15,8 +15,8 @@ returns-in-Some c =
     let refused : Some c.in-Some.fault ≡ first_fault (faults_at (plain there) c.len.result c.args.snapshot.now.number (put_of c.args.put)) = search rules in
     λ _. refused_by catalog c.args.snapshot.now.number c.args.put there c.len.result at count (Some c.in-Some.fault) refused
 
-pub returns : goal.returns
-returns c =
+pub returns-clause-exact : goal.returns-clause-exact
+returns-clause-exact c =
     let catalog = c.args.snapshot.now.catalog in
     let there = option_copied c.get-old.result in
     let at : there ≡ table_at catalog c.args.put.table = search rules in
@@ -24,3 +24,39 @@ returns c =
     let passes : None ≡ first_fault (faults_at (plain there) c.len.result c.args.snapshot.now.number (put_of c.args.put)) = search rules in
     let new : c.in_ok-with.field-0 ≡ with_table c.args.put.table (stored_after c.args.put.if_exists there c.args.put) catalog = search rules in
     refused_by catalog c.args.snapshot.now.number c.args.put there c.len.result at count None passes ∙ ap (λ (new : CatalogAt). Ok new) (sym new)
+
+pub returns-in-Some-clause-refused : goal.returns-in-Some-clause-refused
+returns-in-Some-clause-refused c =
+    let catalog = c.args.snapshot.now.catalog in
+    let there = option_copied c.get-old.result in
+    let at : there ≡ table_at catalog c.args.put.table = search rules in
+    let count : c.len.result ≡ length catalog = c.len.ensures.count ∙ ap (λ (c : CatalogAt). length c) c.catalog-catalog.ensures in
+    let refused : Some c.in-Some.fault ≡ first_fault (faults_at (plain there) c.len.result c.args.snapshot.now.number (put_of c.args.put)) = search rules in
+    refuses_by catalog c.args.snapshot.now.number c.args.put there c.len.result at count c.in-Some.fault refused
+
+pub returns-clause-refused : goal.returns-clause-refused
+returns-clause-refused c =
+    let catalog = c.args.snapshot.now.catalog in
+    let there = option_copied c.get-old.result in
+    let at : there ≡ table_at catalog c.args.put.table = search rules in
+    let count : c.len.result ≡ length catalog = c.len.ensures.count ∙ ap (λ (c : CatalogAt). length c) c.catalog-catalog.ensures in
+    let passes : None ≡ first_fault (faults_at (plain there) c.len.result c.args.snapshot.now.number (put_of c.args.put)) = search rules in
+    passes_by catalog c.args.snapshot.now.number c.args.put there c.len.result at count _ passes
+
+pub returns-in_err-name-clause-refused : goal.returns-in_err-name-clause-refused
+returns-in_err-name-clause-refused c =
+    let catalog = c.args.snapshot.now.catalog in
+    let there = option_copied c.get-old.result in
+    let at : there ≡ table_at catalog c.args.put.table = search rules in
+    let count : c.len.result ≡ length catalog = c.len.ensures.count ∙ ap (λ (c : CatalogAt). length c) c.catalog-catalog.ensures in
+    let passes : None ≡ first_fault (faults_at (plain there) c.len.result c.args.snapshot.now.number (put_of c.args.put)) = search rules in
+    passes_by catalog c.args.snapshot.now.number c.args.put there c.len.result at count _ passes
+
+pub returns-in_err-with-clause-refused : goal.returns-in_err-with-clause-refused
+returns-in_err-with-clause-refused c =
+    let catalog = c.args.snapshot.now.catalog in
+    let there = option_copied c.get-old.result in
+    let at : there ≡ table_at catalog c.args.put.table = search rules in
+    let count : c.len.result ≡ length catalog = c.len.ensures.count ∙ ap (λ (c : CatalogAt). length c) c.catalog-catalog.ensures in
+    let passes : None ≡ first_fault (faults_at (plain there) c.len.result c.args.snapshot.now.number (put_of c.args.put)) = search rules in
+    passes_by catalog c.args.snapshot.now.number c.args.put there c.len.result at count _ passes
