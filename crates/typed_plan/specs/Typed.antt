@@ -6,6 +6,7 @@ use Rattle.arrow_schema.specs.declared.data_type.DataType.TheVariants.{Utf8}
 use Rattle.arrow_schema.specs.declared.schema.Field.{Field}
 use Rattle.arrow_schema.specs.declared.schema.Schema.{Schema}
 use Rattle.scan_base.specs.declared.fault.Fault.{Fault}
+use Rattle.scan_base.specs.Predicate.{Pred, names_only}
 use Rattle.scan_base.specs.declared.fault.Fault.TheVariants.{UnknownName}
 use Rattle.table_versions.specs.Database.{Database, table_at, columns_of}
 use Rattle.typed_plan.specs.declared.class.Class.{Class}
@@ -62,3 +63,9 @@ pub record IsTyped (plan : PlanAt) : Type 0 where
 abbrev pub IsOver : Tree → Database → Type 0
 IsOver (scan table schema columns) database = columns_of (table_at database table) ≡ Some schema
 IsOver (filtered predicate tree) database = IsOver tree database
+
+-- a predicate that is well typed over columns of these types names columns that are there
+abbrev pub TypedPredicatesNameColumns : Type 0
+TypedPredicatesNameColumns =
+    (types : List DataType) (predicate : Pred ℕ) → predicate_fault (class_of_number types) predicate ≡ None →
+    IsTrue (names_only (λ column. nat_lt column (length types)) predicate)

@@ -1,9 +1,16 @@
-//! What holds of every query. Each law is a function whose contract says it.
+//! What holds of every query and plan. Each law is a function whose contract says it.
 
 ghost use Rattle.typed_plan.specs.Meaning.{RangesJoin};
+ghost use Rattle.typed_plan.specs.Typed.{TypedPredicatesNameColumns};
 
 /// Two neighboring ranges of a query that is not grouped give the rows of the range that they make
 /// up.
 pub fn ranges_join()
     ensures { RangesJoin }
+{}
+
+/// A predicate that is well typed over columns of some types names columns that are there, so it has
+/// a truth in each row that has these columns.
+pub fn typed_predicates_name_columns()
+    ensures { TypedPredicatesNameColumns }
 {}

@@ -4,7 +4,7 @@ ghost use Rattle.std.specs.Prelude.{◌≡◌, length, IfOk, IsTrue};
 ghost use Rattle.arrow_schema.specs.Header.{is_built, is_long};
 ghost use Rattle.arrow_schema.specs.Schema.{IsField, IsSchema};
 
-use crate::laws::ranges_join;
+use crate::laws::{ranges_join, typed_predicates_name_columns};
 use crate::{Class, Columns, MAX_COLUMNS, Output, Plan, TypedPlan, bind};
 use arrow_schema::{DataType, Field, IntegerType, Schema};
 use scan_base::{Comparison, Fault, Items, Operand, Predicate, Text, Value};
@@ -129,6 +129,7 @@ fn a_filtered_column(rt: HostRuntime) -> Result<(), Fail> {
         (Some((1, 0)), Some("t"), Some("b"))
     );
     ranges_join();
+    typed_predicates_name_columns();
     Ok(())
 }
 
