@@ -1,2 +1,4 @@
 pub mod Flags
 pub mod Laws
+pub mod Rules
+pub mod Lawfulness
