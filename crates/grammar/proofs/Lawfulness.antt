@@ -1,13 +1,13 @@
 -- Reading by a rule is lawful.
-use Rattle.std.proofs.Common.{◌≡◌, ℕ, zero, suc, Bool, true, false, cond, ◌&&◌, ◌||◌, not, ◌⊎◌, inl, inr, List, [], ◌∷◌, ◌++◌, Option, Some, None, refl, sym, ◌∙◌, ap, subst}
+use Rattle.std.proofs.Common.{◌≡◌, Bool, true, false, cond, ◌&&◌, ◌||◌, not, ◌⊎◌, inl, inr, List, [], ◌∷◌, ◌++◌, Option, Some, None, refl, sym, ◌∙◌, ap, subst}
 use Rattle.std.specs.Prelude.{is_some}
-use Rattle.grammar.specs.Rule.{Rule, one, empty, both, either, many, make, opened, again, Language, Repeats, Spells, Nowhere}
-use Rattle.grammar.specs.Reading.{Outcome, Read, Stuck, Over, Reader, and_then, nullable, starts, begins, taken, followed, chosen, made, nested, entered, reads, well_made, is_guarded, is_deep}
+use Rattle.grammar.specs.Rule.{Rule, one, empty, both, either, many, make, opened, again, Language, Spells}
+use Rattle.grammar.specs.Reading.{Over, Reader, nullable, starts, begins, taken, followed, chosen, made, nested, entered, reads, well_made, is_guarded, is_deep}
 use Rattle.grammar.proofs.Flags.{and-left, and-right, not-true, or-and-left, or-and-right}
 use Rattle.grammar.proofs.Laws.{IsOver, Fair, Lawful, Within, Speaks, Solid, Both, Image, One, both_fair, switch, made_fair, empty_fair, one_fair, chosen_fair, many_fair, begins-first}
 use Rattle.grammar.proofs.Rules.{wider, speaks, speaks_flat, solid_of}
 
-begins_next : {K V : Type 0} (p : K → Bool) (t : K × V) (ts : List (K × V)) → begins p (t ∷ ts) ≡ p t.0
+pub begins_next : {K V : Type 0} (p : K → Bool) (t : K × V) (ts : List (K × V)) → begins p (t ∷ ts) ≡ p t.0
 unfolding begins
 begins_next p t ts = refl
 

@@ -1,5 +1,5 @@
 -- What a reader keeps to, and that the ways to put readers together keep it.
-use Rattle.std.proofs.Common.{◌≡◌, ℕ, zero, suc, ◌+◌, ◌<◌, ◌≤◌, Bool, true, false, cond, ◌&&◌, ◌||◌, not, ◌⊎◌, List, [], ◌∷◌, ◌++◌, length, Option, Some, None, refl, sym, ◌∙◌, inl, inr, ap, subst, append_assoc, arith, length-append}
+use Rattle.std.proofs.Common.{◌≡◌, ℕ, zero, suc, ◌<◌, ◌≤◌, Bool, true, false, cond, ◌⊎◌, List, [], ◌∷◌, ◌++◌, length, Option, Some, None, refl, sym, ◌∙◌, inl, inr, ap, subst, append_assoc, arith, length-append}
 use Rattle.grammar.specs.Rule.{Language, Repeats}
 use Rattle.grammar.specs.Reading.{Outcome, Read, Stuck, Over, Reader, and_then, begins, kept, taken, followed, chosen, made, repeats, repeated, token}
 

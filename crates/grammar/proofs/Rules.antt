@@ -1,10 +1,9 @@
 -- What each rule spells: more where the recursive nonterminal spells more, something at all, and what its sentences begin with.
-use Rattle.std.proofs.Common.{◌≡◌, ℕ, zero, suc, Bool, true, false, cond, ◌&&◌, ◌||◌, not, ◌⊎◌, inl, inr, List, [], ◌∷◌, ◌++◌, Option, Some, None, refl, sym, ◌∙◌, ap, subst}
+use Rattle.std.proofs.Common.{◌≡◌, Bool, true, false, cond, ◌&&◌, ◌||◌, not, ◌⊎◌, inl, inr, List, [], ◌∷◌, ◌++◌, refl, subst}
 use Rattle.std.specs.Prelude.{is_some}
-use Rattle.std.specs.List.{list_all}
 use Rattle.grammar.specs.Rule.{Rule, one, empty, both, either, many, make, opened, again, Language, Repeats, Spells, Nowhere}
 use Rattle.grammar.specs.Reading.{nullable, starts, well_made, is_guarded, is_deep, covers, disjoint, determined}
-use Rattle.grammar.proofs.Flags.{and-left, and-right, not-true, or-inl, or-inr, and-both, if_null, if_first, some_of}
+use Rattle.grammar.proofs.Flags.{and-left, and-right, or-inl, or-inr, and-both, if_null, if_first, some_of}
 use Rattle.grammar.proofs.Laws.{Speaks, Solid, Within}
 
 -- ---- more sentences of the recursive nonterminal, more of each rule

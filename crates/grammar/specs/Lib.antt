@@ -1,3 +1,3 @@
 pub mod Rule
-pub mod Sentence
 pub mod Reading
+pub mod Sentence

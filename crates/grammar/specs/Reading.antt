@@ -1,5 +1,5 @@
 -- Reading by a grammar from the left, with one token to look ahead at.
-use Rattle.std.specs.Prelude.{◌≡◌, ℕ, zero, suc, Bool, true, false, cond, ◌&&◌, ◌||◌, not, List, [], ◌∷◌, ◌++◌, length, Option, Some, None, is_some}
+use Rattle.std.specs.Prelude.{ℕ, zero, suc, Bool, true, false, cond, ◌&&◌, ◌||◌, not, List, [], ◌∷◌, length, Option, Some, None, is_some}
 use Rattle.std.specs.List.{list_all}
 use Rattle.grammar.specs.Rule.{Rule, one, empty, both, either, many, make, opened, again}
 
