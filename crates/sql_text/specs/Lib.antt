@@ -1,1 +1,5 @@
-
+pub mod Words
+pub mod Values
+pub mod Standard
+pub mod Reading
+pub mod Calls

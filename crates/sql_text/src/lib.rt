@@ -1,6 +1,7 @@
 //! The tokens of a query: words, delimited names, strings, digits and symbols.
 #![tactic(auto)]
 
+mod front;
 pub mod symbol;
 pub mod token;
 pub mod word;

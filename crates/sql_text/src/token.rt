@@ -1,5 +1,8 @@
 //! The tokens of a query.
 
+ghost use Rattle.std.specs.Prelude.{◌≡◌};
+ghost use Rattle.sql_text.specs.Words.{is_left_out};
+
 use crate::symbol::Symbol;
 use crate::word::Keyword;
 
@@ -20,6 +23,30 @@ pub enum TokenKind {
     Digits,
     /// One or two punctuation marks.
     Symbol(Symbol),
+}
+
+impl TokenKind {
+    /// Whether SQL has such a token where this server leaves it out: a word that is left out, or an
+    /// operator of arithmetic or `||`. The words `NULL` and `DATE` are left out but for their place in the
+    /// grammar.
+    pub fn is_left_out(self) -> bool
+        ensures { result ≡ is_left_out self }
+    {
+        match self {
+            TokenKind::LeftOut => true,
+            TokenKind::Keyword(word) => matches!(word, Keyword::Null | Keyword::Date),
+            TokenKind::Symbol(mark) => matches!(
+                mark,
+                Symbol::Plus
+                    | Symbol::Minus
+                    | Symbol::Asterisk
+                    | Symbol::Solidus
+                    | Symbol::Percent
+                    | Symbol::Concatenation
+            ),
+            _ => false,
+        }
+    }
 }
 
 /// A token of a query.

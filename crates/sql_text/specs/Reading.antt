@@ -1,0 +1,129 @@
+-- The tokens of a text, read from its front, or the fault.
+use Rattle.std.specs.Prelude.{ℕ, zero, suc, ◌+◌, ◌==◌, ◌&&◌, nat_le, Option, Some, None, option_and_then, Result, Ok, Err, List, [], ◌∷◌, ◌++◌, length, take, drop, if◌then◌else◌}
+use Rattle.std.specs.Char.{is_ascii_digit}
+use Rattle.std.specs.List.{prefix_len}
+use Rattle.std.specs.Str.{byte}
+use Rattle.scan_base.specs.declared.fault.Fault.{Fault}
+use Rattle.scan_base.specs.declared.fault.Fault.TheVariants.{LimitReached, BadSql}
+use Rattle.scan_base.specs.Reading.{◌>>=◌, demand, wanted}
+use Rattle.sql_text.specs.declared.front.Front.{Front}
+use Rattle.sql_text.specs.declared.symbol.Symbol.{Symbol}
+use Rattle.sql_text.specs.declared.symbol.Symbol.TheVariants as symbol
+use Rattle.sql_text.specs.declared.token.TokenKind.{TokenKind}
+use Rattle.sql_text.specs.declared.token.TokenKind.TheVariants as kind
+use Rattle.sql_text.specs.Words.{word_kind}
+use Rattle.sql_text.specs.Values.{is_small}
+use Rattle.sql_text.specs.Standard.{begins_word, continues_word, is_separator, continues_comment, Lexeme, token_here}
+
+-- ---- what stands at the front, sound
+
+abbrev pub space : ℕ → Option Front
+space len = Some (record { kind = None; len = len })
+
+abbrev pub token : TokenKind → ℕ → Option Front
+token kind len = Some (record { kind = Some kind; len = len })
+
+-- The number of bytes up to the quote that closes, with it, where a piece of a value of `at` bytes stands
+-- before these. A quote that another follows is one of the value.
+abbrev pub closed_at : ℕ → ℕ → List ℕ → Option ℕ
+closed_at quote at [] = None
+closed_at quote at (b ∷ []) = if b == quote then Some (at + 1) else None
+closed_at quote at (b ∷ c ∷ bytes) =
+    if b == quote then (if c == quote then closed_at quote (at + 2) bytes else Some (at + 1))
+    else closed_at quote (at + 1) (c ∷ bytes)
+
+-- a string, behind its opening quote
+abbrev pub string_front : List ℕ → Option Front
+string_front bytes = option_and_then (λ (len : ℕ). token kind.String (1 + len)) (closed_at (byte "'") 0 bytes)
+
+-- a delimited name, behind its opening quote; it is not empty
+abbrev pub delimited_front : List ℕ → Option Front
+delimited_front bytes =
+    option_and_then (λ (len : ℕ). if len == 1 then None else token kind.DelimitedName (1 + len)) (closed_at (byte "\"") 0 bytes)
+
+abbrev pub word_front : List ℕ → Option Front
+word_front bytes =
+    let len = prefix_len continues_word bytes in token (word_kind (take len bytes)) len
+
+abbrev pub digits_front : List ℕ → Option Front
+digits_front bytes =
+    let len = prefix_len is_ascii_digit bytes in
+    if is_small (take len bytes) then token kind.Digits len else None
+
+-- a comment, behind the two signs
+abbrev pub comment_front : List ℕ → Option Front
+comment_front bytes = space (2 + prefix_len continues_comment bytes)
+
+-- the symbol that two bytes are
+unfoldable pub pair : ℕ → ℕ → Option Symbol
+pair first second =
+    if first == byte "<" then
+    (if second == byte ">" then Some symbol.NotEqual
+    else (if second == byte "=" then Some symbol.LessOrEqual else None))
+    else (if first == byte ">" then (if second == byte "=" then Some symbol.GreaterOrEqual else None)
+    else (if first == byte "!" then (if second == byte "=" then Some symbol.NotEqual else None)
+    else (if first == byte "|" then (if second == byte "|" then Some symbol.Concatenation else None)
+    else None)))
+
+-- the symbol that one byte is
+unfoldable pub single : ℕ → Option Symbol
+single first =
+    if first == byte "(" then Some symbol.LeftParenthesis
+    else (if first == byte ")" then Some symbol.RightParenthesis
+    else (if first == byte "," then Some symbol.Comma
+    else (if first == byte "." then Some symbol.Period
+    else (if first == byte ";" then Some symbol.Semicolon
+    else (if first == byte "*" then Some symbol.Asterisk
+    else (if first == byte "=" then Some symbol.Equal
+    else (if first == byte "<" then Some symbol.Less
+    else (if first == byte ">" then Some symbol.Greater
+    else (if first == byte "+" then Some symbol.Plus
+    else (if first == byte "-" then Some symbol.Minus
+    else (if first == byte "/" then Some symbol.Solidus
+    else (if first == byte "%" then Some symbol.Percent
+    else None))))))))))))
+
+abbrev pub one_mark : ℕ → Option Front
+one_mark first = option_and_then (λ (mark : Symbol). token (kind.Symbol mark) 1) (single first)
+
+abbrev pub two_marks : ℕ → Option Symbol → Option Front
+two_marks first (Some mark) = token (kind.Symbol mark) 2
+two_marks first None = one_mark first
+
+-- a comment, or the longest symbol
+unfoldable pub mark_front : ℕ → List ℕ → Option Front
+mark_front first [] = one_mark first
+mark_front first (second ∷ bytes) =
+    if (first == byte "-") && (second == byte "-") then comment_front bytes
+    else two_marks first (pair first second)
+
+-- what stands at the front; none, where that is a fault
+unfoldable pub front_at : List ℕ → Option Front
+front_at [] = None
+front_at (first ∷ bytes) =
+    if begins_word first then word_front (first ∷ bytes)
+    else (if is_ascii_digit first then digits_front (first ∷ bytes)
+    else (if is_separator first then space 1
+    else (if first == byte "\"" then delimited_front bytes
+    else (if first == byte "'" then string_front bytes
+    else mark_front first bytes))))
+
+-- ---- the tokens
+
+-- the tokens of bytes, of which the first begins at `start`, where they are at most so many pieces
+unfoldable pub tokens_within : ℕ → ℕ → List ℕ → Result (List Lexeme) Fault
+tokens_within most start [] = Ok []
+tokens_within zero start (b ∷ bytes) = Err (BadSql start)
+tokens_within (suc most) start (b ∷ bytes) = do
+  front ← wanted (front_at (b ∷ bytes)) (BadSql start)
+  more ← tokens_within most (start + front.len) (drop front.len (b ∷ bytes))
+  Ok (token_here front.kind start (take front.len (b ∷ bytes)) ++ more)
+
+-- the tokens of bytes, of which the first begins at `start`: each piece has a byte, so there are no more
+-- pieces than bytes
+unfoldable pub tokens_from : ℕ → List ℕ → Result (List Lexeme) Fault
+tokens_from start bytes = tokens_within (length bytes) start bytes
+
+-- the tokens of a query's text, which has at most 16,384 bytes
+unfoldable pub tokens_in : List ℕ → Result (List Lexeme) Fault
+tokens_in text = demand (nat_le (length text) 16384) LimitReached >>= λ _. tokens_from 0 text
