@@ -1,0 +1,4 @@
+pub mod Sentence
+pub mod Tokens
+pub mod Productions
+pub mod Factored

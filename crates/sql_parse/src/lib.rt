@@ -1,0 +1,8 @@
+//! Parsing a query: the sentence that its tokens are, or the first fault.
+#![tactic(auto)]
+
+pub mod tree;
+
+pub use crate::tree::{
+    ColumnName, Equality, Join, Place, Query, SelectItem, SelectList, Selected,
+};
