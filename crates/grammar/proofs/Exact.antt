@@ -84,26 +84,33 @@ module _ {K V P : Type 0} (kinds : List K) (rule : Rule K V P P) (s after : K �
           subst (λ (z : List (K × V)). Spells (Nested rule d) top z v) same_front p.spells,
           λ w q. let a : Read w [] ≡ Read v [] = differs (reads (Some (read rule d)) top ts) (Read v []) (Read w []) e (meets d ts w q) in cc,
         )
-    tells d ts (Read v (t ∷ rest)) e p = (p.front, record {
+    tells d ts (Read v (t ∷ rest)) e p = record {
+      front = p.front;
       splits = p.splits;
       begins = ([], v, subst (λ (z : List (K × V)). Spells (Nested rule d) top z v) (sym (nil_right p.front)) p.spells);
       ends = λ more w q. let a : Read w [] ≡ Read v (t ∷ more) = differs (reads (Some (read rule d)) top (p.front ++ t ∷ more)) (Read v (t ∷ more)) (Read w []) (p.local (t ∷ more) refl) (meets d (p.front ++ t ∷ more) w q) in cc;
-    })
-    tells d ts (Stuck []) e p = (p.front, record {
+    }
+    tells d ts (Stuck []) e p = record {
+      front = p.front;
       splits = p.splits;
       begins = (p.more, p.value, p.goes_on);
       ends = λ w q. let a : Read w [] ≡ Stuck [] = differs (reads (Some (read rule d)) top (p.front ++ [])) (Stuck []) (Read w []) (p.local [] refl) (meets d (p.front ++ []) w (subst (λ (z : List (K × V)). All z w) (sym (nil_right p.front)) q)) in cc;
-    })
-    tells d ts (Stuck (t ∷ place)) e p = (p.front, record {
+    }
+    tells d ts (Stuck (t ∷ place)) e p = record {
+      front = p.front;
       splits = p.splits;
       begins = (p.more, p.value, p.goes_on);
       ends = λ more w q. let a : Read w [] ≡ Stuck (t ∷ more) = differs (reads (Some (read rule d)) top (p.front ++ t ∷ more)) (Stuck (t ∷ more)) (Read w []) (p.local (t ∷ more) refl) (meets d (p.front ++ t ∷ more) w q) in cc;
-    })
-    tells d ts Over e p = (p.front, p.opener, p.rest, record {
-      splits = p.splits;
+    }
+    tells d ts Over e p = record {
+      front = p.front ++ p.opener ∷ [];
+      rest = p.rest;
+      splits = p.splits ∙ sym (append_assoc p.front (p.opener ∷ []) p.rest);
       begins = (p.more, p.value, subst (λ (z : List (K × V)). All z p.value) (sym (append_assoc p.front (p.opener ∷ []) p.more)) p.goes_on);
-      ends = λ more w q. let a : Over ≡ Read w [] = sym (p.local more) ∙ found_at d (p.front ++ p.opener ∷ more) w q in cc;
-    })
+      passes = λ b.
+          let q : Spells (Nested rule d) top (p.front ++ p.opener ∷ b.0) b.1 = subst (λ (z : List (K × V)). Spells (Nested rule d) top z b.1) (append_assoc p.front (p.opener ∷ []) b.0) b.2 in
+          let a : Over ≡ Read b.1 [] = sym (p.local b.0) ∙ found_at d (p.front ++ p.opener ∷ b.0) b.1 q in cc;
+    }
 
     pub exact : (d : ℕ) (ts : List (K × V)) → Tells (Spells (Nested rule d) top) All ts (wholly (reads (Some (read rule d)) top ts))
     exact d ts = tells d ts (reads (Some (read rule d)) top ts) refl (law_of top d top_made_well ts)

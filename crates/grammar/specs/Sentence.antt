@@ -1,4 +1,4 @@
--- The beginnings of sentences, the token that offends, and the one with which a limit is passed.
+-- The beginnings of sentences, the token that offends, and the tokens that pass a limit.
 use Rattle.std.specs.Prelude.{◌≡◌, List, [], ◌∷◌, ◌++◌}
 use Rattle.grammar.specs.Rule.{Language}
 use Rattle.grammar.specs.Reading.{Outcome, Read, Stuck, Over}
@@ -12,20 +12,23 @@ abbrev pub NoneGoesOn : {T A : Type 0} → Language T A → List T → List T �
 NoneGoesOn {T} {A} L front [] = (v : A) → L front v → ⊥
 NoneGoesOn {T} {A} L front (t ∷ ts) = (more : List T) (v : A) → L (front ++ t ∷ more) v → ⊥
 
--- The first token of the place offends: the tokens before it begin a sentence of L, and with it they begin none of M.
-pub record Offends {T A : Type 0} (L M : Language T A) (ts front place : List T) : Type 0 where
+-- The first token of the place offends: the tokens before it begin a sentence within the limit, and with it they begin none at all.
+pub record Offends {T A : Type 0} (Limited Whole : Language T A) (ts place : List T) : Type 0 where
+  pub front : List T
   pub splits : ts ≡ front ++ place
-  pub begins : Begins L front
-  pub ends : NoneGoesOn M front place
+  pub begins : Begins Limited front
+  pub ends : NoneGoesOn Whole front place
 
--- The token t passes a limit: with it the tokens before it begin a sentence of M, and none of L, which are those within the limit.
-pub record Exceeds {T A : Type 0} (L M : Language T A) (ts front : List T) (t : T) (rest : List T) : Type 0 where
-  pub splits : ts ≡ front ++ t ∷ rest
-  pub begins : Begins M (front ++ t ∷ [])
-  pub ends : NoneGoesOn L front (t ∷ rest)
+-- The tokens of the front pass the limit: they begin a sentence, and none within the limit.
+pub record Exceeds {T A : Type 0} (Limited Whole : Language T A) (ts : List T) : Type 0 where
+  pub front : List T
+  pub rest : List T
+  pub splits : ts ≡ front ++ rest
+  pub begins : Begins Whole front
+  pub passes : Begins Limited front → ⊥
 
--- what reading has to tell, where M are the sentences, and L those within the limit
+-- what reading has to tell
 abbrev pub Tells : {T A : Type 0} → Language T A → Language T A → List T → Outcome T A → Type 0
-Tells {T} {A} L M ts (Read v rest) = L ts v × ((w : A) → M ts w → w ≡ v)
-Tells {T} L M ts (Stuck place) = (front : List T) × Offends L M ts front place
-Tells {T} L M ts Over = (front : List T) × (t : T) × (rest : List T) × Exceeds L M ts front t rest
+Tells {T} {A} Limited Whole ts (Read v rest) = Limited ts v × ((w : A) → Whole ts w → w ≡ v)
+Tells Limited Whole ts (Stuck place) = Offends Limited Whole ts place
+Tells Limited Whole ts Over = Exceeds Limited Whole ts
