@@ -2,3 +2,5 @@ pub mod Sentence
 pub mod Tokens
 pub mod Productions
 pub mod Factored
+pub mod Answers
+pub mod Steps

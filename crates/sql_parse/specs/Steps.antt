@@ -1,0 +1,93 @@
+-- The grammar's rules, step by step.
+use Rattle.std.specs.Prelude.{◌≡◌, ℕ, zero, suc, ◌-◌, ◌==◌, ◌||◌, Bool, true, false, cond, if◌then◌else◌, List, [], ◌∷◌, ◌++◌, length, Option, Some, None, Result, Ok, Err, ℤ}
+use Rattle.scan_base.specs.declared.comparison.Comparison.{Comparison}
+use Rattle.scan_base.specs.declared.comparison.Comparison.TheVariants as comparison
+use Rattle.scan_base.specs.declared.truth.Truth.{Truth}
+use Rattle.scan_base.specs.declared.truth.Truth.TheVariants as truth
+use Rattle.scan_base.specs.declared.value.Value.{Value}
+use Rattle.scan_base.specs.declared.value.Value.TheVariants as value
+use Rattle.scan_base.specs.declared.predicate.Operand.{Operand}
+use Rattle.scan_base.specs.declared.predicate.Operand.TheVariants.{Column, Literal}
+use Rattle.scan_base.specs.Predicate.{Pred, conjunction, disjunction, negation, truth_test, comparing, between, membership, null_test}
+use Rattle.sql_text.specs.declared.word.Keyword.{Keyword}
+use Rattle.sql_text.specs.declared.word.Keyword.TheVariants as word
+use Rattle.sql_text.specs.declared.symbol.Symbol.{Symbol}
+use Rattle.sql_text.specs.declared.symbol.Symbol.TheVariants as symbol
+use Rattle.sql_text.specs.declared.token.TokenKind.{TokenKind}
+use Rattle.grammar.specs.Rule.{Rule, many}
+use Rattle.grammar.specs.Reading.{Reader, begins, token, taken, reads, read}
+use Rattle.sql_parse.specs.declared.tree.ColumnName.{ColumnName}
+use Rattle.sql_parse.specs.declared.refusal.Refusal.{Refusal}
+use Rattle.sql_parse.specs.declared.refusal.Refusal.TheVariants as refusal
+use Rattle.sql_parse.specs.Tokens.{Mark, is_word, is_symbol, is_name, is_string, is_digits, name_in, unquoted, number_in}
+use Rattle.sql_parse.specs.Answers.{Answer, seen, ◌>>=◌}
+use Rattle.sql_parse.specs.Productions.{Condition, a_word, a_symbol, ◌⊳◌, column_name, signed, operand, joined, inner, conj, digits}
+use Rattle.sql_parse.specs.Factored.{factor, test, primary}
+
+unfoldable pub at : (TokenKind → Bool) → List Mark → Bool
+at p ts = begins p ts
+
+unfoldable pub token_at : (TokenKind → Bool) → List Mark → Answer Mark
+token_at p ts = seen (token p ts)
+
+-- ---- operands
+
+unfoldable pub name_at : List Mark → Answer (List ℕ)
+name_at ts = do
+  t ← token_at is_name ts
+  Ok (name_in t.0.0 t.0.1.1, t.1)
+
+unfoldable pub column_at : List Mark → Answer ColumnName
+column_at ts = do
+  a ← name_at ts
+  if at (is_symbol symbol.Period) a.1 then (do
+    d ← token_at (is_symbol symbol.Period) a.1
+    b ← name_at d.1
+    Ok (column_name a.0 (Some b.0), b.1)) else Ok (column_name a.0 None, a.1)
+
+unfoldable pub minus_at : List Mark → Answer Bool
+minus_at ts =
+    if at (is_symbol symbol.Minus) ts then (do
+      t ← token_at (is_symbol symbol.Minus) ts
+      Ok (true, t.1)) else (if at (is_symbol symbol.Plus) ts then (do
+        t ← token_at (is_symbol symbol.Plus) ts
+        Ok (false, t.1)) else Ok (false, ts))
+
+unfoldable pub digits_at : List Mark → Answer ℤ
+digits_at ts = seen (taken is_digits number_in ts)
+
+unfoldable pub number_at : List Mark → Answer Value
+number_at ts = do
+  m ← minus_at ts
+  n ← digits_at m.1
+  Ok (value.Int (signed m.0 n.0), n.1)
+
+unfoldable pub operand_at : List Mark → Answer (Operand ColumnName)
+operand_at ts =
+    if at is_name ts then (do
+      c ← column_at ts
+      Ok (Column c.0, c.1)) else (if at is_string ts then (do
+        t ← token_at is_string ts
+        Ok (Literal (value.Text (unquoted t.0.1.1)), t.1)) else (if at (is_word word.True) ts then (do
+          t ← token_at (is_word word.True) ts
+          Ok (Literal (value.Bool true), t.1)) else (if at (is_word word.False) ts then (do
+            t ← token_at (is_word word.False) ts
+            Ok (Literal (value.Bool false), t.1)) else (do
+              n ← number_at ts
+              Ok (Literal n.0, n.1)))))
+
+unfoldable pub compare_at : List Mark → Answer Comparison
+compare_at ts =
+    if at (is_symbol symbol.Equal) ts then (do
+      t ← token_at (is_symbol symbol.Equal) ts
+      Ok (comparison.Equal, t.1)) else (if at (is_symbol symbol.NotEqual) ts then (do
+        t ← token_at (is_symbol symbol.NotEqual) ts
+        Ok (comparison.NotEqual, t.1)) else (if at (is_symbol symbol.Less) ts then (do
+          t ← token_at (is_symbol symbol.Less) ts
+          Ok (comparison.Less, t.1)) else (if at (is_symbol symbol.LessOrEqual) ts then (do
+            t ← token_at (is_symbol symbol.LessOrEqual) ts
+            Ok (comparison.LessOrEqual, t.1)) else (if at (is_symbol symbol.Greater) ts then (do
+              t ← token_at (is_symbol symbol.Greater) ts
+              Ok (comparison.Greater, t.1)) else (do
+                t ← token_at (is_symbol symbol.GreaterOrEqual) ts
+                Ok (comparison.GreaterOrEqual, t.1))))))
