@@ -1,3 +1,4 @@
 pub mod Everywhere
 pub mod Conditions
+pub mod Whole
 pub mod Steps

@@ -7,8 +7,16 @@ use Rattle.sql_text.specs.declared.token.TokenKind.{TokenKind}
 use Rattle.grammar.specs.Reading.{Outcome, Read, Stuck, Over, Reader, and_then, reads, read, token, begins, starts}
 use Rattle.sql_parse.specs.Tokens.{Mark, is_word, is_symbol, is_name}
 use Rattle.sql_parse.specs.Answers.{Answer, seen, ◌>>=◌}
-use Rattle.sql_parse.specs.Productions.{Condition, name, column, minus, digits, number, string, operand, compare}
-use Rattle.sql_parse.specs.Steps.{at, token_at, name_at, column_at, minus_at, digits_at, number_at, operand_at, compare_at}
+use Rattle.sql_parse.specs.declared.refusal.Refusal.TheVariants as refusal
+use Rattle.scan_base.specs.declared.predicate.Operand.{Operand}
+use Rattle.scan_base.specs.Predicate.{Pred, conjunction, disjunction, negation, truth_test}
+use Rattle.grammar.specs.Rule.{many}
+use Rattle.grammar.proofs.Deep.{flat_alike}
+use Rattle.sql_parse.specs.declared.tree.ColumnName.{ColumnName}
+use Rattle.sql_parse.specs.Productions.{Condition, name, column, minus, digits, number, string, operand, compare, negated, truth_value, conj, pred, inner, joined, a_word, a_symbol, ◌⊳◌, ◌⊲◌}
+use Rattle.sql_parse.specs.Factored.{compared, nulled, ranged, among, tail, forms, primary, test, factor}
+use Rattle.sql_parse.specs.Steps.{at, token_at, name_at, column_at, minus_at, digits_at, number_at, operand_at, compare_at, negated_at, truth_at, compared_at, nulled_at, ranged_at, operands_at, among_at, tail_at, factor_at, ands_at, conj_at, ors_at, pred_at, inside_at, primary_at, test_at, negation_at}
+use Rattle.sql_parse.proofs.Whole.{one_more}
 
 pub seen_then : {A B : Type 0} (o : Outcome Mark A) (f : A → Reader Mark B) → seen (and_then o f) ≡ (seen o >>= λ p. seen (f p.0 p.1))
 unfolding seen
@@ -68,3 +76,73 @@ operand_same D ts = simp (flat, column_starts, column_same, number_same)
 pub compare_same : (D : Nest) (ts : List Mark) → seen (reads D compare ts) ≡ compare_at ts
 unfolding compare compare_at token_at at
 compare_same D ts = simp flat
+
+-- ---- predicates
+
+negated_same : (D : Nest) (ts : List Mark) → seen (reads D negated ts) ≡ negated_at ts
+unfolding negated negated_at token_at at
+negated_same D ts = simp flat
+
+truth_same : (D : Nest) (ts : List Mark) → seen (reads D truth_value ts) ≡ truth_at ts
+unfolding truth_value truth_at token_at at
+truth_same D ts = simp flat
+
+compared_same : (D : Nest) (a : Operand ColumnName) (ts : List Mark) → (seen (reads D compared ts) >>= λ p. Ok (p.0 a, p.1)) ≡ compared_at a ts
+unfolding compared compared_at
+compared_same D a ts = simp (flat, compare_same, operand_same)
+
+nulled_same : (D : Nest) (a : Operand ColumnName) (ts : List Mark) → (seen (reads D nulled ts) >>= λ p. Ok (p.0 a, p.1)) ≡ nulled_at a ts
+unfolding nulled nulled_at token_at
+nulled_same D a ts = simp (flat, negated_same)
+
+ranged_same : (D : Nest) (n : Bool) (a : Operand ColumnName) (ts : List Mark) → (seen (reads D ranged ts) >>= λ p. Ok (p.0 n a, p.1)) ≡ ranged_at n a ts
+unfolding ranged ranged_at token_at
+ranged_same D n a ts = simp (flat, operand_same)
+
+nulled_starts : (ts : List Mark) → begins (starts nulled) ts ≡ at (is_word word.Is) ts
+unfolding nulled at
+nulled_starts ts = refl
+
+ranged_starts : (ts : List Mark) → begins (starts ranged) ts ≡ at (is_word word.Between) ts
+unfolding ranged at
+ranged_starts ts = refl
+
+among_starts : (ts : List Mark) → begins (starts among) ts ≡ at (is_word word.In) ts
+unfolding among at
+among_starts ts = refl
+
+among_flat : (D : Nest) (ts : List Mark) → reads D among ts ≡ reads None among ts
+unfolding among operand column name number minus digits string
+among_flat D ts = flat_alike D None among refl ts
+
+among_first : (n : Bool) (a : Operand ColumnName) (ts : List Mark) → (seen (reads None among ts) >>= λ p. Ok (p.0 n a, p.1)) ≡ among_at n a ts
+unfolding among among_at token_at operands_at
+among_first n a ts = simp (flat, operand_same)
+
+among_same : (D : Nest) (n : Bool) (a : Operand ColumnName) (ts : List Mark) → (seen (reads D among ts) >>= λ p. Ok (p.0 n a, p.1)) ≡ among_at n a ts
+among_same D n a ts = rw (among_flat D ts) (among_first n a ts)
+
+tail_same : (D : Nest) (a : Operand ColumnName) (ts : List Mark) → (seen (reads D tail ts) >>= λ p. Ok (p.0 a, p.1)) ≡ tail_at a ts
+unfolding tail tail_at token_at at
+tail_same D a ts = simp (flat, nulled_starts, ranged_starts, among_starts, nulled_same, ranged_same, among_same, compared_same)
+
+forms_same : (D : Nest) (ts : List Mark) → seen (reads D forms ts) ≡ (operand_at ts >>= λ a. tail_at a.0 a.1)
+unfolding forms
+forms_same D ts = simp (flat, operand_same, tail_same)
+
+conj_same : (d : ℕ) (ts : List Mark) → seen (reads (Some (read factor d)) conj ts) ≡ conj_at d ts
+unfolding conj conj_at ands_at factor_at
+conj_same d ts = simp flat
+
+pub pred_same : (d : ℕ) (ts : List Mark) → seen (reads (Some (read factor d)) pred ts) ≡ pred_at d ts
+unfolding pred pred_at ors_at
+pred_same d ts = simp (flat, conj_same)
+
+-- the recursive nonterminal, where d more may be opened
+abbrev pub level : ℕ → Nest
+level zero = None
+level (suc d) = Some (read factor d)
+
+level_read : (d : ℕ) (ts : List Mark) → read factor d ts ≡ reads (level d) factor ts
+level_read zero ts = refl
+level_read (suc d) ts = refl

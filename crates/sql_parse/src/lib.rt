@@ -1,8 +1,11 @@
 //! Parsing a query: the sentence that its tokens are, or the first fault.
 #![tactic(auto)]
 
+mod operands;
 mod refusal;
+mod tokens;
 pub mod tree;
+mod values;
 
 pub use crate::tree::{
     ColumnName, Equality, Join, Place, Query, SelectItem, SelectList, Selected,

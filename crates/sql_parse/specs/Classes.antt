@@ -1,0 +1,13 @@
+-- The classes of tokens that the code asks for.
+use Rattle.std.specs.Prelude.{Bool}
+use Rattle.sql_text.specs.declared.token.TokenKind.{TokenKind}
+use Rattle.sql_parse.specs.declared.tokens.Class.{Class}
+use Rattle.sql_parse.specs.declared.tokens.Class.TheVariants as class
+use Rattle.sql_parse.specs.Tokens.{is_word, is_symbol, is_name, is_string, is_digits}
+
+abbrev pub has : Class → TokenKind → Bool
+has (class.Word w) = is_word w
+has (class.Symbol s) = is_symbol s
+has class.Name = is_name
+has class.String = is_string
+has class.Digits = is_digits
