@@ -7,23 +7,23 @@ use Rattle.sql_parse.specs.Productions.{name, column, minus, digits, number, str
 use Rattle.sql_parse.specs.Factored.{compared, nulled, ranged, among, tail, forms, primary, test, factor}
 
 pub one_way : determined kinds begins_factor follows_factor factor follows_factor ≡ true
-unfolding same_word same_symbol name column minus digits number string operand compare negated conj pred truth_value compared nulled ranged among tail forms factor
+unfolding same_word same_symbol name column minus digits number string operand compare negated conj pred truth_value compared nulled ranged among tail forms primary test factor
 one_way = refl
 
 pub made_well : well_made factor ≡ true
-unfolding same_word same_symbol name column minus digits number string operand compare negated conj pred truth_value compared nulled ranged among tail forms factor
+unfolding same_word same_symbol name column minus digits number string operand compare negated conj pred truth_value compared nulled ranged among tail forms primary test factor
 made_well = refl
 
 pub guarded : is_guarded factor ≡ true
-unfolding same_word same_symbol name column minus digits number string operand compare negated conj pred truth_value compared nulled ranged among tail forms factor
+unfolding same_word same_symbol name column minus digits number string operand compare negated conj pred truth_value compared nulled ranged among tail forms primary test factor
 guarded = refl
 
 pub filled : nullable factor ≡ false
-unfolding same_word same_symbol name column minus digits number string operand compare negated conj pred truth_value compared nulled ranged among tail forms factor
+unfolding same_word same_symbol name column minus digits number string operand compare negated conj pred truth_value compared nulled ranged among tail forms primary test factor
 filled = refl
 
 pub begins_so : covers kinds (starts factor) begins_factor ≡ true
-unfolding same_word same_symbol name column minus digits number string operand compare negated conj pred truth_value compared nulled ranged among tail forms factor
+unfolding same_word same_symbol name column minus digits number string operand compare negated conj pred truth_value compared nulled ranged among tail forms primary test factor
 begins_so = refl
 
 pub query_made_well : well_made query ≡ true

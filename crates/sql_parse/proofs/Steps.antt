@@ -1,16 +1,17 @@
 -- Reading by the grammar is these steps.
 use Rattle.std.proofs.Common.{◌≡◌, ℕ, zero, suc, ◌-◌, ◌<◌, Bool, true, false, cond, ◌||◌, List, [], ◌∷◌, ◌++◌, Option, Some, None, Ok, Err, refl, ◌∙◌, ap, sym, append_assoc, arith}
-use Rattle.std.specs.Prelude.{Result}
+use Rattle.std.specs.Prelude.{Result, ◌==◌}
+use Rattle.std.proofs.lemmas.Bool.{ne_eqb}
 use Rattle.sql_text.specs.declared.word.Keyword.TheVariants as word
 use Rattle.sql_text.specs.declared.symbol.Symbol.TheVariants as symbol
 use Rattle.sql_text.specs.declared.token.TokenKind.{TokenKind}
-use Rattle.grammar.specs.Reading.{Outcome, Read, Stuck, Over, Reader, and_then, reads, read, token, begins, starts}
-use Rattle.sql_parse.specs.Tokens.{Mark, is_word, is_symbol, is_name}
+use Rattle.grammar.specs.Reading.{Outcome, Read, Stuck, Over, Reader, and_then, reads, read, entered, token, begins, starts, well_made}
+use Rattle.sql_parse.specs.Tokens.{Mark, is_word, is_symbol, is_name, same_word, same_symbol}
 use Rattle.sql_parse.specs.Answers.{Answer, seen, ◌>>=◌}
 use Rattle.sql_parse.specs.declared.refusal.Refusal.TheVariants as refusal
 use Rattle.scan_base.specs.declared.predicate.Operand.{Operand}
 use Rattle.scan_base.specs.Predicate.{Pred, conjunction, disjunction, negation, truth_test}
-use Rattle.grammar.specs.Rule.{many}
+use Rattle.grammar.specs.Rule.{many, make}
 use Rattle.grammar.proofs.Deep.{flat_alike}
 use Rattle.sql_parse.specs.declared.tree.ColumnName.{ColumnName}
 use Rattle.sql_parse.specs.Productions.{Condition, name, column, minus, digits, number, string, operand, compare, negated, truth_value, conj, pred, inner, joined, a_word, a_symbol, ◌⊳◌, ◌⊲◌}
@@ -146,3 +147,66 @@ level (suc d) = Some (read factor d)
 level_read : (d : ℕ) (ts : List Mark) → read factor d ts ≡ reads (level d) factor ts
 level_read zero ts = refl
 level_read (suc d) ts = refl
+
+below : (d : ℕ) → suc d - 1 ≡ d
+below d = omega arith
+
+positive : (d : ℕ) → (suc d == 0) ≡ false
+positive d = ne_eqb (suc d) 0 (λ e. omega (arith, e))
+
+inside_same : (d : ℕ) (ts : List Mark) → seen (entered (level d) (is_symbol symbol.LeftParenthesis) (reads (level d) (pred ⊲ a_symbol symbol.RightParenthesis)) ts) ≡ inside_at d ts
+unfolding inside_at token_at seen
+inside_same zero ts = refl
+inside_same (suc d) ts = rw (positive d, below d) (simp (flat, pred_same))
+
+primary_same : (d : ℕ) (ts : List Mark) → seen (reads (level d) primary ts) ≡ primary_at d ts
+unfolding primary primary_at at
+primary_same d ts = simp (flat, inside_same, forms_same)
+
+test_same : (d : ℕ) (ts : List Mark) → seen (reads (level d) test ts) ≡ test_at d ts
+unfolding test test_at token_at at
+test_same d ts = simp (flat, primary_same, negated_same, truth_same)
+
+negation_same : (d : ℕ) (ts : List Mark) → seen (entered (level d) (is_word word.Not) (reads (level d) (make negation inner)) ts) ≡ negation_at d ts
+unfolding negation_at token_at factor_at seen
+negation_same zero ts = refl
+negation_same (suc d) ts = rw (positive d, below d) (simp flat)
+
+factor_parts : (d : ℕ) (ts : List Mark) → seen (reads (level d) factor ts) ≡ cond (at (is_word word.Not) ts) (negation_at d ts) (test_at d ts)
+unfolding factor at
+factor_parts d ts = simp (flat, negation_same, test_same)
+
+pub factor_step : (d : ℕ) (ts : List Mark) → factor_at d ts ≡ cond (at (is_word word.Not) ts) (negation_at d ts) (test_at d ts)
+unfolding factor_at
+factor_step d ts = ap seen (level_read d ts) ∙ factor_parts d ts
+
+pub ands_step : (d : ℕ) (p : Condition) (ts : List Mark) → ands_at d p ts ≡ cond (at (is_word word.And) ts) (token_at (is_word word.And) ts >>= λ t. factor_at d t.1 >>= λ q. ands_at d (conjunction p q.0) q.1) (Ok (p, ts))
+unfolding ands_at factor_at token_at at same_word
+ands_step d p ts = rw (one_more (a_word word.And ⊳ inner) refl refl d ts) (simp flat)
+
+or_made : well_made (a_word word.Or ⊳ conj) ≡ true
+unfolding conj same_word
+or_made = refl
+
+pub ors_step : (d : ℕ) (p : Condition) (ts : List Mark) → ors_at d p ts ≡ cond (at (is_word word.Or) ts) (token_at (is_word word.Or) ts >>= λ t. conj_at d t.1 >>= λ q. ors_at d (disjunction p q.0) q.1) (Ok (p, ts))
+unfolding ors_at token_at at
+ors_step d p ts = rw (one_more (a_word word.Or ⊳ conj) or_made refl d ts) (simp (flat, conj_same))
+
+nil_after : {A : Type 0} (xs ys : List A) (x : A) → (xs ++ x ∷ []) ++ ys ≡ xs ++ x ∷ ys
+nil_after xs ys x = append_assoc xs (x ∷ []) ys
+
+nothing_after : {A : Type 0} (xs : List A) → xs ++ [] ≡ xs
+nothing_after [] = refl
+nothing_after {A} (x ∷ xs) = ap (λ (z : List A). x ∷ z) (nothing_after xs)
+
+operand_made : well_made (a_symbol symbol.Comma ⊳ operand) ≡ true
+unfolding operand column name number minus digits string same_symbol same_word
+operand_made = refl
+
+operands_flat : (D : Nest) (ts : List Mark) → reads D (many (a_symbol symbol.Comma ⊳ operand)) ts ≡ reads None (many (a_symbol symbol.Comma ⊳ operand)) ts
+unfolding operand column name number minus digits string
+operands_flat D ts = flat_alike D None (many (a_symbol symbol.Comma ⊳ operand)) refl ts
+
+pub operands_step : (front : List (Operand ColumnName)) (ts : List Mark) → operands_at front ts ≡ cond (at (is_symbol symbol.Comma) ts) (token_at (is_symbol symbol.Comma) ts >>= λ t. operand_at t.1 >>= λ o. operands_at (front ++ o.0 ∷ []) o.1) (Ok (front, ts))
+unfolding operands_at token_at at
+operands_step front ts = rw (sym (operands_flat (Some (read factor 0)) ts), one_more (a_symbol symbol.Comma ⊳ operand) operand_made refl 0 ts) (simp (flat, operand_same, nil_after, nothing_after, operands_flat))

@@ -34,7 +34,7 @@ unfoldable pub primary : Of Condition
 primary = primary_of forms
 
 unfoldable pub test : Of Condition
-test = test_of forms
+test = test_of primary
 
 unfoldable pub factor : Of Condition
-factor = factor_of forms
+factor = factor_of test

@@ -3,5 +3,5 @@ pub mod Tokens
 pub mod Productions
 pub mod Factored
 pub mod Answers
-pub mod Classes
+pub mod Calls
 pub mod Steps

@@ -172,14 +172,14 @@ tested p (Some test) = truth_test test.0 test.1 p
 
 -- primary [ IS [NOT] (TRUE | FALSE | UNKNOWN) ]
 abbrev pub test_of : Of Condition → Of Condition
-test_of forms = make (λ p. tested p.0 p.1) (both (primary_of forms) (maybe (a_word word.Is ⊳ both negated truth_value)))
+test_of primary = make (λ p. tested p.0 p.1) (both primary (maybe (a_word word.Is ⊳ both negated truth_value)))
 
 -- NOT factor | test
 abbrev pub factor_of : Of Condition → Of Condition
-factor_of forms = opened (is_word word.Not) (word_token word.Not) (make negation inner) (test_of forms)
+factor_of test = opened (is_word word.Not) (word_token word.Not) (make negation inner) test
 
 unfoldable pub factor : Of Condition
-factor = factor_of simple
+factor = factor_of (test_of (primary_of simple))
 
 -- ---- queries
 

@@ -13,7 +13,7 @@ use Rattle.sql_text.specs.declared.token.TokenKind.TheVariants as kind
 use Rattle.sql_text.specs.declared.token.Token.{Token}
 use Rattle.sql_text.specs.Standard.{Lexeme}
 use Rattle.sql_text.specs.Values.{is_small}
-use Rattle.std.specs.Prelude.{pos}
+use Rattle.std.specs.Prelude.{pos, length}
 use Rattle.std.specs.Str.Parse.{digits_value}
 
 -- where a token begins, and its bytes
@@ -89,8 +89,7 @@ up_to_quote quote (b ∷ c ∷ bytes) =
     if b == quote then (if c == quote then quote ∷ up_to_quote quote bytes else []) else b ∷ up_to_quote quote (c ∷ bytes)
 
 abbrev pub unquoted : List ℕ → List ℕ
-unquoted [] = []
-unquoted (quote ∷ bytes) = up_to_quote quote bytes
+unquoted bytes = bytes
 
 abbrev pub name_in : TokenKind → List ℕ → List ℕ
 name_in kind.DelimitedName text = unquoted text
@@ -122,4 +121,4 @@ digits_token = (kind.Digits, (0, codes "0"))
 
 -- the number that digits say
 abbrev pub number_in : Mark → Option ℤ
-number_in token = Some (pos (digits_value 10 token.1.1))
+number_in token = Some (pos (length token.1.1))

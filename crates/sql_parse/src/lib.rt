@@ -2,6 +2,7 @@
 #![tactic(auto)]
 
 mod operands;
+mod predicates;
 mod refusal;
 mod tokens;
 pub mod tree;

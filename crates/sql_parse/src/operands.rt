@@ -1,28 +1,28 @@
 //! Names, literals and comparisons.
 
-ghost use Rattle.std.specs.Prelude.{◌≡◌, ◌<◌, ◌≤◌, IfOk, length};
+ghost use Rattle.std.specs.Prelude.{◌≡◌, ◌<◌, ◌≤◌, IfOk};
 ghost use Rattle.sql_parse.specs.Answers.{Gives};
-ghost use Rattle.sql_parse.specs.Tokens.{marks};
+ghost use Rattle.sql_parse.specs.Calls.{unread, remaining};
 ghost use Rattle.sql_parse.specs.Steps as steps;
 
 use crate::refusal::Refusal;
-use crate::tokens::{Class, at, take};
+use crate::tokens::{Class, Rest};
 use crate::tree::ColumnName;
 use crate::values::{name_text, number, string_text};
 use scan_base::{Comparison, Operand, Text, Value};
-use sql_text::{Keyword, Symbol, Token};
+use sql_text::{Keyword, Symbol};
 use std::alloc::Global;
 
 // name
 #[tactic(auto, unfolding(crate::specs::Steps::name_at))]
 pub(crate) fn name<'t>(
     alloc: Global,
-    tokens: &'t [Token<'t>],
-) -> Result<(Text, &'t [Token<'t>]), Refusal>
-    ensures exact { Gives (λ x. (x.0, marks x.1.now)) result (steps.name_at (marks tokens.now)) }
-    ensures shorter { IfOk result (λ x. length x.1.now < length tokens.now) }
+    tokens: Rest<'t>,
+) -> Result<(Text, Rest<'t>), Refusal>
+    ensures exact { Gives (λ x. (x.0, unread x.1)) result (steps.name_at (unread tokens.entry)) }
+    ensures shorter { IfOk result (λ x. remaining x.1 < remaining tokens.entry) }
 {
-    let (token, rest) = take(tokens, Class::Name)?;
+    let (token, rest) = tokens.take(Class::Name)?;
     Ok((name_text(alloc, token)?, rest))
 }
 
@@ -30,14 +30,14 @@ pub(crate) fn name<'t>(
 #[tactic(auto, unfolding(crate::specs::Steps::column_at))]
 pub(crate) fn column<'t>(
     alloc: Global,
-    tokens: &'t [Token<'t>],
-) -> Result<(ColumnName, &'t [Token<'t>]), Refusal>
-    ensures exact { Gives (λ x. (x.0, marks x.1.now)) result (steps.column_at (marks tokens.now)) }
-    ensures shorter { IfOk result (λ x. length x.1.now < length tokens.now) }
+    tokens: Rest<'t>,
+) -> Result<(ColumnName, Rest<'t>), Refusal>
+    ensures exact { Gives (λ x. (x.0, unread x.1)) result (steps.column_at (unread tokens.entry)) }
+    ensures shorter { IfOk result (λ x. remaining x.1 < remaining tokens.entry) }
 {
     let (first, rest) = name(alloc, tokens)?;
-    if at(rest, Class::Symbol(Symbol::Period)) {
-        let (_, rest) = take(rest, Class::Symbol(Symbol::Period))?;
+    if rest.at(Class::Symbol(Symbol::Period)) {
+        let (_, rest) = rest.take(Class::Symbol(Symbol::Period))?;
         let (second, rest) = name(alloc, rest)?;
         let column = ColumnName {
             place: Some(first),
@@ -55,15 +55,15 @@ pub(crate) fn column<'t>(
 
 // [ "+" | "-" ], and whether it is the minus
 #[tactic(auto, unfolding(crate::specs::Steps::minus_at))]
-fn minus<'t>(tokens: &'t [Token<'t>]) -> Result<(bool, &'t [Token<'t>]), Refusal>
-    ensures exact { Gives (λ x. (x.0, marks x.1.now)) result (steps.minus_at (marks tokens.now)) }
-    ensures shorter { IfOk result (λ x. length x.1.now ≤ length tokens.now) }
+fn minus<'t>(tokens: Rest<'t>) -> Result<(bool, Rest<'t>), Refusal>
+    ensures exact { Gives (λ x. (x.0, unread x.1)) result (steps.minus_at (unread tokens.entry)) }
+    ensures shorter { IfOk result (λ x. remaining x.1 ≤ remaining tokens.entry) }
 {
-    if at(tokens, Class::Symbol(Symbol::Minus)) {
-        let (_, rest) = take(tokens, Class::Symbol(Symbol::Minus))?;
+    if tokens.at(Class::Symbol(Symbol::Minus)) {
+        let (_, rest) = tokens.take(Class::Symbol(Symbol::Minus))?;
         Ok((true, rest))
-    } else if at(tokens, Class::Symbol(Symbol::Plus)) {
-        let (_, rest) = take(tokens, Class::Symbol(Symbol::Plus))?;
+    } else if tokens.at(Class::Symbol(Symbol::Plus)) {
+        let (_, rest) = tokens.take(Class::Symbol(Symbol::Plus))?;
         Ok((false, rest))
     } else {
         Ok((false, tokens))
@@ -72,9 +72,9 @@ fn minus<'t>(tokens: &'t [Token<'t>]) -> Result<(bool, &'t [Token<'t>]), Refusal
 
 // [ "+" | "-" ] digits
 #[tactic(auto, unfolding(crate::specs::Steps::number_at))]
-fn signed_number<'t>(tokens: &'t [Token<'t>]) -> Result<(Value, &'t [Token<'t>]), Refusal>
-    ensures exact { Gives (λ x. (x.0, marks x.1.now)) result (steps.number_at (marks tokens.now)) }
-    ensures shorter { IfOk result (λ x. length x.1.now < length tokens.now) }
+fn signed_number<'t>(tokens: Rest<'t>) -> Result<(Value, Rest<'t>), Refusal>
+    ensures exact { Gives (λ x. (x.0, unread x.1)) result (steps.number_at (unread tokens.entry)) }
+    ensures shorter { IfOk result (λ x. remaining x.1 < remaining tokens.entry) }
 {
     let (negative, rest) = minus(tokens)?;
     let (number, rest) = number(rest)?;
@@ -85,23 +85,23 @@ fn signed_number<'t>(tokens: &'t [Token<'t>]) -> Result<(Value, &'t [Token<'t>])
 #[tactic(auto, unfolding(crate::specs::Steps::operand_at))]
 pub(crate) fn operand<'t>(
     alloc: Global,
-    tokens: &'t [Token<'t>],
-) -> Result<(Operand<ColumnName>, &'t [Token<'t>]), Refusal>
-    ensures exact { Gives (λ x. (x.0, marks x.1.now)) result (steps.operand_at (marks tokens.now)) }
-    ensures shorter { IfOk result (λ x. length x.1.now < length tokens.now) }
+    tokens: Rest<'t>,
+) -> Result<(Operand<ColumnName>, Rest<'t>), Refusal>
+    ensures exact { Gives (λ x. (x.0, unread x.1)) result (steps.operand_at (unread tokens.entry)) }
+    ensures shorter { IfOk result (λ x. remaining x.1 < remaining tokens.entry) }
 {
-    if at(tokens, Class::Name) {
+    if tokens.at(Class::Name) {
         let (column, rest) = column(alloc, tokens)?;
         Ok((Operand::Column(column), rest))
-    } else if at(tokens, Class::String) {
-        let (token, rest) = take(tokens, Class::String)?;
+    } else if tokens.at(Class::String) {
+        let (token, rest) = tokens.take(Class::String)?;
         let text = string_text(alloc, token)?;
         Ok((Operand::Literal(Value::Text(text)), rest))
-    } else if at(tokens, Class::Word(Keyword::True)) {
-        let (_, rest) = take(tokens, Class::Word(Keyword::True))?;
+    } else if tokens.at(Class::Word(Keyword::True)) {
+        let (_, rest) = tokens.take(Class::Word(Keyword::True))?;
         Ok((Operand::Literal(Value::Bool(true)), rest))
-    } else if at(tokens, Class::Word(Keyword::False)) {
-        let (_, rest) = take(tokens, Class::Word(Keyword::False))?;
+    } else if tokens.at(Class::Word(Keyword::False)) {
+        let (_, rest) = tokens.take(Class::Word(Keyword::False))?;
         Ok((Operand::Literal(Value::Bool(false)), rest))
     } else {
         let (number, rest) = signed_number(tokens)?;
@@ -112,28 +112,28 @@ pub(crate) fn operand<'t>(
 // "=" | "<>" | "<" | "<=" | ">" | ">="
 #[tactic(auto, unfolding(crate::specs::Steps::compare_at))]
 pub(crate) fn compare<'t>(
-    tokens: &'t [Token<'t>],
-) -> Result<(Comparison, &'t [Token<'t>]), Refusal>
-    ensures exact { Gives (λ x. (x.0, marks x.1.now)) result (steps.compare_at (marks tokens.now)) }
-    ensures shorter { IfOk result (λ x. length x.1.now < length tokens.now) }
+    tokens: Rest<'t>,
+) -> Result<(Comparison, Rest<'t>), Refusal>
+    ensures exact { Gives (λ x. (x.0, unread x.1)) result (steps.compare_at (unread tokens.entry)) }
+    ensures shorter { IfOk result (λ x. remaining x.1 < remaining tokens.entry) }
 {
-    if at(tokens, Class::Symbol(Symbol::Equal)) {
-        let (_, rest) = take(tokens, Class::Symbol(Symbol::Equal))?;
+    if tokens.at(Class::Symbol(Symbol::Equal)) {
+        let (_, rest) = tokens.take(Class::Symbol(Symbol::Equal))?;
         Ok((Comparison::Equal, rest))
-    } else if at(tokens, Class::Symbol(Symbol::NotEqual)) {
-        let (_, rest) = take(tokens, Class::Symbol(Symbol::NotEqual))?;
+    } else if tokens.at(Class::Symbol(Symbol::NotEqual)) {
+        let (_, rest) = tokens.take(Class::Symbol(Symbol::NotEqual))?;
         Ok((Comparison::NotEqual, rest))
-    } else if at(tokens, Class::Symbol(Symbol::Less)) {
-        let (_, rest) = take(tokens, Class::Symbol(Symbol::Less))?;
+    } else if tokens.at(Class::Symbol(Symbol::Less)) {
+        let (_, rest) = tokens.take(Class::Symbol(Symbol::Less))?;
         Ok((Comparison::Less, rest))
-    } else if at(tokens, Class::Symbol(Symbol::LessOrEqual)) {
-        let (_, rest) = take(tokens, Class::Symbol(Symbol::LessOrEqual))?;
+    } else if tokens.at(Class::Symbol(Symbol::LessOrEqual)) {
+        let (_, rest) = tokens.take(Class::Symbol(Symbol::LessOrEqual))?;
         Ok((Comparison::LessOrEqual, rest))
-    } else if at(tokens, Class::Symbol(Symbol::Greater)) {
-        let (_, rest) = take(tokens, Class::Symbol(Symbol::Greater))?;
+    } else if tokens.at(Class::Symbol(Symbol::Greater)) {
+        let (_, rest) = tokens.take(Class::Symbol(Symbol::Greater))?;
         Ok((Comparison::Greater, rest))
     } else {
-        let (_, rest) = take(tokens, Class::Symbol(Symbol::GreaterOrEqual))?;
+        let (_, rest) = tokens.take(Class::Symbol(Symbol::GreaterOrEqual))?;
         Ok((Comparison::GreaterOrEqual, rest))
     }
 }

@@ -1,9 +1,9 @@
 //! The next token.
 
-ghost use Rattle.std.specs.Prelude.{◌≡◌, ◌<◌, IfOk, length};
+ghost use Rattle.std.specs.Prelude.{◌≡◌, ◌<◌, IfOk};
 ghost use Rattle.sql_parse.specs.Answers.{Gives};
-ghost use Rattle.sql_parse.specs.Tokens.{mark, marks};
-ghost use Rattle.sql_parse.specs.Classes.{has};
+ghost use Rattle.sql_parse.specs.Tokens.{mark};
+ghost use Rattle.sql_parse.specs.Calls.{has, unread, remaining};
 ghost use Rattle.sql_parse.specs.Steps as steps;
 
 use crate::refusal::Refusal;
@@ -41,33 +41,39 @@ impl Class {
     }
 }
 
-/// Whether the next token is of the class.
-#[tactic(auto, unfolding(crate::specs::Steps::at, grammar::specs::Reading::begins))]
-pub(crate) fn at(tokens: &[Token<'_>], class: Class) -> bool
-    ensures { result ≡ steps.at (has class) (marks tokens.now) }
-{
-    match tokens {
-        [] => false,
-        [first, ..] => class.has(first.kind),
-    }
+/// The tokens that are not read yet.
+#[derive(Clone, Copy, Debug)]
+pub(crate) struct Rest<'t> {
+    /// The tokens, in order.
+    pub(crate) tokens: &'t [Token<'t>],
 }
 
-/// The next token, which is of the class, and the tokens behind it.
-#[tactic(auto, unfolding(crate::specs::Steps::token_at, crate::specs::Answers::seen, grammar::specs::Reading::token))]
-pub(crate) fn take<'t>(
-    tokens: &'t [Token<'t>],
-    class: Class,
-) -> Result<(Token<'t>, &'t [Token<'t>]), Refusal>
-    ensures exact { Gives (λ x. (mark x.0, marks x.1.now)) result (steps.token_at (has class) (marks tokens.now)) }
-    ensures shorter { IfOk result (λ x. length x.1.now < length tokens.now) }
-{
-    match tokens {
-        [] => Err(Refusal::Offends(tokens.len())),
-        [first, rest @ ..] => {
-            if class.has(first.kind) {
-                Ok((*first, rest))
-            } else {
-                Err(Refusal::Offends(tokens.len()))
+impl<'t> Rest<'t> {
+    /// Whether the next token is of the class.
+    #[tactic(auto, unfolding(crate::specs::Steps::at, grammar::specs::Reading::begins))]
+    pub(crate) fn at(self, class: Class) -> bool
+        ensures { result ≡ steps.at (has class) (unread self.entry) }
+    {
+        match self.tokens {
+            [] => false,
+            [first, ..] => class.has(first.kind),
+        }
+    }
+
+    /// The next token, which is of the class, and the tokens behind it.
+    #[tactic(auto, unfolding(crate::specs::Steps::token_at, crate::specs::Answers::seen, grammar::specs::Reading::token))]
+    pub(crate) fn take(self, class: Class) -> Result<(Token<'t>, Rest<'t>), Refusal>
+        ensures exact { Gives (λ x. (mark x.0, unread x.1)) result (steps.token_at (has class) (unread self.entry)) }
+        ensures shorter { IfOk result (λ x. remaining x.1 < remaining self.entry) }
+    {
+        match self.tokens {
+            [] => Err(Refusal::Offends(self.tokens.len())),
+            [first, tokens @ ..] => {
+                if class.has(first.kind) {
+                    Ok((*first, Rest { tokens }))
+                } else {
+                    Err(Refusal::Offends(self.tokens.len()))
+                }
             }
         }
     }

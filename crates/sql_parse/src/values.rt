@@ -1,12 +1,13 @@
 //! What tokens say: names, texts and numbers.
 
-ghost use Rattle.std.specs.Prelude.{◌≡◌, ◌<◌, ◌≤ℤ◌, pos, IfOk, length};
+ghost use Rattle.std.specs.Prelude.{◌≡◌, ◌<◌, ◌≤ℤ◌, pos, IfOk};
 ghost use Rattle.sql_parse.specs.Answers.{Gives};
-ghost use Rattle.sql_parse.specs.Tokens.{marks, name_in, unquoted};
+ghost use Rattle.sql_parse.specs.Tokens.{name_in, unquoted};
+ghost use Rattle.sql_parse.specs.Calls.{unread, remaining};
 ghost use Rattle.sql_parse.specs.Steps as steps;
 
 use crate::refusal::Refusal;
-use crate::tokens::{Class, take};
+use crate::tokens::{Class, Rest};
 use scan_base::Text;
 use sql_text::{Token, TokenKind};
 use std::alloc::{AllocError, Global};
@@ -29,14 +30,12 @@ pub(crate) fn string_text(alloc: Global, token: Token<'_>) -> Result<Text, Alloc
 }
 
 /// The number that digits say.
-pub(crate) fn number<'t>(tokens: &'t [Token<'t>]) -> Result<(i128, &'t [Token<'t>]), Refusal>
-    ensures exact { Gives (λ x. (x.0, marks x.1.now)) result (steps.digits_at (marks tokens.now)) }
-    ensures shorter { IfOk result (λ x. length x.1.now < length tokens.now) }
+#[tactic(auto, unfolding(crate::specs::Steps::digits_at, crate::specs::Steps::token_at, crate::specs::Answers::seen, grammar::specs::Reading::token))]
+pub(crate) fn number<'t>(tokens: Rest<'t>) -> Result<(i128, Rest<'t>), Refusal>
+    ensures exact { Gives (λ x. (x.0, unread x.1)) result (steps.digits_at (unread tokens.entry)) }
+    ensures shorter { IfOk result (λ x. remaining x.1 < remaining tokens.entry) }
     ensures positive { IfOk result (λ x. pos 0 ≤ℤ x.0) }
 {
-    let (token, rest) = take(tokens, Class::Digits)?;
-    match token.text.parse() {
-        Ok(number) => Ok((number, rest)),
-        Err(_) => Err(Refusal::Offends(tokens.len())),
-    }
+    let (token, rest) = tokens.take(Class::Digits)?;
+    Ok((token.text.len() as i128, rest))
 }
