@@ -3,7 +3,7 @@ use Rattle.std.proofs.Common.{◌≡◌, ℕ, Bool, true, false, List, [], ◌�
 use Rattle.sql_text.specs.declared.token.TokenKind.{TokenKind}
 use Rattle.grammar.specs.Reading.{well_made, is_guarded, nullable, starts, covers, determined}
 use Rattle.sql_parse.specs.Tokens.{kinds, same_word, same_symbol}
-use Rattle.sql_parse.specs.Productions.{name, column, minus, digits, number, string, operand, compare, negated, begins_factor, follows_factor, conj, pred, truth_value, alias, selection, item, list, place, equal, join, group, filter, query}
+use Rattle.sql_parse.specs.Productions.{name, column, minus, digits, number, string, operand, compare, negated, begins_factor, follows_factor, conj, pred, truth_value, alias, selection, item, list, place, equal, join, group, filter, source, ending, query}
 use Rattle.sql_parse.specs.Factored.{compared, nulled, ranged, among, tail, forms, primary, test, factor}
 
 pub one_way : determined kinds begins_factor follows_factor factor follows_factor ≡ true
@@ -27,9 +27,9 @@ unfolding same_word same_symbol name column minus digits number string operand c
 begins_so = refl
 
 pub query_made_well : well_made query ≡ true
-unfolding same_word same_symbol name column minus digits number string operand compare negated conj pred truth_value alias selection item list place equal join group filter query
+unfolding same_word same_symbol name column minus digits number string operand compare negated conj pred truth_value alias selection item list place equal join group filter source ending query
 query_made_well = refl
 
 pub query_one_way : determined kinds begins_factor follows_factor query (λ k. false) ≡ true
-unfolding same_word same_symbol name column minus digits number string operand compare negated conj pred truth_value alias selection item list place equal join group filter query
+unfolding same_word same_symbol name column minus digits number string operand compare negated conj pred truth_value alias selection item list place equal join group filter source ending query
 query_one_way = refl

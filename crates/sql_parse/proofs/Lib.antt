@@ -2,3 +2,4 @@ pub mod Everywhere
 pub mod Conditions
 pub mod Whole
 pub mod Steps
+pub mod Clauses

@@ -66,7 +66,7 @@ number_same : (D : Nest) (ts : List Mark) → seen (reads D number ts) ≡ numbe
 unfolding number number_at token_at
 number_same D ts = simp (flat, minus_same, digits_same)
 
-column_starts : (ts : List Mark) → begins (starts column) ts ≡ at is_name ts
+pub column_starts : (ts : List Mark) → begins (starts column) ts ≡ at is_name ts
 unfolding column name at
 column_starts ts = refl
 
@@ -192,10 +192,10 @@ pub ors_step : (d : ℕ) (p : Condition) (ts : List Mark) → ors_at d p ts ≡ 
 unfolding ors_at token_at at
 ors_step d p ts = rw (one_more (a_word word.Or ⊳ conj) or_made refl d ts) (simp (flat, conj_same))
 
-nil_after : {A : Type 0} (xs ys : List A) (x : A) → (xs ++ x ∷ []) ++ ys ≡ xs ++ x ∷ ys
+pub nil_after : {A : Type 0} (xs ys : List A) (x : A) → (xs ++ x ∷ []) ++ ys ≡ xs ++ x ∷ ys
 nil_after xs ys x = append_assoc xs (x ∷ []) ys
 
-nothing_after : {A : Type 0} (xs : List A) → xs ++ [] ≡ xs
+pub nothing_after : {A : Type 0} (xs : List A) → xs ++ [] ≡ xs
 nothing_after [] = refl
 nothing_after {A} (x ∷ xs) = ap (λ (z : List A). x ∷ z) (nothing_after xs)
 

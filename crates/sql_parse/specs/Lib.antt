@@ -5,3 +5,4 @@ pub mod Factored
 pub mod Answers
 pub mod Calls
 pub mod Steps
+pub mod ClauseSteps

@@ -221,7 +221,15 @@ group = either (a_word word.Group ⊳ a_word word.By ⊳ listed (a_symbol symbol
 unfoldable pub filter : Of (Option Condition)
 filter = maybe (a_word word.Where ⊳ pred)
 
+-- FROM place { join }
+unfoldable pub source : Of (Place × List Join)
+source = a_word word.From ⊳ both place (many join)
+
+-- [ WHERE pred ] [ GROUP BY column { "," column } ] [ ";" ]
+unfoldable pub ending : Of (Option Condition × List ColumnName)
+ending = both filter (group ⊲ maybe (a_symbol symbol.Semicolon))
+
 -- SELECT list FROM place { join } [ WHERE pred ] [ GROUP BY column { "," column } ] [ ";" ]
 unfoldable pub query : Of Sentence
-query = make (λ p. record { select = p.0; place = p.1.0; joins = p.1.1.0; filter = p.1.1.1.0; group_by = p.1.1.1.1 })
-    (both (a_word word.Select ⊳ list) (both (a_word word.From ⊳ place) (both (many join) (both filter (group ⊲ maybe (a_symbol symbol.Semicolon))))))
+query = make (λ p. record { select = p.0; place = p.1.0.0; joins = p.1.0.1; filter = p.1.1.0; group_by = p.1.1.1 })
+    (both (a_word word.Select ⊳ list) (both source ending))

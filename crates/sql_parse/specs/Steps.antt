@@ -21,8 +21,8 @@ use Rattle.sql_parse.specs.declared.refusal.Refusal.{Refusal}
 use Rattle.sql_parse.specs.declared.refusal.Refusal.TheVariants as refusal
 use Rattle.sql_parse.specs.Tokens.{Mark, is_word, is_symbol, is_name, is_string, is_digits, name_in, unquoted, number_in}
 use Rattle.sql_parse.specs.Answers.{Answer, seen, ◌>>=◌}
-use Rattle.sql_parse.specs.Productions.{Condition, a_word, a_symbol, ◌⊳◌, column_name, signed, operand, joined, inner, conj, digits}
-use Rattle.sql_parse.specs.Factored.{factor, test, primary}
+use Rattle.sql_parse.specs.Productions.{Condition, a_word, a_symbol, ◌⊳◌, column_name, signed, operand, joined, inner, conj}
+use Rattle.sql_parse.specs.Factored.{factor}
 
 unfoldable pub at : (TokenKind → Bool) → List Mark → Bool
 at p ts = begins p ts
