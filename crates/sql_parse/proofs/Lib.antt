@@ -2,4 +2,4 @@ pub mod Everywhere
 pub mod Conditions
 pub mod Whole
 pub mod Steps
-pub mod Clauses
+pub mod ClauseReading

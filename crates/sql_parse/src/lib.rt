@@ -1,6 +1,7 @@
 //! Parsing a query: the sentence that its tokens are, or the first fault.
 #![tactic(auto)]
 
+mod clauses;
 mod operands;
 mod predicates;
 mod refusal;
