@@ -3,3 +3,4 @@ pub mod Conditions
 pub mod Whole
 pub mod Steps
 pub mod ClauseReading
+pub mod Printed
