@@ -1,5 +1,5 @@
 -- Looking a word up in a table, row by row.
-use Rattle.std.proofs.Common.{◌≡◌, ◌≢◌, ◌<◌, ◌≤◌, ℕ, ◌+◌, ◌↔◌, Bool, true, false, cond, List, [], ◌∷◌, length, drop, get_or, Some, None, map, refl, ap, ◌∙◌, sym, arith}
+use Rattle.std.proofs.Common.{◌≡◌, ◌≢◌, ◌<◌, ◌≤◌, ℕ, ◌+◌, ◌↔◌, Bool, true, false, cond, List, [], ◌∷◌, length, drop, get_or, Some, None, map, refl, ap, ◌∙◌, sym}
 use Rattle.std.specs.Prelude.{IsTrue, ◌==◌, ◌&&◌, nat_le, filter}
 use Rattle.std.specs.List.{list_all}
 use Rattle.sql_text.specs.declared.token.TokenKind.{TokenKind}

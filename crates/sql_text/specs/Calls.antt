@@ -1,5 +1,8 @@
 -- What the calls give.
-use Rattle.std.specs.Prelude.{ℕ, List, map}
+use Rattle.std.specs.Prelude.{ℕ, ℤ, List, map, Option, None}
+use Rattle.std.specs.Str.{byte}
+use Rattle.sql_text.specs.declared.token.TokenKind.TheVariants as kind
+use Rattle.sql_text.specs.Values.{unquoted, number_of}
 use Rattle.sql_text.specs.declared.word.Meaning.{Meaning}
 use Rattle.sql_text.specs.declared.token.TokenKind.{TokenKind}
 use Rattle.sql_text.specs.declared.token.Token.{Token}
@@ -12,3 +15,17 @@ lexeme_of token = record { kind = token.kind; start = token.start; text = token.
 -- the rows of a table of the code
 abbrev pub rows_of : List Meaning → List (List ℕ × TokenKind)
 rows_of rows = map (λ (row : Meaning). (row.word.now, row.kind)) rows
+
+-- what a token's text says: of a delimited name and a string what stands between the quotes, and else the text
+abbrev pub said : TokenKind → List ℕ → List ℕ
+said kind.DelimitedName text = unquoted (byte "\"") text
+said kind.String text = unquoted (byte "'") text
+said other text = text
+
+abbrev pub value_of : Lexeme → List ℕ
+value_of token = said token.kind token.text
+
+-- the number that a token's text says; none, unless it is digits
+abbrev pub numeral : TokenKind → List ℕ → Option ℤ
+numeral kind.Digits text = number_of text
+numeral other text = None

@@ -8,12 +8,11 @@ use Rattle.scan_base.specs.declared.fault.Fault.TheVariants.{LimitReached, BadSq
 use Rattle.scan_base.specs.Reading.{◌>>=◌, demand, wanted}
 use Rattle.sql_text.specs.declared.front.Front.{Front}
 use Rattle.sql_text.specs.declared.symbol.Symbol.{Symbol}
-use Rattle.sql_text.specs.declared.symbol.Symbol.TheVariants as symbol
 use Rattle.sql_text.specs.declared.token.TokenKind.{TokenKind}
 use Rattle.sql_text.specs.declared.token.TokenKind.TheVariants as kind
 use Rattle.sql_text.specs.Words.{word_kind}
 use Rattle.sql_text.specs.Values.{is_small}
-use Rattle.sql_text.specs.Standard.{begins_word, continues_word, is_separator, continues_comment, Lexeme, token_here}
+use Rattle.sql_text.specs.Standard.{begins_word, continues_word, is_separator, continues_comment, symbols, symbol_in, Lexeme, token_here}
 
 -- ---- what stands at the front, sound
 
@@ -54,34 +53,13 @@ digits_front bytes =
 abbrev pub comment_front : List ℕ → Option Front
 comment_front bytes = space (2 + prefix_len continues_comment bytes)
 
--- the symbol that two bytes are
-unfoldable pub pair : ℕ → ℕ → Option Symbol
-pair first second =
-    if first == byte "<" then
-    (if second == byte ">" then Some symbol.NotEqual
-    else (if second == byte "=" then Some symbol.LessOrEqual else None))
-    else (if first == byte ">" then (if second == byte "=" then Some symbol.GreaterOrEqual else None)
-    else (if first == byte "!" then (if second == byte "=" then Some symbol.NotEqual else None)
-    else (if first == byte "|" then (if second == byte "|" then Some symbol.Concatenation else None)
-    else None)))
+-- the symbol that two bytes are, and that one byte is
 
--- the symbol that one byte is
+unfoldable pub pair : ℕ → ℕ → Option Symbol
+pair first second = symbol_in symbols (first ∷ second ∷ [])
+
 unfoldable pub single : ℕ → Option Symbol
-single first =
-    if first == byte "(" then Some symbol.LeftParenthesis
-    else (if first == byte ")" then Some symbol.RightParenthesis
-    else (if first == byte "," then Some symbol.Comma
-    else (if first == byte "." then Some symbol.Period
-    else (if first == byte ";" then Some symbol.Semicolon
-    else (if first == byte "*" then Some symbol.Asterisk
-    else (if first == byte "=" then Some symbol.Equal
-    else (if first == byte "<" then Some symbol.Less
-    else (if first == byte ">" then Some symbol.Greater
-    else (if first == byte "+" then Some symbol.Plus
-    else (if first == byte "-" then Some symbol.Minus
-    else (if first == byte "/" then Some symbol.Solidus
-    else (if first == byte "%" then Some symbol.Percent
-    else None))))))))))))
+single first = symbol_in symbols (first ∷ [])
 
 abbrev pub one_mark : ℕ → Option Front
 one_mark first = option_and_then (λ (mark : Symbol). token (kind.Symbol mark) 1) (single first)

@@ -1,6 +1,6 @@
 -- What the tokens of a query are, apart from any order of reading. A text is cut into pieces, each the
 -- longest that stands at its place; then the pieces that are neither separators nor comments are tokens.
-use Rattle.std.specs.Prelude.{◌≡◌, ◌≢◌, ℕ, ◌+◌, ◌≤◌, ◌==◌, ◌||◌, Bool, true, false, not, IsTrue, Option, Some, None, List, [], ◌∷◌, ◌++◌, length, All, Contains, codes}
+use Rattle.std.specs.Prelude.{if◌then◌else◌, ◌≡◌, ◌≢◌, ℕ, ◌+◌, ◌≤◌, ◌==◌, ◌||◌, Bool, true, false, not, IsTrue, Option, Some, None, List, [], ◌∷◌, ◌++◌, length, All, codes}
 use Rattle.std.specs.Char.{is_ascii_alphabetic, is_ascii_alphanumeric, is_ascii_digit}
 use Rattle.std.specs.List.{list_all}
 use Rattle.std.specs.Str.{byte, bytes_eq}
@@ -18,6 +18,9 @@ begins_word b = is_ascii_alphabetic b || (b == byte "_")
 
 abbrev pub continues_word : ℕ → Bool
 continues_word b = is_ascii_alphanumeric b || (b == byte "_")
+
+abbrev pub is_quote : ℕ → Bool
+is_quote b = (b == byte "\"") || (b == byte "'")
 
 -- space, tab, LF, CR
 abbrev pub is_separator : ℕ → Bool
@@ -37,6 +40,11 @@ symbols =
     (codes ">", symbol.Greater) ∷ (codes ">=", symbol.GreaterOrEqual) ∷ (codes "+", symbol.Plus) ∷
     (codes "-", symbol.Minus) ∷ (codes "/", symbol.Solidus) ∷ (codes "%", symbol.Percent) ∷
     (codes "||", symbol.Concatenation) ∷ []
+
+-- the symbol that is written so
+abbrev pub symbol_in : List (List ℕ × Symbol) → List ℕ → Option Symbol
+symbol_in [] bytes = None
+symbol_in (row ∷ rows) bytes = if bytes_eq bytes row.0 then Some row.1 else symbol_in rows bytes
 
 -- ---- pieces
 
@@ -61,9 +69,9 @@ Spells word bytes =
 Spells delimited_name bytes = (value : List ℕ) × (bytes ≡ quoted (byte "\"") value)
 Spells string bytes = (value : List ℕ) × (bytes ≡ quoted (byte "'") value)
 Spells unclosed bytes =
-    (quote : ℕ) × (value : List ℕ) × Contains (codes "\"'") quote × (bytes ≡ opened quote value)
+    (quote : ℕ) × (value : List ℕ) × IsTrue (is_quote quote) × (bytes ≡ opened quote value)
 Spells digits bytes = (bytes ≢ []) × IsTrue (list_all is_ascii_digit bytes)
-Spells (mark s) bytes = Contains symbols (bytes, s)
+Spells (mark s) bytes = symbol_in symbols bytes ≡ Some s
 
 pub record Piece : Type 0 where
   pub form : Form

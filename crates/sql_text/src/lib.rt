@@ -2,10 +2,14 @@
 #![tactic(auto)]
 
 mod front;
+mod number;
+mod scan;
 pub mod symbol;
 pub mod token;
+mod value;
 pub mod word;
 
+pub use crate::scan::{MOST_BYTES, tokens};
 pub use crate::symbol::Symbol;
 pub use crate::token::{Token, TokenKind};
 pub use crate::word::Keyword;

@@ -1,10 +1,15 @@
 //! The tokens of a query.
 
-ghost use Rattle.std.specs.Prelude.{◌≡◌};
+ghost use Rattle.std.specs.Prelude.{◌≡◌, IfOk, length};
 ghost use Rattle.sql_text.specs.Words.{is_left_out};
+ghost use Rattle.sql_text.specs.Calls.{numeral, said};
 
+use crate::number::number;
 use crate::symbol::Symbol;
+use crate::value::{unquoted, unquoted_len};
 use crate::word::Keyword;
+use scan_base::Text;
+use std::alloc::{AllocError, Global};
 
 /// What a token is.
 #[derive(Clone, Copy, Debug, PartialEq, Eq)]
@@ -58,4 +63,39 @@ pub struct Token<'a> {
     pub start: u32,
     /// Its bytes in the query, quotes and all.
     pub text: &'a str,
+}
+
+impl<'a> Token<'a> {
+    /// The value of digits, below 10^38; none, where the token is not digits.
+    pub fn number(self) -> Option<i128>
+        ensures { result ≡ numeral self.entry.kind self.entry.text.now }
+    {
+        match self.kind {
+            TokenKind::Digits => number(self.text),
+            _ => None,
+        }
+    }
+
+    /// What the token says: of a delimited name and a string what stands between the quotes, with one quote
+    /// for each pair; of any other token its text.
+    pub fn value(self, alloc: Global) -> Result<Text, AllocError>
+        ensures { IfOk result (λ value. value ≡ said self.entry.kind self.entry.text.now) }
+    {
+        match self.kind {
+            TokenKind::DelimitedName => Ok(Text::from(unquoted(alloc, b'"', self.text)?)),
+            TokenKind::String => Ok(Text::from(unquoted(alloc, b'\'', self.text)?)),
+            _ => Text::new(alloc, self.text),
+        }
+    }
+
+    /// How many bytes the value has. It takes no memory.
+    pub fn value_len(self) -> usize
+        ensures { result ≡ length (said self.entry.kind self.entry.text.now) }
+    {
+        match self.kind {
+            TokenKind::DelimitedName => unquoted_len(b'"', self.text),
+            TokenKind::String => unquoted_len(b'\'', self.text),
+            _ => self.text.len(),
+        }
+    }
 }

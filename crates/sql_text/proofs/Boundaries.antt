@@ -1,0 +1,167 @@
+-- A text may be cut behind a piece.
+use Rattle.std.proofs.Common.{◌≡◌, ◌≢◌, ◌<◌, ◌≤◌, ℕ, ◌+◌, Bool, true, false, cond, List, [], ◌∷◌, ◌++◌, length, get_or, Option, Some, None, refl, sym, ap, subst, arith, append_assoc, append-nil}
+use Rattle.std.specs.Prelude.{◌==◌, ◌&&◌, IfSome}
+use Rattle.std.specs.Char.{is_ascii_digit}
+use Rattle.std.specs.List.{list_all}
+use Rattle.std.specs.Str.{IsUtf8, IsCharBoundary}
+use Rattle.std.proofs.Math.Seq.{get_or-append_seam}
+use Rattle.std.proofs.lemmas.Bool.{eqb-true}
+use Rattle.std.proofs.lemmas.Bool.Decides.{nat_tests}
+use Rattle.std.proofs.lemmas.List.{length-append}
+use Rattle.std.proofs.lemmas.Str.{IsCharBoundary-end, IsCharBoundary-before_ascii, IsCharBoundary-after_ascii}
+use Rattle.sql_text.specs.declared.front.Front.{Front}
+use Rattle.sql_text.specs.declared.symbol.Symbol.{Symbol}
+use Rattle.sql_text.specs.Values.{opened}
+use Rattle.sql_text.specs.Standard.{begins_word, continues_word, is_separator, continues_comment, symbols, symbol_in, Form, separator, comment, word, delimited_name, string, unclosed, digits, mark, Spells, StandsInFront, is_sound}
+use Rattle.sql_text.specs.Reading.{front_at}
+use Rattle.sql_text.proofs.Groups.{mark_short, some_byte}
+use Rattle.sql_text.proofs.Fronts.{front_read}
+
+-- the last byte is ASCII
+record Ends (front : List ℕ) : Type 0 where
+  before : List ℕ
+  last : ℕ
+  whole : front ≡ before ++ (last ∷ [])
+  ascii : last < 128
+
+ends_cut : (front rest : List ℕ) → Ends front → IsUtf8 (front ++ rest) → IsCharBoundary (front ++ rest) (length front)
+ends_cut front rest e utf8 =
+    let whole : front ++ rest ≡ e.before ++ (e.last ∷ rest) = rw e.whole (append_assoc e.before (e.last ∷ []) rest) in
+    let len : length front ≡ length e.before + 1 = rw e.whole (length-append e.before (e.last ∷ [])) in
+    let byte : get_or (front ++ rest) (length e.before) 0 < 128 = rw (whole, get_or-append_seam e.before e.last rest 0) e.ascii in
+    rw len (IsCharBoundary-after_ascii (front ++ rest) (length e.before) utf8 (omega (arith, len, length-append front rest)) byte)
+
+run_ends : (p : ℕ → Bool) → ((b : ℕ) → p b ≡ true → b < 128) → (b : ℕ) (bytes : List ℕ) → list_all p (b ∷ bytes) ≡ true → Ends (b ∷ bytes)
+run_ends p ascii b [] e = record { before = []; last = b; whole = refl; ascii = ascii b (first (p b) e) }
+  where
+    first : (x : Bool) → (x && true) ≡ true → x ≡ true
+    first true e = refl
+    first false e = absurd cc
+run_ends p ascii b (c ∷ bytes) e =
+    let more = run_ends p ascii c bytes (second (p b) _ e) in
+    record { before = b ∷ more.before; last = more.last; whole = ap (λ (x : List ℕ). b ∷ x) more.whole; ascii = more.ascii }
+  where
+    second : (x y : Bool) → (x && y) ≡ true → y ≡ true
+    second true y e = e
+    second false y e = absurd cc
+
+peel : (P : ℕ → Type 0) (b k : ℕ) (x rest : Option Symbol) (s : Symbol) → P k → (rest ≡ Some s → P b) → cond ((b == k) && true) x rest ≡ Some s → P b
+peel P b k x rest s here after e = go (b == k) refl e
+  where
+    go : (t : Bool) → (b == k) ≡ t → cond (t && true) x rest ≡ Some s → P b
+    go true same e = subst P (sym (eqb-true b k same)) here
+    go false same e = after e
+
+skip : (P : Type 0) (t : Bool) (x rest : Option Symbol) (s : Symbol) → (rest ≡ Some s → P) → cond (t && false) x rest ≡ Some s → P
+skip P true x rest s after e = after e
+skip P false x rest s after e = after e
+
+pick : (P : ℕ → Type 0) (t : Bool) (b k : ℕ) (x rest : Option Symbol) (s : Symbol) → P k → (rest ≡ Some s → P b) → cond (t && ((b == k) && true)) x rest ≡ Some s → P b
+pick P true b k x rest s here after e = peel P b k x rest s here after e
+pick P false b k x rest s here after e = after e
+
+abbrev below : ℕ → Type 0
+below b = b < 128
+
+one_ascii : (b : ℕ) (s : Symbol) → symbol_in symbols (b ∷ []) ≡ Some s → b < 128
+one_ascii b s e =
+    peel below b 40 _ _ s (omega arith) (peel below b 41 _ _ s (omega arith) (peel below b 44 _ _ s (omega arith) (peel below b 46 _ _ s (omega arith) (peel below b 59 _ _ s (omega arith) (peel below b 42 _ _ s (omega arith) (peel below b 61 _ _ s (omega arith) (skip (below b) (b == 60) _ _ s (skip (below b) (b == 33) _ _ s (peel below b 60 _ _ s (omega arith) (skip (below b) (b == 60) _ _ s (peel below b 62 _ _ s (omega arith) (skip (below b) (b == 62) _ _ s (peel below b 43 _ _ s (omega arith) (peel below b 45 _ _ s (omega arith) (peel below b 47 _ _ s (omega arith) (peel below b 37 _ _ s (omega arith) (skip (below b) (b == 124) _ _ s (λ (none : None ≡ Some s). absurd cc)))))))))))))))))) e
+
+two_ascii : (a b : ℕ) (s : Symbol) → symbol_in symbols (a ∷ b ∷ []) ≡ Some s → b < 128
+two_ascii a b s e =
+    skip (below b) (a == 40) _ _ s (skip (below b) (a == 41) _ _ s (skip (below b) (a == 44) _ _ s (skip (below b) (a == 46) _ _ s (skip (below b) (a == 59) _ _ s (skip (below b) (a == 42) _ _ s (skip (below b) (a == 61) _ _ s (pick below (a == 60) b 62 _ _ s (omega arith) (pick below (a == 33) b 61 _ _ s (omega arith) (skip (below b) (a == 60) _ _ s (pick below (a == 60) b 61 _ _ s (omega arith) (skip (below b) (a == 62) _ _ s (pick below (a == 62) b 61 _ _ s (omega arith) (skip (below b) (a == 43) _ _ s (skip (below b) (a == 45) _ _ s (skip (below b) (a == 47) _ _ s (skip (below b) (a == 37) _ _ s (pick below (a == 124) b 124 _ _ s (omega arith) (λ (none : None ≡ Some s). absurd cc)))))))))))))))))) e
+
+mark_ends : (front : List ℕ) (s : Symbol) → symbol_in symbols front ≡ Some s → Ends front
+mark_ends [] s e = absurd cc
+mark_ends (b ∷ []) s e = record { before = []; last = b; whole = refl; ascii = one_ascii b s e }
+mark_ends (a ∷ b ∷ []) s e = record { before = a ∷ []; last = b; whole = refl; ascii = two_ascii a b s e }
+mark_ends (a ∷ b ∷ c ∷ t) s e = absurd (mark_short a b c t s e)
+
+more_passes : (p : ℕ → Bool) (xs : List ℕ) (x : ℕ) → list_all p xs ≡ true → p x ≡ true → list_all p (xs ++ (x ∷ [])) ≡ true
+more_passes p [] x e f = rw f refl
+more_passes p (y ∷ xs) x e f = both (p y) refl e (more_passes p xs x)
+  where
+    both : (t : Bool) → p y ≡ t → (t && list_all p xs) ≡ true → (list_all p xs ≡ true → p x ≡ true → list_all p (xs ++ (x ∷ [])) ≡ true) → (p y && list_all p (xs ++ (x ∷ []))) ≡ true
+    both true g e more = rw g (more e f)
+    both false g e more = absurd cc
+
+-- the byte behind a comment is LF
+comment_cut : (front rest : List ℕ) → Spells comment front
+    → ((form : Form) (text more : List ℕ) → front ++ rest ≡ text ++ more → Spells form text → length text ≤ length front)
+    → IsCharBoundary (front ++ rest) (length front)
+comment_cut front [] h longest = rw (ap length (sym (append-nil front))) (IsCharBoundary-end (front ++ []))
+comment_cut front (c ∷ rest) h longest = go (c == 10) refl
+  where
+    here : get_or (front ++ (c ∷ rest)) (length front) 0 ≡ c
+    here = get_or-append_seam front c rest 0
+
+    within : length front < length (front ++ (c ∷ rest))
+    within = omega (arith, length-append front (c ∷ rest))
+
+    go : (t : Bool) → (c == 10) ≡ t → IsCharBoundary (front ++ (c ∷ rest)) (length front)
+    go true e =
+        let lf : c ≡ 10 = eqb-true c 10 e in
+        IsCharBoundary-before_ascii (front ++ (c ∷ rest)) (length front) within (rw here (omega arith))
+    go false e =
+        let longer : Spells comment (front ++ (c ∷ [])) = (h.0 ++ (c ∷ []), rw h.1 refl, more_passes continues_comment h.0 c h.2 (rw e refl)) in
+        let le : length (front ++ (c ∷ [])) ≤ length front = longest comment (front ++ (c ∷ [])) rest (sym (append_assoc front (c ∷ []) rest)) longer in
+        absurd (omega (arith, length-append front (c ∷ [])))
+
+ends_of : (form : Form) (front : List ℕ) → Spells form front → is_sound form front ≡ true → form ≢ comment → Ends front
+ends_of separator front h sound other = record { before = []; last = h.0; whole = h.1; ascii = separator_ascii h.0 h.2 }
+  where
+    separator_ascii : (b : ℕ) → is_separator b ≡ true → b < 128
+    separator_ascii b e = grind (arith, nat_tests)
+ends_of comment front h sound other = absurd (other refl)
+ends_of word front h sound other =
+    let begins : continues_word h.0 ≡ true = continues h.0 h.3 in
+    rw h.2 (run_ends continues_word ascii h.0 h.1 (rw (begins, h.4) refl))
+  where
+    continues : (b : ℕ) → begins_word b ≡ true → continues_word b ≡ true
+    continues b e = grind (arith, nat_tests)
+
+    ascii : (b : ℕ) → continues_word b ≡ true → b < 128
+    ascii b e = grind (arith, nat_tests)
+ends_of delimited_name front h sound other = record { before = opened 34 h.0; last = 34; whole = h.1; ascii = omega arith }
+ends_of string front h sound other = record { before = opened 39 h.0; last = 39; whole = h.1; ascii = omega arith }
+ends_of unclosed front h sound other = absurd cc
+ends_of digits [] h sound other = absurd (h.0 refl)
+ends_of digits (b ∷ front) h sound other = run_ends is_ascii_digit ascii b front h.1
+  where
+    ascii : (b : ℕ) → is_ascii_digit b ≡ true → b < 128
+    ascii b e = grind (arith, nat_tests)
+ends_of (mark s) front h sound other = mark_ends front s h
+
+sound_cut : (form : Form) (front rest : List ℕ) → StandsInFront (record { form = form; text = front }) (front ++ rest) rest → is_sound form front ≡ true → IsUtf8 (front ++ rest) → IsCharBoundary (front ++ rest) (length front)
+sound_cut comment front rest s sound utf8 = comment_cut front rest s.spells s.longest
+sound_cut form front rest s sound utf8 = ends_cut front rest (ends_of form front s.spells sound (λ e. cc)) utf8
+
+some_bytes : (form : Form) (front : List ℕ) → Spells form front → 0 < length front
+some_bytes form [] h = absurd (some_byte form h)
+some_bytes form (b ∷ front) h = omega arith
+
+-- what is read at the front is not empty
+pub front_some : (text : List ℕ) (front : Front) → front_at text ≡ Some front → 0 < front.len
+front_some text front e =
+    let r = front_read text front e in
+    rw r.stands.len_is (some_bytes r.form r.stands.front r.stands.stands.spells)
+
+-- and may be cut off
+pub front_cut : (text : List ℕ) (front : Front) → IsUtf8 text → front_at text ≡ Some front → IsCharBoundary text front.len
+front_cut text front utf8 e =
+    let r = front_read text front e in
+    let s = r.stands.stands in
+    let whole : r.stands.front ++ r.stands.rest ≡ text = sym s.whole in
+    let at_whole = subst (λ (t : List ℕ). StandsInFront (record { form = r.form; text = r.stands.front }) t r.stands.rest) s.whole s in
+    let cut = sound_cut r.form r.stands.front r.stands.rest at_whole r.sound (rw whole utf8) in
+    rw r.stands.len_is (subst (λ (t : List ℕ). IsCharBoundary t (length r.stands.front)) whole cut)
+
+-- the same of what a call gave
+
+pub given_cut : (text : List ℕ) (given : Option Front) → IsUtf8 text → given ≡ front_at text → IfSome given (λ front. IsCharBoundary text front.len)
+given_cut text None utf8 e = tt
+given_cut text (Some front) utf8 e = front_cut text front utf8 (sym e)
+
+pub given_some : (text : List ℕ) (given : Option Front) → given ≡ front_at text → IfSome given (λ front. 0 < front.len)
+given_some text None e = tt
+given_some text (Some front) e = front_some text front (sym e)

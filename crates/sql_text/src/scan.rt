@@ -1,0 +1,43 @@
+//! The tokens of a query.
+
+ghost use Rattle.std.specs.Prelude.{◌≡◌, map};
+ghost use Rattle.scan_base.specs.Reading.{GivesUnlessMemory};
+ghost use Rattle.sql_text.specs.Reading.{tokens_in};
+ghost use Rattle.sql_text.specs.Calls.{lexeme_of};
+
+use crate::front::front_of;
+use crate::token::Token;
+use scan_base::Fault;
+use std::alloc::Global;
+
+/// A query has at most so many bytes.
+pub const MOST_BYTES: usize = 16_384;
+
+/// The tokens of a query, in their order.
+///
+/// # Errors
+///
+/// `Fault::LimitReached` where the text has more than `MOST_BYTES` bytes. Otherwise `Fault::BadSql` at the
+/// first byte of the first piece that is no token: a byte that begins none, a quote that is not closed, a
+/// delimited name that is empty, digits of 10^38 or more. `Fault::OutOfMemory` where memory is refused.
+pub fn tokens(alloc: Global, sql: &str) -> Result<Vec<Token<'_>>, Fault>
+    ensures { GivesUnlessMemory (λ tokens. map lexeme_of tokens.items) result (tokens_in sql.now) }
+{
+    if sql.len() > MOST_BYTES {
+        return Err(Fault::LimitReached);
+    }
+    let mut tokens = Vec::new(alloc);
+    let mut rest = sql;
+    while !rest.is_empty() {
+        let start = (sql.len() - rest.len()) as u32;
+        let Some(front) = front_of(rest) else {
+            return Err(Fault::BadSql { position: start });
+        };
+        let (text, after) = rest.split_at(front.len);
+        if let Some(kind) = front.kind {
+            tokens.push(Token { kind, start, text })?;
+        }
+        rest = after;
+    }
+    Ok(tokens)
+}
