@@ -4,3 +4,4 @@ pub mod Whole
 pub mod Steps
 pub mod ClauseReading
 pub mod Printed
+pub mod Answering

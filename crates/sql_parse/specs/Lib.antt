@@ -6,3 +6,6 @@ pub mod Answers
 pub mod Calls
 pub mod Steps
 pub mod ClauseSteps
+pub mod Limits
+pub mod Parse
+pub mod Told

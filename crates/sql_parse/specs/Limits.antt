@@ -8,7 +8,7 @@ use Rattle.sql_parse.specs.Tokens.{Mark, is_word, is_symbol, is_name, name_in}
 
 -- The places that the tokens so far announce, and the items of the list that was begun last, of which there may be `most`.
 -- FROM and JOIN announce a place; SELECT, BY and IN begin a list and announce its first item, and a comma the next one.
-abbrev pub counted : Tally → TokenKind → Tally
+unfoldable pub counted : Tally → TokenKind → Tally
 counted tally kind =
     if is_word word.From kind || is_word word.Join kind then record { places = tally.places + 1; items = tally.items; most = tally.most }
     else (if is_word word.Select kind || is_word word.By kind then record { places = tally.places; items = 1; most = 64 }
@@ -17,15 +17,15 @@ counted tally kind =
     else tally)))
 
 -- the place or the item that was announced last is one too many
-abbrev pub is_past : Tally → Bool
+unfoldable pub is_past : Tally → Bool
 is_past tally = nat_lt 4 tally.places || nat_lt tally.most tally.items
 
-abbrev pub is_long_name : TokenKind → List ℕ → Bool
+unfoldable pub is_long_name : TokenKind → List ℕ → Bool
 is_long_name kind text = is_name kind && nat_lt 64 (length (name_in kind text))
 
 abbrev pub passes_from : Tally → List Mark → Bool
 passes_from tally [] = false
-passes_from tally (t ∷ ts) = (is_past tally || is_long_name t.0 t.1.1) || passes_from (counted tally t.0) ts
+passes_from tally (t ∷ ts) = (is_long_name t.0 t.1.1 || is_past tally) || passes_from (counted tally t.0) ts
 
 -- Whether one of the tokens passes a limit: it is a name of more than 64 bytes, or stands in a place or an item that is one too many.
 unfoldable pub passes : List Mark → Bool

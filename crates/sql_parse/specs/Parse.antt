@@ -1,6 +1,5 @@
 -- What parsing answers.
-use Rattle.std.specs.Prelude.{◌≡◌, ◌≢◌, ℕ, Bool, true, false, not, ◌&&◌, ◌||◌, ◌⊎◌, if◌then◌else◌, List, [], ◌∷◌, ◌++◌, map, length, is_empty, Result, Ok, Err}
-use Rattle.std.specs.List.{list_any}
+use Rattle.std.specs.Prelude.{◌≡◌, ◌≢◌, ℕ, Bool, true, false, not, ◌&&◌, ◌||◌, ◌⊎◌, if◌then◌else◌, List, [], ◌∷◌, ◌++◌, map, length, Result, Ok, Err}
 use Rattle.scan_base.specs.declared.fault.Fault.{Fault}
 use Rattle.scan_base.specs.declared.fault.Fault.TheVariants.{OutOfMemory, LimitReached, NotInSubset, BadSql}
 use Rattle.sql_text.specs.Standard.{Lexeme}
@@ -32,9 +31,13 @@ abbrev pub is_aggregate : Selected → Bool
 is_aggregate (selected.Column column) = false
 is_aggregate _ = true
 
+abbrev pub any_aggregate : List SelectItem → Bool
+any_aggregate [] = false
+any_aggregate (item ∷ items) = is_aggregate item.selected || any_aggregate items
+
 abbrev pub has_aggregate : SelectList → Bool
 has_aggregate select.All = false
-has_aggregate (select.Listed items) = list_any (λ (item : SelectItem). is_aggregate item.selected) items
+has_aggregate (select.Listed items) = any_aggregate items
 
 abbrev pub is_all : SelectList → Bool
 is_all select.All = true

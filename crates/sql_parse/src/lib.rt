@@ -2,13 +2,16 @@
 #![tactic(auto)]
 
 mod clauses;
+mod limits;
 mod operands;
+mod parsing;
 mod predicates;
 mod refusal;
 mod tokens;
 pub mod tree;
 mod values;
 
+pub use crate::parsing::parse;
 pub use crate::tree::{
     ColumnName, Equality, Join, Place, Query, SelectItem, SelectList, Selected,
 };

@@ -1,6 +1,6 @@
 //! The limits of number and of names, in one pass over the tokens.
 
-ghost use Rattle.std.specs.Prelude.{◌≡◌, ◌≤◌, IfOk};
+ghost use Rattle.std.specs.Prelude.{◌≡◌, ◌≤◌, false, IfOk};
 ghost use Rattle.sql_parse.specs.Limits as limits;
 ghost use Rattle.sql_parse.specs.Tokens.{marks};
 
@@ -33,7 +33,7 @@ pub(crate) struct Tally {
 
 impl Tally {
     // What is announced with the next token.
-    #[tactic(auto, unfolding(crate::specs::Tokens::same_word, crate::specs::Tokens::same_symbol))]
+    #[tactic(auto, unfolding(crate::specs::Limits::counted, crate::specs::Tokens::same_word, crate::specs::Tokens::same_symbol))]
     fn counted(self, kind: TokenKind) -> Tally
         requires places { self.places ≤ 4 }
         requires items { self.items ≤ 256 }
@@ -65,14 +65,17 @@ impl Tally {
     }
 
     // Whether the place or the item that was announced last is one too many.
+    #[tactic(auto, unfolding(crate::specs::Limits::is_past))]
     fn is_past(self) -> bool
-        ensures { result ≡ limits.is_past self }
+        ensures exact { result ≡ limits.is_past self }
+        ensures within { result ≡ false → (self.places ≤ 4) × (self.items ≤ self.most) }
     {
         self.places > MOST_PLACES || self.items > self.most
     }
 }
 
 // Whether the token is a name that is too long.
+#[tactic(auto, unfolding(crate::specs::Limits::is_long_name))]
 fn is_long_name(alloc: Global, token: Token<'_>) -> Result<bool, AllocError>
     ensures { IfOk result (λ long. long ≡ limits.is_long_name token.entry.kind token.entry.text.now) }
 {
@@ -97,7 +100,7 @@ pub(crate) fn passes_limit(alloc: Global, tokens: &[Token<'_>]) -> Result<bool, 
         most: MOST_ITEMS,
     };
     for token in tokens {
-        if tally.is_past() || is_long_name(alloc, *token)? {
+        if is_long_name(alloc, *token)? || tally.is_past() {
             return Ok(true);
         }
         tally = tally.counted(token.kind);
