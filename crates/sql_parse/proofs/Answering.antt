@@ -17,8 +17,16 @@ use Rattle.sql_parse.specs.Parse.{IsSentence, IsShallow, Accepts, PassesLimit, H
 use Rattle.sql_parse.specs.Productions.{query}
 use Rattle.sql_parse.specs.Factored.{factor}
 use Rattle.sql_parse.specs.Sentence.{Sentence}
-use Rattle.sql_parse.specs.Told.{Told}
-use Rattle.sql_parse.specs.Tokens.{Mark, mark, marks}
+use Rattle.sql_parse.specs.Told.{Told, checked, refused}
+use Rattle.sql_parse.specs.Parse.{Answered, Parsed}
+use Rattle.sql_text.specs.Standard.{Lexeme}
+use Rattle.sql_text.specs.Reading.{tokens_in, tokens_from}
+use Rattle.sql_text.specs.Calls.{lexeme_of}
+use Rattle.std.proofs.lemmas.Bool.{leb-true}
+use Rattle.std.specs.Prelude.{nat_le, not, if◌then◌else◌}
+use Rattle.scan_base.specs.declared.fault.Fault.TheVariants.{OutOfMemory}
+use Rattle.scan_base.specs.Reading.{GivesUnlessMemory, ◌>>=◌, demand}
+use Rattle.sql_parse.specs.Tokens.{Mark, mark, mark_of, marks}
 use Rattle.sql_parse.proofs.ClauseReading.{query_same}
 use Rattle.sql_parse.proofs.Printed.{read_shallow, printed_shallow, read_sentence, printed_sentence, sentence_of_shallow}
 use Rattle.sql_parse.proofs.Whole.{told}
@@ -103,3 +111,43 @@ pub offends : (xs : List Token) (left end : ℕ) (fault : Fault) → ((place : L
 offends xs left end fault w p f =
     let c = cut_at xs left w in
     inr (inl (c.0, record { offends = c.1; counts = subst (λ (z : List Mark). passes z ≡ false) c.3 p }, f ∙ ap (fault_at end) c.4))
+
+-- ---- the answers, as the code comes to them
+
+by_flags : {X : Type 0} (view : X → Sentence) (ts : List Mark) (end : ℕ) (s : Sentence) (r : Result X Fault) → IsShallow ts s × ((other : Sentence) → IsSentence ts other → other ≡ s) → (p w : Bool) → passes ts ≡ p → is_left_out_whole s ≡ w →
+    GivesUnlessMemory view r (demand (not p) LimitReached >>= λ _. (demand (not w) NotInSubset >>= λ _. Ok s)) → Answered view ts end r
+by_flags view ts end s (Ok x) t true w ep ew g = cc
+by_flags view ts end s (Ok x) t false true ep ew g = cc
+by_flags view ts end s (Ok x) t false false ep ew g = let e : s ≡ view x = cc in subst (Accepts ts) e (accepted ts s t ep ew)
+by_flags view ts end s (Err fault) t true w ep ew g = λ ne. let e : LimitReached ≡ fault = (let h = g ne in cc) in subst (Refuses ts end) e (whole_past ts end s t.0 ep)
+by_flags view ts end s (Err fault) t false true ep ew g = λ ne. let e : NotInSubset ≡ fault = (let h = g ne in cc) in subst (Refuses ts end) e (left_out ts end s t.0 ep ew)
+by_flags view ts end s (Err fault) t false false ep ew g = λ ne. let h = g ne in cc
+
+pub whole_answer : {X Y : Type 0} (view : X → Sentence) (ts : List Mark) (end : ℕ) (seen_as : Y → Sentence) (y : Y) (r : Result X Fault) → Told seen_as ts (Ok y) → GivesUnlessMemory view r (checked ts (seen_as y)) → Answered view ts end r
+whole_answer view ts end seen_as y r t g = by_flags view ts end (seen_as y) r t (passes ts) (is_left_out_whole (seen_as y)) refl refl g
+
+pub refused_answer : {Y : Type 0} (seen_as : Y → Sentence) (xs : List Token) (left end : ℕ) (fault : Fault) → Told seen_as (marks xs) (Err (refusal.Offends left)) →
+    (fault ≢ OutOfMemory → fault ≡ refused (marks (take (length xs - left) xs)) (marks (drop (length xs - left) xs)) end) → fault ≢ OutOfMemory → Refuses (marks xs) end fault
+refused_answer seen_as xs left end fault t g ne = go (passes (marks (take (length xs - left) xs))) refl (g ne)
+  where
+    go : (p : Bool) → passes (marks (take (length xs - left) xs)) ≡ p → fault ≡ (if p then LimitReached else fault_at end (marks (drop (length xs - left) xs))) → Refuses (marks xs) end fault
+    go true e f = subst (Refuses (marks xs) end) (sym f) (front_past xs left end t e)
+    go false e f = offends xs left end fault t e f
+
+-- ---- of a text
+
+marks_same : (xs : List Token) → map mark_of (map lexeme_of xs) ≡ marks xs
+marks_same [] = refl
+marks_same (x ∷ xs) = ap (λ (z : List Mark). mark x ∷ z) (marks_same xs)
+
+pub parsed_by : {X : Type 0} (view : X → Sentence) (text : List ℕ) (xs : List Token) (r : Result X Fault) → tokens_in text ≡ Ok (map lexeme_of xs) → Answered view (marks xs) (length text) r → Parsed view text r
+parsed_by view text xs (Ok x) e a = (map lexeme_of xs, e, subst (λ (z : List Mark). Accepts z (view x)) (sym (marks_same xs)) a)
+parsed_by view text xs (Err fault) e a = λ ne. inr (map lexeme_of xs, e, subst (λ (z : List Mark). Refuses z (length text) fault) (sym (marks_same xs)) (a ne))
+
+demanded : {A : Type 0} (b : Bool) (f : Unit {0} → Result A Fault) (x : A) → (demand b LimitReached >>= f) ≡ Ok x → b ≡ true
+demanded true f x e = refl
+demanded false f x e = cc
+
+pub short_text : (text : List ℕ) (lexemes : List Lexeme) → tokens_in text ≡ Ok lexemes → length text ≤ 16384
+unfolding tokens_in
+short_text text lexemes e = leb-true (length text) 16384 (demanded (nat_le (length text) 16384) (λ _. tokens_from 0 text) lexemes e)

@@ -1,8 +1,9 @@
 //! Parsing a text.
 
-ghost use Rattle.std.specs.Prelude.{◌≡◌};
-ghost use Rattle.sql_parse.specs.Calls.{unread};
-ghost use Rattle.sql_parse.specs.Told.{Told};
+ghost use Rattle.std.specs.Prelude.{◌≡◌, ◌≢◌};
+ghost use Rattle.scan_base.specs.Reading.{GivesUnlessMemory};
+ghost use Rattle.scan_base.specs.declared.fault.Fault.TheVariants.{OutOfMemory};
+ghost use Rattle.sql_parse.specs.Told.{checked, refused};
 ghost use Rattle.sql_parse.specs.Parse.{Answered, Parsed, fault_at, is_aggregate, any_aggregate, has_aggregate, is_left_out_whole};
 ghost use Rattle.sql_parse.specs.Sentence.{sentence_of};
 ghost use Rattle.sql_parse.specs.Tokens.{marks};
@@ -84,27 +85,39 @@ fn fault_of(tokens: &[Token<'_>], end: u32) -> Fault
     }
 }
 
+// The query that the tokens are, where they pass no limit and it is not left out as a whole.
+fn checked(alloc: Global, query: Query, tokens: &[Token<'_>]) -> Result<Query, Fault>
+    ensures { GivesUnlessMemory sentence_of result (checked (marks tokens.now) (sentence_of query)) }
+{
+    if passes_limit(alloc, tokens)? {
+        return Err(Fault::LimitReached);
+    }
+    if query.is_left_out() {
+        return Err(Fault::NotInSubset);
+    }
+    Ok(query)
+}
+
+// The fault where the first token of the place offends: the limit's, where one before it passes a limit.
+fn refused(alloc: Global, front: &[Token<'_>], place: &[Token<'_>], end: u32) -> Fault
+    ensures { result ≢ OutOfMemory → result ≡ refused (marks front.now) (marks place.now) end }
+{
+    match passes_limit(alloc, front) {
+        Ok(true) => Fault::LimitReached,
+        Ok(false) => fault_of(place, end),
+        Err(error) => Fault::from(error),
+    }
+}
+
 // The query that the tokens are, or the first fault, where the text ends at `end`.
 fn parse_tokens(alloc: Global, tokens: &[Token<'_>], end: u32) -> Result<Query, Fault>
     ensures { Answered sentence_of (marks tokens.now) end result }
 {
     match whole_query(alloc, MOST_OPEN, Rest { tokens }) {
-        Ok(query) => {
-            if passes_limit(alloc, tokens)? {
-                Err(Fault::LimitReached)
-            } else if query.is_left_out() {
-                Err(Fault::NotInSubset)
-            } else {
-                Ok(query)
-            }
-        }
+        Ok(query) => checked(alloc, query, tokens),
         Err(Refusal::Offends(left)) => {
             let (front, place) = tokens.split_at(tokens.len() - left);
-            if passes_limit(alloc, front)? {
-                Err(Fault::LimitReached)
-            } else {
-                Err(fault_of(place, end))
-            }
+            Err(refused(alloc, front, place, end))
         }
         Err(Refusal::TooDeep) => Err(Fault::LimitReached),
         Err(Refusal::OutOfMemory) => Err(Fault::OutOfMemory),
