@@ -70,7 +70,7 @@ word_stands b tail first =
       len_is = rw len refl;
     }
 
-digits_bound : (b : ℕ) (tail : List ℕ) (form : Form) (t more : List ℕ) → Begins form numerals → tail ≡ t ++ more → Spells form (b ∷ t) → length (b ∷ t) ≤ suc (prefix_len is_ascii_digit tail)
+pub digits_bound : (b : ℕ) (tail : List ℕ) (form : Form) (t more : List ℕ) → Begins form numerals → tail ≡ t ++ more → Spells form (b ∷ t) → length (b ∷ t) ≤ suc (prefix_len is_ascii_digit tail)
 digits_bound b tail digits t more g e h =
     let fits : length t ≤ prefix_len is_ascii_digit tail = rw e (all_fits is_ascii_digit t more (second (is_ascii_digit b) _ h.1)) in
     omega arith
@@ -80,7 +80,7 @@ digits_bound b tail digits t more g e h =
     second false y p = absurd cc
 digits_bound b tail form t more g e h = absurd g
 
-pub digits_stands : (b : ℕ) (tail : List ℕ) → is_ascii_digit b ≡ true → Stands (b ∷ tail) digits (suc (prefix_len is_ascii_digit tail))
+unfoldable pub digits_stands : (b : ℕ) (tail : List ℕ) → is_ascii_digit b ≡ true → Stands (b ∷ tail) digits (suc (prefix_len is_ascii_digit tail))
 digits_stands b tail first =
     let n = prefix_len is_ascii_digit tail in
     let len : length (take n tail) ≡ n = length-prefix_len is_ascii_digit tail in
@@ -98,9 +98,9 @@ digits_stands b tail first =
 -- ---- quotes
 
 -- a piece in these quotes is no longer than n, where its value in quotes, or behind the quote that opens, is not
-record Bounded (quote : ℕ) (tail : List ℕ) (n : ℕ) : Type 0 where
-  closed : (value more : List ℕ) → tail ≡ flat_map (doubled quote) value ++ (quote ∷ more) → length (flat_map (doubled quote) value) + 2 ≤ n
-  unended : (value more : List ℕ) → tail ≡ flat_map (doubled quote) value ++ more → length (flat_map (doubled quote) value) + 1 ≤ n
+pub record Bounded (quote : ℕ) (tail : List ℕ) (n : ℕ) : Type 0 where
+  pub closed : (value more : List ℕ) → tail ≡ flat_map (doubled quote) value ++ (quote ∷ more) → length (flat_map (doubled quote) value) + 2 ≤ n
+  pub unended : (value more : List ℕ) → tail ≡ flat_map (doubled quote) value ++ more → length (flat_map (doubled quote) value) + 1 ≤ n
 
 quoted_bound : (quote : ℕ) (tail : List ℕ) (n : ℕ) → Bounded quote tail n → (b : ℕ) (t more value : List ℕ) → tail ≡ t ++ more → b ∷ t ≡ quoted quote value → length (b ∷ t) ≤ n
 quoted_bound quote tail n bounded b t more value e f =
@@ -114,7 +114,7 @@ opened_bound quote tail n bounded b t more value e f =
     let le = bounded.unended value more (e ∙ rw same refl) in
     rw same (omega arith)
 
-double_bound : (tail : List ℕ) (n : ℕ) → Bounded 34 tail n → (form : Form) (t more : List ℕ) → Begins form double_quotes → tail ≡ t ++ more → Spells form (34 ∷ t) → length (34 ∷ t) ≤ n
+pub double_bound : (tail : List ℕ) (n : ℕ) → Bounded 34 tail n → (form : Form) (t more : List ℕ) → Begins form double_quotes → tail ≡ t ++ more → Spells form (34 ∷ t) → length (34 ∷ t) ≤ n
 double_bound tail n bounded delimited_name t more g e h = quoted_bound 34 tail n bounded 34 t more h.0 e h.1
 double_bound tail n bounded unclosed t more g e h =
     let f = h.3 in
@@ -122,7 +122,7 @@ double_bound tail n bounded unclosed t more g e h =
     opened_bound 34 tail n bounded 34 t more h.1 e (rw same at h.3)
 double_bound tail n bounded form t more g e h = absurd g
 
-single_bound : (tail : List ℕ) (n : ℕ) → Bounded 39 tail n → (form : Form) (t more : List ℕ) → Begins form single_quotes → tail ≡ t ++ more → Spells form (39 ∷ t) → length (39 ∷ t) ≤ n
+pub single_bound : (tail : List ℕ) (n : ℕ) → Bounded 39 tail n → (form : Form) (t more : List ℕ) → Begins form single_quotes → tail ≡ t ++ more → Spells form (39 ∷ t) → length (39 ∷ t) ≤ n
 single_bound tail n bounded string t more g e h = quoted_bound 39 tail n bounded 39 t more h.0 e h.1
 single_bound tail n bounded unclosed t more g e h =
     let f = h.3 in
@@ -130,7 +130,7 @@ single_bound tail n bounded unclosed t more g e h =
     opened_bound 39 tail n bounded 39 t more h.1 e (rw same at h.3)
 single_bound tail n bounded form t more g e h = absurd g
 
-closed_bounded : (quote : ℕ) (tail : List ℕ) (len : ℕ) → Closed quote 0 tail len → Bounded quote tail (1 + len)
+pub closed_bounded : (quote : ℕ) (tail : List ℕ) (len : ℕ) → Closed quote 0 tail len → Bounded quote tail (1 + len)
 closed_bounded quote tail len c = record {
   closed = λ value more e. (let le = no_longer quote c.value value c.rest (quote ∷ more) c.parts (sym c.whole ∙ e) in omega (arith, c.len_is));
   unended = λ value more e. (let le = no_longer quote c.value value c.rest more c.parts (sym c.whole ∙ e) in omega (arith, c.len_is));
@@ -142,7 +142,7 @@ whole_bounded quote tail = record {
   unended = λ value more e. omega (arith, ap length e, length-append (flat_map (doubled quote) value) more);
 }
 
-double_stands : (tail : List ℕ) (len : ℕ) → Closed 34 0 tail len → Stands (34 ∷ tail) delimited_name (1 + len)
+unfoldable pub double_stands : (tail : List ℕ) (len : ℕ) → Closed 34 0 tail len → Stands (34 ∷ tail) delimited_name (1 + len)
 double_stands tail len c =
     let value = flat_map (doubled 34) c.value in
     let size : length (quoted 34 c.value) ≡ 1 + len = omega (arith, c.len_is, length-append value (34 ∷ [])) in
@@ -173,7 +173,7 @@ single_stands tail len c =
     }
 
 -- a quote that is not closed reaches to the end
-unclosed_stands : (quote : ℕ) (tail : List ℕ) → is_quote quote ≡ true → Open quote tail → Stands (quote ∷ tail) unclosed (suc (length tail))
+unfoldable pub unclosed_stands : (quote : ℕ) (tail : List ℕ) → is_quote quote ≡ true → Open quote tail → Stands (quote ∷ tail) unclosed (suc (length tail))
 unfolding Open
 unclosed_stands quote tail q h = record {
   front = quote ∷ tail;
@@ -218,14 +218,14 @@ comment_stands bytes =
     }
 
 -- a comment does not begin here
-abbrev NoComment : ℕ → List ℕ → Type 0
+abbrev pub NoComment : ℕ → List ℕ → Type 0
 NoComment first tail = (more : List ℕ) → first ≡ 45 → tail ≡ 45 ∷ more → ⊥
 
 -- a symbol here has at most n bytes
-record Marked (first : ℕ) (tail : List ℕ) (n : ℕ) : Type 0 where
-  no_comment : NoComment first tail
-  ones : (s : Symbol) → single first ≡ Some s → 1 ≤ n
-  twos : (s : Symbol) (c : ℕ) (more : List ℕ) → tail ≡ c ∷ more → pair first c ≡ Some s → 2 ≤ n
+pub record Marked (first : ℕ) (tail : List ℕ) (n : ℕ) : Type 0 where
+  pub no_comment : NoComment first tail
+  pub ones : (s : Symbol) → single first ≡ Some s → 1 ≤ n
+  pub twos : (s : Symbol) (c : ℕ) (more : List ℕ) → tail ≡ c ∷ more → pair first c ≡ Some s → 2 ≤ n
 
 mark_bound : (first : ℕ) (tail : List ℕ) (n : ℕ) → Marked first tail n → (form : Form) (t more : List ℕ) → Begins form marks → tail ≡ t ++ more → Spells form (first ∷ t) → length (first ∷ t) ≤ n
 unfolding single pair
@@ -266,7 +266,7 @@ two_stands first second bytes s g m h = record {
 }
 
 -- nothing stands here
-none_stands : (first : ℕ) (tail : List ℕ) → group first ≡ marks → Marked first tail 0 → (piece : Piece) (more : List ℕ) → StandsInFront piece (first ∷ tail) more → ⊥
+pub none_stands : (first : ℕ) (tail : List ℕ) → group first ≡ marks → Marked first tail 0 → (piece : Piece) (more : List ℕ) → StandsInFront piece (first ∷ tail) more → ⊥
 none_stands first tail g m piece more s = go piece.text (longest_of 0 first tail (λ form t more b e sp. mark_bound first tail 0 m form t more (rw g at b) e sp) piece.form piece.text more s.whole s.spells) s.spells
   where
     go : (text : List ℕ) → length text ≤ 0 → Spells piece.form text → ⊥
@@ -302,7 +302,7 @@ word_read b tail first front e =
     let d : Some (record { kind = Some (word_kind (b ∷ take m tail)); len = suc m }) ≡ Some front = rw len at e in
     read_as (b ∷ tail) _ front d (record { form = word; stands = word_stands b tail first; sound = refl; kind_is = refl })
 
-digits_len : (b : ℕ) (tail : List ℕ) → is_ascii_digit b ≡ true → prefix_len is_ascii_digit (b ∷ tail) ≡ suc (prefix_len is_ascii_digit tail)
+pub digits_len : (b : ℕ) (tail : List ℕ) → is_ascii_digit b ≡ true → prefix_len is_ascii_digit (b ∷ tail) ≡ suc (prefix_len is_ascii_digit tail)
 digits_len b tail first = rw first (omega arith)
 
 digits_read : (b : ℕ) (tail : List ℕ) → is_ascii_digit b ≡ true → (front : Front) → digits_front (b ∷ tail) ≡ Some front → Read (b ∷ tail) front

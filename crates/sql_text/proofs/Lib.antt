@@ -7,4 +7,8 @@ pub mod Fronts
 pub mod Boundaries
 pub mod Scanning
 pub mod Pairs
+pub mod Unique
+pub mod Faulty
+pub mod Cutting
+pub mod Kept
 pub mod Rows

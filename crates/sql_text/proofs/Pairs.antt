@@ -1,11 +1,15 @@
 -- Pairs of quotes, undone one by one.
-use Rattle.std.proofs.Common.{◌≡◌, ◌<◌, ◌≤◌, ℕ, zero, suc, ◌+◌, Bool, true, false, cond, List, [], ◌∷◌, ◌++◌, length, take, drop, get_or, Some, None, refl, sym, ap, arith}
+use Rattle.std.proofs.Common.{◌∙◌, ◌-◌, ◌≡◌, ◌<◌, ◌≤◌, ℕ, zero, suc, ◌+◌, Bool, true, false, cond, List, [], ◌∷◌, ◌++◌, length, take, drop, get_or, Some, None, refl, sym, ap, arith}
 use Rattle.std.specs.Prelude.{◌==◌, ◌&&◌}
-use Rattle.std.proofs.lemmas.Bool.{eqb-true}
+use Rattle.std.specs.Prelude.{nat_le}
+use Rattle.std.proofs.Math.Seq.{get_or-append_seam}
+use Rattle.std.proofs.lemmas.List.{take_at}
+use Rattle.std.proofs.lemmas.Bool.{eqb-true, eq-eqb, le-leb}
 use Rattle.std.proofs.lemmas.List.{length-drop, length-append, length-take-le, get_or-drop}
 use Rattle.std.specs.Str.{IsUtf8, IsCharBoundary}
 use Rattle.std.proofs.lemmas.Str.{IsUtf8-drop, IsCharBoundary-after_ascii}
-use Rattle.sql_text.specs.Values.{undoubled, pair_at}
+use Rattle.std.specs.List.{flat_map}
+use Rattle.sql_text.specs.Values.{doubled, quoted, inside, undoubled, unquoted, pair_at}
 
 pub pair_none : (quote at : ℕ) (bytes : List ℕ) → length bytes ≤ 1 → pair_at quote at bytes ≡ None
 pair_none quote at [] le = refl
@@ -97,3 +101,37 @@ pair_less quote at rest e =
     let undone : undoubled quote rest ≡ take (suc at) rest ++ undoubled quote (drop (at + 2) rest) = rw (← s, ← n_is) h.undone in
     let within : at + 1 < length rest = rw (← n_is) h.within in
     omega (arith, ap length undone, length-append (take (suc at) rest) (undoubled quote (drop (at + 2) rest)), length-take-le (suc at) rest (omega arith), length-drop (at + 2) rest)
+
+-- ---- what is written between quotes reads back
+
+undoubled_plain : (quote b : ℕ) (bytes : List ℕ) → (b == quote) ≡ false → undoubled quote (b ∷ bytes) ≡ b ∷ undoubled quote bytes
+undoubled_plain quote b [] e = refl
+undoubled_plain quote b (c ∷ bytes) e = rw e refl
+
+undoubled_doubled : (quote : ℕ) (value : List ℕ) → undoubled quote (flat_map (doubled quote) value) ≡ value
+undoubled_doubled quote [] = refl
+undoubled_doubled quote (b ∷ value) = go (undoubled_doubled quote value) (b == quote) refl
+  where
+    go : undoubled quote (flat_map (doubled quote) value) ≡ value → (x : Bool) → (b == quote) ≡ x → undoubled quote (doubled quote b ++ flat_map (doubled quote) value) ≡ b ∷ value
+    go more true e =
+        let same : b ≡ quote = eqb-true b quote e in
+        let here : (quote == quote) ≡ true = eq-eqb quote quote refl in
+        rw (same, here, here) (ap (λ (x : List ℕ). quote ∷ x) more)
+    go more false e = rw e (undoubled_plain quote b (flat_map (doubled quote) value) e ∙ ap (λ (x : List ℕ). b ∷ x) more)
+
+quoted_inside : (quote : ℕ) (value : List ℕ) → inside quote (quoted quote value) ≡ flat_map (doubled quote) value
+quoted_inside quote value =
+    let flat = flat_map (doubled quote) value in
+    let text = quoted quote value in
+    let len : length text ≡ length flat + 2 = omega (arith, length-append flat (quote ∷ [])) in
+    let long : nat_le 2 (length text) ≡ true = le-leb 2 (length text) (omega (arith, len)) in
+    let place : length text - 1 ≡ length (quote ∷ flat) = omega (arith, len) in
+    let last : get_or text (length text - 1) 0 ≡ quote = rw place (get_or-append_seam (quote ∷ flat) quote [] 0) in
+    let first : (quote == quote) ≡ true = eq-eqb quote quote refl in
+    let size : (length text - 1) - 1 ≡ length flat = omega (arith, len) in
+    let part : take ((length text - 1) - 1) (flat ++ (quote ∷ [])) ≡ flat = rw size (take_at flat (quote ∷ []) (length flat) refl) in
+    rw (long, last, first) part
+
+pub quoted_reads_back : (quote : ℕ) (value : List ℕ) → unquoted quote (quoted quote value) ≡ value
+unfolding unquoted
+quoted_reads_back quote value = ap (undoubled quote) (quoted_inside quote value) ∙ undoubled_doubled quote value

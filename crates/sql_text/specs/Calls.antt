@@ -1,12 +1,15 @@
 -- What the calls give.
-use Rattle.std.specs.Prelude.{ℕ, ℤ, List, map, Option, None}
+use Rattle.std.specs.Prelude.{◌≡◌, ◌≤◌, ◌<◌, ◌+◌, ℕ, ℤ, List, map, length, slice_range, Option, None, Result, Ok, Err, Vec}
+use Rattle.std.specs.Global.{Global}
+use Rattle.scan_base.specs.declared.fault.Fault.{Fault}
+use Rattle.scan_base.specs.declared.fault.Fault.TheVariants.{LimitReached, BadSql, OutOfMemory}
 use Rattle.std.specs.Str.{byte}
 use Rattle.sql_text.specs.declared.token.TokenKind.TheVariants as kind
 use Rattle.sql_text.specs.Values.{unquoted, number_of}
 use Rattle.sql_text.specs.declared.word.Meaning.{Meaning}
 use Rattle.sql_text.specs.declared.token.TokenKind.{TokenKind}
 use Rattle.sql_text.specs.declared.token.Token.{Token}
-use Rattle.sql_text.specs.Standard.{Lexeme}
+use Rattle.sql_text.specs.Standard.{Lexeme, AreTokens, HasFaultAt}
 
 -- a token of the code, without where its text lies in memory
 abbrev pub lexeme_of : Token → Lexeme
@@ -29,3 +32,16 @@ value_of token = said token.kind token.text
 abbrev pub numeral : TokenKind → List ℕ → Option ℤ
 numeral kind.Digits text = number_of text
 numeral other text = None
+
+-- what `tokens` answers, by the pieces of the text: they are these tokens, the text is too long, or there is
+-- the first fault
+abbrev pub KeepsPieces : Result (Vec Token Global) Fault → List ℕ → Type 0
+KeepsPieces (Ok tokens) text = (length text ≤ 16384) × AreTokens text (map lexeme_of tokens.items)
+KeepsPieces (Err LimitReached) text = 16384 < length text
+KeepsPieces (Err (BadSql position)) text = (length text ≤ 16384) × HasFaultAt text position
+KeepsPieces (Err OutOfMemory) text = Unit {0}
+KeepsPieces (Err other) text = ⊥
+
+-- the token's text is the part of the query at its place
+abbrev pub IsAtPlace : List ℕ → Lexeme → Type 0
+IsAtPlace sql token = slice_range sql token.start (token.start + length token.text) ≡ token.text

@@ -3,3 +3,4 @@ pub mod Values
 pub mod Standard
 pub mod Reading
 pub mod Calls
+pub mod Laws

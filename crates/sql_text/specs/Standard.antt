@@ -1,6 +1,6 @@
 -- What the tokens of a query are, apart from any order of reading. A text is cut into pieces, each the
 -- longest that stands at its place; then the pieces that are neither separators nor comments are tokens.
-use Rattle.std.specs.Prelude.{if◌then◌else◌, ◌≡◌, ◌≢◌, ℕ, ◌+◌, ◌≤◌, ◌==◌, ◌||◌, Bool, true, false, not, IsTrue, Option, Some, None, List, [], ◌∷◌, ◌++◌, length, All, codes}
+use Rattle.std.specs.Prelude.{if◌then◌else◌, ◌≡◌, ◌≢◌, ℕ, ◌+◌, ◌≤◌, ◌==◌, ◌||◌, Bool, true, false, not, IsTrue, Option, Some, None, List, [], ◌∷◌, ◌++◌, length, codes}
 use Rattle.std.specs.Char.{is_ascii_alphabetic, is_ascii_alphanumeric, is_ascii_digit}
 use Rattle.std.specs.List.{list_all}
 use Rattle.std.specs.Str.{byte, bytes_eq}
@@ -110,8 +110,8 @@ kind_of unclosed text = None
 kind_of digits text = Some kind.Digits
 kind_of (mark s) text = Some (kind.Symbol s)
 
-abbrev pub IsSound : Piece → Type 0
-IsSound piece = IsTrue (is_sound piece.form piece.text)
+abbrev pub sound : Piece → Bool
+sound piece = is_sound piece.form piece.text
 
 -- a token: what it is, how many bytes of the text stand before it, and its bytes
 pub record Lexeme : Type 0 where
@@ -137,7 +137,7 @@ tokens_of start (piece ∷ pieces) =
 pub record AreTokens (text : List ℕ) (tokens : List Lexeme) : Type 0 where
   pub pieces : List Piece
   pub cut : AreCut text pieces []
-  pub sound : All IsSound pieces
+  pub all_sound : IsTrue (list_all sound pieces)
   pub are : tokens ≡ tokens_of 0 pieces
 
 -- behind so many bytes, all of them pieces without a fault, bytes are left, and no piece without a fault is
@@ -146,7 +146,7 @@ pub record HasFaultAt (text : List ℕ) (position : ℕ) : Type 0 where
   pub pieces : List Piece
   pub rest : List ℕ
   pub cut : AreCut text pieces rest
-  pub sound : All IsSound pieces
+  pub all_sound : IsTrue (list_all sound pieces)
   pub position_is : position + length rest ≡ length text
   pub left : rest ≢ []
-  pub none : (piece : Piece) (more : List ℕ) → StandsInFront piece rest more → ¬ IsSound piece
+  pub none : (piece : Piece) (more : List ℕ) → StandsInFront piece rest more → sound piece ≡ false

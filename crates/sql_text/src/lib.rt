@@ -2,6 +2,7 @@
 #![tactic(auto)]
 
 mod front;
+pub mod laws;
 mod number;
 mod scan;
 pub mod symbol;

@@ -1,9 +1,9 @@
 //! The tokens of a query.
 
-ghost use Rattle.std.specs.Prelude.{◌≡◌, map};
+ghost use Rattle.std.specs.Prelude.{map, All, IfOk};
 ghost use Rattle.scan_base.specs.Reading.{GivesUnlessMemory};
 ghost use Rattle.sql_text.specs.Reading.{tokens_in};
-ghost use Rattle.sql_text.specs.Calls.{lexeme_of};
+ghost use Rattle.sql_text.specs.Calls.{lexeme_of, KeepsPieces, IsAtPlace};
 
 use crate::front::front_of;
 use crate::token::Token;
@@ -21,6 +21,14 @@ pub const MOST_BYTES: usize = 16_384;
 /// first byte of the first piece that is no token: a byte that begins none, a quote that is not closed, a
 /// delimited name that is empty, digits of 10^38 or more. `Fault::OutOfMemory` where memory is refused.
 pub fn tokens(alloc: Global, sql: &str) -> Result<Vec<Token<'_>>, Fault>
+    ensures exact { GivesUnlessMemory (λ tokens. map lexeme_of tokens.items) result (tokens_in sql.now) }
+    ensures pieces { KeepsPieces result sql.now }
+    ensures places { IfOk result (λ tokens. All (IsAtPlace sql.now) (map lexeme_of tokens.items)) }
+{
+    read_tokens(alloc, sql)
+}
+
+fn read_tokens(alloc: Global, sql: &str) -> Result<Vec<Token<'_>>, Fault>
     ensures { GivesUnlessMemory (λ tokens. map lexeme_of tokens.items) result (tokens_in sql.now) }
 {
     if sql.len() > MOST_BYTES {

@@ -3,7 +3,7 @@ use Rattle.std.specs.Str.{IsUtf8}
 use Rattle.scan_base.specs.Lists.{behind}
 use Rattle.sql_text.specs.Calls.{lexeme_of}
 use Rattle.sql_text.specs.Reading.{tokens_from}
-use Rattle.sql_text.proofs.scan.tokens.Given as goal
+use Rattle.sql_text.proofs.scan.read_tokens.Given as goal
 
 abbrev pub invariant-loop-rest : goal.invariant-loop-rest
 invariant-loop-rest l = record {
