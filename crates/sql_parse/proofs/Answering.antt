@@ -1,5 +1,5 @@
 -- What reading tells is what parsing answers.
-use Rattle.std.proofs.Common.{◌≡◌, ◌≢◌, ℕ, zero, suc, ◌+◌, ◌-◌, ◌≤◌, Bool, true, false, ◌⊎◌, inl, inr, List, [], ◌∷◌, ◌++◌, length, take, drop, map, Some, Ok, Err, refl, sym, ◌∙◌, ap, subst, arith}
+use Rattle.std.proofs.Common.{◌≡◌, ◌≢◌, ℕ, zero, suc, ◌+◌, ◌-◌, ◌≤◌, Bool, true, false, ◌⊎◌, inl, inr, List, [], ◌∷◌, ◌++◌, length, take, drop, map, Some, Ok, Err, refl, sym, ◌∙◌, ap, subst, arith, Fits, w32}
 use Rattle.std.specs.Prelude.{Result}
 use Rattle.scan_base.specs.declared.fault.Fault.{Fault}
 use Rattle.scan_base.specs.declared.fault.Fault.TheVariants.{LimitReached, NotInSubset}
@@ -19,13 +19,11 @@ use Rattle.sql_parse.specs.Factored.{factor}
 use Rattle.sql_parse.specs.Sentence.{Sentence}
 use Rattle.sql_parse.specs.Told.{Told, checked, refused}
 use Rattle.sql_parse.specs.Parse.{Answered, Parsed}
-use Rattle.sql_text.specs.Standard.{Lexeme}
-use Rattle.sql_text.specs.Reading.{tokens_in, tokens_from}
+use Rattle.sql_text.specs.Reading.{tokens_in}
 use Rattle.sql_text.specs.Calls.{lexeme_of}
-use Rattle.std.proofs.lemmas.Bool.{leb-true}
-use Rattle.std.specs.Prelude.{nat_le, not, if◌then◌else◌}
-use Rattle.scan_base.specs.declared.fault.Fault.TheVariants.{OutOfMemory}
-use Rattle.scan_base.specs.Reading.{GivesUnlessMemory, ◌>>=◌, demand}
+use Rattle.std.specs.Prelude.{not, if◌then◌else◌}
+use Rattle.scan_base.specs.Reading.{◌>>=◌, demand}
+use Rattle.scan_base.specs.Reading as fault
 use Rattle.sql_parse.specs.Tokens.{Mark, mark, mark_of, marks}
 use Rattle.sql_parse.proofs.ClauseReading.{query_same}
 use Rattle.sql_parse.proofs.Printed.{read_shallow, printed_shallow, read_sentence, printed_sentence, sentence_of_shallow}
@@ -115,20 +113,20 @@ offends xs left end fault w p f =
 -- ---- the answers, as the code comes to them
 
 by_flags : {X : Type 0} (view : X → Sentence) (ts : List Mark) (end : ℕ) (s : Sentence) (r : Result X Fault) → IsShallow ts s × ((other : Sentence) → IsSentence ts other → other ≡ s) → (p w : Bool) → passes ts ≡ p → is_left_out_whole s ≡ w →
-    GivesUnlessMemory view r (demand (not p) LimitReached >>= λ _. (demand (not w) NotInSubset >>= λ _. Ok s)) → Answered view ts end r
+    fault.Gives view r (demand (not p) LimitReached >>= λ _. (demand (not w) NotInSubset >>= λ _. Ok s)) → Answered view ts end r
 by_flags view ts end s (Ok x) t true w ep ew g = cc
 by_flags view ts end s (Ok x) t false true ep ew g = cc
 by_flags view ts end s (Ok x) t false false ep ew g = let e : s ≡ view x = cc in subst (Accepts ts) e (accepted ts s t ep ew)
-by_flags view ts end s (Err fault) t true w ep ew g = λ ne. let e : LimitReached ≡ fault = (let h = g ne in cc) in subst (Refuses ts end) e (whole_past ts end s t.0 ep)
-by_flags view ts end s (Err fault) t false true ep ew g = λ ne. let e : NotInSubset ≡ fault = (let h = g ne in cc) in subst (Refuses ts end) e (left_out ts end s t.0 ep ew)
-by_flags view ts end s (Err fault) t false false ep ew g = λ ne. let h = g ne in cc
+by_flags view ts end s (Err fault) t true w ep ew g = λ ne. let e : LimitReached ≡ fault = cc in subst (Refuses ts end) e (whole_past ts end s t.0 ep)
+by_flags view ts end s (Err fault) t false true ep ew g = λ ne. let e : NotInSubset ≡ fault = cc in subst (Refuses ts end) e (left_out ts end s t.0 ep ew)
+by_flags view ts end s (Err fault) t false false ep ew g = λ ne. cc
 
-pub whole_answer : {X Y : Type 0} (view : X → Sentence) (ts : List Mark) (end : ℕ) (seen_as : Y → Sentence) (y : Y) (r : Result X Fault) → Told seen_as ts (Ok y) → GivesUnlessMemory view r (checked ts (seen_as y)) → Answered view ts end r
+pub whole_answer : {X Y : Type 0} (view : X → Sentence) (ts : List Mark) (end : ℕ) (seen_as : Y → Sentence) (y : Y) (r : Result X Fault) → Told seen_as ts (Ok y) → fault.Gives view r (checked ts (seen_as y)) → Answered view ts end r
 whole_answer view ts end seen_as y r t g = by_flags view ts end (seen_as y) r t (passes ts) (is_left_out_whole (seen_as y)) refl refl g
 
 pub refused_answer : {Y : Type 0} (seen_as : Y → Sentence) (xs : List Token) (left end : ℕ) (fault : Fault) → Told seen_as (marks xs) (Err (refusal.Offends left)) →
-    (fault ≢ OutOfMemory → fault ≡ refused (marks (take (length xs - left) xs)) (marks (drop (length xs - left) xs)) end) → fault ≢ OutOfMemory → Refuses (marks xs) end fault
-refused_answer seen_as xs left end fault t g ne = go (passes (marks (take (length xs - left) xs))) refl (g ne)
+    fault ≡ refused (marks (take (length xs - left) xs)) (marks (drop (length xs - left) xs)) end → Refuses (marks xs) end fault
+refused_answer seen_as xs left end fault t g = go (passes (marks (take (length xs - left) xs))) refl g
   where
     go : (p : Bool) → passes (marks (take (length xs - left) xs)) ≡ p → fault ≡ (if p then LimitReached else fault_at end (marks (drop (length xs - left) xs))) → Refuses (marks xs) end fault
     go true e f = subst (Refuses (marks xs) end) (sym f) (front_past xs left end t e)
@@ -144,10 +142,5 @@ pub parsed_by : {X : Type 0} (view : X → Sentence) (text : List ℕ) (xs : Lis
 parsed_by view text xs (Ok x) e a = (map lexeme_of xs, e, subst (λ (z : List Mark). Accepts z (view x)) (sym (marks_same xs)) a)
 parsed_by view text xs (Err fault) e a = λ ne. inr (map lexeme_of xs, e, subst (λ (z : List Mark). Refuses z (length text) fault) (sym (marks_same xs)) (a ne))
 
-demanded : {A : Type 0} (b : Bool) (f : Unit {0} → Result A Fault) (x : A) → (demand b LimitReached >>= f) ≡ Ok x → b ≡ true
-demanded true f x e = refl
-demanded false f x e = cc
-
-pub short_text : (text : List ℕ) (lexemes : List Lexeme) → tokens_in text ≡ Ok lexemes → length text ≤ 16384
-unfolding tokens_in
-short_text text lexemes e = leb-true (length text) 16384 (demanded (nat_le (length text) 16384) (λ _. tokens_from 0 text) lexemes e)
+pub fits : (n : ℕ) → n ≤ 16384 → Fits w32 n
+fits n le = search (arith, le)

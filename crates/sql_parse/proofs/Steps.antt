@@ -1,11 +1,12 @@
 -- Reading by the grammar is these steps.
 use Rattle.std.proofs.Common.{◌≡◌, ℕ, zero, suc, ◌-◌, ◌<◌, Bool, true, false, cond, ◌||◌, List, [], ◌∷◌, ◌++◌, Option, Some, None, Ok, Err, refl, ◌∙◌, ap, sym, append_assoc, arith}
-use Rattle.std.specs.Prelude.{Result, ◌==◌}
+use Rattle.std.specs.Prelude.{Result, ◌==◌, ℤ}
+use Rattle.sql_text.specs.Values.{number_of}
 use Rattle.std.proofs.lemmas.Bool.{ne_eqb}
 use Rattle.sql_text.specs.declared.word.Keyword.TheVariants as word
 use Rattle.sql_text.specs.declared.symbol.Symbol.TheVariants as symbol
 use Rattle.sql_text.specs.declared.token.TokenKind.{TokenKind}
-use Rattle.grammar.specs.Reading.{Outcome, Read, Stuck, Over, Reader, and_then, reads, read, entered, token, begins, starts, well_made}
+use Rattle.grammar.specs.Reading.{Outcome, Read, Stuck, Over, Reader, and_then, kept, reads, read, entered, token, begins, starts, well_made}
 use Rattle.sql_parse.specs.Tokens.{Mark, is_word, is_symbol, is_name, same_word, same_symbol}
 use Rattle.sql_parse.specs.Answers.{Answer, seen, ◌>>=◌}
 use Rattle.sql_parse.specs.declared.refusal.Refusal.TheVariants as refusal
@@ -16,7 +17,7 @@ use Rattle.grammar.proofs.Deep.{flat_alike}
 use Rattle.sql_parse.specs.declared.tree.ColumnName.{ColumnName}
 use Rattle.sql_parse.specs.Productions.{Condition, name, column, minus, digits, number, string, operand, compare, negated, truth_value, conj, pred, inner, joined, a_word, a_symbol, ◌⊳◌, ◌⊲◌}
 use Rattle.sql_parse.specs.Factored.{compared, nulled, ranged, among, tail, forms, primary, test, factor}
-use Rattle.sql_parse.specs.Steps.{at, token_at, name_at, column_at, minus_at, digits_at, number_at, operand_at, compare_at, negated_at, truth_at, compared_at, nulled_at, ranged_at, operands_at, among_at, tail_at, factor_at, ands_at, conj_at, ors_at, pred_at, inside_at, primary_at, test_at, negation_at}
+use Rattle.sql_parse.specs.Steps.{at, token_at, name_at, column_at, minus_at, numbered, digits_at, number_at, operand_at, compare_at, negated_at, truth_at, compared_at, nulled_at, ranged_at, operands_at, among_at, tail_at, factor_at, ands_at, conj_at, ors_at, pred_at, inside_at, primary_at, test_at, negation_at}
 use Rattle.sql_parse.proofs.Whole.{one_more}
 
 pub seen_then : {A B : Type 0} (o : Outcome Mark A) (f : A → Reader Mark B) → seen (and_then o f) ≡ (seen o >>= λ p. seen (f p.0 p.1))
@@ -58,9 +59,14 @@ pub column_same : (D : Nest) (ts : List Mark) → seen (reads D column ts) ≡ c
 unfolding column column_at token_at at
 column_same D ts = simp (flat, name_same)
 
+seen_kept : (o : Option ℤ) (all rest : List Mark) → seen (kept o all rest) ≡ numbered o all rest
+unfolding seen
+seen_kept None all rest = refl
+seen_kept (Some n) all rest = refl
+
 digits_same : (D : Nest) (ts : List Mark) → seen (reads D digits ts) ≡ digits_at ts
-unfolding digits digits_at
-digits_same D ts = refl
+unfolding digits digits_at token_at
+digits_same D ts = simp (flat, seen_kept)
 
 number_same : (D : Nest) (ts : List Mark) → seen (reads D number ts) ≡ number_at ts
 unfolding number number_at token_at
@@ -200,7 +206,7 @@ nothing_after [] = refl
 nothing_after {A} (x ∷ xs) = ap (λ (z : List A). x ∷ z) (nothing_after xs)
 
 operand_made : well_made (a_symbol symbol.Comma ⊳ operand) ≡ true
-unfolding operand column name number minus digits string same_symbol same_word
+unfolding operand column name number minus digits string same_symbol same_word number_of
 operand_made = refl
 
 operands_flat : (D : Nest) (ts : List Mark) → reads D (many (a_symbol symbol.Comma ⊳ operand)) ts ≡ reads None (many (a_symbol symbol.Comma ⊳ operand)) ts

@@ -4,7 +4,8 @@ use Rattle.sql_text.specs.declared.word.Keyword.TheVariants as word
 use Rattle.sql_text.specs.declared.symbol.Symbol.TheVariants as symbol
 use Rattle.sql_text.specs.declared.token.TokenKind.{TokenKind}
 use Rattle.sql_parse.specs.declared.limits.Tally.{Tally}
-use Rattle.sql_parse.specs.Tokens.{Mark, is_word, is_symbol, is_name, name_in}
+use Rattle.sql_parse.specs.Tokens.{Mark, is_word, is_symbol, is_name}
+use Rattle.sql_text.specs.Calls.{said}
 
 -- The places that the tokens so far announce, and the items of the list that was begun last, of which there may be `most`.
 -- FROM and JOIN announce a place; SELECT, BY and IN begin a list and announce its first item, and a comma the next one.
@@ -21,7 +22,7 @@ unfoldable pub is_past : Tally → Bool
 is_past tally = nat_lt 4 tally.places || nat_lt tally.most tally.items
 
 unfoldable pub is_long_name : TokenKind → List ℕ → Bool
-is_long_name kind text = is_name kind && nat_lt 64 (length (name_in kind text))
+is_long_name kind text = is_name kind && nat_lt 64 (length (said kind text))
 
 abbrev pub passes_from : Tally → List Mark → Bool
 passes_from tally [] = false

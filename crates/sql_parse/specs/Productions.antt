@@ -1,5 +1,5 @@
 -- The grammar, production by production.
-use Rattle.std.specs.Prelude.{Bool, true, false, ◌||◌, ℕ, ℤ, neg_ℤ, List, [], ◌∷◌, Option, Some, None, option_map}
+use Rattle.std.specs.Prelude.{Bool, true, false, ◌||◌, ℕ, ℤ, neg_ℤ, List, [], ◌∷◌, Option, Some, None}
 use Rattle.std.specs.List.{list_any}
 use Rattle.scan_base.specs.declared.comparison.Comparison.{Comparison}
 use Rattle.scan_base.specs.declared.comparison.Comparison.TheVariants as comparison
@@ -26,7 +26,7 @@ use Rattle.sql_parse.specs.declared.tree.Place.{Place}
 use Rattle.sql_parse.specs.declared.tree.Equality.{Equality}
 use Rattle.sql_parse.specs.declared.tree.Join.{Join}
 use Rattle.sql_parse.specs.Sentence.{Sentence}
-use Rattle.sql_parse.specs.Tokens.{Span, Mark, is_word, is_symbol, is_name, is_string, is_digits, name_of, text_of, number_in, word_token, symbol_token, name_token, string_token, digits_token}
+use Rattle.sql_parse.specs.Tokens.{Span, Mark, is_word, is_symbol, is_name, is_string, is_digits, value_of, number_in, word_token, symbol_token, name_token, string_token, digits_token}
 
 abbrev pub Condition : Type 0
 Condition = Pred ColumnName
@@ -77,7 +77,7 @@ is_one_of tests k = list_any (λ test. test k) tests
 -- ---- operands
 
 unfoldable pub name : Of (List ℕ)
-name = one is_name name_of name_token
+name = one is_name (λ t. Some (value_of t)) name_token
 
 abbrev pub column_name : List ℕ → Option (List ℕ) → ColumnName
 column_name first None = record { place = None; name = first }
@@ -102,7 +102,7 @@ unfoldable pub number : Of Value
 number = make (λ p. value.Int (signed p.0 p.1)) (both minus digits)
 
 unfoldable pub string : Of Value
-string = one is_string (λ t. option_map value.Text (text_of t)) string_token
+string = one is_string (λ t. Some (value.Text (value_of t))) string_token
 
 -- column | string | TRUE | FALSE | number
 unfoldable pub operand : Of (Operand ColumnName)

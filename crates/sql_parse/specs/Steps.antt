@@ -19,7 +19,7 @@ use Rattle.grammar.specs.Reading.{Reader, begins, token, taken, reads, read}
 use Rattle.sql_parse.specs.declared.tree.ColumnName.{ColumnName}
 use Rattle.sql_parse.specs.declared.refusal.Refusal.{Refusal}
 use Rattle.sql_parse.specs.declared.refusal.Refusal.TheVariants as refusal
-use Rattle.sql_parse.specs.Tokens.{Mark, is_word, is_symbol, is_name, is_string, is_digits, name_in, unquoted, number_in}
+use Rattle.sql_parse.specs.Tokens.{Mark, is_word, is_symbol, is_name, is_string, is_digits, value_of, number_in}
 use Rattle.sql_parse.specs.Answers.{Answer, seen, ◌>>=◌}
 use Rattle.sql_parse.specs.Productions.{Condition, a_word, a_symbol, ◌⊳◌, column_name, signed, operand, joined, inner, conj}
 use Rattle.sql_parse.specs.Factored.{factor}
@@ -35,7 +35,7 @@ token_at p ts = seen (token p ts)
 unfoldable pub name_at : List Mark → Answer (List ℕ)
 name_at ts = do
   t ← token_at is_name ts
-  Ok (name_in t.0.0 t.0.1.1, t.1)
+  Ok (value_of t.0, t.1)
 
 unfoldable pub column_at : List Mark → Answer ColumnName
 column_at ts = do
@@ -53,8 +53,15 @@ minus_at ts =
         t ← token_at (is_symbol symbol.Plus) ts
         Ok (false, t.1)) else Ok (false, ts))
 
+-- the number, where the tokens before and behind it are these
+abbrev pub numbered : Option ℤ → List Mark → List Mark → Answer ℤ
+numbered None all rest = Err (refusal.Offends (length all))
+numbered (Some n) all rest = Ok (n, rest)
+
 unfoldable pub digits_at : List Mark → Answer ℤ
-digits_at ts = seen (taken is_digits number_in ts)
+digits_at ts = do
+  t ← token_at is_digits ts
+  numbered (number_in t.0) ts t.1
 
 unfoldable pub number_at : List Mark → Answer Value
 number_at ts = do
@@ -68,7 +75,7 @@ operand_at ts =
       c ← column_at ts
       Ok (Column c.0, c.1)) else (if at is_string ts then (do
         t ← token_at is_string ts
-        Ok (Literal (value.Text (unquoted t.0.1.1)), t.1)) else (if at (is_word word.True) ts then (do
+        Ok (Literal (value.Text (value_of t.0)), t.1)) else (if at (is_word word.True) ts then (do
           t ← token_at (is_word word.True) ts
           Ok (Literal (value.Bool true), t.1)) else (if at (is_word word.False) ts then (do
             t ← token_at (is_word word.False) ts

@@ -1,7 +1,6 @@
 -- Tokens as the grammar sees them: a kind, and where the token begins with its bytes.
 use Rattle.std.specs.Prelude.{ℕ, ◌==◌, ◌&&◌, Bool, true, false, List, [], ◌∷◌, map, codes, Option, Some, None, option_map, if◌then◌else◌, ℤ}
 use denote.Enum.Bare.{sameb}
-use Rattle.std.specs.Str.{byte}
 use Rattle.sql_text.specs.contracts.word.Keyword.{the_type as keyword_type}
 use Rattle.sql_text.specs.contracts.symbol.Symbol.{the_type as symbol_type}
 use Rattle.sql_text.specs.declared.word.Keyword.{Keyword}
@@ -12,9 +11,7 @@ use Rattle.sql_text.specs.declared.token.TokenKind.{TokenKind}
 use Rattle.sql_text.specs.declared.token.TokenKind.TheVariants as kind
 use Rattle.sql_text.specs.declared.token.Token.{Token}
 use Rattle.sql_text.specs.Standard.{Lexeme}
-use Rattle.sql_text.specs.Values.{is_small}
-use Rattle.std.specs.Prelude.{pos, length}
-use Rattle.std.specs.Str.Parse.{digits_value}
+use Rattle.sql_text.specs.Calls.{said, numeral}
 
 -- where a token begins, and its bytes
 abbrev pub Span : Type 0
@@ -81,27 +78,13 @@ kinds =
 
 -- ---- values
 
--- what stands between two quotes, where a quote that another follows is one of the value
-abbrev pub up_to_quote : ℕ → List ℕ → List ℕ
-up_to_quote quote [] = []
-up_to_quote quote (b ∷ []) = if b == quote then [] else b ∷ []
-up_to_quote quote (b ∷ c ∷ bytes) =
-    if b == quote then (if c == quote then quote ∷ up_to_quote quote bytes else []) else b ∷ up_to_quote quote (c ∷ bytes)
+-- what a token says: a name, or the text of a string
+abbrev pub value_of : Mark → List ℕ
+value_of token = said token.0 token.1.1
 
-abbrev pub unquoted : List ℕ → List ℕ
-unquoted bytes = bytes
-
-abbrev pub name_in : TokenKind → List ℕ → List ℕ
-name_in kind.DelimitedName text = unquoted text
-name_in _ text = text
-
--- the name that a token is
-abbrev pub name_of : Mark → Option (List ℕ)
-name_of token = Some (name_in token.0 token.1.1)
-
--- the text that a string says
-abbrev pub text_of : Mark → Option (List ℕ)
-text_of token = Some (unquoted token.1.1)
+-- the number that digits say
+abbrev pub number_in : Mark → Option ℤ
+number_in token = numeral token.0 token.1.1
 
 -- a token of each class
 abbrev pub word_token : Keyword → Mark
@@ -118,7 +101,3 @@ string_token = (kind.String, (0, codes "''"))
 
 abbrev pub digits_token : Mark
 digits_token = (kind.Digits, (0, codes "0"))
-
--- the number that digits say
-abbrev pub number_in : Mark → Option ℤ
-number_in token = Some (pos (length token.1.1))

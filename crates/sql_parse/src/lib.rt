@@ -9,7 +9,6 @@ mod predicates;
 mod refusal;
 mod tokens;
 pub mod tree;
-mod values;
 
 pub use crate::parsing::parse;
 pub use crate::tree::{

@@ -1,12 +1,10 @@
 //! The limits of number and of names, in one pass over the tokens.
 
-ghost use Rattle.std.specs.Prelude.{◌≡◌, ◌≤◌, false, IfOk};
+ghost use Rattle.std.specs.Prelude.{◌≡◌, ◌≤◌, false};
 ghost use Rattle.sql_parse.specs.Limits as limits;
 ghost use Rattle.sql_parse.specs.Tokens.{marks};
 
-use crate::values::name_text;
 use sql_text::{Keyword, Symbol, Token, TokenKind};
-use std::alloc::{AllocError, Global};
 
 /// A name has at most so many bytes.
 const MOST_NAME_BYTES: usize = 64;
@@ -76,23 +74,19 @@ impl Tally {
 
 // Whether the token is a name that is too long.
 #[tactic(auto, unfolding(crate::specs::Limits::is_long_name))]
-fn is_long_name(alloc: Global, token: Token<'_>) -> Result<bool, AllocError>
-    ensures { IfOk result (λ long. long ≡ limits.is_long_name token.entry.kind token.entry.text.now) }
+fn is_long_name(token: Token<'_>) -> bool
+    ensures { result ≡ limits.is_long_name token.entry.kind token.entry.text.now }
 {
     match token.kind {
-        TokenKind::Name => Ok(token.text.len() > MOST_NAME_BYTES),
-        TokenKind::DelimitedName => {
-            let name = name_text(alloc, token)?;
-            Ok(name.as_str().len() > MOST_NAME_BYTES)
-        }
-        _ => Ok(false),
+        TokenKind::Name | TokenKind::DelimitedName => token.value_len() > MOST_NAME_BYTES,
+        _ => false,
     }
 }
 
-/// Whether one of the tokens, which begin a sentence, passes a limit.
+/// Whether one of the tokens, which begin a sentence, passes a limit. It takes no memory.
 #[tactic(auto, unfolding(crate::specs::Limits::passes))]
-pub(crate) fn passes_limit(alloc: Global, tokens: &[Token<'_>]) -> Result<bool, AllocError>
-    ensures { IfOk result (λ passes. passes ≡ limits.passes (marks tokens.now)) }
+pub(crate) fn passes_limit(tokens: &[Token<'_>]) -> bool
+    ensures { result ≡ limits.passes (marks tokens.now) }
 {
     let mut tally = Tally {
         places: 0,
@@ -100,10 +94,10 @@ pub(crate) fn passes_limit(alloc: Global, tokens: &[Token<'_>]) -> Result<bool, 
         most: MOST_ITEMS,
     };
     for token in tokens {
-        if is_long_name(alloc, *token)? || tally.is_past() {
-            return Ok(true);
+        if is_long_name(*token) || tally.is_past() {
+            return true;
         }
         tally = tally.counted(token.kind);
     }
-    Ok(false)
+    false
 }

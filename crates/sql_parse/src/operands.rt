@@ -1,6 +1,6 @@
 //! Names, literals and comparisons.
 
-ghost use Rattle.std.specs.Prelude.{◌≡◌, ◌<◌, ◌≤◌, IfOk};
+ghost use Rattle.std.specs.Prelude.{◌≡◌, ◌<◌, ◌≤◌, ◌≤ℤ◌, pos, IfOk};
 ghost use Rattle.sql_parse.specs.Answers.{Gives};
 ghost use Rattle.sql_parse.specs.Calls.{unread, remaining};
 ghost use Rattle.sql_parse.specs.Steps as steps;
@@ -8,7 +8,6 @@ ghost use Rattle.sql_parse.specs.Steps as steps;
 use crate::refusal::Refusal;
 use crate::tokens::{Class, Rest};
 use crate::tree::ColumnName;
-use crate::values::{name_text, number, string_text};
 use scan_base::{Comparison, Operand, Text, Value};
 use sql_text::{Keyword, Symbol};
 use std::alloc::Global;
@@ -23,7 +22,7 @@ pub(crate) fn name<'t>(
     ensures shorter { IfOk result (λ x. remaining x.1 < remaining tokens.entry) }
 {
     let (token, rest) = tokens.take(Class::Name)?;
-    Ok((name_text(alloc, token)?, rest))
+    Ok((token.value(alloc)?, rest))
 }
 
 // name [ "." name ]
@@ -70,6 +69,20 @@ fn minus<'t>(tokens: Rest<'t>) -> Result<(bool, Rest<'t>), Refusal>
     }
 }
 
+// digits
+#[tactic(auto, unfolding(crate::specs::Steps::digits_at))]
+fn digits<'t>(tokens: Rest<'t>) -> Result<(i128, Rest<'t>), Refusal>
+    ensures exact { Gives (λ x. (x.0, unread x.1)) result (steps.digits_at (unread tokens.entry)) }
+    ensures shorter { IfOk result (λ x. remaining x.1 < remaining tokens.entry) }
+    ensures positive { IfOk result (λ x. pos 0 ≤ℤ x.0) }
+{
+    let (token, rest) = tokens.take(Class::Digits)?;
+    match token.number() {
+        Some(number) => Ok((number, rest)),
+        None => Err(Refusal::Offends(tokens.tokens.len())),
+    }
+}
+
 // [ "+" | "-" ] digits
 #[tactic(auto, unfolding(crate::specs::Steps::number_at))]
 fn signed_number<'t>(tokens: Rest<'t>) -> Result<(Value, Rest<'t>), Refusal>
@@ -77,7 +90,7 @@ fn signed_number<'t>(tokens: Rest<'t>) -> Result<(Value, Rest<'t>), Refusal>
     ensures shorter { IfOk result (λ x. remaining x.1 < remaining tokens.entry) }
 {
     let (negative, rest) = minus(tokens)?;
-    let (number, rest) = number(rest)?;
+    let (number, rest) = digits(rest)?;
     Ok((Value::Int(if negative { -number } else { number }), rest))
 }
 
@@ -95,7 +108,7 @@ pub(crate) fn operand<'t>(
         Ok((Operand::Column(column), rest))
     } else if tokens.at(Class::String) {
         let (token, rest) = tokens.take(Class::String)?;
-        let text = string_text(alloc, token)?;
+        let text = token.value(alloc)?;
         Ok((Operand::Literal(Value::Text(text)), rest))
     } else if tokens.at(Class::Word(Keyword::True)) {
         let (_, rest) = tokens.take(Class::Word(Keyword::True))?;

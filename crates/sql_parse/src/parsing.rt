@@ -1,8 +1,7 @@
 //! Parsing a text.
 
-ghost use Rattle.std.specs.Prelude.{◌≡◌, ◌≢◌};
-ghost use Rattle.scan_base.specs.Reading.{GivesUnlessMemory};
-ghost use Rattle.scan_base.specs.declared.fault.Fault.TheVariants.{OutOfMemory};
+ghost use Rattle.std.specs.Prelude.{◌≡◌};
+ghost use Rattle.scan_base.specs.Reading.{Gives};
 ghost use Rattle.sql_parse.specs.Told.{checked, refused};
 ghost use Rattle.sql_parse.specs.Parse.{Answered, Parsed, fault_at, is_aggregate, any_aggregate, has_aggregate, is_left_out_whole};
 ghost use Rattle.sql_parse.specs.Sentence.{sentence_of};
@@ -86,10 +85,10 @@ fn fault_of(tokens: &[Token<'_>], end: u32) -> Fault
 }
 
 // The query that the tokens are, where they pass no limit and it is not left out as a whole.
-fn checked(alloc: Global, query: Query, tokens: &[Token<'_>]) -> Result<Query, Fault>
-    ensures { GivesUnlessMemory sentence_of result (checked (marks tokens.now) (sentence_of query)) }
+fn checked(query: Query, tokens: &[Token<'_>]) -> Result<Query, Fault>
+    ensures { Gives sentence_of result (checked (marks tokens.now) (sentence_of query)) }
 {
-    if passes_limit(alloc, tokens)? {
+    if passes_limit(tokens) {
         return Err(Fault::LimitReached);
     }
     if query.is_left_out() {
@@ -99,13 +98,13 @@ fn checked(alloc: Global, query: Query, tokens: &[Token<'_>]) -> Result<Query, F
 }
 
 // The fault where the first token of the place offends: the limit's, where one before it passes a limit.
-fn refused(alloc: Global, front: &[Token<'_>], place: &[Token<'_>], end: u32) -> Fault
-    ensures { result ≢ OutOfMemory → result ≡ refused (marks front.now) (marks place.now) end }
+fn refused(front: &[Token<'_>], place: &[Token<'_>], end: u32) -> Fault
+    ensures { result ≡ refused (marks front.now) (marks place.now) end }
 {
-    match passes_limit(alloc, front) {
-        Ok(true) => Fault::LimitReached,
-        Ok(false) => fault_of(place, end),
-        Err(error) => Fault::from(error),
+    if passes_limit(front) {
+        Fault::LimitReached
+    } else {
+        fault_of(place, end)
     }
 }
 
@@ -114,10 +113,10 @@ fn parse_tokens(alloc: Global, tokens: &[Token<'_>], end: u32) -> Result<Query, 
     ensures { Answered sentence_of (marks tokens.now) end result }
 {
     match whole_query(alloc, MOST_OPEN, Rest { tokens }) {
-        Ok(query) => checked(alloc, query, tokens),
+        Ok(query) => checked(query, tokens),
         Err(Refusal::Offends(left)) => {
             let (front, place) = tokens.split_at(tokens.len() - left);
-            Err(refused(alloc, front, place, end))
+            Err(refused(front, place, end))
         }
         Err(Refusal::TooDeep) => Err(Fault::LimitReached),
         Err(Refusal::OutOfMemory) => Err(Fault::OutOfMemory),
