@@ -1,5 +1,5 @@
 -- What reading tells is what parsing answers.
-use Rattle.std.proofs.Common.{◌≡◌, ◌≢◌, ℕ, zero, suc, ◌+◌, ◌-◌, ◌≤◌, Bool, true, false, ◌⊎◌, inl, inr, List, [], ◌∷◌, ◌++◌, length, take, drop, map, Some, Ok, Err, refl, sym, ◌∙◌, ap, subst, arith, Fits, w32}
+use Rattle.std.proofs.Common.{◌≡◌, ◌≢◌, ℕ, ◌+◌, ◌-◌, ◌≤◌, Bool, true, false, inl, inr, List, [], ◌∷◌, ◌++◌, length, take, drop, map, Some, Ok, Err, refl, sym, ◌∙◌, ap, subst, arith, Fits, w32}
 use Rattle.std.specs.Prelude.{Result}
 use Rattle.scan_base.specs.declared.fault.Fault.{Fault}
 use Rattle.scan_base.specs.declared.fault.Fault.TheVariants.{LimitReached, NotInSubset}
@@ -11,9 +11,9 @@ use Rattle.grammar.proofs.Laws.{Within}
 use Rattle.sql_parse.specs.declared.refusal.Refusal.{Refusal}
 use Rattle.sql_parse.specs.declared.refusal.Refusal.TheVariants as refusal
 use Rattle.sql_parse.specs.Answers.{seen, Gives}
-use Rattle.sql_parse.specs.ClauseSteps.{query_at, whole_at, ended}
+use Rattle.sql_parse.specs.ClauseSteps.{whole_at, ended}
 use Rattle.sql_parse.specs.Limits.{passes}
-use Rattle.sql_parse.specs.Parse.{IsSentence, IsShallow, Accepts, PassesLimit, HasOffender, HasLeftOut, is_left_out_whole, fault_at, Refuses}
+use Rattle.sql_parse.specs.Parse.{IsSentence, IsShallow, Accepts, is_left_out_whole, fault_at, Refuses}
 use Rattle.sql_parse.specs.Productions.{query}
 use Rattle.sql_parse.specs.Factored.{factor}
 use Rattle.sql_parse.specs.Sentence.{Sentence}

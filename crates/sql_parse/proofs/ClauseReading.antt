@@ -1,24 +1,22 @@
 -- Reading the clauses is these steps.
-use Rattle.std.proofs.Common.{◌≡◌, ℕ, Bool, true, false, cond, ◌||◌, List, [], ◌∷◌, ◌++◌, Option, Some, None, Ok, Err, refl, ◌∙◌, ap, sym, append_assoc}
-use Rattle.std.specs.Prelude.{Result}
+use Rattle.std.proofs.Common.{◌≡◌, ℕ, Bool, true, false, cond, ◌||◌, List, [], ◌∷◌, ◌++◌, Some, None, Ok, refl, ◌∙◌, ap, sym}
 use Rattle.sql_text.specs.declared.word.Keyword.TheVariants as word
 use Rattle.sql_text.specs.declared.symbol.Symbol.TheVariants as symbol
-use Rattle.sql_text.specs.declared.token.TokenKind.{TokenKind}
 use Rattle.grammar.specs.Rule.{many}
-use Rattle.grammar.specs.Reading.{Outcome, Reader, reads, read, token, begins, starts, well_made, nullable, is_flat}
+use Rattle.grammar.specs.Reading.{reads, read, begins, starts, well_made, nullable, is_flat}
 use Rattle.grammar.proofs.Deep.{flat_alike}
 use Rattle.sql_parse.specs.declared.tree.ColumnName.{ColumnName}
 use Rattle.sql_parse.specs.declared.tree.SelectItem.{SelectItem}
 use Rattle.sql_parse.specs.declared.tree.Equality.{Equality}
 use Rattle.sql_parse.specs.declared.tree.Join.{Join}
 use Rattle.sql_parse.specs.Tokens.{Mark, is_word, is_symbol, is_name, same_word, same_symbol}
-use Rattle.sql_parse.specs.Answers.{Answer, seen, ◌>>=◌}
-use Rattle.sql_parse.specs.Productions.{Of, name, column, alias, selection, item, list, place, equal, join, group, filter, source, ending, query, pred, maybe, a_word, a_symbol, ◌⊳◌, ◌⊲◌}
+use Rattle.sql_parse.specs.Answers.{seen, ◌>>=◌}
+use Rattle.sql_parse.specs.Productions.{Of, name, column, alias, selection, item, list, place, equal, join, group, filter, source, ending, query, maybe, a_word, a_symbol, ◌⊳◌}
 use Rattle.sql_parse.specs.Factored.{factor}
-use Rattle.sql_parse.specs.Steps.{at, token_at, name_at, column_at, pred_at}
+use Rattle.sql_parse.specs.Steps.{at, token_at, column_at}
 use Rattle.sql_parse.specs.ClauseSteps.{alias_at, counted_at, selection_at, item_at, items_at, list_at, place_at, equal_at, equals_at, joined_at, join_at, joins_at, source_at, columns_at, group_at, filter_at, ending_at, query_at}
 use Rattle.sql_parse.proofs.Whole.{one_more}
-use Rattle.sql_parse.proofs.Steps.{Nest, flat, name_same, column_same, column_starts, pred_same, nil_after, nothing_after}
+use Rattle.sql_parse.proofs.Steps.{Nest, flat, name_same, column_same, pred_same, nil_after, nothing_after}
 
 or_false : (a b : Bool) → ((a || false) || b) ≡ (a || b)
 or_false true b = refl

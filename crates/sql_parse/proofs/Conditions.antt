@@ -1,6 +1,5 @@
 -- The grammar can be read with one token to look ahead at.
-use Rattle.std.proofs.Common.{◌≡◌, ℕ, Bool, true, false, List, [], ◌∷◌, refl}
-use Rattle.sql_text.specs.declared.token.TokenKind.{TokenKind}
+use Rattle.std.proofs.Common.{◌≡◌, true, false, refl}
 use Rattle.sql_text.specs.Values.{number_of}
 use Rattle.grammar.specs.Reading.{well_made, is_guarded, nullable, starts, covers, determined}
 use Rattle.sql_parse.specs.Tokens.{kinds, same_word, same_symbol}

@@ -7,7 +7,6 @@ use Rattle.sql_text.specs.declared.symbol.Symbol.{Symbol}
 use Rattle.sql_text.specs.declared.symbol.Symbol.TheVariants as symbol
 use Rattle.sql_text.specs.declared.token.TokenKind.{TokenKind}
 use Rattle.sql_text.specs.declared.token.TokenKind.TheVariants as kind
-use Rattle.grammar.specs.Reading.{disjoint, covers}
 use Rattle.grammar.proofs.Flags.{and-left, and-right}
 use Rattle.grammar.proofs.Rules.{Covers, Disjoins}
 use Rattle.sql_parse.specs.Tokens.{kinds}

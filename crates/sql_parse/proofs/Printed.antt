@@ -1,13 +1,11 @@
 -- The grammar as it is printed and the one that is read spell the same.
-use Rattle.std.proofs.Common.{◌≡◌, ℕ, zero, suc, Bool, true, false, ◌⊎◌, inl, inr, List, [], ◌∷◌, ◌++◌, Some, refl, sym, ◌∙◌, ap, subst}
-use Rattle.scan_base.specs.declared.predicate.Operand.{Operand}
-use Rattle.scan_base.specs.Predicate.{Pred, comparing, between, membership, null_test}
+use Rattle.std.proofs.Common.{◌≡◌, ℕ, zero, suc, Bool, true, false, inl, inr, List, [], ◌++◌, Some, refl, sym, ◌∙◌, ap, subst}
+use Rattle.scan_base.specs.Predicate.{comparing, between, membership, null_test}
 use Rattle.sql_text.specs.declared.word.Keyword.TheVariants as word
 use Rattle.sql_text.specs.declared.symbol.Symbol.TheVariants as symbol
 use Rattle.grammar.specs.Rule.{Rule, both, either, make, Language, Spells, Nested, Any, Nowhere}
 use Rattle.grammar.proofs.Laws.{Within}
 use Rattle.grammar.proofs.Rules.{wider}
-use Rattle.sql_parse.specs.declared.tree.ColumnName.{ColumnName}
 use Rattle.sql_parse.specs.Tokens.{Mark}
 use Rattle.sql_parse.specs.Productions.{Condition, Of, a_word, a_symbol, word_for, ◌⊳◌, ◌⊲◌, listed, operand, compare, negated, comparison_of, range_of, membership_of, null_test_of, simple, primary_of, test_of, factor_of}
 use Rattle.sql_parse.specs.Productions as printed

@@ -1,21 +1,19 @@
 -- Reading by the grammar is these steps.
-use Rattle.std.proofs.Common.{◌≡◌, ℕ, zero, suc, ◌-◌, ◌<◌, Bool, true, false, cond, ◌||◌, List, [], ◌∷◌, ◌++◌, Option, Some, None, Ok, Err, refl, ◌∙◌, ap, sym, append_assoc, arith}
-use Rattle.std.specs.Prelude.{Result, ◌==◌, ℤ}
+use Rattle.std.proofs.Common.{◌≡◌, ℕ, zero, suc, ◌-◌, Bool, true, false, cond, List, [], ◌∷◌, ◌++◌, Option, Some, None, Ok, Err, refl, ◌∙◌, ap, sym, append_assoc, arith}
+use Rattle.std.specs.Prelude.{◌==◌, ℤ}
 use Rattle.sql_text.specs.Values.{number_of}
 use Rattle.std.proofs.lemmas.Bool.{ne_eqb}
 use Rattle.sql_text.specs.declared.word.Keyword.TheVariants as word
 use Rattle.sql_text.specs.declared.symbol.Symbol.TheVariants as symbol
-use Rattle.sql_text.specs.declared.token.TokenKind.{TokenKind}
-use Rattle.grammar.specs.Reading.{Outcome, Read, Stuck, Over, Reader, and_then, kept, reads, read, entered, token, begins, starts, well_made}
+use Rattle.grammar.specs.Reading.{Outcome, Read, Stuck, Over, Reader, and_then, kept, reads, read, entered, begins, starts, well_made}
 use Rattle.sql_parse.specs.Tokens.{Mark, is_word, is_symbol, is_name, same_word, same_symbol}
 use Rattle.sql_parse.specs.Answers.{Answer, seen, ◌>>=◌}
-use Rattle.sql_parse.specs.declared.refusal.Refusal.TheVariants as refusal
 use Rattle.scan_base.specs.declared.predicate.Operand.{Operand}
-use Rattle.scan_base.specs.Predicate.{Pred, conjunction, disjunction, negation, truth_test}
+use Rattle.scan_base.specs.Predicate.{conjunction, disjunction, negation}
 use Rattle.grammar.specs.Rule.{many, make}
 use Rattle.grammar.proofs.Deep.{flat_alike}
 use Rattle.sql_parse.specs.declared.tree.ColumnName.{ColumnName}
-use Rattle.sql_parse.specs.Productions.{Condition, name, column, minus, digits, number, string, operand, compare, negated, truth_value, conj, pred, inner, joined, a_word, a_symbol, ◌⊳◌, ◌⊲◌}
+use Rattle.sql_parse.specs.Productions.{Condition, name, column, minus, digits, number, string, operand, compare, negated, truth_value, conj, pred, inner, a_word, a_symbol, ◌⊳◌, ◌⊲◌}
 use Rattle.sql_parse.specs.Factored.{compared, nulled, ranged, among, tail, forms, primary, test, factor}
 use Rattle.sql_parse.specs.Steps.{at, token_at, name_at, column_at, minus_at, numbered, digits_at, number_at, operand_at, compare_at, negated_at, truth_at, compared_at, nulled_at, ranged_at, operands_at, among_at, tail_at, factor_at, ands_at, conj_at, ors_at, pred_at, inside_at, primary_at, test_at, negation_at}
 use Rattle.sql_parse.proofs.Whole.{one_more}

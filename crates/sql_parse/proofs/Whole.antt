@@ -1,6 +1,6 @@
 -- What reading the grammar tells.
-use Rattle.std.proofs.Common.{◌≡◌, ℕ, Bool, true, false, cond, List, ◌∷◌, [], Some, refl}
-use Rattle.grammar.specs.Rule.{Rule, Spells, Nested, Any, many}
+use Rattle.std.proofs.Common.{◌≡◌, ℕ, true, false, cond, List, ◌∷◌, [], Some}
+use Rattle.grammar.specs.Rule.{Spells, Nested, Any, many}
 use Rattle.grammar.specs.Reading.{reads, read, Read, made, followed, begins, starts, wholly, well_made, nullable}
 use Rattle.grammar.specs.Sentence.{Tells}
 use Rattle.grammar.proofs.Exact.{exact, law_of, solid_rule}

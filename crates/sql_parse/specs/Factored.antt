@@ -1,10 +1,10 @@
 -- The grammar, where the forms of a predicate that begin with an operand share it, so that one token is enough to choose by.
-use Rattle.std.specs.Prelude.{Bool, true, false, List, ◌∷◌, [], Option, Some, None}
+use Rattle.std.specs.Prelude.{Bool, true, false}
 use Rattle.scan_base.specs.declared.predicate.Operand.{Operand}
-use Rattle.scan_base.specs.Predicate.{Pred, comparing, between, membership, null_test}
+use Rattle.scan_base.specs.Predicate.{comparing, between, membership, null_test}
 use Rattle.sql_text.specs.declared.word.Keyword.TheVariants as word
 use Rattle.sql_text.specs.declared.symbol.Symbol.TheVariants as symbol
-use Rattle.grammar.specs.Rule.{Rule, one, empty, both, either, many, make, opened, again}
+use Rattle.grammar.specs.Rule.{both, either, make}
 use Rattle.sql_parse.specs.declared.tree.ColumnName.{ColumnName}
 use Rattle.sql_parse.specs.Productions.{Condition, Of, a_word, a_symbol, ◌⊳◌, ◌⊲◌, listed, operand, compare, negated, primary_of, test_of, factor_of}
 

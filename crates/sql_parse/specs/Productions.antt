@@ -1,5 +1,5 @@
 -- The grammar, production by production.
-use Rattle.std.specs.Prelude.{Bool, true, false, ◌||◌, ℕ, ℤ, neg_ℤ, List, [], ◌∷◌, Option, Some, None}
+use Rattle.std.specs.Prelude.{Bool, true, false, ℕ, ℤ, neg_ℤ, List, [], ◌∷◌, Option, Some, None}
 use Rattle.std.specs.List.{list_any}
 use Rattle.scan_base.specs.declared.comparison.Comparison.{Comparison}
 use Rattle.scan_base.specs.declared.comparison.Comparison.TheVariants as comparison
@@ -26,7 +26,7 @@ use Rattle.sql_parse.specs.declared.tree.Place.{Place}
 use Rattle.sql_parse.specs.declared.tree.Equality.{Equality}
 use Rattle.sql_parse.specs.declared.tree.Join.{Join}
 use Rattle.sql_parse.specs.Sentence.{Sentence}
-use Rattle.sql_parse.specs.Tokens.{Span, Mark, is_word, is_symbol, is_name, is_string, is_digits, value_of, number_in, word_token, symbol_token, name_token, string_token, digits_token}
+use Rattle.sql_parse.specs.Tokens.{Span, is_word, is_symbol, is_name, is_string, is_digits, value_of, number_in, word_token, symbol_token, name_token, string_token, digits_token}
 
 abbrev pub Condition : Type 0
 Condition = Pred ColumnName

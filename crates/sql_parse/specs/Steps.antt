@@ -1,5 +1,5 @@
 -- The grammar's rules, step by step.
-use Rattle.std.specs.Prelude.{◌≡◌, ℕ, zero, suc, ◌-◌, ◌==◌, ◌||◌, Bool, true, false, cond, if◌then◌else◌, List, [], ◌∷◌, ◌++◌, length, Option, Some, None, Result, Ok, Err, ℤ}
+use Rattle.std.specs.Prelude.{ℕ, ◌-◌, ◌==◌, Bool, true, false, if◌then◌else◌, List, [], ◌∷◌, ◌++◌, length, Option, Some, None, Ok, Err, ℤ}
 use Rattle.scan_base.specs.declared.comparison.Comparison.{Comparison}
 use Rattle.scan_base.specs.declared.comparison.Comparison.TheVariants as comparison
 use Rattle.scan_base.specs.declared.truth.Truth.{Truth}
@@ -8,16 +8,13 @@ use Rattle.scan_base.specs.declared.value.Value.{Value}
 use Rattle.scan_base.specs.declared.value.Value.TheVariants as value
 use Rattle.scan_base.specs.declared.predicate.Operand.{Operand}
 use Rattle.scan_base.specs.declared.predicate.Operand.TheVariants.{Column, Literal}
-use Rattle.scan_base.specs.Predicate.{Pred, conjunction, disjunction, negation, truth_test, comparing, between, membership, null_test}
-use Rattle.sql_text.specs.declared.word.Keyword.{Keyword}
+use Rattle.scan_base.specs.Predicate.{conjunction, disjunction, negation, truth_test, comparing, between, membership, null_test}
 use Rattle.sql_text.specs.declared.word.Keyword.TheVariants as word
-use Rattle.sql_text.specs.declared.symbol.Symbol.{Symbol}
 use Rattle.sql_text.specs.declared.symbol.Symbol.TheVariants as symbol
 use Rattle.sql_text.specs.declared.token.TokenKind.{TokenKind}
-use Rattle.grammar.specs.Rule.{Rule, many}
-use Rattle.grammar.specs.Reading.{Reader, begins, token, taken, reads, read}
+use Rattle.grammar.specs.Rule.{many}
+use Rattle.grammar.specs.Reading.{begins, token, reads, read}
 use Rattle.sql_parse.specs.declared.tree.ColumnName.{ColumnName}
-use Rattle.sql_parse.specs.declared.refusal.Refusal.{Refusal}
 use Rattle.sql_parse.specs.declared.refusal.Refusal.TheVariants as refusal
 use Rattle.sql_parse.specs.Tokens.{Mark, is_word, is_symbol, is_name, is_string, is_digits, value_of, number_in}
 use Rattle.sql_parse.specs.Answers.{Answer, seen, ◌>>=◌}

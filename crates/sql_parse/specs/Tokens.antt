@@ -1,5 +1,5 @@
 -- Tokens as the grammar sees them: a kind, and where the token begins with its bytes.
-use Rattle.std.specs.Prelude.{ℕ, ◌==◌, ◌&&◌, Bool, true, false, List, [], ◌∷◌, map, codes, Option, Some, None, option_map, if◌then◌else◌, ℤ}
+use Rattle.std.specs.Prelude.{ℕ, Bool, true, false, List, [], ◌∷◌, map, codes, Option, ℤ}
 use denote.Enum.Bare.{sameb}
 use Rattle.sql_text.specs.contracts.word.Keyword.{the_type as keyword_type}
 use Rattle.sql_text.specs.contracts.symbol.Symbol.{the_type as symbol_type}

@@ -10,9 +10,7 @@ use crate::operands::{column, name};
 use crate::predicates::predicate;
 use crate::refusal::Refusal;
 use crate::tokens::{Class, Rest};
-use crate::tree::{
-    ColumnName, Equality, Join, Place, Query, SelectItem, SelectList, Selected,
-};
+use crate::tree::{ColumnName, Equality, Join, Place, Query, SelectItem, SelectList, Selected};
 use scan_base::{Items, Predicate, Text};
 use sql_text::{Keyword, Symbol};
 use std::alloc::Global;
@@ -214,10 +212,7 @@ fn joins<'t>(alloc: Global, tokens: Rest<'t>) -> Result<(Items<Join>, Rest<'t>),
 
 // FROM place { join }
 #[tactic(auto, unfolding(crate::specs::ClauseSteps::source_at))]
-fn source<'t>(
-    alloc: Global,
-    tokens: Rest<'t>,
-) -> Result<((Place, Items<Join>), Rest<'t>), Refusal>
+fn source<'t>(alloc: Global, tokens: Rest<'t>) -> Result<((Place, Items<Join>), Rest<'t>), Refusal>
     ensures exact { Gives (λ x. (x.0, unread x.1)) result (steps.source_at (unread tokens.entry)) }
 {
     let (_, rest) = tokens.take(Class::Word(Keyword::From))?;
@@ -301,11 +296,7 @@ fn ending<'t>(
 
 // SELECT list FROM place { join } [ WHERE .. ] [ GROUP BY .. ] [ ";" ]
 #[tactic(auto, unfolding(crate::specs::ClauseSteps::query_at))]
-fn query<'t>(
-    alloc: Global,
-    depth: usize,
-    tokens: Rest<'t>,
-) -> Result<(Query, Rest<'t>), Refusal>
+fn query<'t>(alloc: Global, depth: usize, tokens: Rest<'t>) -> Result<(Query, Rest<'t>), Refusal>
     ensures exact { Gives (λ x. (sentence_of x.0, unread x.1)) result (steps.query_at depth (unread tokens.entry)) }
 {
     let (_, rest) = tokens.take(Class::Word(Keyword::Select))?;
@@ -324,11 +315,7 @@ fn query<'t>(
 
 /// The query that the tokens, all of them, are, where `depth` parentheses and prefix NOTs may be open.
 #[tactic(auto, unfolding(crate::specs::ClauseSteps::whole_at))]
-pub(crate) fn whole_query(
-    alloc: Global,
-    depth: usize,
-    tokens: Rest<'_>,
-) -> Result<Query, Refusal>
+pub(crate) fn whole_query(alloc: Global, depth: usize, tokens: Rest<'_>) -> Result<Query, Refusal>
     ensures exact { Gives sentence_of result (steps.whole_at depth (unread tokens.entry)) }
 {
     let (query, rest) = query(alloc, depth, tokens)?;

@@ -11,6 +11,9 @@ mod tokens;
 pub mod tree;
 
 pub use crate::parsing::parse;
-pub use crate::tree::{
-    ColumnName, Equality, Join, Place, Query, SelectItem, SelectList, Selected,
-};
+pub use crate::tree::{ColumnName, Equality, Join, Place, Query, SelectItem, SelectList, Selected};
+
+#[cfg(test)]
+mod tests;
+#[cfg(test)]
+mod vectors;

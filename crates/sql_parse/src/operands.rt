@@ -14,10 +14,7 @@ use std::alloc::Global;
 
 // name
 #[tactic(auto, unfolding(crate::specs::Steps::name_at))]
-pub(crate) fn name<'t>(
-    alloc: Global,
-    tokens: Rest<'t>,
-) -> Result<(Text, Rest<'t>), Refusal>
+pub(crate) fn name<'t>(alloc: Global, tokens: Rest<'t>) -> Result<(Text, Rest<'t>), Refusal>
     ensures exact { Gives (λ x. (x.0, unread x.1)) result (steps.name_at (unread tokens.entry)) }
     ensures shorter { IfOk result (λ x. remaining x.1 < remaining tokens.entry) }
 {
@@ -27,10 +24,7 @@ pub(crate) fn name<'t>(
 
 // name [ "." name ]
 #[tactic(auto, unfolding(crate::specs::Steps::column_at))]
-pub(crate) fn column<'t>(
-    alloc: Global,
-    tokens: Rest<'t>,
-) -> Result<(ColumnName, Rest<'t>), Refusal>
+pub(crate) fn column<'t>(alloc: Global, tokens: Rest<'t>) -> Result<(ColumnName, Rest<'t>), Refusal>
     ensures exact { Gives (λ x. (x.0, unread x.1)) result (steps.column_at (unread tokens.entry)) }
     ensures shorter { IfOk result (λ x. remaining x.1 < remaining tokens.entry) }
 {
@@ -124,9 +118,7 @@ pub(crate) fn operand<'t>(
 
 // "=" | "<>" | "<" | "<=" | ">" | ">="
 #[tactic(auto, unfolding(crate::specs::Steps::compare_at))]
-pub(crate) fn compare<'t>(
-    tokens: Rest<'t>,
-) -> Result<(Comparison, Rest<'t>), Refusal>
+pub(crate) fn compare<'t>(tokens: Rest<'t>) -> Result<(Comparison, Rest<'t>), Refusal>
     ensures exact { Gives (λ x. (x.0, unread x.1)) result (steps.compare_at (unread tokens.entry)) }
     ensures shorter { IfOk result (λ x. remaining x.1 < remaining tokens.entry) }
 {

@@ -6,7 +6,7 @@ stands and run by Earley's recogniser over the tokens of sql_text's lexer (a lex
 the offending token is the first one with which no sentence of the grammar goes on. The limits are read
 off the recogniser's items. Nothing is shared with the crate, and no test needs this script.
 
-With the argument `--rattle` it prints the queries as a Rattle array.
+With the argument `--rattle` it prints some of the queries as Rattle arrays: `src/vectors.rt`.
 """
 import importlib.util
 import pathlib
@@ -427,11 +427,19 @@ def main():
     rows = [(answer(query), query) for query in queries]
     assert all("\t" not in query and "\n" not in query for query in queries)
     if "--rattle" in sys.argv:
-        print("//! Queries, and what the rules answer. `vectors/make.py --rattle` prints this file.\n")
-        print(f"pub(crate) static QUERIES: [(&str, &str); {len(rows)}] = [")
-        for told, query in rows:
-            print(f"    ({lexer.literal(query)}, {lexer.literal(told)}),")
-        print("];")
+        print("//! Some of the queries of `vectors/queries.txt`, and what the rules answer. `vectors/make.py --rattle` prints it.")
+        short = [(told, query) for told, query in rows if len(query) <= 100]
+        groups = {
+            "SENTENCES": [row for row in short if row[0] == "sentence"],
+            "LEFT_OUT": [row for row in short if row[0].startswith("F16")],
+            "OFFENDING": [row for row in short if row[0].startswith("F13")],
+        }
+        for name, group in groups.items():
+            picked = group[::max(1, len(group) // 40)][:40]
+            print(f"\npub(crate) static {name}: [(&str, &str); {len(picked)}] = [")
+            for told, query in picked:
+                print(f"    ({lexer.literal(query)}, {lexer.literal(told)}),")
+            print("];")
     else:
         (HERE / "queries.txt").write_text("".join(f"{told}\t{query}\n" for told, query in rows))
 

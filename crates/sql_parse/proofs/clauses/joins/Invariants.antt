@@ -1,4 +1,4 @@
-use Rattle.std.proofs.Common.{◌≡◌, ◌≤◌, [], ◌∷◌}
+use Rattle.std.proofs.Common.{◌≡◌, ◌≤◌, []}
 use Rattle.sql_parse.specs.ClauseSteps as steps
 use Rattle.sql_parse.specs.Calls.{unread, remaining}
 use Rattle.sql_parse.proofs.clauses.joins.Given as goal
