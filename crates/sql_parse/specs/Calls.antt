@@ -1,0 +1,21 @@
+-- The tokens that the code has still to read, and the classes that it asks for.
+use Rattle.std.specs.Prelude.{Bool, ℕ, List, length}
+use Rattle.sql_text.specs.declared.token.TokenKind.{TokenKind}
+use Rattle.sql_parse.specs.declared.tokens.Class.{Class}
+use Rattle.sql_parse.specs.declared.tokens.Class.TheVariants as class
+use Rattle.sql_parse.specs.declared.tokens.Rest.{Rest}
+use Rattle.sql_parse.specs.Tokens.{Mark, marks, is_word, is_symbol, is_name, is_string, is_digits}
+
+abbrev pub has : Class → TokenKind → Bool
+has (class.Word w) = is_word w
+has (class.Symbol s) = is_symbol s
+has class.Name = is_name
+has class.String = is_string
+has class.Digits = is_digits
+
+abbrev pub unread : Rest → List Mark
+unread rest = marks rest.tokens.now
+
+-- how many tokens are left
+abbrev pub remaining : Rest → ℕ
+remaining rest = length rest.tokens.now

@@ -1,0 +1,105 @@
+-- What parsing answers.
+use Rattle.std.specs.Prelude.{◌≡◌, ◌≢◌, ℕ, Bool, true, false, not, ◌&&◌, ◌||◌, ◌⊎◌, if◌then◌else◌, List, [], ◌∷◌, ◌++◌, map, length, Result, Ok, Err}
+use Rattle.scan_base.specs.declared.fault.Fault.{Fault}
+use Rattle.scan_base.specs.declared.fault.Fault.TheVariants.{OutOfMemory, LimitReached, NotInSubset, BadSql}
+use Rattle.sql_text.specs.Standard.{Lexeme}
+use Rattle.sql_text.specs.Reading.{tokens_in}
+use Rattle.sql_text.specs.Words.{is_left_out}
+use Rattle.grammar.specs.Rule.{Language, Spells, Nested, Any}
+use Rattle.grammar.specs.Sentence.{Begins, Offends}
+use Rattle.sql_parse.specs.declared.tree.Selected.{Selected}
+use Rattle.sql_parse.specs.declared.tree.Selected.TheVariants as selected
+use Rattle.sql_parse.specs.declared.tree.SelectItem.{SelectItem}
+use Rattle.sql_parse.specs.declared.tree.SelectList.{SelectList}
+use Rattle.sql_parse.specs.declared.tree.SelectList.TheVariants as select
+use Rattle.sql_parse.specs.Sentence.{Sentence}
+use Rattle.sql_parse.specs.Tokens.{Mark, mark_of}
+use Rattle.sql_parse.specs.Productions.{factor, query}
+use Rattle.sql_parse.specs.Limits.{passes}
+
+-- the tokens are a query, which says the sentence
+abbrev pub IsSentence : Language Mark Sentence
+IsSentence = Spells (Any factor) query
+
+-- the same, where at most 64 predicate parentheses and prefix NOTs are open at once
+abbrev pub IsShallow : Language Mark Sentence
+IsShallow = Spells (Nested factor 64) query
+
+-- ---- what is left out, though it is a sentence
+
+abbrev pub is_aggregate : Selected → Bool
+is_aggregate (selected.Column column) = false
+is_aggregate _ = true
+
+abbrev pub any_aggregate : List SelectItem → Bool
+any_aggregate [] = false
+any_aggregate (item ∷ items) = is_aggregate item.selected || any_aggregate items
+
+abbrev pub has_aggregate : SelectList → Bool
+has_aggregate select.All = false
+has_aggregate (select.Listed items) = any_aggregate items
+
+abbrev pub is_all : SelectList → Bool
+is_all select.All = true
+is_all _ = false
+
+abbrev pub none : {A : Type 0} → List A → Bool
+none [] = true
+none (x ∷ xs) = false
+
+-- a JOIN with an aggregate or GROUP BY, or * with GROUP BY
+abbrev pub is_left_out_whole : Sentence → Bool
+is_left_out_whole s =
+    (not (none s.joins) && (has_aggregate s.select || not (none s.group_by))) || (is_all s.select && not (none s.group_by))
+
+-- ---- the answer
+
+pub record Accepts (ts : List Mark) (s : Sentence) : Type 0 where
+  pub shallow : IsShallow ts s
+  -- the tokens say no other sentence
+  pub only : (other : Sentence) → IsSentence ts other → other ≡ s
+  pub counts : passes ts ≡ false
+  pub whole : is_left_out_whole s ≡ false
+
+-- Tokens from the first on begin a sentence, and pass a limit.
+pub record PassesLimit (ts : List Mark) : Type 0 where
+  pub front : List Mark
+  pub rest : List Mark
+  pub splits : ts ≡ front ++ rest
+  pub begins : Begins IsSentence front
+  pub past : (Begins IsShallow front → ⊥) ⊎ (passes front ≡ true)
+
+-- The first token of the place offends, or where it has none the end of the text, and the tokens before it pass no limit.
+pub record HasOffender (ts place : List Mark) : Type 0 where
+  pub offends : Offends IsShallow IsSentence ts place
+  pub counts : passes offends.front ≡ false
+
+-- The tokens are a sentence within the limits that is left out.
+pub record HasLeftOut (ts : List Mark) : Type 0 where
+  pub sentence : Sentence
+  pub shallow : IsShallow ts sentence
+  pub counts : passes ts ≡ false
+  pub whole : is_left_out_whole sentence ≡ true
+
+-- the fault of an offending token, where the text ends at `end`
+abbrev pub fault_at : ℕ → List Mark → Fault
+fault_at end [] = BadSql end
+fault_at end (t ∷ ts) = if is_left_out t.0 then NotInSubset else BadSql t.1.0
+
+abbrev pub Refuses : List Mark → ℕ → Fault → Type 0
+Refuses ts end fault =
+    (PassesLimit ts × (fault ≡ LimitReached))
+    ⊎ (((place : List Mark) × HasOffender ts place × (fault ≡ fault_at end place))
+    ⊎ (HasLeftOut ts × (fault ≡ NotInSubset)))
+
+-- what parsing the tokens of a text that ends at `end` gave, seen by `view`
+abbrev pub Answered : {X : Type 0} → (X → Sentence) → List Mark → ℕ → Result X Fault → Type 0
+Answered view ts end (Ok x) = Accepts ts (view x)
+Answered view ts end (Err fault) = fault ≢ OutOfMemory → Refuses ts end fault
+
+-- what parsing a text gave: a fault of its tokens, or what its tokens say
+abbrev pub Parsed : {X : Type 0} → (X → Sentence) → List ℕ → Result X Fault → Type 0
+Parsed view text (Ok x) = (lexemes : List Lexeme) × (tokens_in text ≡ Ok lexemes) × Accepts (map mark_of lexemes) (view x)
+Parsed view text (Err fault) =
+    fault ≢ OutOfMemory → (tokens_in text ≡ Err fault)
+    ⊎ ((lexemes : List Lexeme) × (tokens_in text ≡ Ok lexemes) × Refuses (map mark_of lexemes) (length text) fault)

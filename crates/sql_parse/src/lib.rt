@@ -1,0 +1,19 @@
+//! Parsing a query: the sentence that its tokens are, or the first fault.
+#![tactic(auto)]
+
+mod clauses;
+mod limits;
+mod operands;
+mod parsing;
+mod predicates;
+mod refusal;
+mod tokens;
+pub mod tree;
+
+pub use crate::parsing::parse;
+pub use crate::tree::{ColumnName, Equality, Join, Place, Query, SelectItem, SelectList, Selected};
+
+#[cfg(test)]
+mod tests;
+#[cfg(test)]
+mod vectors;

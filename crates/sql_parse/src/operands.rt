@@ -1,0 +1,144 @@
+//! Names, literals and comparisons.
+
+ghost use Rattle.std.specs.Prelude.{◌≡◌, ◌<◌, ◌≤◌, ◌≤ℤ◌, pos, IfOk};
+ghost use Rattle.sql_parse.specs.Answers.{Gives};
+ghost use Rattle.sql_parse.specs.Calls.{unread, remaining};
+ghost use Rattle.sql_parse.specs.Steps as steps;
+
+use crate::refusal::Refusal;
+use crate::tokens::{Class, Rest};
+use crate::tree::ColumnName;
+use scan_base::{Comparison, Operand, Text, Value};
+use sql_text::{Keyword, Symbol};
+use std::alloc::Global;
+
+// name
+#[tactic(auto, unfolding(crate::specs::Steps::name_at))]
+pub(crate) fn name<'t>(alloc: Global, tokens: Rest<'t>) -> Result<(Text, Rest<'t>), Refusal>
+    ensures exact { Gives (λ x. (x.0, unread x.1)) result (steps.name_at (unread tokens.entry)) }
+    ensures shorter { IfOk result (λ x. remaining x.1 < remaining tokens.entry) }
+{
+    let (token, rest) = tokens.take(Class::Name)?;
+    Ok((token.value(alloc)?, rest))
+}
+
+// name [ "." name ]
+#[tactic(auto, unfolding(crate::specs::Steps::column_at))]
+pub(crate) fn column<'t>(alloc: Global, tokens: Rest<'t>) -> Result<(ColumnName, Rest<'t>), Refusal>
+    ensures exact { Gives (λ x. (x.0, unread x.1)) result (steps.column_at (unread tokens.entry)) }
+    ensures shorter { IfOk result (λ x. remaining x.1 < remaining tokens.entry) }
+{
+    let (first, rest) = name(alloc, tokens)?;
+    if rest.at(Class::Symbol(Symbol::Period)) {
+        let (_, rest) = rest.take(Class::Symbol(Symbol::Period))?;
+        let (second, rest) = name(alloc, rest)?;
+        let column = ColumnName {
+            place: Some(first),
+            name: second,
+        };
+        Ok((column, rest))
+    } else {
+        let column = ColumnName {
+            place: None,
+            name: first,
+        };
+        Ok((column, rest))
+    }
+}
+
+// [ "+" | "-" ], and whether it is the minus
+#[tactic(auto, unfolding(crate::specs::Steps::minus_at))]
+fn minus<'t>(tokens: Rest<'t>) -> Result<(bool, Rest<'t>), Refusal>
+    ensures exact { Gives (λ x. (x.0, unread x.1)) result (steps.minus_at (unread tokens.entry)) }
+    ensures shorter { IfOk result (λ x. remaining x.1 ≤ remaining tokens.entry) }
+{
+    if tokens.at(Class::Symbol(Symbol::Minus)) {
+        let (_, rest) = tokens.take(Class::Symbol(Symbol::Minus))?;
+        Ok((true, rest))
+    } else if tokens.at(Class::Symbol(Symbol::Plus)) {
+        let (_, rest) = tokens.take(Class::Symbol(Symbol::Plus))?;
+        Ok((false, rest))
+    } else {
+        Ok((false, tokens))
+    }
+}
+
+// digits
+#[tactic(auto, unfolding(crate::specs::Steps::digits_at))]
+fn digits<'t>(tokens: Rest<'t>) -> Result<(i128, Rest<'t>), Refusal>
+    ensures exact { Gives (λ x. (x.0, unread x.1)) result (steps.digits_at (unread tokens.entry)) }
+    ensures shorter { IfOk result (λ x. remaining x.1 < remaining tokens.entry) }
+    ensures positive { IfOk result (λ x. pos 0 ≤ℤ x.0) }
+{
+    let (token, rest) = tokens.take(Class::Digits)?;
+    match token.number() {
+        Some(number) => Ok((number, rest)),
+        None => Err(Refusal::Offends(tokens.tokens.len())),
+    }
+}
+
+// [ "+" | "-" ] digits
+#[tactic(auto, unfolding(crate::specs::Steps::number_at))]
+fn signed_number<'t>(tokens: Rest<'t>) -> Result<(Value, Rest<'t>), Refusal>
+    ensures exact { Gives (λ x. (x.0, unread x.1)) result (steps.number_at (unread tokens.entry)) }
+    ensures shorter { IfOk result (λ x. remaining x.1 < remaining tokens.entry) }
+{
+    let (negative, rest) = minus(tokens)?;
+    let (number, rest) = digits(rest)?;
+    Ok((Value::Int(if negative { -number } else { number }), rest))
+}
+
+// column | string | TRUE | FALSE | number
+#[tactic(auto, unfolding(crate::specs::Steps::operand_at))]
+pub(crate) fn operand<'t>(
+    alloc: Global,
+    tokens: Rest<'t>,
+) -> Result<(Operand<ColumnName>, Rest<'t>), Refusal>
+    ensures exact { Gives (λ x. (x.0, unread x.1)) result (steps.operand_at (unread tokens.entry)) }
+    ensures shorter { IfOk result (λ x. remaining x.1 < remaining tokens.entry) }
+{
+    if tokens.at(Class::Name) {
+        let (column, rest) = column(alloc, tokens)?;
+        Ok((Operand::Column(column), rest))
+    } else if tokens.at(Class::String) {
+        let (token, rest) = tokens.take(Class::String)?;
+        let text = token.value(alloc)?;
+        Ok((Operand::Literal(Value::Text(text)), rest))
+    } else if tokens.at(Class::Word(Keyword::True)) {
+        let (_, rest) = tokens.take(Class::Word(Keyword::True))?;
+        Ok((Operand::Literal(Value::Bool(true)), rest))
+    } else if tokens.at(Class::Word(Keyword::False)) {
+        let (_, rest) = tokens.take(Class::Word(Keyword::False))?;
+        Ok((Operand::Literal(Value::Bool(false)), rest))
+    } else {
+        let (number, rest) = signed_number(tokens)?;
+        Ok((Operand::Literal(number), rest))
+    }
+}
+
+// "=" | "<>" | "<" | "<=" | ">" | ">="
+#[tactic(auto, unfolding(crate::specs::Steps::compare_at))]
+pub(crate) fn compare<'t>(tokens: Rest<'t>) -> Result<(Comparison, Rest<'t>), Refusal>
+    ensures exact { Gives (λ x. (x.0, unread x.1)) result (steps.compare_at (unread tokens.entry)) }
+    ensures shorter { IfOk result (λ x. remaining x.1 < remaining tokens.entry) }
+{
+    if tokens.at(Class::Symbol(Symbol::Equal)) {
+        let (_, rest) = tokens.take(Class::Symbol(Symbol::Equal))?;
+        Ok((Comparison::Equal, rest))
+    } else if tokens.at(Class::Symbol(Symbol::NotEqual)) {
+        let (_, rest) = tokens.take(Class::Symbol(Symbol::NotEqual))?;
+        Ok((Comparison::NotEqual, rest))
+    } else if tokens.at(Class::Symbol(Symbol::Less)) {
+        let (_, rest) = tokens.take(Class::Symbol(Symbol::Less))?;
+        Ok((Comparison::Less, rest))
+    } else if tokens.at(Class::Symbol(Symbol::LessOrEqual)) {
+        let (_, rest) = tokens.take(Class::Symbol(Symbol::LessOrEqual))?;
+        Ok((Comparison::LessOrEqual, rest))
+    } else if tokens.at(Class::Symbol(Symbol::Greater)) {
+        let (_, rest) = tokens.take(Class::Symbol(Symbol::Greater))?;
+        Ok((Comparison::Greater, rest))
+    } else {
+        let (_, rest) = tokens.take(Class::Symbol(Symbol::GreaterOrEqual))?;
+        Ok((Comparison::GreaterOrEqual, rest))
+    }
+}

@@ -1,0 +1,325 @@
+//! Predicates.
+
+ghost use Rattle.std.specs.Prelude.{◌≡◌, ◌<◌, ◌≤◌, IfOk, [], ◌∷◌};
+ghost use Rattle.scan_base.specs.View.{pred_of};
+ghost use Rattle.sql_parse.specs.Answers.{Gives};
+ghost use Rattle.sql_parse.specs.Calls.{unread, remaining};
+ghost use Rattle.sql_parse.specs.Steps as steps;
+
+use crate::operands::{compare, operand};
+use crate::refusal::Refusal;
+use crate::tokens::{Class, Rest};
+use crate::tree::ColumnName;
+use scan_base::{Items, Operand, Predicate, Truth};
+use sql_text::{Keyword, Symbol};
+use std::alloc::Global;
+
+// [ NOT ]
+#[tactic(auto, unfolding(crate::specs::Steps::negated_at))]
+fn negated<'t>(tokens: Rest<'t>) -> Result<(bool, Rest<'t>), Refusal>
+    ensures exact { Gives (λ x. (x.0, unread x.1)) result (steps.negated_at (unread tokens.entry)) }
+    ensures shorter { IfOk result (λ x. remaining x.1 ≤ remaining tokens.entry) }
+{
+    if tokens.at(Class::Word(Keyword::Not)) {
+        let (_, rest) = tokens.take(Class::Word(Keyword::Not))?;
+        Ok((true, rest))
+    } else {
+        Ok((false, tokens))
+    }
+}
+
+// TRUE | FALSE | UNKNOWN
+#[tactic(auto, unfolding(crate::specs::Steps::truth_at))]
+fn truth_value<'t>(tokens: Rest<'t>) -> Result<(Truth, Rest<'t>), Refusal>
+    ensures exact { Gives (λ x. (x.0, unread x.1)) result (steps.truth_at (unread tokens.entry)) }
+    ensures shorter { IfOk result (λ x. remaining x.1 < remaining tokens.entry) }
+{
+    if tokens.at(Class::Word(Keyword::True)) {
+        let (_, rest) = tokens.take(Class::Word(Keyword::True))?;
+        Ok((Truth::True, rest))
+    } else if tokens.at(Class::Word(Keyword::False)) {
+        let (_, rest) = tokens.take(Class::Word(Keyword::False))?;
+        Ok((Truth::False, rest))
+    } else {
+        let (_, rest) = tokens.take(Class::Word(Keyword::Unknown))?;
+        Ok((Truth::Unknown, rest))
+    }
+}
+
+// compare operand, behind an operand
+#[tactic(auto, unfolding(crate::specs::Steps::compared_at))]
+fn compared<'t>(
+    alloc: Global,
+    left: Operand<ColumnName>,
+    tokens: Rest<'t>,
+) -> Result<(Predicate<ColumnName>, Rest<'t>), Refusal>
+    ensures exact { Gives (λ x. (pred_of x.0, unread x.1)) result (steps.compared_at left (unread tokens.entry)) }
+    ensures shorter { IfOk result (λ x. remaining x.1 < remaining tokens.entry) }
+{
+    let (comparison, rest) = compare(tokens)?;
+    let (right, rest) = operand(alloc, rest)?;
+    let predicate = Predicate::Compare {
+        comparison,
+        left,
+        right,
+    };
+    Ok((predicate, rest))
+}
+
+// IS [NOT] NULL, behind an operand
+#[tactic(auto, unfolding(crate::specs::Steps::nulled_at))]
+fn null_test<'t>(
+    operand: Operand<ColumnName>,
+    tokens: Rest<'t>,
+) -> Result<(Predicate<ColumnName>, Rest<'t>), Refusal>
+    ensures exact { Gives (λ x. (pred_of x.0, unread x.1)) result (steps.nulled_at operand (unread tokens.entry)) }
+    ensures shorter { IfOk result (λ x. remaining x.1 < remaining tokens.entry) }
+{
+    let (_, rest) = tokens.take(Class::Word(Keyword::Is))?;
+    let (negated, rest) = negated(rest)?;
+    let (_, rest) = rest.take(Class::Word(Keyword::Null))?;
+    Ok((Predicate::IsNull { negated, operand }, rest))
+}
+
+// BETWEEN operand AND operand, behind an operand and NOT or none
+#[tactic(auto, unfolding(crate::specs::Steps::ranged_at))]
+fn between<'t>(
+    alloc: Global,
+    negated: bool,
+    value: Operand<ColumnName>,
+    tokens: Rest<'t>,
+) -> Result<(Predicate<ColumnName>, Rest<'t>), Refusal>
+    ensures exact { Gives (λ x. (pred_of x.0, unread x.1)) result (steps.ranged_at negated value (unread tokens.entry)) }
+    ensures shorter { IfOk result (λ x. remaining x.1 < remaining tokens.entry) }
+{
+    let (_, rest) = tokens.take(Class::Word(Keyword::Between))?;
+    let (low, rest) = operand(alloc, rest)?;
+    let (_, rest) = rest.take(Class::Word(Keyword::And))?;
+    let (high, rest) = operand(alloc, rest)?;
+    let predicate = Predicate::Between {
+        negated,
+        operand: value,
+        low,
+        high,
+    };
+    Ok((predicate, rest))
+}
+
+// { "," operand }, behind the first
+#[tactic(auto, using(crate::proofs::Steps::operands_step))]
+fn operands<'t>(
+    alloc: Global,
+    first: Operand<ColumnName>,
+    tokens: Rest<'t>,
+) -> Result<(Items<Operand<ColumnName>>, Rest<'t>), Refusal>
+    ensures exact { Gives (λ x. (x.0, unread x.1)) result (steps.operands_at (first ∷ []) (unread tokens.entry)) }
+    ensures shorter { IfOk result (λ x. remaining x.1 ≤ remaining tokens.entry) }
+{
+    let mut items = Items::new(alloc);
+    items.push(first)?;
+    let mut rest = tokens;
+    while rest.at(Class::Symbol(Symbol::Comma)) {
+        let (_, after) = rest.take(Class::Symbol(Symbol::Comma))?;
+        let (next, after) = operand(alloc, after)?;
+        items.push(next)?;
+        rest = after;
+    }
+    Ok((items, rest))
+}
+
+// IN "(" operand { "," operand } ")", behind an operand and NOT or none
+#[tactic(auto, unfolding(crate::specs::Steps::among_at))]
+fn membership<'t>(
+    alloc: Global,
+    negated: bool,
+    value: Operand<ColumnName>,
+    tokens: Rest<'t>,
+) -> Result<(Predicate<ColumnName>, Rest<'t>), Refusal>
+    ensures exact { Gives (λ x. (pred_of x.0, unread x.1)) result (steps.among_at negated value (unread tokens.entry)) }
+    ensures shorter { IfOk result (λ x. remaining x.1 < remaining tokens.entry) }
+{
+    let (_, rest) = tokens.take(Class::Word(Keyword::In))?;
+    let (_, rest) = rest.take(Class::Symbol(Symbol::LeftParenthesis))?;
+    let (first, rest) = operand(alloc, rest)?;
+    let (items, rest) = operands(alloc, first, rest)?;
+    let (_, rest) = rest.take(Class::Symbol(Symbol::RightParenthesis))?;
+    let predicate = Predicate::In {
+        negated,
+        operand: value,
+        items,
+    };
+    Ok((predicate, rest))
+}
+
+// what follows an operand
+#[tactic(auto, unfolding(crate::specs::Steps::tail_at))]
+fn behind_operand<'t>(
+    alloc: Global,
+    left: Operand<ColumnName>,
+    tokens: Rest<'t>,
+) -> Result<(Predicate<ColumnName>, Rest<'t>), Refusal>
+    ensures exact { Gives (λ x. (pred_of x.0, unread x.1)) result (steps.tail_at left (unread tokens.entry)) }
+    ensures shorter { IfOk result (λ x. remaining x.1 < remaining tokens.entry) }
+{
+    if tokens.at(Class::Word(Keyword::Is)) {
+        null_test(left, tokens)
+    } else if tokens.at(Class::Word(Keyword::Not)) {
+        let (_, rest) = tokens.take(Class::Word(Keyword::Not))?;
+        if rest.at(Class::Word(Keyword::Between)) {
+            between(alloc, true, left, rest)
+        } else {
+            membership(alloc, true, left, rest)
+        }
+    } else if tokens.at(Class::Word(Keyword::Between)) {
+        between(alloc, false, left, tokens)
+    } else if tokens.at(Class::Word(Keyword::In)) {
+        membership(alloc, false, left, tokens)
+    } else {
+        compared(alloc, left, tokens)
+    }
+}
+
+// NOT factor
+#[tactic(auto, unfolding(crate::specs::Steps::negation_at))]
+#[cycle(nested)]
+fn negation<'t>(
+    alloc: Global,
+    depth: usize,
+    tokens: Rest<'t>,
+) -> Result<(Predicate<ColumnName>, Rest<'t>), Refusal>
+    ensures exact { Gives (λ x. (pred_of x.0, unread x.1)) result (steps.negation_at depth (unread tokens.entry)) }
+    ensures shorter { IfOk result (λ x. remaining x.1 < remaining tokens.entry) }
+{
+    if depth == 0 {
+        return Err(Refusal::TooDeep);
+    }
+    let (_, rest) = tokens.take(Class::Word(Keyword::Not))?;
+    let (predicate, rest) = factor(alloc, depth - 1, rest)?;
+    Ok((Predicate::Not(Box::new(alloc, predicate)?), rest))
+}
+
+// NOT factor | test, where `depth` parentheses and prefix NOTs more may be open
+#[tactic(auto, using(crate::proofs::Steps::factor_step))]
+#[cycle(nested)]
+fn factor<'t>(
+    alloc: Global,
+    depth: usize,
+    tokens: Rest<'t>,
+) -> Result<(Predicate<ColumnName>, Rest<'t>), Refusal>
+    ensures exact { Gives (λ x. (pred_of x.0, unread x.1)) result (steps.factor_at depth (unread tokens.entry)) }
+    ensures shorter { IfOk result (λ x. remaining x.1 < remaining tokens.entry) }
+{
+    if tokens.at(Class::Word(Keyword::Not)) {
+        negation(alloc, depth, tokens)
+    } else {
+        test(alloc, depth, tokens)
+    }
+}
+
+// factor { AND factor }
+#[tactic(auto, using(crate::proofs::Steps::ands_step), unfolding(crate::specs::Steps::conj_at))]
+#[cycle(nested)]
+fn conjunction<'t>(
+    alloc: Global,
+    depth: usize,
+    tokens: Rest<'t>,
+) -> Result<(Predicate<ColumnName>, Rest<'t>), Refusal>
+    ensures exact { Gives (λ x. (pred_of x.0, unread x.1)) result (steps.conj_at depth (unread tokens.entry)) }
+    ensures shorter { IfOk result (λ x. remaining x.1 < remaining tokens.entry) }
+{
+    let (mut left, mut rest) = factor(alloc, depth, tokens)?;
+    while rest.at(Class::Word(Keyword::And)) {
+        let (_, after) = rest.take(Class::Word(Keyword::And))?;
+        let (right, after) = factor(alloc, depth, after)?;
+        left = Predicate::And(Box::new(alloc, left)?, Box::new(alloc, right)?);
+        rest = after;
+    }
+    Ok((left, rest))
+}
+
+// conjunction { OR conjunction }
+#[tactic(auto, using(crate::proofs::Steps::ors_step), unfolding(crate::specs::Steps::pred_at))]
+#[cycle(nested)]
+pub(crate) fn predicate<'t>(
+    alloc: Global,
+    depth: usize,
+    tokens: Rest<'t>,
+) -> Result<(Predicate<ColumnName>, Rest<'t>), Refusal>
+    ensures exact { Gives (λ x. (pred_of x.0, unread x.1)) result (steps.pred_at depth (unread tokens.entry)) }
+    ensures shorter { IfOk result (λ x. remaining x.1 < remaining tokens.entry) }
+{
+    let (mut left, mut rest) = conjunction(alloc, depth, tokens)?;
+    while rest.at(Class::Word(Keyword::Or)) {
+        let (_, after) = rest.take(Class::Word(Keyword::Or))?;
+        let (right, after) = conjunction(alloc, depth, after)?;
+        left = Predicate::Or(Box::new(alloc, left)?, Box::new(alloc, right)?);
+        rest = after;
+    }
+    Ok((left, rest))
+}
+
+// "(" predicate ")"
+#[tactic(auto, unfolding(crate::specs::Steps::inside_at))]
+#[cycle(nested)]
+fn parenthesized<'t>(
+    alloc: Global,
+    depth: usize,
+    tokens: Rest<'t>,
+) -> Result<(Predicate<ColumnName>, Rest<'t>), Refusal>
+    ensures exact { Gives (λ x. (pred_of x.0, unread x.1)) result (steps.inside_at depth (unread tokens.entry)) }
+    ensures shorter { IfOk result (λ x. remaining x.1 < remaining tokens.entry) }
+{
+    if depth == 0 {
+        return Err(Refusal::TooDeep);
+    }
+    let (_, rest) = tokens.take(Class::Symbol(Symbol::LeftParenthesis))?;
+    let (predicate, rest) = predicate(alloc, depth - 1, rest)?;
+    let (_, rest) = rest.take(Class::Symbol(Symbol::RightParenthesis))?;
+    Ok((predicate, rest))
+}
+
+// "(" predicate ")" | operand and what follows it
+#[tactic(auto, unfolding(crate::specs::Steps::primary_at))]
+#[cycle(nested)]
+fn primary<'t>(
+    alloc: Global,
+    depth: usize,
+    tokens: Rest<'t>,
+) -> Result<(Predicate<ColumnName>, Rest<'t>), Refusal>
+    ensures exact { Gives (λ x. (pred_of x.0, unread x.1)) result (steps.primary_at depth (unread tokens.entry)) }
+    ensures shorter { IfOk result (λ x. remaining x.1 < remaining tokens.entry) }
+{
+    if tokens.at(Class::Symbol(Symbol::LeftParenthesis)) {
+        parenthesized(alloc, depth, tokens)
+    } else {
+        let (left, rest) = operand(alloc, tokens)?;
+        behind_operand(alloc, left, rest)
+    }
+}
+
+// primary [ IS [NOT] (TRUE | FALSE | UNKNOWN) ]
+#[tactic(auto, unfolding(crate::specs::Steps::test_at))]
+#[cycle(nested)]
+fn test<'t>(
+    alloc: Global,
+    depth: usize,
+    tokens: Rest<'t>,
+) -> Result<(Predicate<ColumnName>, Rest<'t>), Refusal>
+    ensures exact { Gives (λ x. (pred_of x.0, unread x.1)) result (steps.test_at depth (unread tokens.entry)) }
+    ensures shorter { IfOk result (λ x. remaining x.1 < remaining tokens.entry) }
+{
+    let (predicate, rest) = primary(alloc, depth, tokens)?;
+    if rest.at(Class::Word(Keyword::Is)) {
+        let (_, rest) = rest.take(Class::Word(Keyword::Is))?;
+        let (negated, rest) = negated(rest)?;
+        let (tested, rest) = truth_value(rest)?;
+        let predicate = Predicate::Is {
+            negated,
+            tested,
+            predicate: Box::new(alloc, predicate)?,
+        };
+        Ok((predicate, rest))
+    } else {
+        Ok((predicate, rest))
+    }
+}

@@ -1,0 +1,241 @@
+//! Some of the queries of `vectors/queries.txt`, and what the rules answer. `vectors/make.py --rattle` prints it.
+
+pub(crate) static SENTENCES: [(&str, &str); 40] = [
+    ("SELECT * FROM t", "sentence"),
+    ("select a from t;", "sentence"),
+    ("SELECT t.a FROM t", "sentence"),
+    ("SELECT a b FROM t", "sentence"),
+    ("SELECT x.a FROM t AS x", "sentence"),
+    ("SELECT COUNT(a) FROM t", "sentence"),
+    ("SELECT a FROM t GROUP BY a, b, t.c;", "sentence"),
+    ("SELECT a FROM t JOIN u ON t.a = u.a", "sentence"),
+    (
+        "SELECT * FROM t x JOIN u y ON x.a = y.a JOIN v z ON y.b = z.b WHERE x.a > 1",
+        "sentence",
+    ),
+    ("SELECT a FROM t WHERE a <> b", "sentence"),
+    ("SELECT a FROM t WHERE 1 < a", "sentence"),
+    ("SELECT a FROM t WHERE a > -1", "sentence"),
+    ("SELECT a FROM t WHERE FALSE = b", "sentence"),
+    (
+        "SELECT a FROM t WHERE a NOT BETWEEN 'a' AND 'b' AND b = 1",
+        "sentence",
+    ),
+    (
+        "SELECT a FROM t WHERE a NOT IN (1, b, 'c', TRUE, -4)",
+        "sentence",
+    ),
+    ("SELECT a FROM t WHERE a IS NOT NULL", "sentence"),
+    ("SELECT a FROM t WHERE a = 1 IS UNKNOWN", "sentence"),
+    ("SELECT a FROM t WHERE NOT a = 1", "sentence"),
+    (
+        "SELECT a FROM t WHERE a = 1 AND b = 2 OR c = 3 AND NOT d = 4",
+        "sentence",
+    ),
+    ("SELECT a FROM t WHERE a = b GROUP BY a", "sentence"),
+    ("SELECT a FROM t WHERE 1 IN (a, b) IS TRUE", "sentence"),
+    (
+        "SELECT a FROM t WHERE a = 99999999999999999999999999999999999999",
+        "sentence",
+    ),
+    ("SELECT a FROM t WHERE a = - 1", "sentence"),
+    ("SELECT a AS \"select\" FROM t", "sentence"),
+    ("SELECT a FROM t WHERE 1 = 1", "sentence"),
+    (
+        "SELECT a FROM nnnnnnnnnnnnnnnnnnnnnnnnnnnnnnnnnnnnnnnnnnnnnnnnnnnnnnnnnnnnnnnn",
+        "sentence",
+    ),
+    (
+        "SELECT nnnnnnnnnnnnnnnnnnnnnnnnnnnnnnnnnnnnnnnnnnnnnnnnnnnnnnnnnnnnnnnn.a FROM t",
+        "sentence",
+    ),
+    (
+        "SELECT \"nnnnnnnnnnnnnnnnnnnnnnnnnnnnnnnnnnnnnnnnnnnnnnnnnnnnnnnnnnnnnnnn\" FROM t",
+        "sentence",
+    ),
+    (
+        "SELECT a FROM t nnnnnnnnnnnnnnnnnnnnnnnnnnnnnnnnnnnnnnnnnnnnnnnnnnnnnnnnnnnnnnnn",
+        "sentence",
+    ),
+    (
+        "SELECT \"\u{e9}\u{e9}\u{e9}\u{e9}\u{e9}\u{e9}\u{e9}\u{e9}\u{e9}\u{e9}\u{e9}\u{e9}\u{e9}\u{e9}\u{e9}\u{e9}\u{e9}\u{e9}\u{e9}\u{e9}\u{e9}\u{e9}\u{e9}\u{e9}\u{e9}\u{e9}\u{e9}\u{e9}\u{e9}\u{e9}\u{e9}\u{e9}\" FROM t",
+        "sentence",
+    ),
+    (
+        "SELECT * FROM t0 JOIN t1 ON a = b JOIN t2 ON a = b JOIN t3 ON a = b",
+        "sentence",
+    ),
+    ("SELECT a FROM t GROUP BY a , b", "sentence"),
+    ("SELECT * FROM t WHERE a BETWEEN 1 AND 2", "sentence"),
+    ("SELECT COUNT ( a ) FROM t", "sentence"),
+    ("SELECT a FROM t WHERE NOT a IN ( 1 )", "sentence"),
+    ("SELECT b FROM t", "sentence"),
+    (
+        "SELECT a FROM \"y\" WHERE 1 IN ( a , b ) IS TRUE",
+        "sentence",
+    ),
+    ("SELECT x . a FROM t AS \"y\"", "sentence"),
+    (
+        "SELECT * FROM t x JOIN u ON x . a = y . a JOIN v z ON y . b = z . b WHERE x . a > 1",
+        "sentence",
+    ),
+    ("select a from t", "sentence"),
+];
+
+pub(crate) static LEFT_OUT: [(&str, &str); 40] = [
+    ("SELECT a FROM t WHERE a + 1 = 2", "F16 NotInSubset"),
+    (
+        "SELECT COUNT(*) FROM t JOIN u ON t.a = u.a",
+        "F16 NotInSubset",
+    ),
+    ("SELECT ALL a FROM t", "F16 NotInSubset"),
+    ("SELECT a FROM t OFFSET 1", "F16 NotInSubset"),
+    ("SELECT a FROM t GROUP BY a HAVING a = 1", "F16 NotInSubset"),
+    ("SELECT a FROM t EXCEPT SELECT a FROM t", "F16 NotInSubset"),
+    ("SELECT a FROM t LEFT JOIN u ON a = b", "F16 NotInSubset"),
+    (
+        "SELECT a FROM t FULL OUTER JOIN u ON a = b",
+        "F16 NotInSubset",
+    ),
+    ("SELECT a FROM t NATURAL JOIN u", "F16 NotInSubset"),
+    ("SELECT a FROM t WHERE a LIKE 'x'", "F16 NotInSubset"),
+    ("SELECT a FROM t WHERE a = ANY (1)", "F16 NotInSubset"),
+    ("SELECT CASE a FROM t", "F16 NotInSubset"),
+    ("SELECT MIN(a) FROM t", "F16 NotInSubset"),
+    ("SELECT AVG(a) FROM t", "F16 NotInSubset"),
+    ("VALUES (1)", "F16 NotInSubset"),
+    ("UPDATE t", "F16 NotInSubset"),
+    ("SELECT a FROM t WHERE a = NULL", "F16 NotInSubset"),
+    ("SELECT a FROM t WHERE NULL IS NULL", "F16 NotInSubset"),
+    (
+        "SELECT a FROM t WHERE a = DATE '1994-01-01'",
+        "F16 NotInSubset",
+    ),
+    ("SELECT a FROM DATE", "F16 NotInSubset"),
+    ("SELECT a * 2 FROM t", "F16 NotInSubset"),
+    ("SELECT a % 2 FROM t", "F16 NotInSubset"),
+    ("SELECT -a FROM t", "F16 NotInSubset"),
+    ("SELECT a FROM t WHERE a = 1 ORDER BY a", "F16 NotInSubset"),
+    ("SELECT t.* FROM t", "F16 NotInSubset"),
+    ("SELECT a FROM t WHERE * = 1", "F16 NotInSubset"),
+    ("SELECT a FROM t WHERE (a = 1) IS NULL", "F16 NotInSubset"),
+    ("SELECT SUM(*) FROM t", "F16 NotInSubset"),
+    ("SELECT * FROM t GROUP BY a", "F16 NotInSubset"),
+    (
+        "SELECT SUM(a) FROM t JOIN u ON t.a = u.a WHERE a = 1;",
+        "F16 NotInSubset",
+    ),
+    (
+        "SELECT COUNT(*) FROM t JOIN u ON t.a = u.a ORDER",
+        "F16 NotInSubset",
+    ),
+    (
+        "SELECT a FROM t ORDER nnnnnnnnnnnnnnnnnnnnnnnnnnnnnnnnnnnnnnnnnnnnnnnnnnnnnnnnnnnnnnnnn",
+        "F16 NotInSubset",
+    ),
+    (
+        "SELECT * FROM t JOIN u ON a = b JOIN v ON a = b JOIN w ON a = b JOIN ORDER",
+        "F16 NotInSubset",
+    ),
+    (
+        "SELECT a FROM ORDER WHERE a IS NULL IS NOT TRUE",
+        "F16 NotInSubset",
+    ),
+    ("+ SELECT a FROM t WHERE a IS NULL", "F16 NotInSubset"),
+    (
+        "SELECT a FROM t JOIN u ON t . a = + u . a",
+        "F16 NotInSubset",
+    ),
+    ("SELECT a FROM t WHERE a - 1", "F16 NotInSubset"),
+    ("SELECT COUNT ( * ) * t", "F16 NotInSubset"),
+    (
+        "SELECT a FROM t WHERE a = 1 AND b = 2 OR c = 3 NULL AND NOT d = 4",
+        "F16 NotInSubset",
+    ),
+    ("* FROM t", "F16 NotInSubset"),
+];
+
+pub(crate) static OFFENDING: [(&str, &str); 40] = [
+    ("SELECT a FROM t WHERE a =", "F13 BadSql at byte 25"),
+    (
+        "SELECT a FROM t WHERE a = 100000000000000000000000000000000000000",
+        "F13 BadSql at byte 26",
+    ),
+    ("SELECT a FROM t GROUP BY a,", "F13 BadSql at byte 27"),
+    ("SELECT a FROM t AS", "F13 BadSql at byte 18"),
+    ("SELECT *, a FROM t", "F13 BadSql at byte 8"),
+    ("SELECT a FROM t WHERE TRUE", "F13 BadSql at byte 26"),
+    ("SELECT a FROM t WHERE a IN (1 2)", "F13 BadSql at byte 30"),
+    (
+        "SELECT a FROM t JOIN u ON t.a = u.a OR a = b",
+        "F13 BadSql at byte 36",
+    ),
+    ("SELECT f(a) FROM t", "F13 BadSql at byte 8"),
+    ("SELECT a FROM on", "F13 BadSql at byte 14"),
+    ("SELECT a FROM t WHERE a. = 1", "F13 BadSql at byte 25"),
+    (
+        "SELECT * FROM t0 JOIN t1 ON a = b JOIN t2 ON a = b JOIN t3 ON a = b WHERE",
+        "F13 BadSql at byte 73",
+    ),
+    ("SELECT a FROM t IS a IS NOT NULL", "F13 BadSql at byte 16"),
+    ("SELECT a FROM t WHERE IS NOT NULL", "F13 BadSql at byte 22"),
+    ("SELECT a , b , c t", "F13 BadSql at byte 18"),
+    ("SELECT * FROM", "F13 BadSql at byte 13"),
+    ("SELECT a FROM t WHERE a = 1 AND b", "F13 BadSql at byte 33"),
+    (
+        "SELECT a FROM t WHERE a = b GROUP BY AND a",
+        "F13 BadSql at byte 37",
+    ),
+    ("SELECT COUNT ( * )", "F13 BadSql at byte 18"),
+    ("SELECT ) t . a FROM t", "F13 BadSql at byte 7"),
+    (
+        "SELECT * FROM t INNER JOIN u AS v AND ON t . a = v . a AND t . b = v . b",
+        "F13 BadSql at byte 34",
+    ),
+    ("SELECT a t WHERE a = 1 IS UNKNOWN", "F13 BadSql at byte 11"),
+    ("SELECT a FROM t WHERE NOT a OR 1", "F13 BadSql at byte 28"),
+    ("SELECT NOT a AS b FROM t", "F13 BadSql at byte 7"),
+    ("SELECT a FROM t WHERE a NOT IN", "F13 BadSql at byte 30"),
+    ("SELECT a , b , c FROM BETWEEN t", "F13 BadSql at byte 22"),
+    (
+        "SELECT a ( FROM t WHERE ( a = 1 ) IS NOT FALSE",
+        "F13 BadSql at byte 9",
+    ),
+    ("a from t ;", "F13 BadSql at byte 0"),
+    ("SELECT a FROM t WHERE NOT a", "F13 BadSql at byte 27"),
+    (
+        "SELECT * FROM t x JOIN u y ON x . a = y . a JOIN v z ON . b = z . b WHERE x . a > 1",
+        "F13 BadSql at byte 56",
+    ),
+    ("SELECT t . 7 a FROM t", "F13 BadSql at byte 11"),
+    (
+        "SELECT a FROM t WHERE a IS NULL , IS NOT TRUE",
+        "F13 BadSql at byte 32",
+    ),
+    (
+        "SELECT a FROM t WHERE a NOT BETWEEN 'a'",
+        "F13 BadSql at byte 39",
+    ),
+    ("SELECT a t WHERE a > - 1", "F13 BadSql at byte 11"),
+    (
+        "SELECT * FROM t INNER JOIN u AS ON t . a = v . a AND t . b = v . b",
+        "F13 BadSql at byte 32",
+    ),
+    (
+        "SELECT a FROM t WHERE a 7 1 AND b = 2 OR c = 3 AND NOT d = 4",
+        "F13 BadSql at byte 24",
+    ),
+    (
+        "SELECT a FROM t WHERE a = 1 , UNKNOWN",
+        "F13 BadSql at byte 28",
+    ),
+    (". SELECT a FROM t WHERE a >= TRUE", "F13 BadSql at byte 0"),
+    (
+        "SELECT a FROM t WHERE 1 GROUP ( a , b ) IS TRUE",
+        "F13 BadSql at byte 24",
+    ),
+    (
+        "SELECT a t WHERE 1 IN ( a , b ) IS TRUE",
+        "F13 BadSql at byte 11",
+    ),
+];
