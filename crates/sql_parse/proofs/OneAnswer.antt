@@ -2,13 +2,13 @@
 use Rattle.std.proofs.Common.{◌≡◌, ℕ, Bool, true, false, ◌||◌, ◌⊎◌, inl, inr, List, [], ◌∷◌, ◌++◌, refl, sym, ◌∙◌, ap, subst, append_assoc}
 use Rattle.scan_base.specs.declared.fault.Fault.{Fault}
 use Rattle.grammar.specs.Rule.{Language}
-use Rattle.grammar.specs.Sentence.{Begins, NoneGoesOn, Offends}
+use Rattle.grammar.specs.Sentence.{Begins, NoneGoesOn}
 use Rattle.grammar.proofs.Exact.{one_value}
 use Rattle.grammar.proofs.Flags.{or-left, or-right}
 use Rattle.sql_parse.specs.declared.limits.Tally.{Tally}
 use Rattle.sql_parse.specs.Factored.{factor}
 use Rattle.sql_parse.specs.Limits.{counted, is_past, is_long_name, passes_from, passes}
-use Rattle.sql_parse.specs.Parse.{IsSentence, IsShallow, Accepts, PassesLimit, HasOffender, HasLeftOut, is_left_out_whole, fault_at, Refuses}
+use Rattle.sql_parse.specs.Parse.{IsSentence, IsShallow, Accepts, PassesLimit, HasOffender, is_left_out_whole, fault_at, Refuses}
 use Rattle.sql_parse.specs.Productions.{begins_factor, follows_factor, query}
 use Rattle.sql_parse.specs.Sentence.{Sentence}
 use Rattle.sql_parse.specs.Tokens.{Mark, kinds}
