@@ -114,3 +114,10 @@ module _ {K V P : Type 0} (kinds : List K) (rule : Rule K V P P) (s after : K �
 
     pub exact : (d : ℕ) (ts : List (K × V)) → Tells (Spells (Nested rule d) top) All ts (wholly (reads (Some (read rule d)) top ts))
     exact d ts = tells d ts (reads (Some (read rule d)) top ts) refl (law_of top d top_made_well ts)
+
+    -- the tokens say at most one value
+    pub one_value : (ts : List (K × V)) (v w : A) → Spells (Any rule) top ts v → Spells (Any rule) top ts w → v ≡ w
+    one_value ts v w q r =
+        let a = depth rule top ts v q in
+        let found : reads (Some (read rule a.0)) top ts ≡ Read v [] = found_at a.0 ts v a.1 in
+        let b : Read w [] ≡ Read v [] = differs (reads (Some (read rule a.0)) top ts) (Read v []) (Read w []) found (meets a.0 ts w r) in cc

@@ -123,7 +123,7 @@ join_flat = refl
 
 pub joins_step : (front : List Join) (ts : List Mark) → joins_at front ts ≡ cond (at (is_word word.Inner) ts || at (is_word word.Join) ts) (join_at ts >>= λ x. joins_at (front ++ x.0 ∷ []) x.1) (Ok (front, ts))
 unfolding joins_at
-joins_step front ts = more join join_made join_filled join_flat front ts ∙ simp (flat, join_same, join_starts)
+joins_step front ts = more join join_made join_filled join_flat front ts ∙ simp (join_same, join_starts)
 
 -- ---- clauses
 

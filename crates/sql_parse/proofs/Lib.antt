@@ -5,3 +5,4 @@ pub mod Steps
 pub mod ClauseReading
 pub mod Printed
 pub mod Answering
+pub mod OneAnswer

@@ -9,3 +9,4 @@ pub mod ClauseSteps
 pub mod Limits
 pub mod Parse
 pub mod Told
+pub mod Laws

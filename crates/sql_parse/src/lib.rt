@@ -2,6 +2,7 @@
 #![tactic(auto)]
 
 mod clauses;
+pub mod laws;
 mod limits;
 mod operands;
 mod parsing;

@@ -151,3 +151,40 @@ fn trees(rt: HostRuntime) -> Result<(), Fail> {
     );
     Ok(())
 }
+
+// Whether the first is a sentence and the second passes a limit.
+fn bounds(most: &String, more: &String) -> bool {
+    most.as_str() == "sentence" && more.as_str() == "F12 LimitReached"
+}
+
+#[test]
+fn items(rt: HostRuntime) -> Result<(), Fail> {
+    let front = "SELECT a FROM t WHERE a IN (1";
+    let most = told_of(rt.alloc(), front, ", 1", 255, ")")?;
+    let more = told_of(rt.alloc(), front, ", 1", 256, ")")?;
+    assert!(rt; bounds(&most, &more));
+    let front = "SELECT a FROM t GROUP BY a";
+    let most = told_of(rt.alloc(), front, ", a", 63, "")?;
+    let more = told_of(rt.alloc(), front, ", a", 64, "")?;
+    assert!(rt; bounds(&most, &more));
+    Ok(())
+}
+
+#[test]
+fn places(rt: HostRuntime) -> Result<(), Fail> {
+    let most = told_of(rt.alloc(), "SELECT a FROM t", " JOIN t ON a = a", 3, "")?;
+    let more = told_of(rt.alloc(), "SELECT a FROM t", " JOIN t ON a = a", 4, "")?;
+    assert!(rt; bounds(&most, &more));
+    Ok(())
+}
+
+#[test]
+fn names(rt: HostRuntime) -> Result<(), Fail> {
+    let most = told_of(rt.alloc(), "SELECT a FROM ", "x", 64, "")?;
+    let more = told_of(rt.alloc(), "SELECT a FROM ", "x", 65, "")?;
+    assert!(rt; bounds(&most, &more));
+    let most = told_of(rt.alloc(), "SELECT a FROM \"", "\"\"", 64, "\"")?;
+    let more = told_of(rt.alloc(), "SELECT a FROM \"", "\"\"", 65, "\"")?;
+    assert!(rt; bounds(&most, &more));
+    Ok(())
+}
