@@ -1,7 +1,7 @@
 //! `flightscan pipe`: one connection, from a reader to a writer.
 
 ghost use Rattle.std.specs.Prelude.{◌+◌, ◌<◌, []};
-ghost use Rattle.grpc_frame.specs.Ends.{Writes};
+ghost use Rattle.grpc_frame.specs.Ends.{CountsFailure, Writes};
 ghost use Rattle.flight_core.specs.Machine.{Log};
 ghost use Rattle.flightscan.specs.Pipe.{Pipes, fault_line};
 
@@ -16,7 +16,8 @@ const DONE: u8 = 0;
 const FAULT_AT_THIS_END: u8 = 3;
 
 /// Serves one connection, from the reader to the writer, on a catalog that is empty at first. Answers the exit
-/// status: 0 at the input's end, and 3 at a fault of this end, which is then said on `faults` in a line.
+/// status: 0 at the input's end, and 3 at a fault of this end, which is then said on `faults` in a line, as far
+/// as that takes it.
 pub fn pipe<R: Input, W: Output, E: Output>(
     alloc: Global,
     reader: &mut R,
@@ -39,7 +40,8 @@ pub fn pipe<R: Input, W: Output, E: Output>(
           failures = R.failures reader.new + W.failures writer.new;
           log = log;
         })
-        (E.contents faults.old) (E.contents faults.new) }
+        (record { bytes = E.contents faults.old; failures = E.failures faults.old })
+        (record { bytes = E.contents faults.new; failures = E.failures faults.new }) }
 {
     match serve_alone(alloc, reader, writer) {
         Ok(()) => DONE,
@@ -53,7 +55,8 @@ pub fn pipe<R: Input, W: Output, E: Output>(
 // Says a fault in a line.
 fn say<E: Output>(faults: &mut E, fault: Fault) -> Result<(), Fault>
     requires { E.failures faults.old < 18446744073709551615 }
-    ensures { Writes result (E.contents faults.old) (E.contents faults.new) (fault_line fault) }
+    ensures bytes { Writes result (E.contents faults.old) (E.contents faults.new) (fault_line fault) }
+    ensures counted { CountsFailure result (E.failures faults.old) (E.failures faults.new) }
 {
     faults.write(b"fault: ")?;
     faults.write(fault.text().as_str().as_bytes())?;
