@@ -240,3 +240,57 @@ fn schema(rt: HostRuntime) -> Result<(), Fail> {
     assert_eq!(rt; schema.fields.len(), 1);
     Ok(())
 }
+
+// The second FlightData with a batch of 70,000 rows, all 0.
+fn long_batch(alloc: Global) -> Result<Bytes, Fault> {
+    let (front, _) = SECOND.split_at(133);
+    let mut bytes = Vec::new(alloc);
+    bytes.extend_from_slice(front)?;
+    for (place, byte) in [
+        (27, 0x80),
+        (28, 0x8b),
+        (29, 0x08),
+        (59, 0x70),
+        (60, 0x11),
+        (61, 0x01),
+        (75, 0x70),
+        (76, 0x11),
+        (77, 0x01),
+        (123, 0x80),
+        (124, 0x8b),
+        (125, 0x08),
+    ] {
+        if let Some(slot) = bytes.get_mut(place) {
+            *slot = byte;
+        }
+    }
+    bytes.extend_from_slice(&[0x80, 0x97, 0x22])?;
+    for _ in 0..4_375 {
+        bytes.extend_from_slice(&[0; 128])?;
+    }
+    Ok(Bytes::from_vec(bytes)?)
+}
+
+// A batch of 70,000 rows is answered in two, of 65,536 rows and of the rest.
+#[test]
+fn a_long_batch_is_cut(rt: HostRuntime) -> Result<(), Fail> {
+    let alloc = rt.alloc();
+    let mut plain = Plain::new(alloc)?;
+    let mut payloads = Vec::new(alloc);
+    payloads.push(Bytes::from_static(&FIRST))?;
+    payloads.push(long_batch(alloc)?)?;
+    let answer = step(alloc, &mut plain, &Event::Put(payloads));
+    assert_eq!(rt; (answer.fault, answer.payloads.len()), (None, 1));
+    let range = [(88, 0x01), (89, 0x11), (90, 0x70)];
+    let reply = step(alloc, &mut plain, &fetch(alloc, &range)?);
+    assert_eq!(rt; (reply.fault, reply.payloads.len()), (None, 3));
+    for (payload, (least, most)) in reply
+        .payloads
+        .iter()
+        .zip([(0, 1_000), (524_288, 525_288), (35_712, 36_712)])
+    {
+        let len = payload.len();
+        assert!(rt; least <= len && len <= most, "{len}");
+    }
+    Ok(())
+}
