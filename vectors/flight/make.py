@@ -75,6 +75,7 @@ BATCH = bytes.fromhex(
     "0A000000 10000000 02000000 00000000 1C000000 01000000 02000000 00000000 00000000 00000000 00000000 02000000"
     "00000000 00000000 00000000 00000000 00000000 00000000 10000000 00000000")
 BODY = bytes.fromhex("01000000 00000000 02000000 00000000")
+IPC_SCHEMA = bytes.fromhex("FFFFFFFF 70000000") + SCHEMA
 URL = "type.googleapis.com/arrow.flight.protocol.sql."
 
 
@@ -111,7 +112,7 @@ assert len(BINARIES["first_run"]) == 565
 QUERY = command("query", "CommandStatementQuery", 'query: "SELECT * FROM t"')
 DESCRIPTOR = f"type: CMD cmd: {quoted(QUERY)}"
 assert len(add("query_descriptor", "FlightDescriptor", DESCRIPTOR, "92 bytes")) == 92
-add("info", "FlightInfo", f"schema: {quoted(SCHEMA)} flight_descriptor {{ {DESCRIPTOR} }} "
+add("info", "FlightInfo", f"schema: {quoted(IPC_SCHEMA)} flight_descriptor {{ {DESCRIPTOR} }} "
     f"endpoint {{ ticket {{ ticket: {quoted(ANY)} }} }} total_records: -1 total_bytes: -1 ordered: true",
     "its end: 20, nine FF, 01, 28, nine FF, 01, 30 01")
 add("put_result", "PutResult", 'app_metadata: "\\010\\004"', "0A 02 08 04")
@@ -148,7 +149,7 @@ add("info_empty", "FlightInfo", "")
 add("info_all", "FlightInfo", 'schema: "s" flight_descriptor { } endpoint { } endpoint { ticket { } location { uri: "grpc://h:1" } '
     'location { } expiration_time { seconds: -1 nanos: 5 } app_metadata: "m" } total_records: 1 total_bytes: 300 ordered: false '
     'app_metadata: "n"')
-add("schema_result", "SchemaResult", f"schema: {quoted(SCHEMA)}")
+add("schema_result", "SchemaResult", f"schema: {quoted(IPC_SCHEMA)}", "a schema in IPC form")
 add("action", "Action", 'type: "scan.expire" body: "\\000\\000\\000\\000\\000\\000\\000\\002"', "23 bytes")
 add("result", "Result", 'body: "\\000\\000\\000\\000\\000\\000\\000\\002"')
 
@@ -188,7 +189,20 @@ by_hand("bad_text", "CommandStatementQuery", "0A 01 FF", "F4", "not UTF-8")
 by_hand("bad_text_replaced", "CommandStatementQuery", "0A 01 FF 0A 01 61", "F4", "not UTF-8, and a later one replaces it")
 by_hand("bad_text_path", "FlightDescriptor", "1A 02 C0 80", "F4", "not UTF-8")
 by_hand("bad_inside", DATA, "0A 01 08", "F4", "the embedded message is cut off")
-by_hand("bad_inside_parts", DATA, "0A 01 08 0A 01 02", 'F4', "each part is cut or whole by itself")
+by_hand("bad_inside_parts", DATA, "0A 01 08 0A 01 02", "F4",
+        "the first part is cut off, though the two in a row would read: each part is read by itself")
+INGEST = "CommandStatementIngest"
+for number, data in enumerate(["08 03", "10 04", "08 FF FF FF FF FF FF FF FF FF 01"]):
+    by_hand(f"bad_enum_{number}", INGEST, f"0A {len(bytes.fromhex(data)):02X} {data}", "F4",
+            "an enum's number outside its list, which protoc keeps", False)
+by_hand("enum_twice", INGEST, "0A 02 08 01 12 01 74 0A 02 10 02",
+        "table_definition_options { if_not_exist: TABLE_NOT_EXIST_OPTION_CREATE if_exists: TABLE_EXISTS_OPTION_APPEND } "
+        'table: "t"', "two parts of the options")
+by_hand("options_not_read", INGEST, "12 01 74 C2 3E 01 08", 'table: "t"', "an entry of the map that is cut off", False)
+by_hand("bad_options_cut", INGEST, "12 01 74 C2 3E 02 08", "F4", "here the field itself is cut off")
+by_hand("bad_text_unread", INGEST, "12 01 74 22 01 FF", "F4", "a catalog that is not UTF-8")
+by_hand("bad_text_pattern", GET, "12 01 C0", "F4", "a pattern that is not UTF-8")
+by_hand("bad_text_url", "Any", "0A 01 80", "F4", "not UTF-8")
 
 for old in HERE.glob("*.bin"):
     old.unlink()
