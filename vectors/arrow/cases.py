@@ -14,6 +14,7 @@ class Message:
     layout: str = "flatc"  # flatc, defaults (flatc --force-defaults), packed or spread
     compared: bool = False  # whether flatc can write the tree too: then both are compared
     cut: int = None  # how many bytes of the header are kept
+    patch: tuple = None  # a place of the header and the bytes that then stand there
 
 
 def case(name, answer, *before, note=""):
@@ -637,3 +638,61 @@ for name in ("flatc", "defaults", "packed", "spread"):
         compared=name in ("packed", "spread"))
 case("all_batch_packed", total(*ALL_ROWS, *ALL_ROWS), "schema_all_spread", *ALL_BEFORE, "all_batch_spread")
 case("all_batch_flatc", "F8", "schema_all", note="the dictionaries are empty")
+
+# 11. Bytes that lie: a header of flatc with the bytes at one place changed. In schema_Utf8 the Message lies at
+# 16 and its vtable at 6, the Schema at 36 (28), the vector of fields at 44, the Field at 64 (52), the Utf8 at 84
+# (80), the name at 88. In batch_Int64_two the RecordBatch lies at 52 (42), its buffers at 76, its node at 116.
+
+TEXTS, SAID = MESSAGES["schema_Utf8"].tree, says(("a", "Utf8", True))
+INDEXED = says(("a", "dictionary 0 Int32", True))
+for place, data, answer, note in [
+    (0, "FF FF FF FF", "F6", "the root lies outside"),
+    (0, "5C 00 00 00", "F6", "the root's vtable lies before the first byte"),
+    (6, "00 00", "F7", "a vtable of no byte has no slot: no version"),
+    (6, "05 00", "F7", "half an entry is none: no version"),
+    (6, "09 00", "F6", "half an entry is none: no header"),
+    (8, "FF FF", SAID, "a table's size is not read"),
+    (21, "00", "F7", "kind 0"),
+    (21, "02", "F8", "a dictionary batch before any schema"),
+    (21, "03", "F8", "a record batch before any schema"),
+    (22, "04 01", "F7", "version 260"),
+    (24, "FF FF FF 7F", "F6", "the header lies outside"),
+    (28, "07 00", "F6", "no fields"),
+    (40, "FF FF FF FF", "F6", "the vector lies outside"),
+    (44, "00 00 00 00", "F12", "no column"),
+    (44, "02 00 00 00", "F6", "the second field lies outside"),
+    (44, "FF FF FF FF", "F12", "the count comes before the elements"),
+    (52, "0D 00", SAID, "half an entry is none: no dictionary"),
+    (52, "0E 00", INDEXED, "slot 4 is 0C 00 of the table behind: its offset leads to the Utf8, an encoding without a slot"),
+    (52, "FF FF", INDEXED, "a vtable that runs past the buffer, while what is read lies inside"),
+    (64, "41 00 00 00", "F6", "the Field's vtable lies before the first byte"),
+    (70, "FF", SAID, "a bool is true where its byte is not 0"),
+    (71, "07", "F7", "a Decimal without a slot has precision 0"),
+    (71, "02", "F7", "an Int without a slot has width 0"),
+    (71, "06", says(("a", "Bool", True)), ""),
+    (72, "00 00 00 00", "F12", "an offset of 0 leads to itself: an empty name"),
+    (76, "FF FF FF FF", SAID, "the table of Utf8 is never read"),
+    (80, "FF FF FF FF", SAID, "nor its vtable"),
+    (88, "04 00 00 00", says(("a\u0000\u0000\u0000", "Utf8", True)), "no zero behind the string"),
+    (88, "05 00 00 00", "F6", "the name ends outside"),
+    (88, "00 00 00 00", "F12", "an empty name"),
+]:
+    add(f"lying_schema_{place}_{data.replace(' ', '')}", TEXTS, answer, patch=(place, bytes.fromhex(data)), note=note)
+add("lying_schema_cut_93", TEXTS, SAID, cut=93, note="what lies behind the name is not read")
+add("lying_schema_cut_92", TEXTS, "F6", cut=92)
+for place, data, answer, note in [
+    (42, "0B 00", rows([1], [2]), "half an entry is none: no compression"),
+    (42, "0C 00", "F7", "slot 3 is there; its table is not followed"),
+    (42, "09 00", "F6", "no buffers"),
+    (56, "FF FF FF FF", "F6", "the nodes lie outside"),
+    (76, "00 00 00 00", "F8", "no buffer"),
+    (76, "03 00 00 00", "F8", "three buffers within the header"),
+    (76, "04 00 00 00", "F6", "the fourth ends outside"),
+    (76, "FF FF FF FF", "F6", ""),
+    (116, "00 00 00 00", "F8", "no node"),
+    (116, "02 00 00 00", "F6", "the second node ends outside"),
+    (116, "01 00 00 10", "F6", "2^28 + 1 nodes: 16 bytes each are 16 in 32 bits"),
+]:
+    add(f"lying_batch_{place}_{data.replace(' ', '')}", NUMBERS, answer, "schema_Int64", patch=(place, bytes.fromhex(data)),
+        note=note)
+add("lying_batch_cut_135", NUMBERS, "F6", "schema_Int64", cut=135)

@@ -42,6 +42,9 @@ def header(folder, message):
         data = layout.written("Message", message.tree, message.layout)
         if message.compared:
             assert told(folder, data) == told(folder, compiled(folder, message.tree)), message.name
+    if message.patch:
+        place, new = message.patch
+        data = data[:place] + new + data[place + len(new) :]
     return data[: message.cut] if message.cut is not None else data
 
 
