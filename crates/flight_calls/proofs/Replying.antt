@@ -1,5 +1,5 @@
 -- The reply to a call.
-use Rattle.std.proofs.Common.{◌≡◌, ◌≤◌, List, [], length, All, Option, Some, None, Result, Ok, Err, refl, inl, arith, pos}
+use Rattle.std.proofs.Common.{◌≡◌, ◌≤◌, List, [], length, All, Option, Some, None, Result, Ok, Err, refl, arith, pos}
 use Rattle.std.proofs.lemmas.List.Elements.{All-nil, All-cons}
 use Rattle.scan_base.specs.declared.fault.Fault.{Fault}
 use Rattle.scan_base.specs.declared.fault.Fault.TheVariants.{OutOfMemory}
@@ -23,7 +23,7 @@ put_short log new payloads answers (Some fault) s = rw s.1 (All-nil (λ payload.
 -- a fetch may always be refused for want of memory
 fetch_refused : (log : Log) (asked : Result HandleAt Fault) → FetchBy log asked [] (Some OutOfMemory)
 fetch_refused log (Err cause) = (refl, λ other. absurd (other refl))
-fetch_refused log (Ok handle) = ((λ above. (refl, λ other. absurd (other refl))), (λ within. inl refl))
+fetch_refused log (Ok handle) = ((λ above. (refl, λ other. absurd (other refl))), (λ within. (refl, λ other. absurd (other refl))))
 
 -- a reply that does not fit is none to a put, and is refused
 refused_step : (event : Event) (log new : Log) (reply refused : Reply) → Step log event reply new → ¬ All (λ payload. length payload ≤ 16777216) reply.payloads.items

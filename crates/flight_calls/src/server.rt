@@ -23,7 +23,8 @@ use std::alloc::Global;
 ///   `Fault::OutOfMemory` (F21) where memory is refused while a call is read. The fault's Status is written.
 /// - `Fault::Transport` (F22) where a read or a write failed, and where the input ended inside a call.
 ///
-/// Nothing is done for the call in which the connection ended.
+/// Nothing is done for a call whose End has not come. Where only the writing of an answer failed, its call was
+/// done: a put that was accepted stands.
 pub fn serve<R: Input, W: Output>(
     alloc: Global,
     reader: &mut R,

@@ -1,5 +1,5 @@
 -- Runs: cut, joined, and without a refused event.
-use Rattle.std.proofs.Common.{◌≡◌, ℕ, zero, suc, ◌+◌, ◌<◌, get_or, List, [], ◌∷◌, ◌++◌, length, take, drop, refl, sym, ap, subst, ◌∙◌, add-one, Option, None, Some, Result, Ok, Err, IfOk, Vec, Global}
+use Rattle.std.proofs.Common.{◌≡◌, ℕ, zero, suc, ◌+◌, ◌<◌, get_or, List, [], ◌∷◌, ◌++◌, length, take, drop, refl, sym, ap, subst, ◌∙◌, add-one, Option, None, Some}
 use Rattle.std.specs.List.{slice_get}
 use Rattle.std.proofs.lemmas.List.{take_more}
 use Rattle.scan_base.specs.declared.fault.Fault.{Fault}
@@ -58,12 +58,8 @@ step_refused : (log : Log) (e : Event) (r : Reply) (f : Fault) (after : Log) →
 step_refused log (event.Put payloads) r f after e s = put_refused log payloads.items r.payloads.items r.fault f after e s
 step_refused log (event.Fetch ticket) r f after e s = s.0
 
-pub refusals_leave_nothing : (events : List Event) (replies : List Reply) → RefusalsLeaveNothing events replies
-refusals_leave_nothing events replies place asked reply fault last here answered refused run =
+pub refusals_leave_nothing : RefusalsLeaveNothing
+refusals_leave_nothing events replies last place asked reply fault here answered refused run =
     let at = run_at [] events replies last place asked reply run here answered in
     let same : at.after ≡ at.log = step_refused at.log asked reply fault at.after refused at.step in
     rw (add-one place) (run_joins [] _ _ at.log _ _ last at.before (subst (λ (l : Log). Run l (drop (suc place) events) (drop (suc place) replies) last) same at.behind))
-
-pub ok_refusals : (events : List Event) (r : Result (Vec Reply Global) Fault) → IfOk r (λ v. RefusalsLeaveNothing events v.items)
-ok_refusals events (Ok v) = refusals_leave_nothing events v.items
-ok_refusals events (Err f) = tt

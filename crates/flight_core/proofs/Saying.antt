@@ -10,7 +10,7 @@ use Rattle.flight_proto.specs.Ingest.{IngestSaid, ingest_of}
 use Rattle.ipc_batch.specs.State.{State}
 use Rattle.ipc_batch.specs.Said.{Sent, News, Rows, rows_in, Follows}
 use Rattle.table_versions.specs.Database.{Put}
-use Rattle.flight_core.specs.Payloads.{Payload, carries_message, message_in, PayloadsSay}
+use Rattle.flight_core.specs.Payloads.{Payload, carries_message, message_in, PutSays}
 use Rattle.flight_core.specs.Puts.{Told, news_carried, news_in_payload, told_by, put_made, put_said}
 use Rattle.flight_core.specs.Laws.{PutsAreSaid}
 use Rattle.flight_core.proofs.Storing.{both}
@@ -57,8 +57,8 @@ told_follows state (payload ∷ payloads) told e =
     good_told told = Ok told
 
 -- payloads that follow say
-pub says : (payloads : List Payload) (schema : Schema) (rows : Rows) → Follow None payloads (Some schema) rows → PayloadsSay payloads schema rows
-says payloads schema rows f = (map message_in (filter carries_message f.all), rw (f.read) refl, f.follows)
+pub says : (payloads : List Payload) (schema : Schema) (rows : Rows) → Follow None payloads (Some schema) rows → PutSays payloads schema rows
+says payloads schema rows f = (f.all, f.read, f.follows)
 
 wanted_there : {A : Type 0} (found : Option A) (fault : Fault) (x : A) → wanted found fault ≡ Ok x → found ≡ Some x
 wanted_there (Some y) fault x e = cc

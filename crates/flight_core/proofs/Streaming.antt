@@ -1,8 +1,7 @@
 -- Payloads that are written say what they are written for.
-use Rattle.std.proofs.Common.{◌≡◌, ◌<◌, ◌^◌, ℕ, ◌==◌, true, false, not, List, [], ◌∷◌, ◌++◌, length, map, filter, All, Some, None, Result, Ok, refl, sym, ap, subst, ◌∙◌, append-nil, arith}
-use Rattle.std.proofs.lemmas.Bool.{ne_eqb}
+use Rattle.std.proofs.Common.{◌≡◌, ◌<◌, ◌^◌, ℕ, true, List, [], ◌∷◌, ◌++◌, length, map, All, Some, None, Result, Ok, refl, sym, ap, subst, ◌∙◌, append-nil, arith}
 use Rattle.std.proofs.lemmas.List.{map-append}
-use Rattle.std.proofs.lemmas.List.Elements.{filter-append, All-nil, All-cons}
+use Rattle.std.proofs.lemmas.List.Elements.{All-nil, All-cons}
 use Rattle.scan_base.specs.declared.fault.Fault.{Fault}
 use Rattle.scan_base.specs.Reading.{◌>>=◌}
 use Rattle.scan_base.specs.Lists.{each}
@@ -12,7 +11,7 @@ use Rattle.arrow_schema.specs.declared.data_type.DataType.{DataType}
 use Rattle.arrow_schema.specs.declared.data_type.DataType.TheVariants.{Integer, Utf8, Bool as Flags, Decimal128, Dictionary}
 use Rattle.arrow_schema.specs.declared.schema.Field.{Field}
 use Rattle.arrow_schema.specs.declared.schema.Schema.{Schema}
-use Rattle.arrow_schema.specs.Header.{MessageAt, message_of, schema_in, schema_in_all_types, schema_message_of, schema_of_all_types, is_built, is_long}
+use Rattle.arrow_schema.specs.Header.{schema_in, schema_in_all_types, schema_message_of, schema_of_all_types, is_built, is_long}
 use Rattle.arrow_schema.specs.Schema.{IsSchema}
 use Rattle.arrow_schema.specs.Batch.{BatchAt, rows_of}
 use Rattle.arrow_schema.specs.Written.{schema_part, schema_bytes}
@@ -23,27 +22,20 @@ use Rattle.flight_proto.specs.Laws.{FitsMemory}
 use Rattle.flight_proto.proofs.ReadsBack.{data_back}
 use Rattle.flight_proto.proofs.Heads.{bodies_follow_heads}
 use Rattle.ipc_batch.specs.Parts.{body_claimed}
-use Rattle.ipc_batch.specs.Said.{Sent, News, Rows, schema_sent, news_of, Follows}
-use Rattle.ipc_batch.specs.Written.{AreLongs, SaysBatch, SaysParts, WrittenParts}
+use Rattle.ipc_batch.specs.Said.{Sent, News, Rows, schema_sent, news_of, Follows, Says}
+use Rattle.ipc_batch.specs.Written.{AreLongs, SaysBatch}
 use Rattle.ipc_batch.proofs.Messages.{joined}
-use Rattle.flight_core.specs.Payloads.{Payload, carries_message, message_in, messages_of, PayloadsSay, Carries, SaysSchema, SaysBatchBehind, GoOn}
+use Rattle.flight_core.specs.Payloads.{Payload, message_in, PayloadsSay, Carries, SaysSchema, SaysBatchBehind, GoOn}
 use Rattle.flight_core.proofs.Storing.{both}
 
 -- ---- one payload
 
--- a header that was read is there
-header_there : (bytes : List ℕ) (message : MessageAt) → message_of bytes ≡ Ok message → (length bytes == 0) ≡ false
-unfolding message_of
-header_there [] message e = cc
-header_there (b ∷ bytes) message e = ne_eqb (length (b ∷ bytes)) 0 (λ same. absurd (omega arith))
-
 -- what is written of a message is carried
 carried_back : (payload header body : List ℕ) → payload ≡ data_bytes None (record { data_header = header; data_body = body })
-    → FitsMemory header → FitsMemory body → (length header == 0) ≡ false → Carries payload (record { header = header; body = body })
-carried_back payload header body e long wide some = record {
+    → FitsMemory header → FitsMemory body → Carries payload (record { header = header; body = body })
+carried_back payload header body e long wide = record {
   carried = record { data_header = header; data_body = body };
   read = ap data_of e ∙ (data_back None (record { data_header = header; data_body = body }) tt long wide).1;
-  there = ap not some;
   same = refl;
 }
 
@@ -59,16 +51,16 @@ schema_said payload schema is built e short =
     let told : schema_in_all_types m.message ≡ Ok schema = rw (m.found, m.kind_again) at again in
     record {
       message = record { header = bytes; body = [] };
-      carries = carried_back payload bytes [] e (omega arith) (omega arith) (header_there bytes m.message m.found);
+      carries = carried_back payload bytes [] e (omega arith) (omega arith);
       said = rw (m.found, m.kind_again, told, built, m.body_length_again) refl;
     }
 
 -- the payload of a batch
-pub batch_said : (payload header body : List ℕ) (batch : BatchAt) (parts : WrittenParts) → payload ≡ data_head header (length body) ++ body → FitsMemory header → FitsMemory body
-    → SaysParts (record { header = header; body = body }) parts → SaysBatch (record { header = header; body = body }) batch → SaysBatchBehind payload batch
-batch_said payload header body batch parts e long wide there said = record {
+pub batch_said : (payload header body : List ℕ) (batch : BatchAt) → payload ≡ data_head header (length body) ++ body → FitsMemory header → FitsMemory body
+    → SaysBatch (record { header = header; body = body }) batch → SaysBatchBehind payload batch
+batch_said payload header body batch e long wide said = record {
   message = record { header = header; body = body };
-  carries = carried_back payload header body (e ∙ sym (bodies_follow_heads (record { data_header = header; data_body = body }))) long wide (header_there header there.message there.found);
+  carries = carried_back payload header body (e ∙ sym (bodies_follow_heads (record { data_header = header; data_body = body }))) long wide;
   said = said;
 }
 
@@ -90,26 +82,30 @@ each_more {B = B} read (a ∷ xs) x ys y all one =
     good_list : List B → Result (List B) Fault
     good_list bs = Ok bs
 
--- one payload more that carries a message
-message_more : (payloads : List Payload) (payload : Payload) (messages : List Sent) (message : Sent) → messages_of payloads ≡ Ok messages → Carries payload message
-    → messages_of (payloads ++ payload ∷ []) ≡ Ok (messages ++ message ∷ [])
-message_more payloads payload messages message e c =
-    let all = both (each data_of payloads) (λ (all : List DataSaid). good_messages (map message_in (filter carries_message all))) messages e in
-    let same : map message_in (filter carries_message all.0) ≡ messages = let last = all.2 in cc in
-    let more = each_more data_of payloads payload all.0 c.carried all.1 c.read in
-    rw more (ap good_messages (
-    ap (map message_in) (filter-append carries_message all.0 (c.carried ∷ []))
-    ∙ map-append message_in (filter carries_message all.0) (filter carries_message (c.carried ∷ []))
-    ∙ rw (same, c.there, c.same) refl))
-  where
-    good_messages : List Sent → Result (List Sent) Fault
-    good_messages messages = Ok messages
+-- what payloads carry
+record Carry (payloads : List Payload) (messages : List Sent) : Type 0 where
+  all : List DataSaid
+  read : each data_of payloads ≡ Ok all
+  same : map message_in all ≡ messages
+
+-- one payload more
+carry_more : (payloads : List Payload) (payload : Payload) (messages : List Sent) (message : Sent) → Carry payloads messages → Carries payload message
+    → Carry (payloads ++ payload ∷ []) (messages ++ message ∷ [])
+carry_more payloads payload messages message e c = record {
+  all = e.all ++ c.carried ∷ [];
+  read = each_more data_of payloads payload e.all c.carried e.read c.read;
+  same = map-append message_in e.all (c.carried ∷ []) ∙ rw (e.same, c.same) refl;
+}
+
+-- payloads that carry messages say what those say
+say_carried : (payloads : List Payload) (messages : List Sent) (schema : Schema) (rows : Rows) → Carry payloads messages → Says messages schema rows → PayloadsSay payloads schema rows
+say_carried payloads messages schema rows e said = (e.all, e.read, subst (λ (sent : List Sent). Says sent schema rows) (sym e.same) said)
 
 -- a schema alone says no rows
 pub say_first : (payload : Payload) (schema : Schema) → SaysSchema payload schema → PayloadsSay (payload ∷ []) schema []
 say_first payload schema s =
     let news : News = record { state = Some schema; batch = None } in
-    (s.message ∷ [], message_more [] payload [] s.message refl s.carries, (news, [], s.said, refl, (refl, refl)))
+    say_carried (payload ∷ []) (s.message ∷ []) schema [] (carry_more [] payload [] s.message (record { all = []; read = refl; same = refl }) s.carries) (news, [], s.said, refl, (refl, refl))
 
 -- and one batch more says its rows behind the others
 pub say_more : (columns : ℕ) (payloads : List Payload) (payload : Payload) (batch : BatchAt) → length batch.columns ≡ columns → SaysBatchBehind payload batch
@@ -117,11 +113,10 @@ pub say_more : (columns : ℕ) (payloads : List Payload) (payload : Payload) (ba
 say_more columns payloads payload batch many s schema rows longs said =
     let read = s.said schema (rw many longs) in
     let news : News = record { state = Some schema; batch = Some read.0 } in
-    let one : Follows (Some schema) (s.message ∷ []) (Some schema) (rows_of read.0) = (news, [], read.1, sym (append-nil (rows_of read.0)), (refl, refl)) in (
-      said.0 ++ s.message ∷ [],
-      message_more payloads payload said.0 s.message said.1 s.carries,
-      subst (λ (more : Rows). Follows None (said.0 ++ s.message ∷ []) (Some schema) (rows ++ more)) read.2 (joined None said.0 (s.message ∷ []) (Some schema) (Some schema) rows (rows_of read.0) said.2 one),
-    )
+    let one : Follows (Some schema) (s.message ∷ []) (Some schema) (rows_of read.0) = (news, [], read.1, sym (append-nil (rows_of read.0)), (refl, refl)) in
+    let sent = map message_in said.0 in
+    say_carried (payloads ++ payload ∷ []) (sent ++ s.message ∷ []) schema (rows ++ rows_of batch) (carry_more payloads payload sent s.message (record { all = said.0; read = said.1; same = refl }) s.carries)
+    (subst (λ (more : Rows). Follows None (sent ++ s.message ∷ []) (Some schema) (rows ++ more)) read.2 (joined None sent (s.message ∷ []) (Some schema) (Some schema) rows (rows_of read.0) said.2 one))
 
 -- nothing more
 pub go_nowhere : (columns : ℕ) (payloads : List Payload) → GoOn columns payloads payloads []

@@ -1,5 +1,5 @@
 -- What a fetch answers.
-use Rattle.std.specs.Prelude.{◌≡◌, ◌≢◌, ℕ, ◌-◌, ◌≤◌, ◌<◌, ◌&&◌, nat_le, List, [], length, take, drop, Option, Some, None, Result, Ok, Err, ◌⊎◌}
+use Rattle.std.specs.Prelude.{◌≡◌, ◌≢◌, ℕ, ◌-◌, ◌≤◌, ◌<◌, ◌&&◌, nat_le, List, [], length, take, drop, Option, Some, None, Result, Ok, Err}
 use Rattle.scan_base.specs.declared.fault.Fault.{Fault}
 use Rattle.scan_base.specs.declared.fault.Fault.TheVariants.{BadTicket, VersionUnknown, OutOfMemory}
 use Rattle.scan_base.specs.Reading.{◌>>=◌, demand, wanted}
@@ -8,7 +8,7 @@ use Rattle.flight_proto.specs.Ticket.{statement_handle_of}
 use Rattle.table_versions.specs.Table.{Table}
 use Rattle.table_versions.specs.Database.{Database, Put, table_at, version}
 use Rattle.flight_core.specs.Narrow.{without_tables, table_named}
-use Rattle.flight_core.specs.Payloads.{Payload, PayloadsSay, PayloadsBegin}
+use Rattle.flight_core.specs.Payloads.{Payload, PayloadsSay}
 
 -- the handle in the Ticket that begins a fetch
 unfoldable pub handle_asked : Payload → Result HandleAt Fault
@@ -41,15 +41,13 @@ meaning_of database (Query number from to query) = do
   Ok (part_of table from to)
 meaning_of database (Tables number) = Err BadTicket
 
--- The answer to a handle at its version: the rows that it means, cut into batches freely. Where memory was
--- refused, nothing or a beginning of them. No answer is too large: without joins it has at most as many rows
--- as a table may have.
+-- The answer to a handle at its version: the rows that it means, cut into batches freely. A refused one has no
+-- payload. No answer is too large: without joins it has at most as many rows as a table may have.
 abbrev pub FetchAt : Database → HandleAt → List Payload → Option Fault → Type 0
 FetchAt database handle payloads None =
     (meant : Table) × (meaning_of database handle ≡ Ok meant) × PayloadsSay payloads meant.schema meant.rows
-FetchAt database handle payloads (Some OutOfMemory) = (payloads ≡ []) ⊎ ((meant : Table)
-    × (meaning_of database handle ≡ Ok meant) × PayloadsBegin payloads meant.schema meant.rows)
-FetchAt database handle payloads (Some fault) = (payloads ≡ []) × (meaning_of database handle ≡ Err fault)
+FetchAt database handle payloads (Some fault) =
+    (payloads ≡ []) × (fault ≢ OutOfMemory → meaning_of database handle ≡ Err fault)
 
 -- refused by this fault, or for want of memory
 abbrev pub Refused : Fault → List Payload → Option Fault → Type 0

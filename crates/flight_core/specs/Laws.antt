@@ -4,7 +4,7 @@ use Rattle.scan_base.specs.declared.fault.Fault.{Fault}
 use Rattle.table_versions.specs.Database.{Put}
 use Rattle.flight_core.specs.declared.event.Event.{Event}
 use Rattle.flight_core.specs.declared.event.Reply.{Reply}
-use Rattle.flight_core.specs.Payloads.{Payload, PayloadsSay}
+use Rattle.flight_core.specs.Payloads.{Payload, PutSays}
 use Rattle.flight_core.specs.Puts.{put_said}
 use Rattle.flight_core.specs.Machine.{Log, Run}
 
@@ -14,11 +14,12 @@ without place xs = take place xs ++ drop (place + 1) xs
 
 -- A refused event, and so a refused put, changes nothing: without it the other events are answered by the
 -- other replies, and the log is the same.
-abbrev pub RefusalsLeaveNothing : List Event → List Reply → Type 0
-RefusalsLeaveNothing events replies = (place : ℕ) (asked : Event) (reply : Reply) (fault : Fault) (log : Log)
+abbrev pub RefusalsLeaveNothing : Type 0
+RefusalsLeaveNothing = (events : List Event) (replies : List Reply) (log : Log)
+    → (place : ℕ) (asked : Event) (reply : Reply) (fault : Fault)
     → slice_get events place ≡ Some asked → slice_get replies place ≡ Some reply → reply.fault ≡ Some fault
     → Run [] events replies log → Run [] (without place events) (without place replies) log
 
 -- the payloads of a put say its schema and its rows
 abbrev pub PutsAreSaid : Type 0
-PutsAreSaid = (payloads : List Payload) (put : Put) → put_said payloads ≡ Ok put → PayloadsSay payloads put.schema put.rows
+PutsAreSaid = (payloads : List Payload) (put : Put) → put_said payloads ≡ Ok put → PutSays payloads put.schema put.rows

@@ -1,7 +1,5 @@
 -- What the payloads of a stream say: each is a FlightData, whose header and body are an Arrow IPC message.
-use Rattle.std.specs.Prelude.{◌≡◌, ℕ, ◌==◌, Bool, true, not, List, ◌++◌, length, map, filter, Some, None, Result, Ok}
-use Rattle.scan_base.specs.declared.fault.Fault.{Fault}
-use Rattle.scan_base.specs.Reading.{◌>>=◌}
+use Rattle.std.specs.Prelude.{◌≡◌, ℕ, ◌==◌, Bool, not, List, ◌++◌, length, map, filter, Some, None, Ok}
 use Rattle.scan_base.specs.Lists.{each}
 use Rattle.arrow_schema.specs.declared.schema.Schema.{Schema}
 use Rattle.arrow_schema.specs.Batch.{BatchAt}
@@ -13,33 +11,32 @@ use Rattle.ipc_batch.specs.Written.{AreLongs, SaysBatch}
 abbrev pub Payload : Type 0
 Payload = List ℕ
 
--- whether a FlightData carries an IPC message: one with an empty header is skipped
-abbrev pub carries_message : DataSaid → Bool
-carries_message carried = not (length carried.data_header == 0)
-
 -- the IPC message that a FlightData carries
 abbrev pub message_in : DataSaid → Sent
 message_in carried = record { header = carried.data_header; body = carried.data_body }
 
--- the IPC messages that payloads carry, in order
-abbrev pub messages_of : List Payload → Result (List Sent) Fault
-messages_of payloads = each data_of payloads >>= λ all. Ok (map message_in (filter carries_message all))
+-- the messages that FlightData carry say this schema and these rows
+abbrev pub DataSay : List DataSaid → Schema → Rows → Type 0
+DataSay all schema rows = Says (map message_in all) schema rows
 
--- the payloads say this schema and these rows
+-- the payloads of an answer say this schema and these rows: each carries a message
 abbrev pub PayloadsSay : List Payload → Schema → Rows → Type 0
 PayloadsSay payloads schema rows =
-    (messages : List Sent) × (messages_of payloads ≡ Ok messages) × Says messages schema rows
+    (all : List DataSaid) × (each data_of payloads ≡ Ok all) × DataSay all schema rows
 
--- the payloads say this schema and a beginning of these rows
-abbrev pub PayloadsBegin : List Payload → Schema → Rows → Type 0
-PayloadsBegin payloads schema all =
-    (rows : Rows) × (rest : Rows) × (all ≡ rows ++ rest) × PayloadsSay payloads schema rows
+-- whether a FlightData carries a message: in a put, one with an empty header is skipped
+abbrev pub carries_message : DataSaid → Bool
+carries_message carried = not (length carried.data_header == 0)
+
+-- the payloads of a put say this schema and these rows
+abbrev pub PutSays : List Payload → Schema → Rows → Type 0
+PutSays payloads schema rows =
+    (all : List DataSaid) × (each data_of payloads ≡ Ok all) × DataSay (filter carries_message all) schema rows
 
 -- a payload carries this message
 pub record Carries (payload : Payload) (message : Sent) : Type 0 where
   pub carried : DataSaid
   pub read : data_of payload ≡ Ok carried
-  pub there : carries_message carried ≡ true
   pub same : message_in carried ≡ message
 
 -- a payload says a schema, as the first of payloads

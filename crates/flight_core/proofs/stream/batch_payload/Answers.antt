@@ -9,4 +9,4 @@ returns c =
     let body = body_of (buffers_written c.args.batch.now.columns) in
     let header = c.in_ok-header.header.items in
     let whole : c.in_ok-from_vec.field-0 ≡ data_head header (length body) ++ body = search rules in
-    batch_said c.in_ok-from_vec.field-0 header body c.args.batch.now _ whole (search rules) (search rules) c.in_ok-header.ensures.parts c.in_ok-header.ensures.rows
+    batch_said c.in_ok-from_vec.field-0 header body c.args.batch.now whole (search rules) (search rules) c.in_ok-header.ensures.rows
