@@ -9,3 +9,5 @@ pub mod Indices
 pub mod Layout
 pub mod Column
 pub mod Batch
+pub mod Buffers
+pub mod Typed

@@ -2,10 +2,7 @@
 
 ghost use Rattle.arrow_schema.specs.Message.{MessagesReadBack};
 ghost use Rattle.arrow_schema.specs.Written.{SchemasReadBack};
-ghost use Rattle.arrow_schema.specs.Says.{ReadIsSaid, BuiltIsSaid, ReadIsSchema};
-ghost use Rattle.arrow_schema.specs.Column.{ColumnSlicesKeepValues};
-ghost use Rattle.arrow_schema.specs.Batch.{BatchSlicesKeepRows};
-ghost use Rattle.arrow_schema.specs.NoNulls.{SlicesHaveNoNulls, ValuesArePacked};
+ghost use Rattle.arrow_schema.specs.Says.{ReadIsSaid, ReadIsSchema};
 
 /// What is read of a written message is its kind, its header and the length of its body, wherever
 /// the header's block leads.
@@ -26,38 +23,7 @@ pub fn read_schemas_are_said()
     ensures { ReadIsSaid }
 {}
 
-/// Until every type is built, a schema is read where a buffer says it and it is of one Int64
-/// column.
-pub fn built_schemas_are_said()
-    ensures { BuiltIsSaid }
-{}
-
 /// A schema that was read may be written, whatever its types are.
 pub fn read_schemas_are_schemas()
     ensures { ReadIsSchema }
-{}
-
-/// The slots of a column from one up to, not with, another have the values that they had.
-#[tactic(auto, using(crate::proofs::Slices::columns_keep))]
-pub fn column_slices_keep_values()
-    ensures { ColumnSlicesKeepValues }
-{}
-
-/// The rows of a batch from one up to, not with, another are the rows that they were.
-#[tactic(auto, using(crate::proofs::Slices::batches_keep))]
-pub fn batch_slices_keep_rows()
-    ensures { BatchSlicesKeepRows }
-{}
-
-/// A slice of a batch without nulls has none.
-#[tactic(auto, using(crate::proofs::NoNulls::slices_full))]
-pub fn slices_have_no_nulls()
-    ensures { SlicesHaveNoNulls }
-{}
-
-/// The bytes of the values of a column without nulls are those values in two's complement, one
-/// behind another.
-#[tactic(auto, using(crate::proofs::Packed::values_packed))]
-pub fn values_are_packed()
-    ensures { ValuesArePacked }
 {}

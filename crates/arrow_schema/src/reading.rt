@@ -8,7 +8,7 @@ ghost use Rattle.arrow_schema.specs.Header.{vector_wanted, name_of, integer_type
 ghost use Rattle.arrow_schema.specs.Header.{decimal_of, type_kind, type_of, value_type_of};
 ghost use Rattle.arrow_schema.specs.Header.{childless, index_of, dictionary_of, encoded, field_in, field_at};
 ghost use Rattle.arrow_schema.specs.Header.{fields_of, shares_dictionary, same_dictionary};
-ghost use Rattle.arrow_schema.specs.Header.{is_long, is_built, schema_in_all_types, schema_in};
+ghost use Rattle.arrow_schema.specs.Header.{schema_in};
 ghost use Rattle.arrow_schema.specs.Header.{is_schema, schema_message_of, schema_of};
 ghost use Rattle.arrow_schema.specs.Schema.{IsSchema};
 ghost use Rattle.arrow_schema.specs.Seen.{message_seen};
@@ -249,34 +249,6 @@ fn repeats_dictionary(fields: &[Field]) -> bool
     false
 }
 
-// The schema of a message, of any type.
-#[tactic(auto, unfolding(crate::specs::Header::schema_in_all_types))]
-fn schema_of_all_types(alloc: Global, message: &Message<'_>) -> Result<Schema, Fault>
-    ensures { GivesUnlessMemory (λ schema. schema) result
-        (schema_in_all_types (message_seen message.now)) }
-{
-    let header = message.header()?;
-    if header.scalar(0, Width::Two, 0)? != 0 {
-        return Err(Fault::UnsupportedArrow);
-    }
-    let vector = vector_wanted(&header, 1)?;
-    let fields = fields(alloc, &vector)?;
-    if repeats_dictionary(fields.as_slice()) {
-        return Err(Fault::UnsupportedArrow);
-    }
-    Ok(Schema { fields })
-}
-
-// Until every type is built: one Int64 column alone.
-fn is_built(fields: &[Field]) -> bool
-    ensures { result ≡ is_built fields.now }
-{
-    match fields {
-        [field] => matches!(field.data_type, DataType::Integer(IntegerType::Int64)),
-        _ => false,
-    }
-}
-
 impl Message<'_> {
     /// The schema that the header names, of 1 to [`MAX_COLUMNS`] columns, as Arrow's `Schema.fbs`
     /// says. The header's kind is not looked at: it is the caller who knows that it is a Schema. The
@@ -289,8 +261,7 @@ impl Message<'_> {
     ///   is not UTF-8, or the header, its fields, a type or a type's kind is absent.
     /// - F7 (`Fault::UnsupportedArrow`) for big-endian data, another type or width, children, a
     ///   dictionary of other values than Utf8 or of another kind, and one dictionary id on two
-    ///   columns. Until every type is built, also for a schema other than one Int64 column, once all
-    ///   of it was read.
+    ///   columns.
     /// - F12 (`Fault::LimitReached`) for no column, more than [`MAX_COLUMNS`], and a name that is
     ///   absent, empty or above [`MAX_NAME_BYTES`].
     /// - F21 (`Fault::OutOfMemory`) where memory is refused.
@@ -298,11 +269,16 @@ impl Message<'_> {
     pub fn schema(&self, alloc: Global) -> Result<Schema, Fault>
         ensures { GivesUnlessMemory (λ schema. schema) result (schema_in (message_seen self.now)) }
     {
-        let schema = schema_of_all_types(alloc, self)?;
-        if !is_built(schema.fields.as_slice()) {
+        let header = self.header()?;
+        if header.scalar(0, Width::Two, 0)? != 0 {
             return Err(Fault::UnsupportedArrow);
         }
-        Ok(schema)
+        let vector = vector_wanted(&header, 1)?;
+        let fields = fields(alloc, &vector)?;
+        if repeats_dictionary(fields.as_slice()) {
+            return Err(Fault::UnsupportedArrow);
+        }
+        Ok(Schema { fields })
     }
 }
 
