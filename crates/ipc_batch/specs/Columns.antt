@@ -39,8 +39,8 @@ texts_front rows body node (validity ∷ offsets ∷ bytes ∷ behind) = do
   _ ← demand (node.length == rows) BadBatch
   bits ← validity_at body node validity
   cuts ← buffer_at body offsets
-  data ← buffer_at body bytes
-  layout ← texts_layout bits cuts data rows
+  text ← buffer_at body bytes
+  layout ← texts_layout bits cuts text rows
   Ok (record { layout = layout; behind = behind })
 texts_front rows body node _ = Err BadBatch
 
@@ -49,8 +49,8 @@ abbrev pub values_front : DataType → List Value → ℕ → List ℕ → Field
 values_front data_type dictionary rows body node (validity ∷ values ∷ behind) = do
   _ ← demand (node.length == rows) BadBatch
   bits ← validity_at body node validity
-  data ← buffer_at body values
-  layout ← values_layout data_type dictionary bits data rows
+  packed ← buffer_at body values
+  layout ← values_layout data_type dictionary bits packed rows
   Ok (record { layout = layout; behind = behind })
 values_front data_type dictionary rows body node _ = Err BadBatch
 
