@@ -11,3 +11,4 @@ pub mod Column
 pub mod Batch
 pub mod Buffers
 pub mod Typed
+pub mod Written
