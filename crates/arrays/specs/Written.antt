@@ -1,24 +1,21 @@
 -- How the slots of a column are written: the validity bits, where some slot is null, and the buffers behind
 -- them. A slice is written as its own slots alone.
-use Rattle.std.specs.Prelude.{◌≡◌, ℕ, ◌+◌, ◌*◌, ◌^◌, ◌==◌, ◌≤◌, ◌<◌, Bool, true, false, not, if◌then◌else◌, List, [], ◌∷◌, ◌++◌, length, map, take, drop, Option, Some, None, get_or, slice_range, Ok}
+use Rattle.std.specs.Prelude.{◌≡◌, ℕ, ◌+◌, ◌*◌, ◌^◌, ◌==◌, ◌<◌, Bool, false, not, if◌then◌else◌, List, [], ◌∷◌, ◌++◌, length, map, take, drop, Option, Some, None, get_or, slice_range, Ok}
 use Rattle.std.specs.List.{flat_map, filter, range_with_len}
 use Rattle.std.specs.Int.{div_ceil}
 use Rattle.byteorder.specs.Endian.{little_bytes}
 use Rattle.scan_base.specs.declared.value.Value.{Value}
-use Rattle.scan_base.specs.declared.value.Value.TheVariants.{Null, Text}
+use Rattle.scan_base.specs.declared.value.Value.TheVariants.{Text}
 use Rattle.arrow_schema.specs.declared.data_type.DataType.{DataType}
 use Rattle.arrow_schema.specs.declared.data_type.DataType.TheVariants.{Utf8}
 use Rattle.arrow_schema.specs.Answer.{answer_type}
 use Rattle.arrays.specs.declared.layout.Layout.{Layout}
 use Rattle.arrays.specs.declared.layout.Layout.TheVariants as layout
 use Rattle.arrays.specs.Number.{byte_width}
+use Rattle.arrays.specs.Validity.{is_null}
 use Rattle.arrays.specs.Column.{ColumnAt, IsWithin, values_of, whole}
 use Rattle.arrays.specs.Typed.{IsOfType}
 use Rattle.arrays.specs.Buffers.{values_layout, texts_layout}
-
-abbrev pub is_null : Value → Bool
-is_null Null = true
-is_null _ = false
 
 -- how many slots are null
 abbrev pub null_count : ColumnAt → ℕ
