@@ -1,8 +1,8 @@
 use Rattle.std.proofs.Common.{◌∙◌, sym, refl}
-use Rattle.arrow_schema.specs.Column.{slot_of}
+use Rattle.arrays.specs.Column.{slot_of}
 use Rattle.table_versions.specs.Table.{is_long_text}
 use Rattle.table_versions.proofs.Transposed.{any_from}
-use Rattle.table_versions.proofs.cells.has_long_text.Goals as goal
+use Rattle.table_versions.proofs.cells.has_long_slot.Goals as goal
 
 pub loop-j-preserved : goal.loop-j-preserved
 loop-j-preserved c =
