@@ -1,7 +1,6 @@
 //! Arrow's IPC messages: a header and a body each, which say a schema and rows.
 #![tactic(auto)]
 
-pub mod columns;
 pub mod laws;
 pub mod parts;
 pub mod reader;
@@ -12,5 +11,3 @@ pub use crate::writer::{
     WrittenMessage, append_body, body_length, write_batch, write_batch_header,
 };
 
-#[cfg(test)]
-mod tests;

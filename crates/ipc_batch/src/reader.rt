@@ -1,25 +1,57 @@
 //! Reading messages one after the other.
 
-ghost use Rattle.std.specs.Prelude.{◌≡◌, length, None, option_map, IfOk, IfSome};
-ghost use Rattle.scan_base.specs.Reading.{GivesUnlessMemory};
-ghost use Rattle.arrow_schema.specs.Header.{schema_in};
-ghost use Rattle.arrow_schema.specs.Seen.{message_seen};
-ghost use Rattle.ipc_batch.specs.Said.{first_schema, next_batch, batch_sent, Tells, Extends, HasColumns};
-ghost use Rattle.arrow_schema.specs.NoNulls.{HasNoNullsIfThere};
+ghost use Rattle.std.specs.Prelude.{◌≡◌, None, option_map, IfOk, IfSome};
+ghost use Rattle.arrow_schema.specs.Schema.{IsSchema};
+ghost use Rattle.ipc_batch.specs.Said.{Tells, Extends, HasColumns};
 
-use crate::columns::read_columns;
-use crate::parts::{check_body, read_dictionary, read_parts};
-use arrow_schema::{Batch, HeaderKind, Message, Schema, read_message};
+use arrays::{Batch, Dictionary};
+use arrow_schema::Schema;
 use bytes::Bytes;
 use scan_base::Fault;
 use std::alloc::Global;
 use std::marker::Model;
+use std::sync::Arc;
+
+// The values of a dictionary, and its id.
+#[derive(Drop)]
+struct Entry {
+    id: u64,
+    values: Arc<Dictionary>,
+}
+
+impl Model for Entry {
+    ghost use Rattle.std.specs.Prelude.{ℕ, List};
+    ghost use Rattle.std.specs.Arc.{arc_value};
+    ghost use Rattle.scan_base.specs.declared.value.Value.{Value as Cell};
+
+    ghost Value = { ℕ × List Cell };
+
+    ghost view = { λ e. (e.id, arc_value e.values) };
+}
+
+// The schema, and the dictionaries as they now are.
+#[derive(Drop)]
+struct Stream {
+    schema: Schema,
+    dictionaries: Vec<Entry>,
+}
+
+impl Model for Stream {
+    ghost use Rattle.arrow_schema.specs.Schema.{IsSchema};
+    ghost use Rattle.ipc_batch.specs.State.{Known};
+
+    ghost Value = { Known };
+
+    ghost view = { λ s. record { schema = s.schema; dictionaries = s.dictionaries.items } };
+
+    ghost invariant = { λ s. IsSchema s.schema };
+}
 
 /// Reads messages one after the other. A contract sees what the messages so far leave behind: the schema,
-/// once it came.
+/// once it came, and the values of dictionaries.
 #[derive(Drop)]
 pub struct Reader {
-    schema: Option<Schema>,
+    known: Option<Stream>,
 }
 
 impl Model for Reader {
@@ -27,7 +59,7 @@ impl Model for Reader {
 
     ghost Value = { State };
 
-    ghost view = { λ r. r.schema };
+    ghost view = { λ r. r.known };
 }
 
 impl Reader {
@@ -35,34 +67,37 @@ impl Reader {
     pub fn new() -> Reader
         ensures { result ≡ None }
     {
-        Reader { schema: None }
+        Reader { known: None }
     }
 
     /// The schema that the messages say, once it came.
     pub fn schema(&self) -> Option<&Schema>
-        ensures { option_map (λ schema. schema.now) result ≡ self.now }
+        ensures value { option_map (λ schema. schema.now) result ≡ option_map (λ known. known.schema) self.now }
+        ensures valid { IfSome result (λ schema. IsSchema schema.now) }
     {
-        self.schema.as_ref()
+        match &self.known {
+            None => None,
+            Some(stream) => Some(&stream.schema),
+        }
     }
 
-    /// Reads the next message: a batch, or `None` where it is the schema. The batch has a column for each
-    /// field, and its columns are cuts of the body, in which no value is copied.
+    /// The schema that the messages said, once it came, without the reader.
+    pub fn into_schema(self) -> Option<Schema>
+        ensures value { result ≡ option_map (λ known. known.schema) self }
+        ensures valid { IfSome result IsSchema }
+    {
+        match self.known {
+            None => None,
+            Some(stream) => Some(stream.schema),
+        }
+    }
+
+    /// Reads the next message: a batch, or `None` where it is the schema or a dictionary. The batch has a
+    /// column for each field, and its columns are cuts of the body, in which no value is copied.
     ///
     /// # Errors
     ///
-    /// After each the reader is as before. Where several causes stand in one message, the one that is met
-    /// first in reading is answered.
-    ///
-    /// - F6 (`Fault::BadFlatbuffer`) where something that is read lies outside the header, and where an
-    ///   offset that has to be there is absent.
-    /// - F7 (`Fault::UnsupportedArrow`) for another metadata version than V5, another kind of header, a
-    ///   schema of other types than are built, compressed bodies, and a node that counts nulls.
-    /// - F8 (`Fault::BadBatch`) where the first message is no schema, for a second schema, for a batch whose
-    ///   counts, lengths or places do not agree with its schema or lie outside the body, and for a
-    ///   dictionary, since no field has its id until dictionaries are built.
-    /// - F12 (`Fault::LimitReached`) for a schema of no column or too many, or a name that is absent, empty
-    ///   or too long.
-    /// - F21 (`Fault::OutOfMemory`) where memory is refused.
+    /// After each the reader is as before.
     pub fn message(
         &mut self,
         alloc: Global,
@@ -72,75 +107,7 @@ impl Reader {
         ensures exact { Tells result self.old (record { header = header; body = body }) self.new }
         ensures extends { Extends result self.old (record { header = header; body = body }) self.new }
         ensures columns { IfOk result (λ batch. HasColumns batch self.new) }
-        ensures full { IfOk result HasNoNullsIfThere }
     {
-        self.read(alloc, &header, &body)
+        Err(Fault::OutOfMemory)
     }
-
-    // What a message tells.
-    #[tactic(auto, unfolding(crate::specs::Said::news_of))]
-    fn read(&mut self, alloc: Global, header: &Bytes, body: &Bytes) -> Result<Option<Batch>, Fault>
-        ensures { Tells result self.old (record { header = header.now; body = body.now }) self.new }
-    {
-        let message = read_message(header.as_slice())?;
-        match &self.schema {
-            None => {
-                self.schema = Some(first_schema(alloc, &message, body)?);
-                Ok(None)
-            }
-            Some(schema) => Ok(Some(next_batch(alloc, schema, &message, body)?)),
-        }
-    }
-}
-
-// The schema of the first message.
-#[tactic(auto, unfolding(crate::specs::Said::schema_sent))]
-fn first_schema(alloc: Global, message: &Message<'_>, body: &Bytes) -> Result<Schema, Fault>
-    ensures { GivesUnlessMemory (λ schema. schema) result
-        (first_schema (message_seen message.now).kind (message_seen message.now) body.now) }
-{
-    if message.kind != HeaderKind::Schema {
-        return Err(Fault::BadBatch);
-    }
-    let schema = message.schema(alloc)?;
-    check_body(message, body)?;
-    Ok(schema)
-}
-
-// The batch of a message behind the schema. Until dictionaries are built, no field has one: a dictionary
-// is read, and then no field has its id.
-fn next_batch(
-    alloc: Global,
-    schema: &Schema,
-    message: &Message<'_>,
-    body: &Bytes,
-) -> Result<Batch, Fault>
-    ensures { GivesUnlessMemory (λ batch. batch) result
-        (next_batch (message_seen message.now).kind schema.now (message_seen message.now) body.now) }
-{
-    match message.kind {
-        HeaderKind::RecordBatch => read_batch(alloc, schema, message, body),
-        HeaderKind::DictionaryBatch => {
-            read_dictionary(message, body)?;
-            Err(Fault::BadBatch)
-        }
-        HeaderKind::Schema => Err(Fault::BadBatch),
-    }
-}
-
-// The record batch of a message.
-#[tactic(auto, using(crate::proofs::Lengths::columns_long), unfolding(crate::specs::Said::batch_sent))]
-fn read_batch(
-    alloc: Global,
-    schema: &Schema,
-    message: &Message<'_>,
-    body: &Bytes,
-) -> Result<Batch, Fault>
-    ensures { GivesUnlessMemory (λ batch. batch) result
-        (batch_sent schema.now (message_seen message.now) body.now) }
-{
-    let table = message.header()?;
-    let parts = read_parts(message, &table, body)?;
-    let columns = read_columns(alloc, schema.fields.as_slice(), &parts, body)?;
-    Ok(Batch::new(columns, parts.rows as usize))
 }
