@@ -87,10 +87,7 @@ counts_agree nodes buffers parts = do
   _ ← demand (length parts.nodes == nodes) BadBatch
   demand (length parts.places == buffers) BadBatch
 
--- the one column of texts that these parts have
-unfoldable pub texts_sent : PartsAt → List ℕ → Result TextsAt Fault
-texts_sent parts body = one_column parts.nodes parts.places
-  where
-    one_column : List FieldNode → List BufferPlace → Result TextsAt Fault
-    one_column (node ∷ []) (validity ∷ offsets ∷ bytes ∷ []) = texts_at parts.rows body node validity offsets bytes
-    one_column _ _ = Err BadBatch
+-- the one column of texts that these nodes and buffers make
+abbrev pub one_texts : ℕ → List ℕ → List FieldNode → List BufferPlace → Result TextsAt Fault
+one_texts rows body (node ∷ []) (validity ∷ offsets ∷ bytes ∷ []) = texts_at rows body node validity offsets bytes
+one_texts rows body _ _ = Err BadBatch

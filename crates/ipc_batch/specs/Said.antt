@@ -16,7 +16,7 @@ use Rattle.arrays.specs.Dictionary.{extended_by}
 use Rattle.arrays.specs.Batch.{BatchAt, rows_of}
 use Rattle.arrays.specs.Typed.{AreOfTypes}
 use Rattle.ipc_batch.specs.Parts.{PartsAt, DictionaryParts, body_claimed, parts_of, dictionary_parts}
-use Rattle.ipc_batch.specs.Columns.{buffers_wanted, columns_from, counts_agree, texts_sent}
+use Rattle.ipc_batch.specs.Columns.{buffers_wanted, columns_from, counts_agree, one_texts}
 use Rattle.ipc_batch.specs.State.{Known, State, values_under, with_values}
 
 -- a message as it comes: its header and its body
@@ -51,13 +51,14 @@ batch_sent known message body = do
   columns ← columns_from known.schema.fields known.dictionaries parts.rows body parts.nodes parts.places
   Ok (record { columns = columns; rows = parts.rows })
 
+-- whether a type's dictionary has this id
+abbrev pub has_id : ℕ → DataType → Bool
+has_id id (Dictionary encoding) = encoding.id == id
+has_id id _ = false
+
 -- whether a field's dictionary has this id
 abbrev pub leads_to : ℕ → Field → Bool
-leads_to id field = is_led field.data_type
-  where
-    is_led : DataType → Bool
-    is_led (Dictionary encoding) = encoding.id == id
-    is_led _ = false
+leads_to id field = has_id id field.data_type
 
 -- the parts of a dictionary: its id is one that a field has, and its values are one column of texts
 unfoldable pub dictionary_sent : Known → MessageAt → List ℕ → Result DictionaryParts Fault
@@ -77,7 +78,7 @@ kept_of false old = []
 unfoldable pub known_after : Known → MessageAt → List ℕ → Result Known Fault
 known_after known message body = do
   sent ← dictionary_sent known message body
-  texts ← texts_sent sent.parts body
+  texts ← one_texts sent.parts.rows body sent.parts.nodes sent.parts.places
   values ← extended_by (kept_of sent.is_delta (values_under known.dictionaries sent.id)) texts
   Ok (record known { dictionaries = with_values sent.id values known.dictionaries })
 
@@ -138,10 +139,14 @@ Follows state (sent ∷ more) end rows =
 abbrev pub Says : List Sent → Schema → Rows → Type 0
 Says messages schema rows = (known : Known) × (known.schema ≡ schema) × Follows None messages (Some known) rows
 
--- what a reader answers is what the message says to it, and after a fault it is as before
+-- What a reader answers is this news, and after a fault it is as before.
+abbrev pub Answers : Result (Option BatchAt) Fault → State → Result News Fault → State → Type 0
+Answers (Ok batch) old said new = said ≡ Ok (record { state = new; batch = batch })
+Answers (Err fault) old said new = (fault ≢ OutOfMemory → said ≡ Err fault) × (new ≡ old)
+
+-- what a reader answers is what the message says to it
 abbrev pub Tells : Result (Option BatchAt) Fault → State → Sent → State → Type 0
-Tells (Ok batch) old sent new = news_of old sent ≡ Ok (record { state = new; batch = batch })
-Tells (Err fault) old sent new = (fault ≢ OutOfMemory → news_of old sent ≡ Err fault) × (new ≡ old)
+Tells result old sent new = Answers result old (news_of old sent) new
 
 -- An accepted message extends what was said by its batch's rows. A refused one, but for want of memory,
 -- goes on from nothing that left this state behind.

@@ -1,6 +1,6 @@
 //! What holds of all messages. Each function here has an empty body: its contract is a law.
 
-ghost use Rattle.ipc_batch.specs.Laws.{SayOneThing, JoinRows};
+ghost use Rattle.ipc_batch.specs.Laws.{SayOneThing, JoinRows, RowsFitSchema};
 ghost use Rattle.ipc_batch.specs.Written.{PartsReadBack};
 
 /// Messages say at most one schema and one list of rows.
@@ -11,6 +11,11 @@ pub fn messages_say_one_thing()
 /// Messages that stand one behind another say the rows of both, in order.
 pub fn messages_join_their_rows()
     ensures { JoinRows }
+{}
+
+/// Each row that messages say has one value for each field of their schema.
+pub fn rows_fit_the_schema()
+    ensures { RowsFitSchema }
 {}
 
 /// What is read of written parts is those parts, whatever the types of their columns are.

@@ -1,6 +1,8 @@
 //! Arrow's IPC messages: a header and a body each, which say a schema and rows.
 #![tactic(auto)]
 
+pub mod columns;
+pub mod dictionaries;
 pub mod laws;
 pub mod parts;
 pub mod reader;
@@ -10,4 +12,3 @@ pub use crate::reader::Reader;
 pub use crate::writer::{
     WrittenMessage, append_body, body_length, write_batch, write_batch_header,
 };
-
