@@ -1,6 +1,7 @@
 //! Arrow's types and schemas.
 #![tactic(auto)]
 
+mod borrowed;
 pub mod data_type;
 pub mod header;
 pub mod laws;

@@ -7,5 +7,5 @@ use Rattle.arrow_schema.proofs.reading.each_field.Given as goal
 
 abbrev pub invariant-loop-index : goal.invariant-loop-index
 invariant-loop-index l =
-    (behind l.fields (each (field_at l.vector) (range_with_len l.index (l.vector.count - l.index))) ≡ each (field_at l.vector) (range_with_len 0 l.vector.count))
-    × (length l.fields ≡ l.index) × All IsField l.fields
+    (behind l.fields.items (each (field_at l.vector) (range_with_len l.index (l.vector.count - l.index))) ≡ each (field_at l.vector) (range_with_len 0 l.vector.count))
+    × (length l.fields.items ≡ l.index) × All IsField l.fields.items
