@@ -1,9 +1,10 @@
 #!/usr/bin/env python3
 """How fast `flightscan pipe` takes a put and gives it back, and how much memory it holds.
 
-It makes its own input: one put of 8,000,000 Int64 rows in batches of 65,536, and one fetch of all of them. It runs
-the built program on it between two pipes, and `cat` on the same bytes between the same pipes, and prints the
-figures of both. Build first: `cd crates/flightscan && rt run -- pipe < stdin > /dev/null`.
+It makes its own inputs: one put of one column in batches of 65,536 rows, and one fetch of all of them; once of
+Int64, once of texts of which some are null, and once of a dictionary of texts. It runs the built program on each
+between two pipes, and `cat` on the same bytes between the same pipes, and prints the figures of both. Build first:
+`cd crates/flightscan && rt run -- pipe < stdin > /dev/null`.
 """
 
 import os
@@ -15,11 +16,11 @@ import tempfile
 import time
 
 ROOT = pathlib.Path(__file__).resolve().parent.parent
-sys.path.insert(0, str(ROOT / "scripts"))
+sys.path[:0] = [str(ROOT / "scripts"), str(ROOT / "vectors/arrow")]
 
-from first_run import BATCH_HEADER, END, PACKAGE, SCHEMA_HEADER, record_message, record_open  # noqa: E402
+from first_run import END, PACKAGE, record_message, record_open  # noqa: E402
+from layout import written  # noqa: E402
 
-ROWS = 8_000_000
 BATCH_ROWS = 65_536
 RUNS = 5
 
@@ -37,32 +38,104 @@ def chunk(number, content):
     return varint(number * 8 + 2) + varint(len(content)) + content
 
 
-def batch_header(rows):
-    """The header of a batch of so many rows: that of the first run, with its three lengths changed."""
-    header = bytearray(BATCH_HEADER)
-    struct.pack_into("<q", header, 24, rows * 8)
-    struct.pack_into("<q", header, 56, rows)
-    struct.pack_into("<q", header, 72, rows)
-    struct.pack_into("<q", header, 120, rows * 8)
-    return bytes(header)
+def message(kind, tree, length=0):
+    """The header of a message, laid out as a writer of FlatBuffers would."""
+    return written("Message", {
+        "version": "V5", "header_type": kind, "header": tree, "bodyLength": length}, "spread")
 
 
-def put():
-    """The records of the put, piece by piece."""
+def schema(type_kind, type_tree, **more):
+    field = {"name": "a", "nullable": True, "type_type": type_kind, "type": type_tree, **more}
+    return message("Schema", {"fields": [field]})
+
+
+def batch_tree(rows, nulls, buffers):
+    """The RecordBatch of one column, and the body that its buffers make."""
+    places, body = [], b""
+    for buffer in buffers:
+        places.append({"offset": len(body), "length": len(buffer)})
+        body += buffer + bytes(-len(buffer) % 8)
+    node = {"length": rows, "null_count": nulls}
+    return {"length": rows, "nodes": [node], "buffers": places}, body
+
+
+def batch(rows, nulls, buffers):
+    tree, body = batch_tree(rows, nulls, buffers)
+    return message("RecordBatch", tree, len(body)), body
+
+
+def text_buffers(texts):
+    """The offsets and the bytes of texts."""
+    offsets = [0]
+    for text in texts:
+        offsets.append(offsets[-1] + len(text))
+    return struct.pack(f"<{len(offsets)}i", *offsets), b"".join(texts)
+
+
+class Longs:
+    """8,000,000 rows of Int64, the row's number in each."""
+
+    name, rows = "Int64", 8_000_000
+
+    def first(self):
+        yield schema("Int", {"bitWidth": 64, "is_signed": True}), b""
+
+    def batch(self, first, last):
+        return batch(last - first, 0, [b"", struct.pack(f"<{last - first}q", *range(first, last))])
+
+
+class Texts:
+    """2,000,000 rows of texts of 20 bytes, each eighth of them null."""
+
+    name, rows = "Utf8", 2_000_000
+
+    def first(self):
+        yield schema("Utf8", {}), b""
+
+    def batch(self, first, last):
+        count = last - first
+        texts = [b"" if row % 8 == 7 else b"text of row %08d" % row for row in range(first, last)]
+        validity = b"\x7f" * (count // 8) + (b"\x7f" if count % 8 else b"")
+        return batch(count, count // 8, [validity, *text_buffers(texts)])
+
+
+class Words:
+    """8,000,000 rows of a dictionary of 1,000 texts of 20 bytes, by indices of 32 bits."""
+
+    name, rows = "dictionary", 8_000_000
+    words = [b"word %015d" % number for number in range(1_000)]
+
+    def first(self):
+        yield schema("Utf8", {}, dictionary={"id": 7}), b""
+        tree, body = batch_tree(len(self.words), 0, [b"", *text_buffers(self.words)])
+        yield message("DictionaryBatch", {"id": 7, "data": tree}, len(body)), body
+
+    def batch(self, first, last):
+        indices = [row % len(self.words) for row in range(first, last)]
+        return batch(last - first, 0, [b"", struct.pack(f"<{last - first}i", *indices)])
+
+
+def messages(column):
+    """The messages of a put, piece by piece: header and body."""
+    yield from column.first()
+    for first in range(0, column.rows, BATCH_ROWS):
+        yield column.batch(first, min(column.rows, first + BATCH_ROWS))
+
+
+def put(column):
+    """The records of a put, piece by piece. The command stands in the first message."""
     ingest = b"\x0a\x02\x08\x01\x12\x01t"
     command = chunk(1, PACKAGE + b"CommandStatementIngest") + chunk(2, ingest)
-    descriptor = b"\x08\x02" + chunk(2, command)
+    front = chunk(1, b"\x08\x02" + chunk(2, command))
     yield record_open(b"DoPut")
-    yield record_message(chunk(1, descriptor) + chunk(2, SCHEMA_HEADER))
-    for first in range(0, ROWS, BATCH_ROWS):
-        last = min(ROWS, first + BATCH_ROWS)
-        body = struct.pack(f"<{last - first}q", *range(first, last))
-        yield record_message(chunk(2, batch_header(last - first)) + chunk(1000, body))
+    for header, body in messages(column):
+        yield record_message(front + chunk(2, header) + chunk(1000, body))
+        front = b""
     yield END
 
 
-def fetch():
-    handle = b"\x01" + struct.pack(">QII", 1, 0, ROWS) + b"SELECT * FROM t"
+def fetch(column):
+    handle = b"\x01" + struct.pack(">QII", 1, 0, column.rows) + b"SELECT * FROM t"
     ticket = chunk(1, PACKAGE + b"TicketStatementQuery") + chunk(2, chunk(1, handle))
     return record_open(b"DoGet") + record_message(chunk(1, ticket)) + END
 
@@ -86,37 +159,40 @@ def best(command, source):
     return min(run(command, source) for _ in range(RUNS))
 
 
+def measure(program, column, folder):
+    put_only, both = os.path.join(folder, "put"), os.path.join(folder, "both")
+    with open(put_only, "wb") as out:
+        out.writelines(put(column))
+    with open(both, "wb") as out:
+        out.writelines(put(column))
+        out.write(fetch(column))
+    size = os.path.getsize(both)
+    print(f"{column.name}: {column.rows} rows, {size} bytes of input; the best of {RUNS} runs")
+    print(f"{'':24}{'seconds':>9}{'in MB/s':>9}{'out MB/s':>9}{'peak MB':>9}{'written':>12}  status")
+    rows = {}
+    for name, command, source in (
+        ("cat", ["cat"], both),
+        ("put alone", [program, "pipe"], put_only),
+        ("put and fetch", [program, "pipe"], both),
+    ):
+        seconds, written_bytes, peak, status = rows[name] = best(command, source)
+        print(f"{name:24}{seconds:9.3f}{size / seconds / 1e6:9.0f}{written_bytes / seconds / 1e6:9.0f}"
+              f"{peak * 1024 / 1e6:9.1f}{written_bytes:12}  {status}")
+    cat, alone, whole = rows["cat"], rows["put alone"], rows["put and fetch"]
+    answer = max(whole[0] - alone[0], 1e-9)
+    print(f"put alone: {alone[0] / cat[0]:.2f} times the time of cat")
+    print(f"fetch alone (the difference): {answer / cat[0]:.2f} times, {whole[1] / answer / 1e6:.0f} MB/s")
+    print(f"put and fetch: {whole[0] / cat[0]:.2f} times the time of cat; peak memory "
+          f"{whole[2] * 1024 / size:.2f} times the bytes put\n")
+
+
 def main():
     program = ROOT / "crates/flightscan/out/flightscan"
     if not program.exists():
         sys.exit("build the program first: cd crates/flightscan && rt run -- pipe < stdin > /dev/null")
     with tempfile.TemporaryDirectory() as folder:
-        put_only = os.path.join(folder, "put")
-        both = os.path.join(folder, "both")
-        with open(put_only, "wb") as out:
-            out.writelines(put())
-        with open(both, "wb") as out:
-            out.writelines(put())
-            out.write(fetch())
-        size = os.path.getsize(both)
-        values = ROWS * 8
-        print(f"{ROWS} rows, {values} bytes of values, {size} bytes of input; the best of {RUNS} runs")
-        print(f"{'':24}{'seconds':>9}{'in MB/s':>9}{'out MB/s':>9}{'peak MB':>9}{'written':>12}  status")
-        rows = {}
-        for name, command, source in (
-            ("cat", ["cat"], both),
-            ("put alone", [program, "pipe"], put_only),
-            ("put and fetch", [program, "pipe"], both),
-        ):
-            seconds, written, peak, status = rows[name] = best(command, source)
-            print(f"{name:24}{seconds:9.3f}{size / seconds / 1e6:9.0f}{written / seconds / 1e6:9.0f}"
-                  f"{peak * 1024 / 1e6:9.1f}{written:12}  {status}")
-        cat, alone, whole = rows["cat"], rows["put alone"], rows["put and fetch"]
-        answer = max(whole[0] - alone[0], 1e-9)
-        print(f"put alone: {alone[0] / cat[0]:.2f} times the time of cat")
-        print(f"fetch alone (the difference): {answer / cat[0]:.2f} times, {whole[1] / answer / 1e6:.0f} MB/s")
-        print(f"put and fetch: {whole[0] / cat[0]:.2f} times the time of cat; peak memory "
-              f"{whole[2] * 1024 / values:.2f} times the bytes put")
+        for column in (Longs(), Texts(), Words()):
+            measure(program, column, folder)
 
 
 if __name__ == "__main__":

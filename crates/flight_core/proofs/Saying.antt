@@ -4,16 +4,15 @@ use Rattle.scan_base.specs.declared.fault.Fault.{Fault}
 use Rattle.scan_base.specs.declared.fault.Fault.TheVariants.{BadBatch}
 use Rattle.scan_base.specs.Reading.{◌>>=◌, wanted}
 use Rattle.scan_base.specs.Lists.{each}
-use Rattle.arrow_schema.specs.declared.schema.Schema.{Schema}
 use Rattle.flight_proto.specs.FlightData.{DataSaid, data_of}
 use Rattle.flight_proto.specs.Ingest.{IngestSaid, ingest_of}
-use Rattle.ipc_batch.specs.State.{State}
+use Rattle.ipc_batch.specs.State.{Known, State}
 use Rattle.ipc_batch.specs.Said.{Sent, News, Rows, rows_in, Follows}
 use Rattle.table_versions.specs.Database.{Put}
 use Rattle.flight_core.specs.Payloads.{Payload, carries_message, message_in, PutSays}
 use Rattle.flight_core.specs.Puts.{Told, news_carried, news_in_payload, told_by, put_made, put_said}
 use Rattle.flight_core.specs.Laws.{PutsAreSaid}
-use Rattle.flight_core.proofs.Storing.{both}
+use Rattle.flight_core.proofs.Results.{both}
 
 -- the messages of FlightData
 messages_in : List DataSaid → List Sent
@@ -57,8 +56,8 @@ told_follows state (payload ∷ payloads) told e =
     good_told told = Ok told
 
 -- payloads that follow say
-pub says : (payloads : List Payload) (schema : Schema) (rows : Rows) → Follow None payloads (Some schema) rows → PutSays payloads schema rows
-says payloads schema rows f = (f.all, f.read, f.follows)
+pub says : (payloads : List Payload) (known : Known) (rows : Rows) → Follow None payloads (Some known) rows → PutSays payloads known.schema rows
+says payloads known rows f = (f.all, f.read, (known, refl, f.follows))
 
 wanted_there : {A : Type 0} (found : Option A) (fault : Fault) (x : A) → wanted found fault ≡ Ok x → found ≡ Some x
 wanted_there (Some y) fault x e = cc
@@ -68,12 +67,12 @@ pub puts_are_said : PutsAreSaid
 unfolding put_said
 puts_are_said [] put e = cc
 puts_are_said (first ∷ payloads) put e =
-    let ingest = both (ingest_of first) (λ (ingest : IngestSaid). (told_by None (first ∷ payloads) >>= λ told. (wanted told.state BadBatch >>= λ schema. Ok (put_made ingest schema told.rows)))) put e in
-    let told = both (told_by None (first ∷ payloads)) (λ (told : Told). (wanted told.state BadBatch >>= λ schema. Ok (put_made ingest.0 schema told.rows))) put ingest.2 in
-    let schema = both (wanted (told.0).state BadBatch) (λ (schema : Schema). good_put (put_made ingest.0 schema (told.0).rows)) put told.2 in
-    let same : put_made ingest.0 schema.0 (told.0).rows ≡ put = let last = schema.2 in cc in
+    let ingest = both (ingest_of first) (λ (ingest : IngestSaid). (told_by None (first ∷ payloads) >>= λ told. (wanted told.state BadBatch >>= λ known. Ok (put_made ingest known.schema told.rows)))) put e in
+    let told = both (told_by None (first ∷ payloads)) (λ (told : Told). (wanted told.state BadBatch >>= λ known. Ok (put_made ingest.0 known.schema told.rows))) put ingest.2 in
+    let known = both (wanted (told.0).state BadBatch) (λ (known : Known). good_put (put_made ingest.0 known.schema (told.0).rows)) put told.2 in
+    let same : put_made ingest.0 (known.0).schema (told.0).rows ≡ put = let last = known.2 in cc in
     let follows = told_follows None (first ∷ payloads) told.0 told.1 in
-    rw (← same) (says (first ∷ payloads) schema.0 (told.0).rows (subst (λ (s : State). Follow None (first ∷ payloads) s (told.0).rows) (wanted_there (told.0).state BadBatch schema.0 schema.1) follows))
+    rw (← same) (says (first ∷ payloads) known.0 (told.0).rows (subst (λ (s : State). Follow None (first ∷ payloads) s (told.0).rows) (wanted_there (told.0).state BadBatch known.0 known.1) follows))
   where
     good_put : Put → Result Put Fault
     good_put put = Ok put

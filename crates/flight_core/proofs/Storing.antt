@@ -1,106 +1,100 @@
 -- What is read of payloads may be stored.
-use Rattle.std.proofs.Common.{◌≡◌, ◌<◌, ℕ, List, [], ◌++◌, length, IfOk, Option, Some, None, Result, Ok, Err, refl, sym, ap, ◌∙◌}
-use Rattle.std.specs.Prelude.{slice_index}
-use Rattle.std.proofs.lemmas.Bool.{eq-eqb}
-use Rattle.std.proofs.lemmas.List.Elements.{All-nil, All-push}
+use Rattle.std.proofs.Common.{◌≡◌, ℕ, List, [], ◌++◌, All, IfOk, Option, Some, None, Result, Ok, Err, refl, append-nil}
+use Rattle.std.specs.Option.{option_map}
+use Rattle.std.proofs.lemmas.List.Elements.{All-nil, All-push, All-weaker}
 use Rattle.scan_base.specs.declared.fault.Fault.{Fault}
+use Rattle.scan_base.specs.declared.value.Value.{Value}
 use Rattle.scan_base.specs.Reading.{◌>>=◌}
 use Rattle.arrow_schema.specs.declared.header.HeaderKind.{HeaderKind}
 use Rattle.arrow_schema.specs.declared.header.HeaderKind.TheVariants as header
 use Rattle.arrow_schema.specs.declared.schema.Schema.{Schema}
-use Rattle.arrow_schema.specs.Header.{MessageAt, message_of, schema_in, schema_message_of, schema_of}
-use Rattle.arrow_schema.specs.Batch.{BatchAt}
-use Rattle.arrow_schema.specs.NoNulls.{HasNoNulls, HasNoNullsIfThere}
-use Rattle.arrow_schema.proofs.SaidLaws.{given_is_schema, built_was_read}
-use Rattle.ipc_batch.specs.State.{State}
-use Rattle.ipc_batch.specs.Parts.{body_claimed}
-use Rattle.ipc_batch.specs.Said.{News, Tells, schema_sent, first_schema, next_batch, news_in, news_of, HasColumns}
-use Rattle.table_versions.specs.Stored.{is_wide}
-use Rattle.table_versions.specs.Kept.{IsStorable}
-use Rattle.table_versions.proofs.ListTests.{all_push}
+use Rattle.arrow_schema.specs.Header.{MessageAt, message_of}
+use Rattle.arrays.specs.Batch.{BatchAt}
+use Rattle.arrays.specs.Dictionary.{extended_by}
+use Rattle.arrays.specs.Texts.{TextsAt}
+use Rattle.arrays.specs.Typed.{AreOfTypes}
+use Rattle.ipc_batch.specs.State.{Known, State, values_under, with_values}
+use Rattle.ipc_batch.specs.Parts.{DictionaryParts}
+use Rattle.ipc_batch.specs.Columns.{one_texts}
+use Rattle.ipc_batch.specs.Said.{News, Sent, Tells, HasColumns, batch_sent, dictionary_sent, kept_of, next_news, news_of, known_after}
 use Rattle.flight_core.specs.Stored.{MayBeStored, batches_in}
+use Rattle.flight_core.proofs.Results.{ok_then}
 
--- what both readings gave, where one after the other gives a value
-pub both : {A B : Type 0} (read : Result A Fault) (next : A → Result B Fault) (y : B) → (read >>= next) ≡ Ok y → (x : A) × (read ≡ Ok x) × (next x ≡ Ok y)
-both (Ok x) next y e = (x, refl, e)
-both (Err fault) next y e = cc
+-- ---- a message keeps the schema
 
--- news that were read
-abbrev good_news : News → Result News Fault
-good_news news = Ok news
+abbrev KeepsSchema : Known → Known → Type 0
+KeepsSchema known after = after.schema ≡ known.schema
 
--- each item is a byte
-abbrev AreBytes : List ℕ → Type 0
-AreBytes bytes = (k : ℕ) → slice_index bytes k < 256
+abbrev LeavesSchema : Known → News → Type 0
+LeavesSchema known news = (after : Known) × (news.state ≡ Some after) × KeepsSchema known after
 
--- the first of messages is a schema, which may be stored
-first_storable : (kind : HeaderKind) (bytes body : List ℕ) (message : MessageAt) (schema : Schema) → AreBytes bytes → message_of bytes ≡ Ok message → message.kind ≡ kind
-    → first_schema kind message body ≡ Ok schema → IsStorable schema []
-unfolding schema_sent schema_message_of schema_of
-first_storable header.Schema bytes body message schema is found kind e =
-    let read = both (schema_in message) (λ (schema : Schema). (body_claimed message body >>= λ _. Ok schema)) schema e in
-    let claimed = both (body_claimed message body) (λ _. Ok read.0) schema read.2 in
-    let same : read.0 ≡ schema = let last = claimed.2 in cc in
-    let told : schema_in message ≡ Ok schema = read.1 ∙ ap Ok same in
-    let held : schema_message_of bytes ≡ Ok message = rw (found, kind) refl in
-    record {
-      valid = given_is_schema bytes message (Ok schema) is held told;
-      wide = refl;
-      built = (built_was_read bytes schema (rw held told)).1;
-      full = All-nil HasNoNulls;
-    }
-first_storable header.DictionaryBatch bytes body message schema is found kind e = cc
-first_storable header.RecordBatch bytes body message schema is found kind e = cc
+known_keeps : (known : Known) (message : MessageAt) (body : List ℕ) → IfOk (known_after known message body) (KeepsSchema known)
+unfolding known_after
+known_keeps known message body =
+    ok_then (dictionary_sent known message body) given (KeepsSchema known) (λ sent.
+    ok_then (one_texts sent.parts.rows body sent.parts.nodes sent.parts.places) (behind sent) (KeepsSchema known) (λ texts.
+    ok_then (extended_by (kept_of sent.is_delta (values_under known.dictionaries sent.id)) texts) (set sent) (KeepsSchema known) (λ values. refl)))
+  where
+    set : DictionaryParts → List Value → Result Known Fault
+    set sent values = Ok (record known { dictionaries = with_values sent.id values known.dictionaries })
 
-first_told : (bytes body : List ℕ) (news : News) → AreBytes bytes → news_of None (record { header = bytes; body = body }) ≡ Ok news
-    → (schema : Schema) × (news.state ≡ Some schema) × (news.batch ≡ None) × IsStorable schema []
+    behind : DictionaryParts → TextsAt → Result Known Fault
+    behind sent texts = extended_by (kept_of sent.is_delta (values_under known.dictionaries sent.id)) texts >>= set sent
+
+    given : DictionaryParts → Result Known Fault
+    given sent = one_texts sent.parts.rows body sent.parts.nodes sent.parts.places >>= behind sent
+
+next_keeps : (kind : HeaderKind) (known : Known) (message : MessageAt) (body : List ℕ) → IfOk (next_news kind known message body) (LeavesSchema known)
+next_keeps header.RecordBatch known message body = ok_then (batch_sent known message body) there (LeavesSchema known) (λ batch. (known, refl, refl))
+  where
+    there : BatchAt → Result News Fault
+    there batch = Ok (record { state = Some known; batch = Some batch })
+next_keeps header.DictionaryBatch known message body = by (known_after known message body) (known_keeps known message body)
+  where
+    by : (read : Result Known Fault) → IfOk read (KeepsSchema known) → IfOk (read >>= λ after. Ok (record { state = Some after; batch = None })) (LeavesSchema known)
+    by (Ok after) keeps = (after, refl, keeps)
+    by (Err fault) keeps = tt
+next_keeps header.Schema known message body = tt
+
+news_keep : (known : Known) (sent : Sent) → IfOk (news_of (Some known) sent) (LeavesSchema known)
 unfolding news_of
-first_told bytes body news is e =
-    let m = both (message_of bytes) (λ (message : MessageAt). news_in None message body) news e in
-    let s = both (first_schema (m.0).kind m.0 body) (λ (schema : Schema). good_news (record { state = Some schema; batch = None })) news m.2 in
-    let same : record { state = Some s.0; batch = None } ≡ news = let last = s.2 in cc in
-    (s.0, sym (ap (λ (n : News). n.state) same), sym (ap (λ (n : News). n.batch) same), first_storable (m.0).kind bytes body m.0 s.0 is m.1 refl s.1)
+news_keep known sent = ok_then (message_of sent.header) (λ (message : MessageAt). next_news message.kind known message sent.body) (LeavesSchema known) (λ message. next_keeps message.kind known message sent.body)
 
--- behind it stand batches
-next_told : (schema : Schema) (bytes body : List ℕ) (news : News) → news_of (Some schema) (record { header = bytes; body = body }) ≡ Ok news
-    → (news.state ≡ Some schema) × ((batch : BatchAt) × (news.batch ≡ Some batch))
-unfolding news_of
-next_told schema bytes body news e =
-    let m = both (message_of bytes) (λ (message : MessageAt). news_in (Some schema) message body) news e in
-    let s = both (next_batch (m.0).kind schema m.0 body) (λ (batch : BatchAt). good_news (record { state = Some schema; batch = Some batch })) news m.2 in
-    let same : record { state = Some schema; batch = Some s.0 } ≡ news = let last = s.2 in cc in
-    (sym (ap (λ (n : News). n.state) same), (s.0, sym (ap (λ (n : News). n.batch) same)))
+-- ---- batches behind a schema
 
-no_batch_yet : (schema : Schema) (new : State) (batch : Option BatchAt) (batches : List BatchAt) → new ≡ Some schema → batch ≡ None → batches ≡ [] → IsStorable schema []
-    → MayBeStored new (batches ++ batches_in batch)
-no_batch_yet schema new batch batches a b c stored = rw (a, b, c) stored
+-- those that stood behind a schema stand behind the same one
+kept_columns : (known : Known) (new : State) (batch : BatchAt) → (after : Known) × (new ≡ Some after) × KeepsSchema known after → HasColumns (Some batch) (Some known) → HasColumns (Some batch) new
+kept_columns known new batch keeps columns = rw (keeps.1, keeps.2) columns
 
-one_batch_more : (schema : Schema) (new : State) (one : BatchAt) (batch : Option BatchAt) (batches : List BatchAt) → new ≡ Some schema → batch ≡ Some one
-    → HasColumns batch new → HasNoNullsIfThere batch → IsStorable schema batches → MayBeStored new (batches ++ batches_in batch)
-one_batch_more schema new one batch batches a b columns full before =
-    let many : length one.columns ≡ length schema.fields = rw (a, b) at columns in
-    let whole : HasNoNulls one = rw b at full in
-    rw (a, b) (record {
-      valid = before.valid;
-      wide = all_push (is_wide schema) batches one before.wide (eq-eqb (length one.columns) (length schema.fields) many);
-      built = before.built;
-      full = All-push HasNoNulls batches one before.full whole;
-    })
+still_stored : (old : State) (sent : Sent) (batch : Option BatchAt) (new : State) → news_of old sent ≡ Ok (record { state = new; batch = batch })
+    → (batches : List BatchAt) → MayBeStored old batches → MayBeStored new batches
+unfolding MayBeStored
+still_stored None sent batch new e batches before = All-weaker (λ (b : BatchAt). HasColumns (Some b) None) (λ (b : BatchAt). HasColumns (Some b) new) (λ b none. absurd none) batches before
+still_stored (Some known) sent batch new e batches before =
+    let keeps : (after : Known) × (new ≡ Some after) × KeepsSchema known after = rw e at (news_keep known sent) in
+    All-weaker (λ (b : BatchAt). HasColumns (Some b) (Some known)) (λ (b : BatchAt). HasColumns (Some b) new) (λ b columns. kept_columns known new b keeps columns) batches before
+
+one_more : (state : State) (batch : Option BatchAt) (batches : List BatchAt) → HasColumns batch state → MayBeStored state batches → MayBeStored state (batches ++ batches_in batch)
+unfolding MayBeStored
+one_more state None batches columns before = rw (append-nil batches) before
+one_more state (Some batch) batches columns before = All-push (λ (b : BatchAt). HasColumns (Some b) state) batches batch before columns
 
 -- what a message leaves behind may be stored, with its batch behind the others
-told_storable : (old : State) (bytes body : List ℕ) (batch : Option BatchAt) (new : State) → AreBytes bytes
-    → news_of old (record { header = bytes; body = body }) ≡ Ok (record { state = new; batch = batch })
-    → HasColumns batch new → HasNoNullsIfThere batch → (batches : List BatchAt) → MayBeStored old batches → MayBeStored new (batches ++ batches_in batch)
-told_storable None bytes body batch new is e columns full batches before =
-    let t = first_told bytes body (record { state = new; batch = batch }) is e in
-    no_batch_yet t.0 new batch batches t.1 t.2 before t.3
-told_storable (Some schema) bytes body batch new is e columns full batches before =
-    let t = next_told schema bytes body (record { state = new; batch = batch }) e in
-    one_batch_more schema new t.1.0 batch batches t.0 t.1.1 columns full before
-
--- the same of a reader's answer
-pub read_storable : (result : Result (Option BatchAt) Fault) (old : State) (bytes body : List ℕ) (new : State) → AreBytes bytes
-    → Tells result old (record { header = bytes; body = body }) new → IfOk result (λ batch. HasColumns batch new) → IfOk result HasNoNullsIfThere
+pub read_storable : (result : Result (Option BatchAt) Fault) (old : State) (sent : Sent) (new : State) → Tells result old sent new → IfOk result (λ batch. HasColumns batch new)
     → (batches : List BatchAt) → MayBeStored old batches → IfOk result (λ batch. MayBeStored new (batches ++ batches_in batch))
-read_storable (Ok batch) old bytes body new is e columns full batches before = told_storable old bytes body batch new is e columns full batches before
-read_storable (Err fault) old bytes body new is e columns full batches before = tt
+read_storable (Ok batch) old sent new e columns batches before = one_more new batch batches columns (still_stored old sent batch new e batches before)
+read_storable (Err fault) old sent new e columns batches before = tt
+
+-- they are of the types of the schema that came
+pub stored_typed : (state : State) (schema : Schema) (batches : List BatchAt) → Some schema ≡ option_map (λ (known : Known). known.schema) state → MayBeStored state batches
+    → All (λ (batch : BatchAt). AreOfTypes schema.fields batch.columns) batches
+unfolding MayBeStored
+stored_typed None schema batches e stored = cc
+stored_typed (Some known) schema batches e stored =
+    let same : schema ≡ known.schema = cc in
+    rw same stored
+
+-- nothing was stored yet
+pub none_stored : (state : State) → MayBeStored state []
+unfolding MayBeStored
+none_stored state = All-nil (λ (batch : BatchAt). HasColumns (Some batch) state)

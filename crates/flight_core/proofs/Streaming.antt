@@ -1,32 +1,34 @@
 -- Payloads that are written say what they are written for.
-use Rattle.std.proofs.Common.{◌≡◌, ◌<◌, ◌^◌, ℕ, true, List, [], ◌∷◌, ◌++◌, length, map, All, Some, None, Result, Ok, refl, sym, ap, subst, ◌∙◌, append-nil, arith}
+use Rattle.std.proofs.Common.{◌≡◌, ◌≤◌, ◌<◌, ◌^◌, ℕ, List, [], ◌∷◌, ◌++◌, length, map, Some, None, Result, Ok, refl, sym, ap, subst, ◌∙◌, append-nil, arith}
 use Rattle.std.proofs.lemmas.List.{map-append}
-use Rattle.std.proofs.lemmas.List.Elements.{All-nil, All-cons}
+use Rattle.std.proofs.lemmas.List.Elements.{All-nil, All-push}
 use Rattle.scan_base.specs.declared.fault.Fault.{Fault}
 use Rattle.scan_base.specs.Reading.{◌>>=◌}
 use Rattle.scan_base.specs.Lists.{each}
 use Rattle.arrow_schema.specs.declared.header.HeaderKind.TheVariants as header
-use Rattle.arrow_schema.specs.declared.data_type.IntegerType.TheVariants.{Int8, Int16, Int32, Int64, UInt8, UInt16, UInt32, UInt64}
 use Rattle.arrow_schema.specs.declared.data_type.DataType.{DataType}
-use Rattle.arrow_schema.specs.declared.data_type.DataType.TheVariants.{Integer, Utf8, Bool as Flags, Decimal128, Dictionary}
 use Rattle.arrow_schema.specs.declared.schema.Field.{Field}
 use Rattle.arrow_schema.specs.declared.schema.Schema.{Schema}
-use Rattle.arrow_schema.specs.Header.{schema_in, schema_in_all_types, schema_message_of, schema_of_all_types, is_built, is_long}
+use Rattle.arrow_schema.specs.Answer.{answer_type, answer_field, answer_schema}
+use Rattle.arrow_schema.specs.Header.{schema_in, schema_message_of, schema_of}
 use Rattle.arrow_schema.specs.Schema.{IsSchema}
-use Rattle.arrow_schema.specs.Batch.{BatchAt, rows_of}
 use Rattle.arrow_schema.specs.Written.{schema_part, schema_bytes}
 use Rattle.arrow_schema.proofs.Messages.{messages_read}
 use Rattle.arrow_schema.proofs.Again.{whole_schema, short_schema, schemas_read}
+use Rattle.arrays.specs.Column.{ColumnAt, cut}
+use Rattle.arrays.specs.Batch.{BatchAt, rows_of}
+use Rattle.arrays.specs.Typed.{AreOfTypes}
 use Rattle.flight_proto.specs.FlightData.{DataSaid, data_of, data_bytes, data_head}
 use Rattle.flight_proto.specs.Laws.{FitsMemory}
 use Rattle.flight_proto.proofs.ReadsBack.{data_back}
 use Rattle.flight_proto.proofs.Heads.{bodies_follow_heads}
+use Rattle.ipc_batch.specs.State.{Known}
 use Rattle.ipc_batch.specs.Parts.{body_claimed}
 use Rattle.ipc_batch.specs.Said.{Sent, News, Rows, schema_sent, news_of, Follows, Says}
-use Rattle.ipc_batch.specs.Written.{AreLongs, SaysBatch}
+use Rattle.ipc_batch.specs.Written.{SaysBatch}
 use Rattle.ipc_batch.proofs.Messages.{joined}
-use Rattle.flight_core.specs.Payloads.{Payload, message_in, PayloadsSay, Carries, SaysSchema, SaysBatchBehind, GoOn}
-use Rattle.flight_core.proofs.Storing.{both}
+use Rattle.flight_core.specs.Payloads.{Payload, message_in, PayloadsSay, Carries, SaysSchema, SaysBatchBehind, GoOn, FitMessages, most_payload_bytes}
+use Rattle.flight_core.proofs.Results.{both}
 
 -- ---- one payload
 
@@ -40,19 +42,19 @@ carried_back payload header body e long wide = record {
 }
 
 -- the payload of a schema
-pub schema_said : (payload : List ℕ) (schema : Schema) → IsSchema schema → is_built schema.fields ≡ true
+pub schema_said : (payload : List ℕ) (schema : Schema) → IsSchema schema
     → payload ≡ data_bytes None (record { data_header = schema_bytes schema; data_body = [] }) → length (schema_bytes schema) < 2 ^ 20 → SaysSchema payload schema
-unfolding schema_of_all_types schema_message_of schema_in schema_sent news_of body_claimed
-schema_said payload schema is built e short =
+unfolding schema_of schema_message_of schema_sent news_of body_claimed
+schema_said payload schema is e short =
     let bytes = schema_bytes schema in
     let part = short_schema schema is in
     let m = messages_read header.Schema (schema_part schema) 0 (whole_schema schema) (omega arith) (omega arith) in
     let again = schemas_read schema is in
-    let told : schema_in_all_types m.message ≡ Ok schema = rw (m.found, m.kind_again) at again in
+    let told : schema_in m.message ≡ Ok schema = rw (m.found, m.kind_again) at again in
     record {
       message = record { header = bytes; body = [] };
       carries = carried_back payload bytes [] e (omega arith) (omega arith);
-      said = rw (m.found, m.kind_again, told, built, m.body_length_again) refl;
+      said = rw (m.found, m.kind_again, told, m.body_length_again) refl;
     }
 
 -- the payload of a batch
@@ -104,44 +106,51 @@ say_carried payloads messages schema rows e said = (e.all, e.read, subst (λ (se
 -- a schema alone says no rows
 pub say_first : (payload : Payload) (schema : Schema) → SaysSchema payload schema → PayloadsSay (payload ∷ []) schema []
 say_first payload schema s =
-    let news : News = record { state = Some schema; batch = None } in
-    say_carried (payload ∷ []) (s.message ∷ []) schema [] (carry_more [] payload [] s.message (record { all = []; read = refl; same = refl }) s.carries) (news, [], s.said, refl, (refl, refl))
+    let known : Known = record { schema = schema; dictionaries = [] } in
+    let news : News = record { state = Some known; batch = None } in
+    say_carried (payload ∷ []) (s.message ∷ []) schema [] (carry_more [] payload [] s.message (record { all = []; read = refl; same = refl }) s.carries)
+    (known, refl, (news, [], s.said, refl, (refl, refl)))
 
--- and one batch more says its rows behind the others
-pub say_more : (columns : ℕ) (payloads : List Payload) (payload : Payload) (batch : BatchAt) → length batch.columns ≡ columns → SaysBatchBehind payload batch
-    → GoOn columns payloads (payloads ++ payload ∷ []) (rows_of batch)
-say_more columns payloads payload batch many s schema rows longs said =
-    let read = s.said schema (rw many longs) in
-    let news : News = record { state = Some schema; batch = Some read.0 } in
-    let one : Follows (Some schema) (s.message ∷ []) (Some schema) (rows_of read.0) = (news, [], read.1, sym (append-nil (rows_of read.0)), (refl, refl)) in
+-- the types of the fields as which others are answered
+answered_types : (fields : List Field) → map (λ field. field.data_type) (map answer_field fields) ≡ map (λ field. answer_type field.data_type) fields
+answered_types [] = refl
+answered_types (field ∷ fields) = ap (λ (types : List DataType). answer_type field.data_type ∷ types) (answered_types fields)
+
+-- one batch more says its rows behind the others
+pub say_more : (payloads : List Payload) (payload : Payload) (batch : BatchAt) → SaysBatchBehind payload batch → GoOn batch.columns payloads (payloads ++ payload ∷ []) (rows_of batch)
+say_more payloads payload batch s schema rows typed said =
     let sent = map message_in said.0 in
-    say_carried (payloads ++ payload ∷ []) (sent ++ s.message ∷ []) schema (rows ++ rows_of batch) (carry_more payloads payload sent s.message (record { all = said.0; read = said.1; same = refl }) s.carries)
-    (subst (λ (more : Rows). Follows None (sent ++ s.message ∷ []) (Some schema) (rows ++ more)) read.2 (joined None sent (s.message ∷ []) (Some schema) (Some schema) rows (rows_of read.0) said.2 one))
+    let known = said.2.0 in
+    let types : map (λ (field : Field). field.data_type) known.schema.fields ≡ map (λ (field : Field). answer_type field.data_type) schema.fields = rw said.2.1 (answered_types schema.fields) in
+    let read = s.said known schema.fields typed types in
+    let news : News = record { state = Some known; batch = Some read.0 } in
+    let one : Follows (Some known) (s.message ∷ []) (Some known) (rows_of read.0) = (news, [], read.1, sym (append-nil (rows_of read.0)), (refl, refl)) in
+    let all : Follows None (sent ++ s.message ∷ []) (Some known) (rows ++ rows_of read.0) = joined None sent (s.message ∷ []) (Some known) (Some known) rows (rows_of read.0) said.2.2 one in
+    say_carried (payloads ++ payload ∷ []) (sent ++ s.message ∷ []) (answer_schema schema) (rows ++ rows_of batch)
+    (carry_more payloads payload sent s.message (record { all = said.0; read = said.1; same = refl }) s.carries)
+    (known, said.2.1, subst (λ (more : Rows). Follows None (sent ++ s.message ∷ []) (Some known) (rows ++ more)) read.2 all)
 
 -- nothing more
-pub go_nowhere : (columns : ℕ) (payloads : List Payload) → GoOn columns payloads payloads []
-go_nowhere columns payloads schema rows longs said = rw (append-nil rows) said
+pub go_nowhere : (columns : List ColumnAt) (payloads : List Payload) → GoOn columns payloads payloads []
+go_nowhere columns payloads schema rows typed said = rw (append-nil rows) said
 
--- ---- a schema that is built is one of Int64
+-- slices of columns are of their types
+cut_typed : (fields : List Field) (columns : List ColumnAt) (from to : ℕ) → AreOfTypes fields columns → AreOfTypes fields (map (λ column. cut column from to) columns)
+cut_typed [] [] from to typed = tt
+cut_typed (field ∷ fields) (column ∷ columns) from to typed = (typed.0, cut_typed fields columns from to typed.1)
+cut_typed [] (column ∷ columns) from to typed = absurd typed
+cut_typed (field ∷ fields) [] from to typed = absurd typed
 
-long_type : (t : DataType) → is_long t ≡ true → t ≡ Integer Int64
-long_type (Integer Int64) e = refl
-long_type (Integer Int8) e = cc
-long_type (Integer Int16) e = cc
-long_type (Integer Int32) e = cc
-long_type (Integer UInt8) e = cc
-long_type (Integer UInt16) e = cc
-long_type (Integer UInt32) e = cc
-long_type (Integer UInt64) e = cc
-long_type Utf8 e = cc
-long_type Flags e = cc
-long_type Decimal128 e = cc
-long_type (Dictionary encoding) e = cc
+-- what goes on behind slices of columns goes on behind the columns
+pub whole_columns : (columns : List ColumnAt) (from to : ℕ) (old new : List Payload) (more : Rows) → GoOn (map (λ column. cut column from to) columns) old new more → GoOn columns old new more
+whole_columns columns from to old new more on schema rows typed said = on schema rows (cut_typed schema.fields columns from to typed) said
 
-long_fields : (fields : List Field) → is_built fields ≡ true → All (λ field. field.data_type ≡ Integer Int64) fields
-long_fields [] e = cc
-long_fields (field ∷ []) e = All-cons (λ (field : Field). field.data_type ≡ Integer Int64) field [] (long_type field.data_type e) (All-nil (λ (field : Field). field.data_type ≡ Integer Int64))
-long_fields (field ∷ other ∷ fields) e = cc
+-- ---- payloads that fit messages
 
-pub are_longs : (schema : Schema) (columns : ℕ) → is_built schema.fields ≡ true → columns ≡ length schema.fields → AreLongs columns schema
-are_longs schema columns built many = record { many = sym many; longs = long_fields schema.fields built }
+pub none_fit : FitMessages []
+unfolding FitMessages
+none_fit = All-nil (λ (payload : Payload). length payload ≤ most_payload_bytes)
+
+pub one_fits : (payloads : List Payload) (payload : Payload) → FitMessages payloads → length payload ≤ most_payload_bytes → FitMessages (payloads ++ payload ∷ [])
+unfolding FitMessages
+one_fits payloads payload before fits = All-push (λ (payload : Payload). length payload ≤ most_payload_bytes) payloads payload before fits

@@ -3,6 +3,7 @@ use Rattle.std.specs.Prelude.{◌≡◌, ◌≢◌, ℕ, ◌-◌, ◌≤◌, ◌
 use Rattle.scan_base.specs.declared.fault.Fault.{Fault}
 use Rattle.scan_base.specs.declared.fault.Fault.TheVariants.{BadTicket, VersionUnknown, OutOfMemory}
 use Rattle.scan_base.specs.Reading.{◌>>=◌, demand, wanted}
+use Rattle.arrow_schema.specs.Answer.{answer_schema}
 use Rattle.endpoint_split.specs.Handle.{HandleAt, Query, Tables, handle_of}
 use Rattle.flight_proto.specs.Ticket.{statement_handle_of}
 use Rattle.table_versions.specs.Table.{Table}
@@ -22,9 +23,9 @@ abbrev pub version_of : HandleAt → ℕ
 version_of (Query number from to query) = number
 version_of (Tables number) = number
 
--- rows `from` up to, not with, `to` of a table, with all its columns
+-- rows `from` up to, not with, `to` of a table, with all its columns, as they are answered
 abbrev pub part_of : Table → ℕ → ℕ → Table
-part_of table from to = record { schema = table.schema; rows = take (to - from) (drop from table.rows) }
+part_of table from to = record { schema = answer_schema table.schema; rows = take (to - from) (drop from table.rows) }
 
 -- the table that a query names
 abbrev pub table_asked : Database → List ℕ → Result Table Fault

@@ -1,11 +1,14 @@
 -- What the payloads of a stream say: each is a FlightData, whose header and body are an Arrow IPC message.
-use Rattle.std.specs.Prelude.{◌≡◌, ℕ, ◌==◌, Bool, not, List, ◌++◌, length, map, filter, Some, None, Ok}
+use Rattle.std.specs.Prelude.{◌≡◌, ◌≤◌, ℕ, ◌==◌, Bool, not, List, [], ◌++◌, length, map, filter, All, Some, None, Ok}
 use Rattle.scan_base.specs.Lists.{each}
 use Rattle.arrow_schema.specs.declared.schema.Schema.{Schema}
-use Rattle.arrow_schema.specs.Batch.{BatchAt}
+use Rattle.arrow_schema.specs.Answer.{answer_schema}
+use Rattle.arrays.specs.Column.{ColumnAt}
+use Rattle.arrays.specs.Batch.{BatchAt}
+use Rattle.arrays.specs.Typed.{AreOfTypes}
 use Rattle.flight_proto.specs.FlightData.{DataSaid, data_of}
 use Rattle.ipc_batch.specs.Said.{Sent, Rows, Says, news_of}
-use Rattle.ipc_batch.specs.Written.{AreLongs, SaysBatch}
+use Rattle.ipc_batch.specs.Written.{SaysBatch}
 
 -- the bytes of a call's or of an answer's message
 abbrev pub Payload : Type 0
@@ -33,6 +36,16 @@ abbrev pub PutSays : List Payload → Schema → Rows → Type 0
 PutSays payloads schema rows =
     (all : List DataSaid) × (each data_of payloads ≡ Ok all) × DataSay (filter carries_message all) schema rows
 
+-- ---- payloads that are written
+
+-- as many bytes as a message of a call may have
+abbrev pub most_payload_bytes : ℕ
+most_payload_bytes = 16777216
+
+-- each payload fits a message of a call
+unfoldable pub FitMessages : List Payload → Type 0
+FitMessages payloads = All (λ payload. length payload ≤ most_payload_bytes) payloads
+
 -- a payload carries this message
 pub record Carries (payload : Payload) (message : Sent) : Type 0 where
   pub carried : DataSaid
@@ -43,16 +56,16 @@ pub record Carries (payload : Payload) (message : Sent) : Type 0 where
 pub record SaysSchema (payload : Payload) (schema : Schema) : Type 0 where
   pub message : Sent
   pub carries : Carries payload message
-  pub said : news_of None message ≡ Ok (record { state = Some schema; batch = None })
+  pub said : news_of None message ≡ Ok (record { state = Some (record { schema = schema; dictionaries = [] }); batch = None })
 
--- behind a schema, a payload says a batch
+-- behind the schema as which its columns are answered, a payload says a batch
 pub record SaysBatchBehind (payload : Payload) (batch : BatchAt) : Type 0 where
   pub message : Sent
   pub carries : Carries payload message
   pub said : SaysBatch message batch
 
--- Payloads go on from others: they say these rows behind those of the others, under a schema of so many
--- columns of Int64.
-abbrev pub GoOn : ℕ → List Payload → List Payload → Rows → Type 0
-GoOn columns old new more = (schema : Schema) (rows : Rows) → AreLongs columns schema →
-    PayloadsSay old schema rows → PayloadsSay new schema (rows ++ more)
+-- Payloads go on from others: behind the answer's schema of a table of such columns, they say these rows behind
+-- those of the others.
+abbrev pub GoOn : List ColumnAt → List Payload → List Payload → Rows → Type 0
+GoOn columns old new more = (schema : Schema) (rows : Rows) → AreOfTypes schema.fields columns →
+    PayloadsSay old (answer_schema schema) rows → PayloadsSay new (answer_schema schema) (rows ++ more)

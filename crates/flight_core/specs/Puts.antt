@@ -20,7 +20,7 @@ use Rattle.table_versions.specs.declared.options.IfExists.TheVariants as present
 use Rattle.table_versions.specs.Database.{Put}
 use Rattle.flight_core.specs.Payloads.{Payload, message_in}
 
--- what payloads leave behind: the schema, once it came, and the rows of their batches
+-- what payloads leave behind: the schema, once it came, with its dictionaries, and the rows of their batches
 pub record Told : Type 0 where
   pub state : State
   pub rows : Rows
@@ -71,5 +71,5 @@ put_said [] = Err UnknownCommand
 put_said (first ∷ payloads) = do
   ingest ← ingest_of first
   told ← told_by None (first ∷ payloads)
-  schema ← wanted told.state BadBatch
-  Ok (put_made ingest schema told.rows)
+  known ← wanted told.state BadBatch
+  Ok (put_made ingest known.schema told.rows)

@@ -1,15 +1,14 @@
 -- What of payloads may be stored.
-use Rattle.std.specs.Prelude.{◌≡◌, List, [], ◌∷◌, Option, Some, None}
-use Rattle.arrow_schema.specs.Batch.{BatchAt}
+use Rattle.std.specs.Prelude.{All, List, [], ◌∷◌, Option, Some, None}
+use Rattle.arrays.specs.Batch.{BatchAt}
 use Rattle.ipc_batch.specs.State.{State}
-use Rattle.table_versions.specs.Kept.{IsStorable}
+use Rattle.ipc_batch.specs.Said.{HasColumns}
 
 -- the batch of a message, if it has one
 abbrev pub batches_in : Option BatchAt → List BatchAt
 batches_in None = []
 batches_in (Some batch) = batch ∷ []
 
--- no batch comes before the schema, and those behind it may be stored with it
-abbrev pub MayBeStored : State → List BatchAt → Type 0
-MayBeStored None batches = batches ≡ []
-MayBeStored (Some schema) batches = IsStorable schema batches
+-- the batches stand behind a schema, and have a column for each of its fields, of its type
+unfoldable pub MayBeStored : State → List BatchAt → Type 0
+MayBeStored state batches = All (λ batch. HasColumns (Some batch) state) batches

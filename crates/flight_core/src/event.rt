@@ -1,6 +1,7 @@
 //! What is asked of the core, and what it answers.
 
 ghost use Rattle.std.specs.Prelude.{◌≡◌, [], ◌∷◌, Some, None};
+ghost use Rattle.flight_core.specs.Payloads.{FitMessages};
 
 use bytes::Bytes;
 use scan_base::Fault;
@@ -26,6 +27,7 @@ impl Reply {
     // A reply that refuses and has no payload.
     pub(crate) fn refusal(alloc: Global, fault: Fault) -> Reply
         ensures payloads { result.payloads.items ≡ [] }
+        ensures fits { FitMessages result.payloads.items }
         ensures fault { result.fault ≡ Some fault }
     {
         Reply {

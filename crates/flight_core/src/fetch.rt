@@ -8,6 +8,7 @@ ghost use Rattle.table_versions.specs.Limits.{most_rows};
 ghost use Rattle.table_versions.specs.Stored.{table_of, tables_of};
 ghost use Rattle.flight_core.specs.Fetches.{version_of, handle_asked, part_of};
 ghost use Rattle.flight_core.specs.Fetches.{table_asked, meaning_of, FetchAt};
+ghost use Rattle.flight_core.specs.Payloads.{FitMessages};
 
 use crate::event::Reply;
 use crate::named_table::table_named;
@@ -103,8 +104,9 @@ fn find_part<'a>(
     Ok(TablePart { table, from, to })
 }
 
-/// The answer to a handle at a version of the catalog: a schema message and then record batches of at most
-/// 65,536 cells, each a FlightData.
+/// The answer to a handle at a version of the catalog: a schema message, and then record batches of at most
+/// 65,536 cells, whose bodies have at most 8,388,608 bytes. Each payload is a FlightData, and has at most
+/// 16,777,216 bytes. A dictionary of texts is answered as texts.
 ///
 /// # Errors
 ///
@@ -112,8 +114,9 @@ fn find_part<'a>(
 /// version, and where the range is not within the table's rows; F21 (`Fault::OutOfMemory`) where memory is
 /// refused.
 pub fn answer_fetch(alloc: Global, snapshot: &Snapshot, handle: &Handle<'_>) -> Reply
-    ensures { FetchAt (tables_of snapshot.now.catalog) (handle_seen handle.now)
+    ensures answer { FetchAt (tables_of snapshot.now.catalog) (handle_seen handle.now)
         result.payloads.items result.fault }
+    ensures fits { FitMessages result.payloads.items }
 {
     let part = match find_part(alloc, snapshot.catalog(), handle) {
         Ok(part) => part,

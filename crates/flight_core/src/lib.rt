@@ -11,7 +11,6 @@ pub mod machine;
 mod named_table;
 pub mod plain;
 pub mod put;
-mod schema_copy;
 mod stream;
 
 pub use crate::event::{Event, Reply};

@@ -6,11 +6,13 @@ ghost use Rattle.scan_base.specs.declared.fault.Fault.TheVariants.{OutOfMemory};
 ghost use Rattle.flight_proto.specs.PutResult.{rows_put_bytes};
 ghost use Rattle.flight_core.specs.Machine.{Log, PutStep, Step, Run, put_answer};
 ghost use Rattle.flight_core.specs.Fetches.{FetchIn};
+ghost use Rattle.flight_core.specs.Payloads.{FitMessages};
 
 use crate::event::{Event, Reply};
 use crate::fetch::{answer_fetch, read_ticket, version_of};
 use crate::plain::Plain;
 use crate::put::read_put;
+use crate::stream::payload_of;
 use bytes::Bytes;
 use flight_proto::put_rows_put;
 use scan_base::Fault;
@@ -19,17 +21,20 @@ use table_versions::MAX_ROWS;
 
 // The answer to a put of so many rows, or of as many as a table may have where they are more.
 fn put_answer(alloc: Global, rows: usize) -> Result<Vec<Bytes>, AllocError>
-    ensures { IfOk result (λ payloads. payloads.items ≡ rows_put_bytes (pos (min rows most_rows)) ∷ []) }
+    ensures said { IfOk result (λ payloads.
+        payloads.items ≡ rows_put_bytes (pos (min rows most_rows)) ∷ []) }
+    ensures fits { IfOk result (λ payloads. FitMessages payloads.items) }
 {
     let mut payload = Vec::new(alloc);
     put_rows_put(&mut payload, rows.min(MAX_ROWS) as i64)?;
     let mut payloads = Vec::new(alloc);
-    payloads.push(Bytes::from_vec(payload)?)?;
+    payloads.push(payload_of(payload)?)?;
     Ok(payloads)
 }
 
 fn step_put(alloc: Global, plain: &mut Plain, payloads: &[Bytes]) -> Reply
-    ensures { PutStep plain.old payloads.now result.payloads.items result.fault plain.new }
+    ensures step { PutStep plain.old payloads.now result.payloads.items result.fault plain.new }
+    ensures fits { FitMessages result.payloads.items }
 {
     let put = match read_put(alloc, payloads) {
         Ok(put) => put,
@@ -45,7 +50,8 @@ fn step_put(alloc: Global, plain: &mut Plain, payloads: &[Bytes]) -> Reply
 }
 
 fn step_fetch(alloc: Global, plain: &Plain, ticket: &[u8]) -> Reply
-    ensures { FetchIn plain.now ticket.now result.payloads.items result.fault }
+    ensures fetch { FetchIn plain.now ticket.now result.payloads.items result.fault }
+    ensures fits { FitMessages result.payloads.items }
 {
     let handle = match read_ticket(ticket) {
         Ok(handle) => handle,
@@ -59,9 +65,10 @@ fn step_fetch(alloc: Global, plain: &Plain, ticket: &[u8]) -> Reply
 
 /// Answers one event. A put that is accepted stands at the end of the log; any other event changes nothing.
 /// The reply's fault is one of those of `read_put` and `Plain::put`, or of `read_ticket`, `Plain::at` and
-/// `answer_fetch`, in that order.
+/// `answer_fetch`, in that order. Each payload has at most 16,777,216 bytes.
 pub fn step(alloc: Global, plain: &mut Plain, event: &Event) -> Reply
-    ensures { Step plain.old event.now result plain.new }
+    ensures step { Step plain.old event.now result plain.new }
+    ensures fits { FitMessages result.payloads.items }
 {
     match event {
         Event::Put(payloads) => step_put(alloc, plain, payloads.as_slice()),

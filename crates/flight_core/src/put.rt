@@ -1,16 +1,15 @@
 //! Reading the payloads of a put.
 
-ghost use Rattle.std.specs.Prelude.{◌≡◌, ◌≢◌, ◌==◌, ◌++◌, not, [], None, IfOk, ℕ, ◌<◌, List, length, slice_index};
+ghost use Rattle.std.specs.Prelude.{◌≡◌, ◌++◌, None, IfOk, List};
 ghost use Rattle.std.specs.List.{flat_map};
 ghost use Rattle.scan_base.specs.Reading.{GivesUnlessMemory};
-ghost use Rattle.arrow_schema.specs.Batch.{BatchAt, rows_of};
+ghost use Rattle.arrays.specs.Batch.{BatchAt, rows_of};
 ghost use Rattle.table_versions.specs.Stored.{put_of};
 ghost use Rattle.flight_core.specs.Puts.{if_not_exist_put, if_exists_put};
 ghost use Rattle.flight_core.specs.Puts.{news_in_payload, told_by, put_said};
 ghost use Rattle.flight_core.specs.Stored.{MayBeStored, batches_in};
 
-use crate::schema_copy::copied;
-use arrow_schema::Batch;
+use arrays::Batch;
 use bytes::Bytes;
 use flight_proto::{FlightData, Ingest, read_ingest};
 use ipc_batch::Reader;
@@ -40,15 +39,7 @@ fn if_exists(option: flight_proto::IfExists) -> IfExists
     }
 }
 
-// Whether a FlightData with this header carries a message.
-fn carries_message(header: &[u8]) -> bool
-    ensures value { result ≡ not (length header.now == 0) }
-    ensures bytes { (k : ℕ) → slice_index header.now k < 256 }
-{
-    !header.is_empty()
-}
-
-// Reads a payload: a batch, or `None` where it has the schema or no message.
+// Reads a payload: a batch, or `None` where it has the schema, a dictionary or no message.
 #[tactic(auto, unfolding(crate::specs::Puts::news_in_payload))]
 fn read_payload(alloc: Global, reader: &mut Reader, payload: &Bytes) -> Result<Option<Batch>, Fault>
     ensures told { GivesUnlessMemory (λ batch. record { state = reader.new; batch = batch })
@@ -57,7 +48,7 @@ fn read_payload(alloc: Global, reader: &mut Reader, payload: &Bytes) -> Result<O
         IfOk result (λ batch. MayBeStored reader.new (batches ++ batches_in batch)) }
 {
     let data = FlightData::read(payload)?;
-    if !carries_message(data.data_header.as_slice()) {
+    if data.data_header.is_empty() {
         return Ok(None);
     }
     reader.message(alloc, data.data_header, data.data_body)
@@ -68,8 +59,7 @@ fn read_batches(alloc: Global, reader: &mut Reader, payloads: &[Bytes]) -> Resul
     ensures told { GivesUnlessMemory
         (λ batches. record { state = reader.new; rows = flat_map rows_of batches.items })
         result (told_by reader.old payloads.now) }
-    ensures stored { MayBeStored reader.old [] →
-        IfOk result (λ batches. MayBeStored reader.new batches.items) }
+    ensures stored { IfOk result (λ batches. MayBeStored reader.new batches.items) }
 {
     let mut batches = Vec::new(alloc);
     for payload in payloads {
@@ -103,10 +93,9 @@ pub fn read_put(alloc: Global, payloads: &[Bytes]) -> Result<Put, Fault>
     let ingest = read_ingest(first.as_slice())?;
     let mut reader = Reader::new();
     let batches = read_batches(alloc, &mut reader, payloads)?;
-    let Some(schema) = reader.schema() else {
+    let Some(schema) = reader.into_schema() else {
         return Err(Fault::BadBatch);
     };
-    let schema = copied(alloc, schema)?;
     Ok(Put::new(
         Text::new(alloc, ingest.table)?,
         if_not_exist(ingest.if_not_exist),

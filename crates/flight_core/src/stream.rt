@@ -1,53 +1,75 @@
 //! Writing the rows of a table as payloads.
 
-ghost use Rattle.std.specs.Prelude.{◌≡◌, ◌+◌, ◌-◌, ◌≤◌, ◌<◌, ◌++◌, [], length, take, drop, min, IfOk, OnOk, IsTrue};
-ghost use Rattle.arrow_schema.specs.Header.{is_built};
+ghost use Rattle.std.specs.Prelude.{◌≡◌, ◌+◌, ◌-◌, ◌≤◌, ◌<◌, ◌^◌, ◌++◌, [], length, take, drop, min, All, IfOk, IfSome, OnOk};
+ghost use Rattle.arrow_schema.specs.Answer.{answer_schema};
+ghost use Rattle.arrow_schema.specs.Limits.{most_columns};
 ghost use Rattle.arrow_schema.specs.Schema.{IsSchema};
-ghost use Rattle.arrow_schema.specs.Batch.{AreLong, cut_batch, rows_of};
-ghost use Rattle.arrow_schema.specs.NoNulls.{HasNoNulls};
+ghost use Rattle.arrays.specs.Batch.{cut_batch, rows_of};
+ghost use Rattle.ipc_batch.specs.Written.{body_length};
 ghost use Rattle.table_versions.specs.Limits.{most_rows};
 ghost use Rattle.table_versions.specs.Stored.{table_of};
 ghost use Rattle.table_versions.specs.Standing.{rows_before};
 ghost use Rattle.flight_core.specs.Fetches.{part_of};
-ghost use Rattle.flight_core.specs.Payloads.{PayloadsSay, SaysSchema, SaysBatchBehind, GoOn};
+ghost use Rattle.flight_core.specs.Payloads.{PayloadsSay, SaysSchema, SaysBatchBehind, GoOn, FitMessages};
+ghost use Rattle.flight_core.specs.Payloads.{most_payload_bytes};
 
-use arrow_schema::{Batch, Schema, write_schema};
+use arrays::Batch;
+use arrays::laws::batch_slices_keep_rows;
+use arrow_schema::{Schema, write_schema};
 use bytes::Bytes;
 use flight_proto::{put_flight_data, put_flight_data_head};
 use ipc_batch::{append_body, body_length, write_batch_header};
 use std::alloc::{AllocError, Global};
 use table_versions::TableVersion;
+use table_versions::laws::batches_are_rows;
 
 // The most cells of a message that is written.
 const MOST_CELLS: usize = 65_536;
 
+// The most bytes of a message's body that is written. No row has more: it has at most 64 texts of at most
+// 65,536 bytes.
+const MOST_BODY_BYTES: usize = 8_388_608;
+
+// The most bytes of a payload.
+const MOST_PAYLOAD_BYTES: usize = 16_777_216;
+
+/// These bytes as a payload. It fails with `AllocError` where a message of a call could not hold them, too.
+pub(crate) fn payload_of(bytes: Vec<u8>) -> Result<Bytes, AllocError>
+    ensures same { IfOk result (λ payload. payload ≡ bytes.items) }
+    ensures fits { IfOk result (λ payload. length payload ≤ most_payload_bytes) }
+{
+    if bytes.len() > MOST_PAYLOAD_BYTES {
+        return Err(AllocError);
+    }
+    Ok(Bytes::from_vec(bytes)?)
+}
+
 // The payload of a schema.
 fn schema_payload(alloc: Global, schema: &Schema) -> Result<Bytes, AllocError>
-    requires valid { IsSchema schema.now }
-    requires built { IsTrue (is_built schema.now.fields) }
-    ensures { IfOk result (λ payload. SaysSchema payload schema.now) }
+    requires { IsSchema schema.now }
+    ensures said { IfOk result (λ payload. SaysSchema payload schema.now) }
+    ensures fits { IfOk result (λ payload. length payload ≤ most_payload_bytes) }
 {
     let header = write_schema(alloc, schema)?;
     let mut payload = Vec::with_capacity(alloc, header.len().saturating_add(16))?;
     put_flight_data(&mut payload, None, &header, &[])?;
-    Ok(Bytes::from_vec(payload)?)
+    payload_of(payload)
 }
 
-// The payload of a batch. Its values are copied once.
-fn batch_payload(alloc: Global, batch: &Batch) -> Result<Bytes, AllocError>
-    requires few { length batch.now.columns ≤ 64 }
-    requires full { HasNoNulls batch.now }
-    ensures { IfOk result (λ payload. SaysBatchBehind payload batch.now) }
+// The payload of a batch whose body has `len` bytes. Its values are copied once.
+fn batch_payload(alloc: Global, batch: &Batch, len: usize) -> Result<Bytes, AllocError>
+    requires few { length batch.now.columns ≤ most_columns }
+    requires long { len ≡ body_length batch.now }
+    requires short { len < 2 ^ 31 }
+    ensures said { IfOk result (λ payload. SaysBatchBehind payload batch.now) }
+    ensures fits { IfOk result (λ payload. length payload ≤ most_payload_bytes) }
 {
-    let Some(len) = body_length(batch) else {
-        return Err(AllocError);
-    };
     let header = write_batch_header(alloc, batch)?;
     let room = header.len().saturating_add(len).saturating_add(32);
     let mut payload = Vec::with_capacity(alloc, room)?;
     put_flight_data_head(&mut payload, &header, len as u64)?;
     append_body(&mut payload, batch)?;
-    Ok(Bytes::from_vec(payload)?)
+    payload_of(payload)
 }
 
 // How many rows a message has at most: fewer where there are more columns.
@@ -57,19 +79,30 @@ fn rows_in_message(columns: usize) -> usize
     (MOST_CELLS / columns.max(1)).max(1)
 }
 
-// The payload of the rows `from` up to, not with, `to` of a batch.
-fn slice_payload(alloc: Global, batch: &Batch, from: usize, to: usize) -> Result<Bytes, AllocError>
-    requires long { AreLong batch.now.rows batch.now.columns }
-    requires few { length batch.now.columns ≤ 64 }
-    requires full { HasNoNulls batch.now }
+// The payload of the rows `from` up to, not with, `to` of a batch, or nothing where its body would have too
+// many bytes.
+fn slice_payload(
+    alloc: Global,
+    batch: &Batch,
+    from: usize,
+    to: usize,
+) -> Result<Option<Bytes>, AllocError>
+    requires few { length batch.now.columns ≤ most_columns }
     requires ordered { from ≤ to }
     requires within { to ≤ batch.now.rows }
-    ensures { IfOk result (λ payload. SaysBatchBehind payload (cut_batch batch.now from to)) }
+    ensures said { IfOk result (λ found. IfSome found (λ payload.
+        SaysBatchBehind payload (cut_batch batch.now from to))) }
+    ensures fits { IfOk result (λ found. IfSome found (λ payload. length payload ≤ most_payload_bytes)) }
 {
-    batch_payload(alloc, &batch.slice(alloc, from, to)?)
+    let slice = batch.slice(alloc, from, to)?;
+    match body_length(&slice) {
+        Some(len) if len <= MOST_BODY_BYTES => Ok(Some(batch_payload(alloc, &slice, len)?)),
+        _ => Ok(None),
+    }
 }
 
-// Writes the rows `from` up to, not with, `to` of a batch behind the payloads.
+// Writes the rows `from` up to, not with, `to` of a batch behind the payloads. Where a body would have too many
+// bytes, it and those behind it have half as many rows.
 fn push_rows(
     alloc: Global,
     payloads: &mut Vec<Bytes>,
@@ -77,19 +110,26 @@ fn push_rows(
     from: usize,
     to: usize,
 ) -> Result<(), AllocError>
-    requires few { length batch.now.columns ≤ 64 }
-    requires full { HasNoNulls batch.now }
+    requires few { length batch.now.columns ≤ most_columns }
     requires ordered { from ≤ to }
     requires within { to ≤ batch.now.rows }
-    ensures { OnOk result (GoOn (length batch.now.columns) payloads.old.items payloads.new.items
+    ensures on { OnOk result (GoOn batch.now.columns payloads.old.items payloads.new.items
         (rows_of (cut_batch batch.now from to))) }
+    ensures fits { OnOk result (FitMessages payloads.old.items → FitMessages payloads.new.items) }
 {
-    let most = rows_in_message(batch.columns().len());
+    batch_slices_keep_rows();
+    let mut most = rows_in_message(batch.columns().len());
     let mut at = from;
     while at < to {
-        let end = at + most.min(to - at);
-        payloads.push(slice_payload(alloc, batch, at, end)?)?;
-        at = end;
+        let rows = most.min(to - at);
+        match slice_payload(alloc, batch, at, at + rows)? {
+            Some(payload) => {
+                payloads.push(payload)?;
+                at += rows;
+            }
+            None if rows > 1 => most = rows / 2,
+            None => return Err(AllocError),
+        }
     }
     Ok(())
 }
@@ -104,12 +144,13 @@ fn push_part(
     from: usize,
     to: usize,
 ) -> Result<(), AllocError>
-    requires few { length batch.now.columns ≤ 64 }
-    requires full { HasNoNulls batch.now }
-    ensures { OnOk result (GoOn (length batch.now.columns) payloads.old.items payloads.new.items
+    requires { length batch.now.columns ≤ most_columns }
+    ensures on { OnOk result (GoOn batch.now.columns payloads.old.items payloads.new.items
         (take (min (to - start) batch.now.rows - (from - start))
         (drop (from - start) (rows_of batch.now)))) }
+    ensures fits { OnOk result (FitMessages payloads.old.items → FitMessages payloads.new.items) }
 {
+    batch_slices_keep_rows();
     let first = from.saturating_sub(start);
     let last = to.saturating_sub(start).min(batch.rows());
     if first < last {
@@ -118,8 +159,8 @@ fn push_part(
     Ok(())
 }
 
-/// The payloads of the rows `from` up to, not with, `to` of a table: its schema, and then batches of at most
-/// 65,536 cells.
+/// The payloads of the rows `from` up to, not with, `to` of a table: the schema as which it is answered, and
+/// then batches of at most 65,536 cells, whose bodies have at most 8,388,608 bytes.
 pub(crate) fn write_rows(
     alloc: Global,
     table: &TableVersion,
@@ -129,11 +170,15 @@ pub(crate) fn write_rows(
     requires ordered { from ≤ to }
     requires within { to ≤ length (table_of table.now).rows }
     requires few { length (table_of table.now).rows ≤ most_rows }
-    ensures { IfOk result (λ payloads. PayloadsSay payloads.items table.now.schema
+    ensures said { IfOk result (λ payloads. PayloadsSay payloads.items (answer_schema table.now.schema)
         (part_of (table_of table.now) from to).rows) }
+    ensures fits { IfOk result (λ payloads. FitMessages payloads.items) }
 {
+    batch_slices_keep_rows();
+    batches_are_rows();
     let mut payloads = Vec::new(alloc);
-    payloads.push(schema_payload(alloc, table.schema())?)?;
+    let schema = table.schema().answered(alloc)?;
+    payloads.push(schema_payload(alloc, &schema)?)?;
     let mut start = 0;
     for index in 0..table.batch_count() {
         let batch = table.batch(index);

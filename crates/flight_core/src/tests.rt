@@ -1,7 +1,7 @@
 //! The first run: one put and one fetch, and what refuses them.
 
 use crate::{Event, Plain, Reply, run, step};
-use arrow_schema::Batch;
+use arrays::{Batch, Cells};
 use bytes::Bytes;
 use flight_proto::FlightData;
 use ipc_batch::Reader;

@@ -1,7 +1,5 @@
-pub mod BatchAgain
-pub mod ColumnsAgain
+pub mod Entries
 pub mod Lengths
 pub mod Messages
-pub mod NoNulls
 pub mod PartsAgain
-pub mod WriterLoops
+pub mod Typed

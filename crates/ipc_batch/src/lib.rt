@@ -2,6 +2,7 @@
 #![tactic(auto)]
 
 pub mod columns;
+pub mod dictionaries;
 pub mod laws;
 pub mod parts;
 pub mod reader;
@@ -11,6 +12,3 @@ pub use crate::reader::Reader;
 pub use crate::writer::{
     WrittenMessage, append_body, body_length, write_batch, write_batch_header,
 };
-
-#[cfg(test)]
-mod tests;

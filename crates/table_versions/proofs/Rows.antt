@@ -7,7 +7,7 @@ use Rattle.arrow_schema.specs.declared.data_type.DataType.{DataType}
 use Rattle.arrow_schema.specs.declared.data_type.DataType.TheVariants.{Integer, Utf8, Dictionary}
 use Rattle.arrow_schema.specs.declared.data_type.IntegerType.TheVariants.{Int8, Int64, UInt8}
 use Rattle.arrow_schema.specs.declared.schema.Field.{Field}
-use Rattle.arrow_schema.specs.Batch.{BatchAt}
+use Rattle.arrays.specs.Batch.{BatchAt}
 use Rattle.table_versions.specs.declared.options.IfExists.{IfExists}
 use Rattle.table_versions.specs.declared.options.IfExists.TheVariants.{Unspecified, Fail, Append, Replace}
 use Rattle.table_versions.specs.declared.options.IfNotExist.{IfNotExist}

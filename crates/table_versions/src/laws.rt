@@ -4,6 +4,8 @@ ghost use Rattle.table_versions.specs.Laws.{TablesAreFound, LogsGrow, LogsStay, 
 ghost use Rattle.table_versions.specs.Laws.{AcceptedPutsAreFew};
 ghost use Rattle.table_versions.specs.Standing.{BatchesAreRows};
 
+use arrays::laws::batch_slices_keep_rows;
+
 /// Looking a table up after a put: the put's table is found at its name, and each other name has
 /// what it had.
 pub fn tables_are_found()
@@ -31,4 +33,6 @@ pub fn names_are_in_order()
 /// ends, the last one ends with the table, and a cut of a batch is a cut of the table's rows.
 pub fn batches_are_rows()
     ensures { BatchesAreRows }
-{}
+{
+    batch_slices_keep_rows();
+}
