@@ -1,5 +1,6 @@
 //! Laws. Each function here has an empty body: its contract is the law.
 
+ghost use Rattle.arrow_schema.specs.Answer.{AnsweredIsSchema, AnsweredIsPlain, AnsweredOnce};
 ghost use Rattle.arrow_schema.specs.Message.{MessagesReadBack};
 ghost use Rattle.arrow_schema.specs.Written.{SchemasReadBack};
 ghost use Rattle.arrow_schema.specs.Says.{ReadIsSaid, ReadIsSchema};
@@ -26,4 +27,21 @@ pub fn read_schemas_are_said()
 /// A schema that was read may be written, whatever its types are.
 pub fn read_schemas_are_schemas()
     ensures { ReadIsSchema }
+{}
+
+/// The columns as which those of a schema are answered may be written.
+pub fn answered_schemas_are_schemas()
+    ensures { AnsweredIsSchema }
+{}
+
+/// No column is answered with a dictionary.
+#[tactic(auto, using(crate::proofs::Answered::answered_is_plain))]
+pub fn answered_schemas_are_plain()
+    ensures { AnsweredIsPlain }
+{}
+
+/// What is answered of an answer's columns is those columns.
+#[tactic(auto, using(crate::proofs::Answered::answered_once))]
+pub fn answered_schemas_are_answered_once()
+    ensures { AnsweredOnce }
 {}
