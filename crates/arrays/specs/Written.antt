@@ -13,7 +13,7 @@ use Rattle.arrays.specs.declared.layout.Layout.{Layout}
 use Rattle.arrays.specs.declared.layout.Layout.TheVariants as layout
 use Rattle.arrays.specs.Number.{byte_width}
 use Rattle.arrays.specs.Validity.{is_null}
-use Rattle.arrays.specs.Column.{ColumnAt, IsWithin, values_of, whole}
+use Rattle.arrays.specs.Column.{ColumnAt, IsColumn, values_of, whole}
 use Rattle.arrays.specs.Typed.{IsOfType}
 use Rattle.arrays.specs.Buffers.{values_layout, texts_layout}
 
@@ -85,6 +85,6 @@ SaySlots _ _ _ _ _ = ⊥
 -- What is written of a column says its values, as a column of the type that its own is answered as. The texts
 -- of a column have fewer bytes than an offset can name.
 abbrev pub ColumnsReadBack : Type 0
-ColumnsReadBack = (data_type : DataType) (column : ColumnAt) → IsWithin column → IsOfType data_type column.layout →
+ColumnsReadBack = (data_type : DataType) (column : ColumnAt) → IsColumn column → IsOfType data_type column.layout →
     length (texts_joined (values_of column)) < 2 ^ 31 →
     SaySlots (answer_type data_type) (validity_read column) (values_written column) column.len (values_of column)
