@@ -1,5 +1,5 @@
 -- The values of a dictionary's parts, and the entries that indices lead to.
-use Rattle.std.proofs.Common.{◌≡◌, ◌<◌, ◌≤◌, ℕ, zero, suc, ◌+◌, ◌-◌, ◌*◌, ◌^◌, ℤ, pos, negsuc, List, [], ◌∷◌, ◌++◌, length, drop, take, get_or, slice_get, slice_index, Option, Some, None, Bool, true, nat_le, inl, inr, refl, sym, ap, ◌∙◌, arith, add-one}
+use Rattle.std.proofs.Common.{◌≡◌, ◌<◌, ◌≤◌, ℕ, zero, suc, ◌+◌, ◌-◌, ◌*◌, ◌^◌, ℤ, pos, negsuc, List, [], ◌∷◌, ◌++◌, length, drop, take, get_or, slice_get, slice_index, Option, Some, None, Bool, true, nat_le, All, inl, inr, refl, sym, ap, ◌∙◌, arith, add-one}
 use Rattle.std.specs.Int.{w64, FitsUnsigned}
 use Rattle.std.specs.List.{list_all, range_with_len}
 use Rattle.std.proofs.Math.ListN.{get_or-append}
@@ -7,6 +7,7 @@ use Rattle.std.proofs.Math.Seq.{drop-cons, take-suc, take-append_seam}
 use Rattle.std.proofs.Math.Facts.{yes_ltb, yes_leb}
 use Rattle.std.proofs.lemmas.Bool.{cases_lt, leb-true}
 use Rattle.std.proofs.lemmas.List.{length-append, get_or-append-add, take-append-drop, take-append-le, take_all}
+use Rattle.std.proofs.lemmas.List.Elements.{All-append, All-nil}
 use Rattle.std.proofs.lemmas.List.FromFn.{length-map-range_with_len, get_or-map-range_with_len}
 use Rattle.std.proofs.lemmas.Grind.{flat_map-append}
 use Rattle.std.proofs.lemmas.Option.{slice_get-get_or, slice_get_past}
@@ -15,10 +16,11 @@ use Rattle.scan_base.specs.declared.value.Value.{Value}
 use Rattle.scan_base.specs.declared.value.Value.TheVariants.{Null}
 use Rattle.arrays.specs.Number.{byte_width}
 use Rattle.arrays.specs.Validity.{IsLong}
-use Rattle.arrays.specs.Texts.{TextsAt, texts_slot, texts_values}
+use Rattle.arrays.specs.Texts.{TextsAt, texts_slot, texts_values, IsTextOrNull, AreTexts}
 use Rattle.arrays.specs.Dictionary.{parts_values, entry_at, most_values, IsDictionary}
 use Rattle.arrays.specs.Indices.{IndicesAt, index_stands, AreIndices}
 use Rattle.arrays.proofs.Slots.{slots_at}
+use Rattle.arrays.proofs.TextSlots.{values_are_texts}
 
 -- the item at a place stands in front of those behind it
 pub dropped : {X : Type 0} (xs : List X) (i : ℕ) (x : X) → i < length xs → x ≡ get_or xs i x → drop i xs ≡ x ∷ drop (i + 1) xs
@@ -72,9 +74,11 @@ in_parts parts i index part low is front within =
     ∙ in_part part (parts_values (drop (i + 1) parts)) (index - length before) within
 
 -- one part more
-pub counted_more : (parts : List TextsAt) (starts : List ℕ) (part : TextsAt) (count : ℕ) → IsDictionary parts starts count → count + part.len ≤ most_values →
+pub counted_more : (parts : List TextsAt) (starts : List ℕ) (part : TextsAt) (count : ℕ) → IsDictionary parts starts count → AreTexts part → count + part.len ≤ most_values →
     IsDictionary (parts ++ part ∷ []) (starts ++ count ∷ []) (count + part.len)
-counted_more parts starts part count had small = record {
+counted_more parts starts part count had are small = record {
+  texts = rw (parts_more parts part) (All-append IsTextOrNull (parts_values parts) (texts_values part ++ []) had.texts
+      (All-append IsTextOrNull (texts_values part) [] (values_are_texts part are) (All-nil IsTextOrNull)));
   counted = length-parts_more parts part ∙ ap (λ (n : ℕ). n + part.len) had.counted;
   small = small;
   many = omega (arith, length-append starts (count ∷ []), length-append parts (part ∷ []), had.many);
@@ -117,8 +121,9 @@ no_entry values (negsuc index) small wide = refl
 
 -- slots that were tested are indices
 pub tested_are_indices : (cells : IndicesAt) → IsLong cells.validity cells.len → nat_le (byte_width cells.index * cells.len) (length cells.values) ≡ true →
-    list_all (index_stands cells) (range_with_len 0 cells.len) ≡ true → AreIndices cells
-tested_are_indices cells long room all = record {
+    list_all (index_stands cells) (range_with_len 0 cells.len) ≡ true → All IsTextOrNull cells.dictionary → AreIndices cells
+tested_are_indices cells long room all texts = record {
+  texts = texts;
   validity = long;
   values = leb-true (byte_width cells.index * cells.len) (length cells.values) room;
   indices = λ place low. slots_at (index_stands cells) 0 cells.len place all (omega arith) (omega arith);
@@ -127,7 +132,7 @@ tested_are_indices cells long room all = record {
 -- the same of buffers that were read through slices
 pub read_are_indices : (index : IntegerType) (validity : Option (List Bool)) (values tested_values read_values : List ℕ) (dictionary read_dictionary : List Value) (len : ℕ) →
     tested_values ≡ values → read_values ≡ values → read_dictionary ≡ dictionary → IsLong validity len → nat_le (byte_width index * len) (length tested_values) ≡ true →
-    list_all (index_stands (record { index = index; validity = validity; values = read_values; dictionary = read_dictionary; len = len })) (range_with_len 0 len) ≡ true →
+    list_all (index_stands (record { index = index; validity = validity; values = read_values; dictionary = read_dictionary; len = len })) (range_with_len 0 len) ≡ true → All IsTextOrNull read_dictionary →
     AreIndices (record { index = index; validity = validity; values = values; dictionary = dictionary; len = len })
-read_are_indices index validity values tested_values read_values dictionary read_dictionary len same_tested same_values same_dictionary long room all =
-    tested_are_indices (record { index = index; validity = validity; values = values; dictionary = dictionary; len = len }) long (rw (← same_tested) room) (rw (← same_values, ← same_dictionary) all)
+read_are_indices index validity values tested_values read_values dictionary read_dictionary len same_tested same_values same_dictionary long room all texts =
+    tested_are_indices (record { index = index; validity = validity; values = values; dictionary = dictionary; len = len }) long (rw (← same_tested) room) (rw (← same_values, ← same_dictionary) all) (rw same_dictionary at texts)

@@ -4,4 +4,9 @@ mod TextSlots
 mod Entries
 mod Slices
 mod Rows
-mod Nulls
+mod NoNulls
+mod Packed
+mod Rest
+mod Appended
+mod NullSlots
+mod Lengths

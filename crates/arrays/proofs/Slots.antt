@@ -1,6 +1,7 @@
 -- A test of each slot, from the first on.
-use Rattle.std.proofs.Common.{◌≡◌, ◌<◌, ◌≤◌, ℕ, zero, suc, ◌+◌, ◌-◌, Bool, true, false, ◌||◌, ◌⊎◌, refl, arith, inl, inr}
+use Rattle.std.proofs.Common.{◌≡◌, ◌<◌, ◌≤◌, All, map, ℕ, zero, suc, ◌+◌, ◌-◌, Bool, true, false, ◌||◌, ◌⊎◌, refl, arith, inl, inr}
 use Rattle.std.specs.List.{list_all, range_with_len}
+use Rattle.std.proofs.lemmas.List.FromFn.{length-map-range_with_len, get_or-map-range_with_len}
 use Rattle.std.proofs.lemmas.Bool.{cases_lt, and_parts}
 
 -- what a disjunction says
@@ -31,3 +32,10 @@ slots_at stands first (suc len) place all low high =
       | inl lt ↦ slots_at stands (first + 1) len place parts.1 (omega arith) (omega arith)
       | inr le ↦ let same : place ≡ first = omega arith in rw same parts.0
     ]
+
+-- what holds of each slot holds of all values
+pub all_slots : {X : Type 0} (P : X → Type 0) (slot : ℕ → X) (first len : ℕ) → ((place : ℕ) → first ≤ place → place < first + len → P (slot place)) →
+    All P (map slot (range_with_len first len))
+all_slots P slot first len each = λ k d low.
+    let within : k < len = omega (arith, length-map-range_with_len slot first len) in
+    rw (get_or-map-range_with_len slot first len k (first + k) d within (omega arith)) (each (first + k) (omega arith) (omega arith))

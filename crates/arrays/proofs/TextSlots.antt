@@ -1,12 +1,13 @@
 -- What the texts of slots that stand are.
-use Rattle.std.proofs.Common.{◌≡◌, ℕ, ◌+◌, ◌*◌, ◌==◌, ◌&&◌, ◌||◌, not, Bool, true, false, List, Option, length, nat_le, inl, inr, arith, IsUtf8}
+use Rattle.std.proofs.Common.{◌≡◌, All, if◌then◌else◌, ℕ, ◌+◌, ◌*◌, ◌==◌, ◌&&◌, ◌||◌, not, Bool, true, false, List, Option, length, nat_le, inl, inr, arith, IsUtf8}
 use Rattle.std.specs.List.{list_all, range_with_len}
 use Rattle.std.specs.Str.{is_utf8}
 use Rattle.std.proofs.lemmas.Str.{IsUtf8-from_is_utf8}
 use Rattle.std.proofs.lemmas.Bool.{eqb-true, leb-true, and_parts}
+use Rattle.scan_base.specs.declared.value.Value.TheVariants.{Null, Text}
 use Rattle.arrays.specs.Validity.{is_valid, IsLong}
-use Rattle.arrays.specs.Texts.{TextsAt, text_at, is_offset, text_stands, texts_stand, lack_offsets, AreTexts}
-use Rattle.arrays.proofs.Slots.{one_holds, slots_at}
+use Rattle.arrays.specs.Texts.{TextsAt, texts_slot, texts_values, IsTextOrNull, text_at, is_offset, text_stands, texts_stand, lack_offsets, AreTexts}
+use Rattle.arrays.proofs.Slots.{one_holds, slots_at, all_slots}
 
 -- the text of a valid slot is UTF-8
 pub text_is_utf8 : (cells : TextsAt) (place : ℕ) → text_stands cells place ≡ true → is_valid cells.validity place ≡ true → IsUtf8 (text_at cells place)
@@ -42,3 +43,17 @@ pub read_are_texts : (validity : Option (List Bool)) (offsets bytes read_offsets
     AreTexts (record { validity = validity; offsets = offsets; bytes = bytes; len = len })
 read_are_texts validity offsets bytes read_offsets read_bytes len same_offsets same_bytes long tested =
     rw (← same_offsets, ← same_bytes) (tested_are_texts (record { validity = validity; offsets = read_offsets; bytes = read_bytes; len = len }) long tested)
+
+-- the value of a slot is a text or null
+slot_is_text : (cells : TextsAt) (place : ℕ) → text_stands cells place ≡ true → IsTextOrNull (texts_slot cells place)
+slot_is_text cells place stands =
+    let behind = and_parts _ _ stands in
+    let rest = and_parts _ _ behind.1 in
+    by (is_valid cells.validity place) rest.1
+  where
+    by : (valid : Bool) → (not valid || is_utf8 (text_at cells place)) ≡ true → IsTextOrNull (if valid then Text (text_at cells place) else Null)
+    by true e = e
+    by false e = tt
+
+pub values_are_texts : (cells : TextsAt) → AreTexts cells → All IsTextOrNull (texts_values cells)
+values_are_texts cells are = all_slots IsTextOrNull (texts_slot cells) 0 cells.len (λ place first low. slot_is_text cells place (are.texts place (omega arith)))

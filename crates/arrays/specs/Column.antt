@@ -3,7 +3,7 @@ use Rattle.std.specs.Prelude.{◌≡◌, ◌≤◌, ◌<◌, ℕ, ◌+◌, ◌-�
 use Rattle.std.specs.List.{range_with_len}
 use Rattle.scan_base.specs.declared.value.Value.{Value}
 use Rattle.arrays.specs.declared.layout.Layout.{Layout}
-use Rattle.arrays.specs.Layout.{layout_count, layout_slot}
+use Rattle.arrays.specs.Layout.{layout_count, layout_slot, IsLayout}
 
 -- a column: slots of any layout, and which of them are its own: `len` of them from `first` on
 pub record ColumnAt : Type 0 where
@@ -28,7 +28,8 @@ abbrev pub cut : ColumnAt → ℕ → ℕ → ColumnAt
 cut column from to = record column { first = column.first + from; len = to - from }
 
 -- the column's slots are slots of the layout, and each has a place that a machine's word can name
-pub record IsWithin (column : ColumnAt) : Type 0 where
+pub record IsColumn (column : ColumnAt) : Type 0 where
+  pub stands : IsLayout column.layout
   pub within : column.first + column.len ≤ layout_count column.layout
   pub small : column.first + column.len < 2 ^ 64
 

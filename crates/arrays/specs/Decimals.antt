@@ -5,7 +5,7 @@ use Rattle.scan_base.specs.declared.fault.Fault.TheVariants.{BadBatch}
 use Rattle.scan_base.specs.declared.value.Value.{Value}
 use Rattle.scan_base.specs.declared.value.Value.TheVariants.{Int}
 use Rattle.scan_base.specs.Reading.{◌>>=◌, demand}
-use Rattle.arrays.specs.Number.{decimal_at}
+use Rattle.arrays.specs.Number.{decimal_at, AreBytes}
 use Rattle.arrays.specs.Validity.{where_valid, validity_of, IsLong}
 
 pub record DecimalsAt : Type 0 where
@@ -28,3 +28,4 @@ decimals_of validity values len = do
 pub record AreDecimals (cells : DecimalsAt) : Type 0 where
   pub validity : IsLong cells.validity cells.len
   pub values : 16 * cells.len ≤ length cells.values
+  pub bytes : AreBytes cells.values

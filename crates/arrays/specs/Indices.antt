@@ -1,5 +1,5 @@
 -- Slots of indices into a dictionary.
-use Rattle.std.specs.Prelude.{◌≡◌, ◌≤◌, ◌<◌, ℕ, ◌*◌, ◌||◌, not, Bool, true, List, length, Option, is_some, unwrap_or, nat_le, Result, Ok}
+use Rattle.std.specs.Prelude.{◌≡◌, ◌≤◌, ◌<◌, ℕ, ◌*◌, ◌||◌, not, Bool, true, List, length, Option, is_some, unwrap_or, nat_le, All, Result, Ok}
 use Rattle.std.specs.List.{list_all, range_with_len}
 use Rattle.arrow_schema.specs.declared.data_type.IntegerType.{IntegerType}
 use Rattle.scan_base.specs.declared.fault.Fault.{Fault}
@@ -9,6 +9,7 @@ use Rattle.scan_base.specs.declared.value.Value.TheVariants.{Null}
 use Rattle.scan_base.specs.Reading.{◌>>=◌, demand}
 use Rattle.arrays.specs.Number.{byte_width, integer_at}
 use Rattle.arrays.specs.Validity.{is_valid, where_valid, validity_of, IsLong}
+use Rattle.arrays.specs.Texts.{IsTextOrNull}
 use Rattle.arrays.specs.Dictionary.{entry_at}
 
 pub record IndicesAt : Type 0 where
@@ -39,8 +40,9 @@ indices_of index validity values dictionary len = do
       (range_with_len 0 len)) BadBatch
   Ok (record { index = index; validity = bits; values = values; dictionary = dictionary; len = len })
 
--- the buffers have room for the slots, and each index stands
+-- the buffers have room for the slots, and each index stands; the dictionary has texts and nulls
 pub record AreIndices (cells : IndicesAt) : Type 0 where
   pub validity : IsLong cells.validity cells.len
   pub values : byte_width cells.index * cells.len ≤ length cells.values
   pub indices : (place : ℕ) → place < cells.len → index_stands cells place ≡ true
+  pub texts : All IsTextOrNull cells.dictionary

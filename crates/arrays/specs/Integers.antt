@@ -6,7 +6,7 @@ use Rattle.scan_base.specs.declared.fault.Fault.TheVariants.{BadBatch}
 use Rattle.scan_base.specs.declared.value.Value.{Value}
 use Rattle.scan_base.specs.declared.value.Value.TheVariants.{Int}
 use Rattle.scan_base.specs.Reading.{◌>>=◌, demand}
-use Rattle.arrays.specs.Number.{byte_width, integer_at}
+use Rattle.arrays.specs.Number.{byte_width, integer_at, AreBytes}
 use Rattle.arrays.specs.Validity.{where_valid, validity_of, IsLong}
 
 pub record IntegersAt : Type 0 where
@@ -30,3 +30,4 @@ integers_of integer validity values len = do
 pub record AreIntegers (cells : IntegersAt) : Type 0 where
   pub validity : IsLong cells.validity cells.len
   pub values : byte_width cells.integer * cells.len ≤ length cells.values
+  pub bytes : AreBytes cells.values

@@ -11,4 +11,5 @@ pub mod Column
 pub mod Batch
 pub mod Buffers
 pub mod Typed
+pub mod Nulls
 pub mod Written

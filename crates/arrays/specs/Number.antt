@@ -1,6 +1,6 @@
 -- Packed numbers, as Arrow's columnar format has them: of one width, the lowest byte of each first, those
 -- with a sign in two's complement.
-use Rattle.std.specs.Prelude.{ℕ, ◌*◌, ◌/◌, ℤ, pos, List}
+use Rattle.std.specs.Prelude.{ℕ, ◌*◌, ◌/◌, ◌<◌, ℤ, pos, List, slice_index}
 use Rattle.std.specs.Int.{w8, w16, w32, w64, w128, cast_signed}
 use Rattle.byteorder.specs.Endian.{little_from}
 use Rattle.arrow_schema.specs.declared.data_type.IntegerType.{IntegerType}
@@ -10,6 +10,10 @@ use Rattle.arrow_schema.specs.DataType.{bit_width}
 -- how many bytes a number has
 abbrev pub byte_width : IntegerType → ℕ
 byte_width integer = bit_width integer / 8
+
+-- each is the number of a byte
+abbrev pub AreBytes : List ℕ → Type 0
+AreBytes bytes = (k : ℕ) → slice_index bytes k < 256
 
 -- the bytes of element `place`, as a number without a sign
 unfoldable pub element_at : ℕ → List ℕ → ℕ → ℕ

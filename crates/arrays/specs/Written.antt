@@ -1,7 +1,7 @@
 -- How the slots of a column are written: the validity bits, where some slot is null, and the buffers behind
 -- them. A slice is written as its own slots alone.
-use Rattle.std.specs.Prelude.{◌≡◌, ℕ, ◌+◌, ◌*◌, ◌^◌, ◌==◌, ◌<◌, Bool, false, not, if◌then◌else◌, List, [], ◌∷◌, ◌++◌, length, map, take, drop, Option, Some, None, get_or, slice_range, Ok}
-use Rattle.std.specs.List.{flat_map, filter, range_with_len}
+use Rattle.std.specs.Prelude.{◌≡◌, ℕ, ◌+◌, ◌*◌, ◌^◌, ◌==◌, ◌<◌, Bool, false, if◌then◌else◌, List, [], ◌∷◌, ◌++◌, length, map, take, drop, Option, Some, None, get_or, slice_range, Ok}
+use Rattle.std.specs.List.{flat_map, range_with_len}
 use Rattle.std.specs.Int.{div_ceil}
 use Rattle.byteorder.specs.Endian.{little_bytes}
 use Rattle.scan_base.specs.declared.value.Value.{Value}
@@ -12,14 +12,10 @@ use Rattle.arrow_schema.specs.Answer.{answer_type}
 use Rattle.arrays.specs.declared.layout.Layout.{Layout}
 use Rattle.arrays.specs.declared.layout.Layout.TheVariants as layout
 use Rattle.arrays.specs.Number.{byte_width}
-use Rattle.arrays.specs.Validity.{is_null}
-use Rattle.arrays.specs.Column.{ColumnAt, IsWithin, values_of, whole}
+use Rattle.arrays.specs.Nulls.{null_count, valid_slots}
+use Rattle.arrays.specs.Column.{ColumnAt, IsColumn, values_of, whole}
 use Rattle.arrays.specs.Typed.{IsOfType}
 use Rattle.arrays.specs.Buffers.{values_layout, texts_layout}
-
--- how many slots are null
-abbrev pub null_count : ColumnAt → ℕ
-null_count column = length (filter is_null (values_of column))
 
 -- truth values as a number, the first of them in its lowest bit
 abbrev pub bits_number : List Bool → ℕ
@@ -34,7 +30,7 @@ packed_bits bits = map (λ k. bits_number (take 8 (drop (8 * k) bits))) (range_w
 -- the validity bits: none where no slot is null, so that each is valid
 unfoldable pub validity_written : ColumnAt → List ℕ
 validity_written column =
-    if null_count column == 0 then [] else packed_bits (map (λ value. not (is_null value)) (values_of column))
+    if null_count column == 0 then [] else packed_bits (valid_slots column)
 
 -- the bytes of so many packed elements of a width, the first of them at a place
 abbrev pub elements : ℕ → List ℕ → ℕ → ℕ → List ℕ
@@ -54,21 +50,33 @@ offsets_from at (value ∷ values) = little_bytes 4 at ++ offsets_from (at + len
 abbrev pub texts_joined : List Value → List ℕ
 texts_joined values = flat_map text_bytes values
 
--- the buffers behind the validity bits; until dictionary answers are built, indices are written as the texts
--- that they lead to
+-- The buffers behind the validity bits, of a column of a layout. Until dictionary answers are built, indices
+-- are written as the texts that they lead to.
+abbrev pub written_by : Layout → ColumnAt → List (List ℕ)
+written_by (layout.Integers cells) column = elements (byte_width cells.integer) cells.values column.first column.len ∷ []
+written_by (layout.Decimals cells) column = elements 16 cells.values column.first column.len ∷ []
+written_by (layout.Bools cells) column =
+    packed_bits (map (λ j. get_or cells.values j false) (range_with_len column.first column.len)) ∷ []
+written_by _ column = offsets_from 0 (values_of column) ∷ texts_joined (values_of column) ∷ []
+
 unfoldable pub values_written : ColumnAt → List (List ℕ)
-values_written column = of_layout column.layout
-  where
-    of_layout : Layout → List (List ℕ)
-    of_layout (layout.Integers cells) = elements (byte_width cells.integer) cells.values column.first column.len ∷ []
-    of_layout (layout.Decimals cells) = elements 16 cells.values column.first column.len ∷ []
-    of_layout (layout.Bools cells) =
-        packed_bits (map (λ j. get_or cells.values j false) (range_with_len column.first column.len)) ∷ []
-    of_layout _ = offsets_from 0 (values_of column) ∷ texts_joined (values_of column) ∷ []
+values_written column = written_by column.layout column
 
 -- all buffers of a column
 abbrev pub buffers_written : ColumnAt → List (List ℕ)
 buffers_written column = validity_written column ∷ values_written column
+
+-- buffer `index` of a column: of texts 2 is what their offsets cut
+abbrev pub buffer_of : ColumnAt → ℕ → List ℕ
+buffer_of column index = get_or (buffers_written column) index []
+
+-- Texts have fewer bytes than an offset can name. Any other buffer has no more than a machine's word counts.
+abbrev pub most_bytes : ℕ → ℕ
+most_bytes index = if index == 2 then 2 ^ 31 else 2 ^ 64
+
+-- the offsets of a column's texts can name each of their bytes
+abbrev pub HasShortTexts : ColumnAt → Type 0
+HasShortTexts column = length (texts_joined (values_of column)) < 2 ^ 31
 
 -- the validity bits as a reader takes them, with the null count beside them
 abbrev pub validity_read : ColumnAt → Option (List ℕ)
@@ -85,6 +93,6 @@ SaySlots _ _ _ _ _ = ⊥
 -- What is written of a column says its values, as a column of the type that its own is answered as. The texts
 -- of a column have fewer bytes than an offset can name.
 abbrev pub ColumnsReadBack : Type 0
-ColumnsReadBack = (data_type : DataType) (column : ColumnAt) → IsWithin column → IsOfType data_type column.layout →
-    length (texts_joined (values_of column)) < 2 ^ 31 →
+ColumnsReadBack = (data_type : DataType) (column : ColumnAt) → IsColumn column → IsOfType data_type column.layout →
+    HasShortTexts column →
     SaySlots (answer_type data_type) (validity_read column) (values_written column) column.len (values_of column)

@@ -2,7 +2,7 @@
 
 ghost use Rattle.std.specs.Prelude.{◌≡◌, IfOk, length};
 ghost use Rattle.scan_base.specs.Reading.{Gives};
-ghost use Rattle.arrays.specs.Bools.{bools_of};
+ghost use Rattle.arrays.specs.Bools.{bools_of, AreBools};
 
 use crate::cells::Cells;
 use crate::validity::{is_valid, read_validity, share};
@@ -89,7 +89,10 @@ impl Cells for Bools {
 
     ghost slot = { bools_slot };
 
-    fn len(&self) -> usize {
+    fn len(&self) -> usize
+        ensures count { result ≡ length (self.now).values }
+        ensures stands { AreBools self.now }
+    {
         self.values.len()
     }
 

@@ -3,7 +3,7 @@
 ghost use Rattle.std.specs.Prelude.{◌≡◌, ◌==◌, ◌≤◌, ◌<◌, ℕ, false, IfOk};
 ghost use Rattle.std.specs.List.{list_any};
 ghost use Rattle.arrays.specs.Validity.{is_null};
-ghost use Rattle.arrays.specs.Column.{cut, whole, slot_of, values_of};
+ghost use Rattle.arrays.specs.Column.{cut, whole, slot_of, values_of, IsColumn};
 
 use crate::cells::Cells;
 use crate::layout::Layout;
@@ -21,13 +21,13 @@ pub struct Column {
 }
 
 impl Model for Column {
-    ghost use Rattle.arrays.specs.Column.{ColumnAt, IsWithin};
+    ghost use Rattle.arrays.specs.Column.{ColumnAt, IsColumn};
 
     ghost Value = { ColumnAt };
 
     ghost view = { λ c. record { layout = c.layout; first = c.first; len = c.len } };
 
-    ghost invariant = { λ c. IsWithin (record { layout = c.layout; first = c.first; len = c.len }) };
+    ghost invariant = { λ c. IsColumn (record { layout = c.layout; first = c.first; len = c.len }) };
 }
 
 impl Column {
@@ -89,7 +89,10 @@ impl Cells for Column {
 
     ghost slot = { slot_of };
 
-    fn len(&self) -> usize {
+    fn len(&self) -> usize
+        ensures count { result ≡ (self.now).len }
+        ensures stands { IsColumn self.now }
+    {
         self.len
     }
 

@@ -2,10 +2,10 @@
 
 ghost use Rattle.std.specs.Prelude.{◌≡◌, IfOk};
 ghost use Rattle.scan_base.specs.Reading.{Gives};
-ghost use Rattle.arrays.specs.Decimals.{decimals_of};
+ghost use Rattle.arrays.specs.Decimals.{decimals_of, AreDecimals};
 
 use crate::cells::Cells;
-use crate::numbers::decimal_at;
+use crate::numbers::{decimal_at, has_decimals};
 use crate::validity::{is_valid, read_validity, share};
 use bitmap::Bits;
 use bytes::Bytes;
@@ -46,7 +46,7 @@ impl Decimals {
         ensures long { IfOk result (λ cells. cells.len ≡ len) }
     {
         let validity = read_validity(validity, len)?;
-        if values.len() / 16 < len {
+        if !has_decimals(values.as_slice(), len) {
             return Err(Fault::BadBatch);
         }
         Ok(Decimals {
@@ -93,7 +93,10 @@ impl Cells for Decimals {
 
     ghost slot = { decimals_slot };
 
-    fn len(&self) -> usize {
+    fn len(&self) -> usize
+        ensures count { result ≡ (self.now).len }
+        ensures stands { AreDecimals self.now }
+    {
         self.len
     }
 

@@ -1,10 +1,11 @@
 //! Dictionaries of texts.
 
-ghost use Rattle.std.specs.Prelude.{◌≡◌, ◌==◌, ◌≤◌, ◌<◌, ◌+◌, [], false, length, slice_get, slice_index, option_map, IfOk};
+ghost use Rattle.std.specs.Prelude.{◌≡◌, ◌==◌, ◌≤◌, ◌<◌, ◌+◌, [], false, All, length, slice_get, slice_index, option_map, IfOk};
 ghost use Rattle.scan_base.specs.Reading.{GivesUnlessMemory};
 ghost use Rattle.scan_base.specs.Value.{value_of};
 ghost use Rattle.std.specs.List.{list_any};
 ghost use Rattle.arrays.specs.Validity.{is_null};
+ghost use Rattle.arrays.specs.Texts.{IsTextOrNull};
 ghost use Rattle.arrays.specs.Dictionary.{extended_by};
 
 use crate::cells::Cells;
@@ -51,7 +52,8 @@ impl Dictionary {
 
     /// How many values there are.
     pub fn len(&self) -> usize
-        ensures { result ≡ length self.now }
+        ensures count { result ≡ length self.now }
+        ensures texts { All IsTextOrNull self.now }
     {
         self.len
     }

@@ -8,7 +8,7 @@ ghost use Rattle.scan_base.specs.Value.{value_of};
 ghost use Rattle.arrays.specs.Number.{byte_width};
 ghost use Rattle.arrays.specs.Validity.{IsLong};
 ghost use Rattle.arrays.specs.Dictionary.{entry_at};
-ghost use Rattle.arrays.specs.Indices.{indices_of, index_stands};
+ghost use Rattle.arrays.specs.Indices.{indices_of, index_stands, AreIndices};
 
 use crate::cells::Cells;
 use crate::dictionary::Dictionary;
@@ -136,6 +136,7 @@ impl Indices {
         if !has_elements(index, values.as_slice(), len) {
             return Err(Fault::BadBatch);
         }
+        let _values = dictionary.len();
         let parts = Parts {
             index,
             validity: &validity,
@@ -208,7 +209,10 @@ impl Cells for Indices {
 
     ghost slot = { indices_slot };
 
-    fn len(&self) -> usize {
+    fn len(&self) -> usize
+        ensures count { result ≡ (self.now).len }
+        ensures stands { AreIndices self.now }
+    {
         self.len
     }
 

@@ -2,7 +2,7 @@
 
 ghost use Rattle.std.specs.Prelude.{◌≡◌, IfOk};
 ghost use Rattle.scan_base.specs.Reading.{Gives};
-ghost use Rattle.arrays.specs.Integers.{integers_of};
+ghost use Rattle.arrays.specs.Integers.{integers_of, AreIntegers};
 
 use crate::cells::Cells;
 use crate::numbers::{has_elements, integer_at};
@@ -108,7 +108,10 @@ impl Cells for Integers {
 
     ghost slot = { integers_slot };
 
-    fn len(&self) -> usize {
+    fn len(&self) -> usize
+        ensures count { result ≡ (self.now).len }
+        ensures stands { AreIntegers self.now }
+    {
         self.len
     }
 

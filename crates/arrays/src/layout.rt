@@ -1,6 +1,7 @@
 //! The layouts that a column may have.
 
 ghost use Rattle.std.specs.Prelude.{◌≡◌, IfOk};
+ghost use Rattle.arrays.specs.Layout.{layout_count, IsLayout};
 
 use crate::bools::Bools;
 use crate::cells::Cells;
@@ -47,7 +48,10 @@ impl Cells for Layout {
 
     ghost slot = { layout_slot };
 
-    fn len(&self) -> usize {
+    fn len(&self) -> usize
+        ensures count { result ≡ layout_count self.now }
+        ensures stands { IsLayout self.now }
+    {
         match self {
             Layout::Integers(cells) => cells.len(),
             Layout::Decimals(cells) => cells.len(),

@@ -11,9 +11,12 @@ pub mod indices;
 pub mod integers;
 pub mod laws;
 pub mod layout;
+mod nulls;
 mod numbers;
+mod packing;
 pub mod texts;
 mod validity;
+mod written;
 
 pub use crate::batch::Batch;
 pub use crate::bools::Bools;

@@ -2,14 +2,15 @@
 
 ghost use Rattle.std.specs.Prelude.{◌≡◌, ◌≤◌, ◌+◌, ◌*◌, length, nat_le};
 ghost use Rattle.std.specs.Int.{w8, w16, w32, w64, cast_signed};
-ghost use Rattle.arrays.specs.Number.{byte_width, element_at, integer_at, decimal_at};
+ghost use Rattle.arrays.specs.Number.{byte_width, element_at, integer_at, decimal_at, AreBytes};
 
 use arrow_schema::IntegerType;
 use byteorder::{ByteOrder, LittleEndian};
 
 /// Whether the bytes are enough for so many numbers.
 pub(crate) fn has_elements(integer: IntegerType, values: &[u8], len: usize) -> bool
-    ensures { result ≡ nat_le (byte_width integer * len) (length values.now) }
+    ensures room { result ≡ nat_le (byte_width integer * len) (length values.now) }
+    ensures bytes { AreBytes values.now }
 {
     match integer {
         IntegerType::Int8 | IntegerType::UInt8 => len <= values.len(),
@@ -17,6 +18,14 @@ pub(crate) fn has_elements(integer: IntegerType, values: &[u8], len: usize) -> b
         IntegerType::Int32 | IntegerType::UInt32 => len <= values.len() / 4,
         IntegerType::Int64 | IntegerType::UInt64 => len <= values.len() / 8,
     }
+}
+
+/// Whether the bytes are enough for so many decimals.
+pub(crate) fn has_decimals(values: &[u8], len: usize) -> bool
+    ensures room { result ≡ nat_le (16 * len) (length values.now) }
+    ensures bytes { AreBytes values.now }
+{
+    len <= values.len() / 16
 }
 
 /// Element `place` of packed integers.

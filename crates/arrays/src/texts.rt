@@ -6,7 +6,7 @@ ghost use Rattle.scan_base.specs.Reading.{Gives};
 ghost use Rattle.arrays.specs.Number.{element_at};
 ghost use Rattle.std.specs.Str.{is_utf8};
 ghost use Rattle.arrays.specs.Validity.{IsLong};
-ghost use Rattle.arrays.specs.Texts.{texts_of, text_at, is_offset, text_stands, texts_stand, lack_offsets};
+ghost use Rattle.arrays.specs.Texts.{texts_of, text_at, is_offset, text_stands, texts_stand, lack_offsets, AreTexts};
 
 use crate::cells::Cells;
 use crate::numbers::uint32_at;
@@ -237,7 +237,10 @@ impl Cells for Texts {
 
     ghost slot = { texts_slot };
 
-    fn len(&self) -> usize {
+    fn len(&self) -> usize
+        ensures count { result ≡ (self.now).len }
+        ensures stands { AreTexts self.now }
+    {
         self.len
     }
 

@@ -1,5 +1,5 @@
 -- A schema that was written is read again.
-use Rattle.std.proofs.Common.{◌≡◌, ℕ, suc, ◌+◌, ◌*◌, ◌^◌, ◌≤◌, ◌<◌, ◌==◌, not, Bool, true, false, List, [], ◌∷◌, ◌++◌, length, map, Option, Some, None, option_map, Ok, refl, arith, ap, ◌∙◌, append-nil}
+use Rattle.std.proofs.Common.{◌≡◌, ℕ, suc, ◌+◌, ◌-◌, ◌*◌, ◌^◌, ◌≤◌, ◌<◌, ◌==◌, not, Bool, true, false, List, [], ◌∷◌, ◌++◌, length, map, Option, Some, None, option_map, Ok, refl, arith, ap, ◌∙◌, append-nil}
 use Rattle.std.proofs.lemmas.List.{length-append, length-map}
 use Rattle.std.specs.List.{AllByRecursion, range_with_len}
 use Rattle.std.proofs.lemmas.List.Elements.{recursion_from_All}
@@ -331,7 +331,7 @@ unfolding fields_of
 vector_again vector fields some few count are told =
     rw (lt-ltb 0 vector.count (omega arith), le-leb vector.count 64 (omega arith)) (ap (λ (n : ℕ). each (field_at vector) (range_with_len 0 n)) count ∙ fields_again vector 0 fields are told)
 
-short_vector : (fields : List Field) → length fields ≤ 64 → AllByRecursion IsField fields → length (tables_part (map field_part fields)).bytes ≤ 30000
+short_vector : (fields : List Field) → length fields ≤ 64 → AllByRecursion IsField fields → length (tables_part (map field_part fields)).bytes ≤ 2 ^ 15 - 1000
 short_vector fields few are =
     let a = short_tables (map field_part fields) in
     let b = short_fields fields are in
@@ -354,7 +354,7 @@ pub whole_schema : (schema : Schema) → IsWhole (schema_part schema)
 unfolding schema_part
 whole_schema schema = whole_table (schema_slots schema) (whole_schema_slots schema)
 
-pub short_schema : (schema : Schema) → IsSchema schema → length (schema_part schema).bytes < 2 ^ 19
+pub short_schema : (schema : Schema) → IsSchema schema → length (schema_part schema).bytes ≤ 2 ^ 15 - 500
 unfolding schema_part
 short_schema schema is =
     let a = short_vector schema.fields is.few (recursion_from_All IsField schema.fields is.fields) in
@@ -412,7 +412,7 @@ fits_children = let s = short_tables [] in omega arith
 pub ruleset writing = (fits_dictionary, fits_field, fits_fields, fits_schema, short_schema, given_again, fits_children)
 
 -- the message of a schema
-pub short_bytes : (schema : Schema) → IsSchema schema → length (schema_bytes schema) < 2 ^ 20
+pub short_bytes : (schema : Schema) → IsSchema schema → length (schema_bytes schema) ≤ 2 ^ 15
 unfolding buffer_of
 short_bytes schema is =
     let a = short_schema schema is in

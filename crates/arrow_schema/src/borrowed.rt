@@ -64,10 +64,7 @@ impl<'a> BorrowedField<'a> {
 }
 
 /// The same columns with their names copied.
-pub(crate) fn owned(
-    alloc: Global,
-    fields: &[BorrowedField<'_>],
-) -> Result<Items<Field>, AllocError>
+pub(crate) fn owned(alloc: Global, fields: &[BorrowedField<'_>]) -> Result<Items<Field>, AllocError>
     ensures { IfOk result (λ copy. copy ≡ fields.now) }
 {
     let mut copy = Items::new(alloc);

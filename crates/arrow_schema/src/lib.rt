@@ -16,6 +16,8 @@ pub use crate::schema::{Field, MAX_COLUMNS, MAX_NAME_BYTES, Schema};
 pub use crate::writing::{encapsulate, write_message, write_schema};
 
 #[cfg(test)]
+mod outside;
+#[cfg(test)]
 mod tests;
 #[cfg(test)]
 mod vectors;

@@ -1,9 +1,9 @@
 //! What is written.
 
-use crate::vectors::SAMPLE;
+use crate::vectors::{SAMPLE, TYPES};
 use crate::{
-    DataType, HeaderKind, IntegerType, encapsulate, read_message, read_schema, write_message,
-    write_schema,
+    DataType, DictionaryEncoding, Field, HeaderKind, IntegerType, encapsulate, read_message,
+    read_schema, write_message, write_schema,
 };
 use flatbuf::{Builder, Slot, Width};
 use std::test::Fail;
@@ -18,6 +18,36 @@ fn widths(rt: HostRuntime) {
     for (integer, bits, signed) in rows {
         assert_eq!(rt; (integer.bit_width(), integer.is_signed()), (bits, signed));
     }
+}
+
+fn parts(field: &Field) -> (&str, bool, DataType) {
+    (field.name.as_str(), field.nullable, field.data_type)
+}
+
+// The eighth column of all types is one of a dictionary.
+#[test]
+fn copied_and_answered(rt: HostRuntime) -> Result<(), Fail> {
+    let copy = read_schema(rt.alloc(), &TYPES)?.copy(rt.alloc())?;
+    let answer = copy.answered(rt.alloc())?;
+    let (id, index) = (7, IntegerType::Int32);
+    let encoded = (
+        "k",
+        false,
+        DataType::Dictionary(DictionaryEncoding { id, index }),
+    );
+    let (fields, answers) = (copy.fields.as_slice(), answer.fields.as_slice());
+    assert_eq!(rt; (fields.len(), answers.len()), (9, 9));
+    assert_eq!(rt;
+        (parts(&fields[5]), parts(&fields[7])),
+        (("b", true, DataType::Bool), encoded)
+    );
+    assert_eq!(rt;
+        (parts(&answers[5]), parts(&answers[7])),
+        (("b", true, DataType::Bool), ("k", false, DataType::Utf8))
+    );
+    assert_eq!(rt; parts(&fields[7].copy()?), encoded);
+    assert_eq!(rt; parts(&fields[7].answered()?), ("k", false, DataType::Utf8));
+    Ok(())
 }
 
 #[test]

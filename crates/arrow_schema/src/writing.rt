@@ -152,15 +152,15 @@ fn schema_block(alloc: Global, schema: &Schema) -> Result<Block, AllocError>
 }
 
 /// The buffer of a schema: a message of metadata version V5 with no body, which reads as this
-/// schema. It has a multiple of 8 bytes, and less than 2 to the 20. It fails with [`AllocError`]
-/// where memory is refused, and with no other error.
+/// schema. It has a multiple of 8 bytes, and at most 2 to the 15. It fails with [`AllocError`] where
+/// memory is refused, and with no other error.
 #[tactic(auto, using(crate::proofs::Again::written))]
 pub fn write_schema(alloc: Global, schema: &Schema) -> Result<Vec<u8>, AllocError>
     requires { IsSchema schema.now }
     ensures items { IfOk result (λ out. out.items ≡ schema_bytes schema.now) }
     ensures again { IfOk result (λ out. schema_of out.items ≡ Ok schema.now) }
     ensures whole { IfOk result (λ out. length out.items % 8 ≡ 0) }
-    ensures short { IfOk result (λ out. length out.items < 2 ^ 20) }
+    ensures short { IfOk result (λ out. length out.items ≤ 2 ^ 15) }
 {
     let header = schema_block(alloc, schema)?;
     write_message(alloc, HeaderKind::Schema, &header, 0)

@@ -73,6 +73,14 @@ impl Bits {
         count_bits(self.bytes.as_slice(), self.first, self.len)
     }
 
+    /// How many of the `len` bits from `from` on are 1. It takes no memory.
+    pub fn count_range(&self, from: usize, len: usize) -> usize
+        requires { from + len ≤ length self.now }
+        ensures { result ≡ count_by (λ bit. bit) (take len (drop from self.now)) }
+    {
+        count_bits(self.bytes.as_slice(), self.first + from, len)
+    }
+
     /// The 64 bits from `from` on as a word, whose lowest bit is the first of them.
     pub fn word(&self, from: usize) -> u64
         requires { from + 64 ≤ length self.now }

@@ -161,9 +161,13 @@ wide_after known (x ∷ xs) end rows p =
     let k = keeps known x p.0 p.2 in
     let q : Follows (Some k.after) xs end p.1 = subst (λ (s : State). Follows s xs end p.1) k.state p.4 in
     let rest = wide_after k.after xs end p.1 q in
-    let behind : AreWide (length known.schema.fields) p.1 = subst (λ (s : Schema). AreWide (length s.fields) p.1) k.schema rest.3 in
-    (rest.0, rest.1, rest.2 ∙ k.schema, subst (AreWide (length known.schema.fields)) (sym p.3)
-        (All-append (λ (row : List Value). length row ≡ length known.schema.fields) (rows_in (p.0).batch) p.1 (added_wide (p.0).batch known k.batch) behind))
+    let behind : AreWide (length known.schema.fields) p.1 = subst (λ (s : Schema). AreWide (length s.fields) p.1) k.schema rest.3 in (
+      rest.0,
+      rest.1,
+      rest.2 ∙ k.schema,
+      subst (AreWide (length known.schema.fields)) (sym p.3)
+          (All-append (λ (row : List Value). length row ≡ length known.schema.fields) (rows_in (p.0).batch) p.1 (added_wide (p.0).batch known k.batch) behind),
+    )
 
 -- each row that messages say has a value for each field of their schema
 pub wide : RowsFitSchema

@@ -12,3 +12,10 @@ pub use crate::reader::Reader;
 pub use crate::writer::{
     WrittenMessage, append_body, body_length, write_batch, write_batch_header,
 };
+
+#[cfg(test)]
+mod lies;
+#[cfg(test)]
+mod tests;
+#[cfg(test)]
+mod vectors;

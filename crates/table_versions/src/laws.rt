@@ -1,7 +1,7 @@
 //! What holds of every database, log and table. Each law is a function whose contract says it.
 
 ghost use Rattle.table_versions.specs.Laws.{TablesAreFound, LogsGrow, LogsStay, NamesAreInOrder};
-ghost use Rattle.table_versions.specs.Laws.{AcceptedPutsAreFew};
+ghost use Rattle.table_versions.specs.Laws.{LogsHoldAcceptedPuts, AcceptedPutsAreFew};
 ghost use Rattle.table_versions.specs.Standing.{BatchesAreRows};
 
 use arrays::laws::batch_slices_keep_rows;
@@ -17,6 +17,12 @@ pub fn tables_are_found()
 pub fn logs_grow()
     ensures accepted { LogsGrow }
     ensures refused { LogsStay }
+{}
+
+/// What is logged is a log: each of its puts was accepted by the version before it, and gives the version
+/// behind it.
+pub fn logs_hold_accepted_puts()
+    ensures { LogsHoldAcceptedPuts }
 {}
 
 /// An accepted put has at most 16,777,216 rows.

@@ -6,7 +6,10 @@ ghost use Rattle.arrow_schema.specs.declared.data_type.IntegerType.TheVariants.{
 ghost use Rattle.arrow_schema.specs.Schema.{IsField, IsSchema, IsType};
 ghost use Rattle.arrays.specs.Typed.{IsOfType};
 
-use crate::laws::{batches_are_rows, logs_grow, names_are_in_order, tables_are_found};
+use crate::laws::{
+    accepted_puts_are_few, batches_are_rows, logs_grow, logs_hold_accepted_puts,
+    names_are_in_order, tables_are_found,
+};
 use crate::{
     CatalogVersion, IfExists, IfNotExist, MAX_COMMITS, MAX_NAME_BYTES, MAX_ROWS, MAX_TABLES,
     MAX_TEXT_BYTES, Put, Snapshot, TableVersion, apply,
@@ -455,6 +458,8 @@ fn other_dictionaries(rt: HostRuntime) -> Result<(), Fail> {
 fn laws(_rt: HostRuntime) {
     tables_are_found();
     logs_grow();
+    logs_hold_accepted_puts();
+    accepted_puts_are_few();
     names_are_in_order();
     batches_are_rows();
 }

@@ -1,6 +1,7 @@
 //! Schemas in several layouts, cut short, and with a byte changed.
 
 use super::*;
+use crate::outside::{BAD_FLATBUFFER, LIMIT_REACHED, UNSUPPORTED_ARROW, taken};
 use crate::vectors::{COMPILED, SAMPLE, TURNED, TYPES};
 use std::test::Fail;
 
@@ -45,8 +46,7 @@ fn every_type(rt: HostRuntime) -> Result<(), Fail> {
         ("k", false, dictionary(7, IntegerType::Int32)),
         ("l", false, dictionary(u64::MAX, IntegerType::Int8)),
     ];
-    let message = read_message(&TYPES)?;
-    let schema = schema_of_all_types(rt.alloc(), &message)?;
+    let schema = read_schema(rt.alloc(), &TYPES)?;
     let fields = schema.fields.as_slice();
     assert_eq!(rt; fields.len(), wanted.len());
     for (field, wanted) in fields.iter().zip(wanted) {
@@ -55,10 +55,6 @@ fn every_type(rt: HostRuntime) -> Result<(), Fail> {
             wanted
         );
     }
-    assert_eq!(rt;
-        read_schema(rt.alloc(), &TYPES).err(),
-        Some(Fault::UnsupportedArrow)
-    );
     Ok(())
 }
 
@@ -133,4 +129,55 @@ fn every_byte(rt: HostRuntime) -> Result<(), Fail> {
         }
     }
     Ok(())
+}
+
+// A line for each column.
+fn lines(alloc: Global, schema: &Schema) -> Result<String, Fail> {
+    let mut lines = String::new(alloc);
+    for field in schema.fields.as_slice() {
+        let (name, nullable) = (field.name.as_str(), field.nullable);
+        let line = format!(in alloc; "{name} {:?} {nullable}\n", field.data_type)?;
+        lines.push_str(&line)?;
+    }
+    Ok(lines)
+}
+
+#[test]
+fn schemas_of_others(rt: HostRuntime) -> Result<(), Fail> {
+    for (bytes, columns) in taken() {
+        let schema = read_schema(rt.alloc(), bytes)?;
+        assert_eq!(rt; lines(rt.alloc(), &schema)?.as_str(), *columns);
+    }
+    Ok(())
+}
+
+fn all_refused(alloc: Global, schemas: &[&[u8]], fault: Fault) -> bool {
+    schemas
+        .iter()
+        .all(|bytes| read_schema(alloc, bytes).err() == Some(fault))
+}
+
+#[test]
+fn refused_schemas_of_others(rt: HostRuntime) {
+    let alloc = rt.alloc();
+    assert!(rt; all_refused(alloc, &BAD_FLATBUFFER, Fault::BadFlatbuffer));
+    assert!(rt; all_refused(alloc, &UNSUPPORTED_ARROW, Fault::UnsupportedArrow));
+    assert!(rt; all_refused(alloc, &LIMIT_REACHED, Fault::LimitReached));
+}
+
+// Each byte of a schema with texts and dictionaries set to each value: every call returns.
+#[test]
+fn every_byte_of_every_type(rt: HostRuntime) {
+    for place in 0..TYPES.len() {
+        let mut bytes = TYPES;
+        for byte in 0..=255 {
+            bytes[place] = byte;
+            let known = match read_schema(rt.alloc(), &bytes) {
+                Ok(schema) => !schema.fields.is_empty(),
+                Err(Fault::BadFlatbuffer | Fault::UnsupportedArrow | Fault::LimitReached) => true,
+                Err(_) => false,
+            };
+            assert!(rt; known, "byte {place} is {byte}");
+        }
+    }
 }

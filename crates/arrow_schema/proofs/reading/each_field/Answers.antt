@@ -21,8 +21,7 @@ loop-index-preserved c =
     let more = numbers_more (field_at v) fields c.loop-index.index v.count c.in_ok-field_at.field-0 (omega arith) c.in_ok-field_at.ensures.value in
     let long = length-append fields one in
     let count = c.loop-index.invariant.1 in
-    let last = All-cons IsField c.in_ok-field_at.field-0 [] c.in_ok-field_at.ensures.valid (All-nil IsField) in
-    (
+    let last = All-cons IsField c.in_ok-field_at.field-0 [] c.in_ok-field_at.ensures.valid (All-nil IsField) in (
       rw pushed (sym more ∙ c.loop-index.invariant.0),
       rw pushed (omega arith),
       subst (All IsField) (sym pushed) (All-append IsField fields one c.loop-index.invariant.2 last),

@@ -1,6 +1,6 @@
 use Rattle.std.proofs.Common.{◌+◌, arith}
 use Rattle.arrays.specs.Column.{ColumnAt, slot_of}
-use Rattle.arrays.proofs.Nulls.{none_listed}
+use Rattle.arrays.proofs.NoNulls.{none_listed}
 use Rattle.arrays.proofs.column.ColumnCells.may_have_nulls.Goals as goal
 
 pub returns-clause-values : goal.returns-clause-values

@@ -1,5 +1,5 @@
 use Rattle.std.proofs.Common.{arith}
-use Rattle.arrays.proofs.Nulls.{none_through}
+use Rattle.arrays.proofs.NoNulls.{none_through}
 use Rattle.arrays.proofs.dictionary.Dictionary.may_have_nulls.Goals as goal
 
 pub loop-part-preserved : goal.loop-part-preserved

@@ -5,6 +5,6 @@ use Rattle.arrays.proofs.indices.Indices.new.Goals as goal
 
 pub invariant_of-result : goal.invariant_of-result
 invariant_of-result c =
-    read_are_indices c.args.index c.in_ok-validity.validity c.args.values c.as_slice.result.now c.as_slice-2.result.now (arc_value c.args.dictionary) c.deref.result.now c.args.len
-    c.as_slice.ensures c.as_slice-2.ensures c.deref.ensures c.in_ok-validity.ensures.long (sym c.has_elements.ensures ∙ c.if-not-has_elements.false)
-    (sym c.slots_stand.ensures ∙ c.if-not-slots_stand.false)
+    read_are_indices c.args.index c.in_ok-validity.validity c.args.values c.as_slice.result.now c.as_slice-2.result.now (arc_value c.args.dictionary) c.deref-2.result.now c.args.len
+    c.as_slice.ensures c.as_slice-2.ensures c.deref-2.ensures c.in_ok-validity.ensures.long (sym c.has_elements.ensures.room ∙ c.if-not-has_elements.false)
+    (sym c.slots_stand.ensures ∙ c.if-not-slots_stand.false) (rw (c.deref.ensures ∙ sym c.deref-2.ensures) at c.len-values.ensures.texts)

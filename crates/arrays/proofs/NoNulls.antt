@@ -45,7 +45,7 @@ none_through parts i part before low is none =
     rw (through, parts_more (take i parts) part, list_any-append is_null (parts_values (take i parts)) (texts_values part ++ []), list_any-append is_null (texts_values part) [], before, last) refl
 
 -- nor is the one that an index leads to
-led_to : (dictionary : List Value) (index : ℤ) → list_any is_null dictionary ≡ false → is_some (entry_at dictionary index) ≡ true →
+pub led_to : (dictionary : List Value) (index : ℤ) → list_any is_null dictionary ≡ false → is_some (entry_at dictionary index) ≡ true →
     is_null (unwrap_or (entry_at dictionary index) Null) ≡ false
 led_to dictionary (pos index) none some = none_at dictionary index none some
 led_to dictionary (negsuc index) none some = absurd (let no : ⊥ = cc in no)

@@ -1,0 +1,12 @@
+use Rattle.std.proofs.Common.{◌≡◌, ◌+◌, ◌≤◌, length}
+use Rattle.arrays.proofs.Rest.{rest_of}
+use Rattle.std.specs.List.{filter}
+use Rattle.arrays.specs.Validity.{is_null}
+use Rattle.arrays.specs.Nulls.{null_count}
+use Rattle.arrays.proofs.column.Column.null_values.Given as goal
+
+abbrev pub invariant-loop-place : goal.invariant-loop-place
+invariant-loop-place l = record {
+  few : l.count ≤ l.place;
+  all : l.count + length (filter is_null (rest_of l.self l.place)) ≡ null_count l.self;
+}

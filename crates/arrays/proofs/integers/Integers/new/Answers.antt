@@ -1,0 +1,14 @@
+use Rattle.std.proofs.Common.{◌*◌, ◌≤◌, ◌∙◌, length, sym}
+use Rattle.std.proofs.lemmas.Bool.{leb-true}
+use Rattle.arrays.specs.Number.{byte_width}
+use Rattle.arrays.proofs.integers.Integers.new.Goals as goal
+
+pub invariant_of-result : goal.invariant_of-result
+invariant_of-result c =
+    let room : byte_width c.args.integer * c.args.len ≤ length c.as_slice.result.now =
+    leb-true (byte_width c.args.integer * c.args.len) (length c.as_slice.result.now) (sym c.has_elements.ensures.room ∙ c.if-not-has_elements.false) in
+    record {
+      validity = c.in_ok-validity.ensures.long;
+      values = rw c.as_slice.ensures at room;
+      bytes = rw c.as_slice.ensures at c.has_elements.ensures.bytes;
+    }
