@@ -1,16 +1,17 @@
 -- An answer as it is written.
-use Rattle.std.proofs.Common.{◌≡◌, ℕ, ◌+◌, ◌<◌, List, [], ◌∷◌, ◌++◌, length, map, take, drop, get_or, Option, sym, ap, ◌∙◌, append_assoc, append-nil}
+use Rattle.std.proofs.Common.{◌≡◌, ℕ, ◌+◌, ◌<◌, ◌≤◌, List, [], ◌∷◌, ◌++◌, length, map, take, drop, get_or, Option, sym, ap, subst, ◌∙◌, append_assoc, append-nil}
 use Rattle.std.specs.List.{flat_map}
 use Rattle.std.specs.Io.KnownBytes.{Appends}
 use Rattle.std.specs.Prelude.{Result}
 use Rattle.std.proofs.lemmas.Grind.{flat_map-append}
 use Rattle.std.proofs.lemmas.List.{map-append, take-append-drop, drop_more}
+use Rattle.std.proofs.lemmas.List.Elements.{All-get_or}
 use Rattle.grpc_frame.specs.declared.record.Record.{Record}
 use Rattle.grpc_frame.specs.declared.record.Record.TheVariants.{Message}
 use Rattle.grpc_frame.specs.Records.{spelling}
 use Rattle.grpc_frame.specs.Ends.{AppendsBeginning, Writes}
 use Rattle.grpc_frame.proofs.Growing.{beginning_of_head, beginning_of_content, content_behind}
-use Rattle.flight_core.specs.Payloads.{Payload}
+use Rattle.flight_core.specs.Payloads.{Payload, FitMessages}
 
 -- the bytes of messages, and of an answer
 
@@ -56,3 +57,9 @@ pub status_written : {A E : Type 0} (r : Result A E) (a b c : Option (List ℕ))
     → Appends a b (messages_bytes payloads) → Writes r b c (spelling status) → Writes r a c (answer_bytes payloads status)
 status_written r a b c payloads status wrote last =
     rw (status_last payloads status) (content_behind r a b c (messages_bytes payloads) (spelling status) wrote last)
+
+-- each payload fits
+pub each_fits : (payloads : List Payload) (i : ℕ) (payload : Payload) → i < length payloads → payload ≡ get_or payloads i payload → FitMessages payloads → length payload ≤ 16777216
+unfolding FitMessages
+each_fits payloads i payload inside is fits =
+    subst (λ (p : Payload). length p ≤ 16777216) (sym is) (All-get_or (λ (p : Payload). length p ≤ 16777216) payloads i payload inside fits)

@@ -1,5 +1,5 @@
 -- What a server owes for the bytes that came, and what it did with a connection.
-use Rattle.std.specs.Prelude.{◌≡◌, ◌≢◌, ◌⊎◌, ℕ, ◌+◌, ◌≤◌, List, [], ◌++◌, length, All, Option, Some, Result, Ok, Err}
+use Rattle.std.specs.Prelude.{◌≡◌, ◌≢◌, ◌⊎◌, ℕ, ◌+◌, List, [], ◌++◌, All, Option, Some, Result, Ok, Err}
 use Rattle.std.specs.List.{flat_map}
 use Rattle.std.specs.Io.KnownBytes.{Appends, Consumes, IsAtEnd}
 use Rattle.scan_base.specs.declared.fault.Fault.{Fault}
@@ -11,6 +11,7 @@ use Rattle.grpc_frame.specs.Records.{spelling, IsRecord, Received, Ending, nothi
 use Rattle.grpc_frame.specs.Calls.{status_of}
 use Rattle.grpc_frame.specs.Ends.{AppendsBeginning}
 use Rattle.flight_core.specs.declared.event.Reply.{Reply}
+use Rattle.flight_core.specs.Payloads.{FitMessages}
 use Rattle.flight_core.specs.Machine.{Log}
 use Rattle.flight_calls.specs.declared.call.Call.{Call}
 use Rattle.flight_calls.specs.Calls.{call_records, answer_records, Answers}
@@ -25,7 +26,7 @@ answers_bytes replies = flat_map spelling (flat_map answer_records replies)
 
 -- each payload fits a Message
 abbrev pub FitsMessages : Reply → Type 0
-FitsMessages reply = All (λ payload. length payload ≤ 16777216) reply.payloads.items
+FitsMessages reply = FitMessages reply.payloads.items
 
 -- What came is whole calls and then this rest, and the replies answer the calls, one each, from one log to
 -- the other.

@@ -1,6 +1,6 @@
 //! Answering a call.
 
-ghost use Rattle.std.specs.Prelude.{◌≡◌, ◌≢◌, ◌↔◌, ◌<◌, ◌≤◌, ◌∷◌, [], All, Some, IsTrue, length, MatchOption};
+ghost use Rattle.std.specs.Prelude.{◌≡◌, ◌≢◌, ◌<◌, ◌∷◌, [], Some, length, MatchOption};
 ghost use Rattle.std.specs.List.{flat_map};
 ghost use Rattle.grpc_frame.specs.Records.{spelling};
 ghost use Rattle.grpc_frame.specs.Ends.{CountsFailure, FailsByTransport, Writes};
@@ -11,7 +11,7 @@ ghost use Rattle.flight_calls.specs.Owed.{FitsMessages};
 use crate::call::{Call, Method};
 use bytes::Bytes;
 use flight_core::{Event, Plain, Reply, step};
-use grpc_frame::{MAX_MESSAGE_LEN, Output, write_message, write_status};
+use grpc_frame::{Output, write_message, write_status};
 use scan_base::Fault;
 use std::alloc::Global;
 
@@ -63,21 +63,13 @@ fn event_of(call: Call) -> Result<Event, Fault>
 // A reply of this fault alone.
 fn refusal(alloc: Global, fault: Fault) -> Reply
     ensures payloads { result.payloads.items ≡ [] }
+    ensures short { FitsMessages result }
     ensures fault { result.fault ≡ Some fault }
 {
     Reply {
         payloads: Vec::new(alloc),
         fault: Some(fault),
     }
-}
-
-// Whether each payload fits a Message.
-fn fit_messages(payloads: &[Bytes]) -> bool
-    ensures { IsTrue result ↔ All (λ payload. length payload ≤ 16777216) payloads.now }
-{
-    payloads
-        .iter()
-        .all(|payload| payload.len() <= MAX_MESSAGE_LEN)
 }
 
 /// The reply to a call, and a step of the core where the call is one: F3 for another path, F4 where a fetch has
@@ -90,12 +82,7 @@ pub fn answer(alloc: Global, plain: &mut Plain, call: Call) -> Reply
         Ok(event) => event,
         Err(fault) => return refusal(alloc, fault),
     };
-    let reply = step(alloc, plain, &event);
-    if fit_messages(&reply.payloads) {
-        return reply;
-    }
-    // The core cuts its batches far shorter than a Message, and the answer to a put is short.
-    refusal(alloc, Fault::OutOfMemory)
+    step(alloc, plain, &event)
 }
 
 /// Writes an answer: each payload in a Message, of which no copy is made, and then the Status.

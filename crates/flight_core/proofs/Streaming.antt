@@ -43,7 +43,7 @@ carried_back payload header body e long wide = record {
 
 -- the payload of a schema
 pub schema_said : (payload : List ℕ) (schema : Schema) → IsSchema schema
-    → payload ≡ data_bytes None (record { data_header = schema_bytes schema; data_body = [] }) → length (schema_bytes schema) < 2 ^ 20 → SaysSchema payload schema
+    → payload ≡ data_bytes None (record { data_header = schema_bytes schema; data_body = [] }) → length (schema_bytes schema) ≤ 2 ^ 15 → SaysSchema payload schema
 unfolding schema_of schema_message_of schema_sent news_of body_claimed
 schema_said payload schema is e short =
     let bytes = schema_bytes schema in

@@ -4,6 +4,7 @@
 ghost use Rattle.std.specs.Prelude.{◌<◌};
 
 use crate::pipe::pipe;
+use arrays::Cells;
 use arrow_schema::{DataType, IntegerType};
 use flight_proto::FlightData;
 use grpc_frame::{Inbox, MemoryInput, MemoryOutput, Record};

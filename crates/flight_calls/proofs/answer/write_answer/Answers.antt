@@ -1,7 +1,12 @@
 use Rattle.std.proofs.Common.{rules, take_all}
 use Rattle.std.proofs.lemmas.Result.{err_from_is_err_and}
-use Rattle.flight_calls.proofs.Writing.{message_begun, status_written}
+use Rattle.flight_calls.proofs.Writing.{message_begun, status_written, each_fits}
 use Rattle.flight_calls.proofs.answer.write_answer.Goals as goal
+
+pub write_message-requires-clause-short : goal.write_message-requires-clause-short
+write_message-requires-clause-short g c =
+    let payloads = c.deref-payload-items.ensures.value in
+    rw c.as_slice.ensures (each_fits _ c.loop-payload.payload-index c.payload-item.result (search rules) c.payload-item.is (rw payloads c.requires.short))
 
 pub returns-in_err-write_message-clause-bytes : goal.returns-in_err-write_message-clause-bytes
 returns-in_err-write_message-clause-bytes g c =
