@@ -9,6 +9,9 @@ use scan_base::{Fault, ValueRef};
 use std::alloc::{AllocError, Global};
 use std::test::Fail;
 
+mod types;
+mod vectors;
+
 // The first FlightData of a put that creates table `t`: its command and the header of a schema of one
 // nullable Int64 column `a`. Its descriptor begins at byte 2, and the ingest's options at byte 80.
 static FIRST: [u8; 199] = [
