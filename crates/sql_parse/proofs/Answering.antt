@@ -16,7 +16,7 @@ use Rattle.sql_parse.specs.Limits.{passes}
 use Rattle.sql_parse.specs.Parse.{IsSentence, IsShallow, Accepts, is_left_out_whole, fault_at, Refuses}
 use Rattle.sql_parse.specs.Productions.{query}
 use Rattle.sql_parse.specs.Factored.{factor}
-use Rattle.sql_parse.specs.Sentence.{Sentence}
+use Rattle.sql_query.specs.Sentence.{Sentence}
 use Rattle.sql_parse.specs.Told.{Told, checked, refused}
 use Rattle.sql_parse.specs.Parse.{Answered, Parsed}
 use Rattle.sql_text.specs.Reading.{tokens_in}

@@ -5,10 +5,10 @@ use Rattle.sql_text.specs.declared.symbol.Symbol.TheVariants as symbol
 use Rattle.grammar.specs.Rule.{many}
 use Rattle.grammar.specs.Reading.{reads, read, begins, starts, well_made, nullable, is_flat}
 use Rattle.grammar.proofs.Deep.{flat_alike}
-use Rattle.sql_parse.specs.declared.tree.ColumnName.{ColumnName}
-use Rattle.sql_parse.specs.declared.tree.SelectItem.{SelectItem}
-use Rattle.sql_parse.specs.declared.tree.Equality.{Equality}
-use Rattle.sql_parse.specs.declared.tree.Join.{Join}
+use Rattle.sql_query.specs.declared.query.ColumnName.{ColumnName}
+use Rattle.sql_query.specs.declared.query.SelectItem.{SelectItem}
+use Rattle.sql_query.specs.declared.query.Equality.{Equality}
+use Rattle.sql_query.specs.declared.query.Join.{Join}
 use Rattle.sql_parse.specs.Tokens.{Mark, is_word, is_symbol, is_name, same_word, same_symbol}
 use Rattle.sql_parse.specs.Answers.{seen, ◌>>=◌}
 use Rattle.sql_parse.specs.Productions.{Of, name, column, alias, selection, item, list, place, equal, join, group, filter, source, ending, query, maybe, a_word, a_symbol, ◌⊳◌}

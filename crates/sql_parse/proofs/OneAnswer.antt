@@ -10,7 +10,7 @@ use Rattle.sql_parse.specs.Factored.{factor}
 use Rattle.sql_parse.specs.Limits.{counted, is_past, is_long_name, passes_from, passes}
 use Rattle.sql_parse.specs.Parse.{IsSentence, IsShallow, Accepts, PassesLimit, HasOffender, is_left_out_whole, fault_at, Refuses}
 use Rattle.sql_parse.specs.Productions.{begins_factor, follows_factor, query}
-use Rattle.sql_parse.specs.Sentence.{Sentence}
+use Rattle.sql_query.specs.Sentence.{Sentence}
 use Rattle.sql_parse.specs.Tokens.{Mark, kinds}
 use Rattle.sql_parse.proofs.Conditions.{one_way, made_well, guarded, filled, begins_so, query_made_well, query_one_way}
 use Rattle.sql_parse.proofs.Everywhere.{covered, apart}

@@ -12,7 +12,7 @@ use Rattle.scan_base.specs.declared.predicate.Operand.{Operand}
 use Rattle.scan_base.specs.Predicate.{conjunction, disjunction, negation}
 use Rattle.grammar.specs.Rule.{many, make}
 use Rattle.grammar.proofs.Deep.{flat_alike}
-use Rattle.sql_parse.specs.declared.tree.ColumnName.{ColumnName}
+use Rattle.sql_query.specs.declared.query.ColumnName.{ColumnName}
 use Rattle.sql_parse.specs.Productions.{Condition, name, column, minus, digits, number, string, operand, compare, negated, truth_value, conj, pred, inner, a_word, a_symbol, ◌⊳◌, ◌⊲◌}
 use Rattle.sql_parse.specs.Factored.{compared, nulled, ranged, among, tail, forms, primary, test, factor}
 use Rattle.sql_parse.specs.Steps.{at, token_at, name_at, column_at, minus_at, numbered, digits_at, number_at, operand_at, compare_at, negated_at, truth_at, compared_at, nulled_at, ranged_at, operands_at, among_at, tail_at, factor_at, ands_at, conj_at, ors_at, pred_at, inside_at, primary_at, test_at, negation_at}

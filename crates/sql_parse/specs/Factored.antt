@@ -5,7 +5,7 @@ use Rattle.scan_base.specs.Predicate.{comparing, between, membership, null_test}
 use Rattle.sql_text.specs.declared.word.Keyword.TheVariants as word
 use Rattle.sql_text.specs.declared.symbol.Symbol.TheVariants as symbol
 use Rattle.grammar.specs.Rule.{both, either, make}
-use Rattle.sql_parse.specs.declared.tree.ColumnName.{ColumnName}
+use Rattle.sql_query.specs.declared.query.ColumnName.{ColumnName}
 use Rattle.sql_parse.specs.Productions.{Condition, Of, a_word, a_symbol, ◌⊳◌, ◌⊲◌, listed, operand, compare, negated, primary_of, test_of, factor_of}
 
 abbrev pub Value : Type 0

@@ -2,7 +2,7 @@
 use Rattle.std.specs.Prelude.{◌≡◌, ℕ, List}
 use Rattle.scan_base.specs.declared.fault.Fault.{Fault}
 use Rattle.sql_parse.specs.Parse.{IsSentence, Accepts, Refuses}
-use Rattle.sql_parse.specs.Sentence.{Sentence}
+use Rattle.sql_query.specs.Sentence.{Sentence}
 use Rattle.sql_parse.specs.Tokens.{Mark}
 
 abbrev pub AtMostOneSentence : Type 0

@@ -16,16 +16,16 @@ use Rattle.sql_text.specs.declared.symbol.Symbol.{Symbol}
 use Rattle.sql_text.specs.declared.symbol.Symbol.TheVariants as symbol
 use Rattle.sql_text.specs.declared.token.TokenKind.{TokenKind}
 use Rattle.grammar.specs.Rule.{Rule, one, empty, both, either, many, make, opened, again}
-use Rattle.sql_parse.specs.declared.tree.ColumnName.{ColumnName}
-use Rattle.sql_parse.specs.declared.tree.Selected.{Selected}
-use Rattle.sql_parse.specs.declared.tree.Selected.TheVariants as selected
-use Rattle.sql_parse.specs.declared.tree.SelectItem.{SelectItem}
-use Rattle.sql_parse.specs.declared.tree.SelectList.{SelectList}
-use Rattle.sql_parse.specs.declared.tree.SelectList.TheVariants as select
-use Rattle.sql_parse.specs.declared.tree.Place.{Place}
-use Rattle.sql_parse.specs.declared.tree.Equality.{Equality}
-use Rattle.sql_parse.specs.declared.tree.Join.{Join}
-use Rattle.sql_parse.specs.Sentence.{Sentence}
+use Rattle.sql_query.specs.declared.query.ColumnName.{ColumnName}
+use Rattle.sql_query.specs.declared.query.Expression.{Expression}
+use Rattle.sql_query.specs.declared.query.Expression.TheVariants as expression
+use Rattle.sql_query.specs.declared.query.SelectItem.{SelectItem}
+use Rattle.sql_query.specs.declared.query.Select.{Select}
+use Rattle.sql_query.specs.declared.query.Select.TheVariants as select
+use Rattle.sql_query.specs.declared.query.Place.{Place}
+use Rattle.sql_query.specs.declared.query.Equality.{Equality}
+use Rattle.sql_query.specs.declared.query.Join.{Join}
+use Rattle.sql_query.specs.Sentence.{Sentence}
 use Rattle.sql_parse.specs.Tokens.{Span, is_word, is_symbol, is_name, is_string, is_digits, value_of, number_in, word_token, symbol_token, name_token, string_token, digits_token}
 
 abbrev pub Condition : Type 0
@@ -188,18 +188,18 @@ unfoldable pub alias : Of (Option (List ℕ))
 alias = maybe (maybe (a_word word.As) ⊳ name)
 
 -- column | COUNT "(" ("*" | column) ")" | SUM "(" column ")"
-unfoldable pub selection : Of Selected
+unfoldable pub selection : Of Expression
 selection = either
-    (a_word word.Count ⊳ a_symbol symbol.LeftParenthesis ⊳ either (symbol_for symbol.Asterisk selected.CountRows) (make selected.Count column) ⊲ a_symbol symbol.RightParenthesis)
-    (either (a_word word.Sum ⊳ a_symbol symbol.LeftParenthesis ⊳ make selected.Sum column ⊲ a_symbol symbol.RightParenthesis)
-    (make selected.Column column))
+    (a_word word.Count ⊳ a_symbol symbol.LeftParenthesis ⊳ either (symbol_for symbol.Asterisk expression.CountRows) (make expression.Count column) ⊲ a_symbol symbol.RightParenthesis)
+    (either (a_word word.Sum ⊳ a_symbol symbol.LeftParenthesis ⊳ make expression.Sum column ⊲ a_symbol symbol.RightParenthesis)
+    (make expression.Column column))
 
 unfoldable pub item : Of SelectItem
-item = make (λ p. record { selected = p.0; alias = p.1 }) (both selection alias)
+item = make (λ p. record { expression = p.0; alias = p.1 }) (both selection alias)
 
 -- "*" | item { "," item }
-unfoldable pub list : Of SelectList
-list = either (symbol_for symbol.Asterisk select.All) (make select.Listed (listed (a_symbol symbol.Comma) item))
+unfoldable pub list : Of Select
+list = either (symbol_for symbol.Asterisk select.All) (make select.List (listed (a_symbol symbol.Comma) item))
 
 -- name [ [AS] name ]
 unfoldable pub place : Of Place
@@ -211,7 +211,7 @@ equal = make (λ p. record { left = p.0; right = p.1 }) (both column (a_symbol s
 
 -- [INNER] JOIN place ON equal { AND equal }
 unfoldable pub join : Of Join
-join = make (λ p. record { place = p.0; equalities = p.1 }) (maybe (a_word word.Inner) ⊳ a_word word.Join ⊳ both place (a_word word.On ⊳ listed (a_word word.And) equal))
+join = make (λ p. record { place = p.0; on = p.1 }) (maybe (a_word word.Inner) ⊳ a_word word.Join ⊳ both place (a_word word.On ⊳ listed (a_word word.And) equal))
 
 -- [ GROUP BY column { "," column } ]
 unfoldable pub group : Of (List ColumnName)
@@ -231,5 +231,5 @@ ending = both filter (group ⊲ maybe (a_symbol symbol.Semicolon))
 
 -- SELECT list FROM place { join } [ WHERE pred ] [ GROUP BY column { "," column } ] [ ";" ]
 unfoldable pub query : Of Sentence
-query = make (λ p. record { select = p.0; place = p.1.0.0; joins = p.1.0.1; filter = p.1.1.0; group_by = p.1.1.1 })
+query = make (λ p. record { select = p.0; first = p.1.0.0; joins = p.1.0.1; filter = p.1.1.0; group_by = p.1.1.1 })
     (both (a_word word.Select ⊳ list) (both source ending))

@@ -6,7 +6,7 @@ use Rattle.scan_base.specs.Reading.{◌>>=◌, demand}
 use Rattle.grammar.specs.Sentence.{Offends, Exceeds}
 use Rattle.sql_parse.specs.declared.refusal.Refusal.{Refusal}
 use Rattle.sql_parse.specs.declared.refusal.Refusal.TheVariants as refusal
-use Rattle.sql_parse.specs.Sentence.{Sentence}
+use Rattle.sql_query.specs.Sentence.{Sentence}
 use Rattle.sql_parse.specs.Tokens.{Mark}
 use Rattle.sql_parse.specs.Parse.{IsSentence, IsShallow, is_left_out_whole, fault_at}
 use Rattle.sql_parse.specs.Limits.{passes}

@@ -9,8 +9,8 @@ ghost use Rattle.sql_parse.specs.Steps as steps;
 use crate::operands::{compare, operand};
 use crate::refusal::Refusal;
 use crate::tokens::{Class, Rest};
-use crate::tree::ColumnName;
 use scan_base::{Items, Operand, Predicate, Truth};
+use sql_query::ColumnName;
 use sql_text::{Keyword, Symbol};
 use std::alloc::Global;
 

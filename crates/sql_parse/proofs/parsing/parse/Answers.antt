@@ -1,7 +1,7 @@
 use Rattle.std.proofs.Common.{List, length, subst}
 use Rattle.sql_text.specs.declared.token.Token.{Token}
 use Rattle.sql_parse.specs.Parse.{Answered}
-use Rattle.sql_parse.specs.Sentence.{sentence_of}
+use Rattle.sql_query.specs.Sentence.{sentence_of}
 use Rattle.sql_parse.specs.Tokens.{marks}
 use Rattle.sql_parse.proofs.Answering.{parsed_by, fits}
 use Rattle.sql_parse.proofs.parsing.parse.Goals as goal

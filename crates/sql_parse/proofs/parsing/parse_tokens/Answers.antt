@@ -1,7 +1,7 @@
 use Rattle.std.proofs.Common.{◌≡◌, Ok, Err, subst}
 use Rattle.sql_parse.specs.declared.refusal.Refusal.{Refusal}
 use Rattle.sql_parse.specs.declared.refusal.Refusal.TheVariants as refusal
-use Rattle.sql_parse.specs.Sentence.{sentence_of}
+use Rattle.sql_query.specs.Sentence.{sentence_of}
 use Rattle.sql_parse.specs.Told.{Told}
 use Rattle.sql_parse.specs.Tokens.{marks}
 use Rattle.sql_parse.proofs.Answering.{told_by, cut_at, whole_answer, refused_answer, too_deep}
