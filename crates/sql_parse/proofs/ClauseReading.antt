@@ -9,7 +9,8 @@ use Rattle.sql_query.specs.declared.query.ColumnName.{ColumnName}
 use Rattle.sql_query.specs.declared.query.SelectItem.{SelectItem}
 use Rattle.sql_query.specs.declared.query.Equality.{Equality}
 use Rattle.sql_query.specs.declared.query.Join.{Join}
-use Rattle.sql_parse.specs.Tokens.{Mark, is_word, is_symbol, is_name, same_word, same_symbol}
+use Rattle.sql_text.specs.Words.{is_name}
+use Rattle.sql_parse.specs.Tokens.{Mark, is_word, is_symbol, same_word, same_symbol}
 use Rattle.sql_parse.specs.Answers.{seen, ◌>>=◌}
 use Rattle.sql_parse.specs.Productions.{Of, name, column, alias, selection, item, list, place, equal, join, group, filter, source, ending, query, maybe, a_word, a_symbol, ◌⊳◌}
 use Rattle.sql_parse.specs.Factored.{factor}

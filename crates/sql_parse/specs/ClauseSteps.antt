@@ -16,7 +16,8 @@ use Rattle.sql_query.specs.declared.query.Join.{Join}
 use Rattle.sql_parse.specs.declared.refusal.Refusal.{Refusal}
 use Rattle.sql_parse.specs.declared.refusal.Refusal.TheVariants as refusal
 use Rattle.sql_query.specs.Sentence.{Sentence}
-use Rattle.sql_parse.specs.Tokens.{Mark, is_word, is_symbol, is_name}
+use Rattle.sql_text.specs.Words.{is_name}
+use Rattle.sql_parse.specs.Tokens.{Mark, is_word, is_symbol}
 use Rattle.sql_parse.specs.Answers.{Answer, seen, ◌>>=◌}
 use Rattle.sql_parse.specs.Productions.{Condition, a_word, a_symbol, ◌⊳◌, column, item, equal, join}
 use Rattle.sql_parse.specs.Steps.{at, token_at, name_at, column_at, pred_at}

@@ -4,7 +4,8 @@ use Rattle.sql_text.specs.declared.word.Keyword.TheVariants as word
 use Rattle.sql_text.specs.declared.symbol.Symbol.TheVariants as symbol
 use Rattle.sql_text.specs.declared.token.TokenKind.{TokenKind}
 use Rattle.sql_parse.specs.declared.limits.Tally.{Tally}
-use Rattle.sql_parse.specs.Tokens.{Mark, is_word, is_symbol, is_name}
+use Rattle.sql_text.specs.Words.{is_name}
+use Rattle.sql_parse.specs.Tokens.{Mark, is_word, is_symbol}
 use Rattle.sql_text.specs.Calls.{said}
 
 -- The places that the tokens so far announce, and the items of the list that was begun last, of which there may be `most`.

@@ -26,7 +26,8 @@ use Rattle.sql_query.specs.declared.query.Place.{Place}
 use Rattle.sql_query.specs.declared.query.Equality.{Equality}
 use Rattle.sql_query.specs.declared.query.Join.{Join}
 use Rattle.sql_query.specs.Sentence.{Sentence}
-use Rattle.sql_parse.specs.Tokens.{Span, is_word, is_symbol, is_name, is_string, is_digits, value_of, number_in, word_token, symbol_token, name_token, string_token, digits_token}
+use Rattle.sql_text.specs.Words.{is_name}
+use Rattle.sql_parse.specs.Tokens.{Span, is_word, is_symbol, is_string, is_digits, value_of, number_in, word_token, symbol_token, name_token, string_token, digits_token}
 
 abbrev pub Condition : Type 0
 Condition = Pred ColumnName

@@ -16,7 +16,8 @@ use Rattle.grammar.specs.Rule.{many}
 use Rattle.grammar.specs.Reading.{begins, token, reads, read}
 use Rattle.sql_query.specs.declared.query.ColumnName.{ColumnName}
 use Rattle.sql_parse.specs.declared.refusal.Refusal.TheVariants as refusal
-use Rattle.sql_parse.specs.Tokens.{Mark, is_word, is_symbol, is_name, is_string, is_digits, value_of, number_in}
+use Rattle.sql_text.specs.Words.{is_name}
+use Rattle.sql_parse.specs.Tokens.{Mark, is_word, is_symbol, is_string, is_digits, value_of, number_in}
 use Rattle.sql_parse.specs.Answers.{Answer, seen, ◌>>=◌}
 use Rattle.sql_parse.specs.Productions.{Condition, a_word, a_symbol, ◌⊳◌, column_name, signed, operand, joined, inner, conj}
 use Rattle.sql_parse.specs.Factored.{factor}

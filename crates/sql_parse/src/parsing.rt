@@ -1,9 +1,10 @@
 //! Parsing a text.
 
-ghost use Rattle.std.specs.Prelude.{◌≡◌};
+ghost use Rattle.std.specs.Prelude.{◌≡◌, IfOk};
 ghost use Rattle.scan_base.specs.Reading.{Gives};
 ghost use Rattle.sql_parse.specs.Told.{checked, refused};
 ghost use Rattle.sql_parse.specs.Parse.{Answered, Parsed, fault_at, is_left_out_whole};
+ghost use Rattle.sql_query.specs.Names.{HasNames};
 ghost use Rattle.sql_query.specs.Sentence.{sentence_of};
 ghost use Rattle.sql_parse.specs.Tokens.{marks};
 
@@ -84,7 +85,7 @@ fn parse_tokens(alloc: Global, tokens: &[Token<'_>], end: u32) -> Result<Query, 
     }
 }
 
-/// The query that a text is.
+/// The query that a text is. Each name in it has 1 to 64 bytes.
 ///
 /// The grammar is a small part of SQL-92. At most 64 parentheses of predicates and prefix NOTs may be open at
 /// once, so the stack that is taken is bounded.
@@ -100,7 +101,8 @@ fn parse_tokens(alloc: Global, tokens: &[Token<'_>], end: u32) -> Result<Query, 
 /// `Fault::NotInSubset` for a JOIN with an aggregate or GROUP BY, and for `*` with GROUP BY.
 /// `Fault::OutOfMemory` where memory is refused.
 pub fn parse(alloc: Global, sql: &str) -> Result<Query, Fault>
-    ensures { Parsed sentence_of sql.now result }
+    ensures parsed { Parsed sentence_of sql.now result }
+    ensures named { IfOk result (λ query. HasNames (sentence_of query)) }
 {
     let tokens = sql_text::tokens(alloc, sql)?;
     parse_tokens(alloc, &tokens, sql.len() as u32)
