@@ -9,7 +9,9 @@ abbrev pub AtMostOneSentence : Type 0
 AtMostOneSentence = (ts : List Mark) (s other : Sentence) → IsSentence ts s → IsSentence ts other → s ≡ other
 
 abbrev pub AtMostOneFault : Type 0
-AtMostOneFault = (ts : List Mark) (end : ℕ) (first second : Fault) → Refuses ts end first → Refuses ts end second → first ≡ second
+AtMostOneFault =
+    (ts : List Mark) (end : ℕ) (first second : Fault) → Refuses ts end first → Refuses ts end second → first ≡ second
 
 abbrev pub AcceptedIsNotRefused : Type 0
-AcceptedIsNotRefused = (ts : List Mark) (end : ℕ) (s : Sentence) (fault : Fault) → Accepts ts s → Refuses ts end fault → ⊥
+AcceptedIsNotRefused =
+    (ts : List Mark) (end : ℕ) (s : Sentence) (fault : Fault) → Accepts ts s → Refuses ts end fault → ⊥

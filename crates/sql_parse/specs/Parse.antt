@@ -1,5 +1,6 @@
 -- What parsing answers.
-use Rattle.std.specs.Prelude.{◌≡◌, ◌≢◌, ℕ, ◌==◌, Bool, true, false, not, ◌&&◌, ◌||◌, ◌⊎◌, if◌then◌else◌, List, [], ◌∷◌, ◌++◌, map, length, Result, Ok, Err}
+use Rattle.std.specs.Prelude.{◌≡◌, ◌≢◌, ℕ, ◌==◌, Bool, true, false, not, ◌&&◌, ◌||◌, ◌⊎◌, if◌then◌else◌, List, []}
+use Rattle.std.specs.Prelude.{◌∷◌, ◌++◌, map, length, Result, Ok, Err}
 use Rattle.scan_base.specs.declared.fault.Fault.{Fault}
 use Rattle.scan_base.specs.declared.fault.Fault.TheVariants.{OutOfMemory, LimitReached, NotInSubset, BadSql}
 use Rattle.sql_text.specs.Standard.{Lexeme}
@@ -49,7 +50,8 @@ pub record PassesLimit (ts : List Mark) : Type 0 where
   pub begins : Begins IsSentence front
   pub past : (Begins IsShallow front → ⊥) ⊎ (passes front ≡ true)
 
--- The first token of the place offends, or where it has none the end of the text, and the tokens before it pass no limit.
+-- The first token of the place offends, or where it has none the end of the text, and the tokens before it pass
+-- no limit.
 pub record HasOffender (ts place : List Mark) : Type 0 where
   pub offends : Offends IsShallow IsSentence ts place
   pub counts : passes offends.front ≡ false
@@ -79,7 +81,8 @@ Answered view ts end (Err fault) = fault ≢ OutOfMemory → Refuses ts end faul
 
 -- what parsing a text gave: a fault of its tokens, or what its tokens say
 abbrev pub Parsed : {X : Type 0} → (X → Sentence) → List ℕ → Result X Fault → Type 0
-Parsed view text (Ok x) = (lexemes : List Lexeme) × (tokens_in text ≡ Ok lexemes) × Accepts (map mark_of lexemes) (view x)
+Parsed view text (Ok x) =
+    (lexemes : List Lexeme) × (tokens_in text ≡ Ok lexemes) × Accepts (map mark_of lexemes) (view x)
 Parsed view text (Err fault) =
     fault ≢ OutOfMemory → (tokens_in text ≡ Err fault)
     ⊎ ((lexemes : List Lexeme) × (tokens_in text ≡ Ok lexemes) × Refuses (map mark_of lexemes) (length text) fault)

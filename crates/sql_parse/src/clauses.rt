@@ -265,7 +265,8 @@ fn filter<'t>(
     depth: usize,
     tokens: Rest<'t>,
 ) -> Result<(Option<Predicate<ColumnName>>, Rest<'t>), Refusal>
-    ensures exact { Gives (λ x. (option_map pred_of x.0, unread x.1)) result (steps.filter_at depth (unread tokens.entry)) }
+    ensures exact { Gives (λ x. (option_map pred_of x.0, unread x.1)) result
+        (steps.filter_at depth (unread tokens.entry)) }
 {
     if tokens.at(Class::Word(Keyword::Where)) {
         let (_, rest) = tokens.take(Class::Word(Keyword::Where))?;
@@ -283,7 +284,8 @@ fn ending<'t>(
     depth: usize,
     tokens: Rest<'t>,
 ) -> Result<((Option<Predicate<ColumnName>>, Items<ColumnName>), Rest<'t>), Refusal>
-    ensures exact { Gives (λ x. ((option_map pred_of x.0.0, x.0.1), unread x.1)) result (steps.ending_at depth (unread tokens.entry)) }
+    ensures exact { Gives (λ x. ((option_map pred_of x.0.0, x.0.1), unread x.1)) result
+        (steps.ending_at depth (unread tokens.entry)) }
 {
     let (filter, rest) = filter(alloc, depth, tokens)?;
     let (group_by, rest) = group(alloc, rest)?;

@@ -89,7 +89,8 @@ fn between<'t>(
     value: Operand<ColumnName>,
     tokens: Rest<'t>,
 ) -> Result<(Predicate<ColumnName>, Rest<'t>), Refusal>
-    ensures exact { Gives (λ x. (pred_of x.0, unread x.1)) result (steps.ranged_at negated value (unread tokens.entry)) }
+    ensures exact { Gives (λ x. (pred_of x.0, unread x.1)) result
+        (steps.ranged_at negated value (unread tokens.entry)) }
     ensures shorter { IfOk result (λ x. remaining x.1 < remaining tokens.entry) }
 {
     let (_, rest) = tokens.take(Class::Word(Keyword::Between))?;

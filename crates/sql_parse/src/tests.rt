@@ -148,7 +148,12 @@ fn trees(rt: HostRuntime) -> Result<(), Fail> {
     )?;
     assert_eq!(rt;
         grouped.as_str(),
-        "Some(Or(Compare { comparison: Equal, left: Column(ColumnName { place: None, name: Text { text: \"a\" } }), right: Literal(Int(1)) }, And(Not(Compare { comparison: Equal, left: Column(ColumnName { place: None, name: Text { text: \"b\" } }), right: Literal(Text(Text { text: \"it's\" })) }), Compare { comparison: NotEqual, left: Column(ColumnName { place: None, name: Text { text: \"c\" } }), right: Literal(Int(-2)) })))"
+        "Some(Or(Compare { comparison: Equal, \
+         left: Column(ColumnName { place: None, name: Text { text: \"a\" } }), right: Literal(Int(1)) }, \
+         And(Not(Compare { comparison: Equal, left: Column(ColumnName { place: None, \
+         name: Text { text: \"b\" } }), right: Literal(Text(Text { text: \"it's\" })) }), \
+         Compare { comparison: NotEqual, left: Column(ColumnName { place: None, \
+         name: Text { text: \"c\" } }), right: Literal(Int(-2)) })))"
     );
     Ok(())
 }
