@@ -30,3 +30,14 @@ def table(name, remark, of, rows):
     """A static table, with a comment above it."""
     lines = "".join(f"    ({', '.join(row)}),\n" for row in rows)
     return f"// {remark}\npub(crate) static {name}: [({', '.join(of)}); {len(rows)}] = [\n{lines}];\n"
+
+
+def dotted(data):
+    """Bytes as a text that a test decodes: a dot for each zero, and two digits for each other byte."""
+    pieces, piece = [], ""
+    for byte in data:
+        if len(piece) > WIDTH + 20:
+            pieces.append(piece)
+            piece = ""
+        piece += f"{byte:02x}" if byte else "."
+    return '"' + "\\\n".join([*pieces, piece]) + '"'
