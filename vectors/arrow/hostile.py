@@ -33,9 +33,9 @@ def changed(data, place, new):
     return data[:place] + new + data[place + len(new) :]
 
 
-def sweep(name, data):
-    """Each byte set to each value: a line for each run of values with one answer."""
-    for place in range(len(data)):
+def sweep(name, data, count):
+    """Each of the first bytes set to each value: a line for each run of values with one answer."""
+    for place in range(count):
         found = [answer(**{name: changed(data, place, bytes([value]))}) for value in range(256)]
         first = 0
         for value in range(256):
@@ -74,8 +74,8 @@ def main():
     message = Table(HEADER, int.from_bytes(HEADER[:4], "little"))
     batch = message.table(2)
     places, data = batch.structs(2)[3], batch.structs(2)[4]
-    sweep("header", HEADER)
-    sweep("body", BODY[: data[0]])
+    sweep("header", HEADER, len(HEADER))
+    sweep("body", BODY, data[0])  # up to the texts
     values("header", 0, 4, len(HEADER), "the root's offset")
     table_values("Message", message, 4)
     values("header", message.entry(2), 4, len(HEADER) - message.entry(2), "the header's offset")

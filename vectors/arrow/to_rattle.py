@@ -1,5 +1,6 @@
 #!/usr/bin/env python3
-"""Writes src/vectors.rt of ipc_batch: the messages, the cases of index.txt, and hostile.txt. Run rt fmt there behind it."""
+"""to_rattle.py NAME .. prints messages as arrays of bytes for a test. Without a name it writes tables: src/cases.rt of
+ipc_batch (the messages, the cases of index.txt, and hostile.txt) and src/layouts.rt of flatbuf. Run rt fmt in both behind it."""
 import json
 import pathlib
 import sys
@@ -8,13 +9,33 @@ sys.dont_write_bytecode = True
 HERE = pathlib.Path(__file__).parent
 sys.path.append(str(HERE.parent))
 from literals import dotted, literal, table, text
+from reader import Fault, Table, there
 
-CRATE = HERE.parent.parent / "crates/ipc_batch"
+CRATES = HERE.parent.parent / "crates"
 FAULTS = {"F6": "F6 BadFlatbuffer", "F7": "F7 UnsupportedArrow", "F8": "F8 BadBatch", "F12": "F12 LimitReached"}
+
+
+def array(name, data):
+    lines = [f"pub(crate) static {name.upper()}: [u8; {len(data)}] = ["]
+    for start in range(0, len(data), 16):
+        lines.append("    " + " ".join(f"0x{byte:02x}," for byte in data[start : start + 16]))
+    return "\n".join(lines + ["];\n"]) if data else lines[0] + "];\n"
 
 
 def lines(name):
     return [line.split("\t") for line in (HERE / name).read_text().splitlines()]
+
+
+def part(name):
+    path = HERE / name
+    return path.read_bytes() if path.exists() else b""
+
+
+# The messages and their cases, for ipc_batch.
+
+
+def value(found):
+    return f'"{found}"' if isinstance(found, str) else json.dumps(found)
 
 
 def told(answer):
@@ -28,15 +49,6 @@ def told(answer):
     if word == "schema":
         return "schema " + "".join(f"{name} {of}{' or null' * nullable};" for name, of, nullable in rows)
     return f"{word} " + "".join(",".join(map(value, row)) + ";" for row in rows)
-
-
-def value(found):
-    return f'"{found}"' if isinstance(found, str) else json.dumps(found)
-
-
-def part(name):
-    path = HERE / name
-    return path.read_bytes() if path.exists() else b""
 
 
 def messages(cases):
@@ -55,8 +67,8 @@ def hostile():
             runs[name] += bytes([int(last, 16), number])
         else:
             numbers.append((str(name == "header").lower(), place, literal(bytes.fromhex(first)), str(number)))
-    found = table("ANSWERS", "The answers to hostile messages.", ["&str"], [(text(answer),) for answer in answers])
-    found = found.replace("[(&str);", "[&str;").replace("    (", "    ").replace("),\n", ",\n")
+    found = ("// The answers to hostile messages.\n"
+             f"pub(crate) static ANSWERS: [&str; {len(answers)}] = [\n{''.join(f'    {text(one)},{chr(10)}' for one in answers)}];\n")
     for name, data in runs.items():
         found += (f"\n// Of each byte of the hostile {name} the runs of its values: the last value, and the answer's number.\n"
                   f"pub(crate) static {name.upper()}_RUNS: &str = {dotted(data)};\n")
@@ -64,14 +76,52 @@ def hostile():
                                 "bytes, and the answer's number.", ["bool", "usize", "&[u8]", "usize"], numbers)
 
 
-def main():
+def ipc_batch():
     cases = lines("index.txt")
     rows = [(text(name), text(before), text(told(answer))) for name, answer, before, _ in cases]
-    (CRATE / "src/vectors.rt").write_text(
-        "//! Messages of other writers, and what they say. `vectors/arrow/to_rattle.py` writes this file.\n//!\n"
-        "//! Bytes are texts: a dot for each zero, and two digits for each other byte.\n\n"
-        + messages(cases) + "\n"
-        + table("CASES", "Each case: its message, those that came before, and the answer.", ["&str"] * 3, rows) + "\n" + hostile())
+    return ("//! Messages of other writers, and what they say. `vectors/arrow/to_rattle.py` writes this file.\n//!\n"
+            "//! Bytes are texts: a dot for each zero, and two digits for each other byte.\n\n"
+            + messages(cases) + "\n"
+            + table("CASES", "Each case: its message, those that came before, and the answer.", ["&str"] * 3, rows)
+            + "\n" + hostile())
 
 
-main()
+# The name of the first column of schemas in several layouts, for flatbuf.
+
+
+def first_name(data):
+    if len(data) < 4:
+        raise Fault("F6")
+    header = there(Table(data, int.from_bytes(data[:4], "little")).table(2))
+    count, element = there(header.tables(1))
+    if count == 0:
+        raise Fault("F6")
+    return element(0).text(0)
+
+
+def name_found(data):
+    try:
+        name = first_name(data)
+    except Fault:
+        return "Err(Fault::BadFlatbuffer)"
+    return "Ok(None)" if name is None else f"Ok(Some({text(name)}))"
+
+
+def flatbuf():
+    names = dict.fromkeys(name for name, *_ in lines("index.txt") if name.startswith(("lying_schema", "bad_name_utf8_"))
+                          or name in ("bad_name_absent", "schema_name_odd")
+                          or name.startswith(("schema_Int64", "schema_metadata")) and not name.endswith("full"))
+    rows = [(text(name), literal(part(f"{name}.header")), name_found(part(f"{name}.header"))) for name in names]
+    return ("//! Headers of schemas that other tools wrote in several layouts, or that lie at one place, and the name of their\n"
+            "//! first column. `vectors/arrow/to_rattle.py` writes this file.\n\nuse scan_base::Fault;\n\n"
+            + table("LAYOUTS", "Each header: its case, its bytes, and the name.",
+                    ["&str", "&[u8]", "Result<Option<&str>, Fault>"], rows))
+
+
+for name in sys.argv[1:]:
+    for kind in ("header", "body"):
+        if (HERE / f"{name}.{kind}").exists():
+            print(array(f"{name}_{kind}", part(f"{name}.{kind}")))
+if not sys.argv[1:]:
+    (CRATES / "ipc_batch/src/cases.rt").write_text(ipc_batch())
+    (CRATES / "flatbuf/src/layouts.rt").write_text(flatbuf())

@@ -1,7 +1,7 @@
 //! Messages of `protoc` field by field, and bytes that are no fields.
 
 use crate::vectors::{BROKEN, WHOLE};
-use crate::{Field, Fields, MAX_FIELD_NUMBER, put_field};
+use crate::{Field, Fields, MAX_FIELD_NUMBER, put_bytes_head, put_field};
 use scan_base::Fault;
 use std::alloc::Global;
 use std::test::Fail;
@@ -9,12 +9,15 @@ use std::test::Fail;
 // The bytes hold these fields, and nothing behind them.
 fn hold(bytes: &[u8], wanted: &[Field<'_>]) -> bool {
     let mut fields = Fields::new(bytes);
+    if fields.bytes_left() != bytes.len() {
+        return false;
+    }
     for field in wanted {
         if fields.next() != Ok(Some(*field)) {
             return false;
         }
     }
-    fields.next() == Ok(None)
+    fields.next() == Ok(None) && fields.bytes_left() == 0
 }
 
 #[test]
@@ -42,6 +45,15 @@ fn messages_written(rt: HostRuntime) -> Result<(), Fail> {
         let out = written(rt.alloc(), fields)?;
         assert_eq!(rt; out.as_slice(), *bytes, "{name}");
     }
+    Ok(())
+}
+
+// What `data_long_body` begins with: the head of 512 bytes of field 1000.
+#[test]
+fn head_written(rt: HostRuntime) -> Result<(), Fail> {
+    let mut out = Vec::new(rt.alloc());
+    put_bytes_head(&mut out, 1000, 512)?;
+    assert_eq!(rt; out.as_slice(), b"\xc2\x3e\x80\x04".as_slice());
     Ok(())
 }
 
