@@ -8,7 +8,7 @@ def joined(letters):
     goes on would drop."""
     pieces, piece = [], ""
     for letter in letters:
-        if len(piece) > WIDTH and letter != " ":
+        if (len(piece) > WIDTH or piece.endswith("\\n")) and letter != " ":
             pieces.append(piece)
             piece = ""
         piece += letter
@@ -24,6 +24,8 @@ def in_literal(byte):
 def in_text(letter):
     if letter in '"\\':
         return "\\" + letter
+    if letter == "\t":
+        return "\\t"
     return letter if " " <= letter <= "~" else f"\\u{{{ord(letter):x}}}"
 
 
@@ -37,12 +39,20 @@ def text(value):
     return joined(map(in_text, value))
 
 
-def dotted(data):
-    """Bytes as a string that a test decodes: a dot for each zero, and two digits for each other byte."""
-    return joined(f"{byte:02x}" if byte else "." for byte in data)
+def dots(data):
+    """Bytes as a text that a test decodes: a dot for each zero, and two digits for each other byte."""
+    return "".join(f"{byte:02x}" if byte else "." for byte in data)
 
 
 def table(name, remark, of, rows):
     """A static table, with a comment above it."""
     lines = "".join(f"    ({', '.join(row)}),\n" for row in rows)
     return f"// {remark}\npub(crate) static {name}: [({', '.join(of)}); {len(rows)}] = [\n{lines}];\n"
+
+
+def listed(name, remark, rows):
+    """A static string of many lines, whose parts have a tab between: a table of so many rows costs the prover too much."""
+    lines = ["\t".join(row) for row in rows]
+    assert all(line.count("\t") == lines[0].count("\t") and "\n" not in line for line in lines), name
+    letters = (letter for line in lines for letter in [*map(in_text, line), "\\n"])
+    return f"// {remark}\npub(crate) static {name}: &str = {joined(letters)};\n"

@@ -8,7 +8,7 @@ import sys
 sys.dont_write_bytecode = True
 HERE = pathlib.Path(__file__).parent
 sys.path.append(str(HERE.parent))
-from literals import dotted, literal, table, text
+from literals import dots, listed, literal, table, text
 from reader import Fault, Table, there
 
 CRATES = HERE.parent.parent / "crates"
@@ -53,8 +53,8 @@ def told(answer):
 
 def messages(cases):
     names = dict.fromkeys(name for found, _, before, _ in cases for name in [*before.split(), found])
-    rows = [(text(name), dotted(part(f"{name}.header")), dotted(part(f"{name}.body"))) for name in names]
-    return table("MESSAGES", "Each message: its name, its header and its body.", ["&str"] * 3, rows)
+    rows = [(name, dots(part(f"{name}.header")), dots(part(f"{name}.body"))) for name in names]
+    return listed("MESSAGES", "Each message: its name, its header and its body.", rows)
 
 
 def hostile():
@@ -71,19 +71,18 @@ def hostile():
              f"pub(crate) static ANSWERS: [&str; {len(answers)}] = [\n{''.join(f'    {text(one)},{chr(10)}' for one in answers)}];\n")
     for name, data in runs.items():
         found += (f"\n// Of each byte of the hostile {name} the runs of its values: the last value, and the answer's number.\n"
-                  f"pub(crate) static {name.upper()}_RUNS: &str = {dotted(data)};\n")
+                  f"pub(crate) static {name.upper()}_RUNS: &str = {text(dots(data))};\n")
     return found + "\n" + table("NUMBERS", "Numbers set in the hostile header or body: whether it is the header, the place, the "
                                 "bytes, and the answer's number.", ["bool", "usize", "&[u8]", "usize"], numbers)
 
 
 def ipc_batch():
-    cases = lines("index.txt")
-    rows = [(text(name), text(before), text(told(answer))) for name, answer, before, _ in cases]
+    cases = [line for line in lines("index.txt") if line[0] != "schema_name_odd"]  # its name has a line's end: see flatbuf
+    rows = [(name, before, told(answer)) for name, answer, before, _ in cases]
     return ("//! Messages of other writers, and what they say. `vectors/arrow/to_rattle.py` writes this file.\n//!\n"
             "//! Bytes are texts: a dot for each zero, and two digits for each other byte.\n\n"
             + messages(cases) + "\n"
-            + table("CASES", "Each case: its message, those that came before, and the answer.", ["&str"] * 3, rows)
-            + "\n" + hostile())
+            + listed("CASES", "Each case: its message, those that came before, and the answer.", rows) + "\n" + hostile())
 
 
 # The name of the first column of schemas in several layouts, for flatbuf.
