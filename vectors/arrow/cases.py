@@ -696,3 +696,11 @@ for place, data, answer, note in [
     add(f"lying_batch_{place}_{data.replace(' ', '')}", NUMBERS, answer, "schema_Int64", patch=(place, bytes.fromhex(data)),
         note=note)
 add("lying_batch_cut_135", NUMBERS, "F6", "schema_Int64", cut=135)
+
+# 12. What hostile.py changes, byte by byte: a dictionary column of 'x', NULL and 'yz', and a column of texts.
+
+add("hostile_schema", schema(field("k", UTF8, dictionary=encoding(7, integer(8, True))), field("t", UTF8)),
+    says(("k", "dictionary 7 Int8", True), ("t", "Utf8", True)))
+add("hostile_dictionary", dictionary(7, values("x", "", "yz", nulls=1, validity="FD")), DONE, "hostile_schema")
+add("hostile_batch", batch(3, (1, "FD", "02 63 01"), (1, "FD", offsets(0, 2, 3, 5), "61 62 FF C3 A9")),
+    rows(["yz", "ab"], [None, None], [None, "\u00e9"]), "hostile_schema", "hostile_dictionary")

@@ -134,6 +134,11 @@ command("ingest_all", "CommandStatementIngest",
 command("ingest_present", "CommandStatementIngest",
         'table_definition_options { } table: "" schema: "" catalog: "" transaction_id: ""',
         "present and empty: four are written, the table is not")
+add("ingest_plain", "CommandStatementIngest", 'table: "t"')
+add("ingest_options_empty", "CommandStatementIngest", 'table_definition_options { } table: "t"')
+add("ingest_every_field", "CommandStatementIngest",
+    'table_definition_options { if_exists: TABLE_EXISTS_OPTION_REPLACE } table: "t" schema: "s" catalog: "c" temporary: true '
+    'transaction_id: "\\377"', "but the map of options")
 command("query_transaction", "CommandStatementQuery", 'query: "" transaction_id: ""')
 command("tables_none", "CommandGetTables", "")
 command("tables_present", "CommandGetTables", 'catalog: "" db_schema_filter_pattern: "" table_name_filter_pattern: ""')

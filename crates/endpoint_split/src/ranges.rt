@@ -44,7 +44,8 @@ impl Ranges {
 }
 
 /// Cuts rows into as many ranges as there are parts, but no more than there are rows, and at least one:
-/// range i of p is `i * rows / p` to `(i + 1) * rows / p`, rounded down. It takes no memory.
+/// range i of p is `i * rows / p` to `(i + 1) * rows / p`, rounded down. So of 0 parts, as of 1, it is one
+/// range of all rows. It takes no memory.
 #[tactic(auto, unfolding(crate::specs::Split::ranges_of))]
 pub fn split(rows: u64, parts: u64) -> Ranges
     requires rows { rows ≤ MOST_ROWS }

@@ -12,6 +12,9 @@ fn ranges_of_few_rows(rt: HostRuntime) {
     let range = |from: u64, to: u64| Range { from, to };
     let halves = split(5, 2);
     assert_eq!(rt; halves.as_slice(), [range(0, 2), range(2, 5)].as_slice());
+    // Without a part it is one range all the same.
+    let whole = split(5, 0);
+    assert_eq!(rt; whole.as_slice(), [range(0, 5)].as_slice());
     let none = split(0, 4);
     assert_eq!(rt; none.as_slice(), [range(0, 0)].as_slice());
     let few = split(3, 8);
@@ -30,9 +33,10 @@ fn ranges_of_few_rows(rt: HostRuntime) {
 fn ranges_of_most_rows(rt: HostRuntime) {
     let ranges = split(16_777_216, 64);
     assert_eq!(rt; ranges.as_slice().len(), 64);
+    let mut from = 0u64;
     for range in ranges.as_slice() {
-        assert!(rt; range.from <= range.to);
-        assert_eq!(rt; range.to - range.from, 262_144);
+        assert_eq!(rt; (range.from, range.to), (from, from.wrapping_add(262_144)));
+        from = range.to;
     }
 }
 
@@ -51,19 +55,28 @@ fn the_first_run_s_handle(rt: HostRuntime) -> Result<(), Fail> {
         return Err("no query".into());
     };
     assert_eq!(rt; (version, from, to, query), (1, 0, 2, "SELECT * FROM t"));
-    let tables = write_handle(rt.alloc(), &Handle::Tables { version: 1 })?;
-    assert_eq!(rt;
-        tables.as_slice(),
-        b"\x02\x00\x00\x00\x00\x00\x00\x00\x01".as_slice()
-    );
+    Ok(())
+}
+
+#[test]
+fn a_handle_of_the_tables(rt: HostRuntime) -> Result<(), Fail> {
+    let bytes = b"\x02\x01\x02\x03\x04\x05\x06\x07\x08";
+    let Handle::Tables { version } = read_handle(bytes)? else {
+        return Err("no list of tables".into());
+    };
+    assert_eq!(rt; version, 0x0102_0304_0506_0708);
+    let written = write_handle(rt.alloc(), &Handle::Tables { version })?;
+    assert_eq!(rt; written.as_slice(), bytes.as_slice());
     Ok(())
 }
 
 #[test]
 fn refused_handles(rt: HostRuntime) {
-    let refused: [&[u8]; 6] = [
+    let refused: [&[u8]; 8] = [
         b"",
         b"\x01",
+        b"\x02",
+        b"\x01\x00\x00\x00\x00\x00\x00\x00\x01\x00\x00\x00\x00\x00\x00\x00",
         b"\x03\x00\x00\x00\x00\x00\x00\x00\x01",
         b"\x02\x00\x00\x00\x00\x00\x00\x00",
         b"\x02\x00\x00\x00\x00\x00\x00\x00\x01\x00",

@@ -33,3 +33,7 @@ pub use crate::ticket::{
 
 #[cfg(test)]
 mod tests;
+#[cfg(test)]
+mod vector_tests;
+#[cfg(test)]
+mod vectors;

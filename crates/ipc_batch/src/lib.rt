@@ -14,8 +14,12 @@ pub use crate::writer::{
 };
 
 #[cfg(test)]
+mod cases;
+#[cfg(test)]
 mod lies;
 #[cfg(test)]
 mod tests;
+#[cfg(test)]
+mod vector_tests;
 #[cfg(test)]
 mod vectors;

@@ -17,3 +17,7 @@ pub use crate::put::{put_bytes, put_bytes_head, put_field, put_message, put_vari
 
 #[cfg(test)]
 mod tests;
+#[cfg(test)]
+mod vector_tests;
+#[cfg(test)]
+mod vectors;

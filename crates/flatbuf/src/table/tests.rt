@@ -1,5 +1,6 @@
 //! Two Arrow metadata headers, and a table that stands before its vtable.
 
+use crate::layouts::LAYOUTS;
 use crate::table::{Buf, Table};
 use crate::width::Width;
 use scan_base::Fault;
@@ -81,6 +82,14 @@ fn schema(rt: HostRuntime) -> Result<(), Fault> {
         (Ok(64), Ok(1))
     );
     Ok(())
+}
+
+// Also where vtables lie before the root or behind all tables, where nothing is aligned, and at a place that lies.
+#[test]
+fn layouts(rt: HostRuntime) {
+    for (name, bytes, wanted) in &LAYOUTS {
+        assert_eq!(rt; column_name(bytes), *wanted, "{name}");
+    }
 }
 
 #[test]
