@@ -1,0 +1,49 @@
+-- What a scan gives, and what it opens.
+use Rattle.std.specs.Prelude.{◌≡◌, ◌≢◌, ◌≤◌, ◌<◌, ℕ, List, [], ◌++◌, length, Option, Some, None, Result, Ok, Err}
+use Rattle.arrow_schema.specs.Batch.{BatchAt, rows_of}
+use Rattle.scan_base.specs.declared.fault.Fault.{Fault}
+use Rattle.scan_base.specs.declared.fault.Fault.TheVariants.{OutOfMemory}
+use Rattle.table_versions.specs.Database.{table_at}
+use Rattle.table_versions.specs.Stored.{TableAt, CatalogAt}
+use Rattle.table_versions.specs.Table.{Row}
+use Rattle.typed_plan.specs.Plan.{PlanAt}
+use Rattle.scan_exec.specs.Given.{tree_table}
+
+-- the rows that are still to be given, of so many columns; how many batches of the table have a row in the range,
+-- and how many were opened; and what refused the scan
+pub record ScanAt : Type 0 where
+  pub left : List Row
+  pub columns : ℕ
+  pub batches : ℕ
+  pub opened : ℕ
+  pub refused : Option Fault
+
+-- a batch has the next rows, one or more
+pub record GivesRows (before : ScanAt) (batch : BatchAt) (after : ScanAt) : Type 0 where
+  pub some : 0 < batch.rows
+  pub rows : rows_of batch ++ after.left ≡ before.left
+  pub wide : length batch.columns ≡ before.columns
+  pub columns : after.columns ≡ before.columns
+  pub batches : after.batches ≡ before.batches
+  pub opening : before.opened ≤ after.opened
+  pub opened : after.opened ≤ before.batches
+  pub refused : after.refused ≡ None
+
+-- What a call gives. Where nothing is left, all batches that have a row in the range were opened, and no other.
+-- Memory refuses a scan only where something is left, and what refused it is answered from then on.
+abbrev pub Gives : ScanAt → Result (Option BatchAt) Fault → ScanAt → Type 0
+Gives before result after = going before.refused result
+  where
+    going : Option Fault → Result (Option BatchAt) Fault → Type 0
+    going (Some fault) result = (result ≡ Err fault) × (after ≡ before)
+    going None (Ok (Some batch)) = GivesRows before batch after
+    going None (Ok None) = (before.left ≡ []) × (after ≡ record before { opened = before.batches })
+    going None (Err fault) = (fault ≡ OutOfMemory) × (after.refused ≡ Some fault) × (before.left ≢ [])
+
+abbrev pub batches_of : Option TableAt → List BatchAt
+batches_of (Some table) = table.batches
+batches_of None = []
+
+-- the batches of the table that a plan reads
+abbrev pub batches_read : PlanAt → CatalogAt → List BatchAt
+batches_read plan catalog = batches_of (table_at catalog (tree_table plan.tree))

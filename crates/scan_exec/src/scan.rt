@@ -1,0 +1,3 @@
+//! Scans.
+
+ghost use Rattle.std.specs.Prelude.{◌≡◌};
