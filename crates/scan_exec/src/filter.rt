@@ -6,10 +6,12 @@ ghost use Rattle.typed_plan.specs.Typed.{IsTypedTree, tree_types};
 ghost use Rattle.typed_plan.specs.View.{tree_of};
 ghost use Rattle.scan_exec.specs.Given.{passes, holds};
 ghost use Rattle.scan_exec.specs.Reading.{IsRead};
+ghost use Rattle.scan_exec.specs.Runs.{IsFirstRun};
 
 use crate::row::BatchRow;
 use arrow_schema::Batch;
 use scan_base::Truth;
+use std::ops::Range;
 use typed_plan::Plan;
 
 // Whether all filters of a plan are true in a row of its input.
@@ -51,4 +53,23 @@ fn first_row(
         }
     }
     to
+}
+
+// The first rows next to each other, of the rows `from` up to, not with, `to` of a batch, that the plan's filters
+// let through.
+pub(crate) fn first_run(
+    plan: &Plan,
+    read: &[usize],
+    batch: &Batch,
+    from: usize,
+    to: usize,
+) -> Range<usize>
+    requires read { IsRead (tree_of plan.now) (length batch.now.columns) read.now }
+    requires ordered { from ≤ to }
+    requires within { to ≤ batch.now.rows }
+    ensures { IsFirstRun (holds (tree_of plan.now)) batch.now from to result.start result.end }
+{
+    let start = first_row(plan, read, batch, from, to, true);
+    let end = first_row(plan, read, batch, start, to, false);
+    start..end
 }
