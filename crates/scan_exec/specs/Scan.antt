@@ -1,19 +1,21 @@
 -- What a scan gives, and what it opens.
 use Rattle.std.specs.Prelude.{◌≡◌, ◌≢◌, ◌≤◌, ◌<◌, ℕ, List, [], ◌++◌, length, Option, Some, None, Result, Ok, Err}
 use Rattle.arrow_schema.specs.Batch.{BatchAt, rows_of}
+use Rattle.arrow_schema.specs.declared.data_type.DataType.{DataType}
 use Rattle.scan_base.specs.declared.fault.Fault.{Fault}
 use Rattle.scan_base.specs.declared.fault.Fault.TheVariants.{OutOfMemory}
 use Rattle.table_versions.specs.Database.{table_at}
 use Rattle.table_versions.specs.Stored.{TableAt, CatalogAt}
 use Rattle.table_versions.specs.Table.{Row}
 use Rattle.typed_plan.specs.Plan.{PlanAt}
-use Rattle.scan_exec.specs.Given.{tree_table}
+use Rattle.typed_plan.specs.Typed.{tree_types, types_taken}
+use Rattle.scan_exec.specs.Given.{tree_table, output_columns}
 
--- the rows that are still to be given, of so many columns; how many batches of the table have a row in the range,
--- and how many were opened; and what refused the scan
+-- the rows that are still to be given, and the types of their columns; how many batches of the table have a row in
+-- the range, and how many were opened; and what refused the scan
 pub record ScanAt : Type 0 where
   pub left : List Row
-  pub columns : ℕ
+  pub types : List DataType
   pub batches : ℕ
   pub opened : ℕ
   pub refused : Option Fault
@@ -22,8 +24,8 @@ pub record ScanAt : Type 0 where
 pub record GivesRows (before : ScanAt) (batch : BatchAt) (after : ScanAt) : Type 0 where
   pub some : 0 < batch.rows
   pub rows : rows_of batch ++ after.left ≡ before.left
-  pub wide : length batch.columns ≡ before.columns
-  pub columns : after.columns ≡ before.columns
+  pub wide : length batch.columns ≡ length before.types
+  pub types : after.types ≡ before.types
   pub batches : after.batches ≡ before.batches
   pub opening : before.opened ≤ after.opened
   pub opened : after.opened ≤ before.batches
@@ -39,6 +41,10 @@ Gives before result after = going before.refused result
     going None (Ok (Some batch)) = GivesRows before batch after
     going None (Ok None) = (before.left ≡ []) × (after ≡ record before { opened = before.batches })
     going None (Err fault) = (fault ≡ OutOfMemory) × (after.refused ≡ Some fault) × (before.left ≢ [])
+
+-- the types of the table's columns that a plan gives; its schema has those of answers
+abbrev pub plan_types : PlanAt → List DataType
+plan_types plan = types_taken (output_columns plan.output) (tree_types plan.tree)
 
 abbrev pub batches_of : Option TableAt → List BatchAt
 batches_of (Some table) = table.batches

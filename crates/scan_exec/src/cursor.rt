@@ -34,6 +34,20 @@ pub(crate) struct Cursor {
 }
 
 impl Cursor {
+    // Before the rows of a table.
+    pub(crate) fn new(from: usize, to: usize) -> Cursor
+        ensures { result ≡ record { from = from; to = to; at = from; batch = 0; start = 0; opened = 0 } }
+    {
+        Cursor {
+            from,
+            to,
+            at: from,
+            batch: 0,
+            start: 0,
+            opened: 0,
+        }
+    }
+
     // Goes on to the batch that the next row stands in.
     fn seek<'a>(&mut self, table: &'a TableVersion) -> &'a Batch
         requires more { self.old.at < self.old.to }

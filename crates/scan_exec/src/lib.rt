@@ -6,5 +6,8 @@ mod cursor;
 mod filter;
 mod row;
 pub mod scan;
+mod tree;
+
+pub use crate::scan::Scan;
 
 
