@@ -200,12 +200,12 @@ begins plan table read chosen from to typed is e ordered few =
       numbers = e;
       there = ap (are_within width) e ∙ places_within (output_columns plan.output) read width is.there there;
       placed = record {
-          begun = omega arith;
-          ordered = ordered;
-          few = few;
-          behind = omega arith;
-          start = refl;
-          filled = omega arith;
-          opened = sym (none_in from from 0 table.batches (omega arith));
-        };
+        begun = omega arith;
+        ordered = ordered;
+        few = few;
+        behind = omega arith;
+        start = refl;
+        filled = omega arith;
+        opened = sym (none_in from from 0 table.batches (omega arith));
+      };
     }

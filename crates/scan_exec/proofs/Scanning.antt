@@ -97,7 +97,7 @@ cut_given plan table read chosen cursor batch from to is wide low high =
     ∙ ap (map (shown plan)) (sym (batches_keep batch from to low high))
 
 -- a scan as contracts see it
-abbrev seen : PlanAt → TableAt → Cursor → Option Fault → ScanAt
+abbrev pub seen : PlanAt → TableAt → Cursor → Option Fault → ScanAt
 seen plan table cursor refused = record {
   left = given plan (rows_between cursor.at cursor.to (table_of table).rows);
   types = plan_types plan;

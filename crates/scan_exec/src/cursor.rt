@@ -72,8 +72,10 @@ impl Cursor {
     // Counts the batch, where the next row is its first one in the range.
     fn count_opened(&mut self)
         requires { self.old.opened < usize.MAX }
-        ensures { self.new ≡ record self.old { opened
-            = self.old.opened + (if self.old.at == max self.old.start self.old.from then 1 else 0) } }
+        ensures { self.new ≡ record self.old {
+          opened
+              = self.old.opened + (if self.old.at == max self.old.start self.old.from then 1 else 0);
+        } }
     {
         if self.at == self.start.max(self.from) {
             self.opened += 1;

@@ -22,7 +22,8 @@ fn passes(plan: &Plan, row: &BatchRow<'_>) -> bool
 {
     match plan {
         Plan::Scan { .. } => true,
-        Plan::Filter { predicate, input } => passes(input, row) && predicate.truth(row) == Truth::True,
+        Plan::Filter { predicate, input } => passes(input, row)
+            && predicate.truth(row) == Truth::True,
     }
 }
 

@@ -45,11 +45,12 @@ impl<'a> Model for Scan<'a> {
     ghost Value = { ScanAt };
 
     ghost view = { λ s. record {
-        left = given (plan_of s.plan.now) (rows_between s.cursor.at s.cursor.to (table_of s.table.now).rows);
-        types = plan_types (plan_of s.plan.now);
-        batches = batches_in s.cursor.from s.cursor.to 0 s.table.now.batches;
-        opened = s.cursor.opened;
-        refused = s.refused } };
+      left = given (plan_of s.plan.now) (rows_between s.cursor.at s.cursor.to (table_of s.table.now).rows);
+      types = plan_types (plan_of s.plan.now);
+      batches = batches_in s.cursor.from s.cursor.to 0 s.table.now.batches;
+      opened = s.cursor.opened;
+      refused = s.refused;
+    } };
 
     ghost invariant = { λ s. IsScan (plan_of s.plan.now) s.table.now s.read.items s.shown.items s.cursor };
 }
@@ -67,11 +68,12 @@ impl<'a> Scan<'a> {
         requires typed { IsTyped (plan_of plan.now) }
         requires over { IsOver (plan_of plan.now).tree (tables_of catalog.now) }
         ensures { IfOk result (λ scan. scan ≡ record {
-            left = plan_rows (plan_of plan.now) (tables_of catalog.now) from to;
-            types = plan_types (plan_of plan.now);
-            batches = batches_in from to 0 (batches_read (plan_of plan.now) catalog.now);
-            opened = 0;
-            refused = None }) }
+          left = plan_rows (plan_of plan.now) (tables_of catalog.now) from to;
+          types = plan_types (plan_of plan.now);
+          batches = batches_in from to 0 (batches_read (plan_of plan.now) catalog.now);
+          opened = 0;
+          refused = None;
+        }) }
     {
         let Some(table) = catalog.get(table_name(&plan.plan)) else {
             unreachable!()
@@ -102,7 +104,10 @@ impl<'a> Scan<'a> {
         if let Some(fault) = self.refused {
             return Err(fault);
         }
-        let Some(run) = self.cursor.next_run(&self.plan.plan, self.read.as_slice(), self.table) else {
+        let Some(run) = self
+            .cursor
+            .next_run(&self.plan.plan, self.read.as_slice(), self.table)
+        else {
             return Ok(None);
         };
         match slice_of(alloc, run.batch, self.shown.as_slice(), run.from, run.to) {
