@@ -4,3 +4,4 @@ mod TextSlots
 mod Entries
 mod Slices
 mod Rows
+mod Nulls

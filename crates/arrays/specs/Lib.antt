@@ -9,3 +9,6 @@ pub mod Indices
 pub mod Layout
 pub mod Column
 pub mod Batch
+pub mod Buffers
+pub mod Typed
+pub mod Written

@@ -99,4 +99,8 @@ impl Cells for Bools {
         }
         ValueRef::Bool(self.values.get(place))
     }
+
+    fn may_have_nulls(&self) -> bool {
+        self.validity.is_some()
+    }
 }

@@ -1,8 +1,9 @@
 //! What every layout of a column gives.
 
-ghost use Rattle.std.specs.Prelude.{◌≡◌, ◌<◌, ℕ};
+ghost use Rattle.std.specs.Prelude.{◌≡◌, ◌<◌, ℕ, false};
 ghost use Rattle.scan_base.specs.declared.value.Value.{Value};
 ghost use Rattle.scan_base.specs.Value.{value_of};
+ghost use Rattle.arrays.specs.Validity.{is_null};
 
 use scan_base::ValueRef;
 
@@ -21,4 +22,9 @@ pub trait Cells {
     fn value_at(&self, place: usize) -> ValueRef<'_>
         requires { place < slot_count self.now }
         ensures { value_of result ≡ slot self.now place };
+
+    /// Whether a slot may be null: where the answer is no, none is. It looks at no slot.
+    fn may_have_nulls(&self) -> bool
+        ensures { result ≡ false →
+            (place : ℕ) → place < slot_count self.now → is_null (slot self.now place) ≡ false };
 }

@@ -1,7 +1,9 @@
 //! One column of a batch.
 
-ghost use Rattle.std.specs.Prelude.{◌≡◌, ◌==◌, ◌≤◌, IfOk};
-ghost use Rattle.arrays.specs.Column.{cut, whole};
+ghost use Rattle.std.specs.Prelude.{◌≡◌, ◌==◌, ◌≤◌, ◌<◌, ℕ, false, IfOk};
+ghost use Rattle.std.specs.List.{list_any};
+ghost use Rattle.arrays.specs.Validity.{is_null};
+ghost use Rattle.arrays.specs.Column.{cut, whole, slot_of, values_of};
 
 use crate::cells::Cells;
 use crate::layout::Layout;
@@ -93,5 +95,13 @@ impl Cells for Column {
 
     fn value_at(&self, place: usize) -> ValueRef<'_> {
         self.layout.value_at(self.first + place)
+    }
+
+    fn may_have_nulls(&self) -> bool
+        ensures slots { result ≡ false →
+            (place : ℕ) → place < (self.now).len → is_null (slot_of self.now place) ≡ false }
+        ensures values { result ≡ false → list_any is_null (values_of self.now) ≡ false }
+    {
+        self.layout.may_have_nulls()
     }
 }

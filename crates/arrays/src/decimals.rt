@@ -103,4 +103,8 @@ impl Cells for Decimals {
         }
         ValueRef::Int(decimal_at(self.values.as_slice(), place))
     }
+
+    fn may_have_nulls(&self) -> bool {
+        self.validity.is_some()
+    }
 }

@@ -1,8 +1,10 @@
 //! Dictionaries of texts.
 
-ghost use Rattle.std.specs.Prelude.{◌≡◌, ◌==◌, ◌≤◌, ◌<◌, ◌+◌, [], length, slice_get, slice_index, option_map, IfOk};
+ghost use Rattle.std.specs.Prelude.{◌≡◌, ◌==◌, ◌≤◌, ◌<◌, ◌+◌, [], false, length, slice_get, slice_index, option_map, IfOk};
 ghost use Rattle.scan_base.specs.Reading.{GivesUnlessMemory};
 ghost use Rattle.scan_base.specs.Value.{value_of};
+ghost use Rattle.std.specs.List.{list_any};
+ghost use Rattle.arrays.specs.Validity.{is_null};
 ghost use Rattle.arrays.specs.Dictionary.{extended_by};
 
 use crate::cells::Cells;
@@ -70,6 +72,18 @@ impl Dictionary {
         }
         let part = part_of(self.starts.as_slice(), index);
         Some(self.parts[part].value_at(index - self.starts[part]))
+    }
+
+    /// Whether a value may be null: where the answer is no, none is. It looks at no value.
+    pub fn may_have_nulls(&self) -> bool
+        ensures { result ≡ false → list_any is_null self.now ≡ false }
+    {
+        for part in &self.parts {
+            if part.may_have_nulls() {
+                return true;
+            }
+        }
+        false
     }
 
     /// The same values with those of one more part behind them. It takes memory for parts, and copies no

@@ -219,4 +219,8 @@ impl Cells for Indices {
         let index = integer_at(self.index, self.values.as_slice(), place);
         entry(&self.dictionary, index).unwrap_or(ValueRef::Null)
     }
+
+    fn may_have_nulls(&self) -> bool {
+        self.validity.is_some() || self.dictionary.may_have_nulls()
+    }
 }

@@ -118,4 +118,8 @@ impl Cells for Integers {
         }
         ValueRef::Int(integer_at(self.integer, self.values.as_slice(), place))
     }
+
+    fn may_have_nulls(&self) -> bool {
+        self.validity.is_some()
+    }
 }

@@ -66,4 +66,14 @@ impl Cells for Layout {
             Layout::Indices(cells) => cells.value_at(place),
         }
     }
+
+    fn may_have_nulls(&self) -> bool {
+        match self {
+            Layout::Integers(cells) => cells.may_have_nulls(),
+            Layout::Decimals(cells) => cells.may_have_nulls(),
+            Layout::Bools(cells) => cells.may_have_nulls(),
+            Layout::Texts(cells) => cells.may_have_nulls(),
+            Layout::Indices(cells) => cells.may_have_nulls(),
+        }
+    }
 }

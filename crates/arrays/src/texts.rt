@@ -249,4 +249,8 @@ impl Cells for Texts {
         // The slot is valid, so its text was found to be UTF-8.
         ValueRef::Text(unsafe { from_utf8_unchecked(text) })
     }
+
+    fn may_have_nulls(&self) -> bool {
+        self.validity.is_some()
+    }
 }

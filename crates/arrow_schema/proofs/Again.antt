@@ -25,7 +25,7 @@ use Rattle.arrow_schema.specs.declared.data_type.DictionaryEncoding.{DictionaryE
 use Rattle.arrow_schema.specs.declared.schema.Field.{Field}
 use Rattle.arrow_schema.specs.declared.schema.Schema.{Schema}
 use Rattle.arrow_schema.specs.DataType.{bit_width, is_signed}
-use Rattle.arrow_schema.specs.Header.{MessageAt, message_of, table_wanted, vector_wanted, name_of, integer_type, integer_of, decimal_of, type_kind, type_of, value_type_of, childless, dictionary_of, encoded, field_in, field_at, fields_of, schema_in_all_types, is_schema, schema_message_of, schema_of_all_types}
+use Rattle.arrow_schema.specs.Header.{MessageAt, message_of, table_wanted, vector_wanted, name_of, integer_type, integer_of, decimal_of, type_kind, type_of, value_type_of, childless, dictionary_of, encoded, field_in, field_at, fields_of, schema_in, is_schema, schema_message_of, schema_of}
 use Rattle.arrow_schema.specs.Schema.{IsName, IsType, IsField, IsSchema}
 use Rattle.arrow_schema.specs.Message.{message_part}
 use Rattle.arrow_schema.specs.Written.{given_if, encoding_of, flag, type_number, integer_part, type_part, dictionary_part, dictionary_given, field_slots, field_part, schema_part, schema_bytes, SchemasReadBack}
@@ -365,8 +365,8 @@ short_schema schema is =
 -- the schema that a message names, whose header is a table that was written
 schema_in_again : (schema : Schema) (bytes : List ℕ) (message : MessageAt) (place : ℕ) → IsSchema schema →
     table_wanted message.table 2 ≡ Ok (table_at bytes place (schema_part schema)) → Stands (schema_part schema).bytes bytes place →
-    schema_in_all_types message ≡ Ok schema
-unfolding schema_in_all_types schema_part vector_wanted
+    schema_in message ≡ Ok schema
+unfolding schema_in schema_part vector_wanted
 schema_in_again schema bytes message place is found s =
     let fields = schema.fields in
     let are = recursion_from_All IsField fields is.fields in
@@ -381,8 +381,8 @@ schema_in_again schema bytes message place is found s =
     rw (found, endianness, led.0, again, is.apart) refl
 
 schema_message_again : (bytes : List ℕ) (message : MessageAt) (schema : Schema) → message_of bytes ≡ Ok message → message.kind ≡ header.Schema →
-    schema_in_all_types message ≡ Ok schema → schema_of_all_types bytes ≡ Ok schema
-unfolding schema_of_all_types schema_message_of
+    schema_in message ≡ Ok schema → schema_of bytes ≡ Ok schema
+unfolding schema_of schema_message_of
 schema_message_again bytes message schema found kind e = rw (found, ap is_schema kind) e
 
 pub schemas_read : SchemasReadBack

@@ -23,7 +23,7 @@ use Rattle.arrow_schema.specs.declared.data_type.DictionaryEncoding.{DictionaryE
 use Rattle.arrow_schema.specs.declared.schema.Field.{Field}
 use Rattle.arrow_schema.specs.declared.schema.Schema.{Schema}
 use Rattle.arrow_schema.specs.DataType.{bit_width, is_signed}
-use Rattle.arrow_schema.specs.Header.{MessageAt, table_wanted, vector_wanted, header_kind, message_of, is_name, name_of, integer_type, integer_of, decimal_of, type_kind, type_of, value_type_of, is_bare, childless, index_of, is_utf8_type, dictionary_of, encoded, field_in, field_at, fields_of, same_dictionary, is_schema, schema_message_of, schema_in_all_types, schema_of_all_types}
+use Rattle.arrow_schema.specs.Header.{MessageAt, table_wanted, vector_wanted, header_kind, message_of, is_name, name_of, integer_type, integer_of, decimal_of, type_kind, type_of, value_type_of, is_bare, childless, index_of, is_utf8_type, dictionary_of, encoded, field_in, field_at, fields_of, same_dictionary, is_schema, schema_message_of, schema_in, schema_of}
 use Rattle.arrow_schema.specs.Says.{SaysInteger, SaysDecimal, SaysType, SaysIndex, SaysDictionary, SaysEncoding, SaysField, SaysFieldAt, SaysColumns, SaysSchema}
 use Rattle.arrow_schema.specs.Written.{type_number}
 use Rattle.arrow_schema.proofs.Again.{kind_of, type_kind_again, low_number, stored_number}
@@ -541,8 +541,8 @@ record SaysHeader (message : TableAt) (schema : Schema) : Type 0 where
   headed : HasTable message 2 (Some header)
   columns : SaysColumns header schema
 
-header_told : (message : MessageAt) (schema : Schema) → IsBytes message.table.bytes → schema_in_all_types message ≡ Ok schema → SaysHeader message.table schema
-unfolding schema_in_all_types
+header_told : (message : MessageAt) (schema : Schema) → IsBytes message.table.bytes → schema_in message ≡ Ok schema → SaysHeader message.table schema
+unfolding schema_in
 header_told message schema is e =
     let a = bind_ok (table_wanted message.table 2) _ schema e in
     let b = bind_ok (scalar_of 2 a.0 0 0) _ schema a.2 in
@@ -572,8 +572,8 @@ header_told message schema is e =
       });
     }
 
-header_read : (message : MessageAt) (schema : Schema) → IsBytes message.table.bytes → SaysHeader message.table schema → schema_in_all_types message ≡ Ok schema
-unfolding schema_in_all_types table_wanted vector_wanted
+header_read : (message : MessageAt) (schema : Schema) → IsBytes message.table.bytes → SaysHeader message.table schema → schema_in message ≡ Ok schema
+unfolding schema_in table_wanted vector_wanted
 header_read message schema is says =
     let columns = says.columns in
     let is2 = bytes_table message.table 2 says.header is says.headed in
@@ -586,10 +586,10 @@ header_read message schema is says =
       columns.apart,
     ) refl
 
-pub schema_told : (bytes : List ℕ) (schema : Schema) → IsBytes bytes → schema_of_all_types bytes ≡ Ok schema → SaysSchema bytes schema
-unfolding schema_of_all_types
+pub schema_told : (bytes : List ℕ) (schema : Schema) → IsBytes bytes → schema_of bytes ≡ Ok schema → SaysSchema bytes schema
+unfolding schema_of
 schema_told bytes schema is e =
-    let m = bind_ok (schema_message_of bytes) schema_in_all_types schema e in
+    let m = bind_ok (schema_message_of bytes) schema_in schema e in
     let message = message_told bytes m.0 is m.1 in
     let told = header_told m.0 schema (subst IsBytes (sym message.root.same) is) m.2 in
     record {
@@ -602,8 +602,8 @@ schema_told bytes schema is e =
       columns = told.columns;
     }
 
-pub schema_read : (bytes : List ℕ) (schema : Schema) → IsBytes bytes → SaysSchema bytes schema → schema_of_all_types bytes ≡ Ok schema
-unfolding schema_of_all_types
+pub schema_read : (bytes : List ℕ) (schema : Schema) → IsBytes bytes → SaysSchema bytes schema → schema_of bytes ≡ Ok schema
+unfolding schema_of
 schema_read bytes schema is says =
     let message : MessageAt = record { kind = header.Schema; table = says.message } in
     let told = header_read message schema (subst IsBytes (sym says.root.same) is) (record { header = says.header; headed = says.headed; columns = says.columns }) in

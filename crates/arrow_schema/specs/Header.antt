@@ -1,6 +1,6 @@
 -- What the header of a message names, by the places of its tables. The first thing that is not so gives the
 -- fault, in the order in which the lines below stand.
-use Rattle.std.specs.Prelude.{ℕ, ◌==◌, ◌&&◌, not, Bool, true, false, nat_lt, nat_le, length, List, [], ◌∷◌, Option, Some, None, Result, Ok, Err, if◌then◌else◌}
+use Rattle.std.specs.Prelude.{ℕ, ◌==◌, ◌&&◌, not, Bool, true, false, nat_lt, nat_le, length, List, Option, Some, None, Result, Ok, Err, if◌then◌else◌}
 use Rattle.std.specs.List.{range_with_len}
 use Rattle.scan_base.specs.declared.fault.Fault.{Fault}
 use Rattle.scan_base.specs.declared.fault.Fault.TheVariants.{BadFlatbuffer, UnsupportedArrow, LimitReached}
@@ -183,8 +183,8 @@ fields_of vector = do
   each (field_at vector) (range_with_len 0 vector.count)
 
 -- the schema that a message names, of little-endian columns of any type
-unfoldable pub schema_in_all_types : MessageAt → Result Schema Fault
-schema_in_all_types message = do
+unfoldable pub schema_in : MessageAt → Result Schema Fault
+schema_in message = do
   header ← header_of message
   endianness ← scalar_of 2 header 0 0
   _ ← demand (endianness == 0) UnsupportedArrow
@@ -192,22 +192,6 @@ schema_in_all_types message = do
   fields ← fields_of vector
   _ ← demand (not (repeats same_dictionary fields)) UnsupportedArrow
   Ok (record { fields = fields })
-
--- Until every type is built: the schemas of one Int64 column alone.
-abbrev pub is_long : DataType → Bool
-is_long (Integer Int64) = true
-is_long _ = false
-
-abbrev pub is_built : List Field → Bool
-is_built (field ∷ []) = is_long field.data_type
-is_built _ = false
-
--- the schema that a message names, where it is built
-unfoldable pub schema_in : MessageAt → Result Schema Fault
-schema_in message = do
-  schema ← schema_in_all_types message
-  _ ← demand (is_built schema.fields) UnsupportedArrow
-  Ok schema
 
 abbrev pub is_schema : HeaderKind → Bool
 is_schema header.Schema = true
@@ -221,9 +205,5 @@ schema_message_of bytes = do
   Ok message
 
 -- the schema that a buffer holds, of any type
-unfoldable pub schema_of_all_types : List ℕ → Result Schema Fault
-schema_of_all_types bytes = schema_message_of bytes >>= schema_in_all_types
-
--- the schema that a buffer holds, where it is built
 unfoldable pub schema_of : List ℕ → Result Schema Fault
 schema_of bytes = schema_message_of bytes >>= schema_in

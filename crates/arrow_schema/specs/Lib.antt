@@ -1,10 +1,8 @@
-pub mod Batch
-pub mod Column
+pub mod Answer
 pub mod DataType
 pub mod Header
 pub mod Limits
 pub mod Message
-pub mod NoNulls
 pub mod Says
 pub mod Schema
 pub mod Seen

@@ -12,7 +12,7 @@ use Rattle.arrow_schema.specs.declared.data_type.DictionaryEncoding.{DictionaryE
 use Rattle.arrow_schema.specs.declared.schema.Field.{Field}
 use Rattle.arrow_schema.specs.declared.schema.Schema.{Schema}
 use Rattle.arrow_schema.specs.DataType.{bit_width, is_signed}
-use Rattle.arrow_schema.specs.Header.{is_bare, same_dictionary, is_built, schema_of_all_types, schema_of}
+use Rattle.arrow_schema.specs.Header.{is_bare, same_dictionary, schema_of}
 use Rattle.arrow_schema.specs.Schema.{IsSchema}
 use Rattle.arrow_schema.specs.Written.{type_number}
 
@@ -103,13 +103,8 @@ pub record SaysSchema (bytes : List ℕ) (schema : Schema) : Type 0 where
 
 -- what is read of a buffer is just what it says
 abbrev pub ReadIsSaid : Type 0
-ReadIsSaid = (bytes : List ℕ) (schema : Schema) → IsBytes bytes → (schema_of_all_types bytes ≡ Ok schema) ↔ SaysSchema bytes schema
-
--- until every type is built, of the schemas of one Int64 column alone
-abbrev pub BuiltIsSaid : Type 0
-BuiltIsSaid = (bytes : List ℕ) (schema : Schema) → IsBytes bytes →
-    (schema_of bytes ≡ Ok schema) ↔ (SaysSchema bytes schema × IsTrue (is_built schema.fields))
+ReadIsSaid = (bytes : List ℕ) (schema : Schema) → IsBytes bytes → (schema_of bytes ≡ Ok schema) ↔ SaysSchema bytes schema
 
 -- a schema that was read may be written
 abbrev pub ReadIsSchema : Type 0
-ReadIsSchema = (bytes : List ℕ) (schema : Schema) → IsBytes bytes → schema_of_all_types bytes ≡ Ok schema → IsSchema schema
+ReadIsSchema = (bytes : List ℕ) (schema : Schema) → IsBytes bytes → schema_of bytes ≡ Ok schema → IsSchema schema

@@ -10,7 +10,7 @@ use Rattle.arrow_schema.specs.declared.schema.Field.{Field}
 use Rattle.arrow_schema.specs.declared.schema.Schema.{Schema}
 use Rattle.arrow_schema.specs.DataType.{bit_width, is_signed}
 use Rattle.arrow_schema.specs.Message.{message_bytes}
-use Rattle.arrow_schema.specs.Header.{schema_of_all_types}
+use Rattle.arrow_schema.specs.Header.{schema_of}
 use Rattle.arrow_schema.specs.Schema.{IsSchema}
 
 -- a truth as a byte
@@ -87,7 +87,7 @@ schema_bytes schema = message_bytes header.Schema (schema_part schema) 0
 
 -- a schema that was written is read again
 abbrev pub SchemasReadBack : Type 0
-SchemasReadBack = (schema : Schema) → IsSchema schema → schema_of_all_types (schema_bytes schema) ≡ Ok schema
+SchemasReadBack = (schema : Schema) → IsSchema schema → schema_of (schema_bytes schema) ≡ Ok schema
 
 -- A header in IPC form: four bytes of 255, a length of four bytes, and the header with its zeros, which the
 -- length counts.

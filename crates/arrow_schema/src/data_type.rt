@@ -1,6 +1,7 @@
 //! The types of columns.
 
 ghost use Rattle.std.specs.Prelude.{◌≡◌};
+ghost use Rattle.arrow_schema.specs.Answer.{answer_type};
 ghost use Rattle.arrow_schema.specs.DataType.{bit_width, is_signed};
 
 /// The whole numbers of fixed width.
@@ -57,6 +58,19 @@ impl IntegerType {
                 true,
             IntegerType::UInt8 | IntegerType::UInt16 | IntegerType::UInt32 | IntegerType::UInt64 =>
                 false,
+        }
+    }
+}
+
+impl DataType {
+    /// The type as which a column of this type is answered. Until dictionary answers are built, a
+    /// dictionary of texts is answered as texts.
+    pub fn answered(self) -> DataType
+        ensures { result ≡ answer_type self }
+    {
+        match self {
+            DataType::Dictionary(_) => DataType::Utf8,
+            other => other,
         }
     }
 }

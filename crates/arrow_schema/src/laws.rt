@@ -1,11 +1,9 @@
 //! Laws. Each function here has an empty body: its contract is the law.
 
+ghost use Rattle.arrow_schema.specs.Answer.{AnsweredIsSchema, AnsweredIsPlain, AnsweredOnce};
 ghost use Rattle.arrow_schema.specs.Message.{MessagesReadBack};
 ghost use Rattle.arrow_schema.specs.Written.{SchemasReadBack};
-ghost use Rattle.arrow_schema.specs.Says.{ReadIsSaid, BuiltIsSaid, ReadIsSchema};
-ghost use Rattle.arrow_schema.specs.Column.{ColumnSlicesKeepValues};
-ghost use Rattle.arrow_schema.specs.Batch.{BatchSlicesKeepRows};
-ghost use Rattle.arrow_schema.specs.NoNulls.{SlicesHaveNoNulls, ValuesArePacked};
+ghost use Rattle.arrow_schema.specs.Says.{ReadIsSaid, ReadIsSchema};
 
 /// What is read of a written message is its kind, its header and the length of its body, wherever
 /// the header's block leads.
@@ -26,38 +24,24 @@ pub fn read_schemas_are_said()
     ensures { ReadIsSaid }
 {}
 
-/// Until every type is built, a schema is read where a buffer says it and it is of one Int64
-/// column.
-pub fn built_schemas_are_said()
-    ensures { BuiltIsSaid }
-{}
-
 /// A schema that was read may be written, whatever its types are.
 pub fn read_schemas_are_schemas()
     ensures { ReadIsSchema }
 {}
 
-/// The slots of a column from one up to, not with, another have the values that they had.
-#[tactic(auto, using(crate::proofs::Slices::columns_keep))]
-pub fn column_slices_keep_values()
-    ensures { ColumnSlicesKeepValues }
+/// The columns as which those of a schema are answered may be written.
+pub fn answered_schemas_are_schemas()
+    ensures { AnsweredIsSchema }
 {}
 
-/// The rows of a batch from one up to, not with, another are the rows that they were.
-#[tactic(auto, using(crate::proofs::Slices::batches_keep))]
-pub fn batch_slices_keep_rows()
-    ensures { BatchSlicesKeepRows }
+/// No column is answered with a dictionary.
+#[tactic(auto, using(crate::proofs::Answered::answered_is_plain))]
+pub fn answered_schemas_are_plain()
+    ensures { AnsweredIsPlain }
 {}
 
-/// A slice of a batch without nulls has none.
-#[tactic(auto, using(crate::proofs::NoNulls::slices_full))]
-pub fn slices_have_no_nulls()
-    ensures { SlicesHaveNoNulls }
-{}
-
-/// The bytes of the values of a column without nulls are those values in two's complement, one
-/// behind another.
-#[tactic(auto, using(crate::proofs::Packed::values_packed))]
-pub fn values_are_packed()
-    ensures { ValuesArePacked }
+/// What is answered of an answer's columns is those columns.
+#[tactic(auto, using(crate::proofs::Answered::answered_once))]
+pub fn answered_schemas_are_answered_once()
+    ensures { AnsweredOnce }
 {}

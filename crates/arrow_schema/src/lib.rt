@@ -1,8 +1,6 @@
-//! Arrow's types, schemas, columns and batches.
+//! Arrow's types and schemas.
 #![tactic(auto)]
 
-pub mod batch;
-pub mod column;
 pub mod data_type;
 pub mod header;
 pub mod laws;
@@ -10,8 +8,6 @@ pub mod reading;
 pub mod schema;
 pub mod writing;
 
-pub use crate::batch::Batch;
-pub use crate::column::Column;
 pub use crate::data_type::{DataType, DictionaryEncoding, IntegerType};
 pub use crate::header::{HeaderKind, Message, read_message};
 pub use crate::reading::read_schema;

@@ -1,7 +1,12 @@
 //! The columns of a table.
 
+ghost use Rattle.std.specs.Prelude.{◌≡◌, IfOk};
+ghost use Rattle.arrow_schema.specs.Answer.{answer_field, answer_schema};
+ghost use Rattle.arrow_schema.specs.Schema.{IsSchema};
+
 use crate::data_type::DataType;
 use scan_base::{Items, Text};
+use std::alloc::{AllocError, Global};
 
 /// The most columns of a schema.
 pub const MAX_COLUMNS: usize = 64;
@@ -21,4 +26,57 @@ pub struct Field {
 #[derive(Debug, Drop)]
 pub struct Schema {
     pub fields: Items<Field>,
+}
+
+impl Field {
+    /// The same column once more. It fails with [`AllocError`] where memory is refused, and with no
+    /// other error.
+    pub fn copy(&self) -> Result<Field, AllocError>
+        ensures { IfOk result (λ copy. copy ≡ self.now) }
+    {
+        Ok(Field {
+            name: self.name.clone()?,
+            nullable: self.nullable,
+            data_type: self.data_type,
+        })
+    }
+
+    /// The column as which this one is answered: it keeps its name, and whether a cell may be null.
+    /// It fails with [`AllocError`] where memory is refused, and with no other error.
+    pub fn answered(&self) -> Result<Field, AllocError>
+        ensures { IfOk result (λ answer. answer ≡ answer_field self.now) }
+    {
+        Ok(Field {
+            name: self.name.clone()?,
+            nullable: self.nullable,
+            data_type: self.data_type.answered(),
+        })
+    }
+}
+
+impl Schema {
+    /// The same columns once more. It fails with [`AllocError`] where memory is refused, and with no
+    /// other error.
+    pub fn copy(&self, alloc: Global) -> Result<Schema, AllocError>
+        ensures { IfOk result (λ copy. copy ≡ self.now) }
+    {
+        let mut fields = Items::new(alloc);
+        for field in self.fields.as_slice() {
+            fields.push(field.copy()?)?;
+        }
+        Ok(Schema { fields })
+    }
+
+    /// The columns as which these are answered, all of them, in order. It fails with [`AllocError`]
+    /// where memory is refused, and with no other error.
+    pub fn answered(&self, alloc: Global) -> Result<Schema, AllocError>
+        ensures answer { IfOk result (λ answer. answer ≡ answer_schema self.now) }
+        ensures valid { IsSchema self.now → IfOk result IsSchema }
+    {
+        let mut fields = Items::new(alloc);
+        for field in self.fields.as_slice() {
+            fields.push(field.answered()?)?;
+        }
+        Ok(Schema { fields })
+    }
 }

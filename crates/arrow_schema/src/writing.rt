@@ -5,7 +5,7 @@ ghost use Rattle.std.specs.Prelude.{length, map, option_map};
 ghost use Rattle.flatbuf.specs.Given.{given_of};
 ghost use Rattle.arrow_schema.specs.Message.{message_bytes};
 ghost use Rattle.arrow_schema.specs.Schema.{IsType, IsField, IsSchema};
-ghost use Rattle.arrow_schema.specs.Header.{schema_of_all_types};
+ghost use Rattle.arrow_schema.specs.Header.{schema_of};
 ghost use Rattle.arrow_schema.specs.Written.{type_number, integer_part, type_part, dictionary_part};
 ghost use Rattle.arrow_schema.specs.Written.{encoding_of, given_if, field_part, schema_part};
 ghost use Rattle.arrow_schema.specs.Written.{schema_bytes, encapsulated};
@@ -158,7 +158,7 @@ fn schema_block(alloc: Global, schema: &Schema) -> Result<Block, AllocError>
 pub fn write_schema(alloc: Global, schema: &Schema) -> Result<Vec<u8>, AllocError>
     requires { IsSchema schema.now }
     ensures items { IfOk result (λ out. out.items ≡ schema_bytes schema.now) }
-    ensures again { IfOk result (λ out. schema_of_all_types out.items ≡ Ok schema.now) }
+    ensures again { IfOk result (λ out. schema_of out.items ≡ Ok schema.now) }
     ensures whole { IfOk result (λ out. length out.items % 8 ≡ 0) }
     ensures short { IfOk result (λ out. length out.items < 2 ^ 20) }
 {

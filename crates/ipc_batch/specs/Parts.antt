@@ -1,7 +1,7 @@
 -- What a RecordBatch table says before any type is looked at: how many rows there are, and the nodes and
 -- buffers that the columns are made of. The first thing that is not so gives the fault, in the order of the
 -- lines.
-use Rattle.std.specs.Prelude.{ℕ, ◌+◌, ◌*◌, ◌/◌, nat_le, List, length, map, take, drop, is_none, Result, Ok}
+use Rattle.std.specs.Prelude.{ℕ, ◌+◌, ◌*◌, ◌/◌, ◌==◌, Bool, not, nat_le, List, length, map, take, drop, is_none, Result, Ok}
 use Rattle.std.specs.List.{range_with_len}
 use Rattle.byteorder.specs.Endian.{little_from}
 use Rattle.scan_base.specs.declared.fault.Fault.{Fault}
@@ -70,12 +70,19 @@ parts_of message table body = do
   _ ← body_claimed message body
   Ok (record { rows = rows; nodes = nodes_in nodes; places = places_in places })
 
--- what a DictionaryBatch table of a message with this body says: an id, the values, and whether they stand
--- behind the old ones
-unfoldable pub dictionary_parts : MessageAt → List ℕ → Result PartsAt Fault
+-- what a DictionaryBatch table says: an id, the parts of its values, and whether they stand behind the old
+-- ones
+pub record DictionaryParts : Type 0 where
+  pub id : ℕ
+  pub parts : PartsAt
+  pub is_delta : Bool
+
+-- what the DictionaryBatch table of a message with this body says
+unfoldable pub dictionary_parts : MessageAt → List ℕ → Result DictionaryParts Fault
 dictionary_parts message body = do
   table ← header_of message
-  _ ← scalar_of 8 table 0 0
+  id ← scalar_of 8 table 0 0
   values ← table_wanted table 1
-  _ ← scalar_of 1 table 2 0
-  parts_of message values body
+  delta ← scalar_of 1 table 2 0
+  parts ← parts_of message values body
+  Ok (record { id = id; parts = parts; is_delta = not (delta == 0) })

@@ -6,8 +6,8 @@ use Rattle.std.proofs.lemmas.Option.{slice_get-map, slice_get-get_or, slice_get_
 use Rattle.std.proofs.lemmas.List.FromFn.{fill_by_all, get_or-range_with_len}
 use Rattle.std.proofs.lemmas.List.{length-map, take_more, map-append}
 use Rattle.std.proofs.lemmas.List.Elements.{All-append}
-use Rattle.arrow_schema.specs.Column.{ColumnAt, slot_of, cut}
-use Rattle.arrow_schema.specs.Batch.{AreLong, row_of}
+use Rattle.arrays.specs.Column.{ColumnAt, slot_of, cut}
+use Rattle.arrays.specs.Batch.{AreLong, row_of}
 use Rattle.scan_base.specs.declared.value.Value.{Value}
 use Rattle.scan_base.specs.declared.value.Value.TheVariants.{Null}
 use Rattle.scan_base.specs.Predicate.{cell_in}
@@ -42,7 +42,7 @@ map-cells : (row : Row) → map (cell_in row) (range_with_len 0 (length row)) �
 map-cells row = sym (fill_by_all (cell_in row) row (length row) Null refl (λ k h. sym (unwrap_or-slice_get row k Null)))
 
 -- the places of numbers counted from 0
-places : (width : ℕ) (numbers : List ℕ) → are_within width numbers ≡ true → map (slice_index (range_with_len 0 width)) numbers ≡ numbers
+pub places : (width : ℕ) (numbers : List ℕ) → are_within width numbers ≡ true → map (slice_index (range_with_len 0 width)) numbers ≡ numbers
 places width [] h = refl
 places width (number ∷ numbers) h =
     let parts = both (nat_lt number width) (are_within width numbers) h in

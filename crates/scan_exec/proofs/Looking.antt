@@ -3,11 +3,11 @@ use Rattle.std.proofs.Common.{◌≡◌, ◌≤◌, ◌<◌, ℕ, ◌+◌, ◌-�
 use Rattle.std.specs.List.{flat_map, filter}
 use Rattle.std.proofs.lemmas.Bool.{cases_eq, eq-eqb, ne_eqb}
 use Rattle.std.proofs.lemmas.List.Elements.{filter-append}
-use Rattle.arrow_schema.specs.Batch.{BatchAt, rows_of, cut_batch}
+use Rattle.arrays.specs.Batch.{BatchAt, rows_of, cut_batch}
+use Rattle.arrays.specs.Typed.{AreOfTypes}
 use Rattle.table_versions.specs.Stored.{TableAt, table_of}
-use Rattle.table_versions.specs.Standing.{rows_before, StandsAt}
+use Rattle.table_versions.specs.Standing.{rows_before, StandsAt, BatchesAreRows}
 use Rattle.table_versions.specs.Table.{Row}
-use Rattle.table_versions.proofs.Standing.{batches_are_rows}
 use Rattle.typed_plan.specs.Joined.{rows_between}
 use Rattle.typed_plan.proofs.Ranges.{rows_between-append}
 use Rattle.scan_exec.specs.declared.cursor.Cursor.{Cursor}
@@ -17,15 +17,12 @@ use Rattle.scan_exec.specs.Placed.{IsPlaced, Looks, rows_ahead}
 use Rattle.scan_exec.specs.Runs.{IsFirstRun}
 use Rattle.scan_exec.proofs.Opening.{opens, stays_open, in_few}
 
-stands : (table : TableAt) (i : ℕ) (batch : BatchAt) → slice_get table.batches i ≡ Some batch → StandsAt table i batch
-stands table i batch there = (batches_are_rows table).1 i batch there
-
 -- past a batch that ends before the next row
-pub past : (table : TableAt) (cursor : Cursor) (batch : BatchAt) → IsPlaced table cursor → slice_get table.batches cursor.batch ≡ Some batch →
+pub past : BatchesAreRows → (table : TableAt) (cursor : Cursor) (batch : BatchAt) → IsPlaced table cursor → slice_get table.batches cursor.batch ≡ Some batch →
     0 < batch.rows → cursor.start + batch.rows ≤ cursor.at →
     IsPlaced table (record cursor { batch = cursor.batch + 1; start = cursor.start + batch.rows })
-past table cursor batch is there some h =
-    let next = (stands table cursor.batch batch there).next in
+past standing table cursor batch is there some h =
+    let next = ((standing table).1 cursor.batch batch there).next in
     record {
       begun = is.begun;
       ordered = is.ordered;
@@ -40,7 +37,7 @@ past table cursor batch is there some h =
 pub opened_few : (table : TableAt) (cursor : Cursor) → IsPlaced table cursor → cursor.opened ≤ cursor.at
 opened_few table cursor is = omega (arith, is.opened, in_few cursor.from cursor.at 0 table.batches)
 
-module _ (table : TableAt) (cursor : Cursor) (batch : BatchAt) (there : slice_get table.batches cursor.batch ≡ Some batch)
+module _ (standing : BatchesAreRows) (table : TableAt) (cursor : Cursor) (batch : BatchAt) (there : slice_get table.batches cursor.batch ≡ Some batch)
     (is : IsPlaced table cursor) (more : cursor.at < cursor.to) (high : cursor.at < cursor.start + batch.rows)
     (held : Row → Bool) (start end : ℕ)
     (run : IsFirstRun held batch (cursor.at - cursor.start) (min batch.rows (cursor.to - cursor.start)) start end) where
@@ -90,7 +87,7 @@ module _ (table : TableAt) (cursor : Cursor) (batch : BatchAt) (there : slice_ge
       let place : cursor.start + from ≡ rows_before table.batches cursor.batch + from = omega (arith, is.start) in
       ap (λ (n : ℕ). take n (drop (cursor.start + from) (table_of table).rows)) size
       ∙ ap (λ (n : ℕ). take (to - from) (drop n (table_of table).rows)) place
-      ∙ sym ((stands table cursor.batch batch there).cut from to low within)
+      ∙ sym (((standing table).1 cursor.batch batch there).cut from to low within)
 
   pub rows_after : rows_ahead held table cursor ≡ rows_of (cut_batch batch start end) ++ rows_ahead held table after
   rows_after =
@@ -113,23 +110,23 @@ pub still_more : (before mid : Cursor) → mid ≡ record before { batch = mid.b
 still_more before mid moved h = omega (arith, h, ap (λ (x : Cursor). x.at) moved, ap (λ (x : Cursor). x.to) moved)
 
 -- what looking at rows of a batch gives, once the batch is counted
-pub placed_then : (table : TableAt) (mid counted : Cursor) (batch : BatchAt) (held : Row → Bool) (last start end : ℕ) →
+pub placed_then : BatchesAreRows → (table : TableAt) (mid counted : Cursor) (batch : BatchAt) (held : Row → Bool) (last start end : ℕ) →
     slice_get table.batches mid.batch ≡ Some batch → IsPlaced table mid → mid.at < mid.to → mid.at < mid.start + batch.rows →
     counted ≡ record mid { opened = mid.opened + (if mid.at == max mid.start mid.from then 1 else 0) } →
     last ≡ min batch.rows (mid.to - mid.start) → IsFirstRun held batch (mid.at - mid.start) last start end →
     IsPlaced table (record counted { at = counted.start + end })
-placed_then table mid counted batch held last start end there is more high e l run =
+placed_then standing table mid counted batch held last start end there is more high e l run =
     let its = subst (λ (n : ℕ). IsFirstRun held batch (mid.at - mid.start) n start end) l run in
-    subst (λ (x : Cursor). IsPlaced table (record x { at = x.start + end })) (sym e) (placed_after table mid batch there is more high held start end its)
+    subst (λ (x : Cursor). IsPlaced table (record x { at = x.start + end })) (sym e) (placed_after standing table mid batch there is more high held start end its)
 
-pub looks_then : (table : TableAt) (before mid counted : Cursor) (run : Run) (held : Row → Bool) (last : ℕ) →
+pub looks_then : BatchesAreRows → (table : TableAt) (before mid counted : Cursor) (run : Run) (held : Row → Bool) (last : ℕ) →
     mid ≡ record before { batch = mid.batch; start = mid.start } →
-    length run.batch.now.columns ≡ length table.schema.fields →
+    length run.batch.now.columns ≡ length table.schema.fields → AreOfTypes table.schema.fields run.batch.now.columns →
     slice_get table.batches mid.batch ≡ Some run.batch.now → IsPlaced table mid → before.at < before.to → mid.at < mid.start + run.batch.now.rows →
     counted ≡ record mid { opened = mid.opened + (if mid.at == max mid.start mid.from then 1 else 0) } →
     last ≡ min run.batch.now.rows (mid.to - mid.start) → IsFirstRun held run.batch.now (mid.at - mid.start) last run.from run.to →
     Looks held table before run (record counted { at = counted.start + run.to })
-looks_then table before mid counted run held last moved wide there is more high e l found =
+looks_then standing table before mid counted run held last moved wide typed there is more high e l found =
     let batch = run.batch.now in
     let at : mid.at ≡ before.at = ap (λ (x : Cursor). x.at) moved in
     let begin : counted.start ≡ mid.start = ap (λ (x : Cursor). x.start) e in
@@ -138,10 +135,11 @@ looks_then table before mid counted run held last moved wide there is more high 
     record {
       from = ap (λ (x : Cursor). x.from) e ∙ ap (λ (x : Cursor). x.from) moved;
       to = ap (λ (x : Cursor). x.to) e ∙ ap (λ (x : Cursor). x.to) moved;
-      forth = let f = forth table mid batch there is some high held run.from run.to its in omega (arith, f, at, begin);
+      forth = let f = forth standing table mid batch there is some high held run.from run.to its in omega (arith, f, at, begin);
       ordered = its.ordered;
       within = omega (arith, its.high);
       wide = wide;
-      rows = ap (λ (x : Cursor). rows_ahead held table x) (sym moved) ∙ rows_after table mid batch there is some high held run.from run.to its
+      typed = typed;
+      rows = ap (λ (x : Cursor). rows_ahead held table x) (sym moved) ∙ rows_after standing table mid batch there is some high held run.from run.to its
           ∙ ap (λ (x : Cursor). rows_of (cut_batch batch run.from run.to) ++ rows_ahead held table (record x { at = x.start + run.to })) (sym e);
     }

@@ -3,7 +3,7 @@ use Rattle.std.proofs.Common.{◌≡◌, ◌≤◌, ◌<◌, ℕ, ◌+◌, ◌-�
 use Rattle.std.specs.List.{flat_map}
 use Rattle.std.proofs.lemmas.Bool.{cases_lt, lt-ltb, le-ltb}
 use Rattle.std.proofs.lemmas.List.{take-append-drop}
-use Rattle.arrow_schema.specs.Batch.{BatchAt, rows_of}
+use Rattle.arrays.specs.Batch.{BatchAt, rows_of}
 use Rattle.table_versions.specs.Standing.{rows_before}
 use Rattle.table_versions.proofs.Places.{split_at}
 use Rattle.table_versions.proofs.Rowing.{rows-cons}

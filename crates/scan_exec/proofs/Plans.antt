@@ -1,9 +1,10 @@
 -- What a plan reads and gives.
-use Rattle.std.proofs.Common.{◌≡◌, ◌≤◌, ◌<◌, ℕ, zero, suc, ◌+◌, ◌-◌, Bool, true, false, ◌&&◌, List, [], ◌∷◌, length, map, take, drop, get_or, max, min, nat_lt, slice_get, slice_index, unwrap_or, Option, Some, None, cond, refl, sym, ap, subst, ◌∙◌, arith, length-drop}
+use Rattle.std.proofs.Common.{◌≡◌, ◌≤◌, ◌<◌, ℕ, zero, suc, ◌+◌, ◌-◌, Bool, true, false, ◌&&◌, List, [], ◌∷◌, length, map, take, drop, get_or, max, min, nat_lt, slice_get, slice_index, unwrap_or, option_map, Option, Some, None, cond, refl, sym, ap, subst, ◌∙◌, arith, length-drop}
 use Rattle.std.specs.List.{filter, list_all, range_with_len}
 use Rattle.std.proofs.lemmas.Bool.{lt-ltb, ltb-true}
 use Rattle.std.proofs.lemmas.List.{length-map, take_min}
-use Rattle.std.proofs.lemmas.List.FromFn.{length-range_with_len}
+use Rattle.std.proofs.lemmas.List.FromFn.{length-range_with_len, fill_by_all}
+use Rattle.std.proofs.lemmas.Option.{slice_get-map, slice_get-get_or, unwrap_or-slice_get}
 use Rattle.arrow_schema.specs.declared.data_type.DataType.{DataType}
 use Rattle.arrow_schema.specs.declared.data_type.DataType.TheVariants.{Utf8}
 use Rattle.arrow_schema.specs.declared.schema.Schema.{Schema}
@@ -20,10 +21,11 @@ use Rattle.typed_plan.specs.declared.plan.Output.TheVariants.{Project}
 use Rattle.typed_plan.specs.Joined.{rows_in, rows_between}
 use Rattle.typed_plan.specs.Plan.{Tree, scan, filtered, PlanAt, taken, is_true, tree_rows, output_rows, plan_rows}
 use Rattle.typed_plan.specs.Typed.{IsTyped, IsTypedTree, IsTypedOutput, IsOver, has_columns, tree_types, types_of, types_taken}
-use Rattle.scan_exec.specs.Chosen.{are_within, numbers_at}
+use Rattle.scan_exec.specs.Chosen.{are_within, numbers_at, type_at}
 use Rattle.scan_exec.specs.Given.{tree_table, tree_columns, output_columns, cells, passes, holds, shown, given}
 use Rattle.scan_exec.specs.Reading.{IsRead, IsScan}
-use Rattle.scan_exec.proofs.Cells.{within_at}
+use Rattle.scan_exec.specs.Scan.{plan_types}
+use Rattle.scan_exec.proofs.Cells.{within_at, places}
 use Rattle.scan_exec.proofs.Opening.{none_in}
 
 -- ---- the rows that a plan gives
@@ -186,11 +188,57 @@ pub reads : (tree : Tree) (catalog : CatalogAt) (table : TableAt) → IsTypedTre
 reads tree catalog table typed over there =
     ap (λ (n : ℕ). has_columns n (tree_columns tree)) (ap (λ (s : Schema). length s.fields) (same_schema tree catalog table over there)) ∙ columns_there tree typed
 
+-- ---- the types of the columns that it gives
+
+all_types : (types : List DataType) → types ≡ map (type_at types) (range_with_len 0 (length types))
+all_types types = fill_by_all (type_at types) types (length types) Utf8 refl (λ k h. sym (unwrap_or-slice_get types k Utf8))
+
+types_read : (columns : Columns) (types : List DataType) → has_columns (length types) columns ≡ true →
+    types_taken columns types ≡ map (type_at types) (numbers_at columns (range_with_len 0 (length types)))
+types_read All types h = all_types types
+types_read (These numbers) types h = ap (map (type_at types)) (sym (places (length types) numbers h))
+
+types_chosen : (columns : Columns) (types : List DataType) (read : List ℕ) → has_columns (length read) columns ≡ true →
+    types_taken columns (map (type_at types) read) ≡ map (type_at types) (numbers_at columns read)
+types_chosen All types read h = refl
+types_chosen (These numbers) types read h = each numbers h
+  where
+    each : (some : List ℕ) → are_within (length read) some ≡ true →
+        map (type_at (map (type_at types) read)) some ≡ map (type_at types) (map (slice_index read) some)
+    each [] g = refl
+    each (number ∷ some) g =
+        let parts = both (nat_lt number (length read)) (are_within (length read) some) g in
+        let one : type_at (map (type_at types) read) number ≡ type_at types (slice_index read number) =
+        ap (λ (there : Option DataType). unwrap_or there Utf8)
+        (slice_get-map (type_at types) read number ∙ ap (option_map (type_at types)) (slice_get-get_or read number 0 (ltb-true number (length read) parts.0))) in
+        rw (one, each some parts.1) refl
+
+types_at : (tree : Tree) → tree_types tree ≡ types_taken (tree_columns tree) (types_of (tree_schema tree).fields)
+types_at (scan table schema columns) = refl
+types_at (filtered predicate tree) = types_at tree
+
+pub types_are : (plan : PlanAt) (catalog : CatalogAt) (table : TableAt) (read chosen : List ℕ) → IsTyped plan → IsOver plan.tree (tables_of catalog) →
+    table_at catalog (tree_table plan.tree) ≡ Some table → IsRead plan.tree (length table.schema.fields) read → chosen ≡ numbers_at (output_columns plan.output) read →
+    plan_types plan ≡ map (type_at (types_of table.schema.fields)) chosen
+types_are plan catalog table read chosen typed over there is e =
+    let types = types_of table.schema.fields in
+    let output = output_columns plan.output in
+    let long : length types ≡ length table.schema.fields = length-map table.schema.fields (λ field. field.data_type) in
+    let schema = same_schema plan.tree catalog table over there in
+    let of_tree = types_at plan.tree ∙ ap (λ (s : Schema). types_taken (tree_columns plan.tree) (types_of s.fields)) (sym schema)
+    ∙ types_read (tree_columns plan.tree) types (ap (λ (n : ℕ). has_columns n (tree_columns plan.tree)) long ∙ is.taken)
+    ∙ ap (λ (n : ℕ). map (type_at types) (numbers_at (tree_columns plan.tree) (range_with_len 0 n))) long
+    ∙ ap (map (type_at types)) (sym is.numbers) in
+    ap (types_taken output) of_tree
+    ∙ types_chosen output types read (output_there plan (length table.schema.fields) read typed is)
+    ∙ ap (map (type_at types)) (sym e)
+
 -- a scan before its first row
 pub begins : (plan : PlanAt) (table : TableAt) (read chosen : List ℕ) (from to : ℕ) → IsTyped plan → IsRead plan.tree (length table.schema.fields) read →
-    chosen ≡ numbers_at (output_columns plan.output) read → from ≤ to → (from < to → to ≤ length (table_of table).rows) →
+    chosen ≡ numbers_at (output_columns plan.output) read → plan_types plan ≡ map (type_at (types_of table.schema.fields)) chosen →
+    from ≤ to → (from < to → to ≤ length (table_of table).rows) →
     IsScan plan table read chosen (record { from = from; to = to; at = from; batch = 0; start = 0; opened = 0 })
-begins plan table read chosen from to typed is e ordered few =
+begins plan table read chosen from to typed is e types ordered few =
     let width = length table.schema.fields in
     let there = output_there plan width read typed is in
     record {
@@ -199,6 +247,7 @@ begins plan table read chosen from to typed is e ordered few =
       taken = there;
       numbers = e;
       there = ap (are_within width) e ∙ places_within (output_columns plan.output) read width is.there there;
+      types = types;
       placed = record {
         begun = omega arith;
         ordered = ordered;

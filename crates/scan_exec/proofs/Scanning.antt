@@ -4,9 +4,11 @@ use Rattle.std.specs.List.{filter, range_with_len}
 use Rattle.std.proofs.lemmas.Bool.{ltb-true}
 use Rattle.std.proofs.lemmas.List.{length-map, map-append, take-map, drop-map}
 use Rattle.std.proofs.lemmas.Option.{slice_get-map}
-use Rattle.arrow_schema.specs.Batch.{BatchAt, rows_of, row_of, cut_batch}
-use Rattle.arrow_schema.specs.Column.{ColumnAt, slot_of, cut}
-use Rattle.arrow_schema.proofs.Slices.{batches_keep}
+use Rattle.arrays.specs.Batch.{BatchAt, rows_of, row_of, cut_batch, BatchSlicesKeepRows}
+use Rattle.arrays.specs.Column.{ColumnAt, slot_of, cut}
+use Rattle.arrays.specs.Typed.{IsOfType, AreOfTypes}
+use Rattle.arrow_schema.specs.declared.data_type.DataType.{DataType}
+use Rattle.arrow_schema.specs.declared.schema.Field.{Field}
 use Rattle.scan_base.specs.declared.fault.Fault.{Fault}
 use Rattle.scan_base.specs.declared.fault.Fault.TheVariants.{OutOfMemory}
 use Rattle.scan_base.specs.declared.value.Value.{Value}
@@ -18,15 +20,15 @@ use Rattle.table_versions.proofs.ListTests.{both}
 use Rattle.table_versions.proofs.Rowing.{length-rows_of}
 use Rattle.typed_plan.specs.Joined.{rows_between}
 use Rattle.typed_plan.specs.Plan.{PlanAt}
-use Rattle.typed_plan.specs.Typed.{has_columns, tree_types}
+use Rattle.typed_plan.specs.Typed.{has_columns, tree_types, types_of}
 use Rattle.scan_exec.specs.declared.cursor.Cursor.{Cursor}
 use Rattle.scan_exec.specs.declared.cursor.Run.{Run}
-use Rattle.scan_exec.specs.Chosen.{are_within, numbers_at, listed, columns_at, with_columns}
+use Rattle.scan_exec.specs.Chosen.{are_within, numbers_at, type_at, listed, columns_at, with_columns}
 use Rattle.scan_exec.specs.Given.{tree_columns, output_columns, cells, holds, shown, given}
 use Rattle.scan_exec.specs.Opened.{batches_in}
 use Rattle.scan_exec.specs.Placed.{IsPlaced, Looks, rows_ahead}
 use Rattle.scan_exec.specs.Reading.{IsRead, IsScan}
-use Rattle.scan_exec.specs.Scan.{ScanAt, GivesRows, Gives, plan_types}
+use Rattle.scan_exec.specs.Scan.{ScanAt, AreOf, GivesRows, Gives, plan_types}
 use Rattle.scan_exec.proofs.Cells.{cells_read, cells_taken}
 use Rattle.scan_exec.proofs.Opening.{in_longer}
 use Rattle.scan_exec.proofs.Plans.{taken_wide}
@@ -60,6 +62,27 @@ columns_cells (number ∷ numbers) columns j h =
     ∙ ap (λ (value : Value). value ∷ row_of (columns_at numbers columns) j) (sym cell)
     ∙ ap (λ (rest : Row). cell_in (row_of columns j) number ∷ rest) (columns_cells numbers columns j parts.1)
 
+-- chosen columns are of the chosen types
+type_there : (fields : List Field) (columns : List ColumnAt) (number : ℕ) (column : ColumnAt) → AreOfTypes fields columns → slice_get columns number ≡ Some column →
+    IsOfType (type_at (types_of fields) number) column.layout
+type_there [] [] number column typed e = cc
+type_there [] (first ∷ columns) number column typed e = absurd typed
+type_there (field ∷ fields) [] number column typed e = absurd typed
+type_there (field ∷ fields) (first ∷ columns) zero column typed e =
+    let same : first ≡ column = cc in
+    subst (λ (c : ColumnAt). IsOfType field.data_type c.layout) same typed.0
+type_there (field ∷ fields) (first ∷ columns) (suc number) column typed e = type_there fields columns number column typed.1 e
+
+chosen_typed : (fields : List Field) (columns : List ColumnAt) (numbers : List ℕ) (from to : ℕ) → AreOfTypes fields columns → are_within (length columns) numbers ≡ true →
+    AreOf (map (type_at (types_of fields)) numbers) (map (λ (c : ColumnAt). cut c from to) (columns_at numbers columns))
+chosen_typed fields columns [] from to typed h = tt
+chosen_typed fields columns (number ∷ numbers) from to typed h =
+    let parts = both (nat_lt number (length columns)) (are_within (length columns) numbers) h in
+    let there = item_at columns number (ltb-true number (length columns) parts.0) in
+    subst (λ (found : Option ColumnAt). AreOf (map (type_at (types_of fields)) (number ∷ numbers)) (map (λ (c : ColumnAt). cut c from to) (listed found ++ columns_at numbers columns)))
+    (sym there.1)
+    (type_there fields columns number there.0 typed there.1, chosen_typed fields columns numbers from to typed parts.1)
+
 map_along : {X : Type 0} (f : ℕ → X) (g : ℕ → X) (xs : List ℕ) → ((j : ℕ) → f j ≡ g j) → map f xs ≡ map g xs
 map_along f g [] same = refl
 map_along f g (x ∷ xs) same = ap (λ first. first ∷ map f xs) (same x) ∙ ap (λ rest. g x ∷ rest) (map_along f g xs same)
@@ -82,19 +105,19 @@ chosen_is plan table read chosen cursor columns j is wide =
     ∙ ap (cells output) (cells_read leaf row (ap (λ (n : ℕ). has_columns n leaf) long ∙ is.reading.taken))
 
 -- the rows of a cut of the chosen columns
-cut_given : (plan : PlanAt) (table : TableAt) (read chosen : List ℕ) (cursor : Cursor) (batch : BatchAt) (from to : ℕ) → IsScan plan table read chosen cursor →
+cut_given : BatchSlicesKeepRows → (plan : PlanAt) (table : TableAt) (read chosen : List ℕ) (cursor : Cursor) (batch : BatchAt) (from to : ℕ) → IsScan plan table read chosen cursor →
     length batch.columns ≡ length table.schema.fields → from ≤ to → to ≤ batch.rows →
     rows_of (cut_batch (with_columns chosen batch) from to) ≡ map (shown plan) (rows_of (cut_batch batch from to))
-cut_given plan table read chosen cursor batch from to is wide low high =
+cut_given keep plan table read chosen cursor batch from to is wide low high =
     let all : rows_of (with_columns chosen batch) ≡ map (shown plan) (rows_of batch) =
     map_along (row_of (columns_at chosen batch.columns)) (λ j. shown plan (row_of batch.columns j)) (range_with_len 0 batch.rows)
     (λ j. chosen_is plan table read chosen cursor batch.columns j is wide)
     ∙ map_twice (row_of batch.columns) (shown plan) (range_with_len 0 batch.rows) in
-    batches_keep (with_columns chosen batch) from to low high
+    keep (with_columns chosen batch) from to low high
     ∙ ap (λ (rows : List Row). take (to - from) (drop from rows)) all
     ∙ ap (take (to - from)) (drop-map (shown plan) from (rows_of batch))
     ∙ take-map (shown plan) (to - from) (drop from (rows_of batch))
-    ∙ ap (map (shown plan)) (sym (batches_keep batch from to low high))
+    ∙ ap (map (shown plan)) (sym (keep batch from to low high))
 
 -- a scan as contracts see it
 abbrev pub seen : PlanAt → TableAt → Cursor → Option Fault → ScanAt
@@ -106,7 +129,7 @@ seen plan table cursor refused = record {
   refused = refused;
 }
 
-module _ (plan : PlanAt) (table : TableAt) (read chosen : List ℕ) (cursor : Cursor) (after : Cursor) (run : Run)
+module _ (keep : BatchSlicesKeepRows) (plan : PlanAt) (table : TableAt) (read chosen : List ℕ) (cursor : Cursor) (after : Cursor) (run : Run)
     (is : IsScan plan table read chosen cursor) (placed : IsPlaced table after)
     (found : (run.from < run.to) × Looks (holds plan.tree) table cursor run after) where
   abbrev slice : BatchAt
@@ -116,7 +139,7 @@ module _ (plan : PlanAt) (table : TableAt) (read chosen : List ℕ) (cursor : Cu
   rows_are =
       let show = map (shown plan) in
       ap (λ (rows : List Row). rows ++ show (rows_ahead (holds plan.tree) table after))
-      (cut_given plan table read chosen cursor run.batch.now run.from run.to is found.1.wide found.1.ordered found.1.within)
+      (cut_given keep plan table read chosen cursor run.batch.now run.from run.to is found.1.wide found.1.ordered found.1.within)
       ∙ sym (map-append (shown plan) (rows_of (cut_batch run.batch.now run.from run.to)) (rows_ahead (holds plan.tree) table after))
       ∙ ap show (sym found.1.rows)
 
@@ -138,6 +161,8 @@ module _ (plan : PlanAt) (table : TableAt) (read chosen : List ℕ) (cursor : Cu
         some = omega (arith, found.0);
         rows = rows_are;
         wide = wide_is;
+        typed = subst (λ (types : List DataType). AreOf types slice.columns) (sym is.types)
+            (chosen_typed table.schema.fields run.batch.now.columns chosen run.from run.to found.1.typed (ap (λ (n : ℕ). are_within n chosen) found.1.wide ∙ is.there));
         types = refl;
         batches = whole;
         opening = omega (arith, grown, same, is.placed.opened, placed.opened);

@@ -1,7 +1,8 @@
 -- Where a cursor stands among the rows of a table, and how it goes on.
 use Rattle.std.specs.Prelude.{◌≡◌, ◌≤◌, ◌<◌, ℕ, Bool, List, [], ◌++◌, length, Option, Some, None}
 use Rattle.std.specs.List.{filter}
-use Rattle.arrow_schema.specs.Batch.{rows_of, cut_batch}
+use Rattle.arrays.specs.Batch.{rows_of, cut_batch}
+use Rattle.arrays.specs.Typed.{AreOfTypes}
 use Rattle.table_versions.specs.Stored.{TableAt, table_of}
 use Rattle.table_versions.specs.Standing.{rows_before}
 use Rattle.table_versions.specs.Table.{Row}
@@ -33,6 +34,7 @@ pub record Looks (held : Row → Bool) (table : TableAt) (before : Cursor) (run 
   pub ordered : run.from ≤ run.to
   pub within : run.to ≤ run.batch.now.rows
   pub wide : length run.batch.now.columns ≡ length table.schema.fields
+  pub typed : AreOfTypes table.schema.fields run.batch.now.columns
   pub rows : rows_ahead held table before ≡ rows_of (cut_batch run.batch.now run.from run.to) ++ rows_ahead held table after
 
 -- the next run, or none where no row ahead holds

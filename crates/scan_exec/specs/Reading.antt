@@ -1,14 +1,15 @@
 -- What holds while a plan reads a table.
-use Rattle.std.specs.Prelude.{◌≡◌, ◌<◌, ℕ, IsTrue, All, List, length}
+use Rattle.std.specs.Prelude.{◌≡◌, ◌<◌, ℕ, IsTrue, All, List, length, map}
 use Rattle.std.specs.List.{range_with_len}
-use Rattle.arrow_schema.specs.Column.{ColumnAt}
+use Rattle.arrays.specs.Column.{ColumnAt}
 use Rattle.table_versions.specs.Stored.{TableAt}
 use Rattle.typed_plan.specs.Plan.{Tree, PlanAt}
-use Rattle.typed_plan.specs.Typed.{IsTyped, IsTypedTree, has_columns, tree_types}
+use Rattle.typed_plan.specs.Typed.{IsTyped, IsTypedTree, has_columns, tree_types, types_of}
 use Rattle.scan_exec.specs.declared.cursor.Cursor.{Cursor}
-use Rattle.scan_exec.specs.Chosen.{are_within, numbers_at}
+use Rattle.scan_exec.specs.Chosen.{are_within, numbers_at, type_at}
 use Rattle.scan_exec.specs.Given.{tree_columns, output_columns}
 use Rattle.scan_exec.specs.Placed.{IsPlaced}
+use Rattle.scan_exec.specs.Scan.{plan_types}
 
 -- the row and the columns of these numbers are there
 pub record IsInBatch (columns : List ColumnAt) (read : List ℕ) (row : ℕ) : Type 0 where
@@ -30,4 +31,5 @@ pub record IsScan (plan : PlanAt) (table : TableAt) (read shown : List ℕ) (cur
   pub taken : IsTrue (has_columns (length read) (output_columns plan.output))
   pub numbers : shown ≡ numbers_at (output_columns plan.output) read
   pub there : IsTrue (are_within (length table.schema.fields) shown)
+  pub types : plan_types plan ≡ map (type_at (types_of table.schema.fields)) shown
   pub placed : IsPlaced table cursor

@@ -1,7 +1,7 @@
 -- Rows next to each other that a plan gives.
 use Rattle.std.specs.Prelude.{◌≡◌, ◌≤◌, ℕ, Bool, []}
 use Rattle.std.specs.List.{filter}
-use Rattle.arrow_schema.specs.Batch.{BatchAt, rows_of, cut_batch}
+use Rattle.arrays.specs.Batch.{BatchAt, rows_of, cut_batch}
 use Rattle.table_versions.specs.Table.{Row}
 
 -- Of the rows `from` up to, not with, `to` of a batch, the ones from `start` up to, not with, `end` hold, and none

@@ -1,6 +1,8 @@
 -- What a scan gives, and what it opens.
-use Rattle.std.specs.Prelude.{◌≡◌, ◌≢◌, ◌≤◌, ◌<◌, ℕ, List, [], ◌++◌, length, Option, Some, None, Result, Ok, Err}
-use Rattle.arrow_schema.specs.Batch.{BatchAt, rows_of}
+use Rattle.std.specs.Prelude.{◌≡◌, ◌≢◌, ◌≤◌, ◌<◌, ℕ, List, [], ◌∷◌, ◌++◌, length, Option, Some, None, Result, Ok, Err}
+use Rattle.arrays.specs.Batch.{BatchAt, rows_of}
+use Rattle.arrays.specs.Column.{ColumnAt}
+use Rattle.arrays.specs.Typed.{IsOfType}
 use Rattle.arrow_schema.specs.declared.data_type.DataType.{DataType}
 use Rattle.scan_base.specs.declared.fault.Fault.{Fault}
 use Rattle.scan_base.specs.declared.fault.Fault.TheVariants.{OutOfMemory}
@@ -20,11 +22,18 @@ pub record ScanAt : Type 0 where
   pub opened : ℕ
   pub refused : Option Fault
 
--- a batch has the next rows, one or more
+-- there is a column for each type, of that type
+abbrev pub AreOf : List DataType → List ColumnAt → Type 0
+AreOf [] [] = Unit {0}
+AreOf (data_type ∷ types) (column ∷ columns) = IsOfType data_type column.layout × AreOf types columns
+AreOf _ _ = ⊥
+
+-- a batch has the next rows, one or more, in columns of the types
 pub record GivesRows (before : ScanAt) (batch : BatchAt) (after : ScanAt) : Type 0 where
   pub some : 0 < batch.rows
   pub rows : rows_of batch ++ after.left ≡ before.left
   pub wide : length batch.columns ≡ length before.types
+  pub typed : AreOf before.types batch.columns
   pub types : after.types ≡ before.types
   pub batches : after.batches ≡ before.batches
   pub opening : before.opened ≤ after.opened

@@ -2,11 +2,11 @@
 
 ghost use Rattle.std.specs.Prelude.{◌≡◌, ◌≤◌, IfOk, IsTrue, length, nat_lt};
 ghost use Rattle.std.specs.List.{list_all, range_with_len};
-ghost use Rattle.arrow_schema.specs.Batch.{AreLong, cut_batch};
+ghost use Rattle.arrays.specs.Batch.{AreLong, cut_batch};
 ghost use Rattle.typed_plan.specs.Typed.{has_columns};
 ghost use Rattle.scan_exec.specs.Chosen.{are_within, numbers_at, with_columns};
 
-use arrow_schema::Batch;
+use arrays::Batch;
 use std::alloc::{AllocError, Global};
 use typed_plan::Columns;
 

@@ -1,14 +1,16 @@
 //! Going through a table's rows in order.
 
 ghost use Rattle.std.specs.Prelude.{◌≡◌, ◌==◌, ◌≤◌, ◌<◌, ◌+◌, if◌then◌else◌, max, Some, length, slice_get};
+ghost use Rattle.arrays.specs.Typed.{AreOfTypes};
 ghost use Rattle.typed_plan.specs.View.{tree_of};
 ghost use Rattle.scan_exec.specs.Given.{holds};
 ghost use Rattle.scan_exec.specs.Reading.{IsRead};
 ghost use Rattle.scan_exec.specs.Placed.{IsPlaced, Looks, Finds};
 
 use crate::filter::first_run;
-use arrow_schema::Batch;
+use arrays::Batch;
 use table_versions::TableVersion;
+use table_versions::laws::batches_are_rows;
 use typed_plan::Plan;
 
 // The rows `from` up to, not with, `to` of a batch.
@@ -56,8 +58,10 @@ impl Cursor {
         ensures moved { self.new ≡ record self.old { batch = self.new.batch; start = self.new.start } }
         ensures batch { slice_get table.now.batches self.new.batch ≡ Some result.now }
         ensures wide { length result.now.columns ≡ length table.now.schema.fields }
+        ensures typed { AreOfTypes table.now.schema.fields result.now.columns }
         ensures high { self.new.at < self.new.start + result.now.rows }
     {
+        batches_are_rows();
         loop {
             let batch = table.batch(self.batch);
             let rows = batch.rows();
@@ -91,6 +95,7 @@ impl Cursor {
         ensures placed { IsPlaced table.now self.new }
         ensures looked { Looks (holds (tree_of plan.now)) table.now self.old result self.new }
     {
+        batches_are_rows();
         let batch = self.seek(table);
         let first = self.at - self.start;
         let last = batch.rows().min(self.to - self.start);

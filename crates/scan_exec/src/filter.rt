@@ -1,7 +1,7 @@
 //! The filters of a plan, a row at a time.
 
 ghost use Rattle.std.specs.Prelude.{◌≡◌, ◌≤◌, ◌<◌, ℕ, not, length};
-ghost use Rattle.arrow_schema.specs.Batch.{row_of};
+ghost use Rattle.arrays.specs.Batch.{row_of};
 ghost use Rattle.typed_plan.specs.Typed.{IsTypedTree, tree_types};
 ghost use Rattle.typed_plan.specs.View.{tree_of};
 ghost use Rattle.scan_exec.specs.Given.{passes, holds};
@@ -9,7 +9,8 @@ ghost use Rattle.scan_exec.specs.Reading.{IsRead};
 ghost use Rattle.scan_exec.specs.Runs.{IsFirstRun};
 
 use crate::row::BatchRow;
-use arrow_schema::Batch;
+use arrays::Batch;
+use arrays::laws::batch_slices_keep_rows;
 use scan_base::Truth;
 use std::ops::Range;
 use typed_plan::Plan;
@@ -70,6 +71,7 @@ pub(crate) fn first_run(
     requires within { to ≤ batch.now.rows }
     ensures { IsFirstRun (holds (tree_of plan.now)) batch.now from to result.start result.end }
 {
+    batch_slices_keep_rows();
     let start = first_row(plan, read, batch, from, to, true);
     let end = first_row(plan, read, batch, start, to, false);
     start..end

@@ -2,7 +2,7 @@
 
 ghost use Rattle.std.specs.Prelude.{◌≡◌};
 
-use arrow_schema::Column;
+use arrays::{Cells, Column};
 use scan_base::{RowCells, ValueRef};
 use std::marker::Model;
 
@@ -18,7 +18,7 @@ impl<'a> Model for BatchRow<'a> {
     ghost use Rattle.std.specs.Prelude.{List, map};
     ghost use Rattle.scan_base.specs.declared.value.Value.{Value as Cell};
     ghost use Rattle.scan_base.specs.Predicate.{cell_in};
-    ghost use Rattle.arrow_schema.specs.Batch.{row_of};
+    ghost use Rattle.arrays.specs.Batch.{row_of};
     ghost use Rattle.scan_exec.specs.Reading.{IsInBatch};
 
     ghost Value = { List Cell };

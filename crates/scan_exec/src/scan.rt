@@ -11,7 +11,8 @@ ghost use Rattle.scan_exec.specs.Scan.{Gives, batches_read, plan_types};
 use crate::columns::{numbers_below, picked, slice_of};
 use crate::cursor::Cursor;
 use crate::tree::{output_columns, table_columns, table_name};
-use arrow_schema::Batch;
+use arrays::Batch;
+use arrays::laws::batch_slices_keep_rows;
 use scan_base::Fault;
 use std::alloc::{AllocError, Global};
 use std::marker::Model;
@@ -101,6 +102,7 @@ impl<'a> Scan<'a> {
     pub fn next(&mut self, alloc: Global) -> Result<Option<Batch>, Fault>
         ensures { Gives self.old result self.new }
     {
+        batch_slices_keep_rows();
         if let Some(fault) = self.refused {
             return Err(fault);
         }

@@ -1,22 +1,91 @@
--- Batches that are wide for one schema are wide for one with the same columns.
-use Rattle.std.proofs.Common.{◌≡◌, ◌==◌, true, false, List, [], ◌∷◌, length, refl, ap, ◌∙◌, arith}
-use Rattle.std.specs.List.{list_all}
+-- What is right of batches and rows by one schema is right by one with the same columns.
+use Rattle.std.proofs.Common.{◌≡◌, ◌&&◌, ◌||◌, not, Bool as Truth, true, false, List, [], ◌∷◌, refl, sym, ap, ◌∙◌, All}
+use Rattle.std.specs.List.{list_any}
+use Rattle.std.proofs.lemmas.List.Elements.{All-weaker}
+use Rattle.arrow_schema.specs.declared.data_type.IntegerType.{IntegerType}
+use Rattle.arrow_schema.specs.declared.data_type.IntegerType.TheVariants.{Int8, Int16, Int32, Int64, UInt8, UInt16, UInt32, UInt64}
+use Rattle.arrow_schema.specs.declared.data_type.DataType.{DataType}
+use Rattle.arrow_schema.specs.declared.data_type.DataType.TheVariants.{Integer, Utf8, Bool, Decimal128, Dictionary}
 use Rattle.arrow_schema.specs.declared.schema.Field.{Field}
-use Rattle.arrow_schema.specs.declared.schema.Schema.{Schema}
-use Rattle.arrow_schema.specs.Batch.{BatchAt}
-use Rattle.table_versions.specs.Table.{same_field, same_fields}
-use Rattle.table_versions.specs.Stored.{is_wide}
+use Rattle.arrays.specs.declared.layout.Layout.{Layout}
+use Rattle.arrays.specs.declared.layout.Layout.TheVariants as layout
+use Rattle.arrays.specs.Column.{ColumnAt}
+use Rattle.arrays.specs.Batch.{BatchAt}
+use Rattle.arrays.specs.Typed.{IsOfType, AreOfTypes}
+use Rattle.arrays.specs.Validity.{is_null}
+use Rattle.table_versions.specs.Table.{Row, same_flag, same_type, same_field, same_fields, same_name, has_bad_null}
+use Rattle.table_versions.specs.Kept.{AreSound}
 use Rattle.table_versions.proofs.ListTests.{both}
 
--- the same columns are as many
-length-same_fields : (old new : List Field) → same_fields old new ≡ true → length old ≡ length new
-length-same_fields [] [] h = refl
-length-same_fields [] (new ∷ news) h = let no : false ≡ true = h in cc
-length-same_fields (old ∷ olds) [] h = let no : false ≡ true = h in cc
-length-same_fields (old ∷ olds) (new ∷ news) h =
-    omega (arith, length-same_fields olds news (both (same_field old new) (same_fields olds news) h).1)
+-- integers of one width, with or without a sign, are of one type
+same_integer : (a b : IntegerType) → same_type (Integer a) (Integer b) ≡ true → a ≡ b
+same_integer Int8 Int8 h = refl
+same_integer Int16 Int16 h = refl
+same_integer Int32 Int32 h = refl
+same_integer Int64 Int64 h = refl
+same_integer UInt8 UInt8 h = refl
+same_integer UInt16 UInt16 h = refl
+same_integer UInt32 UInt32 h = refl
+same_integer UInt64 UInt64 h = refl
+same_integer _ _ h = cc
 
-pub wide_alike : (old new : Schema) (batches : List BatchAt) → same_fields old.fields new.fields ≡ true →
-    list_all (is_wide new) batches ≡ true → list_all (is_wide old) batches ≡ true
-wide_alike old new batches h wide =
-    ap (λ n. list_all (λ (batch : BatchAt). length batch.columns == n) batches) (length-same_fields old.fields new.fields h) ∙ wide
+typed_layout : (old new : DataType) (slots : Layout) → same_type old new ≡ true → IsOfType new slots → IsOfType old slots
+typed_layout (Integer a) (Integer b) (layout.Integers cells) h typed = typed ∙ sym (same_integer a b h)
+typed_layout (Integer a) (Integer b) _ h typed = absurd typed
+typed_layout Utf8 Utf8 slots h typed = typed
+typed_layout Bool Bool slots h typed = typed
+typed_layout Decimal128 Decimal128 slots h typed = typed
+typed_layout (Dictionary a) (Dictionary b) (layout.Indices cells) h typed = tt
+typed_layout (Dictionary a) (Dictionary b) _ h typed = absurd typed
+typed_layout _ _ _ h typed = absurd (differ h)
+  where
+    differ : false ≡ true → ⊥
+    differ h = cc
+
+-- two columns that are the same have one type, and take nulls alike
+field_type : (old new : Field) → same_field old new ≡ true → same_type old.data_type new.data_type ≡ true
+field_type old new h =
+    let front = (both (same_name old new && same_type old.data_type new.data_type) (same_flag old.nullable new.nullable) h).0 in
+    (both (same_name old new) (same_type old.data_type new.data_type) front).1
+
+flag : (a b : Truth) → same_flag a b ≡ true → a ≡ b
+flag true b h = sym h
+flag false false h = refl
+flag false true h = cc
+
+field_flag : (old new : Field) → same_field old new ≡ true → old.nullable ≡ new.nullable
+field_flag old new h =
+    flag old.nullable new.nullable (both (same_name old new && same_type old.data_type new.data_type) (same_flag old.nullable new.nullable) h).1
+
+typed_columns : (old new : List Field) (columns : List ColumnAt) → same_fields old new ≡ true → AreOfTypes new columns → AreOfTypes old columns
+typed_columns [] [] columns h typed = typed
+typed_columns [] (new ∷ news) columns h typed = let no : false ≡ true = h in cc
+typed_columns (old ∷ olds) [] columns h typed = let no : false ≡ true = h in cc
+typed_columns (old ∷ olds) (new ∷ news) [] h typed = typed
+typed_columns (old ∷ olds) (new ∷ news) (column ∷ columns) h typed =
+    let same = both (same_field old new) (same_fields olds news) h in
+    (typed_layout old.data_type new.data_type column.layout (field_type old new same.0) typed.0, typed_columns olds news columns same.1 typed.1)
+
+pub typed_alike : (old new : List Field) (batches : List BatchAt) → same_fields old new ≡ true →
+    All (λ (batch : BatchAt). AreOfTypes new batch.columns) batches → All (λ (batch : BatchAt). AreOfTypes old batch.columns) batches
+typed_alike old new batches h typed =
+    All-weaker (λ (batch : BatchAt). AreOfTypes new batch.columns) (λ (batch : BatchAt). AreOfTypes old batch.columns)
+    (λ batch. typed_columns old new batch.columns h) batches typed
+
+nulls_alike : (old new : List Field) (row : Row) → same_fields old new ≡ true → has_bad_null old row ≡ has_bad_null new row
+nulls_alike [] [] row h = refl
+nulls_alike [] (new ∷ news) row h = let no : false ≡ true = h in cc
+nulls_alike (old ∷ olds) [] row h = let no : false ≡ true = h in cc
+nulls_alike (old ∷ olds) (new ∷ news) [] h = refl
+nulls_alike (old ∷ olds) (new ∷ news) (value ∷ row) h =
+    let same = both (same_field old new) (same_fields olds news) h in
+    ap (λ nullable. (not nullable && is_null value) || has_bad_null olds row) (field_flag old new same.0)
+    ∙ ap (λ rest. (not new.nullable && is_null value) || rest) (nulls_alike olds news row same.1)
+
+all_nulls_alike : (old new : List Field) (rows : List Row) → same_fields old new ≡ true →
+    list_any (has_bad_null old) rows ≡ list_any (has_bad_null new) rows
+all_nulls_alike old new [] h = refl
+all_nulls_alike old new (row ∷ rows) h = rw (nulls_alike old new row h, all_nulls_alike old new rows h) refl
+
+pub sound_alike : (old new : List Field) (rows : List Row) → same_fields old new ≡ true → AreSound new rows → AreSound old rows
+sound_alike old new rows h sound = record { nulls = all_nulls_alike old new rows h ∙ sound.nulls; texts = sound.texts }

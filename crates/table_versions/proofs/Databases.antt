@@ -1,13 +1,16 @@
 -- A database is a finite map, and a log goes on put by put.
-use Rattle.std.proofs.Common.{◌≡◌, ◌≤◌, ℕ, suc, ◌+◌, Bool, true, false, if◌then◌else◌, List, [], ◌∷◌, ◌++◌, length, take, Some, refl, sym, ap, ◌∙◌, arith}
+use Rattle.std.proofs.Common.{◌≡◌, ◌≤◌, ℕ, zero, suc, ◌+◌, Bool, true, false, if◌then◌else◌, List, [], ◌∷◌, ◌++◌, length, take, Some, Result, Ok, Err, slice_get, refl, sym, subst, ap, ◌∙◌, arith}
 use Rattle.std.specs.Str.{bytes_eq}
 use Rattle.std.specs.Cmp.Lexicographic.{slice_cmp}
 use Rattle.std.specs.Ordering.{nat_cmp, is_lt}
 use Rattle.std.proofs.lemmas.Cmp.{nat_list_eq_equiv}
 use Rattle.std.proofs.lemmas.List.{take-append-le}
+use Rattle.std.proofs.lemmas.Grind.{common_steps}
+use Rattle.std.proofs.lemmas.Option.{slice_get_within}
+use Rattle.scan_base.specs.declared.fault.Fault.{Fault}
 use Rattle.table_versions.specs.Table.{Name}
-use Rattle.table_versions.specs.Database.{Database, Put, table_at, with_table, after, accepted, after_all, database_of, version, logged}
-use Rattle.table_versions.specs.Laws.{TablesAreFound, LogsGrow, LogsStay}
+use Rattle.table_versions.specs.Database.{Database, Put, table_at, with_table, after, accepted, after_all, database_of, version, IsLog, logged}
+use Rattle.table_versions.specs.Laws.{TablesAreFound, LogsGrow, LogsStay, LogsHoldAcceptedPuts}
 
 -- two tests that do not both hold go in either order
 skipped : {X : Type 0} (a b : Bool) (x y z : X) → (a ≡ true → b ≡ false) →
@@ -60,3 +63,45 @@ logs_grow log put database h = (longer, ap database_of longer ∙ database_of-pu
 
 pub logs_stay : LogsStay
 logs_stay log put fault h = rw h refl
+
+-- an item of a list with one more behind it: one of the list's, or that one
+pushed_at : {X G : Type 0} (xs : List X) (y z : X) (n : ℕ) → slice_get (xs ++ y ∷ []) n ≡ Some z →
+    (slice_get xs n ≡ Some z → G) → (n ≡ length xs → y ≡ z → G) → G
+pushed_at [] y z zero h old new = new refl cc
+pushed_at [] y z (suc n) h old new = cc
+pushed_at (x ∷ xs) y z zero h old new = old h
+pushed_at (x ∷ xs) y z (suc n) h old new = pushed_at xs y z n h old (λ e. new (ap suc e))
+
+-- a log with an accepted put behind it
+longer_log : (log : List Put) (put : Put) (database : Database) → IsLog log → after (database_of log) (length log) put ≡ Ok database →
+    IsLog (log ++ put ∷ [])
+longer_log log put database is h n other at = pushed_at log put other n at old new
+  where
+    earlier : (i : ℕ) → i ≤ length log → version (log ++ put ∷ []) i ≡ version log i
+    earlier i small = ap database_of (take-append-le i log (put ∷ []) small)
+
+    old : slice_get log n ≡ Some other → after (version (log ++ put ∷ []) n) n other ≡ Ok (version (log ++ put ∷ []) (n + 1))
+    old here =
+        let within = slice_get_within log n other here in
+        ap (λ d. after d n other) (earlier n (omega (arith, within))) ∙ is n other here
+        ∙ ap (λ d. Ok d) (sym (earlier (n + 1) (omega (arith, within))))
+
+    whole : take (length log) log ≡ log
+    whole = grind (arith, common_steps)
+
+    all : take (length log + 1) (log ++ put ∷ []) ≡ log ++ put ∷ []
+    all = grind (arith, common_steps)
+
+    new : n ≡ length log → put ≡ other → after (version (log ++ put ∷ []) n) n other ≡ Ok (version (log ++ put ∷ []) (n + 1))
+    new e same =
+        rw (e, sym same)
+        (ap (λ d. after d (length log) put) (earlier (length log) (omega arith) ∙ ap database_of whole) ∙ h
+        ∙ ap (λ d. Ok d) (sym (ap database_of all ∙ database_of-push log put ∙ rw h refl)))
+
+pub logs_hold_accepted_puts : LogsHoldAcceptedPuts
+logs_hold_accepted_puts = (λ n put at. cc, λ log put is. kept log put is (after (database_of log) (length log) put) refl)
+  where
+    kept : (log : List Put) (put : Put) → IsLog log → (result : Result Database Fault) → after (database_of log) (length log) put ≡ result →
+        IsLog (logged log put)
+    kept log put is (Ok database) h = subst (λ (l : List Put). IsLog l) (sym (logs_grow log put database h).0) (longer_log log put database is h)
+    kept log put is (Err fault) h = subst (λ (l : List Put). IsLog l) (sym (logs_stay log put fault h)) is

@@ -2,7 +2,7 @@
 use Rattle.std.proofs.Common.{◌≡◌, ℕ, zero, suc, ◌+◌, ◌*◌, ◌<◌, true, List, [], ◌∷◌, ◌++◌, length, Some, refl, ap, ◌∙◌, append_assoc, length-append, arith, rules, slice_get, get_or, map, option_map}
 use Rattle.std.specs.List.{flat_map, list_all}
 use Rattle.std.proofs.lemmas.Option.{slice_get-map, slice_get_read}
-use Rattle.arrow_schema.specs.Batch.{BatchAt}
+use Rattle.arrays.specs.Batch.{BatchAt}
 use Rattle.table_versions.specs.Batches.{joined, is_full}
 use Rattle.table_versions.proofs.ListTests.{both, all_at}
 

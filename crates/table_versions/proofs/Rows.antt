@@ -7,13 +7,13 @@ use Rattle.arrow_schema.specs.declared.data_type.DataType.{DataType}
 use Rattle.arrow_schema.specs.declared.data_type.DataType.TheVariants.{Integer, Utf8, Dictionary}
 use Rattle.arrow_schema.specs.declared.data_type.IntegerType.TheVariants.{Int8, Int64, UInt8}
 use Rattle.arrow_schema.specs.declared.schema.Field.{Field}
-use Rattle.arrow_schema.specs.Batch.{BatchAt}
+use Rattle.arrays.specs.Batch.{BatchAt}
 use Rattle.table_versions.specs.declared.options.IfExists.{IfExists}
 use Rattle.table_versions.specs.declared.options.IfExists.TheVariants.{Unspecified, Fail, Append, Replace}
 use Rattle.table_versions.specs.declared.options.IfNotExist.{IfNotExist}
 use Rattle.table_versions.specs.declared.options.IfNotExist.TheVariants as absent
 use Rattle.table_versions.specs.Table.{Name, Row, Table}
-use Rattle.table_versions.specs.Database.{Database, Put, after, database_of, version, logged}
+use Rattle.table_versions.specs.Database.{Database, Put, after, database_of, version, IsLog, logged}
 use Rattle.table_versions.specs.Stored.{stored_after}
 
 abbrev field : Name → DataType → Field
@@ -172,6 +172,9 @@ not_logged = refl
 
 is_logged : logged (created ∷ []) replaced ≡ created ∷ replaced ∷ []
 is_logged = refl
+
+refused_in_log : IsLog (created ∷ created ∷ []) → ⊥
+refused_in_log is = let no : Err TableExists ≡ Ok (version (created ∷ created ∷ []) 2) = is 1 created refl in cc
 
 -- batches without rows are not stored, and an append's stand behind the old ones
 abbrev batch : ℕ → BatchAt

@@ -3,8 +3,7 @@ use Rattle.std.proofs.Common.{◌≡◌, ◌≤◌, ℕ, suc, ◌+◌, ◌-◌, 
 use Rattle.std.specs.List.{flat_map}
 use Rattle.std.proofs.lemmas.Grind.{common_steps, flat_map-append}
 use Rattle.std.proofs.lemmas.List.{take-append-le, drop-append-le}
-use Rattle.arrow_schema.specs.Batch.{BatchAt, rows_of}
-use Rattle.arrow_schema.proofs.Slices.{batches_keep}
+use Rattle.arrays.specs.Batch.{BatchAt, rows_of, BatchSlicesKeepRows}
 use Rattle.table_versions.specs.Stored.{TableAt}
 use Rattle.table_versions.specs.Standing.{rows_before, StandsAt, BatchesAreRows}
 use Rattle.table_versions.proofs.Places.{split_at}
@@ -31,18 +30,18 @@ parted batches i batch at =
     ap (flat_map rows_of) whole ∙ flat_map-append rows_of (take i batches) (drop i batches)
     ∙ ap (λ rest. flat_map rows_of (take i batches) ++ flat_map rows_of rest) (split_at batches i batch at).0
 
-stands_at : (table : TableAt) (i : ℕ) (batch : BatchAt) → slice_get table.batches i ≡ Some batch → StandsAt table i batch
-stands_at table i batch at = record {
+stands_at : BatchSlicesKeepRows → (table : TableAt) (i : ℕ) (batch : BatchAt) → slice_get table.batches i ≡ Some batch → StandsAt table i batch
+stands_at keep table i batch at = record {
   next = ap (λ front. length (flat_map rows_of front)) (split_at table.batches i batch at).1 ∙ rows-push (take i table.batches) batch;
   cut = λ from to ordered within.
-      batches_keep batch from to ordered within
+      keep batch from to ordered within
       ∙ sym (cut_within (flat_map rows_of (take i table.batches)) (rows_of batch) (flat_map rows_of (drop (i + 1) table.batches)) from to ordered
       (rw (length-rows_of batch) within))
       ∙ ap (λ rows. take (to - from) (drop (rows_before table.batches i + from) rows)) (sym (parted table.batches i batch at));
 }
 
-pub batches_are_rows : BatchesAreRows
-batches_are_rows table = (ap (λ batches. length (flat_map rows_of batches)) whole, stands_at table)
+pub batches_are_rows : BatchSlicesKeepRows → BatchesAreRows
+batches_are_rows keep table = (ap (λ batches. length (flat_map rows_of batches)) whole, stands_at keep table)
   where
     whole : take (length table.batches) table.batches ≡ table.batches
     whole = grind (arith, common_steps)

@@ -8,13 +8,13 @@ use Rattle.std.proofs.lemmas.Grind.{flat_map-append}
 use Rattle.std.proofs.lemmas.Bool.{lt-ltb}
 use Rattle.std.proofs.lemmas.List.{length-map}
 use Rattle.scan_base.specs.declared.fault.Fault.{Fault}
-use Rattle.scan_base.specs.Reading.{first_fault, unless, GivesUnlessMemory}
-use Rattle.arrow_schema.specs.Batch.{BatchAt, rows_of}
+use Rattle.scan_base.specs.Reading.{first_fault, unless, GivesUnlessMemory, RefusesFirst}
+use Rattle.arrays.specs.Batch.{BatchAt, rows_of}
 use Rattle.table_versions.specs.declared.options.IfExists.{IfExists}
 use Rattle.table_versions.specs.declared.options.IfExists.TheVariants.{Unspecified, Fail, Append, Replace}
 use Rattle.table_versions.specs.Table.{Name}
 use Rattle.table_versions.specs.Database.{Database, table_at, with_table, table_after, faults_at, put_faults, after}
-use Rattle.table_versions.specs.Stored.{TableAt, CatalogAt, PutAt, table_of, plain, tables_of, put_of, kept, stored_after, catalog_after, RefusesFirst}
+use Rattle.table_versions.specs.Stored.{TableAt, CatalogAt, PutAt, table_of, plain, tables_of, put_of, kept, stored_after, catalog_after}
 
 -- a batch without rows adds none
 rows-kept : (batches : List BatchAt) → flat_map rows_of (kept batches) ≡ flat_map rows_of batches

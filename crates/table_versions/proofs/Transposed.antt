@@ -3,9 +3,10 @@ use Rattle.std.proofs.Common.{◌≡◌, ◌<◌, ◌-◌, ℕ, suc, ◌+◌, Bo
 use Rattle.std.specs.List.{list_any, zip, range_with_len, AllByRecursion}
 use Rattle.std.proofs.lemmas.List.Elements.{recursion_from_All}
 use Rattle.arrow_schema.specs.declared.schema.Field.{Field}
-use Rattle.arrow_schema.specs.Column.{ColumnAt, slot_of}
-use Rattle.arrow_schema.specs.Batch.{BatchAt, AreLong, row_of, rows_of}
-use Rattle.table_versions.specs.Table.{is_null, has_bad_null, is_long_text}
+use Rattle.arrays.specs.Column.{ColumnAt, slot_of}
+use Rattle.arrays.specs.Batch.{BatchAt, AreLong, row_of, rows_of}
+use Rattle.arrays.specs.Validity.{is_null}
+use Rattle.table_versions.specs.Table.{has_bad_null, is_long_text}
 use Rattle.table_versions.specs.Columns.{has_bad_column, is_long_column}
 
 -- the values from the j-th on

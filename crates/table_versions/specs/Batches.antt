@@ -1,7 +1,7 @@
 -- How a list of batches is kept: full pages, and the last one, which is not full.
 use Rattle.std.specs.Prelude.{ℕ, ◌==◌, ◌<◌, Bool, IsTrue, List, ◌++◌, length}
 use Rattle.std.specs.List.{flat_map, list_all}
-use Rattle.arrow_schema.specs.Batch.{BatchAt}
+use Rattle.arrays.specs.Batch.{BatchAt}
 
 -- how many batches a full page has
 abbrev pub page_size : ℕ

@@ -1,5 +1,5 @@
 -- The database after a put, and after a log of puts.
-use Rattle.std.specs.Prelude.{ℕ, ◌+◌, ◌==◌, Bool, false, not, ◌&&◌, ◌||◌, if◌then◌else◌, List, [], ◌∷◌, ◌++◌, length, take, nat_lt, nat_le, Option, Some, None, is_some, Result, Ok, Err}
+use Rattle.std.specs.Prelude.{◌≡◌, ℕ, ◌+◌, ◌==◌, Bool, false, not, ◌&&◌, ◌||◌, if◌then◌else◌, List, [], ◌∷◌, ◌++◌, length, take, slice_get, nat_lt, nat_le, Option, Some, None, is_some, Result, Ok, Err}
 use Rattle.std.specs.List.{list_any}
 use Rattle.std.specs.Str.{bytes_eq}
 use Rattle.std.specs.Cmp.Lexicographic.{slice_cmp}
@@ -90,13 +90,17 @@ abbrev pub after_all : Database → ℕ → List Put → Database
 after_all database n [] = database
 after_all database n (put ∷ puts) = after_all (accepted database (after database n put)) (n + 1) puts
 
--- the database after a log of accepted puts
+-- the database after a log
 abbrev pub database_of : List Put → Database
 database_of log = after_all [] 0 log
 
 -- version n of a log is the database of its first n puts
 abbrev pub version : List Put → ℕ → Database
 version log n = database_of (take n log)
+
+-- a log holds accepted puts alone: put n of it is accepted by version n, and gives version n + 1
+abbrev pub IsLog : List Put → Type 0
+IsLog log = (n : ℕ) (put : Put) → slice_get log n ≡ Some put → after (version log n) n put ≡ Ok (version log (n + 1))
 
 -- the log after a put: an accepted one stands at its end, and a refused one changes nothing
 abbrev pub logged : List Put → Put → List Put

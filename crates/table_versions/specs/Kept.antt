@@ -1,25 +1,29 @@
 -- What holds of every put, and of every stored table.
-use Rattle.std.specs.Prelude.{◌≡◌, ◌≤◌, ℕ, IsTrue, All, List, length}
-use Rattle.std.specs.List.{list_all, flat_map}
+use Rattle.std.specs.Prelude.{◌≡◌, ◌≤◌, ℕ, false, IsTrue, All, List, length}
+use Rattle.std.specs.List.{list_all, list_any}
+use Rattle.arrow_schema.specs.declared.schema.Field.{Field}
 use Rattle.arrow_schema.specs.declared.schema.Schema.{Schema}
-use Rattle.arrow_schema.specs.Header.{is_built}
 use Rattle.arrow_schema.specs.Schema.{IsSchema}
-use Rattle.arrow_schema.specs.Batch.{BatchAt, rows_of}
-use Rattle.arrow_schema.specs.NoNulls.{HasNoNulls}
+use Rattle.arrays.specs.Batch.{BatchAt}
+use Rattle.arrays.specs.Typed.{AreOfTypes}
 use Rattle.table_versions.specs.Limits.{most_rows}
-use Rattle.table_versions.specs.Stored.{TableAt, has_rows, is_wide}
+use Rattle.table_versions.specs.Table.{Row, has_bad_null, is_long_text}
+use Rattle.table_versions.specs.Stored.{TableAt, table_of, has_rows}
 
--- The schema is one that can be written, and each batch has one column for each field. Until every type and
--- nulls are built: the schema's types are built, and no slot is null.
+-- the schema is one that can be written, and each batch has a column for each field, of its type
 pub record IsStorable (schema : Schema) (batches : List BatchAt) : Type 0 where
   pub valid : IsSchema schema
-  pub wide : IsTrue (list_all (is_wide schema) batches)
-  pub built : IsTrue (is_built schema.fields)
-  pub full : All HasNoNulls batches
+  pub typed : All (λ (batch : BatchAt). AreOfTypes schema.fields batch.columns) batches
 
--- a stored table also has rows in each batch, and this is the number of all rows
+-- no cell is null in a column that takes no null, and no text is too long
+pub record AreSound (fields : List Field) (rows : List Row) : Type 0 where
+  pub nulls : list_any (has_bad_null fields) rows ≡ false
+  pub texts : list_any (list_any is_long_text) rows ≡ false
+
+-- a stored table also has rows in each batch, all of them sound, and this is their number
 pub record IsKept (table : TableAt) (rows : ℕ) : Type 0 where
   pub storable : IsStorable table.schema table.batches
   pub filled : IsTrue (list_all has_rows table.batches)
-  pub counted : rows ≡ length (flat_map rows_of table.batches)
+  pub sound : AreSound table.schema.fields (table_of table).rows
+  pub counted : rows ≡ length (table_of table).rows
   pub few : rows ≤ most_rows

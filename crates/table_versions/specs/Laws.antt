@@ -5,7 +5,7 @@ use Rattle.scan_base.specs.declared.fault.Fault.{Fault}
 use Rattle.table_versions.specs.Limits.{most_rows}
 use Rattle.table_versions.specs.Table.{Name, Table}
 use Rattle.table_versions.specs.Order.{IsInOrder}
-use Rattle.table_versions.specs.Database.{Database, Put, table_at, with_table, after, database_of, version, logged}
+use Rattle.table_versions.specs.Database.{Database, Put, table_at, with_table, after, database_of, version, IsLog, logged}
 
 -- the table that was put is found at its name, and each other name has what it had
 abbrev pub TablesAreFound : Type 0
@@ -24,6 +24,10 @@ LogsGrow =
 abbrev pub LogsStay : Type 0
 LogsStay =
     (log : List Put) (put : Put) (fault : Fault) → after (database_of log) (length log) put ≡ Err fault → logged log put ≡ log
+
+-- no puts are a log, and what is logged behind a log is one
+abbrev pub LogsHoldAcceptedPuts : Type 0
+LogsHoldAcceptedPuts = IsLog [] × ((log : List Put) (put : Put) → IsLog log → IsLog (logged log put))
 
 -- the names of every version are in byte order, and each stands once
 abbrev pub NamesAreInOrder : Type 0

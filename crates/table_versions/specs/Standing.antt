@@ -1,7 +1,7 @@
 -- Where the rows of a table stand among its batches.
 use Rattle.std.specs.Prelude.{◌≡◌, ◌≤◌, ℕ, ◌+◌, ◌-◌, List, length, take, drop, Some, slice_get}
 use Rattle.std.specs.List.{flat_map}
-use Rattle.arrow_schema.specs.Batch.{BatchAt, rows_of, cut_batch}
+use Rattle.arrays.specs.Batch.{BatchAt, rows_of, cut_batch}
 use Rattle.table_versions.specs.Stored.{TableAt, table_of}
 
 -- how many rows stand before batch i

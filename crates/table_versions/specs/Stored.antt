@@ -1,8 +1,8 @@
 -- What is stored: tables with their rows in batches, and what they are as plain lists.
-use Rattle.std.specs.Prelude.{◌≡◌, ℕ, ◌==◌, Bool, List, ◌++◌, length, map, nat_lt, Option, Some, None, Result, Ok, Err}
+use Rattle.std.specs.Prelude.{ℕ, Bool, List, ◌++◌, map, nat_lt, Option, Some, None, Result}
 use Rattle.std.specs.List.{filter, flat_map}
 use Rattle.arrow_schema.specs.declared.schema.Schema.{Schema}
-use Rattle.arrow_schema.specs.Batch.{BatchAt, rows_of}
+use Rattle.arrays.specs.Batch.{BatchAt, rows_of}
 use Rattle.scan_base.specs.declared.fault.Fault.{Fault}
 use Rattle.scan_base.specs.Reading.{first_fault, unless}
 use Rattle.table_versions.specs.declared.options.IfExists.{IfExists}
@@ -61,10 +61,6 @@ put_of put =
 abbrev pub has_rows : BatchAt → Bool
 has_rows batch = nat_lt 0 batch.rows
 
--- whether a batch has one column for each field
-abbrev pub is_wide : Schema → BatchAt → Bool
-is_wide schema batch = length batch.columns == length schema.fields
-
 -- the batches that are stored of a put's
 abbrev pub kept : List BatchAt → List BatchAt
 kept = filter has_rows
@@ -79,8 +75,3 @@ abbrev pub catalog_after : CatalogAt → ℕ → PutAt → Result CatalogAt Faul
 catalog_after catalog n put =
     unless (first_fault (put_faults (tables_of catalog) n (put_of put)))
     (with_table put.table (stored_after put.if_exists (table_at catalog put.table) put) catalog)
-
--- a put that is refused is answered by its first fault, and never by want of memory
-abbrev pub RefusesFirst : {X Y : Type 0} → Result X Fault → Result Y Fault → Type 0
-RefusesFirst result (Ok x) = Unit {0}
-RefusesFirst result (Err fault) = result ≡ Err fault

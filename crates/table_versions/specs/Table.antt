@@ -3,12 +3,13 @@ use Rattle.std.specs.Prelude.{ℕ, ◌==◌, Bool, true, false, not, ◌&&◌, L
 use Rattle.std.specs.List.{list_any, zip}
 use Rattle.std.specs.Str.{bytes_eq}
 use Rattle.scan_base.specs.declared.value.Value.{Value}
-use Rattle.scan_base.specs.declared.value.Value.TheVariants.{Null, Text}
+use Rattle.scan_base.specs.declared.value.Value.TheVariants.{Text}
 use Rattle.arrow_schema.specs.declared.data_type.DataType.{DataType}
 use Rattle.arrow_schema.specs.declared.data_type.DataType.TheVariants.{Integer, Utf8, Bool as Flag, Decimal128, Dictionary}
 use Rattle.arrow_schema.specs.declared.schema.Field.{Field}
 use Rattle.arrow_schema.specs.declared.schema.Schema.{Schema}
 use Rattle.arrow_schema.specs.DataType.{bit_width, is_signed}
+use Rattle.arrays.specs.Validity.{is_null}
 use Rattle.table_versions.specs.Limits.{most_text_bytes}
 
 -- the bytes of a table's name
@@ -52,10 +53,6 @@ abbrev pub same_fields : List Field → List Field → Bool
 same_fields [] [] = true
 same_fields (old ∷ olds) (new ∷ news) = same_field old new && same_fields olds news
 same_fields _ _ = false
-
-abbrev pub is_null : Value → Bool
-is_null Null = true
-is_null _ = false
 
 -- whether a cell is null in a column that takes no null
 abbrev pub is_bad_null : Field × Value → Bool

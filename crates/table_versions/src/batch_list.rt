@@ -5,7 +5,7 @@ ghost use Rattle.std.specs.Arc.{arc_value};
 ghost use Rattle.table_versions.specs.Batches.{page_size};
 
 use crate::handles::shared;
-use arrow_schema::Batch;
+use arrays::Batch;
 use std::alloc::{AllocError, Global};
 use std::marker::Model;
 use std::sync::Arc;
@@ -22,7 +22,7 @@ struct Page {
 impl Model for Page {
     ghost use Rattle.std.specs.Prelude.{List, map};
     ghost use Rattle.std.specs.Arc.{arc_value};
-    ghost use Rattle.arrow_schema.specs.Batch.{BatchAt};
+    ghost use Rattle.arrays.specs.Batch.{BatchAt};
 
     ghost Value = { List BatchAt };
 
@@ -80,7 +80,7 @@ pub(crate) struct BatchList {
 impl Model for BatchList {
     ghost use Rattle.std.specs.Prelude.{List, map};
     ghost use Rattle.std.specs.Arc.{arc_value};
-    ghost use Rattle.arrow_schema.specs.Batch.{BatchAt};
+    ghost use Rattle.arrays.specs.Batch.{BatchAt};
     ghost use Rattle.table_versions.specs.Batches.{joined, IsPaged};
 
     ghost Value = { List BatchAt };

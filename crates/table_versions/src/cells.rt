@@ -3,13 +3,15 @@
 ghost use Rattle.std.specs.Prelude.{◌≡◌};
 ghost use Rattle.std.specs.List.{list_any, flat_map};
 ghost use Rattle.scan_base.specs.Value.{value_of};
-ghost use Rattle.arrow_schema.specs.Batch.{rows_of};
-ghost use Rattle.arrow_schema.specs.Column.{values_of};
-ghost use Rattle.table_versions.specs.Table.{is_null, is_long_text, has_bad_null};
-ghost use Rattle.table_versions.specs.Columns.{has_bad_column, is_long_column, holds_texts};
+ghost use Rattle.arrays.specs.Batch.{rows_of};
+ghost use Rattle.arrays.specs.Column.{values_of};
+ghost use Rattle.arrays.specs.Validity.{is_null};
+ghost use Rattle.table_versions.specs.Table.{is_long_text, has_bad_null};
+ghost use Rattle.table_versions.specs.Columns.{has_bad_column, is_long_column, may_have_texts};
 
 use crate::limits::MAX_TEXT_BYTES;
-use arrow_schema::{Batch, Column, DataType, Field};
+use arrays::{Batch, Cells, Column, Layout};
+use arrow_schema::Field;
 use scan_base::ValueRef;
 
 fn is_null(value: ValueRef<'_>) -> bool
@@ -22,7 +24,7 @@ fn is_null(value: ValueRef<'_>) -> bool
 }
 
 // Whether a value is a text of more than 65,536 bytes.
-pub(crate) fn is_long_text(value: ValueRef<'_>) -> bool
+fn is_long_text(value: ValueRef<'_>) -> bool
     ensures { result ≡ is_long_text (value_of value.entry) }
 {
     match value {
@@ -31,7 +33,21 @@ pub(crate) fn is_long_text(value: ValueRef<'_>) -> bool
     }
 }
 
+// Whether a slot may be a text.
+fn may_have_texts(layout: &Layout) -> bool
+    ensures { result ≡ may_have_texts layout.now }
+{
+    matches!(layout, Layout::Texts(_) | Layout::Indices(_))
+}
+
+// Whether a slot is null. A column that cannot have nulls is not walked.
 fn has_null(column: &Column) -> bool
+    ensures { result ≡ list_any is_null (values_of column.now) }
+{
+    column.may_have_nulls() && has_null_slot(column)
+}
+
+fn has_null_slot(column: &Column) -> bool
     ensures { result ≡ list_any is_null (values_of column.now) }
 {
     for j in 0..column.len() {
@@ -42,7 +58,15 @@ fn has_null(column: &Column) -> bool
     false
 }
 
-fn has_long_text(column: &Column) -> bool
+// Whether a slot is a text that is too long. A column without texts is not walked, and of a dictionary's
+// texts only those count that stand in slots.
+fn is_long_column(column: &Column) -> bool
+    ensures { result ≡ is_long_column column.now }
+{
+    may_have_texts(column.layout()) && has_long_slot(column)
+}
+
+fn has_long_slot(column: &Column) -> bool
     ensures { result ≡ is_long_column column.now }
 {
     for j in 0..column.len() {
@@ -73,39 +97,16 @@ fn is_bad_batch(fields: &[Field], batch: &Batch) -> bool
     has_bad_column(fields, batch.columns())
 }
 
-fn holds_texts(data_type: DataType) -> bool
-    ensures { result ≡ holds_texts data_type }
-{
-    matches!(data_type, DataType::Utf8 | DataType::Dictionary(_))
-}
-
-// Whether a column has a text that is too long. A column of a type without texts is not looked at.
-// Until columns of texts are built, none has one.
-#[tactic(auto, using(crate::proofs::Texts::short_column))]
-fn is_long_column(field: &Field, column: &Column) -> bool
-    ensures { result ≡ is_long_column column.now }
-{
-    holds_texts(field.data_type) && has_long_text(column)
-}
-
-#[tactic(auto, using(crate::proofs::Texts::short_columns))]
-fn has_long_column(fields: &[Field], columns: &[Column]) -> bool
+fn has_long_column(columns: &[Column]) -> bool
     ensures { result ≡ list_any is_long_column columns.now }
 {
-    match fields {
-        [] => false,
-        [field, fields @ ..] => match columns {
-            [] => false,
-            [column, columns @ ..] => is_long_column(field, column)
-                || has_long_column(fields, columns),
-        },
-    }
+    columns.iter().any(|column| is_long_column(column))
 }
 
-fn is_long_batch(fields: &[Field], batch: &Batch) -> bool
+fn is_long_batch(batch: &Batch) -> bool
     ensures { result ≡ list_any (list_any is_long_text) (rows_of batch.now) }
 {
-    has_long_column(fields, batch.columns())
+    has_long_column(batch.columns())
 }
 
 // Whether a row has a null in a column that takes none.
@@ -121,11 +122,11 @@ pub(crate) fn has_bad_null(fields: &[Field], batches: &[Batch]) -> bool
 }
 
 // Whether a row has a text that is too long.
-pub(crate) fn has_long_row(fields: &[Field], batches: &[Batch]) -> bool
+pub(crate) fn has_long_row(batches: &[Batch]) -> bool
     ensures { result ≡ list_any (list_any is_long_text) (flat_map rows_of batches.now) }
 {
     for batch in batches {
-        if is_long_batch(fields, batch) {
+        if is_long_batch(batch) {
             return true;
         }
     }

@@ -1,17 +1,17 @@
 //! The next version of the catalog: a put is checked, and then its table is made.
 
-ghost use Rattle.std.specs.Prelude.{◌≡◌, ◌≤◌, ◌||◌, ◌==◌, ◌+◌, ◌++◌, false, IfOk, IsTrue};
+ghost use Rattle.std.specs.Prelude.{◌≡◌, ◌≤◌, ◌||◌, ◌==◌, ◌+◌, ◌++◌, false, IfOk};
 ghost use Rattle.std.specs.Prelude.{length, nat_lt, All};
-ghost use Rattle.std.specs.List.{flat_map, list_all};
+ghost use Rattle.std.specs.List.{flat_map};
 ghost use Rattle.std.specs.Option.{option_copied};
-ghost use Rattle.arrow_schema.specs.Batch.{rows_of};
-ghost use Rattle.arrow_schema.specs.NoNulls.{HasNoNulls};
-ghost use Rattle.scan_base.specs.Reading.{GivesUnlessMemory, first_fault};
+ghost use Rattle.scan_base.specs.Reading.{GivesUnlessMemory, RefusesFirst, first_fault};
+ghost use Rattle.arrays.specs.Batch.{BatchAt, rows_of};
+ghost use Rattle.arrays.specs.Typed.{AreOfTypes};
 ghost use Rattle.table_versions.specs.Limits.{most_name_bytes, most_rows};
 ghost use Rattle.table_versions.specs.Database.{table_after, columns_of, differs, faults_at, after};
-ghost use Rattle.table_versions.specs.Stored.{tables_of, put_of, plain, is_wide, kept};
-ghost use Rattle.table_versions.specs.Stored.{stored_after, catalog_after, RefusesFirst};
-ghost use Rattle.table_versions.specs.Kept.{IsStorable};
+ghost use Rattle.table_versions.specs.Stored.{tables_of, put_of, plain, kept};
+ghost use Rattle.table_versions.specs.Stored.{stored_after, catalog_after};
+ghost use Rattle.table_versions.specs.Kept.{IsStorable, AreSound};
 
 use crate::catalog::CatalogVersion;
 use crate::cells::{has_bad_null, has_long_row};
@@ -21,7 +21,8 @@ use crate::options::IfExists;
 use crate::put::Put;
 use crate::snapshot::Snapshot;
 use crate::table::TableVersion;
-use arrow_schema::{Batch, Schema};
+use arrays::Batch;
+use arrow_schema::Schema;
 use scan_base::{Fault, Text};
 use std::alloc::{AllocError, Global};
 
@@ -92,7 +93,7 @@ fn refusal(old: Option<&TableVersion>, tables: usize, number: u64, put: &Put) ->
     if has_bad_null(put.schema.fields.as_slice(), put.batches.as_slice()) {
         return Some(Fault::BadBatch);
     }
-    if has_long_row(put.schema.fields.as_slice(), put.batches.as_slice()) || overflows(old, put) {
+    if has_long_row(put.batches.as_slice()) || overflows(old, put) {
         return Some(Fault::LimitReached);
     }
     if old.is_none() && tables >= MAX_TABLES || number >= MAX_COMMITS {
@@ -107,8 +108,9 @@ fn appended(
     old: &TableVersion,
     batches: Vec<Batch>,
 ) -> Result<TableVersion, AllocError>
-    requires wide { IsTrue (list_all (is_wide old.now.schema) batches.items) }
-    requires full { All HasNoNulls batches.items }
+    requires typed { All (λ (batch : BatchAt). AreOfTypes old.now.schema.fields batch.columns)
+        batches.items }
+    requires sound { AreSound old.now.schema.fields (flat_map rows_of batches.items) }
     requires few { length (flat_map rows_of old.now.batches ++ flat_map rows_of batches.items)
         ≤ most_rows }
     ensures { IfOk result (λ table. table
@@ -120,6 +122,7 @@ fn appended(
 // A table of these batches alone.
 fn created(alloc: Global, schema: Schema, batches: Vec<Batch>) -> Result<TableVersion, AllocError>
     requires storable { IsStorable schema batches.items }
+    requires sound { AreSound schema.fields (flat_map rows_of batches.items) }
     requires few { length (flat_map rows_of batches.items) ≤ most_rows }
     ensures { IfOk result (λ table. table
         ≡ record { schema = schema; batches = kept batches.items }) }
@@ -135,6 +138,7 @@ fn made(
 ) -> Result<(Text, TableVersion), AllocError>
     requires alike { differs put.if_exists (columns_of (plain (option_copied old))) put.schema
         ≡ false }
+    requires sound { AreSound put.schema.fields (put_of put).rows }
     requires few { length (table_after put.if_exists (plain (option_copied old)) (put_of put)).rows
         ≤ most_rows }
     ensures { IfOk result (λ entry. entry

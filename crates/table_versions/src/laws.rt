@@ -1,8 +1,10 @@
 //! What holds of every database, log and table. Each law is a function whose contract says it.
 
 ghost use Rattle.table_versions.specs.Laws.{TablesAreFound, LogsGrow, LogsStay, NamesAreInOrder};
-ghost use Rattle.table_versions.specs.Laws.{AcceptedPutsAreFew};
+ghost use Rattle.table_versions.specs.Laws.{LogsHoldAcceptedPuts, AcceptedPutsAreFew};
 ghost use Rattle.table_versions.specs.Standing.{BatchesAreRows};
+
+use arrays::laws::batch_slices_keep_rows;
 
 /// Looking a table up after a put: the put's table is found at its name, and each other name has
 /// what it had.
@@ -15,6 +17,12 @@ pub fn tables_are_found()
 pub fn logs_grow()
     ensures accepted { LogsGrow }
     ensures refused { LogsStay }
+{}
+
+/// What is logged is a log: each of its puts was accepted by the version before it, and gives the version
+/// behind it.
+pub fn logs_hold_accepted_puts()
+    ensures { LogsHoldAcceptedPuts }
 {}
 
 /// An accepted put has at most 16,777,216 rows.
@@ -31,4 +39,6 @@ pub fn names_are_in_order()
 /// ends, the last one ends with the table, and a cut of a batch is a cut of the table's rows.
 pub fn batches_are_rows()
     ensures { BatchesAreRows }
-{}
+{
+    batch_slices_keep_rows();
+}

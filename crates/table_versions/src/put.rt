@@ -1,20 +1,19 @@
 //! What a client puts: batches for a table.
 
-ghost use Rattle.std.specs.Prelude.{◌≡◌, ◌^◌, ◌-◌, IsTrue, All, length, min};
-ghost use Rattle.std.specs.List.{list_all};
-ghost use Rattle.arrow_schema.specs.Header.{is_built};
-ghost use Rattle.arrow_schema.specs.NoNulls.{HasNoNulls};
+ghost use Rattle.std.specs.Prelude.{◌≡◌, ◌^◌, ◌-◌, All, length, min};
 ghost use Rattle.arrow_schema.specs.Schema.{IsSchema};
-ghost use Rattle.table_versions.specs.Stored.{is_wide, put_of};
+ghost use Rattle.arrays.specs.Batch.{BatchAt};
+ghost use Rattle.arrays.specs.Typed.{AreOfTypes};
+ghost use Rattle.table_versions.specs.Stored.{put_of};
 
 use crate::options::{IfExists, IfNotExist};
-use arrow_schema::{Batch, Schema};
+use arrays::Batch;
+use arrow_schema::Schema;
 use scan_base::Text;
 use std::marker::Model;
 
 /// Batches for a table, and what to do where the table is absent and where it is there. The schema
-/// is one that can be written, and each batch has one column for each of its fields. Until every type
-/// and nulls are built, the schema's types are built ones, and no slot is null.
+/// is one that can be written, and each batch has one column for each of its fields, of the field's type.
 #[derive(Drop)]
 pub struct Put {
     pub(crate) table: Text,
@@ -52,9 +51,8 @@ impl Put {
         batches: Vec<Batch>,
     ) -> Put
         requires valid { IsSchema schema }
-        requires wide { IsTrue (list_all (is_wide schema) batches.items) }
-        requires built { IsTrue (is_built schema.fields) }
-        requires full { All HasNoNulls batches.items }
+        requires typed { All (λ (batch : BatchAt). AreOfTypes schema.fields batch.columns)
+            batches.items }
         ensures { result ≡ record {
           table = table;
           if_not_exist = if_not_exist;

@@ -2,24 +2,25 @@
 
 ghost use Rattle.std.specs.Prelude.{◌≡◌, ◌<◌, ◌+◌, ◌≤◌, ◌∷◌, ◌++◌, [], Some, length, slice_get};
 ghost use Rattle.std.specs.Prelude.{IfOk, IsTrue, All};
-ghost use Rattle.std.specs.List.{flat_map, list_all};
+ghost use Rattle.std.specs.List.{flat_map};
 ghost use Rattle.std.specs.Arc.{arc_value};
-ghost use Rattle.arrow_schema.specs.Batch.{rows_of};
-ghost use Rattle.arrow_schema.specs.Header.{is_built};
-ghost use Rattle.arrow_schema.specs.NoNulls.{HasNoNulls};
 ghost use Rattle.arrow_schema.specs.Schema.{IsSchema};
+ghost use Rattle.arrays.specs.Batch.{BatchAt, rows_of};
+ghost use Rattle.arrays.specs.Typed.{AreOfTypes};
 ghost use Rattle.table_versions.specs.Limits.{most_rows};
-ghost use Rattle.table_versions.specs.Stored.{table_of, has_rows, is_wide, kept};
+ghost use Rattle.table_versions.specs.Stored.{table_of, has_rows, kept};
+ghost use Rattle.table_versions.specs.Kept.{AreSound};
 
 use crate::batch_list::BatchList;
-use arrow_schema::{Batch, Schema};
+use arrays::Batch;
+use arrow_schema::Schema;
 use std::alloc::{AllocError, Global};
 use std::marker::Model;
 use std::sync::Arc;
 
 /// A table: its schema, which can be written, and its rows in batches. Each batch has rows, and one
-/// column for each field. A longer version of the table shares these batches. Until every type and
-/// nulls are built, the schema's types are built ones, and no slot is null.
+/// column for each field, of the field's type. No cell is null in a column that takes no null, and no text
+/// has more than 65,536 bytes. A longer version of the table shares these batches.
 #[derive(Drop)]
 pub struct TableVersion {
     schema: Arc<Schema>,
@@ -45,7 +46,6 @@ impl TableVersion {
     pub fn schema(&self) -> &Schema
         ensures schema { result.now ≡ self.now.schema }
         ensures valid { IsSchema result.now }
-        ensures built { IsTrue (is_built result.now.fields) }
     {
         &self.schema
     }
@@ -65,23 +65,23 @@ impl TableVersion {
         self.batches.len()
     }
 
-    /// The batch of a number, counted from 0. It has rows, and one column for each field. The rows of
-    /// the batches, in order, are those of the table.
+    /// The batch of a number, counted from 0. It has rows, and one column for each field, of the field's
+    /// type. The rows of the batches, in order, are those of the table.
     pub fn batch(&self, index: usize) -> &Batch
         requires { index < length self.now.batches }
         ensures batch { slice_get self.now.batches index ≡ Some result.now }
         ensures filled { 0 < result.now.rows }
+        ensures typed { AreOfTypes self.now.schema.fields result.now.columns }
         ensures wide { length result.now.columns ≡ length self.now.schema.fields }
         ensures few { length result.now.columns ≤ 64 }
-        ensures full { HasNoNulls result.now }
+        ensures sound { AreSound self.now.schema.fields (rows_of result.now) }
     {
         self.batches.batch(index)
     }
 
     // A table of no rows.
     pub(crate) fn new(alloc: Global, schema: Schema) -> Result<TableVersion, AllocError>
-        requires valid { IsSchema schema }
-        requires built { IsTrue (is_built schema.fields) }
+        requires { IsSchema schema }
         ensures { IfOk result (λ table. table ≡ record { schema = schema; batches = [] }) }
     {
         Ok(TableVersion {
@@ -105,8 +105,8 @@ impl TableVersion {
     // The table with one batch more behind its others.
     fn with(self, alloc: Global, batch: Batch) -> Result<TableVersion, AllocError>
         requires filled { IsTrue (has_rows batch) }
-        requires wide { IsTrue (is_wide self.schema batch) }
-        requires full { HasNoNulls batch }
+        requires typed { AreOfTypes self.schema.fields batch.columns }
+        requires sound { AreSound self.schema.fields (rows_of batch) }
         requires few { length (flat_map rows_of self.batches) + batch.rows ≤ most_rows }
         ensures { IfOk result (λ table. table
             ≡ record self { batches = self.batches ++ batch ∷ [] }) }
@@ -130,8 +130,9 @@ impl TableVersion {
         alloc: Global,
         batches: Vec<Batch>,
     ) -> Result<TableVersion, AllocError>
-        requires wide { IsTrue (list_all (is_wide self.schema) batches.items) }
-        requires full { All HasNoNulls batches.items }
+        requires typed { All (λ (batch : BatchAt). AreOfTypes self.schema.fields batch.columns)
+            batches.items }
+        requires sound { AreSound self.schema.fields (flat_map rows_of batches.items) }
         requires few { length (flat_map rows_of (self.batches ++ batches.items)) ≤ most_rows }
         ensures { IfOk result (λ table. table
             ≡ record self { batches = self.batches ++ kept batches.items }) }

@@ -1,5 +1,5 @@
 use Rattle.std.proofs.Common.{take, ap, ◌∙◌}
-use Rattle.arrow_schema.specs.Column.{ColumnAt}
+use Rattle.arrays.specs.Column.{ColumnAt}
 use Rattle.scan_exec.specs.Chosen.{columns_at}
 use Rattle.scan_exec.proofs.Cells.{columns_more, sliced, long_more}
 use Rattle.scan_exec.proofs.columns.slice_of.Goals as goal

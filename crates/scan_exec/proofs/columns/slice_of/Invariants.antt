@@ -1,6 +1,6 @@
 use Rattle.std.proofs.Common.{◌≡◌, ◌-◌, map, take}
-use Rattle.arrow_schema.specs.Batch.{AreLong}
-use Rattle.arrow_schema.specs.Column.{cut}
+use Rattle.arrays.specs.Batch.{AreLong}
+use Rattle.arrays.specs.Column.{cut}
 use Rattle.scan_exec.specs.Chosen.{columns_at}
 use Rattle.scan_exec.proofs.columns.slice_of.Given as goal
 

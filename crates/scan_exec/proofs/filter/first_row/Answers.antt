@@ -1,8 +1,8 @@
 use Rattle.std.proofs.Common.{◌≡◌, ℕ, ◌<◌, Bool, true, false, not, List, map, length, ◌∙◌, sym, ap, refl, ◌⊎◌, inl, inr, arith}
 use mathlib.Core.Bool.{beq}
 use Rattle.std.proofs.lemmas.Bool.{cases_lt}
-use Rattle.arrow_schema.specs.Batch.{row_of}
-use Rattle.arrow_schema.specs.Column.{ColumnAt}
+use Rattle.arrays.specs.Batch.{row_of}
+use Rattle.arrays.specs.Column.{ColumnAt}
 use Rattle.scan_base.specs.Predicate.{cell_in}
 use Rattle.typed_plan.specs.Plan.{Tree}
 use Rattle.typed_plan.specs.View.{tree_of}

@@ -1,5 +1,5 @@
 use Rattle.std.proofs.Common.{◌≡◌, ◌≤◌, ◌<◌, ℕ, not}
-use Rattle.arrow_schema.specs.Batch.{row_of}
+use Rattle.arrays.specs.Batch.{row_of}
 use Rattle.typed_plan.specs.View.{tree_of}
 use Rattle.scan_exec.specs.Given.{holds}
 use Rattle.scan_exec.proofs.filter.first_row.Given as goal

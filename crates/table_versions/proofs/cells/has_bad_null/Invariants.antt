@@ -1,6 +1,6 @@
 use Rattle.std.proofs.Common.{◌≡◌, drop}
 use Rattle.std.specs.List.{list_any, flat_map}
-use Rattle.arrow_schema.specs.Batch.{rows_of}
+use Rattle.arrays.specs.Batch.{rows_of}
 use Rattle.table_versions.specs.Table.{has_bad_null}
 use Rattle.table_versions.proofs.cells.has_bad_null.Given as goal
 

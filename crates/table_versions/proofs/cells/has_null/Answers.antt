@@ -1,11 +1,5 @@
-use Rattle.std.proofs.Common.{◌∙◌, sym, refl}
-use Rattle.arrow_schema.specs.Column.{slot_of}
-use Rattle.table_versions.specs.Table.{is_null}
-use Rattle.table_versions.proofs.Transposed.{any_from}
+use Rattle.std.proofs.Common.{◌∙◌, sym}
 use Rattle.table_versions.proofs.cells.has_null.Goals as goal
 
-pub loop-j-preserved : goal.loop-j-preserved
-loop-j-preserved c =
-    let here = rw c.value_at.ensures at (sym c.is_null.ensures ∙ c.if-is_null.false) in
-    let within = rw c.len-j-end.ensures at c.loop-j-test.true in
-    c.loop-j.invariant ∙ any_from is_null (slot_of c.args.column.now) c.loop-j.j c.args.column.now.len within ∙ rw here refl
+pub returns-else-may_have_nulls : goal.returns-else-may_have_nulls
+returns-else-may_have_nulls c = c.if-may_have_nulls.false ∙ sym (c.may_have_nulls.ensures.values c.if-may_have_nulls.false)

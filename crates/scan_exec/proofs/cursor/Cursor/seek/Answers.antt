@@ -13,6 +13,6 @@ loop-self-preserved c =
       moved = ap (λ (x : Cursor). record x { batch = cursor.batch + 1; start = cursor.start + c.rows-rows.result }) c.loop-self.invariant.moved;
       placed =
           subst (λ (rows : ℕ). IsPlaced c.args.table.now (record cursor { batch = cursor.batch + 1; start = cursor.start + rows })) (sym c.rows-rows.ensures)
-          (past c.args.table.now cursor batch is c.batch-batch.ensures.batch c.batch-batch.ensures.filled
+          (past c.batches_are_rows.ensures c.args.table.now cursor batch is c.batch-batch.ensures.batch c.batch-batch.ensures.filled
           (omega (arith, c.if-self-rows.false, c.rows-rows.ensures, is.behind)));
     }

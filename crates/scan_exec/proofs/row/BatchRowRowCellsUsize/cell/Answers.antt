@@ -1,8 +1,8 @@
 use Rattle.std.proofs.Common.{◌≡◌, ◌<◌, length, ap, sym, ◌∙◌}
 use Rattle.std.proofs.lemmas.Bool.{ltb-true}
 use Rattle.std.proofs.lemmas.List.{length-map}
-use Rattle.arrow_schema.specs.Batch.{row_of}
-use Rattle.arrow_schema.specs.Column.{ColumnAt, slot_of}
+use Rattle.arrays.specs.Batch.{row_of}
+use Rattle.arrays.specs.Column.{ColumnAt, slot_of}
 use Rattle.scan_base.specs.Predicate.{cell_in}
 use Rattle.scan_exec.proofs.Cells.{cell_read}
 use Rattle.scan_exec.proofs.row.BatchRowRowCellsUsize.cell.Goals as goal

@@ -2,7 +2,7 @@ use Rattle.std.proofs.Common.{◌≡◌, ◌<◌, ◌≤◌, ℕ, List, length, 
 use Rattle.std.specs.List.{range_with_len}
 use Rattle.std.specs.Option.{option_copied}
 use Rattle.std.proofs.lemmas.List.FromFn.{length-range_with_len}
-use Rattle.arrow_schema.specs.Batch.{BatchAt}
+use Rattle.arrays.specs.Batch.{BatchAt}
 use Rattle.arrow_schema.specs.declared.schema.Schema.{Schema}
 use Rattle.table_versions.specs.Database.{table_at}
 use Rattle.table_versions.specs.Stored.{TableAt, CatalogAt, table_of, tables_of}
@@ -19,7 +19,7 @@ use Rattle.scan_exec.specs.Reading.{IsRead, IsScan}
 use Rattle.scan_exec.specs.Scan.{ScanAt, batches_of, batches_read, plan_types}
 use Rattle.scan_exec.specs.declared.cursor.Cursor.{Cursor}
 use Rattle.scan_exec.proofs.Opening.{in_clamped}
-use Rattle.scan_exec.proofs.Plans.{not_missing, reads, read_is, output_there, begins, left_is}
+use Rattle.scan_exec.proofs.Plans.{not_missing, reads, read_is, output_there, types_are, begins, left_is}
 use Rattle.scan_exec.proofs.Scanning.{seen}
 use Rattle.scan_exec.proofs.scan.Scan.new.Goals as goal
 
@@ -77,6 +77,7 @@ invariant_of-result c =
     ∙ ap (numbers_at (output_columns plan.output)) c.as_slice-2.ensures.value in
     subst (λ (x : Cursor). IsScan plan table c.in_ok-read.read.items c.in_ok-shown.shown.items x) (sym c.new.ensures)
     (begins plan table c.in_ok-read.read.items c.in_ok-shown.shown.items c.args.from c.max-end.result c.requires.typed is chosen
+    (types_are plan c.args.catalog.now table c.in_ok-read.read.items c.in_ok-shown.shown.items c.requires.typed c.requires.over there is chosen)
     (omega (arith, c.max-end.ensures)) (λ more. omega (arith, c.max-end.ensures, c.min.ensures, c.rows.ensures.rows, more)))
 
 -- a scan before its first row, as contracts see it

@@ -2,7 +2,7 @@ use Rattle.std.proofs.Common.{rules, arith, ◌≡◌, ◌∙◌, ◌+◌, ◌*�
 use Rattle.std.proofs.lemmas.List.{length-map}
 use Rattle.std.specs.Arc.{arc_value}
 use Rattle.std.proofs.lemmas.Nat.{div-add-mod'}
-use Rattle.arrow_schema.specs.Batch.{BatchAt}
+use Rattle.arrays.specs.Batch.{BatchAt}
 use Rattle.table_versions.specs.Batches.{joined}
 use Rattle.table_versions.proofs.Pages.{handle_at, full_at, in_page, in_last, length-joined}
 use Rattle.table_versions.proofs.batch_list.BatchList.batch.Goals as goal

@@ -9,11 +9,14 @@ here c = batch_at (record { schema = arc_value c.self.inside.schema; batches = c
 pub returns-clause-filled : goal.returns-clause-filled
 returns-clause-filled c = (here c).filled
 
+pub returns-clause-typed : goal.returns-clause-typed
+returns-clause-typed c = rw (← c.self.view_is) (here c).typed
+
 pub returns-clause-wide : goal.returns-clause-wide
 returns-clause-wide c = rw (← c.self.view_is) (here c).wide
 
 pub returns-clause-few : goal.returns-clause-few
 returns-clause-few c = (here c).few
 
-pub returns-clause-full : goal.returns-clause-full
-returns-clause-full c = (here c).full
+pub returns-clause-sound : goal.returns-clause-sound
+returns-clause-sound c = rw (← c.self.view_is) (here c).sound

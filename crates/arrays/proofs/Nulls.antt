@@ -1,0 +1,58 @@
+-- Values none of which is null.
+use Rattle.std.proofs.Common.{◌≡◌, ◌<◌, ◌≤◌, ℤ, pos, negsuc, ℕ, zero, suc, ◌+◌, List, [], ◌∷◌, ◌++◌, length, map, take, get_or, slice_get, Option, Some, None, unwrap_or, is_some, Bool, true, false, ◌||◌, refl, sym, ap, arith}
+use Rattle.std.specs.List.{list_any, range_with_len}
+use Rattle.std.proofs.Math.Seq.{take-suc}
+use Rattle.std.proofs.lemmas.List.Folds.{list_any-append}
+use Rattle.scan_base.specs.declared.value.Value.{Value}
+use Rattle.scan_base.specs.declared.value.Value.TheVariants.{Null}
+use Rattle.arrow_schema.specs.declared.data_type.IntegerType.{IntegerType}
+use Rattle.arrays.specs.Number.{integer_at}
+use Rattle.arrays.specs.Validity.{is_null}
+use Rattle.arrays.specs.Texts.{TextsAt, texts_slot, texts_values}
+use Rattle.arrays.specs.Dictionary.{parts_values, entry_at}
+use Rattle.arrays.specs.Indices.{IndicesAt, index_stands, indices_slot}
+use Rattle.arrays.proofs.Entries.{parts_more}
+
+-- where no slot is null, no value of them is
+pub none_listed : (slot : ℕ → Value) (first len : ℕ) → ((place : ℕ) → first ≤ place → place < first + len → is_null (slot place) ≡ false) →
+    list_any is_null (map slot (range_with_len first len)) ≡ false
+none_listed slot first zero none = refl
+none_listed slot first (suc len) none =
+    rw (none first (omega arith) (omega arith)) (none_listed slot (first + 1) len (λ place low high. none place (omega arith) (omega arith)))
+
+-- where no value is null, the one at a place is not
+pub none_at : (values : List Value) (place : ℕ) → list_any is_null values ≡ false → is_some (slice_get values place) ≡ true →
+    is_null (unwrap_or (slice_get values place) Null) ≡ false
+none_at [] place none some = absurd (let no : ⊥ = cc in no)
+none_at (value ∷ values) zero none some = first (is_null value) (list_any is_null values) none
+  where
+    first : (a b : Bool) → (a || b) ≡ false → a ≡ false
+    first true b e = e
+    first false b e = refl
+none_at (value ∷ values) (suc place) none some = none_at values place (others (is_null value) (list_any is_null values) none) some
+  where
+    others : (a b : Bool) → (a || b) ≡ false → b ≡ false
+    others true b e = absurd (let no : ⊥ = cc in no)
+    others false b e = e
+
+-- one part more
+pub none_through : (parts : List TextsAt) (i : ℕ) (part : TextsAt) → list_any is_null (parts_values (take i parts)) ≡ false → i < length parts → part ≡ get_or parts i part →
+    ((place : ℕ) → place < part.len → is_null (texts_slot part place) ≡ false) → list_any is_null (parts_values (take (i + 1) parts)) ≡ false
+none_through parts i part before low is none =
+    let e : i + 1 ≡ suc i = omega arith in
+    let through : take (i + 1) parts ≡ take i parts ++ part ∷ [] = rw (e, take-suc parts i part low) (ap (λ (x : TextsAt). take i parts ++ x ∷ []) (sym is)) in
+    let last = none_listed (texts_slot part) 0 part.len (λ place first high. none place (omega arith)) in
+    rw (through, parts_more (take i parts) part, list_any-append is_null (parts_values (take i parts)) (texts_values part ++ []), list_any-append is_null (texts_values part) [], before, last) refl
+
+-- nor is the one that an index leads to
+led_to : (dictionary : List Value) (index : ℤ) → list_any is_null dictionary ≡ false → is_some (entry_at dictionary index) ≡ true →
+    is_null (unwrap_or (entry_at dictionary index) Null) ≡ false
+led_to dictionary (pos index) none some = none_at dictionary index none some
+led_to dictionary (negsuc index) none some = absurd (let no : ⊥ = cc in no)
+
+pub none_led_to : (index : IntegerType) (validity : Option (List Bool)) (values : List ℕ) (dictionary : List Value) (len : ℕ) → is_some validity ≡ false →
+    list_any is_null dictionary ≡ false →
+    let cells : IndicesAt = record { index = index; validity = validity; values = values; dictionary = dictionary; len = len } in
+    ((place : ℕ) → place < len → index_stands cells place ≡ true) → (place : ℕ) → place < len → is_null (indices_slot cells place) ≡ false
+none_led_to index None values dictionary len all none stands place low = led_to dictionary (integer_at index values place) none (stands place low)
+none_led_to index (Some bits) values dictionary len all none stands place low = absurd (let no : ⊥ = cc in no)

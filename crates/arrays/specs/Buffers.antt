@@ -1,0 +1,35 @@
+-- The layout of a column's type, over its buffers: its validity bits, where it has some, and those behind them.
+use Rattle.std.specs.Prelude.{ℕ, List, Option, Result, Ok, Err}
+use Rattle.scan_base.specs.declared.fault.Fault.{Fault}
+use Rattle.scan_base.specs.declared.fault.Fault.TheVariants.{BadBatch}
+use Rattle.scan_base.specs.declared.value.Value.{Value}
+use Rattle.scan_base.specs.Reading.{◌>>=◌}
+use Rattle.arrow_schema.specs.declared.data_type.DataType.{DataType}
+use Rattle.arrow_schema.specs.declared.data_type.DataType.TheVariants.{Integer, Utf8, Bool, Decimal128, Dictionary}
+use Rattle.arrays.specs.declared.layout.Layout.{Layout}
+use Rattle.arrays.specs.declared.layout.Layout.TheVariants as layout
+use Rattle.arrays.specs.Integers.{integers_of}
+use Rattle.arrays.specs.Decimals.{decimals_of}
+use Rattle.arrays.specs.Bools.{bools_of}
+use Rattle.arrays.specs.Texts.{texts_of}
+use Rattle.arrays.specs.Indices.{indices_of}
+
+-- how many buffers a column of a type has: validity and values, and for texts the offsets between
+abbrev pub buffer_count : DataType → ℕ
+buffer_count Utf8 = 3
+buffer_count _ = 2
+
+-- Slots of a type whose values lie in one buffer. An index leads into these values of its dictionary.
+unfoldable pub values_layout : DataType → List Value → Option (List ℕ) → List ℕ → ℕ → Result Layout Fault
+values_layout (Integer integer) dictionary validity values len =
+    integers_of integer validity values len >>= λ cells. Ok (layout.Integers cells)
+values_layout Bool dictionary validity values len = bools_of validity values len >>= λ cells. Ok (layout.Bools cells)
+values_layout Decimal128 dictionary validity values len =
+    decimals_of validity values len >>= λ cells. Ok (layout.Decimals cells)
+values_layout (Dictionary encoding) dictionary validity values len =
+    indices_of encoding.index validity values dictionary len >>= λ cells. Ok (layout.Indices cells)
+values_layout Utf8 dictionary validity values len = Err BadBatch
+
+-- slots of texts
+unfoldable pub texts_layout : Option (List ℕ) → List ℕ → List ℕ → ℕ → Result Layout Fault
+texts_layout validity offsets bytes len = texts_of validity offsets bytes len >>= λ cells. Ok (layout.Texts cells)
