@@ -51,7 +51,8 @@ def table(name, remark, of, rows):
 
 
 def listed(name, remark, rows):
-    """A static string of many lines, whose parts have a tab between: a table of so many rows costs the prover too much."""
+    """A static string of many lines, whose parts have a tab between. A table of some 500 rows is more than the prover
+    takes in one declaration, and a string of 100,000 bytes costs it little."""
     lines = ["\t".join(row) for row in rows]
     assert all(line.count("\t") == lines[0].count("\t") and "\n" not in line for line in lines), name
     letters = (letter for line in lines for letter in [*map(in_text, line), "\\n"])
