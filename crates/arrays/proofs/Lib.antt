@@ -10,3 +10,6 @@ mod Rest
 mod Appended
 mod NullSlots
 mod Lengths
+mod BitsAgain
+mod TextsAgain
+mod ColumnsAgain
