@@ -123,7 +123,7 @@ led_text values (pos index) texts = elim (cases_lt index (length values)) [
 ]
 led_text values (negsuc index) texts = tt
 
-index_is_text : (cells : IndicesAt) (place : ℕ) → All IsTextOrNull cells.dictionary → IsTextOrNull (indices_slot cells place)
+pub index_is_text : (cells : IndicesAt) (place : ℕ) → All IsTextOrNull cells.dictionary → IsTextOrNull (indices_slot cells place)
 index_is_text cells place texts = by (is_valid cells.validity place) (led_text cells.dictionary (integer_at cells.index cells.values place) texts)
   where
     by : (valid : Truth) → IsTextOrNull (unwrap_or (entry_at cells.dictionary (integer_at cells.index cells.values place)) Null) →

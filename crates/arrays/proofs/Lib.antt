@@ -13,3 +13,4 @@ mod Lengths
 mod BitsAgain
 mod TextsAgain
 mod ColumnsAgain
+mod OfType

@@ -2,6 +2,7 @@
 
 ghost use Rattle.arrays.specs.Column.{ColumnSlicesKeepValues};
 ghost use Rattle.arrays.specs.Batch.{BatchSlicesKeepRows};
+ghost use Rattle.arrays.specs.Typed.{ValuesAreOfTheirType};
 ghost use Rattle.arrays.specs.Written.{ColumnsReadBack};
 
 /// The slots of a column from one up to, not with, another have the values that they had.
@@ -20,4 +21,11 @@ pub fn batch_slices_keep_rows()
 #[tactic(auto, using(crate::proofs::ColumnsAgain::columns_again))]
 pub fn columns_read_back()
     ensures { ColumnsReadBack }
+{}
+
+/// Each value of a column is null or one of the column's type: within the range of its integers, of 128 bits, or
+/// a text whose bytes are UTF-8.
+#[tactic(auto, using(crate::proofs::OfType::values_are))]
+pub fn values_are_of_their_type()
+    ensures { ValuesAreOfTheirType }
 {}
