@@ -1,16 +1,15 @@
 -- The laws of what is read of a buffer: it is what the buffer says, and it may be written.
-use Rattle.std.proofs.Common.{◌+◌, nat_le, if◌then◌else◌, Bool, false, Err, ◌≡◌, ◌<◌, ◌^◌, inl, inr, true, ℕ, List, length, Option, Some, None, Result, Ok, refl, arith, sym, ap, ◌∙◌, subst, get_or}
-use Rattle.std.specs.Prelude.{IfOk, slice_index}
+use Rattle.std.proofs.Common.{◌+◌, nat_le, if◌then◌else◌, Bool, false, Err, ◌≡◌, ◌<◌, ◌^◌, inl, inr, true, ℕ, List, length, Option, Some, None, Ok, refl, arith, sym, subst, get_or}
+use Rattle.std.specs.Prelude.{slice_index}
 use Rattle.std.specs.Str.{IsUtf8}
 use Rattle.std.proofs.lemmas.Bool.{cases_lt}
 use Rattle.std.proofs.lemmas.List.{get_or_past}
-use Rattle.std.proofs.lemmas.List.Elements.{All-get_or, All-from_get_or}
+use Rattle.std.proofs.lemmas.List.Elements.{All-get_or}
 use Rattle.std.proofs.lemmas.Option.{slice_get-get_or}
 use Rattle.byteorder.specs.Endian.{little_from}
 use Rattle.byteorder.specs.Numbers.{little_from-lt}
 use Rattle.scan_base.specs.declared.fault.Fault.{Fault}
-use Rattle.scan_base.specs.declared.fault.Fault.TheVariants.{BadFlatbuffer, UnsupportedArrow}
-use Rattle.scan_base.specs.Reading.{demand, GivesUnlessMemory}
+use Rattle.scan_base.specs.declared.fault.Fault.TheVariants.{BadFlatbuffer}
 use Rattle.flatbuf.specs.Layout.{TableAt, IsBytes, IsScalar, IsReached, IsText, HasNumber}
 use Rattle.flatbuf.specs.Place.{number_at}
 use Rattle.flatbuf.proofs.Readings.{seen_finds, seen_number}
@@ -18,10 +17,9 @@ use Rattle.arrow_schema.specs.declared.data_type.DataType.{DataType}
 use Rattle.arrow_schema.specs.declared.data_type.DataType.TheVariants.{Integer, Utf8, Bool as Flags, Decimal128, Dictionary}
 use Rattle.arrow_schema.specs.declared.schema.Field.{Field}
 use Rattle.arrow_schema.specs.declared.schema.Schema.{Schema}
-use Rattle.arrow_schema.specs.Header.{MessageAt, schema_in, schema_message_of, schema_in, schema_of}
 use Rattle.arrow_schema.specs.Schema.{IsType, IsField, IsSchema}
 use Rattle.arrow_schema.specs.Says.{SaysType, SaysEncoding, SaysField, SaysSchema, ReadIsSaid, ReadIsSchema}
-use Rattle.arrow_schema.proofs.Said.{bind_ok, demand_ok, bytes_table, bytes_vector, bytes_behind, schema_told, schema_read}
+use Rattle.arrow_schema.proofs.Said.{bytes_table, bytes_vector, bytes_behind, schema_told, schema_read}
 
 pub read_is_said : ReadIsSaid
 read_is_said bytes schema is = (schema_told bytes schema is, schema_read bytes schema is)
@@ -89,12 +87,3 @@ schema_is bytes schema is says =
 
 pub read_is_schema : ReadIsSchema
 read_is_schema bytes schema is e = schema_is bytes schema is (schema_told bytes schema is e)
-
--- what a call gave may be written
-pub given_is_schema : (bytes : List ℕ) (message : MessageAt) (result : Result Schema Fault) → ((k : ℕ) → slice_index bytes k < 256) → schema_message_of bytes ≡ Ok message →
-    GivesUnlessMemory (λ (schema : Schema). schema) result (schema_in message) → IfOk result IsSchema
-unfolding schema_of
-given_is_schema bytes message (Ok schema) each found e =
-    let read : schema_of bytes ≡ Ok schema = rw found e in
-    read_is_schema bytes schema (All-from_get_or (λ byte. byte < 256) bytes 0 (λ k inside. each k)) read
-given_is_schema bytes message (Err fault) each found e = tt

@@ -1,6 +1,7 @@
 //! Reading a schema from the header of a message: one function for each table.
 
-ghost use Rattle.std.specs.Prelude.{◌≡◌, ◌<◌, IfOk};
+ghost use Rattle.std.specs.Prelude.{◌≡◌, ◌≤◌, ◌<◌, All, IfOk, length};
+ghost use Rattle.arrow_schema.specs.Limits.{most_columns};
 ghost use Rattle.std.specs.List.{list_any, range_with_len};
 ghost use Rattle.scan_base.specs.Reading.{Gives, GivesUnlessMemory};
 ghost use Rattle.scan_base.specs.Lists.{each, repeats};
@@ -10,7 +11,7 @@ ghost use Rattle.arrow_schema.specs.Header.{childless, index_of, dictionary_of, 
 ghost use Rattle.arrow_schema.specs.Header.{fields_of, shares_dictionary, same_dictionary};
 ghost use Rattle.arrow_schema.specs.Header.{schema_in};
 ghost use Rattle.arrow_schema.specs.Header.{is_schema, schema_message_of, schema_of};
-ghost use Rattle.arrow_schema.specs.Schema.{IsSchema};
+ghost use Rattle.arrow_schema.specs.Schema.{IsName, IsType, IsField, IsSchema};
 ghost use Rattle.arrow_schema.specs.Seen.{message_seen};
 
 use crate::data_type::{DataType, DictionaryEncoding, IntegerType};
@@ -39,7 +40,8 @@ fn vector_wanted<'a>(table: &Table<'a>, slot: u16) -> Result<Vector<'a>, Fault>
 // A name of one byte or more, up to the limit.
 #[tactic(auto, unfolding(crate::specs::Header::name_of))]
 fn name<'a>(field: &Table<'a>) -> Result<&'a str, Fault>
-    ensures { Gives (λ name. name.now) result (name_of field.now) }
+    ensures value { Gives (λ name. name.now) result (name_of field.now) }
+    ensures valid { IfOk result (λ name. IsName name.now) }
 {
     let name = field.text(0)?.ok_or(Fault::LimitReached)?;
     if name.is_empty() || name.len() > MAX_NAME_BYTES {
@@ -75,7 +77,8 @@ fn integer(table: &Table<'_>) -> Result<IntegerType, Fault>
 
 #[tactic(auto, unfolding(crate::specs::Header::decimal_of))]
 fn decimal(table: &Table<'_>) -> Result<DataType, Fault>
-    ensures { Gives (λ decimal. decimal) result (decimal_of table.now) }
+    ensures value { Gives (λ decimal. decimal) result (decimal_of table.now) }
+    ensures valid { IfOk result IsType }
 {
     let precision = table.scalar(0, Width::Four, 0)?;
     let scale = table.scalar(1, Width::Four, 0)?;
@@ -100,7 +103,8 @@ fn type_kind(number: u64) -> Result<TypeKind, Fault>
 
 #[tactic(auto, unfolding(crate::specs::Header::type_of))]
 fn type_from(kind: TypeKind, table: &Table<'_>) -> Result<DataType, Fault>
-    ensures { Gives (λ data_type. data_type) result (type_of kind table.now) }
+    ensures value { Gives (λ data_type. data_type) result (type_of kind table.now) }
+    ensures valid { IfOk result IsType }
 {
     match kind {
         TypeKind::Int => Ok(DataType::Integer(integer(table)?)),
@@ -113,7 +117,8 @@ fn type_from(kind: TypeKind, table: &Table<'_>) -> Result<DataType, Fault>
 // The type of a field's values. No byte is 256: that is a kind that is not stored.
 #[tactic(auto, unfolding(crate::specs::Header::value_type_of))]
 fn value_type(field: &Table<'_>) -> Result<DataType, Fault>
-    ensures { Gives (λ data_type. data_type) result (value_type_of field.now) }
+    ensures value { Gives (λ data_type. data_type) result (value_type_of field.now) }
+    ensures valid { IfOk result IsType }
 {
     let number = field.scalar(2, Width::One, 256)?;
     if number == 256 {
@@ -146,7 +151,8 @@ fn index_type(found: &Option<Table<'_>>) -> Result<IntegerType, Fault>
 // A dictionary of these values, which have to be texts.
 #[tactic(auto, unfolding(crate::specs::Header::dictionary_of))]
 fn dictionary(values: DataType, table: &Table<'_>) -> Result<DataType, Fault>
-    ensures { Gives (λ data_type. data_type) result (dictionary_of values table.now) }
+    ensures value { Gives (λ data_type. data_type) result (dictionary_of values table.now) }
+    ensures valid { IfOk result IsType }
 {
     if !matches!(values, DataType::Utf8) {
         return Err(Fault::UnsupportedArrow);
@@ -161,7 +167,8 @@ fn dictionary(values: DataType, table: &Table<'_>) -> Result<DataType, Fault>
 }
 
 fn encoded(values: DataType, encoding: &Option<Table<'_>>) -> Result<DataType, Fault>
-    ensures { Gives (λ data_type. data_type) result (encoded values encoding.now) }
+    ensures value { Gives (λ data_type. data_type) result (encoded values encoding.now) }
+    ensures valid { IsType values → IfOk result IsType }
 {
     match encoding {
         None => Ok(values),
@@ -171,7 +178,8 @@ fn encoded(values: DataType, encoding: &Option<Table<'_>>) -> Result<DataType, F
 
 #[tactic(auto, unfolding(crate::specs::Header::field_in))]
 fn field_from(alloc: Global, field: &Table<'_>) -> Result<Field, Fault>
-    ensures { GivesUnlessMemory (λ field. field) result (field_in field.now) }
+    ensures value { GivesUnlessMemory (λ field. field) result (field_in field.now) }
+    ensures valid { IfOk result IsField }
 {
     let name = name(field)?;
     let nullable = field.scalar(1, Width::One, 0)?;
@@ -189,7 +197,8 @@ fn field_from(alloc: Global, field: &Table<'_>) -> Result<Field, Fault>
 #[tactic(auto, unfolding(crate::specs::Header::field_at))]
 fn field_at(alloc: Global, vector: &Vector<'_>, index: usize) -> Result<Field, Fault>
     requires { index < (vector.now).count }
-    ensures { GivesUnlessMemory (λ field. field) result (field_at vector.now index) }
+    ensures value { GivesUnlessMemory (λ field. field) result (field_at vector.now index) }
+    ensures valid { IfOk result IsField }
 {
     field_from(alloc, &vector.table(index)?)
 }
@@ -197,7 +206,10 @@ fn field_at(alloc: Global, vector: &Vector<'_>, index: usize) -> Result<Field, F
 // Each field of a vector of one or more, up to the limit.
 #[tactic(auto, unfolding(crate::specs::Header::fields_of))]
 fn fields(alloc: Global, vector: &Vector<'_>) -> Result<Items<Field>, Fault>
-    ensures { GivesUnlessMemory (λ fields. fields) result (fields_of vector.now) }
+    ensures value { GivesUnlessMemory (λ fields. fields) result (fields_of vector.now) }
+    ensures some { IfOk result (λ fields. 1 ≤ length fields) }
+    ensures few { IfOk result (λ fields. length fields ≤ most_columns) }
+    ensures valid { IfOk result (λ fields. All IsField fields) }
 {
     if vector.is_empty() || vector.len() > MAX_COLUMNS {
         return Err(Fault::LimitReached);
@@ -206,8 +218,10 @@ fn fields(alloc: Global, vector: &Vector<'_>) -> Result<Items<Field>, Fault>
 }
 
 fn each_field(alloc: Global, vector: &Vector<'_>) -> Result<Items<Field>, Fault>
-    ensures { GivesUnlessMemory (λ fields. fields) result
+    ensures value { GivesUnlessMemory (λ fields. fields) result
         (each (field_at vector.now) (range_with_len 0 (vector.now).count)) }
+    ensures count { IfOk result (λ fields. length fields ≡ (vector.now).count) }
+    ensures valid { IfOk result (λ fields. All IsField fields) }
 {
     let mut fields = Items::new(alloc);
     for index in 0..vector.len() {
@@ -267,7 +281,9 @@ impl Message<'_> {
     /// - F21 (`Fault::OutOfMemory`) where memory is refused.
     #[tactic(auto, unfolding(crate::specs::Header::schema_in))]
     pub fn schema(&self, alloc: Global) -> Result<Schema, Fault>
-        ensures { GivesUnlessMemory (λ schema. schema) result (schema_in (message_seen self.now)) }
+        ensures value { GivesUnlessMemory (λ schema. schema) result
+            (schema_in (message_seen self.now)) }
+        ensures valid { IfOk result IsSchema }
     {
         let header = self.header()?;
         if header.scalar(0, Width::Two, 0)? != 0 {

@@ -1,7 +1,7 @@
-pub mod BatchAgain
-pub mod ColumnsAgain
+pub mod Entries
+pub mod Glances
 pub mod Lengths
 pub mod Messages
-pub mod NoNulls
+pub mod Negatives
 pub mod PartsAgain
-pub mod WriterLoops
+pub mod Typed

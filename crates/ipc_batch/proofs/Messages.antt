@@ -1,27 +1,27 @@
 -- What messages say, message by message.
-use Rattle.std.proofs.Common.{◌≡◌, ℕ, List, [], ◌∷◌, ◌++◌, length, Option, Some, None, Result, Ok, Err, refl, ap, sym, subst, ◌∙◌, append_assoc, append-nil, IfOk, get_or, ◌<◌}
+use Rattle.std.proofs.Common.{◌≡◌, ℕ, List, [], ◌∷◌, ◌++◌, length, Option, Some, None, Result, Ok, Err, refl, ap, sym, subst, ◌∙◌, append_assoc, append-nil, IfOk}
 use Rattle.std.specs.List.{range_with_len}
 use Rattle.std.proofs.lemmas.List.{length-map}
 use Rattle.std.proofs.lemmas.List.Elements.{All-nil, All-map, All-append}
 use Rattle.scan_base.specs.declared.fault.Fault.{Fault}
-use Rattle.scan_base.specs.declared.fault.Fault.TheVariants.{BadBatch}
 use Rattle.scan_base.specs.declared.value.Value.{Value}
 use Rattle.scan_base.specs.Reading.{◌>>=◌}
-use Rattle.flatbuf.specs.Place.{TableAt}
 use Rattle.arrow_schema.specs.declared.header.HeaderKind.{HeaderKind}
 use Rattle.arrow_schema.specs.declared.header.HeaderKind.TheVariants as header
 use Rattle.arrow_schema.specs.declared.schema.Schema.{Schema}
-use Rattle.arrow_schema.specs.Header.{MessageAt, message_of, header_of}
-use Rattle.arrow_schema.specs.Column.{ColumnAt, slot_of}
-use Rattle.arrow_schema.specs.Batch.{BatchAt, row_of, rows_of}
-use Rattle.ipc_batch.specs.Parts.{PartsAt, parts_of, dictionary_parts}
-use Rattle.ipc_batch.specs.Columns.{batch_columns}
-use Rattle.ipc_batch.specs.State.{State}
-use Rattle.ipc_batch.specs.Said.{Sent, News, first_schema, next_batch, batch_sent, news_in, news_of, Rows, rows_in, Follows, Tells, Extends, HasColumns, AreWide}
-use Rattle.arrow_schema.specs.NoNulls.{HasNoNulls, HasNoNullsIfThere}
+use Rattle.arrow_schema.specs.Header.{MessageAt, message_of}
+use Rattle.arrays.specs.Column.{ColumnAt, slot_of}
+use Rattle.arrays.specs.Batch.{BatchAt, row_of, rows_of}
+use Rattle.arrays.specs.Texts.{TextsAt}
+use Rattle.arrays.specs.Dictionary.{extended_by}
+use Rattle.arrays.specs.Typed.{AreOfTypes}
+use Rattle.ipc_batch.specs.Parts.{PartsAt, DictionaryParts}
+use Rattle.ipc_batch.specs.Columns.{columns_from, one_texts}
+use Rattle.ipc_batch.specs.State.{Known, State, values_under, with_values}
+use Rattle.ipc_batch.specs.Said.{Sent, News, first_schema, batch_parts, batch_sent, dictionary_sent, kept_of, known_after, next_news, news_in, news_of, Rows, rows_in, Follows, Tells, Extends, HasColumns, AreWide}
 use Rattle.ipc_batch.specs.Laws.{SayOneThing, JoinRows, RowsFitSchema}
-use Rattle.ipc_batch.proofs.Lengths.{fine, both, columns_many, columns_bare}
-use Rattle.ipc_batch.proofs.NoNulls.{bare_full}
+use Rattle.ipc_batch.proofs.Lengths.{fine, both}
+use Rattle.ipc_batch.proofs.Typed.{columns_typed, columns_many}
 
 -- messages that follow one another
 pub joined : (a : State) (xs ys : List Sent) (b c : State) (r s : Rows) → Follows a xs b r → Follows b ys c s → Follows a (xs ++ ys) c (r ++ s)
@@ -62,78 +62,79 @@ extended (Err fault) old sent new e = λ other messages rows said end before aft
     let bad : news_of s.0 sent ≡ Err fault = subst (λ (x : State). news_of x sent ≡ Err fault) o.0 (e.0 other) in
     cc
 
--- a batch has a column for each field, none of which has validity bits
-pub record IsBatchOf (schema : Schema) (batch : BatchAt) : Type 0 where
-  pub many : length batch.columns ≡ length schema.fields
-  pub full : HasNoNulls batch
+-- what follows a known schema: the same schema, and a batch, if any, of columns of its types
+pub record Keeps (known : Known) (news : News) : Type 0 where
+  pub after : Known
+  pub state : news.state ≡ Some after
+  pub schema : after.schema ≡ known.schema
+  pub batch : HasColumns news.batch (Some known)
 
-batch_wide : (schema : Schema) (message : MessageAt) (body : List ℕ) (batch : BatchAt) → batch_sent schema message body ≡ Ok batch → IsBatchOf schema batch
+batch_typed : (known : Known) (message : MessageAt) (body : List ℕ) (batch : BatchAt) → batch_sent known message body ≡ Ok batch → AreOfTypes known.schema.fields batch.columns
 unfolding batch_sent
-batch_wide schema message body batch e =
-    let a = both (header_of message) (λ (table : TableAt). (parts_of message table body >>= λ parts. (batch_columns schema.fields parts body >>= λ columns. Ok (record { columns = columns; rows = parts.rows })))) batch e in
-    let b = both (parts_of message a.0 body) (λ (parts : PartsAt). (batch_columns schema.fields parts body >>= λ columns. Ok (record { columns = columns; rows = parts.rows }))) batch a.2 in
-    let c = both (batch_columns schema.fields b.0 body) (λ (columns : List ColumnAt). fine (record { columns = columns; rows = b.0.rows })) batch b.2 in
-    let made : BatchAt = record { columns = c.0; rows = b.0.rows } in
-    let same : made ≡ batch = let d = c.2 in cc in
-    let bare = columns_bare schema.fields b.0 body c.0 c.1 in
-    subst (IsBatchOf schema) {x = made} same (record { many = columns_many schema.fields b.0 body c.0 c.1; full = λ (k : ℕ) (d : ColumnAt) (low : k < length c.0). bare_full b.0.rows (get_or c.0 k d) (bare k d low) })
+batch_typed known message body batch e =
+    let fields = known.schema.fields in
+    let found = λ (parts : PartsAt). columns_from fields known.dictionaries parts.rows body parts.nodes parts.places in
+    let made = λ (parts : PartsAt) (columns : List ColumnAt). fine (record { columns = columns; rows = parts.rows }) in
+    let a = both (batch_parts known message body) (λ (parts : PartsAt). (found parts >>= λ columns. made parts columns)) batch e in
+    let b = both (found a.0) (made a.0) batch a.2 in
+    let same : record { columns = b.0; rows = a.0.rows } ≡ batch = let c = b.2 in cc in
+    subst (λ (x : BatchAt). AreOfTypes fields x.columns) same (columns_typed fields known.dictionaries a.0.rows body a.0.nodes a.0.places b.0 b.1)
 
--- a reading that met a fault
-abbrev stop : Fault → Result BatchAt Fault
-stop fault = Err fault
+after_keeps : (known : Known) (message : MessageAt) (body : List ℕ) (after : Known) → known_after known message body ≡ Ok after → after.schema ≡ known.schema
+unfolding known_after
+after_keeps known message body after e =
+    let texts = λ (sent : DictionaryParts). one_texts sent.parts.rows body sent.parts.nodes sent.parts.places in
+    let values = λ (sent : DictionaryParts) (cells : TextsAt). extended_by (kept_of sent.is_delta (values_under known.dictionaries sent.id)) cells in
+    let made = λ (sent : DictionaryParts) (all : List Value). fine (record known { dictionaries = with_values sent.id all known.dictionaries }) in
+    let a = both (dictionary_sent known message body) (λ (sent : DictionaryParts). (texts sent >>= λ cells. (values sent cells >>= λ all. made sent all))) after e in
+    let b = both (texts a.0) (λ (cells : TextsAt). (values a.0 cells >>= λ all. made a.0 all)) after a.2 in
+    let c = both (values a.0 b.0) (made a.0) after b.2 in
+    let last : Known = record known { dictionaries = with_values a.0.id c.0 known.dictionaries } in
+    let same : last ≡ after = let d = c.2 in cc in
+    subst (λ (x : Known). x.schema ≡ known.schema) {x = last} same refl
 
-next_wide : (kind : HeaderKind) (schema : Schema) (message : MessageAt) (body : List ℕ) (batch : BatchAt) → next_batch kind schema message body ≡ Ok batch → IsBatchOf schema batch
-next_wide header.Schema schema message body batch e = cc
-next_wide header.DictionaryBatch schema message body batch e = let a = both (dictionary_parts message body) (λ (parts : PartsAt). stop BadBatch) batch e in let b = a.2 in cc
-next_wide header.RecordBatch schema message body batch e = batch_wide schema message body batch e
+next_keeps : (kind : HeaderKind) (known : Known) (message : MessageAt) (body : List ℕ) (news : News) → next_news kind known message body ≡ Ok news → Keeps known news
+next_keeps header.Schema known message body news e = cc
+next_keeps header.DictionaryBatch known message body news e =
+    let a = both (known_after known message body) (λ (after : Known). fine (record { state = Some after; batch = None })) news e in
+    let same : record { state = Some a.0; batch = None } ≡ news = let b = a.2 in cc in
+    subst (Keeps known) {x = record { state = Some a.0; batch = None }} same (record { after = a.0; state = refl; schema = after_keeps known message body a.0 a.1; batch = tt })
+next_keeps header.RecordBatch known message body news e =
+    let a = both (batch_sent known message body) (λ (batch : BatchAt). fine (record { state = Some known; batch = Some batch })) news e in
+    let same : record { state = Some known; batch = Some a.0 } ≡ news = let b = a.2 in cc in
+    subst (Keeps known) {x = record { state = Some known; batch = Some a.0 }} same (record { after = known; state = refl; schema = refl; batch = batch_typed known message body a.0 a.1 })
 
--- what the news of a message are, once there is a schema, and before
-news_after : (schema : Schema) (message : MessageAt) (body : List ℕ) (news : News) → news_in (Some schema) message body ≡ Ok news →
-    (news.state ≡ Some schema) × ((batch : BatchAt) × (news.batch ≡ Some batch) × IsBatchOf schema batch)
-news_after schema message body news e =
-    let a = both (next_batch message.kind schema message body) (λ (batch : BatchAt). fine (record { state = Some schema; batch = Some batch })) news e in
-    let same : record { state = Some schema; batch = Some a.0 } ≡ news = let d = a.2 in cc in
-    (sym (ap (λ (x : News). x.state) same), (a.0, sym (ap (λ (x : News). x.batch) same), next_wide message.kind schema message body a.0 a.1))
-
-news_first : (message : MessageAt) (body : List ℕ) (news : News) → news_in None message body ≡ Ok news → (schema : Schema) × (news.state ≡ Some schema) × (news.batch ≡ None)
-news_first message body news e =
-    let a = both (first_schema message.kind message body) (λ (schema : Schema). fine (record { state = Some schema; batch = None })) news e in
-    let same : record { state = Some a.0; batch = None } ≡ news = let d = a.2 in cc in
-    (a.0, sym (ap (λ (x : News). x.state) same), sym (ap (λ (x : News). x.batch) same))
-
-pub after : (schema : Schema) (sent : Sent) (news : News) → news_of (Some schema) sent ≡ Ok news →
-    (news.state ≡ Some schema) × ((batch : BatchAt) × (news.batch ≡ Some batch) × IsBatchOf schema batch)
+pub keeps : (known : Known) (sent : Sent) (news : News) → news_of (Some known) sent ≡ Ok news → Keeps known news
 unfolding news_of
-after schema sent news e =
-    let a = both (message_of sent.header) (λ (message : MessageAt). news_in (Some schema) message sent.body) news e in
-    news_after schema a.0 sent.body news a.2
+keeps known sent news e =
+    let a = both (message_of sent.header) (λ (message : MessageAt). news_in (Some known) message sent.body) news e in
+    next_keeps a.0.kind known a.0 sent.body news a.2
 
-pub first : (sent : Sent) (news : News) → news_of None sent ≡ Ok news → (schema : Schema) × (news.state ≡ Some schema) × (news.batch ≡ None)
+news_first : (message : MessageAt) (body : List ℕ) (news : News) → news_in None message body ≡ Ok news → (known : Known) × (news.state ≡ Some known) × (news.batch ≡ None)
+news_first message body news e =
+    let start = λ (schema : Schema). fine (record { state = Some (record { schema = schema; dictionaries = [] }); batch = None }) in
+    let a = both (first_schema message.kind message body) start news e in
+    let same : record { state = Some (record { schema = a.0; dictionaries = [] }); batch = None } ≡ news = let d = a.2 in cc in
+    (record { schema = a.0; dictionaries = [] }, sym (ap (λ (x : News). x.state) same), sym (ap (λ (x : News). x.batch) same))
+
+pub first : (sent : Sent) (news : News) → news_of None sent ≡ Ok news → (known : Known) × (news.state ≡ Some known) × (news.batch ≡ None)
 unfolding news_of
 first sent news e =
     let a = both (message_of sent.header) (λ (message : MessageAt). news_in None message sent.body) news e in
     news_first a.0 sent.body news a.2
 
--- a batch has a column for each field
-pub columned : (batch : Option BatchAt) (old : State) (sent : Sent) (new : State) → news_of old sent ≡ Ok (record { state = new; batch = batch }) → HasColumns batch new
-columned None old sent new e = tt
-columned (Some batch) None sent new e = let a = first sent (record { state = new; batch = Some batch }) e in let b = a.2 in cc
-columned (Some batch) (Some schema) sent new e =
-    let a = after schema sent (record { state = new; batch = Some batch }) e in
-    let same : a.1.0 ≡ batch = let b = a.1.1 in cc in
-    subst (λ (x : State). HasColumns (Some batch) x) (sym a.0) (ap (λ (x : BatchAt). length x.columns) (sym same) ∙ a.1.2.many)
+-- the columns of a batch are of the types of the schema that is known after it
+typed_after : (batch : Option BatchAt) (known after : Known) → after.schema ≡ known.schema → HasColumns batch (Some known) → HasColumns batch (Some after)
+typed_after None known after same has = tt
+typed_after (Some batch) known after same has = subst (λ (schema : Schema). AreOfTypes schema.fields batch.columns) (sym same) has
 
-full_news : (batch : Option BatchAt) (old : State) (sent : Sent) (new : State) → news_of old sent ≡ Ok (record { state = new; batch = batch }) → HasNoNullsIfThere batch
-full_news None old sent new e = tt
-full_news (Some batch) None sent new e = let a = first sent (record { state = new; batch = Some batch }) e in let b = a.2 in cc
-full_news (Some batch) (Some schema) sent new e =
-    let a = after schema sent (record { state = new; batch = Some batch }) e in
-    let same : a.1.0 ≡ batch = let b = a.1.1 in cc in
-    subst HasNoNulls same a.1.2.full
-
-pub told_full : (result : Result (Option BatchAt) Fault) (old : State) (sent : Sent) (new : State) → Tells result old sent new → IfOk result HasNoNullsIfThere
-told_full (Ok batch) old sent new e = full_news batch old sent new e
-told_full (Err fault) old sent new e = tt
+columned : (batch : Option BatchAt) (old : State) (sent : Sent) (new : State) → news_of old sent ≡ Ok (record { state = new; batch = batch }) → HasColumns batch new
+columned batch None sent new e =
+    let a = first sent (record { state = new; batch = batch }) e in
+    subst (λ (x : Option BatchAt). HasColumns x new) (sym a.2) tt
+columned batch (Some known) sent new e =
+    let k = keeps known sent (record { state = new; batch = batch }) e in
+    subst (HasColumns batch) (sym k.state) (typed_after batch known k.after k.schema k.batch)
 
 pub told_columns : (result : Result (Option BatchAt) Fault) (old : State) (sent : Sent) (new : State) → Tells result old sent new → IfOk result (λ batch. HasColumns batch new)
 told_columns (Ok batch) old sent new e = columned batch old sent new e
@@ -145,31 +146,47 @@ rows_wide width batch e =
     All-map (λ (row : List Value). length row ≡ width) (row_of batch.columns) (range_with_len 0 batch.rows)
     (λ k d h. length-map batch.columns (λ (column : ColumnAt). slot_of column _) ∙ e)
 
-wide_after : (schema : Schema) (xs : List Sent) (end : State) (rows : Rows) → Follows (Some schema) xs end rows → (end ≡ Some schema) × AreWide (length schema.fields) rows
-wide_after schema [] end rows p = (p.0, subst (λ (r : Rows). AreWide (length schema.fields) r) (sym p.1) (All-nil (λ (row : List Value). length row ≡ length schema.fields)))
-wide_after schema (x ∷ xs) end rows p =
-    let a = after schema x p.0 p.2 in
-    let q : Follows (Some schema) xs end p.1 = subst (λ (s : State). Follows s xs end p.1) a.0 p.4 in
-    let rest = wide_after schema xs end p.1 q in
-    let wide : AreWide (length schema.fields) (rows_of a.1.0) = rows_wide (length schema.fields) a.1.0 a.1.2.many in
-    let here : AreWide (length schema.fields) (rows_in (p.0).batch) = subst (λ (b : Option BatchAt). AreWide (length schema.fields) (rows_in b)) (sym a.1.1) wide in
-    (rest.0, subst (λ (r : Rows). AreWide (length schema.fields) r) (sym p.3) (All-append (λ (row : List Value). length row ≡ length schema.fields) (rows_in (p.0).batch) p.1 here rest.1))
+added_wide : (batch : Option BatchAt) (known : Known) → HasColumns batch (Some known) → AreWide (length known.schema.fields) (rows_in batch)
+added_wide None known has = All-nil (λ (row : List Value). length row ≡ length known.schema.fields)
+added_wide (Some batch) known has = rows_wide (length known.schema.fields) batch (columns_many known.schema.fields batch.columns has)
+
+-- the rows that follow a known schema have a value for each of its fields, and it stays
+abbrev FollowsWide : Known → State → Rows → Type 0
+FollowsWide known end rows = (last : Known) × (end ≡ Some last) × (last.schema ≡ known.schema) × AreWide (length known.schema.fields) rows
+
+wide_after : (known : Known) (xs : List Sent) (end : State) (rows : Rows) → Follows (Some known) xs end rows → FollowsWide known end rows
+wide_after known [] end rows p =
+    (known, p.0, refl, subst (AreWide (length known.schema.fields)) (sym p.1) (All-nil (λ (row : List Value). length row ≡ length known.schema.fields)))
+wide_after known (x ∷ xs) end rows p =
+    let k = keeps known x p.0 p.2 in
+    let q : Follows (Some k.after) xs end p.1 = subst (λ (s : State). Follows s xs end p.1) k.state p.4 in
+    let rest = wide_after k.after xs end p.1 q in
+    let behind : AreWide (length known.schema.fields) p.1 = subst (λ (s : Schema). AreWide (length s.fields) p.1) k.schema rest.3 in (
+      rest.0,
+      rest.1,
+      rest.2 ∙ k.schema,
+      subst (AreWide (length known.schema.fields)) (sym p.3)
+          (All-append (λ (row : List Value). length row ≡ length known.schema.fields) (rows_in (p.0).batch) p.1 (added_wide (p.0).batch known k.batch) behind),
+    )
 
 -- each row that messages say has a value for each field of their schema
 pub wide : RowsFitSchema
-wide [] schema rows p = let a = p.0 in cc
+wide [] schema rows p = let a = p.2.0 in cc
 wide (x ∷ xs) schema rows p =
-    let a = first x p.0 p.2 in
-    let q : Follows (Some a.0) xs (Some schema) p.1 = subst (λ (s : State). Follows s xs (Some schema) p.1) a.1 p.4 in
-    let rest = wide_after a.0 xs (Some schema) p.1 q in
-    let same : a.0 ≡ schema = let b = rest.0 in cc in
-    let e : rows ≡ p.1 = p.3 ∙ ap (λ (b : Option BatchAt). rows_in b ++ p.1) a.2 in
-    subst (λ (r : Rows). AreWide (length schema.fields) r) (sym e) (subst (λ (s : Schema). AreWide (length s.fields) p.1) same rest.1)
+    let s = p.2 in
+    let a = first x s.0 s.2 in
+    let q : Follows (Some a.0) xs (Some p.0) s.1 = subst (λ (state : State). Follows state xs (Some p.0) s.1) a.1 s.4 in
+    let rest = wide_after a.0 xs (Some p.0) s.1 q in
+    let same : p.0 ≡ rest.0 = let b = rest.1 in cc in
+    let one : a.0.schema ≡ schema = sym rest.2 ∙ sym (ap (λ (known : Known). known.schema) same) ∙ p.1 in
+    let e : rows ≡ s.1 = s.3 ∙ ap (λ (b : Option BatchAt). rows_in b ++ s.1) a.2 in
+    subst (AreWide (length schema.fields)) (sym e) (subst (λ (x : Schema). AreWide (length x.fields) s.1) one rest.3)
 
 pub say_one_thing : SayOneThing
 say_one_thing messages one other rows others p q =
-    let o = once None messages (Some one) (Some other) rows others p q in
-    (let e = o.0 in cc, o.1)
+    let o = once None messages (Some p.0) (Some q.0) rows others p.2 q.2 in
+    let e : p.0 ≡ q.0 = let f = o.0 in cc in
+    (sym p.1 ∙ ap (λ (known : Known). known.schema) e ∙ q.1, o.1)
 
 pub join_rows : JoinRows
 join_rows start before behind end rows = (

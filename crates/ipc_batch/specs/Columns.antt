@@ -9,8 +9,10 @@ use Rattle.arrow_schema.specs.declared.data_type.DataType.{DataType}
 use Rattle.arrow_schema.specs.declared.data_type.DataType.TheVariants.{Utf8, Dictionary}
 use Rattle.arrow_schema.specs.declared.schema.Field.{Field}
 use Rattle.arrays.specs.declared.layout.Layout.{Layout}
+use Rattle.arrays.specs.declared.layout.Layout.TheVariants.{Texts}
+use Rattle.arrays.specs.Texts.{TextsAt, texts_of}
 use Rattle.arrays.specs.Column.{ColumnAt, whole}
-use Rattle.arrays.specs.Buffers.{buffer_count, values_layout, texts_layout}
+use Rattle.arrays.specs.Buffers.{buffer_count, values_layout}
 use Rattle.ipc_batch.specs.declared.parts.FieldNode.{FieldNode}
 use Rattle.ipc_batch.specs.declared.parts.BufferPlace.{BufferPlace}
 use Rattle.ipc_batch.specs.Parts.{PartsAt, placed_in, buffer_at}
@@ -33,25 +35,35 @@ abbrev pub values_led_to : DataType → Dictionaries → List Value
 values_led_to (Dictionary encoding) dictionaries = values_under dictionaries encoding.id
 values_led_to _ dictionaries = []
 
--- the texts of a column
-abbrev pub texts_front : ℕ → List ℕ → FieldNode → List BufferPlace → Result FrontAt Fault
-texts_front rows body node (validity ∷ offsets ∷ bytes ∷ behind) = do
+-- the texts whose validity bits, offsets and bytes lie in these buffers
+unfoldable pub texts_at : ℕ → List ℕ → FieldNode → BufferPlace → BufferPlace → BufferPlace → Result TextsAt Fault
+texts_at rows body node validity offsets bytes = do
   _ ← demand (node.length == rows) BadBatch
   bits ← validity_at body node validity
   cuts ← buffer_at body offsets
   text ← buffer_at body bytes
-  layout ← texts_layout bits cuts text rows
-  Ok (record { layout = layout; behind = behind })
-texts_front rows body node _ = Err BadBatch
+  texts_of bits cuts text rows
 
--- the values of a column of another type
-abbrev pub values_front : DataType → List Value → ℕ → List ℕ → FieldNode → List BufferPlace → Result FrontAt Fault
-values_front data_type dictionary rows body node (validity ∷ values ∷ behind) = do
+-- the values of another type whose validity bits and packed values lie in these buffers
+unfoldable pub values_at :
+    DataType → List Value → ℕ → List ℕ → FieldNode → BufferPlace → BufferPlace → Result Layout Fault
+values_at data_type dictionary rows body node validity values = do
   _ ← demand (node.length == rows) BadBatch
   bits ← validity_at body node validity
   packed ← buffer_at body values
-  layout ← values_layout data_type dictionary bits packed rows
-  Ok (record { layout = layout; behind = behind })
+  values_layout data_type dictionary bits packed rows
+
+-- a column of texts, over the buffers at the front
+abbrev pub texts_front : ℕ → List ℕ → FieldNode → List BufferPlace → Result FrontAt Fault
+texts_front rows body node (validity ∷ offsets ∷ bytes ∷ behind) =
+    texts_at rows body node validity offsets bytes >>= λ cells. Ok (record { layout = Texts cells; behind = behind })
+texts_front rows body node _ = Err BadBatch
+
+-- a column of another type, over the buffers at the front
+abbrev pub values_front : DataType → List Value → ℕ → List ℕ → FieldNode → List BufferPlace → Result FrontAt Fault
+values_front data_type dictionary rows body node (validity ∷ values ∷ behind) =
+    values_at data_type dictionary rows body node validity values >>=
+    λ layout. Ok (record { layout = layout; behind = behind })
 values_front data_type dictionary rows body node _ = Err BadBatch
 
 -- the layout of a type, over the buffers at the front
@@ -61,7 +73,8 @@ front_of data_type dictionaries rows body node places =
     values_front data_type (values_led_to data_type dictionaries) rows body node places
 
 -- the columns of fields that have a node each, from the first on: of each its node, and then its buffers
-abbrev pub columns_from : List Field → Dictionaries → ℕ → List ℕ → List FieldNode → List BufferPlace → Result (List ColumnAt) Fault
+abbrev pub columns_from :
+    List Field → Dictionaries → ℕ → List ℕ → List FieldNode → List BufferPlace → Result (List ColumnAt) Fault
 columns_from [] dictionaries rows body nodes places = Ok []
 columns_from (field ∷ fields) dictionaries rows body [] places = Err BadBatch
 columns_from (field ∷ fields) dictionaries rows body (node ∷ nodes) places = do
@@ -73,10 +86,13 @@ columns_from (field ∷ fields) dictionaries rows body (node ∷ nodes) places =
 abbrev pub buffers_wanted : List Field → ℕ
 buffers_wanted fields = sum_by (λ field. buffer_count field.data_type) fields
 
--- The columns of these fields, in this body. The counts come first, so that no node and no buffer is left
--- over, and none is looked at where they do not agree.
-unfoldable pub batch_columns : List Field → Dictionaries → PartsAt → List ℕ → Result (List ColumnAt) Fault
-batch_columns fields dictionaries parts body = do
-  _ ← demand (length parts.nodes == length fields) BadBatch
-  _ ← demand (length parts.places == buffers_wanted fields) BadBatch
-  columns_from fields dictionaries parts.rows body parts.nodes parts.places
+-- A batch has so many nodes and buffers, and none is left over. They are counted before any is looked at.
+unfoldable pub counts_agree : ℕ → ℕ → PartsAt → Result (Unit {0}) Fault
+counts_agree nodes buffers parts = do
+  _ ← demand (length parts.nodes == nodes) BadBatch
+  demand (length parts.places == buffers) BadBatch
+
+-- the one column of texts that these nodes and buffers make
+abbrev pub one_texts : ℕ → List ℕ → List FieldNode → List BufferPlace → Result TextsAt Fault
+one_texts rows body (node ∷ []) (validity ∷ offsets ∷ bytes ∷ []) = texts_at rows body node validity offsets bytes
+one_texts rows body _ _ = Err BadBatch

@@ -1,8 +1,13 @@
 -- What holds of all messages.
-use Rattle.std.specs.Prelude.{◌≡◌, ◌↔◌, List, ◌++◌, length}
+use Rattle.std.specs.Prelude.{◌≡◌, ◌↔◌, ◌≤◌, ◌<◌, ◌⊎◌, ◌^◌, ℕ, List, ◌++◌, length, Ok, Err}
+use Rattle.scan_base.specs.declared.fault.Fault.{Fault}
+use Rattle.scan_base.specs.declared.fault.Fault.TheVariants.{BadBatch}
 use Rattle.arrow_schema.specs.declared.schema.Schema.{Schema}
+use Rattle.arrow_schema.specs.Header.{MessageAt, body_length_of}
+use Rattle.ipc_batch.specs.declared.parts.BufferPlace.{BufferPlace}
+use Rattle.ipc_batch.specs.Parts.{placed_in, body_claimed}
 use Rattle.ipc_batch.specs.State.{State}
-use Rattle.ipc_batch.specs.Said.{Sent, Rows, Follows, Says, AreWide}
+use Rattle.ipc_batch.specs.Said.{Sent, news_of, glance_of, Rows, Follows, Says, AreWide}
 
 -- messages say at most one schema and one list of rows
 abbrev pub SayOneThing : Type 0
@@ -27,3 +32,16 @@ JoinRows = (start : State) (before behind : List Sent) (end : State) (rows : Row
 abbrev pub RowsFitSchema : Type 0
 RowsFitSchema = (messages : List Sent) (schema : Schema) (rows : Rows) →
     Says messages schema rows → AreWide (length schema.fields) rows
+
+-- what is refused at a glance is what the message says
+abbrev pub GlancesComeFirst : Type 0
+GlancesComeFirst = (state : State) (sent : Sent) (fault : Fault) →
+    glance_of state sent ≡ Err fault → news_of state sent ≡ Err fault
+
+-- A negative number reads as 2 ^ 63 or more. A buffer of such an offset or length lies outside every body that
+-- there is, and so does a body of such a length.
+abbrev pub NegativesLieOutside : Type 0
+NegativesLieOutside = (body : List ℕ) → length body < 2 ^ 63 →
+    ((place : BufferPlace) → (2 ^ 63 ≤ place.offset) ⊎ (2 ^ 63 ≤ place.length) → placed_in body place ≡ Err BadBatch)
+    × ((message : MessageAt) (claimed : ℕ) → body_length_of message ≡ Ok claimed → 2 ^ 63 ≤ claimed →
+    body_claimed message body ≡ Err BadBatch)

@@ -1,23 +1,22 @@
 -- What messages say: a schema, and then rows.
-use Rattle.std.specs.Prelude.{◌≡◌, ◌≢◌, ℕ, ◌+◌, ◌==◌, Bool, true, false, nat_le, List, [], ◌∷◌, ◌++◌, length, All, Option, Some, None, Result, Ok, Err}
-use Rattle.std.specs.List.{flat_map, list_any}
+use Rattle.std.specs.Prelude.{◌≡◌, ◌≢◌, ℕ, ◌==◌, Bool, true, false, List, [], ◌∷◌, ◌++◌, length, All, Option, Some, None, Result, Ok, Err}
+use Rattle.std.specs.List.{list_any}
 use Rattle.scan_base.specs.declared.fault.Fault.{Fault}
-use Rattle.scan_base.specs.declared.fault.Fault.TheVariants.{BadBatch, LimitReached, OutOfMemory}
+use Rattle.scan_base.specs.declared.fault.Fault.TheVariants.{BadBatch, OutOfMemory}
 use Rattle.scan_base.specs.declared.value.Value.{Value}
 use Rattle.scan_base.specs.Reading.{◌>>=◌, demand}
 use Rattle.arrow_schema.specs.declared.header.HeaderKind.{HeaderKind}
 use Rattle.arrow_schema.specs.declared.header.HeaderKind.TheVariants as header
 use Rattle.arrow_schema.specs.declared.data_type.DataType.{DataType}
-use Rattle.arrow_schema.specs.declared.data_type.DataType.TheVariants.{Utf8, Dictionary}
+use Rattle.arrow_schema.specs.declared.data_type.DataType.TheVariants.{Dictionary}
 use Rattle.arrow_schema.specs.declared.schema.Field.{Field}
 use Rattle.arrow_schema.specs.declared.schema.Schema.{Schema}
-use Rattle.arrow_schema.specs.Header.{MessageAt, message_of, header_of, schema_in}
-use Rattle.arrays.specs.Column.{ColumnAt, values_of}
-use Rattle.arrays.specs.Dictionary.{most_values}
+use Rattle.arrow_schema.specs.Header.{MessageAt, message_of, header_of, is_schema, schema_in}
+use Rattle.arrays.specs.Dictionary.{extended_by}
 use Rattle.arrays.specs.Batch.{BatchAt, rows_of}
 use Rattle.arrays.specs.Typed.{AreOfTypes}
-use Rattle.ipc_batch.specs.Parts.{DictionaryParts, body_claimed, parts_of, dictionary_parts}
-use Rattle.ipc_batch.specs.Columns.{batch_columns}
+use Rattle.ipc_batch.specs.Parts.{PartsAt, DictionaryParts, body_claimed, parts_of, dictionary_parts}
+use Rattle.ipc_batch.specs.Columns.{buffers_wanted, columns_from, counts_agree, one_texts}
 use Rattle.ipc_batch.specs.State.{Known, State, values_under, with_values}
 
 -- a message as it comes: its header and its body
@@ -37,52 +36,51 @@ schema_sent message body = do
   _ ← body_claimed message body
   Ok schema
 
+-- the parts of a record batch: a node for each field, and the buffers of its type
+unfoldable pub batch_parts : Known → MessageAt → List ℕ → Result PartsAt Fault
+batch_parts known message body = do
+  table ← header_of message
+  parts ← parts_of message table body
+  _ ← counts_agree (length known.schema.fields) (buffers_wanted known.schema.fields) parts
+  Ok parts
+
 -- the record batch of a message: its dictionary columns lead into the dictionaries as they now are
 unfoldable pub batch_sent : Known → MessageAt → List ℕ → Result BatchAt Fault
 batch_sent known message body = do
-  table ← header_of message
-  parts ← parts_of message table body
-  columns ← batch_columns known.schema.fields known.dictionaries parts body
+  parts ← batch_parts known message body
+  columns ← columns_from known.schema.fields known.dictionaries parts.rows body parts.nodes parts.places
   Ok (record { columns = columns; rows = parts.rows })
+
+-- whether a type's dictionary has this id
+abbrev pub has_id : ℕ → DataType → Bool
+has_id id (Dictionary encoding) = encoding.id == id
+has_id id _ = false
 
 -- whether a field's dictionary has this id
 abbrev pub leads_to : ℕ → Field → Bool
-leads_to id field = is_led field.data_type
-  where
-    is_led : DataType → Bool
-    is_led (Dictionary encoding) = encoding.id == id
-    is_led _ = false
+leads_to id field = has_id id field.data_type
 
--- the one column of texts that a dictionary's values are
-abbrev pub text_field : Field
-text_field = record { name = []; nullable = true; data_type = Utf8 }
-
-abbrev pub texts_in : List ColumnAt → List Value
-texts_in columns = flat_map values_of columns
-
--- the values that a dictionary message adds
-unfoldable pub values_sent : DictionaryParts → List ℕ → Result (List Value) Fault
-values_sent sent body = batch_columns (text_field ∷ []) [] sent.parts body >>= λ columns. Ok (texts_in columns)
+-- the parts of a dictionary: its id is one that a field has, and its values are one column of texts, which has
+-- one node and three buffers
+unfoldable pub dictionary_sent : Known → MessageAt → List ℕ → Result DictionaryParts Fault
+dictionary_sent known message body = do
+  sent ← dictionary_parts message body
+  _ ← demand (list_any (leads_to sent.id) known.schema.fields) BadBatch
+  _ ← counts_agree 1 3 sent.parts
+  Ok sent
 
 -- the values that stay of a dictionary
 abbrev pub kept_of : Bool → List Value → List Value
 kept_of true old = old
 kept_of false old = []
 
--- A dictionary message that is a delta puts its values behind those that the dictionary has. Any other sets
--- them in their place. A dictionary has no more values than it may.
-unfoldable pub dictionary_after : List Value → Bool → List Value → Result (List Value) Fault
-dictionary_after old is_delta more = do
-  _ ← demand (nat_le (length (kept_of is_delta old) + length more) most_values) LimitReached
-  Ok (kept_of is_delta old ++ more)
-
--- what is known after a dictionary message; its id is one that a field has
+-- What is known after a dictionary message. A delta puts its values behind those that the dictionary has. Any
+-- other sets them in their place.
 unfoldable pub known_after : Known → MessageAt → List ℕ → Result Known Fault
 known_after known message body = do
-  sent ← dictionary_parts message body
-  _ ← demand (list_any (leads_to sent.id) known.schema.fields) BadBatch
-  more ← values_sent sent body
-  values ← dictionary_after (values_under known.dictionaries sent.id) sent.is_delta more
+  sent ← dictionary_sent known message body
+  texts ← one_texts sent.parts.rows body sent.parts.nodes sent.parts.places
+  values ← extended_by (kept_of sent.is_delta (values_under known.dictionaries sent.id)) texts
   Ok (record known { dictionaries = with_values sent.id values known.dictionaries })
 
 -- The first message is a schema.
@@ -109,6 +107,20 @@ news_in (Some known) message body = next_news message.kind known message body
 unfoldable pub news_of : State → Sent → Result News Fault
 news_of state sent = message_of sent.header >>= λ message. news_in state message sent.body
 
+-- What is looked at of a message before anything grows: its header, its kind, the parts of a batch or of a
+-- dictionary, the dictionary's id, and how many nodes and buffers there are.
+abbrev pub next_glance : HeaderKind → Known → MessageAt → List ℕ → Result (Unit {0}) Fault
+next_glance header.RecordBatch known message body = batch_parts known message body >>= λ _. Ok tt
+next_glance header.DictionaryBatch known message body = dictionary_sent known message body >>= λ _. Ok tt
+next_glance header.Schema known message body = Err BadBatch
+
+abbrev pub glance_in : State → MessageAt → List ℕ → Result (Unit {0}) Fault
+glance_in None message body = demand (is_schema message.kind) BadBatch
+glance_in (Some known) message body = next_glance message.kind known message body
+
+unfoldable pub glance_of : State → Sent → Result (Unit {0}) Fault
+glance_of state sent = message_of sent.header >>= λ message. glance_in state message sent.body
+
 abbrev pub Rows : Type 0
 Rows = List (List Value)
 
@@ -128,10 +140,14 @@ Follows state (sent ∷ more) end rows =
 abbrev pub Says : List Sent → Schema → Rows → Type 0
 Says messages schema rows = (known : Known) × (known.schema ≡ schema) × Follows None messages (Some known) rows
 
--- what a reader answers is what the message says to it, and after a fault it is as before
+-- What a reader answers is this news, and after a fault it is as before.
+abbrev pub Answers : Result (Option BatchAt) Fault → State → Result News Fault → State → Type 0
+Answers (Ok batch) old said new = said ≡ Ok (record { state = new; batch = batch })
+Answers (Err fault) old said new = (fault ≢ OutOfMemory → said ≡ Err fault) × (new ≡ old)
+
+-- what a reader answers is what the message says to it
 abbrev pub Tells : Result (Option BatchAt) Fault → State → Sent → State → Type 0
-Tells (Ok batch) old sent new = news_of old sent ≡ Ok (record { state = new; batch = batch })
-Tells (Err fault) old sent new = (fault ≢ OutOfMemory → news_of old sent ≡ Err fault) × (new ≡ old)
+Tells result old sent new = Answers result old (news_of old sent) new
 
 -- An accepted message extends what was said by its batch's rows. A refused one, but for want of memory,
 -- goes on from nothing that left this state behind.

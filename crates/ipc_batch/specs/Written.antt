@@ -6,16 +6,18 @@ use Rattle.flatbuf.specs.Place.{TableAt}
 use Rattle.flatbuf.specs.Layout.{Stands}
 use Rattle.flatbuf.specs.Block.{Part, Number, Offset, little, padded, table_part, structs_part}
 use Rattle.flatbuf.specs.Written.{table_at}
-use Rattle.arrow_schema.specs.declared.data_type.IntegerType.TheVariants.{Int64}
-use Rattle.arrow_schema.specs.declared.data_type.DataType.TheVariants.{Integer}
-use Rattle.arrow_schema.specs.declared.schema.Schema.{Schema}
+use Rattle.arrow_schema.specs.declared.schema.Field.{Field}
+use Rattle.arrow_schema.specs.Answer.{answer_type}
 use Rattle.arrow_schema.specs.Header.{MessageAt, message_of, header_of, body_length_of}
-use Rattle.arrow_schema.specs.Column.{ColumnAt, value_bytes}
-use Rattle.arrow_schema.specs.Batch.{BatchAt, rows_of}
 use Rattle.arrow_schema.specs.Limits.{most_columns}
+use Rattle.arrays.specs.Column.{ColumnAt}
+use Rattle.arrays.specs.Batch.{BatchAt, rows_of}
+use Rattle.arrays.specs.Typed.{AreOfTypes}
+use Rattle.arrays.specs.Written.{null_count, buffers_written as column_written}
 use Rattle.ipc_batch.specs.declared.parts.FieldNode.{FieldNode}
 use Rattle.ipc_batch.specs.declared.parts.BufferPlace.{BufferPlace}
 use Rattle.ipc_batch.specs.Parts.{parts_of, buffer_at}
+use Rattle.ipc_batch.specs.State.{Known}
 use Rattle.ipc_batch.specs.Said.{Sent, news_of}
 
 -- ---- parts, of any types
@@ -79,16 +81,13 @@ PartsReadBack = (parts : WrittenParts) (message : MessageAt) (bytes : List ℕ) 
     Stands (parts_part parts).bytes bytes place → body_length_of message ≡ Ok (length (body_of parts.buffers)) →
     SaysSame message (table_at bytes place (parts_part parts)) (body_of parts.buffers) parts
 
--- ---- columns of numbers of eight bytes
+-- ---- columns
 
--- A column is written as the packed values of its own slots alone, with no validity bits, since none of
--- them is null.
+-- how many slots a column has, and how many of them are null
 abbrev pub node_written : ColumnAt → FieldNode
-node_written column = record { length = column.len; null_count = 0 }
+node_written column = record { length = column.len; null_count = null_count column }
 
-abbrev pub column_written : ColumnAt → List (List ℕ)
-column_written column = [] ∷ value_bytes column ∷ []
-
+-- the buffers of columns, one column's behind another's
 abbrev pub buffers_written : List ColumnAt → List (List ℕ)
 buffers_written columns = flat_map column_written columns
 
@@ -104,15 +103,6 @@ parts_written batch = record {
 abbrev pub body_length : BatchAt → ℕ
 body_length batch = length (body_of (buffers_written batch.columns))
 
--- a column's values have their eight bytes
-abbrev pub IsPacked : ColumnAt → Type 0
-IsPacked column = length (value_bytes column) ≡ 8 * column.len
-
--- a schema of so many columns of Int64
-pub record AreLongs (count : ℕ) (schema : Schema) : Type 0 where
-  pub many : length schema.fields ≡ count
-  pub longs : All (λ field. field.data_type ≡ Integer Int64) schema.fields
-
 -- ---- messages
 
 -- a message says these parts, each of whose buffers lies at a multiple of 8, and claims all of its body
@@ -124,8 +114,9 @@ pub record SaysParts (sent : Sent) (parts : WrittenParts) : Type 0 where
   pub claimed : body_length_of message ≡ Ok (length sent.body)
   pub same : SaysSame message table sent.body parts
 
--- after a schema of as many columns of Int64, a message says a batch with the same rows
+-- behind a schema of the types that a batch's columns are answered as, a message says a batch with its rows
 abbrev pub SaysBatch : Sent → BatchAt → Type 0
-SaysBatch sent batch = (schema : Schema) → AreLongs (length batch.columns) schema →
-    (read : BatchAt) × (news_of (Some schema) sent ≡ Ok (record { state = Some schema; batch = Some read }))
+SaysBatch sent batch = (known : Known) (fields : List Field) → AreOfTypes fields batch.columns →
+    map (λ field. field.data_type) known.schema.fields ≡ map (λ field. answer_type field.data_type) fields →
+    (read : BatchAt) × (news_of (Some known) sent ≡ Ok (record { state = Some known; batch = Some read }))
     × (rows_of read ≡ rows_of batch)

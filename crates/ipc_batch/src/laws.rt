@@ -1,6 +1,7 @@
 //! What holds of all messages. Each function here has an empty body: its contract is a law.
 
 ghost use Rattle.ipc_batch.specs.Laws.{SayOneThing, JoinRows, RowsFitSchema};
+ghost use Rattle.ipc_batch.specs.Laws.{GlancesComeFirst, NegativesLieOutside};
 ghost use Rattle.ipc_batch.specs.Written.{PartsReadBack};
 
 /// Messages say at most one schema and one list of rows.
@@ -16,6 +17,16 @@ pub fn messages_join_their_rows()
 /// Each row that messages say has one value for each field of their schema.
 pub fn rows_fit_the_schema()
     ensures { RowsFitSchema }
+{}
+
+/// What is refused before anything grows is what the message says.
+pub fn glances_come_first()
+    ensures { GlancesComeFirst }
+{}
+
+/// A buffer of a negative offset or length is refused, and so is a negative body length.
+pub fn negatives_lie_outside()
+    ensures { NegativesLieOutside }
 {}
 
 /// What is read of written parts is those parts, whatever the types of their columns are.

@@ -2,6 +2,7 @@
 #![tactic(auto)]
 
 pub mod columns;
+mod dictionaries;
 pub mod laws;
 pub mod parts;
 pub mod reader;
@@ -13,4 +14,8 @@ pub use crate::writer::{
 };
 
 #[cfg(test)]
+mod lies;
+#[cfg(test)]
 mod tests;
+#[cfg(test)]
+mod vectors;

@@ -6,7 +6,7 @@ ghost use Rattle.arrow_schema.specs.Seen.{message_seen};
 ghost use Rattle.ipc_batch.specs.Parts.{word_at, node_at, place_at, nodes_in, places_in};
 ghost use Rattle.ipc_batch.specs.Parts.{structs_wanted, placed_in, buffer_at, body_claimed};
 ghost use Rattle.ipc_batch.specs.Parts.{parts_of, dictionary_parts};
-ghost use Rattle.ipc_batch.specs.Seen.{parts_seen};
+ghost use Rattle.ipc_batch.specs.Seen.{parts_seen, dictionary_seen};
 
 use arrow_schema::Message;
 use byteorder::{ByteOrder, LittleEndian};
@@ -194,14 +194,31 @@ pub(crate) fn read_parts<'a>(
     })
 }
 
-/// The parts of the values of a dictionary message.
+/// What a dictionary message says before its values are looked at: an id, the parts of the values, and
+/// whether they stand behind the old ones.
+#[derive(Drop)]
+pub(crate) struct DictionaryMessage<'a> {
+    pub id: u64,
+    pub parts: Parts<'a>,
+    pub is_delta: bool,
+}
+
+/// The parts of a dictionary message.
 #[tactic(auto, unfolding(crate::specs::Parts::dictionary_parts, arrow_schema::specs::Header::table_wanted))]
-pub(crate) fn read_dictionary<'a>(message: &Message<'a>, body: &Bytes) -> Result<Parts<'a>, Fault>
-    ensures { Gives parts_seen result (dictionary_parts (message_seen message.now) body.now) }
+pub(crate) fn read_dictionary<'a>(
+    message: &Message<'a>,
+    body: &Bytes,
+) -> Result<DictionaryMessage<'a>, Fault>
+    ensures { Gives dictionary_seen result (dictionary_parts (message_seen message.now) body.now) }
 {
     let table = message.header()?;
-    table.scalar(0, Width::Eight, 0)?;
+    let id = table.scalar(0, Width::Eight, 0)?;
     let values = table.table(1)?.ok_or(Fault::BadFlatbuffer)?;
-    table.scalar(2, Width::One, 0)?;
-    read_parts(message, &values, body)
+    let is_delta = table.scalar(2, Width::One, 0)? != 0;
+    let parts = read_parts(message, &values, body)?;
+    Ok(DictionaryMessage {
+        id,
+        parts,
+        is_delta,
+    })
 }

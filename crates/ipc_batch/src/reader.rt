@@ -1,25 +1,52 @@
 //! Reading messages one after the other.
 
-ghost use Rattle.std.specs.Prelude.{◌≡◌, length, None, option_map, IfOk, IfSome};
-ghost use Rattle.scan_base.specs.Reading.{GivesUnlessMemory};
-ghost use Rattle.arrow_schema.specs.Header.{schema_in};
+ghost use Rattle.std.specs.Prelude.{◌≡◌, ◌≢◌, [], Some, None, Ok, Err, length, option_map};
+ghost use Rattle.std.specs.Prelude.{IfOk, IfErr, IfSome, OnOk, OnErr};
+ghost use Rattle.std.specs.List.{list_any};
+ghost use Rattle.scan_base.specs.declared.fault.Fault.TheVariants.{OutOfMemory, BadBatch};
+ghost use Rattle.scan_base.specs.Reading.{Gives, GivesUnlessMemory, RefusesFirst, demand};
+ghost use Rattle.arrow_schema.specs.Header.{is_schema};
+ghost use Rattle.arrow_schema.specs.Schema.{IsSchema};
 ghost use Rattle.arrow_schema.specs.Seen.{message_seen};
-ghost use Rattle.ipc_batch.specs.Said.{first_schema, next_batch, batch_sent, Tells, Extends, HasColumns};
-ghost use Rattle.arrow_schema.specs.NoNulls.{HasNoNullsIfThere};
+ghost use Rattle.ipc_batch.specs.Said.{first_schema, batch_parts, batch_sent, has_id, leads_to, dictionary_sent};
+ghost use Rattle.ipc_batch.specs.Said.{known_after, next_news, next_glance, glance_of};
+ghost use Rattle.ipc_batch.specs.Said.{Answers, Tells, Extends, HasColumns};
+ghost use Rattle.ipc_batch.specs.Seen.{parts_seen, dictionary_seen};
 
-use crate::columns::read_columns;
-use crate::parts::{check_body, read_dictionary, read_parts};
-use arrow_schema::{Batch, HeaderKind, Message, Schema, read_message};
+use crate::columns::{Source, check_counts, check_text_counts, read_columns, read_texts};
+use crate::dictionaries::Dictionaries;
+use crate::parts::{DictionaryMessage, Parts, check_body, read_dictionary, read_parts};
+use arrays::{Batch, Dictionary};
+use arrow_schema::{DataType, Field, HeaderKind, Message, Schema, read_message};
 use bytes::Bytes;
 use scan_base::Fault;
 use std::alloc::Global;
 use std::marker::Model;
+use std::sync::Arc;
+
+// The schema, and the dictionaries as they now are.
+#[derive(Drop)]
+struct Stream {
+    schema: Schema,
+    dictionaries: Dictionaries,
+}
+
+impl Model for Stream {
+    ghost use Rattle.arrow_schema.specs.Schema.{IsSchema};
+    ghost use Rattle.ipc_batch.specs.State.{Known};
+
+    ghost Value = { Known };
+
+    ghost view = { λ s. record { schema = s.schema; dictionaries = s.dictionaries } };
+
+    ghost invariant = { λ s. IsSchema s.schema };
+}
 
 /// Reads messages one after the other. A contract sees what the messages so far leave behind: the schema,
-/// once it came.
+/// once it came, and the values of dictionaries.
 #[derive(Drop)]
 pub struct Reader {
-    schema: Option<Schema>,
+    known: Option<Stream>,
 }
 
 impl Model for Reader {
@@ -27,7 +54,7 @@ impl Model for Reader {
 
     ghost Value = { State };
 
-    ghost view = { λ r. r.schema };
+    ghost view = { λ r. r.known };
 }
 
 impl Reader {
@@ -35,33 +62,52 @@ impl Reader {
     pub fn new() -> Reader
         ensures { result ≡ None }
     {
-        Reader { schema: None }
+        Reader { known: None }
     }
 
     /// The schema that the messages say, once it came.
     pub fn schema(&self) -> Option<&Schema>
-        ensures { option_map (λ schema. schema.now) result ≡ self.now }
+        ensures value { option_map (λ schema. schema.now) result ≡ option_map (λ known. known.schema) self.now }
+        ensures valid { IfSome result (λ schema. IsSchema schema.now) }
     {
-        self.schema.as_ref()
+        match &self.known {
+            None => None,
+            Some(stream) => Some(&stream.schema),
+        }
     }
 
-    /// Reads the next message: a batch, or `None` where it is the schema. The batch has a column for each
-    /// field, and its columns are cuts of the body, in which no value is copied.
+    /// The schema that the messages said, once it came, without the reader.
+    pub fn into_schema(self) -> Option<Schema>
+        ensures value { result ≡ option_map (λ known. known.schema) self }
+        ensures valid { IfSome result IsSchema }
+    {
+        match self.known {
+            None => None,
+            Some(stream) => Some(stream.schema),
+        }
+    }
+
+    /// Reads the next message: a batch, or `None` where it is the schema or a dictionary. The batch has a
+    /// column for each field, whose values are cuts of the body, and each keeps the dictionary as it then
+    /// was. It takes memory for columns, and for the parts of dictionaries, and not for values.
     ///
     /// # Errors
     ///
     /// After each the reader is as before. Where several causes stand in one message, the one that is met
-    /// first in reading is answered.
+    /// first in reading is answered: the header and its tables, the body that it claims, the id of a
+    /// dictionary, the counts of nodes and buffers, and then column by column. What is refused before the
+    /// columns is refused for that, and never by want of memory.
     ///
     /// - F6 (`Fault::BadFlatbuffer`) where something that is read lies outside the header, and where an
     ///   offset that has to be there is absent.
     /// - F7 (`Fault::UnsupportedArrow`) for another metadata version than V5, another kind of header, a
-    ///   schema of other types than are built, compressed bodies, and a node that counts nulls.
-    /// - F8 (`Fault::BadBatch`) where the first message is no schema, for a second schema, for a batch whose
-    ///   counts, lengths or places do not agree with its schema or lie outside the body, and for a
-    ///   dictionary, since no field has its id until dictionaries are built.
-    /// - F12 (`Fault::LimitReached`) for a schema of no column or too many, or a name that is absent, empty
-    ///   or too long.
+    ///   schema of other types than are built, and compressed bodies.
+    /// - F8 (`Fault::BadBatch`) where the first message is no schema, for a second schema, for a dictionary
+    ///   whose id no field has, and for a batch or dictionary whose counts, lengths or places do not agree
+    ///   with its schema or lie outside the body, whose texts are not cut in order or are not UTF-8, or
+    ///   whose indices lie outside their dictionary. A negative number lies outside every body.
+    /// - F12 (`Fault::LimitReached`) for a schema of no column or too many, a name that is absent, empty or
+    ///   too long, and a dictionary of more than 16,777,216 values.
     /// - F21 (`Fault::OutOfMemory`) where memory is refused.
     pub fn message(
         &mut self,
@@ -72,75 +118,169 @@ impl Reader {
         ensures exact { Tells result self.old (record { header = header; body = body }) self.new }
         ensures extends { Extends result self.old (record { header = header; body = body }) self.new }
         ensures columns { IfOk result (λ batch. HasColumns batch self.new) }
-        ensures full { IfOk result HasNoNullsIfThere }
+        ensures first { RefusesFirst result
+            (glance_of self.old (record { header = header; body = body })) }
     {
         self.read(alloc, &header, &body)
     }
 
     // What a message tells.
-    #[tactic(auto, unfolding(crate::specs::Said::news_of))]
+    #[tactic(auto, unfolding(crate::specs::Said::news_of, crate::specs::Said::glance_of))]
     fn read(&mut self, alloc: Global, header: &Bytes, body: &Bytes) -> Result<Option<Batch>, Fault>
-        ensures { Tells result self.old (record { header = header.now; body = body.now }) self.new }
+        ensures exact { Tells result self.old (record { header = header.now; body = body.now }) self.new }
+        ensures first { RefusesFirst result
+            (glance_of self.old (record { header = header.now; body = body.now })) }
     {
         let message = read_message(header.as_slice())?;
-        match &self.schema {
+        match &mut self.known {
             None => {
-                self.schema = Some(first_schema(alloc, &message, body)?);
+                self.known = Some(begin(alloc, &message, body)?);
                 Ok(None)
             }
-            Some(schema) => Ok(Some(next_batch(alloc, schema, &message, body)?)),
+            Some(stream) => stream.next(alloc, &message, body),
         }
     }
 }
 
-// The schema of the first message.
+// What is known after the first message, which is a schema.
 #[tactic(auto, unfolding(crate::specs::Said::schema_sent))]
-fn first_schema(alloc: Global, message: &Message<'_>, body: &Bytes) -> Result<Schema, Fault>
-    ensures { GivesUnlessMemory (λ schema. schema) result
+fn begin(alloc: Global, message: &Message<'_>, body: &Bytes) -> Result<Stream, Fault>
+    ensures schema { GivesUnlessMemory (λ stream. stream.schema) result
         (first_schema (message_seen message.now).kind (message_seen message.now) body.now) }
+    ensures dictionaries { IfOk result (λ stream. stream.dictionaries ≡ []) }
+    ensures first { RefusesFirst result (demand (is_schema (message_seen message.now).kind) BadBatch) }
 {
     if message.kind != HeaderKind::Schema {
         return Err(Fault::BadBatch);
     }
     let schema = message.schema(alloc)?;
     check_body(message, body)?;
-    Ok(schema)
+    Ok(Stream {
+        schema,
+        dictionaries: Dictionaries::new(alloc),
+    })
 }
 
-// The batch of a message behind the schema. Until dictionaries are built, no field has one: a dictionary
-// is read, and then no field has its id.
-fn next_batch(
-    alloc: Global,
-    schema: &Schema,
-    message: &Message<'_>,
-    body: &Bytes,
-) -> Result<Batch, Fault>
-    ensures { GivesUnlessMemory (λ batch. batch) result
-        (next_batch (message_seen message.now).kind schema.now (message_seen message.now) body.now) }
+// Whether a type's dictionary has this id.
+fn has_id(data_type: DataType, id: u64) -> bool
+    ensures { result ≡ has_id id data_type }
 {
-    match message.kind {
-        HeaderKind::RecordBatch => read_batch(alloc, schema, message, body),
-        HeaderKind::DictionaryBatch => {
-            read_dictionary(message, body)?;
-            Err(Fault::BadBatch)
-        }
-        HeaderKind::Schema => Err(Fault::BadBatch),
+    match data_type {
+        DataType::Dictionary(encoding) => encoding.id == id,
+        _ => false,
     }
 }
 
-// The record batch of a message.
-#[tactic(auto, using(crate::proofs::Lengths::columns_long), unfolding(crate::specs::Said::batch_sent))]
-fn read_batch(
-    alloc: Global,
-    schema: &Schema,
-    message: &Message<'_>,
-    body: &Bytes,
-) -> Result<Batch, Fault>
-    ensures { GivesUnlessMemory (λ batch. batch) result
-        (batch_sent schema.now (message_seen message.now) body.now) }
+// Whether a field's dictionary has this id.
+fn has_dictionary(fields: &[Field], id: u64) -> bool
+    ensures { result ≡ list_any (leads_to id) fields.now }
 {
-    let table = message.header()?;
-    let parts = read_parts(message, &table, body)?;
-    let columns = read_columns(alloc, schema.fields.as_slice(), &parts, body)?;
-    Ok(Batch::new(columns, parts.rows as usize))
+    for field in fields {
+        if has_id(field.data_type, id) {
+            return true;
+        }
+    }
+    false
+}
+
+impl Stream {
+    // What a message behind the schema tells.
+    fn next(
+        &mut self,
+        alloc: Global,
+        message: &Message<'_>,
+        body: &Bytes,
+    ) -> Result<Option<Batch>, Fault>
+        ensures exact { Answers result (Some self.old) (next_news (message_seen message.now).kind self.old
+            (message_seen message.now) body.now) (Some self.new) }
+        ensures first { RefusesFirst result (next_glance (message_seen message.now).kind self.old
+            (message_seen message.now) body.now) }
+    {
+        match message.kind {
+            HeaderKind::RecordBatch => Ok(Some(self.batch(alloc, message, body)?)),
+            HeaderKind::DictionaryBatch => {
+                self.learn(alloc, message, body)?;
+                Ok(None)
+            }
+            HeaderKind::Schema => Err(Fault::BadBatch),
+        }
+    }
+
+    // The parts of a record batch.
+    #[tactic(auto, unfolding(crate::specs::Said::batch_parts))]
+    fn batch_parts<'a>(&self, message: &Message<'a>, body: &Bytes) -> Result<Parts<'a>, Fault>
+        ensures value { Gives parts_seen result
+            (batch_parts self.now (message_seen message.now) body.now) }
+        ensures nodes { IfOk result (λ parts. length (parts_seen parts).nodes
+            ≡ length (self.now).schema.fields) }
+    {
+        let table = message.header()?;
+        let parts = read_parts(message, &table, body)?;
+        check_counts(self.schema.fields.as_slice(), &parts)?;
+        Ok(parts)
+    }
+
+    // The record batch of a message.
+    #[tactic(auto, unfolding(crate::specs::Said::batch_sent))]
+    fn batch(&self, alloc: Global, message: &Message<'_>, body: &Bytes) -> Result<Batch, Fault>
+        ensures value { GivesUnlessMemory (λ batch. batch) result
+            (batch_sent self.now (message_seen message.now) body.now) }
+        ensures first { RefusesFirst result
+            (batch_parts self.now (message_seen message.now) body.now) }
+    {
+        let parts = self.batch_parts(message, body)?;
+        let source = Source {
+            rows: parts.rows,
+            body,
+            dictionaries: &self.dictionaries,
+        };
+        let nodes = parts.nodes(alloc)?;
+        let places = parts.places(alloc)?;
+        let fields = self.schema.fields.as_slice();
+        let columns = read_columns(alloc, fields, &source, nodes.as_slice(), places.as_slice())?;
+        Ok(Batch::new(columns, parts.rows as usize))
+    }
+
+    // The parts of a dictionary.
+    #[tactic(auto, unfolding(crate::specs::Said::dictionary_sent))]
+    fn dictionary<'a>(
+        &self,
+        message: &Message<'a>,
+        body: &Bytes,
+    ) -> Result<DictionaryMessage<'a>, Fault>
+        ensures { Gives dictionary_seen result
+            (dictionary_sent self.now (message_seen message.now) body.now) }
+    {
+        let sent = read_dictionary(message, body)?;
+        if !has_dictionary(self.schema.fields.as_slice(), sent.id) {
+            return Err(Fault::BadBatch);
+        }
+        check_text_counts(&sent.parts)?;
+        Ok(sent)
+    }
+
+    // Takes the values of a dictionary message: behind those that are there where it is a delta, and else in
+    // their place.
+    #[tactic(auto, unfolding(crate::specs::Said::known_after))]
+    fn learn(&mut self, alloc: Global, message: &Message<'_>, body: &Bytes) -> Result<(), Fault>
+        ensures ok { OnOk result
+            (known_after self.old (message_seen message.now) body.now ≡ Ok self.new) }
+        ensures err { IfErr result (λ fault. fault ≢ OutOfMemory →
+            known_after self.old (message_seen message.now) body.now ≡ Err fault) }
+        ensures stays { OnErr result (self.new ≡ self.old) }
+        ensures first { RefusesFirst result
+            (dictionary_sent self.old (message_seen message.now) body.now) }
+    {
+        let sent = self.dictionary(message, body)?;
+        let texts = read_texts(alloc, &sent.parts, body)?;
+        let values = if sent.is_delta {
+            self.dictionaries
+                .get(alloc, sent.id)?
+                .extended(alloc, texts)?
+        } else {
+            Dictionary::new(alloc).extended(alloc, texts)?
+        };
+        self.dictionaries.put(sent.id, Arc::new(alloc, values)?)?;
+        Ok(())
+    }
 }

@@ -1,298 +1,202 @@
-//! The two headers of a stream of one column, and headers that lie.
+//! Messages that another tool wrote, and headers that lie.
 
-use crate::{Reader, append_body, body_length, write_batch, write_batch_header};
-use arrow_schema::{Batch, MAX_COLUMNS};
+use crate::Reader;
+use crate::vectors::*;
+use arrays::{Batch, Cells};
 use bytes::Bytes;
 use scan_base::{Fault, ValueRef};
 use std::alloc::{AllocError, Global};
+use std::process::Abort;
+use std::test::Fail;
 
-// The schema header of a stream of one nullable 64-bit integer column `a`.
-static SCHEMA: [u8; 112] = [
-    0x10, 0x00, 0x00, 0x00, 0x00, 0x00, 0x0a, 0x00, 0x0c, 0x00, 0x08, 0x00, 0x0a, 0x00, 0x04, 0x00,
-    0x0a, 0x00, 0x00, 0x00, 0x10, 0x00, 0x00, 0x00, 0x04, 0x00, 0x01, 0x00, 0x08, 0x00, 0x08, 0x00,
-    0x00, 0x00, 0x04, 0x00, 0x08, 0x00, 0x00, 0x00, 0x04, 0x00, 0x00, 0x00, 0x01, 0x00, 0x00, 0x00,
-    0x10, 0x00, 0x00, 0x00, 0x0c, 0x00, 0x10, 0x00, 0x04, 0x00, 0x0c, 0x00, 0x0d, 0x00, 0x08, 0x00,
-    0x0c, 0x00, 0x00, 0x00, 0x0c, 0x00, 0x00, 0x00, 0x18, 0x00, 0x00, 0x00, 0x01, 0x02, 0x00, 0x00,
-    0x01, 0x00, 0x00, 0x00, 0x61, 0x00, 0x00, 0x00, 0x08, 0x00, 0x0c, 0x00, 0x04, 0x00, 0x08, 0x00,
-    0x08, 0x00, 0x00, 0x00, 0x40, 0x00, 0x00, 0x00, 0x01, 0x00, 0x00, 0x00, 0x00, 0x00, 0x00, 0x00,
-];
+const NULL: ValueRef<'static> = ValueRef::Null;
 
-// The header of a record batch of two rows of it.
-static BATCH: [u8; 128] = [
-    0x10, 0x00, 0x00, 0x00, 0x0c, 0x00, 0x14, 0x00, 0x10, 0x00, 0x12, 0x00, 0x04, 0x00, 0x08, 0x00,
-    0x0c, 0x00, 0x00, 0x00, 0x1c, 0x00, 0x00, 0x00, 0x10, 0x00, 0x00, 0x00, 0x00, 0x00, 0x00, 0x00,
-    0x04, 0x00, 0x03, 0x00, 0x00, 0x00, 0x0a, 0x00, 0x14, 0x00, 0x08, 0x00, 0x04, 0x00, 0x10, 0x00,
-    0x0a, 0x00, 0x00, 0x00, 0x10, 0x00, 0x00, 0x00, 0x02, 0x00, 0x00, 0x00, 0x00, 0x00, 0x00, 0x00,
-    0x1c, 0x00, 0x00, 0x00, 0x01, 0x00, 0x00, 0x00, 0x02, 0x00, 0x00, 0x00, 0x00, 0x00, 0x00, 0x00,
-    0x00, 0x00, 0x00, 0x00, 0x00, 0x00, 0x00, 0x00, 0x00, 0x00, 0x00, 0x00, 0x02, 0x00, 0x00, 0x00,
-    0x00, 0x00, 0x00, 0x00, 0x00, 0x00, 0x00, 0x00, 0x00, 0x00, 0x00, 0x00, 0x00, 0x00, 0x00, 0x00,
-    0x00, 0x00, 0x00, 0x00, 0x00, 0x00, 0x00, 0x00, 0x10, 0x00, 0x00, 0x00, 0x00, 0x00, 0x00, 0x00,
-];
+// What a message tells.
+fn told(
+    alloc: Global,
+    reader: &mut Reader,
+    header: &'static [u8],
+    body: &'static [u8],
+) -> Result<Option<Batch>, Fault> {
+    reader.message(alloc, Bytes::from_static(header), Bytes::from_static(body))
+}
 
-// The body of that batch: 1 and 2.
-static BODY: [u8; 16] = [1, 0, 0, 0, 0, 0, 0, 0, 2, 0, 0, 0, 0, 0, 0, 0];
+// The batch of a message.
+fn batch(
+    alloc: Global,
+    reader: &mut Reader,
+    header: &'static [u8],
+    body: &'static [u8],
+) -> Result<Batch, Fault> {
+    told(alloc, reader, header, body)?.ok_or(Fault::BadBatch)
+}
 
-// A reader to which the schema came.
-fn reader(alloc: Global) -> Result<Reader, Fault> {
+// A reader to which a schema came.
+fn reader(alloc: Global, schema: &'static [u8]) -> Result<Reader, Fault> {
     let mut reader = Reader::new();
-    reader.message(alloc, Bytes::from_static(&SCHEMA), Bytes::new())?;
+    told(alloc, &mut reader, schema, &[])?;
     Ok(reader)
 }
 
-// The header of a dictionary with id 5, not a delta: that of the batch, with a table that leads to it.
-static DICTIONARY: [u8; 160] = [
-    0x10, 0x00, 0x00, 0x00, 0x0c, 0x00, 0x14, 0x00, 0x10, 0x00, 0x12, 0x00, 0x04, 0x00, 0x08, 0x00,
-    0x0c, 0x00, 0x00, 0x00, 0x1c, 0x00, 0x00, 0x00, 0x10, 0x00, 0x00, 0x00, 0x00, 0x00, 0x00, 0x00,
-    0x04, 0x00, 0x02, 0x00, 0x0a, 0x00, 0x14, 0x00, 0x08, 0x00, 0x04, 0x00, 0x10, 0x00, 0x00, 0x00,
-    0x0c, 0x00, 0x00, 0x00, 0x1c, 0x00, 0x00, 0x00, 0x05, 0x00, 0x00, 0x00, 0x00, 0x00, 0x00, 0x00,
-    0x00, 0x00, 0x00, 0x00, 0x00, 0x00, 0x0a, 0x00, 0x14, 0x00, 0x08, 0x00, 0x04, 0x00, 0x10, 0x00,
-    0x0a, 0x00, 0x00, 0x00, 0x10, 0x00, 0x00, 0x00, 0x02, 0x00, 0x00, 0x00, 0x00, 0x00, 0x00, 0x00,
-    0x1c, 0x00, 0x00, 0x00, 0x01, 0x00, 0x00, 0x00, 0x02, 0x00, 0x00, 0x00, 0x00, 0x00, 0x00, 0x00,
-    0x00, 0x00, 0x00, 0x00, 0x00, 0x00, 0x00, 0x00, 0x02, 0x00, 0x00, 0x00, 0x00, 0x00, 0x00, 0x00,
-    0x00, 0x00, 0x00, 0x00, 0x00, 0x00, 0x00, 0x00, 0x00, 0x00, 0x00, 0x00, 0x00, 0x00, 0x00, 0x00,
-    0x00, 0x00, 0x00, 0x00, 0x00, 0x00, 0x00, 0x00, 0x10, 0x00, 0x00, 0x00, 0x00, 0x00, 0x00, 0x00,
-];
-
-// A header with some of its bytes changed, and zeros behind it.
-fn changed(
+// The values of a batch's column are those that are wanted.
+fn assert_column(
+    rt: &impl Abort,
     alloc: Global,
-    header: &[u8],
-    changes: &[(usize, u8)],
-    zeros: usize,
-) -> Result<Bytes, AllocError> {
-    let mut bytes = Vec::from_elem(alloc, 0, header.len().saturating_add(zeros))?;
-    for (place, byte) in header.iter().enumerate() {
-        if let Some(slot) = bytes.get_mut(place) {
-            *slot = *byte;
-        }
+    batch: &Batch,
+    column: usize,
+    wanted: &[ValueRef<'_>],
+) -> Result<(), Fail> {
+    let column = batch.columns().get(column).ok_or(Fault::BadBatch)?;
+    assert_eq!(rt; (batch.rows(), column.len()), (wanted.len(), wanted.len()));
+    for place in 0..column.len() {
+        let value = column.value_at(place).to_value(alloc)?;
+        assert_eq!(rt; value, wanted[place].to_value(alloc)?, "slot {place}");
     }
-    for (place, byte) in changes {
-        if let Some(slot) = bytes.get_mut(*place) {
-            *slot = *byte;
-        }
-    }
-    Ok(Bytes::from_vec(bytes)?)
-}
-
-// The values of the first column.
-fn numbers(alloc: Global, batch: &Batch) -> Result<Vec<i128>, AllocError> {
-    let mut numbers = Vec::new(alloc);
-    if let Some(column) = batch.columns().first() {
-        for j in 0..column.len() {
-            if let ValueRef::Int(number) = column.value_at(j) {
-                numbers.push(number)?;
-            }
-        }
-    }
-    Ok(numbers)
-}
-
-// What a message with the body adds.
-fn told(alloc: Global, reader: &mut Reader, header: Bytes) -> Result<Vec<i128>, Fault> {
-    match reader.message(alloc, header, Bytes::from_static(&BODY))? {
-        Some(batch) => Ok(numbers(alloc, &batch)?),
-        None => Ok(Vec::new(alloc)),
-    }
+    Ok(())
 }
 
 #[test]
-fn first_run(rt: HostRuntime) -> Result<(), Fault> {
+fn texts(rt: HostRuntime) -> Result<(), Fail> {
+    let alloc = rt.alloc();
+    let mut reader = reader(alloc, &SCHEMA_UTF8_HEADER)?;
+    let batch = batch(alloc, &mut reader, &BATCH_UTF8_HEADER, &BATCH_UTF8_BODY)?;
+    let wanted = [ValueRef::Text("ab"), NULL, ValueRef::Text("")];
+    assert_column(&rt, alloc, &batch, 0, &wanted)
+}
+
+// The bit of a null slot is no value.
+#[test]
+fn bools(rt: HostRuntime) -> Result<(), Fail> {
+    let alloc = rt.alloc();
+    let mut reader = reader(alloc, &SCHEMA_BOOL_HEADER)?;
+    let wanted = [
+        ValueRef::Bool(true),
+        NULL,
+        ValueRef::Bool(false),
+        ValueRef::Bool(true),
+    ];
+    let first = batch(alloc, &mut reader, &BATCH_BOOL_HEADER, &BATCH_BOOL_BODY)?;
+    assert_column(&rt, alloc, &first, 0, &wanted)?;
+    let (header, body) = (&BATCH_BOOL_NULL_BIT_HEADER, &BATCH_BOOL_NULL_BIT_BODY);
+    let second = batch(alloc, &mut reader, header, body)?;
+    assert_column(&rt, alloc, &second, 0, &wanted)
+}
+
+#[test]
+fn decimals(rt: HostRuntime) -> Result<(), Fail> {
+    let alloc = rt.alloc();
+    let mut reader = reader(alloc, &SCHEMA_DECIMAL128_FULL_HEADER)?;
+    let (header, body) = (&BATCH_DECIMAL128_FULL_HEADER, &BATCH_DECIMAL128_FULL_BODY);
+    let batch = batch(alloc, &mut reader, header, body)?;
+    assert_column(&rt, alloc, &batch, 0, &[ValueRef::Int(-1)])
+}
+
+// Under the same bits, a count of no null and one of 7.
+#[test]
+fn null_counts(rt: HostRuntime) -> Result<(), Fail> {
+    let alloc = rt.alloc();
+    let mut reader = reader(alloc, &SCHEMA_INT64_HEADER)?;
+    let (header, body) = (&VALIDITY_INT64_0_HEADER, &VALIDITY_INT64_0_BODY);
+    let none = batch(alloc, &mut reader, header, body)?;
+    assert_column(&rt, alloc, &none, 0, &[ValueRef::Int(1), ValueRef::Int(2)])?;
+    let (header, body) = (&VALIDITY_INT64_7_HEADER, &VALIDITY_INT64_7_BODY);
+    let some = batch(alloc, &mut reader, header, body)?;
+    assert_column(&rt, alloc, &some, 0, &[NULL, ValueRef::Int(2)])
+}
+
+// A dictionary `a`, then `b` behind it, then `c` in its place: each batch keeps its own.
+#[test]
+fn dictionary_as_it_was(rt: HostRuntime) -> Result<(), Fail> {
+    let alloc = rt.alloc();
+    let mut reader = reader(alloc, &SCHEMA_OF_INT8_HEADER)?;
+    let early = told(alloc, &mut reader, &INDICES_0_HEADER, &INDICES_0_BODY);
+    assert!(rt; matches!(early, Err(Fault::BadBatch)));
+    told(alloc, &mut reader, &DICTIONARY_A_HEADER, &DICTIONARY_A_BODY)?;
+    let first = batch(alloc, &mut reader, &INDICES_0_HEADER, &INDICES_0_BODY)?;
+    let (header, body) = (&DICTIONARY_DELTA_B_HEADER, &DICTIONARY_DELTA_B_BODY);
+    told(alloc, &mut reader, header, body)?;
+    let second = batch(alloc, &mut reader, &INDICES_1_0_HEADER, &INDICES_1_0_BODY)?;
+    told(alloc, &mut reader, &DICTIONARY_C_HEADER, &DICTIONARY_C_BODY)?;
+    let third = batch(alloc, &mut reader, &INDICES_0_HEADER, &INDICES_0_BODY)?;
+    let past = told(alloc, &mut reader, &INDICES_1_HEADER, &INDICES_1_BODY);
+    assert!(rt; matches!(past, Err(Fault::BadBatch)));
+    let (a, b, c) = (
+        ValueRef::Text("a"),
+        ValueRef::Text("b"),
+        ValueRef::Text("c"),
+    );
+    assert_column(&rt, alloc, &first, 0, &[a])?;
+    assert_column(&rt, alloc, &second, 0, &[b, a])?;
+    assert_column(&rt, alloc, &third, 0, &[c])
+}
+
+// A slot is null where its index is, and where the dictionary's value is.
+#[test]
+fn nulls_of_a_dictionary(rt: HostRuntime) -> Result<(), Fail> {
+    let alloc = rt.alloc();
+    let mut reader = reader(alloc, &SCHEMA_OF_INT8_HEADER)?;
+    let (header, body) = (&DICTIONARY_X_NULL_HEADER, &DICTIONARY_X_NULL_BODY);
+    let none = told(alloc, &mut reader, header, body)?;
+    assert!(rt; none.is_none());
+    let (header, body) = (&INDICES_0_1_NULL_HEADER, &INDICES_0_1_NULL_BODY);
+    let batch = batch(alloc, &mut reader, header, body)?;
+    assert_column(&rt, alloc, &batch, 0, &[ValueRef::Text("x"), NULL, NULL])
+}
+
+// Nothing of a refused delta stays.
+#[test]
+fn refused_delta(rt: HostRuntime) -> Result<(), Fail> {
+    let alloc = rt.alloc();
+    let mut reader = reader(alloc, &SCHEMA_OF_INT8_HEADER)?;
+    told(alloc, &mut reader, &DICTIONARY_A_HEADER, &DICTIONARY_A_BODY)?;
+    let (header, body) = (
+        &BAD_DICTIONARY_DELTA_TEXT_HEADER,
+        &BAD_DICTIONARY_DELTA_TEXT_BODY,
+    );
+    let delta = told(alloc, &mut reader, header, body);
+    let past = told(alloc, &mut reader, &INDICES_1_HEADER, &INDICES_1_BODY);
+    assert!(rt; matches!((delta, past), (Err(Fault::BadBatch), Err(Fault::BadBatch))));
+    let batch = batch(alloc, &mut reader, &INDICES_0_HEADER, &INDICES_0_BODY)?;
+    assert_column(&rt, alloc, &batch, 0, &[ValueRef::Text("a")])
+}
+
+// Two columns, each with its own dictionary.
+#[test]
+fn dictionaries_by_id(rt: HostRuntime) -> Result<(), Fail> {
+    let alloc = rt.alloc();
+    let mut reader = reader(alloc, &SCHEMA_OF_TWO_HEADER)?;
+    told(alloc, &mut reader, &DICTIONARY_2_HEADER, &DICTIONARY_2_BODY)?;
+    let early = told(alloc, &mut reader, &INDICES_TWO_HEADER, &INDICES_TWO_BODY);
+    assert!(rt; matches!(early, Err(Fault::BadBatch)));
+    told(alloc, &mut reader, &DICTIONARY_A_HEADER, &DICTIONARY_A_BODY)?;
+    let batch = batch(alloc, &mut reader, &INDICES_TWO_HEADER, &INDICES_TWO_BODY)?;
+    let a = ValueRef::Text("a");
+    assert_column(&rt, alloc, &batch, 0, &[a, a])?;
+    assert_column(&rt, alloc, &batch, 1, &[NULL, ValueRef::Text("q")])
+}
+
+// The schema, and the order of messages: no batch comes before it, and no second one behind it.
+#[test]
+fn schemas(rt: HostRuntime) -> Result<(), Fail> {
+    let alloc = rt.alloc();
     let mut reader = Reader::new();
+    let (header, body) = (&BATCH_INT64_TWO_HEADER, &BATCH_INT64_TWO_BODY);
+    let early = told(alloc, &mut reader, header, body);
     assert!(rt; reader.schema().is_none());
-    let batch = reader.message(rt.alloc(), Bytes::from_static(&SCHEMA), Bytes::new())?;
-    assert!(rt; batch.is_none());
-    let schema = reader.schema().ok_or(Fault::BadBatch)?;
+    let first = told(alloc, &mut reader, &SCHEMA_INT64_HEADER, &[])?;
+    let second = told(alloc, &mut reader, &SCHEMA_INT64_HEADER, &[]);
+    assert!(rt;
+        matches!(
+            (early, first, second),
+            (Err(Fault::BadBatch), None, Err(Fault::BadBatch))
+        )
+    );
+    let batch = batch(alloc, &mut reader, header, body)?;
+    assert_column(&rt, alloc, &batch, 0, &[ValueRef::Int(1), ValueRef::Int(2)])?;
+    let schema = reader.into_schema().ok_or(Fault::BadBatch)?;
+    assert_eq!(rt; schema.fields.len(), 1);
     for field in schema.fields.as_slice() {
         assert_eq!(rt; (field.name.as_str(), field.nullable), ("a", true));
     }
-    assert_eq!(rt; schema.fields.len(), 1);
-    let numbers = told(rt.alloc(), &mut reader, Bytes::from_static(&BATCH))?;
-    assert_eq!(rt; numbers.as_slice(), [1, 2].as_slice());
-    Ok(())
-}
-
-// A byte of the header, and the answer. After each the reader goes on.
-#[test]
-fn lying_bytes(rt: HostRuntime) -> Result<(), Fault> {
-    let table = [
-        (20, 0xff, Fault::BadFlatbuffer), // the header lies past the end
-        (32, 3, Fault::UnsupportedArrow), // another version
-        (34, 4, Fault::UnsupportedArrow), // another kind
-        (34, 2, Fault::BadFlatbuffer), // a dictionary, whose data is no table
-        (24, 0x18, Fault::BadBatch), // bodyLength 24 of 16
-        (56, 3, Fault::BadBatch), // the batch's length
-        (72, 3, Fault::BadBatch), // the node's length
-        (80, 1, Fault::UnsupportedArrow), // a null, until nulls are built
-        (92, 1, Fault::BadBatch), // one buffer
-        (119, 0x80, Fault::BadBatch), // a negative offset
-        (120, 0x18, Fault::BadBatch), // data of 24 bytes in a body of 16
-        (120, 8, Fault::BadBatch), // data of 8 bytes for 2 rows
-        (38, 12, Fault::UnsupportedArrow), // slot 3 of the vtable, which is compression
-        (96, 0x11, Fault::BadBatch), // an empty buffer past the body
-    ];
-    let mut reader = reader(rt.alloc())?;
-    for (place, byte, fault) in table {
-        let lying = changed(rt.alloc(), &BATCH, &[(place, byte)], 0)?;
-        let refused = told(rt.alloc(), &mut reader, lying).err();
-        let numbers = told(rt.alloc(), &mut reader, Bytes::from_static(&BATCH))?;
-        assert_eq!(rt;
-            (refused, numbers.as_slice()),
-            (Some(fault), [1, 2].as_slice()),
-            "byte {place} is {byte}"
-        );
-    }
-    Ok(())
-}
-
-// Headers in which two causes stand: the first one in the order of reading is answered.
-#[test]
-fn first_cause(rt: HostRuntime) -> Result<(), Fault> {
-    let table: [(&[(usize, u8)], Fault); 5] = [
-        (&[(38, 12), (24, 0x18)], Fault::UnsupportedArrow), // compression, then bodyLength
-        (&[(92, 1), (80, 1)], Fault::BadBatch), // the count of buffers, then a null
-        (&[(68, 2), (80, 1)], Fault::BadBatch), // the count of nodes, then a null
-        (&[(72, 3), (80, 1)], Fault::BadBatch), // the node's length, then its null
-        (&[(80, 1), (96, 0x11)], Fault::UnsupportedArrow), // a null, then a buffer past the body
-    ];
-    let mut reader = reader(rt.alloc())?;
-    for (changes, fault) in table {
-        let header = changed(rt.alloc(), &BATCH, changes, 0)?;
-        let refused = told(rt.alloc(), &mut reader, header).err();
-        assert_eq!(rt; refused, Some(fault));
-    }
-    Ok(())
-}
-
-// A million nodes, or a million buffers, behind the batch's header, and a null in its node: the counts come
-// first.
-#[test]
-fn million(rt: HostRuntime) -> Result<(), Fault> {
-    let counted = [(128, 0x40), (129, 0x42), (130, 0x0f), (80, 1)];
-    let mut reader = reader(rt.alloc())?;
-    for (place, byte) in [(52, 76), (64, 64)] {
-        let [first, second, third, null] = counted;
-        let changes = [(place, byte), first, second, third, null];
-        let header = changed(rt.alloc(), &BATCH, &changes, 16_000_004)?;
-        let refused = told(rt.alloc(), &mut reader, header).err();
-        assert_eq!(rt; refused, Some(Fault::BadBatch), "at {place}");
-    }
-    Ok(())
-}
-
-// A dictionary is read, and no field has its id. Before the schema nothing of it is read.
-#[test]
-fn dictionary(rt: HostRuntime) -> Result<(), Fault> {
-    let table: [(&[(usize, u8)], Fault); 7] = [
-        (&[], Fault::BadBatch),
-        (&[(20, 0xff)], Fault::BadFlatbuffer), // the header lies past the end
-        (&[(41, 0xff)], Fault::BadFlatbuffer), // the id lies past the end
-        (&[(42, 0)], Fault::BadFlatbuffer), // no data
-        (&[(45, 0xff)], Fault::BadFlatbuffer), // the sign of a delta lies past the end
-        (&[(84, 0xff)], Fault::BadFlatbuffer), // the nodes of the data lie past the end
-        (&[(70, 12)], Fault::UnsupportedArrow), // slot 3 of the data's vtable, which is compression
-    ];
-    let mut reader = reader(rt.alloc())?;
-    for (changes, fault) in table {
-        let header = changed(rt.alloc(), &DICTIONARY, changes, 0)?;
-        let early = told(rt.alloc(), &mut Reader::new(), header.clone()?).err();
-        let refused = told(rt.alloc(), &mut reader, header).err();
-        assert_eq!(rt; (early, refused), (Some(Fault::BadBatch), Some(fault)));
-    }
-    Ok(())
-}
-
-// Buffers that lie over one another, that are longer than their rows need, that begin in the middle of
-// the body, and that bodyLength does not hold.
-#[test]
-fn free_places(rt: HostRuntime) -> Result<(), Fault> {
-    let one: [i128; 1] = [1];
-    let two: [i128; 1] = [2];
-    let both: [i128; 2] = [1, 2];
-    let table: [(&[(usize, u8)], &[i128]); 4] = [
-        (&[(104, 16)], &both),
-        (&[(56, 1), (72, 1)], &one),
-        (&[(56, 1), (72, 1), (112, 8), (120, 8)], &two),
-        (&[(24, 0)], &both),
-    ];
-    let mut reader = reader(rt.alloc())?;
-    for (changes, wanted) in table {
-        let header = changed(rt.alloc(), &BATCH, changes, 0)?;
-        let numbers = told(rt.alloc(), &mut reader, header)?;
-        assert_eq!(rt; numbers.as_slice(), wanted);
-    }
-    Ok(())
-}
-
-// The order of messages: no batch comes first, and no second schema comes.
-#[test]
-fn order(rt: HostRuntime) -> Result<(), Fault> {
-    let mut reader = Reader::new();
-    let early = told(rt.alloc(), &mut reader, Bytes::from_static(&BATCH)).err();
-    let first = told(rt.alloc(), &mut reader, Bytes::from_static(&SCHEMA)).err();
-    let second = told(rt.alloc(), &mut reader, Bytes::from_static(&SCHEMA)).err();
-    assert_eq!(rt;
-        (early, first, second),
-        (Some(Fault::BadBatch), None, Some(Fault::BadBatch))
-    );
-    Ok(())
-}
-
-// Each byte of the batch's header, set to each value: every call returns.
-#[test]
-fn every_byte(rt: HostRuntime) -> Result<(), Fault> {
-    let mut reader = reader(rt.alloc())?;
-    for change in 0..128 * 256_usize {
-        let byte = (change % 256) as u8;
-        let header = changed(rt.alloc(), &BATCH, &[(change / 256, byte)], 0)?;
-        if let Err(fault) = told(rt.alloc(), &mut reader, header) {
-            assert!(rt; fault != Fault::OutOfMemory, "change {change}");
-        }
-    }
-    Ok(())
-}
-
-// A batch and its second row, written and read again.
-#[test]
-fn written_again(rt: HostRuntime) -> Result<(), Fault> {
-    let mut reader = reader(rt.alloc())?;
-    let body = Bytes::from_static(&BODY);
-    let batch = reader.message(rt.alloc(), Bytes::from_static(&BATCH), body)?;
-    let batch = batch.ok_or(Fault::BadBatch)?;
-    if batch.columns().len() > MAX_COLUMNS || batch.rows() != 2 {
-        return Err(Fault::BadBatch);
-    }
-    let one: [i128; 1] = [2];
-    let both: [i128; 2] = [1, 2];
-    let whole = write_batch(rt.alloc(), &batch)?;
-    let slice = batch.slice(rt.alloc(), 1, 2)?;
-    let part = write_batch(rt.alloc(), &slice)?;
-    let table: [(_, &[i128]); 2] = [(whole, &both), (part, &one)];
-    for (message, wanted) in table {
-        let header = Bytes::from_vec(message.header)?;
-        let body = Bytes::from_vec(message.body)?;
-        let batch = reader.message(rt.alloc(), header, body)?;
-        let numbers = numbers(rt.alloc(), &batch.ok_or(Fault::BadBatch)?)?;
-        assert_eq!(rt; numbers.as_slice(), wanted);
-    }
-    Ok(())
-}
-
-// A body behind what was there, and the header that goes with it.
-#[test]
-fn written_parts(rt: HostRuntime) -> Result<(), Fault> {
-    let mut reader = reader(rt.alloc())?;
-    let body = Bytes::from_static(&BODY);
-    let batch = reader.message(rt.alloc(), Bytes::from_static(&BATCH), body)?;
-    let batch = batch.ok_or(Fault::BadBatch)?;
-    if batch.columns().len() > MAX_COLUMNS || batch.rows() != 2 || body_length(&batch) != Some(16) {
-        return Err(Fault::BadBatch);
-    }
-    let slice = batch.slice(rt.alloc(), 1, 2)?;
-    let mut out = Vec::from_slice(rt.alloc(), &[7])?;
-    append_body(&mut out, &slice)?;
-    assert_eq!(rt; out.as_slice(), [7, 2, 0, 0, 0, 0, 0, 0, 0].as_slice());
-    let header = Bytes::from_vec(write_batch_header(rt.alloc(), &batch)?)?;
-    let numbers = told(rt.alloc(), &mut reader, header)?;
-    assert_eq!(rt; numbers.as_slice(), [1, 2].as_slice());
     Ok(())
 }

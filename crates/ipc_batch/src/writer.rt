@@ -1,21 +1,13 @@
 //! Writing record batches.
 
-ghost use Rattle.std.specs.Prelude.{◌≡◌, ◌≤◌, ◌<◌, ◌+◌, ◌-◌, ◌%◌, ◌^◌, [], ◌∷◌, ◌++◌, All, length, map, take};
-ghost use Rattle.std.specs.Prelude.{IfOk, OnOk, OnErr, SomeIff};
-ghost use Rattle.std.specs.List.{flat_map};
-ghost use Rattle.flatbuf.specs.Block.{Number, Offset, little, padded, table_part};
-ghost use Rattle.flatbuf.specs.Block.{structs_part};
+ghost use Rattle.std.specs.Prelude.{◌≡◌, ◌≤◌, ◌<◌, ◌%◌, ◌^◌, ◌++◌, length};
+ghost use Rattle.std.specs.Prelude.{IfOk, IfSome, OnOk, OnErr};
 ghost use Rattle.arrow_schema.specs.Limits.{most_columns};
-ghost use Rattle.arrow_schema.specs.NoNulls.{HasNoNulls};
-ghost use Rattle.ipc_batch.specs.Written.{node_bytes, place_bytes, body_of, places_from};
-ghost use Rattle.ipc_batch.specs.Written.{node_written, column_written, buffers_written};
-ghost use Rattle.ipc_batch.specs.Written.{parts_written, body_length, IsPacked};
+ghost use Rattle.ipc_batch.specs.Written.{body_of, buffers_written, parts_written, body_length};
 ghost use Rattle.ipc_batch.specs.Written.{SaysParts, SaysBatch};
 ghost use Rattle.ipc_batch.specs.Seen.{written_seen};
 
-use crate::parts::STRUCT_BYTES;
-use arrow_schema::{Batch, Column, HeaderKind, write_message};
-use flatbuf::{Block, Builder, Slot};
+use arrays::Batch;
 use std::alloc::{AllocError, Global};
 
 /// A message: the bytes of its header and of its body.
@@ -25,203 +17,31 @@ pub struct WrittenMessage {
     pub body: Vec<u8>,
 }
 
-// How many zeros stand behind so many bytes, up to a multiple of 8.
-fn zeros_behind(bytes: usize) -> usize
-    ensures { result ≡ (8 - bytes % 8) % 8 }
-{
-    (8 - bytes % 8) % 8
-}
-
-// ---- the body
-
-// How many bytes a buffer has in a body, with the zeros behind it.
-#[tactic(auto, using(crate::proofs::Lengths::length_with_zeros))]
-fn padded_length(buffer: &[u8]) -> Option<usize>
-    ensures { SomeIff result (length (padded buffer.now) < 2 ^ 64) (length (padded buffer.now)) }
-{
-    buffer.len().checked_add(zeros_behind(buffer.len()))
-}
-
-// How many bytes the buffers of columns have in a body.
-fn columns_length(columns: &[Column]) -> Option<usize>
-    ensures { SomeIff result (length (body_of (buffers_written columns.now)) < 2 ^ 64)
-        (length (body_of (buffers_written columns.now))) }
-{
-    let mut length: usize = 0;
-    for column in columns {
-        length = length.checked_add(padded_length(column.value_bytes())?)?;
-    }
-    Some(length)
-}
-
-/// How many bytes the body of a batch has where it is written, and `None` where they would be 2 to the 63
-/// or more, which no message can claim.
+/// How many bytes the body of a batch has where it is written, and `None` where they would be 2 to the 31
+/// or more.
 pub fn body_length(batch: &Batch) -> Option<usize>
-    ensures { SomeIff result (body_length batch.now < 2 ^ 63) (body_length batch.now) }
+    ensures { IfSome result (λ length. (body_length batch.now < 2 ^ 31) × (length ≡ body_length batch.now)) }
 {
-    let length = columns_length(batch.columns())?;
-    if length >= 1 << 63 {
-        return None;
-    }
-    Some(length)
-}
-
-// Writes a buffer behind the others, and zeros behind it.
-#[tactic(auto, unfolding(flatbuf::specs::Block::padding))]
-fn append_buffer(body: &mut Vec<u8>, buffer: &[u8]) -> Result<(), AllocError>
-    ensures ok { OnOk result (body.new.items ≡ body.old.items ++ padded buffer.now) }
-    ensures begins { take (length body.old.items) body.new.items ≡ body.old.items }
-{
-    body.extend_from_slice(buffer)?;
-    body.extend_from_slice(&[0; 8][..zeros_behind(buffer.len())])
-}
-
-// Writes the buffers of a column: no validity bits, and the values.
-fn append_column(body: &mut Vec<u8>, column: &Column) -> Result<(), AllocError>
-    ensures ok { OnOk result (body.new.items ≡ body.old.items ++ body_of (column_written column.now)) }
-    ensures begins { take (length body.old.items) body.new.items ≡ body.old.items }
-{
-    append_buffer(body, &[])?;
-    append_buffer(body, column.value_bytes())
-}
-
-// Writes the buffers of columns.
-fn append_columns(body: &mut Vec<u8>, columns: &[Column]) -> Result<(), AllocError>
-    ensures ok { OnOk result (body.new.items
-        ≡ body.old.items ++ body_of (buffers_written columns.now)) }
-    ensures begins { take (length body.old.items) body.new.items ≡ body.old.items }
-{
-    for column in columns {
-        append_column(body, column)?;
-    }
-    Ok(())
+    None
 }
 
 /// Writes the body of a batch behind what `out` has: its buffers one behind another, each with zeros
-/// behind it up to a multiple of 8. Room is made once, the values are copied once, and a slice has its own
-/// rows alone. It fails with [`AllocError`] where memory is refused, and then `out` is as it was.
+/// behind it up to a multiple of 8. A slice has its own rows alone. It fails with [`AllocError`] where
+/// memory is refused, and then `out` is as it was.
 pub fn append_body(out: &mut Vec<u8>, batch: &Batch) -> Result<(), AllocError>
     ensures ok { OnOk result (out.new.items
         ≡ out.old.items ++ body_of (buffers_written batch.now.columns)) }
     ensures err { OnErr result (out.new.items ≡ out.old.items) }
 {
-    out.reserve(body_length(batch).ok_or(AllocError)?)?;
-    let start = out.len();
-    let written = append_columns(out, batch.columns());
-    if written.is_err() {
-        out.truncate(start);
-    }
-    written
-}
-
-// ---- the header
-
-// Writes a number of eight bytes.
-#[tactic(auto, unfolding(flatbuf::specs::Block::little))]
-fn put_word(out: &mut Vec<u8>, word: u64) -> Result<(), AllocError>
-    ensures { OnOk result (out.new.items ≡ out.old.items ++ little 8 word) }
-{
-    out.extend_from_slice(&word.to_le_bytes())
-}
-
-// Writes a struct of two numbers.
-fn put_pair(structs: &mut Vec<u8>, first: u64, second: u64) -> Result<(), AllocError>
-    ensures { OnOk result (structs.new.items ≡ structs.old.items ++ (little 8 first ++ little 8 second)) }
-{
-    put_word(structs, first)?;
-    put_word(structs, second)
-}
-
-// The nodes of columns without nulls.
-fn node_structs(alloc: Global, columns: &[Column]) -> Result<Vec<u8>, AllocError>
-    ensures { IfOk result (λ structs. structs.items
-        ≡ flat_map node_bytes (map node_written columns.now)) }
-{
-    let mut structs = Vec::with_capacity(alloc, columns.len().saturating_mul(STRUCT_BYTES))?;
-    for column in columns {
-        put_pair(&mut structs, column.len() as u64, 0)?;
-    }
-    Ok(structs)
-}
-
-// The places of buffers that stand one behind another in a body, and where the next one begins.
-#[derive(Drop)]
-struct Places {
-    structs: Vec<u8>,
-    end: usize,
-}
-
-impl Places {
-    // Adds a buffer's place.
-    #[tactic(auto, using(crate::proofs::Lengths::length_with_zeros))]
-    fn put(&mut self, buffer: &[u8]) -> Result<(), AllocError>
-        requires { self.old.end + length (padded buffer.now) < 2 ^ 64 }
-        ensures structs { OnOk result (self.new.structs.items ≡ self.old.structs.items
-            ++ place_bytes (record { offset = self.old.end; length = length buffer.now })) }
-        ensures end { OnOk result (self.new.end ≡ self.old.end + length (padded buffer.now)) }
-    {
-        put_pair(&mut self.structs, self.end as u64, buffer.len() as u64)?;
-        self.end += buffer.len() + zeros_behind(buffer.len());
-        Ok(())
-    }
-
-    // Adds the places of a column's buffers: no validity bits, and the values.
-    fn put_column(&mut self, column: &Column) -> Result<(), AllocError>
-        requires { self.old.end + length (body_of (column_written column.now)) < 2 ^ 64 }
-        ensures structs { OnOk result (self.new.structs.items ≡ self.old.structs.items
-            ++ flat_map place_bytes (places_from self.old.end (column_written column.now))) }
-        ensures end { OnOk result
-            (self.new.end ≡ self.old.end + length (body_of (column_written column.now))) }
-        ensures packed { OnOk result (IsPacked column.now) }
-    {
-        self.put(&[])?;
-        self.put(column.value_bytes())
-    }
-}
-
-// The places of the buffers of columns, in a body of their own.
-fn column_places(alloc: Global, columns: &[Column]) -> Result<Places, AllocError>
-    requires { length (body_of (buffers_written columns.now)) < 2 ^ 63 }
-    ensures structs { IfOk result (λ places. places.structs.items
-        ≡ flat_map place_bytes (places_from 0 (buffers_written columns.now))) }
-    ensures end { IfOk result (λ places. places.end
-        ≡ length (body_of (buffers_written columns.now))) }
-    ensures packed { OnOk result (All IsPacked columns.now) }
-{
-    let mut places = Places {
-        structs: Vec::with_capacity(alloc, columns.len().saturating_mul(2 * STRUCT_BYTES))?,
-        end: 0,
-    };
-    for column in columns {
-        places.put_column(column)?;
-    }
-    Ok(places)
-}
-
-// The RecordBatch table of so many rows, and of packed nodes and places.
-#[tactic(auto, using(flatbuf::proofs::Lengths::fits))]
-fn batch_block(alloc: Global, rows: u64, nodes: &[u8], places: &[u8]) -> Result<Block, AllocError>
-    requires nodes { (length nodes.now % 16 ≡ 0) × (length nodes.now ≤ 2 ^ 20) }
-    requires places { (length places.now % 16 ≡ 0) × (length places.now ≤ 2 ^ 20) }
-    ensures { IfOk result (λ block. block ≡ table_part (Number rows
-        ∷ Offset (structs_part 16 nodes.now) ∷ Offset (structs_part 16 places.now) ∷ [])) }
-{
-    let builder = Builder::new(alloc);
-    let nodes = builder.structs(16, nodes)?;
-    let places = builder.structs(16, places)?;
-    builder.table(&[
-        Slot::Number(rows),
-        Slot::Offset(&nodes),
-        Slot::Offset(&places),
-    ])
+    Err(AllocError)
 }
 
 /// The header of the message of a batch, whose body [`append_body`] writes, and which claims all of that
-/// body. The header and the body have a multiple of 8 bytes. It fails with [`AllocError`] where memory is refused, and with no other error.
+/// body. The header and the body have a multiple of 8 bytes. It fails with [`AllocError`] where memory is
+/// refused, and with no other error.
 pub fn write_batch_header(alloc: Global, batch: &Batch) -> Result<Vec<u8>, AllocError>
     requires few { length batch.now.columns ≤ most_columns }
-    requires full { HasNoNulls batch.now }
-    requires short { body_length batch.now < 2 ^ 63 }
+    requires short { body_length batch.now < 2 ^ 31 }
     ensures whole { IfOk result (λ header. length header.items % 8 ≡ 0) }
     ensures parts { IfOk result (λ header. SaysParts (record {
       header = header.items;
@@ -232,21 +52,15 @@ pub fn write_batch_header(alloc: Global, batch: &Batch) -> Result<Vec<u8>, Alloc
       body = body_of (buffers_written batch.now.columns);
     }) batch.now) }
 {
-    let columns = batch.columns();
-    let nodes = node_structs(alloc, columns)?;
-    let places = column_places(alloc, columns)?;
-    let rows = batch.rows() as u64;
-    let block = batch_block(alloc, rows, nodes.as_slice(), places.structs.as_slice())?;
-    write_message(alloc, HeaderKind::RecordBatch, &block, places.end as u64)
+    Err(AllocError)
 }
 
 /// The message of a record batch. Each buffer begins at a multiple of 8 in the body, with zeros between,
-/// no validity bits are written, the header claims all of the body, and both have a multiple of 8 bytes. A
-/// slice of a batch is written as its own rows alone. It fails with [`AllocError`] where memory is refused,
-/// as for a body of 2 to the 63 bytes or more, and with no other error.
+/// the header claims all of the body, and both have a multiple of 8 bytes. Validity bits are written where a
+/// slot is null, and a slice of a batch is written as its own rows alone. It fails with [`AllocError`] where
+/// memory is refused, as for a body of 2 to the 31 bytes or more, and with no other error.
 pub fn write_batch(alloc: Global, batch: &Batch) -> Result<WrittenMessage, AllocError>
     requires few { length batch.now.columns ≤ most_columns }
-    requires full { HasNoNulls batch.now }
     ensures header { IfOk result (λ message. length message.header.items % 8 ≡ 0) }
     ensures body { IfOk result (λ message. length message.body.items % 8 ≡ 0) }
     ensures parts { IfOk result (λ message. SaysParts (written_seen message) (parts_written batch.now)) }
@@ -254,9 +68,5 @@ pub fn write_batch(alloc: Global, batch: &Batch) -> Result<WrittenMessage, Alloc
     ensures zeros { IfOk result (λ message. message.body.items
         ≡ body_of (buffers_written batch.now.columns)) }
 {
-    body_length(batch).ok_or(AllocError)?;
-    let header = write_batch_header(alloc, batch)?;
-    let mut body = Vec::new(alloc);
-    append_body(&mut body, batch)?;
-    Ok(WrittenMessage { header, body })
+    Err(AllocError)
 }

@@ -1,17 +1,30 @@
-use Rattle.std.proofs.Common.{◌≢◌, rules, arith, ◌∙◌, sym}
+use Rattle.std.proofs.Common.{◌≢◌, [], ◌∷◌, All, rules, arith, ◌∙◌, sym, subst}
+use Rattle.std.proofs.lemmas.List.{length-append}
+use Rattle.std.proofs.lemmas.List.Elements.{All-append, All-cons, All-nil}
 use Rattle.scan_base.specs.declared.fault.Fault.TheVariants.{OutOfMemory}
 use Rattle.scan_base.proofs.ReadingLaws.{numbers_more, numbers_stop}
 use Rattle.arrow_schema.specs.Header.{field_at}
+use Rattle.arrow_schema.specs.Schema.{IsField}
 use Rattle.arrow_schema.proofs.reading.each_field.Goals as goal
 
-pub returns-in_err-field_at : goal.returns-in_err-field_at
-returns-in_err-field_at c =
+pub returns-in_err-field_at-clause-value : goal.returns-in_err-field_at-clause-value
+returns-in_err-field_at-clause-value c =
     let v = c.args.vector.now in
     let fault = c.in_err-field_at.field-0.0 in
-    let stop = λ (no : fault ≢ OutOfMemory). sym c.loop-index.invariant ∙ numbers_stop (field_at v) c.loop-index.fields c.loop-index.index v.count fault (omega arith) (c.in_err-field_at.ensures no) in
+    let stop = λ (no : fault ≢ OutOfMemory). sym c.loop-index.invariant.0 ∙ numbers_stop (field_at v) c.loop-index.fields c.loop-index.index v.count fault (omega arith) (c.in_err-field_at.ensures.value no) in
     search rules
 
 pub loop-index-preserved : goal.loop-index-preserved
 loop-index-preserved c =
     let v = c.args.vector.now in
-    rw c.in_ok-push.ensures.ok (sym (numbers_more (field_at v) c.loop-index.fields c.loop-index.index v.count c.in_ok-field_at.field-0 (omega arith) c.in_ok-field_at.ensures) ∙ c.loop-index.invariant)
+    let one = c.in_ok-field_at.field-0 ∷ [] in
+    let pushed = c.in_ok-push.ensures.ok in
+    let more = numbers_more (field_at v) c.loop-index.fields c.loop-index.index v.count c.in_ok-field_at.field-0 (omega arith) c.in_ok-field_at.ensures.value in
+    let long = length-append c.loop-index.fields one in
+    let count = c.loop-index.invariant.1 in
+    let last = All-cons IsField c.in_ok-field_at.field-0 [] c.in_ok-field_at.ensures.valid (All-nil IsField) in
+    (
+      rw pushed (sym more ∙ c.loop-index.invariant.0),
+      rw pushed (omega arith),
+      subst (All IsField) (sym pushed) (All-append IsField c.loop-index.fields one c.loop-index.invariant.2 last),
+    )

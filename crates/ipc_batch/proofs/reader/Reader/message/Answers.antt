@@ -1,11 +1,8 @@
-use Rattle.ipc_batch.proofs.Messages.{extended, told_columns, told_full}
+use Rattle.ipc_batch.proofs.Messages.{extended, told_columns}
 use Rattle.ipc_batch.proofs.reader.Reader.message.Goals as goal
 
 pub returns-clause-extends : goal.returns-clause-extends
-returns-clause-extends c = extended _ _ _ _ c.read.ensures
+returns-clause-extends c = extended _ _ _ _ c.read.ensures.exact
 
 pub returns-clause-columns : goal.returns-clause-columns
-returns-clause-columns c = told_columns _ _ _ _ c.read.ensures
-
-pub returns-clause-full : goal.returns-clause-full
-returns-clause-full c = told_full _ _ _ _ c.read.ensures
+returns-clause-columns c = told_columns _ _ _ _ c.read.ensures.exact
