@@ -5,3 +5,4 @@ pub mod Messages
 pub mod Negatives
 pub mod PartsAgain
 pub mod Typed
+pub mod WriterLoops

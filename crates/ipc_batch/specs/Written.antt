@@ -13,7 +13,8 @@ use Rattle.arrow_schema.specs.Limits.{most_columns}
 use Rattle.arrays.specs.Column.{ColumnAt}
 use Rattle.arrays.specs.Batch.{BatchAt, rows_of}
 use Rattle.arrays.specs.Typed.{AreOfTypes}
-use Rattle.arrays.specs.Written.{null_count, buffers_written as column_written}
+use Rattle.arrays.specs.Nulls.{null_count}
+use Rattle.arrays.specs.Written.{buffers_written as column_written}
 use Rattle.ipc_batch.specs.declared.parts.FieldNode.{FieldNode}
 use Rattle.ipc_batch.specs.declared.parts.BufferPlace.{BufferPlace}
 use Rattle.ipc_batch.specs.Parts.{parts_of, buffer_at}
