@@ -6,3 +6,5 @@ pub mod Negatives
 pub mod PartsAgain
 pub mod Typed
 pub mod WriterLoops
+pub mod ColumnsAgain
+pub mod BatchAgain

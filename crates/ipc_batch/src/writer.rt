@@ -3,7 +3,7 @@
 ghost use Rattle.std.specs.Prelude.{◌≡◌, ◌≤◌, ◌<◌, ◌+◌, ◌-◌, ◌*◌, ◌%◌, ◌^◌, [], ◌∷◌, ◌++◌, All, length, map, take};
 ghost use Rattle.std.specs.Prelude.{IfOk, OnOk, OnErr, SomeIff};
 ghost use Rattle.std.specs.List.{flat_map};
-ghost use Rattle.flatbuf.specs.Block.{Number, Offset, little, padded, table_part};
+ghost use Rattle.flatbuf.specs.Block.{Number, Offset, little, padding, padded, table_part};
 ghost use Rattle.flatbuf.specs.Block.{structs_part};
 ghost use Rattle.arrow_schema.specs.Limits.{most_columns};
 ghost use Rattle.arrays.specs.Column.{IsColumn};
@@ -79,8 +79,16 @@ pub fn body_length(batch: &Batch) -> Option<usize>
     Some(end)
 }
 
-// Writes a buffer of a column behind the others, and zeros behind it.
+// Writes the zeros that stand behind so many bytes.
 #[tactic(auto, unfolding(flatbuf::specs::Block::padding))]
+fn append_zeros(body: &mut Vec<u8>, bytes: usize) -> Result<(), AllocError>
+    ensures ok { OnOk result (body.new.items ≡ body.old.items ++ padding bytes) }
+    ensures begins { take (length body.old.items) body.new.items ≡ body.old.items }
+{
+    body.extend_from_slice(&[0; 8][..zeros_behind(bytes)])
+}
+
+// Writes a buffer of a column behind the others, and zeros behind it.
 fn append_buffer(body: &mut Vec<u8>, column: &Column, index: usize) -> Result<(), AllocError>
     requires index { index < length (column_written column.now) }
     requires short { length (body_of (column_written column.now)) < 2 ^ 31 }
@@ -90,7 +98,7 @@ fn append_buffer(body: &mut Vec<u8>, column: &Column, index: usize) -> Result<()
     let start = body.len();
     column.append_buffer(index, body)?;
     let written = body.len() - start;
-    body.extend_from_slice(&[0; 8][..zeros_behind(written)])
+    append_zeros(body, written)
 }
 
 // Writes the buffers of a column.

@@ -1,4 +1,4 @@
-use Rattle.std.proofs.Common.{◌≡◌, ◌+◌, ◌*◌, ◌-◌, ◌≤◌, ◌<◌, ◌^◌, ◌++◌, length, take, drop, map}
+use Rattle.std.proofs.Common.{◌≡◌, ◌+◌, ◌<◌, ◌^◌, length, drop}
 use Rattle.arrays.specs.Written.{buffers_written as column_written}
 use Rattle.ipc_batch.specs.Written.{body_of}
 use Rattle.ipc_batch.proofs.writer.column_end.Given as goal
