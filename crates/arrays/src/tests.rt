@@ -339,3 +339,110 @@ fn batches(rt: HostRuntime) -> Result<(), Fail> {
     assert_eq!(rt; (none.rows(), none.columns().len()), (2, 0));
     Ok(())
 }
+
+// A column is written as these buffers, and so many of its slots are null.
+fn assert_written(
+    rt: &impl Abort,
+    alloc: Global,
+    column: &Column,
+    nulls: usize,
+    wanted: &[&[u8]],
+) -> Result<(), Fail> {
+    assert_eq!(rt;
+        (column.null_count(), column.buffer_count()),
+        (nulls, wanted.len())
+    );
+    assert!(rt; column.may_have_nulls() || nulls == 0);
+    let Some(_) = column.texts_length() else {
+        return Ok(());
+    };
+    for index in 0..column.buffer_count() {
+        let mut out = vec![in alloc; 9]?;
+        column.append_buffer(index, &mut out)?;
+        assert_eq!(rt; &out[1..], wanted[index], "buffer {index}");
+        assert_eq!(rt; column.buffer_length(index), Some(wanted[index].len()));
+    }
+    Ok(())
+}
+
+// Of three numbers the first two are not written, and the bit of the second is not either.
+#[test]
+fn written_integers(rt: HostRuntime) -> Result<(), Fail> {
+    let alloc = rt.alloc();
+    let validity = Some(buffer(alloc, &[0x05])?);
+    let cells = Integers::new(
+        IntegerType::Int16,
+        validity,
+        buffer(alloc, &[5, 0, 6, 0, 7, 0])?,
+        3,
+    )?;
+    let column = Column::new(Layout::Integers(cells));
+    assert_written(&rt, alloc, &column, 1, &[&[0x05], &[5, 0, 6, 0, 7, 0]])?;
+    assert_written(
+        &rt,
+        alloc,
+        &column.slice(1, 3)?,
+        1,
+        &[&[0x02], &[6, 0, 7, 0]],
+    )?;
+    assert_written(&rt, alloc, &column.slice(2, 3)?, 0, &[&[], &[7, 0]])
+}
+
+// More bits than a word has, from the third of a byte on, and the bits of three bytes for fewer.
+#[test]
+fn written_bools(rt: HostRuntime) -> Result<(), Fail> {
+    let alloc = rt.alloc();
+    let cells = Bools::new(None, buffer(alloc, &[0xff; 9])?, 72)?;
+    let column = Column::new(Layout::Bools(cells)).slice(3, 70)?;
+    let wanted = [0xff, 0xff, 0xff, 0xff, 0xff, 0xff, 0xff, 0xff, 0x07];
+    assert_written(&rt, alloc, &column, 0, &[&[], &wanted])?;
+    let cells = Bools::new(None, buffer(alloc, &[0x0b])?, 4)?;
+    let column = Column::new(Layout::Bools(cells)).slice(1, 4)?;
+    assert_written(&rt, alloc, &column, 0, &[&[], &[0x05]])
+}
+
+#[test]
+fn written_decimals(rt: HostRuntime) -> Result<(), Fail> {
+    let alloc = rt.alloc();
+    let mut values = [0; 32];
+    values[16] = 1;
+    let cells = Decimals::new(None, buffer(alloc, &values)?, 2)?;
+    let column = Column::new(Layout::Decimals(cells)).slice(1, 2)?;
+    let wanted = [1, 0, 0, 0, 0, 0, 0, 0, 0, 0, 0, 0, 0, 0, 0, 0];
+    assert_written(&rt, alloc, &column, 0, &[&[], &wanted])
+}
+
+// The bytes of a null are not written, nor those in front of a slice.
+#[test]
+fn written_texts(rt: HostRuntime) -> Result<(), Fail> {
+    let alloc = rt.alloc();
+    let offsets = buffer(alloc, &[0, 0, 0, 0, 1, 0, 0, 0, 2, 0, 0, 0, 4, 0, 0, 0])?;
+    let validity = Some(buffer(alloc, &[0x05])?);
+    let texts = Texts::new(validity, offsets, buffer(alloc, b"abcd")?, 3)?;
+    let column = Column::new(Layout::Texts(texts));
+    let offsets = [0, 0, 0, 0, 1, 0, 0, 0, 1, 0, 0, 0, 3, 0, 0, 0];
+    assert_written(&rt, alloc, &column, 1, &[&[0x05], &offsets, b"acd"])?;
+    let offsets = [0, 0, 0, 0, 0, 0, 0, 0, 2, 0, 0, 0];
+    assert_written(
+        &rt,
+        alloc,
+        &column.slice(1, 3)?,
+        1,
+        &[&[0x02], &offsets, b"cd"],
+    )
+}
+
+// Indices are written as the texts that they lead to, and as null where those are.
+#[test]
+fn written_indices(rt: HostRuntime) -> Result<(), Fail> {
+    let alloc = rt.alloc();
+    let offsets = buffer(alloc, &[0, 0, 0, 0, 1, 0, 0, 0, 1, 0, 0, 0])?;
+    let validity = Some(buffer(alloc, &[0x01])?);
+    let values = Texts::new(validity, offsets, buffer(alloc, b"x")?, 2)?;
+    let dictionary = Arc::new(alloc, Dictionary::new(alloc).extended(alloc, values)?)?;
+    let indices = buffer(alloc, &[0, 1, 0])?;
+    let cells = Indices::new(IntegerType::Int8, None, indices, dictionary, 3)?;
+    let column = Column::new(Layout::Indices(cells));
+    let offsets = [0, 0, 0, 0, 1, 0, 0, 0, 1, 0, 0, 0, 2, 0, 0, 0];
+    assert_written(&rt, alloc, &column, 1, &[&[0x05], &offsets, b"xx"])
+}

@@ -159,8 +159,8 @@ impl Column {
         }
     }
 
-    // How many bytes all texts have, where an offset can name them.
-    fn texts_length(&self) -> Option<usize>
+    /// How many bytes all texts have, where an offset can name them.
+    pub(crate) fn texts_length(&self) -> Option<usize>
         ensures { SomeIff result (HasShortTexts self.now) (length (texts_joined (values_of self.now))) }
     {
         let mut length = 0;
