@@ -2,7 +2,8 @@
 use Rattle.std.proofs.Common.{◌≡◌, ℕ, zero, suc, Bool, true, inl, inr, List, [], ◌∷◌, ◌++◌, Option, Some, subst, sym}
 use Rattle.std.specs.Prelude.{All}
 use Rattle.std.proofs.lemmas.List.Elements.{All-nil, All-cons, All-head, All-tail}
-use Rattle.grammar.specs.Rule.{Rule, one, empty, both, either, many, make, opened, Language, Spells, Nowhere, Nested, Any}
+use Rattle.grammar.specs.Rule.{Rule, one, empty, both, either, many, make, opened, Language, Spells, Nowhere, Nested}
+use Rattle.grammar.specs.Rule.{Any}
 
 -- the value of each sentence of L with such tokens is such
 abbrev pub Keeps : {T A : Type 0} → (T → Type 0) → Language T A → (A → Type 0) → Type 0

@@ -10,4 +10,5 @@ returns-clause-places c =
     placed c.read_tokens.result c.args.sql.now (kept c.read_tokens.result c.args.sql.now c.read_tokens.ensures)
 
 pub returns-clause-names : goal.returns-clause-names
-returns-clause-names c = says_names c.read_tokens.result c.args.sql.now c.utf8.sql (kept c.read_tokens.result c.args.sql.now c.read_tokens.ensures)
+returns-clause-names c = says_names c.read_tokens.result c.args.sql.now c.utf8.sql
+    (kept c.read_tokens.result c.args.sql.now c.read_tokens.ensures)
