@@ -179,7 +179,8 @@ fn next_catalog(alloc: Global, snapshot: &Snapshot, put: Put) -> Result<CatalogV
 ///
 /// Old tables and batches are shared: a put copies a handle for each table, and an append at most
 /// 255 handles of batches and one for each 256 batches before those. Values are looked at for nulls
-/// only in columns that take none, and for long texts only in columns of texts.
+/// only in columns that take none but may have some, and for long texts only in columns of texts. Of a
+/// dictionary, the values count that stand in rows.
 ///
 /// # Errors
 ///
