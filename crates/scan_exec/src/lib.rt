@@ -9,3 +9,6 @@ pub mod scan;
 mod tree;
 
 pub use crate::scan::Scan;
+
+#[cfg(test)]
+mod tests;
