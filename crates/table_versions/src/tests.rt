@@ -338,6 +338,7 @@ fn two_columns_of_one_name(rt: HostRuntime) -> Result<(), Fail> {
     let alloc = rt.alloc();
     for nullable in [true, false] {
         let put = put_two(alloc, nullable)?;
+        assert_eq!(rt; put.rows(), 1);
         let fault = apply(alloc, &bare(alloc, 0)?, put).err();
         assert_eq!(rt; fault, Some(Fault::SchemaMismatch));
     }
