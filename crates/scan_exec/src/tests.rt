@@ -267,7 +267,10 @@ fn ranges(rt: HostRuntime) -> Result<(), Fail> {
         (5, 100, [60].as_slice(), 1),
     ] {
         let found = scanned(alloc, &query, from, to)?;
-        assert_eq!(rt; (found.0.as_slice(), found.1, found.2), (values, opened, opened));
+        assert_eq!(rt;
+            (found.0.as_slice(), found.1, found.2),
+            (values, opened, opened)
+        );
     }
     Ok(())
 }
@@ -279,6 +282,9 @@ fn columns(rt: HostRuntime) -> Result<(), Fail> {
     let filter = equal(alloc, "a", 3)?;
     let query = query(alloc, &["b", "a", "a"], Some(filter))?;
     let found = scanned(alloc, &query, 0, 6)?;
-    assert_eq!(rt; (found.0.as_slice(), found.1, found.2), ([-1, 3, 3].as_slice(), 3, 1));
+    assert_eq!(rt;
+        (found.0.as_slice(), found.1, found.2),
+        ([-1, 3, 3].as_slice(), 3, 1)
+    );
     Ok(())
 }
