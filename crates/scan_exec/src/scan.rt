@@ -66,7 +66,6 @@ impl<'a> Scan<'a> {
         from: usize,
         to: usize,
     ) -> Result<Scan<'a>, AllocError>
-        requires typed { IsTyped (plan_of plan.now) }
         requires over { IsOver (plan_of plan.now).tree (tables_of catalog.now) }
         ensures { IfOk result (λ scan. scan ≡ record {
           left = plan_rows (plan_of plan.now) (tables_of catalog.now) from to;
@@ -76,12 +75,12 @@ impl<'a> Scan<'a> {
           refused = None;
         }) }
     {
-        let Some(table) = catalog.get(table_name(&plan.plan)) else {
+        let Some(table) = catalog.get(table_name(plan.plan())) else {
             unreachable!()
         };
         let numbers = numbers_below(alloc, table.schema().fields.len())?;
-        let read = picked(alloc, table_columns(&plan.plan), numbers.as_slice())?;
-        let shown = picked(alloc, output_columns(&plan.output), read.as_slice())?;
+        let read = picked(alloc, table_columns(plan.plan()), numbers.as_slice())?;
+        let shown = picked(alloc, output_columns(plan.output()), read.as_slice())?;
         let end = to.min(table.rows()).max(from);
         Ok(Scan {
             plan,
@@ -108,7 +107,7 @@ impl<'a> Scan<'a> {
         }
         let Some(run) = self
             .cursor
-            .next_run(&self.plan.plan, self.read.as_slice(), self.table)
+            .next_run(self.plan.plan(), self.read.as_slice(), self.table)
         else {
             return Ok(None);
         };
