@@ -1,12 +1,12 @@
 -- A cursor's steps over the rows of a table.
-use Rattle.std.proofs.Common.{◌≡◌, ◌≤◌, ◌<◌, ℕ, ◌+◌, ◌-◌, ◌==◌, Bool, true, if◌then◌else◌, List, [], ◌++◌, length, take, drop, max, min, slice_get, Some, refl, sym, ap, subst, ◌∙◌, ◌⊎◌, inl, inr, arith}
-use Rattle.std.specs.List.{flat_map, filter}
+use Rattle.std.proofs.Common.{◌≡◌, ◌≤◌, ◌<◌, ℕ, ◌+◌, ◌-◌, ◌==◌, Bool, if◌then◌else◌, List, ◌++◌, length, take, drop, max, min, slice_get, Some, sym, ap, subst, ◌∙◌, ◌⊎◌, inl, inr, arith}
+use Rattle.std.specs.List.{filter}
 use Rattle.std.proofs.lemmas.Bool.{cases_eq, eq-eqb, ne_eqb}
 use Rattle.std.proofs.lemmas.List.Elements.{filter-append}
 use Rattle.arrays.specs.Batch.{BatchAt, rows_of, cut_batch}
 use Rattle.arrays.specs.Typed.{AreOfTypes}
 use Rattle.table_versions.specs.Stored.{TableAt, table_of}
-use Rattle.table_versions.specs.Standing.{rows_before, StandsAt, BatchesAreRows}
+use Rattle.table_versions.specs.Standing.{rows_before, BatchesAreRows}
 use Rattle.table_versions.specs.Table.{Row}
 use Rattle.typed_plan.specs.Joined.{rows_between}
 use Rattle.typed_plan.proofs.Ranges.{rows_between-append}
@@ -115,7 +115,7 @@ pub placed_then : BatchesAreRows → (table : TableAt) (mid counted : Cursor) (b
     counted ≡ record mid { opened = mid.opened + (if mid.at == max mid.start mid.from then 1 else 0) } →
     last ≡ min batch.rows (mid.to - mid.start) → IsFirstRun held batch (mid.at - mid.start) last start end →
     IsPlaced table (record counted { at = counted.start + end })
-placed_then standing table mid counted batch held last start end there is more high e l run =
+placed_then standing table mid noted batch held last start end there is more high e l run =
     let its = subst (λ (n : ℕ). IsFirstRun held batch (mid.at - mid.start) n start end) l run in
     subst (λ (x : Cursor). IsPlaced table (record x { at = x.start + end })) (sym e) (placed_after standing table mid batch there is more high held start end its)
 

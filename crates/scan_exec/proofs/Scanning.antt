@@ -1,6 +1,6 @@
 -- What a scan gives of the rows of a run.
-use Rattle.std.proofs.Common.{◌≡◌, ◌≢◌, ◌≤◌, ◌<◌, ℕ, ◌+◌, ◌-◌, Bool, true, List, [], ◌∷◌, ◌++◌, length, map, take, drop, zero, suc, nat_lt, slice_get, option_map, unwrap_or, Option, Some, None, Ok, Err, refl, sym, ap, subst, ◌∙◌, arith, length-append}
-use Rattle.std.specs.List.{filter, range_with_len}
+use Rattle.std.proofs.Common.{◌≡◌, ◌≢◌, ◌≤◌, ◌<◌, ℕ, ◌-◌, true, List, [], ◌∷◌, ◌++◌, length, map, take, drop, zero, suc, nat_lt, slice_get, option_map, unwrap_or, Option, Some, None, Ok, Err, refl, sym, ap, subst, ◌∙◌, arith, length-append}
+use Rattle.std.specs.List.{range_with_len}
 use Rattle.std.proofs.lemmas.Bool.{ltb-true}
 use Rattle.std.proofs.lemmas.List.{length-map, map-append, take-map, drop-map}
 use Rattle.std.proofs.lemmas.Option.{slice_get-map}
@@ -27,7 +27,7 @@ use Rattle.scan_exec.specs.Chosen.{are_within, numbers_at, type_at, listed, colu
 use Rattle.scan_exec.specs.Given.{tree_columns, output_columns, cells, holds, shown, given}
 use Rattle.scan_exec.specs.Opened.{batches_in}
 use Rattle.scan_exec.specs.Placed.{IsPlaced, Looks, rows_ahead}
-use Rattle.scan_exec.specs.Reading.{IsRead, IsScan}
+use Rattle.scan_exec.specs.Reading.{IsScan}
 use Rattle.scan_exec.specs.Scan.{ScanAt, AreOf, GivesRows, Gives, plan_types}
 use Rattle.scan_exec.proofs.Cells.{cells_read, cells_taken}
 use Rattle.scan_exec.proofs.Opening.{in_longer}

@@ -1,5 +1,5 @@
 -- What a plan makes of the rows of its table.
-use Rattle.std.specs.Prelude.{ℕ, Bool, true, ◌&&◌, List, map}
+use Rattle.std.specs.Prelude.{Bool, true, ◌&&◌, List, map}
 use Rattle.std.specs.List.{filter}
 use Rattle.scan_base.specs.Predicate.{cell_in}
 use Rattle.table_versions.specs.Table.{Name, Row}

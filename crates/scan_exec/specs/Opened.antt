@@ -1,5 +1,5 @@
 -- Which batches of a table a range of its rows touches.
-use Rattle.std.specs.Prelude.{ℕ, ◌+◌, Bool, if◌then◌else◌, List, [], ◌∷◌, nat_lt, max, min}
+use Rattle.std.specs.Prelude.{ℕ, ◌+◌, if◌then◌else◌, List, [], ◌∷◌, nat_lt, max, min}
 use Rattle.arrays.specs.Batch.{BatchAt}
 
 -- how many of these batches, the first of which begins at row `start`, have one of the rows `from` up to, not

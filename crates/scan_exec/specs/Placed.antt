@@ -1,5 +1,5 @@
 -- Where a cursor stands among the rows of a table, and how it goes on.
-use Rattle.std.specs.Prelude.{◌≡◌, ◌≤◌, ◌<◌, ℕ, Bool, List, [], ◌++◌, length, Option, Some, None}
+use Rattle.std.specs.Prelude.{◌≡◌, ◌≤◌, ◌<◌, Bool, List, [], ◌++◌, length, Option, Some, None}
 use Rattle.std.specs.List.{filter}
 use Rattle.arrays.specs.Batch.{rows_of, cut_batch}
 use Rattle.arrays.specs.Typed.{AreOfTypes}

@@ -1,4 +1,4 @@
-use Rattle.std.proofs.Common.{take, ap, ◌∙◌}
+use Rattle.std.proofs.Common.{take, ap}
 use Rattle.arrays.specs.Column.{ColumnAt}
 use Rattle.scan_exec.specs.Chosen.{columns_at}
 use Rattle.scan_exec.proofs.Cells.{columns_more, sliced, long_more}

@@ -1,8 +1,7 @@
-use Rattle.std.proofs.Common.{◌≡◌, ◌<◌, ◌≤◌, ℕ, List, length, max, min, true, Option, Some, None, refl, sym, ap, subst, ◌∙◌, arith, rules}
+use Rattle.std.proofs.Common.{◌≡◌, ℕ, List, length, max, min, true, Option, Some, None, sym, ap, subst, ◌∙◌, arith}
 use Rattle.std.specs.List.{range_with_len}
 use Rattle.std.specs.Option.{option_copied}
 use Rattle.std.proofs.lemmas.List.FromFn.{length-range_with_len}
-use Rattle.arrays.specs.Batch.{BatchAt}
 use Rattle.arrow_schema.specs.declared.schema.Schema.{Schema}
 use Rattle.table_versions.specs.Database.{table_at}
 use Rattle.table_versions.specs.Stored.{TableAt, CatalogAt, table_of, tables_of}
