@@ -19,3 +19,5 @@ mod lies;
 mod tests;
 #[cfg(test)]
 mod vectors;
+#[cfg(test)]
+mod writing;
