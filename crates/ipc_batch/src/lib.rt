@@ -23,3 +23,5 @@ mod tests;
 mod vector_tests;
 #[cfg(test)]
 mod vectors;
+#[cfg(test)]
+mod writing;
