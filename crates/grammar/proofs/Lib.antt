@@ -5,3 +5,4 @@ pub mod Lawfulness
 pub mod Whole
 pub mod Deep
 pub mod Exact
+pub mod Keeping

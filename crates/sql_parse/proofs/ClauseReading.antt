@@ -1,20 +1,25 @@
 -- Reading the clauses is these steps.
-use Rattle.std.proofs.Common.{◌≡◌, ℕ, Bool, true, false, cond, ◌||◌, List, [], ◌∷◌, ◌++◌, Some, None, Ok, refl, ◌∙◌, ap, sym}
+use Rattle.std.proofs.Common.{◌≡◌, ℕ, Bool, true, false, cond, ◌||◌, List, [], ◌∷◌, ◌++◌, Some, None, Ok, refl, ◌∙◌}
+use Rattle.std.proofs.Common.{ap, sym}
 use Rattle.sql_text.specs.declared.word.Keyword.TheVariants as word
 use Rattle.sql_text.specs.declared.symbol.Symbol.TheVariants as symbol
 use Rattle.grammar.specs.Rule.{many}
 use Rattle.grammar.specs.Reading.{reads, read, begins, starts, well_made, nullable, is_flat}
 use Rattle.grammar.proofs.Deep.{flat_alike}
-use Rattle.sql_parse.specs.declared.tree.ColumnName.{ColumnName}
-use Rattle.sql_parse.specs.declared.tree.SelectItem.{SelectItem}
-use Rattle.sql_parse.specs.declared.tree.Equality.{Equality}
-use Rattle.sql_parse.specs.declared.tree.Join.{Join}
-use Rattle.sql_parse.specs.Tokens.{Mark, is_word, is_symbol, is_name, same_word, same_symbol}
+use Rattle.sql_query.specs.declared.query.ColumnName.{ColumnName}
+use Rattle.sql_query.specs.declared.query.SelectItem.{SelectItem}
+use Rattle.sql_query.specs.declared.query.Equality.{Equality}
+use Rattle.sql_query.specs.declared.query.Join.{Join}
+use Rattle.sql_text.specs.Words.{is_name}
+use Rattle.sql_parse.specs.Tokens.{Mark, is_word, is_symbol, same_word, same_symbol}
 use Rattle.sql_parse.specs.Answers.{seen, ◌>>=◌}
-use Rattle.sql_parse.specs.Productions.{Of, name, column, alias, selection, item, list, place, equal, join, group, filter, source, ending, query, maybe, a_word, a_symbol, ◌⊳◌}
+use Rattle.sql_parse.specs.Productions.{Of, name, column, alias, selection, item, list, place, equal, join, group}
+use Rattle.sql_parse.specs.Productions.{filter, source, ending, query, maybe, a_word, a_symbol, ◌⊳◌}
 use Rattle.sql_parse.specs.Factored.{factor}
 use Rattle.sql_parse.specs.Steps.{at, token_at, column_at}
-use Rattle.sql_parse.specs.ClauseSteps.{alias_at, counted_at, selection_at, item_at, items_at, list_at, place_at, equal_at, equals_at, joined_at, join_at, joins_at, source_at, columns_at, group_at, filter_at, ending_at, query_at}
+use Rattle.sql_parse.specs.ClauseSteps.{alias_at, counted_at, selection_at, item_at, items_at, list_at, place_at}
+use Rattle.sql_parse.specs.ClauseSteps.{equal_at, equals_at, joined_at, join_at, joins_at, source_at, columns_at}
+use Rattle.sql_parse.specs.ClauseSteps.{group_at, filter_at, ending_at, query_at}
 use Rattle.sql_parse.proofs.Whole.{one_more}
 use Rattle.sql_parse.proofs.Steps.{Nest, flat, name_same, column_same, pred_same, nil_after, nothing_after}
 
@@ -26,7 +31,8 @@ cond_or : {A : Type 0} (a b : Bool) (x y z : A) → cond (a || b) (cond a x y) z
 cond_or true b x y z = refl
 cond_or false b x y z = refl
 
-alias_starts : (ts : List Mark) → begins (starts (maybe (a_word word.As) ⊳ name)) ts ≡ (at (is_word word.As) ts || at is_name ts)
+alias_starts : (ts : List Mark) → begins (starts (maybe (a_word word.As) ⊳ name)) ts ≡
+    (at (is_word word.As) ts || at is_name ts)
 unfolding name at begins
 alias_starts [] = refl
 alias_starts (t ∷ ts) = or_false (is_word word.As t.0) (is_name t.0)
@@ -54,9 +60,13 @@ equal_same D ts = simp (flat, column_same)
 -- ---- what is repeated
 
 -- what stands behind those in front, one by one
-more : {A : Type 0} (g : Of A) → well_made g ≡ true → nullable g ≡ false → is_flat g ≡ true → (front : List A) (ts : List Mark) →
-    (seen (reads None (many g) ts) >>= λ xs. Ok (front ++ xs.0, xs.1)) ≡ cond (begins (starts g) ts) (seen (reads None g ts) >>= λ x. (seen (reads None (many g) x.1) >>= λ xs. Ok ((front ++ x.0 ∷ []) ++ xs.0, xs.1))) (Ok (front, ts))
-more {A} g w n f front ts = rw (sym (alike ts), one_more g w n 0 ts) (simp (flat, nil_after, nothing_after, alike, alone))
+more : {A : Type 0} (g : Of A) → well_made g ≡ true → nullable g ≡ false → is_flat g ≡ true →
+    (front : List A) (ts : List Mark) →
+    (seen (reads None (many g) ts) >>= λ xs. Ok (front ++ xs.0, xs.1)) ≡ cond (begins (starts g) ts)
+    (seen (reads None g ts) >>= λ x.
+    (seen (reads None (many g) x.1) >>= λ xs. Ok ((front ++ x.0 ∷ []) ++ xs.0, xs.1))) (Ok (front, ts))
+more {A} g w n f front ts = rw (sym (alike ts), one_more g w n 0 ts)
+    (simp (flat, nil_after, nothing_after, alike, alone))
   where
     alike : (us : List Mark) → reads (Some (read factor 0)) (many g) us ≡ reads None (many g) us
     alike us = flat_alike (Some (read factor 0)) None (many g) f us
@@ -72,7 +82,10 @@ items_flat : is_flat (a_symbol symbol.Comma ⊳ item) ≡ true
 unfolding item selection alias column name
 items_flat = refl
 
-pub items_step : (front : List SelectItem) (ts : List Mark) → items_at front ts ≡ cond (at (is_symbol symbol.Comma) ts) (token_at (is_symbol symbol.Comma) ts >>= λ t. item_at t.1 >>= λ x. items_at (front ++ x.0 ∷ []) x.1) (Ok (front, ts))
+pub items_step : (front : List SelectItem) (ts : List Mark) →
+    items_at front ts ≡ cond (at (is_symbol symbol.Comma) ts)
+    (token_at (is_symbol symbol.Comma) ts >>= λ t. item_at t.1 >>= λ x. items_at (front ++ x.0 ∷ []) x.1)
+    (Ok (front, ts))
 unfolding items_at token_at at
 items_step front ts = more (a_symbol symbol.Comma ⊳ item) items_made refl items_flat front ts ∙ simp (flat, item_same)
 
@@ -84,9 +97,13 @@ columns_flat : is_flat (a_symbol symbol.Comma ⊳ column) ≡ true
 unfolding column name
 columns_flat = refl
 
-pub columns_step : (front : List ColumnName) (ts : List Mark) → columns_at front ts ≡ cond (at (is_symbol symbol.Comma) ts) (token_at (is_symbol symbol.Comma) ts >>= λ t. column_at t.1 >>= λ x. columns_at (front ++ x.0 ∷ []) x.1) (Ok (front, ts))
+pub columns_step : (front : List ColumnName) (ts : List Mark) →
+    columns_at front ts ≡ cond (at (is_symbol symbol.Comma) ts)
+    (token_at (is_symbol symbol.Comma) ts >>= λ t. column_at t.1 >>= λ x. columns_at (front ++ x.0 ∷ []) x.1)
+    (Ok (front, ts))
 unfolding columns_at token_at at
-columns_step front ts = more (a_symbol symbol.Comma ⊳ column) columns_made refl columns_flat front ts ∙ simp (flat, column_same)
+columns_step front ts = more (a_symbol symbol.Comma ⊳ column) columns_made refl columns_flat front ts
+    ∙ simp (flat, column_same)
 
 equals_made : well_made (a_word word.And ⊳ equal) ≡ true
 unfolding equal column name same_word same_symbol
@@ -96,7 +113,9 @@ equals_flat : is_flat (a_word word.And ⊳ equal) ≡ true
 unfolding equal column name
 equals_flat = refl
 
-pub equals_step : (front : List Equality) (ts : List Mark) → equals_at front ts ≡ cond (at (is_word word.And) ts) (token_at (is_word word.And) ts >>= λ t. equal_at t.1 >>= λ x. equals_at (front ++ x.0 ∷ []) x.1) (Ok (front, ts))
+pub equals_step : (front : List Equality) (ts : List Mark) →
+    equals_at front ts ≡ cond (at (is_word word.And) ts)
+    (token_at (is_word word.And) ts >>= λ t. equal_at t.1 >>= λ x. equals_at (front ++ x.0 ∷ []) x.1) (Ok (front, ts))
 unfolding equals_at token_at at
 equals_step front ts = more (a_word word.And ⊳ equal) equals_made refl equals_flat front ts ∙ simp (flat, equal_same)
 
@@ -121,7 +140,9 @@ join_flat : is_flat join ≡ true
 unfolding join equal place alias column name
 join_flat = refl
 
-pub joins_step : (front : List Join) (ts : List Mark) → joins_at front ts ≡ cond (at (is_word word.Inner) ts || at (is_word word.Join) ts) (join_at ts >>= λ x. joins_at (front ++ x.0 ∷ []) x.1) (Ok (front, ts))
+pub joins_step : (front : List Join) (ts : List Mark) →
+    joins_at front ts ≡ cond (at (is_word word.Inner) ts || at (is_word word.Join) ts)
+    (join_at ts >>= λ x. joins_at (front ++ x.0 ∷ []) x.1) (Ok (front, ts))
 unfolding joins_at
 joins_step front ts = more join join_made join_filled join_flat front ts ∙ simp (join_same, join_starts)
 

@@ -1,5 +1,6 @@
 -- A test of all kinds of tokens holds at each.
-use Rattle.std.proofs.Common.{◌≡◌, ℕ, zero, suc, Bool, true, false, ◌&&◌, ◌||◌, not, List, [], ◌∷◌, Option, Some, None, refl}
+use Rattle.std.proofs.Common.{◌≡◌, ℕ, zero, suc, Bool, true, false, ◌&&◌, ◌||◌, not, List, [], ◌∷◌, Option, Some}
+use Rattle.std.proofs.Common.{None, refl}
 use Rattle.std.specs.List.{list_all}
 use Rattle.sql_text.specs.declared.word.Keyword.{Keyword}
 use Rattle.sql_text.specs.declared.word.Keyword.TheVariants as word
@@ -16,7 +17,8 @@ nth [] n = None
 nth (k ∷ ks) zero = Some k
 nth (k ∷ ks) (suc n) = nth ks n
 
-holds_at : (p : TokenKind → Bool) (ks : List TokenKind) (n : ℕ) (k : TokenKind) → list_all p ks ≡ true → nth ks n ≡ Some k → p k ≡ true
+holds_at : (p : TokenKind → Bool) (ks : List TokenKind) (n : ℕ) (k : TokenKind) → list_all p ks ≡ true →
+    nth ks n ≡ Some k → p k ≡ true
 holds_at p [] n k h e = cc
 holds_at p (j ∷ ks) zero k h e = let w : j ≡ k = cc in let a = and-left (p j) (list_all p ks) h in rw (← w) a
 holds_at p (j ∷ ks) (suc n) k h e = holds_at p ks n k (and-right (p j) (list_all p ks) h) e

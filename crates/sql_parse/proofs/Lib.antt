@@ -6,3 +6,4 @@ pub mod ClauseReading
 pub mod Printed
 pub mod Answering
 pub mod OneAnswer
+pub mod Named

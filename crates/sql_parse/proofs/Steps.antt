@@ -1,24 +1,32 @@
 -- Reading by the grammar is these steps.
-use Rattle.std.proofs.Common.{◌≡◌, ℕ, zero, suc, ◌-◌, Bool, true, false, cond, List, [], ◌∷◌, ◌++◌, Option, Some, None, Ok, Err, refl, ◌∙◌, ap, sym, append_assoc, arith}
+use Rattle.std.proofs.Common.{◌≡◌, ℕ, zero, suc, ◌-◌, Bool, true, false, cond, List, [], ◌∷◌, ◌++◌, Option, Some}
+use Rattle.std.proofs.Common.{None, Ok, Err, refl, ◌∙◌, ap, sym, append_assoc, arith}
 use Rattle.std.specs.Prelude.{◌==◌, ℤ}
 use Rattle.sql_text.specs.Values.{number_of}
 use Rattle.std.proofs.lemmas.Bool.{ne_eqb}
 use Rattle.sql_text.specs.declared.word.Keyword.TheVariants as word
 use Rattle.sql_text.specs.declared.symbol.Symbol.TheVariants as symbol
-use Rattle.grammar.specs.Reading.{Outcome, Read, Stuck, Over, Reader, and_then, kept, reads, read, entered, begins, starts, well_made}
-use Rattle.sql_parse.specs.Tokens.{Mark, is_word, is_symbol, is_name, same_word, same_symbol}
+use Rattle.grammar.specs.Reading.{Outcome, Read, Stuck, Over, Reader, and_then, kept, reads, read, entered, begins}
+use Rattle.grammar.specs.Reading.{starts, well_made}
+use Rattle.sql_text.specs.Words.{is_name}
+use Rattle.sql_parse.specs.Tokens.{Mark, is_word, is_symbol, same_word, same_symbol}
 use Rattle.sql_parse.specs.Answers.{Answer, seen, ◌>>=◌}
 use Rattle.scan_base.specs.declared.predicate.Operand.{Operand}
 use Rattle.scan_base.specs.Predicate.{conjunction, disjunction, negation}
 use Rattle.grammar.specs.Rule.{many, make}
 use Rattle.grammar.proofs.Deep.{flat_alike}
-use Rattle.sql_parse.specs.declared.tree.ColumnName.{ColumnName}
-use Rattle.sql_parse.specs.Productions.{Condition, name, column, minus, digits, number, string, operand, compare, negated, truth_value, conj, pred, inner, a_word, a_symbol, ◌⊳◌, ◌⊲◌}
+use Rattle.sql_query.specs.declared.query.ColumnName.{ColumnName}
+use Rattle.sql_parse.specs.Productions.{Condition, name, column, minus, digits, number, string, operand, compare}
+use Rattle.sql_parse.specs.Productions.{negated, truth_value, conj, pred, inner, a_word, a_symbol, ◌⊳◌, ◌⊲◌}
 use Rattle.sql_parse.specs.Factored.{compared, nulled, ranged, among, tail, forms, primary, test, factor}
-use Rattle.sql_parse.specs.Steps.{at, token_at, name_at, column_at, minus_at, numbered, digits_at, number_at, operand_at, compare_at, negated_at, truth_at, compared_at, nulled_at, ranged_at, operands_at, among_at, tail_at, factor_at, ands_at, conj_at, ors_at, pred_at, inside_at, primary_at, test_at, negation_at}
+use Rattle.sql_parse.specs.Steps.{at, token_at, name_at, column_at, minus_at, numbered, digits_at, number_at}
+use Rattle.sql_parse.specs.Steps.{operand_at, compare_at, negated_at, truth_at, compared_at, nulled_at, ranged_at}
+use Rattle.sql_parse.specs.Steps.{operands_at, among_at, tail_at, factor_at, ands_at, conj_at, ors_at, pred_at}
+use Rattle.sql_parse.specs.Steps.{inside_at, primary_at, test_at, negation_at}
 use Rattle.sql_parse.proofs.Whole.{one_more}
 
-pub seen_then : {A B : Type 0} (o : Outcome Mark A) (f : A → Reader Mark B) → seen (and_then o f) ≡ (seen o >>= λ p. seen (f p.0 p.1))
+pub seen_then : {A B : Type 0} (o : Outcome Mark A) (f : A → Reader Mark B) →
+    seen (and_then o f) ≡ (seen o >>= λ p. seen (f p.0 p.1))
 unfolding seen
 seen_then (Read v ts) f = refl
 seen_then (Stuck ts) f = refl
@@ -32,11 +40,13 @@ pub seen_read : {A : Type 0} (v : A) (ts : List Mark) → seen (Read v ts) ≡ O
 unfolding seen
 seen_read v ts = refl
 
-pub then_then : {A B C : Type 0} (o : Answer A) (f : A × List Mark → Answer B) (g : B × List Mark → Answer C) → ((o >>= f) >>= g) ≡ (o >>= λ p. (f p >>= g))
+pub then_then : {A B C : Type 0} (o : Answer A) (f : A × List Mark → Answer B) (g : B × List Mark → Answer C) →
+    ((o >>= f) >>= g) ≡ (o >>= λ p. (f p >>= g))
 then_then (Ok p) f g = refl
 then_then (Err e) f g = refl
 
-pub cond_then : {A B : Type 0} (b : Bool) (o p : Answer A) (g : A × List Mark → Answer B) → ((cond b o p) >>= g) ≡ cond b (o >>= g) (p >>= g)
+pub cond_then : {A B : Type 0} (b : Bool) (o p : Answer A) (g : A × List Mark → Answer B) →
+    ((cond b o p) >>= g) ≡ cond b (o >>= g) (p >>= g)
 cond_then true o p g = refl
 cond_then false o p g = refl
 
@@ -92,15 +102,18 @@ truth_same : (D : Nest) (ts : List Mark) → seen (reads D truth_value ts) ≡ t
 unfolding truth_value truth_at token_at at
 truth_same D ts = simp flat
 
-compared_same : (D : Nest) (a : Operand ColumnName) (ts : List Mark) → (seen (reads D compared ts) >>= λ p. Ok (p.0 a, p.1)) ≡ compared_at a ts
+compared_same : (D : Nest) (a : Operand ColumnName) (ts : List Mark) →
+    (seen (reads D compared ts) >>= λ p. Ok (p.0 a, p.1)) ≡ compared_at a ts
 unfolding compared compared_at
 compared_same D a ts = simp (flat, compare_same, operand_same)
 
-nulled_same : (D : Nest) (a : Operand ColumnName) (ts : List Mark) → (seen (reads D nulled ts) >>= λ p. Ok (p.0 a, p.1)) ≡ nulled_at a ts
+nulled_same : (D : Nest) (a : Operand ColumnName) (ts : List Mark) →
+    (seen (reads D nulled ts) >>= λ p. Ok (p.0 a, p.1)) ≡ nulled_at a ts
 unfolding nulled nulled_at token_at
 nulled_same D a ts = simp (flat, negated_same)
 
-ranged_same : (D : Nest) (n : Bool) (a : Operand ColumnName) (ts : List Mark) → (seen (reads D ranged ts) >>= λ p. Ok (p.0 n a, p.1)) ≡ ranged_at n a ts
+ranged_same : (D : Nest) (n : Bool) (a : Operand ColumnName) (ts : List Mark) →
+    (seen (reads D ranged ts) >>= λ p. Ok (p.0 n a, p.1)) ≡ ranged_at n a ts
 unfolding ranged ranged_at token_at
 ranged_same D n a ts = simp (flat, operand_same)
 
@@ -120,16 +133,28 @@ among_flat : (D : Nest) (ts : List Mark) → reads D among ts ≡ reads None amo
 unfolding among operand column name number minus digits string
 among_flat D ts = flat_alike D None among refl ts
 
-among_first : (n : Bool) (a : Operand ColumnName) (ts : List Mark) → (seen (reads None among ts) >>= λ p. Ok (p.0 n a, p.1)) ≡ among_at n a ts
+among_first : (n : Bool) (a : Operand ColumnName) (ts : List Mark) →
+    (seen (reads None among ts) >>= λ p. Ok (p.0 n a, p.1)) ≡ among_at n a ts
 unfolding among among_at token_at operands_at
 among_first n a ts = simp (flat, operand_same)
 
-among_same : (D : Nest) (n : Bool) (a : Operand ColumnName) (ts : List Mark) → (seen (reads D among ts) >>= λ p. Ok (p.0 n a, p.1)) ≡ among_at n a ts
+among_same : (D : Nest) (n : Bool) (a : Operand ColumnName) (ts : List Mark) →
+    (seen (reads D among ts) >>= λ p. Ok (p.0 n a, p.1)) ≡ among_at n a ts
 among_same D n a ts = rw (among_flat D ts) (among_first n a ts)
 
-tail_same : (D : Nest) (a : Operand ColumnName) (ts : List Mark) → (seen (reads D tail ts) >>= λ p. Ok (p.0 a, p.1)) ≡ tail_at a ts
+tail_same : (D : Nest) (a : Operand ColumnName) (ts : List Mark) →
+    (seen (reads D tail ts) >>= λ p. Ok (p.0 a, p.1)) ≡ tail_at a ts
 unfolding tail tail_at token_at at
-tail_same D a ts = simp (flat, nulled_starts, ranged_starts, among_starts, nulled_same, ranged_same, among_same, compared_same)
+tail_same D a ts = simp (
+  flat,
+  nulled_starts,
+  ranged_starts,
+  among_starts,
+  nulled_same,
+  ranged_same,
+  among_same,
+  compared_same,
+)
 
 forms_same : (D : Nest) (ts : List Mark) → seen (reads D forms ts) ≡ (operand_at ts >>= λ a. tail_at a.0 a.1)
 unfolding forms
@@ -158,7 +183,9 @@ below d = omega arith
 positive : (d : ℕ) → (suc d == 0) ≡ false
 positive d = ne_eqb (suc d) 0 (λ e. omega (arith, e))
 
-inside_same : (d : ℕ) (ts : List Mark) → seen (entered (level d) (is_symbol symbol.LeftParenthesis) (reads (level d) (pred ⊲ a_symbol symbol.RightParenthesis)) ts) ≡ inside_at d ts
+inside_same : (d : ℕ) (ts : List Mark) →
+    seen (entered (level d) (is_symbol symbol.LeftParenthesis)
+    (reads (level d) (pred ⊲ a_symbol symbol.RightParenthesis)) ts) ≡ inside_at d ts
 unfolding inside_at token_at seen
 inside_same zero ts = refl
 inside_same (suc d) ts = rw (positive d, below d) (simp (flat, pred_same))
@@ -171,20 +198,25 @@ test_same : (d : ℕ) (ts : List Mark) → seen (reads (level d) test ts) ≡ te
 unfolding test test_at token_at at
 test_same d ts = simp (flat, primary_same, negated_same, truth_same)
 
-negation_same : (d : ℕ) (ts : List Mark) → seen (entered (level d) (is_word word.Not) (reads (level d) (make negation inner)) ts) ≡ negation_at d ts
+negation_same : (d : ℕ) (ts : List Mark) →
+    seen (entered (level d) (is_word word.Not) (reads (level d) (make negation inner)) ts) ≡ negation_at d ts
 unfolding negation_at token_at factor_at seen
 negation_same zero ts = refl
 negation_same (suc d) ts = rw (positive d, below d) (simp flat)
 
-factor_parts : (d : ℕ) (ts : List Mark) → seen (reads (level d) factor ts) ≡ cond (at (is_word word.Not) ts) (negation_at d ts) (test_at d ts)
+factor_parts : (d : ℕ) (ts : List Mark) →
+    seen (reads (level d) factor ts) ≡ cond (at (is_word word.Not) ts) (negation_at d ts) (test_at d ts)
 unfolding factor at
 factor_parts d ts = simp (flat, negation_same, test_same)
 
-pub factor_step : (d : ℕ) (ts : List Mark) → factor_at d ts ≡ cond (at (is_word word.Not) ts) (negation_at d ts) (test_at d ts)
+pub factor_step : (d : ℕ) (ts : List Mark) →
+    factor_at d ts ≡ cond (at (is_word word.Not) ts) (negation_at d ts) (test_at d ts)
 unfolding factor_at
 factor_step d ts = ap seen (level_read d ts) ∙ factor_parts d ts
 
-pub ands_step : (d : ℕ) (p : Condition) (ts : List Mark) → ands_at d p ts ≡ cond (at (is_word word.And) ts) (token_at (is_word word.And) ts >>= λ t. factor_at d t.1 >>= λ q. ands_at d (conjunction p q.0) q.1) (Ok (p, ts))
+pub ands_step : (d : ℕ) (p : Condition) (ts : List Mark) →
+    ands_at d p ts ≡ cond (at (is_word word.And) ts)
+    (token_at (is_word word.And) ts >>= λ t. factor_at d t.1 >>= λ q. ands_at d (conjunction p q.0) q.1) (Ok (p, ts))
 unfolding ands_at factor_at token_at at same_word
 ands_step d p ts = rw (one_more (a_word word.And ⊳ inner) refl refl d ts) (simp flat)
 
@@ -192,7 +224,9 @@ or_made : well_made (a_word word.Or ⊳ conj) ≡ true
 unfolding conj same_word
 or_made = refl
 
-pub ors_step : (d : ℕ) (p : Condition) (ts : List Mark) → ors_at d p ts ≡ cond (at (is_word word.Or) ts) (token_at (is_word word.Or) ts >>= λ t. conj_at d t.1 >>= λ q. ors_at d (disjunction p q.0) q.1) (Ok (p, ts))
+pub ors_step : (d : ℕ) (p : Condition) (ts : List Mark) →
+    ors_at d p ts ≡ cond (at (is_word word.Or) ts)
+    (token_at (is_word word.Or) ts >>= λ t. conj_at d t.1 >>= λ q. ors_at d (disjunction p q.0) q.1) (Ok (p, ts))
 unfolding ors_at token_at at
 ors_step d p ts = rw (one_more (a_word word.Or ⊳ conj) or_made refl d ts) (simp (flat, conj_same))
 
@@ -207,10 +241,18 @@ operand_made : well_made (a_symbol symbol.Comma ⊳ operand) ≡ true
 unfolding operand column name number minus digits string same_symbol same_word number_of
 operand_made = refl
 
-operands_flat : (D : Nest) (ts : List Mark) → reads D (many (a_symbol symbol.Comma ⊳ operand)) ts ≡ reads None (many (a_symbol symbol.Comma ⊳ operand)) ts
+operands_flat : (D : Nest) (ts : List Mark) →
+    reads D (many (a_symbol symbol.Comma ⊳ operand)) ts ≡ reads None (many (a_symbol symbol.Comma ⊳ operand)) ts
 unfolding operand column name number minus digits string
 operands_flat D ts = flat_alike D None (many (a_symbol symbol.Comma ⊳ operand)) refl ts
 
-pub operands_step : (front : List (Operand ColumnName)) (ts : List Mark) → operands_at front ts ≡ cond (at (is_symbol symbol.Comma) ts) (token_at (is_symbol symbol.Comma) ts >>= λ t. operand_at t.1 >>= λ o. operands_at (front ++ o.0 ∷ []) o.1) (Ok (front, ts))
+pub operands_step : (front : List (Operand ColumnName)) (ts : List Mark) →
+    operands_at front ts ≡ cond (at (is_symbol symbol.Comma) ts)
+    (token_at (is_symbol symbol.Comma) ts >>= λ t. operand_at t.1 >>= λ o. operands_at (front ++ o.0 ∷ []) o.1)
+    (Ok (front, ts))
 unfolding operands_at token_at at
-operands_step front ts = rw (sym (operands_flat (Some (read factor 0)) ts), one_more (a_symbol symbol.Comma ⊳ operand) operand_made refl 0 ts) (simp (flat, operand_same, nil_after, nothing_after, operands_flat))
+operands_step front ts = rw (
+  sym (operands_flat (Some (read factor 0)) ts),
+  one_more (a_symbol symbol.Comma ⊳ operand) operand_made refl 0 ts,
+)
+    (simp (flat, operand_same, nil_after, nothing_after, operands_flat))

@@ -1,4 +1,5 @@
--- How the code says what is read: a value and the tokens behind it, or how many tokens are left at the one that offends.
+-- How the code says what is read: a value and the tokens behind it, or how many tokens are left at the one
+-- that offends.
 use Rattle.std.specs.Prelude.{◌≡◌, ◌≢◌, List, length, Result, Ok, Err}
 use Rattle.grammar.specs.Reading.{Outcome, Read, Stuck, Over}
 use Rattle.sql_parse.specs.declared.refusal.Refusal.{Refusal}

@@ -4,7 +4,8 @@ use Rattle.sql_text.specs.declared.token.TokenKind.{TokenKind}
 use Rattle.sql_parse.specs.declared.tokens.Class.{Class}
 use Rattle.sql_parse.specs.declared.tokens.Class.TheVariants as class
 use Rattle.sql_parse.specs.declared.tokens.Rest.{Rest}
-use Rattle.sql_parse.specs.Tokens.{Mark, marks, is_word, is_symbol, is_name, is_string, is_digits}
+use Rattle.sql_text.specs.Words.{is_name}
+use Rattle.sql_parse.specs.Tokens.{Mark, marks, is_word, is_symbol, is_string, is_digits}
 
 abbrev pub has : Class → TokenKind → Bool
 has (class.Word w) = is_word w

@@ -4,19 +4,20 @@ use Rattle.sql_text.specs.declared.word.Keyword.TheVariants as word
 use Rattle.sql_text.specs.declared.symbol.Symbol.TheVariants as symbol
 use Rattle.grammar.specs.Rule.{many}
 use Rattle.grammar.specs.Reading.{reads}
-use Rattle.sql_parse.specs.declared.tree.ColumnName.{ColumnName}
-use Rattle.sql_parse.specs.declared.tree.Selected.{Selected}
-use Rattle.sql_parse.specs.declared.tree.Selected.TheVariants as selected
-use Rattle.sql_parse.specs.declared.tree.SelectItem.{SelectItem}
-use Rattle.sql_parse.specs.declared.tree.SelectList.{SelectList}
-use Rattle.sql_parse.specs.declared.tree.SelectList.TheVariants as select
-use Rattle.sql_parse.specs.declared.tree.Place.{Place}
-use Rattle.sql_parse.specs.declared.tree.Equality.{Equality}
-use Rattle.sql_parse.specs.declared.tree.Join.{Join}
+use Rattle.sql_query.specs.declared.query.ColumnName.{ColumnName}
+use Rattle.sql_query.specs.declared.query.Expression.{Expression}
+use Rattle.sql_query.specs.declared.query.Expression.TheVariants as expression
+use Rattle.sql_query.specs.declared.query.SelectItem.{SelectItem}
+use Rattle.sql_query.specs.declared.query.Select.{Select}
+use Rattle.sql_query.specs.declared.query.Select.TheVariants as select
+use Rattle.sql_query.specs.declared.query.Place.{Place}
+use Rattle.sql_query.specs.declared.query.Equality.{Equality}
+use Rattle.sql_query.specs.declared.query.Join.{Join}
 use Rattle.sql_parse.specs.declared.refusal.Refusal.{Refusal}
 use Rattle.sql_parse.specs.declared.refusal.Refusal.TheVariants as refusal
-use Rattle.sql_parse.specs.Sentence.{Sentence}
-use Rattle.sql_parse.specs.Tokens.{Mark, is_word, is_symbol, is_name}
+use Rattle.sql_query.specs.Sentence.{Sentence}
+use Rattle.sql_text.specs.Words.{is_name}
+use Rattle.sql_parse.specs.Tokens.{Mark, is_word, is_symbol}
 use Rattle.sql_parse.specs.Answers.{Answer, seen, ◌>>=◌}
 use Rattle.sql_parse.specs.Productions.{Condition, a_word, a_symbol, ◌⊳◌, column, item, equal, join}
 use Rattle.sql_parse.specs.Steps.{at, token_at, name_at, column_at, pred_at}
@@ -32,15 +33,15 @@ alias_at ts =
         Ok (Some n.0, n.1)) else Ok (None, ts))
 
 -- "*" | column, within COUNT
-unfoldable pub counted_at : List Mark → Answer Selected
+unfoldable pub counted_at : List Mark → Answer Expression
 counted_at ts =
     if at (is_symbol symbol.Asterisk) ts then (do
       t ← token_at (is_symbol symbol.Asterisk) ts
-      Ok (selected.CountRows, t.1)) else (do
+      Ok (expression.CountRows, t.1)) else (do
         c ← column_at ts
-        Ok (selected.Count c.0, c.1))
+        Ok (expression.Count c.0, c.1))
 
-unfoldable pub selection_at : List Mark → Answer Selected
+unfoldable pub selection_at : List Mark → Answer Expression
 selection_at ts =
     if at (is_word word.Count) ts then (do
       t ← token_at (is_word word.Count) ts
@@ -52,28 +53,28 @@ selection_at ts =
         o ← token_at (is_symbol symbol.LeftParenthesis) t.1
         c ← column_at o.1
         e ← token_at (is_symbol symbol.RightParenthesis) c.1
-        Ok (selected.Sum c.0, e.1)) else (do
+        Ok (expression.Sum c.0, e.1)) else (do
           c ← column_at ts
-          Ok (selected.Column c.0, c.1)))
+          Ok (expression.Column c.0, c.1)))
 
 unfoldable pub item_at : List Mark → Answer SelectItem
 item_at ts = do
   s ← selection_at ts
   a ← alias_at s.1
-  Ok (record { selected = s.0; alias = a.0 }, a.1)
+  Ok (record { expression = s.0; alias = a.0 }, a.1)
 
 -- more items behind those in front
 unfoldable pub items_at : List SelectItem → List Mark → Answer (List SelectItem)
 items_at front ts = seen (reads None (many (a_symbol symbol.Comma ⊳ item)) ts) >>= λ xs. Ok (front ++ xs.0, xs.1)
 
-unfoldable pub list_at : List Mark → Answer SelectList
+unfoldable pub list_at : List Mark → Answer Select
 list_at ts =
     if at (is_symbol symbol.Asterisk) ts then (do
       t ← token_at (is_symbol symbol.Asterisk) ts
       Ok (select.All, t.1)) else (do
         first ← item_at ts
         all ← items_at (first.0 ∷ []) first.1
-        Ok (select.Listed all.0, all.1))
+        Ok (select.List all.0, all.1))
 
 unfoldable pub place_at : List Mark → Answer Place
 place_at ts = do
@@ -100,7 +101,7 @@ joined_at ts = do
   o ← token_at (is_word word.On) p.1
   first ← equal_at o.1
   all ← equals_at (first.0 ∷ []) first.1
-  Ok (record { place = p.0; equalities = all.0 }, all.1)
+  Ok (record { place = p.0; on = all.0 }, all.1)
 
 unfoldable pub join_at : List Mark → Answer Join
 join_at ts =
@@ -153,7 +154,7 @@ query_at d ts = do
   l ← list_at t.1
   s ← source_at l.1
   e ← ending_at d s.1
-  Ok (record { select = l.0; place = s.0.0; joins = s.0.1; filter = e.0.0; group_by = e.0.1 }, e.1)
+  Ok (record { select = l.0; first = s.0.0; joins = s.0.1; filter = e.0.0; group_by = e.0.1 }, e.1)
 
 abbrev pub finished : Sentence × List Mark → Result Sentence Refusal
 finished (s, []) = Ok s

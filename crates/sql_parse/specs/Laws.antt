@@ -2,14 +2,16 @@
 use Rattle.std.specs.Prelude.{◌≡◌, ℕ, List}
 use Rattle.scan_base.specs.declared.fault.Fault.{Fault}
 use Rattle.sql_parse.specs.Parse.{IsSentence, Accepts, Refuses}
-use Rattle.sql_parse.specs.Sentence.{Sentence}
+use Rattle.sql_query.specs.Sentence.{Sentence}
 use Rattle.sql_parse.specs.Tokens.{Mark}
 
 abbrev pub AtMostOneSentence : Type 0
 AtMostOneSentence = (ts : List Mark) (s other : Sentence) → IsSentence ts s → IsSentence ts other → s ≡ other
 
 abbrev pub AtMostOneFault : Type 0
-AtMostOneFault = (ts : List Mark) (end : ℕ) (first second : Fault) → Refuses ts end first → Refuses ts end second → first ≡ second
+AtMostOneFault =
+    (ts : List Mark) (end : ℕ) (first second : Fault) → Refuses ts end first → Refuses ts end second → first ≡ second
 
 abbrev pub AcceptedIsNotRefused : Type 0
-AcceptedIsNotRefused = (ts : List Mark) (end : ℕ) (s : Sentence) (fault : Fault) → Accepts ts s → Refuses ts end fault → ⊥
+AcceptedIsNotRefused =
+    (ts : List Mark) (end : ℕ) (s : Sentence) (fault : Fault) → Accepts ts s → Refuses ts end fault → ⊥

@@ -1,4 +1,3 @@
-pub mod Sentence
 pub mod Tokens
 pub mod Productions
 pub mod Factored

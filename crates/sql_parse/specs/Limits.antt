@@ -4,17 +4,19 @@ use Rattle.sql_text.specs.declared.word.Keyword.TheVariants as word
 use Rattle.sql_text.specs.declared.symbol.Symbol.TheVariants as symbol
 use Rattle.sql_text.specs.declared.token.TokenKind.{TokenKind}
 use Rattle.sql_parse.specs.declared.limits.Tally.{Tally}
-use Rattle.sql_parse.specs.Tokens.{Mark, is_word, is_symbol, is_name}
+use Rattle.sql_text.specs.Words.{is_name}
+use Rattle.sql_parse.specs.Tokens.{Mark, is_word, is_symbol}
 use Rattle.sql_text.specs.Calls.{said}
 
--- The places that the tokens so far announce, and the items of the list that was begun last, of which there may be `most`.
+-- The places that the tokens so far announce, and the items of the list that was begun last, of which there may
+-- be `most`.
 -- FROM and JOIN announce a place; SELECT, BY and IN begin a list and announce its first item, and a comma the next one.
 unfoldable pub counted : Tally → TokenKind → Tally
 counted tally kind =
-    if is_word word.From kind || is_word word.Join kind then record { places = tally.places + 1; items = tally.items; most = tally.most }
-    else (if is_word word.Select kind || is_word word.By kind then record { places = tally.places; items = 1; most = 64 }
-    else (if is_word word.In kind then record { places = tally.places; items = 1; most = 256 }
-    else (if is_symbol symbol.Comma kind then record { places = tally.places; items = tally.items + 1; most = tally.most }
+    if is_word word.From kind || is_word word.Join kind then record tally { places = tally.places + 1 }
+    else (if is_word word.Select kind || is_word word.By kind then record tally { items = 1; most = 64 }
+    else (if is_word word.In kind then record tally { items = 1; most = 256 }
+    else (if is_symbol symbol.Comma kind then record tally { items = tally.items + 1 }
     else tally)))
 
 -- the place or the item that was announced last is one too many
@@ -28,6 +30,7 @@ abbrev pub passes_from : Tally → List Mark → Bool
 passes_from tally [] = false
 passes_from tally (t ∷ ts) = (is_long_name t.0 t.1.1 || is_past tally) || passes_from (counted tally t.0) ts
 
--- Whether one of the tokens passes a limit: it is a name of more than 64 bytes, or stands in a place or an item that is one too many.
+-- Whether one of the tokens passes a limit: it is a name of more than 64 bytes, or stands in a place or an item
+-- that is one too many.
 unfoldable pub passes : List Mark → Bool
 passes ts = passes_from (record { places = 0; items = 0; most = 64 }) ts

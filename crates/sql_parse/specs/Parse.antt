@@ -1,5 +1,6 @@
 -- What parsing answers.
-use Rattle.std.specs.Prelude.{◌≡◌, ◌≢◌, ℕ, Bool, true, false, not, ◌&&◌, ◌||◌, ◌⊎◌, if◌then◌else◌, List, [], ◌∷◌, ◌++◌, map, length, Result, Ok, Err}
+use Rattle.std.specs.Prelude.{◌≡◌, ◌≢◌, ℕ, ◌==◌, Bool, true, false, not, ◌&&◌, ◌||◌, ◌⊎◌, if◌then◌else◌, List, []}
+use Rattle.std.specs.Prelude.{◌∷◌, ◌++◌, map, length, Result, Ok, Err}
 use Rattle.scan_base.specs.declared.fault.Fault.{Fault}
 use Rattle.scan_base.specs.declared.fault.Fault.TheVariants.{OutOfMemory, LimitReached, NotInSubset, BadSql}
 use Rattle.sql_text.specs.Standard.{Lexeme}
@@ -7,12 +8,9 @@ use Rattle.sql_text.specs.Reading.{tokens_in}
 use Rattle.sql_text.specs.Words.{is_left_out}
 use Rattle.grammar.specs.Rule.{Language, Spells, Nested, Any}
 use Rattle.grammar.specs.Sentence.{Begins, Offends}
-use Rattle.sql_parse.specs.declared.tree.Selected.{Selected}
-use Rattle.sql_parse.specs.declared.tree.Selected.TheVariants as selected
-use Rattle.sql_parse.specs.declared.tree.SelectItem.{SelectItem}
-use Rattle.sql_parse.specs.declared.tree.SelectList.{SelectList}
-use Rattle.sql_parse.specs.declared.tree.SelectList.TheVariants as select
-use Rattle.sql_parse.specs.Sentence.{Sentence}
+use Rattle.sql_query.specs.declared.query.Select.{Select}
+use Rattle.sql_query.specs.declared.query.Select.TheVariants as select
+use Rattle.sql_query.specs.Sentence.{Sentence, is_grouped}
 use Rattle.sql_parse.specs.Tokens.{Mark, mark_of}
 use Rattle.sql_parse.specs.Productions.{factor, query}
 use Rattle.sql_parse.specs.Limits.{passes}
@@ -27,30 +25,13 @@ IsShallow = Spells (Nested factor 64) query
 
 -- ---- what is left out, though it is a sentence
 
-abbrev pub is_aggregate : Selected → Bool
-is_aggregate (selected.Column column) = false
-is_aggregate _ = true
-
-abbrev pub any_aggregate : List SelectItem → Bool
-any_aggregate [] = false
-any_aggregate (item ∷ items) = is_aggregate item.selected || any_aggregate items
-
-abbrev pub has_aggregate : SelectList → Bool
-has_aggregate select.All = false
-has_aggregate (select.Listed items) = any_aggregate items
-
-abbrev pub is_all : SelectList → Bool
+abbrev pub is_all : Select → Bool
 is_all select.All = true
 is_all _ = false
 
-abbrev pub none : {A : Type 0} → List A → Bool
-none [] = true
-none (x ∷ xs) = false
-
 -- a JOIN with an aggregate or GROUP BY, or * with GROUP BY
 abbrev pub is_left_out_whole : Sentence → Bool
-is_left_out_whole s =
-    (not (none s.joins) && (has_aggregate s.select || not (none s.group_by))) || (is_all s.select && not (none s.group_by))
+is_left_out_whole s = (not (length s.joins == 0) && is_grouped s) || (is_all s.select && not (length s.group_by == 0))
 
 -- ---- the answer
 
@@ -69,7 +50,8 @@ pub record PassesLimit (ts : List Mark) : Type 0 where
   pub begins : Begins IsSentence front
   pub past : (Begins IsShallow front → ⊥) ⊎ (passes front ≡ true)
 
--- The first token of the place offends, or where it has none the end of the text, and the tokens before it pass no limit.
+-- The first token of the place offends, or where it has none the end of the text, and the tokens before it pass
+-- no limit.
 pub record HasOffender (ts place : List Mark) : Type 0 where
   pub offends : Offends IsShallow IsSentence ts place
   pub counts : passes offends.front ≡ false
@@ -99,7 +81,8 @@ Answered view ts end (Err fault) = fault ≢ OutOfMemory → Refuses ts end faul
 
 -- what parsing a text gave: a fault of its tokens, or what its tokens say
 abbrev pub Parsed : {X : Type 0} → (X → Sentence) → List ℕ → Result X Fault → Type 0
-Parsed view text (Ok x) = (lexemes : List Lexeme) × (tokens_in text ≡ Ok lexemes) × Accepts (map mark_of lexemes) (view x)
+Parsed view text (Ok x) =
+    (lexemes : List Lexeme) × (tokens_in text ≡ Ok lexemes) × Accepts (map mark_of lexemes) (view x)
 Parsed view text (Err fault) =
     fault ≢ OutOfMemory → (tokens_in text ≡ Err fault)
     ⊎ ((lexemes : List Lexeme) × (tokens_in text ≡ Ok lexemes) × Refuses (map mark_of lexemes) (length text) fault)

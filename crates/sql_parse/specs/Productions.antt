@@ -9,24 +9,27 @@ use Rattle.scan_base.specs.declared.value.Value.{Value}
 use Rattle.scan_base.specs.declared.value.Value.TheVariants as value
 use Rattle.scan_base.specs.declared.predicate.Operand.{Operand}
 use Rattle.scan_base.specs.declared.predicate.Operand.TheVariants.{Column, Literal}
-use Rattle.scan_base.specs.Predicate.{Pred, conjunction, disjunction, negation, truth_test, comparing, between, membership, null_test}
+use Rattle.scan_base.specs.Predicate.{Pred, conjunction, disjunction, negation, truth_test, comparing, between}
+use Rattle.scan_base.specs.Predicate.{membership, null_test}
 use Rattle.sql_text.specs.declared.word.Keyword.{Keyword}
 use Rattle.sql_text.specs.declared.word.Keyword.TheVariants as word
 use Rattle.sql_text.specs.declared.symbol.Symbol.{Symbol}
 use Rattle.sql_text.specs.declared.symbol.Symbol.TheVariants as symbol
 use Rattle.sql_text.specs.declared.token.TokenKind.{TokenKind}
 use Rattle.grammar.specs.Rule.{Rule, one, empty, both, either, many, make, opened, again}
-use Rattle.sql_parse.specs.declared.tree.ColumnName.{ColumnName}
-use Rattle.sql_parse.specs.declared.tree.Selected.{Selected}
-use Rattle.sql_parse.specs.declared.tree.Selected.TheVariants as selected
-use Rattle.sql_parse.specs.declared.tree.SelectItem.{SelectItem}
-use Rattle.sql_parse.specs.declared.tree.SelectList.{SelectList}
-use Rattle.sql_parse.specs.declared.tree.SelectList.TheVariants as select
-use Rattle.sql_parse.specs.declared.tree.Place.{Place}
-use Rattle.sql_parse.specs.declared.tree.Equality.{Equality}
-use Rattle.sql_parse.specs.declared.tree.Join.{Join}
-use Rattle.sql_parse.specs.Sentence.{Sentence}
-use Rattle.sql_parse.specs.Tokens.{Span, is_word, is_symbol, is_name, is_string, is_digits, value_of, number_in, word_token, symbol_token, name_token, string_token, digits_token}
+use Rattle.sql_query.specs.declared.query.ColumnName.{ColumnName}
+use Rattle.sql_query.specs.declared.query.Expression.{Expression}
+use Rattle.sql_query.specs.declared.query.Expression.TheVariants as expression
+use Rattle.sql_query.specs.declared.query.SelectItem.{SelectItem}
+use Rattle.sql_query.specs.declared.query.Select.{Select}
+use Rattle.sql_query.specs.declared.query.Select.TheVariants as select
+use Rattle.sql_query.specs.declared.query.Place.{Place}
+use Rattle.sql_query.specs.declared.query.Equality.{Equality}
+use Rattle.sql_query.specs.declared.query.Join.{Join}
+use Rattle.sql_query.specs.Sentence.{Sentence}
+use Rattle.sql_text.specs.Words.{is_name}
+use Rattle.sql_parse.specs.Tokens.{Span, is_word, is_symbol, is_string, is_digits, value_of, number_in, word_token}
+use Rattle.sql_parse.specs.Tokens.{symbol_token, name_token, string_token, digits_token}
 
 abbrev pub Condition : Type 0
 Condition = Pred ColumnName
@@ -106,12 +109,18 @@ string = one is_string (λ t. Some (value.Text (value_of t))) string_token
 
 -- column | string | TRUE | FALSE | number
 unfoldable pub operand : Of (Operand ColumnName)
-operand = either (make Column column) (make Literal (either string (either (word_for word.True (value.Bool true)) (either (word_for word.False (value.Bool false)) number))))
+operand = either (make Column column) (make Literal (either string
+    (either (word_for word.True (value.Bool true)) (either (word_for word.False (value.Bool false)) number))))
 
 -- "=" | "<>" | "<" | "<=" | ">" | ">=", where "!=" is "<>"
 unfoldable pub compare : Of Comparison
-compare = either (symbol_for symbol.Equal comparison.Equal) (either (symbol_for symbol.NotEqual comparison.NotEqual) (either (symbol_for symbol.Less comparison.Less)
-    (either (symbol_for symbol.LessOrEqual comparison.LessOrEqual) (either (symbol_for symbol.Greater comparison.Greater) (symbol_for symbol.GreaterOrEqual comparison.GreaterOrEqual)))))
+compare =
+    either (symbol_for symbol.Equal comparison.Equal)
+    (either (symbol_for symbol.NotEqual comparison.NotEqual)
+    (either (symbol_for symbol.Less comparison.Less)
+    (either (symbol_for symbol.LessOrEqual comparison.LessOrEqual)
+    (either (symbol_for symbol.Greater comparison.Greater)
+    (symbol_for symbol.GreaterOrEqual comparison.GreaterOrEqual)))))
 
 -- [ NOT ]
 unfoldable pub negated : Of Bool
@@ -121,11 +130,15 @@ negated = either (word_for word.Not true) (empty false)
 
 -- what begins a factor
 abbrev pub begins_factor : TokenKind → Bool
-begins_factor = is_one_of (is_name ∷ is_symbol symbol.Plus ∷ is_symbol symbol.Minus ∷ is_digits ∷ is_string ∷ is_word word.True ∷ is_word word.False ∷ is_symbol symbol.LeftParenthesis ∷ is_word word.Not ∷ [])
+begins_factor = is_one_of
+    (is_name ∷ is_symbol symbol.Plus ∷ is_symbol symbol.Minus ∷ is_digits ∷ is_string ∷
+    is_word word.True ∷ is_word word.False ∷ is_symbol symbol.LeftParenthesis ∷ is_word word.Not ∷ [])
 
 -- what may follow a factor
 abbrev pub follows_factor : TokenKind → Bool
-follows_factor = is_one_of (is_word word.And ∷ is_word word.Or ∷ is_symbol symbol.RightParenthesis ∷ is_word word.Group ∷ is_symbol symbol.Semicolon ∷ [])
+follows_factor = is_one_of
+    (is_word word.And ∷ is_word word.Or ∷ is_symbol symbol.RightParenthesis ∷ is_word word.Group ∷
+    is_symbol symbol.Semicolon ∷ [])
 
 -- a factor within a factor
 abbrev pub inner : Of Condition
@@ -145,11 +158,15 @@ comparison_of = make (λ p. comparing p.1.0 p.0 p.1.1) (both operand (both compa
 
 -- operand [NOT] BETWEEN operand AND operand
 unfoldable pub range_of : Of Condition
-range_of = make (λ p. between p.1.0 p.0 p.1.1.0 p.1.1.1) (both operand (both negated (a_word word.Between ⊳ both operand (a_word word.And ⊳ operand))))
+range_of = make (λ p. between p.1.0 p.0 p.1.1.0 p.1.1.1)
+    (both operand (both negated (a_word word.Between ⊳ both operand (a_word word.And ⊳ operand))))
 
 -- operand [NOT] IN "(" operand { "," operand } ")"
 unfoldable pub membership_of : Of Condition
-membership_of = make (λ p. membership p.1.0 p.0 p.1.1) (both operand (both negated (a_word word.In ⊳ a_symbol symbol.LeftParenthesis ⊳ listed (a_symbol symbol.Comma) operand ⊲ a_symbol symbol.RightParenthesis)))
+membership_of = make (λ p. membership p.1.0 p.0 p.1.1)
+    (both operand (both negated
+    (a_word word.In ⊳ a_symbol symbol.LeftParenthesis ⊳ listed (a_symbol symbol.Comma) operand
+    ⊲ a_symbol symbol.RightParenthesis)))
 
 -- operand IS [NOT] NULL
 unfoldable pub null_test_of : Of Condition
@@ -161,10 +178,12 @@ simple = either comparison_of (either range_of (either membership_of null_test_o
 
 -- "(" pred ")" | simple
 abbrev pub primary_of : Of Condition → Of Condition
-primary_of forms = opened (is_symbol symbol.LeftParenthesis) (symbol_token symbol.LeftParenthesis) (pred ⊲ a_symbol symbol.RightParenthesis) forms
+primary_of forms = opened (is_symbol symbol.LeftParenthesis) (symbol_token symbol.LeftParenthesis)
+    (pred ⊲ a_symbol symbol.RightParenthesis) forms
 
 unfoldable pub truth_value : Of Truth
-truth_value = either (word_for word.True truth.True) (either (word_for word.False truth.False) (word_for word.Unknown truth.Unknown))
+truth_value = either (word_for word.True truth.True)
+    (either (word_for word.False truth.False) (word_for word.Unknown truth.Unknown))
 
 abbrev pub tested : Condition → Option (Bool × Truth) → Condition
 tested p None = p
@@ -188,18 +207,21 @@ unfoldable pub alias : Of (Option (List ℕ))
 alias = maybe (maybe (a_word word.As) ⊳ name)
 
 -- column | COUNT "(" ("*" | column) ")" | SUM "(" column ")"
-unfoldable pub selection : Of Selected
+unfoldable pub selection : Of Expression
 selection = either
-    (a_word word.Count ⊳ a_symbol symbol.LeftParenthesis ⊳ either (symbol_for symbol.Asterisk selected.CountRows) (make selected.Count column) ⊲ a_symbol symbol.RightParenthesis)
-    (either (a_word word.Sum ⊳ a_symbol symbol.LeftParenthesis ⊳ make selected.Sum column ⊲ a_symbol symbol.RightParenthesis)
-    (make selected.Column column))
+    (a_word word.Count ⊳ a_symbol symbol.LeftParenthesis
+    ⊳ either (symbol_for symbol.Asterisk expression.CountRows) (make expression.Count column)
+    ⊲ a_symbol symbol.RightParenthesis)
+    (either
+    (a_word word.Sum ⊳ a_symbol symbol.LeftParenthesis ⊳ make expression.Sum column ⊲ a_symbol symbol.RightParenthesis)
+    (make expression.Column column))
 
 unfoldable pub item : Of SelectItem
-item = make (λ p. record { selected = p.0; alias = p.1 }) (both selection alias)
+item = make (λ p. record { expression = p.0; alias = p.1 }) (both selection alias)
 
 -- "*" | item { "," item }
-unfoldable pub list : Of SelectList
-list = either (symbol_for symbol.Asterisk select.All) (make select.Listed (listed (a_symbol symbol.Comma) item))
+unfoldable pub list : Of Select
+list = either (symbol_for symbol.Asterisk select.All) (make select.List (listed (a_symbol symbol.Comma) item))
 
 -- name [ [AS] name ]
 unfoldable pub place : Of Place
@@ -211,7 +233,8 @@ equal = make (λ p. record { left = p.0; right = p.1 }) (both column (a_symbol s
 
 -- [INNER] JOIN place ON equal { AND equal }
 unfoldable pub join : Of Join
-join = make (λ p. record { place = p.0; equalities = p.1 }) (maybe (a_word word.Inner) ⊳ a_word word.Join ⊳ both place (a_word word.On ⊳ listed (a_word word.And) equal))
+join = make (λ p. record { place = p.0; on = p.1 })
+    (maybe (a_word word.Inner) ⊳ a_word word.Join ⊳ both place (a_word word.On ⊳ listed (a_word word.And) equal))
 
 -- [ GROUP BY column { "," column } ]
 unfoldable pub group : Of (List ColumnName)
@@ -231,5 +254,5 @@ ending = both filter (group ⊲ maybe (a_symbol symbol.Semicolon))
 
 -- SELECT list FROM place { join } [ WHERE pred ] [ GROUP BY column { "," column } ] [ ";" ]
 unfoldable pub query : Of Sentence
-query = make (λ p. record { select = p.0; place = p.1.0.0; joins = p.1.0.1; filter = p.1.1.0; group_by = p.1.1.1 })
+query = make (λ p. record { select = p.0; first = p.1.0.0; joins = p.1.0.1; filter = p.1.1.0; group_by = p.1.1.1 })
     (both (a_word word.Select ⊳ list) (both source ending))

@@ -1,5 +1,6 @@
 -- The grammar's rules, step by step.
-use Rattle.std.specs.Prelude.{ℕ, ◌-◌, ◌==◌, Bool, true, false, if◌then◌else◌, List, [], ◌∷◌, ◌++◌, length, Option, Some, None, Ok, Err, ℤ}
+use Rattle.std.specs.Prelude.{ℕ, ◌-◌, ◌==◌, Bool, true, false, if◌then◌else◌, List, [], ◌∷◌, ◌++◌, length, Option}
+use Rattle.std.specs.Prelude.{Some, None, Ok, Err, ℤ}
 use Rattle.scan_base.specs.declared.comparison.Comparison.{Comparison}
 use Rattle.scan_base.specs.declared.comparison.Comparison.TheVariants as comparison
 use Rattle.scan_base.specs.declared.truth.Truth.{Truth}
@@ -8,17 +9,20 @@ use Rattle.scan_base.specs.declared.value.Value.{Value}
 use Rattle.scan_base.specs.declared.value.Value.TheVariants as value
 use Rattle.scan_base.specs.declared.predicate.Operand.{Operand}
 use Rattle.scan_base.specs.declared.predicate.Operand.TheVariants.{Column, Literal}
-use Rattle.scan_base.specs.Predicate.{conjunction, disjunction, negation, truth_test, comparing, between, membership, null_test}
+use Rattle.scan_base.specs.Predicate.{conjunction, disjunction, negation, truth_test, comparing, between, membership}
+use Rattle.scan_base.specs.Predicate.{null_test}
 use Rattle.sql_text.specs.declared.word.Keyword.TheVariants as word
 use Rattle.sql_text.specs.declared.symbol.Symbol.TheVariants as symbol
 use Rattle.sql_text.specs.declared.token.TokenKind.{TokenKind}
 use Rattle.grammar.specs.Rule.{many}
 use Rattle.grammar.specs.Reading.{begins, token, reads, read}
-use Rattle.sql_parse.specs.declared.tree.ColumnName.{ColumnName}
+use Rattle.sql_query.specs.declared.query.ColumnName.{ColumnName}
 use Rattle.sql_parse.specs.declared.refusal.Refusal.TheVariants as refusal
-use Rattle.sql_parse.specs.Tokens.{Mark, is_word, is_symbol, is_name, is_string, is_digits, value_of, number_in}
+use Rattle.sql_text.specs.Words.{is_name}
+use Rattle.sql_parse.specs.Tokens.{Mark, is_word, is_symbol, is_string, is_digits, value_of, number_in}
 use Rattle.sql_parse.specs.Answers.{Answer, seen, ◌>>=◌}
-use Rattle.sql_parse.specs.Productions.{Condition, a_word, a_symbol, ◌⊳◌, column_name, signed, operand, joined, inner, conj}
+use Rattle.sql_parse.specs.Productions.{Condition, a_word, a_symbol, ◌⊳◌, column_name, signed, operand, joined, inner}
+use Rattle.sql_parse.specs.Productions.{conj}
 use Rattle.sql_parse.specs.Factored.{factor}
 
 unfoldable pub at : (TokenKind → Bool) → List Mark → Bool
@@ -152,7 +156,9 @@ unfoldable pub tail_at : Operand ColumnName → List Mark → Answer Condition
 tail_at a ts =
     if at (is_word word.Is) ts then nulled_at a ts else (if at (is_word word.Not) ts then (do
       t ← token_at (is_word word.Not) ts
-      if at (is_word word.Between) t.1 then ranged_at true a t.1 else among_at true a t.1) else (if at (is_word word.Between) ts then ranged_at false a ts else (if at (is_word word.In) ts then among_at false a ts else compared_at a ts)))
+      if at (is_word word.Between) t.1 then ranged_at true a t.1 else among_at true a t.1)
+    else (if at (is_word word.Between) ts then ranged_at false a ts
+    else (if at (is_word word.In) ts then among_at false a ts else compared_at a ts)))
 
 -- a factor, where d more may be opened
 unfoldable pub factor_at : ℕ → List Mark → Answer Condition
@@ -160,7 +166,8 @@ factor_at d ts = seen (read factor d ts)
 
 -- more factors behind p
 unfoldable pub ands_at : ℕ → Condition → List Mark → Answer Condition
-ands_at d p ts = seen (reads (Some (read factor d)) (many (a_word word.And ⊳ inner)) ts) >>= λ qs. Ok (joined conjunction p qs.0, qs.1)
+ands_at d p ts = seen (reads (Some (read factor d)) (many (a_word word.And ⊳ inner)) ts)
+    >>= λ qs. Ok (joined conjunction p qs.0, qs.1)
 
 unfoldable pub conj_at : ℕ → List Mark → Answer Condition
 conj_at d ts = do
@@ -168,7 +175,8 @@ conj_at d ts = do
   ands_at d p.0 p.1
 
 unfoldable pub ors_at : ℕ → Condition → List Mark → Answer Condition
-ors_at d p ts = seen (reads (Some (read factor d)) (many (a_word word.Or ⊳ conj)) ts) >>= λ qs. Ok (joined disjunction p qs.0, qs.1)
+ors_at d p ts = seen (reads (Some (read factor d)) (many (a_word word.Or ⊳ conj)) ts)
+    >>= λ qs. Ok (joined disjunction p qs.0, qs.1)
 
 unfoldable pub pred_at : ℕ → List Mark → Answer Condition
 pred_at d ts = do

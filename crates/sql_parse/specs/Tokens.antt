@@ -46,11 +46,6 @@ abbrev pub is_symbol : Symbol → TokenKind → Bool
 is_symbol symbol (kind.Symbol other) = same_symbol symbol other
 is_symbol symbol _ = false
 
-abbrev pub is_name : TokenKind → Bool
-is_name kind.Name = true
-is_name kind.DelimitedName = true
-is_name _ = false
-
 abbrev pub is_string : TokenKind → Bool
 is_string kind.String = true
 is_string _ = false

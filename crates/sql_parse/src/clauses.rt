@@ -1,17 +1,18 @@
 //! The clauses of a query.
 
-ghost use Rattle.std.specs.Prelude.{◌≡◌, ◌<◌, ◌≤◌, IfOk, [], ◌∷◌};
+ghost use Rattle.std.specs.Prelude.{◌≡◌, ◌<◌, ◌≤◌, IfOk, option_map, [], ◌∷◌};
 ghost use Rattle.sql_parse.specs.Answers.{Gives};
 ghost use Rattle.sql_parse.specs.Calls.{unread, remaining};
 ghost use Rattle.sql_parse.specs.ClauseSteps as steps;
-ghost use Rattle.sql_parse.specs.Sentence.{filter_of, sentence_of};
+ghost use Rattle.scan_base.specs.View.{pred_of};
+ghost use Rattle.sql_query.specs.Sentence.{sentence_of};
 
 use crate::operands::{column, name};
 use crate::predicates::predicate;
 use crate::refusal::Refusal;
 use crate::tokens::{Class, Rest};
-use crate::tree::{ColumnName, Equality, Join, Place, Query, SelectItem, SelectList, Selected};
 use scan_base::{Items, Predicate, Text};
+use sql_query::{ColumnName, Equality, Expression, Join, Place, Query, Select, SelectItem};
 use sql_text::{Keyword, Symbol};
 use std::alloc::Global;
 
@@ -35,22 +36,22 @@ fn alias<'t>(alloc: Global, tokens: Rest<'t>) -> Result<(Option<Text>, Rest<'t>)
 
 // "*" | column, within COUNT
 #[tactic(auto, unfolding(crate::specs::ClauseSteps::counted_at))]
-fn counted<'t>(alloc: Global, tokens: Rest<'t>) -> Result<(Selected, Rest<'t>), Refusal>
+fn counted<'t>(alloc: Global, tokens: Rest<'t>) -> Result<(Expression, Rest<'t>), Refusal>
     ensures exact { Gives (λ x. (x.0, unread x.1)) result (steps.counted_at (unread tokens.entry)) }
     ensures shorter { IfOk result (λ x. remaining x.1 < remaining tokens.entry) }
 {
     if tokens.at(Class::Symbol(Symbol::Asterisk)) {
         let (_, rest) = tokens.take(Class::Symbol(Symbol::Asterisk))?;
-        Ok((Selected::CountRows, rest))
+        Ok((Expression::CountRows, rest))
     } else {
         let (column, rest) = column(alloc, tokens)?;
-        Ok((Selected::Count(column), rest))
+        Ok((Expression::Count(column), rest))
     }
 }
 
 // column | COUNT "(" ("*" | column) ")" | SUM "(" column ")"
 #[tactic(auto, unfolding(crate::specs::ClauseSteps::selection_at))]
-fn selection<'t>(alloc: Global, tokens: Rest<'t>) -> Result<(Selected, Rest<'t>), Refusal>
+fn selection<'t>(alloc: Global, tokens: Rest<'t>) -> Result<(Expression, Rest<'t>), Refusal>
     ensures exact { Gives (λ x. (x.0, unread x.1)) result (steps.selection_at (unread tokens.entry)) }
     ensures shorter { IfOk result (λ x. remaining x.1 < remaining tokens.entry) }
 {
@@ -65,10 +66,10 @@ fn selection<'t>(alloc: Global, tokens: Rest<'t>) -> Result<(Selected, Rest<'t>)
         let (_, rest) = rest.take(Class::Symbol(Symbol::LeftParenthesis))?;
         let (column, rest) = column(alloc, rest)?;
         let (_, rest) = rest.take(Class::Symbol(Symbol::RightParenthesis))?;
-        Ok((Selected::Sum(column), rest))
+        Ok((Expression::Sum(column), rest))
     } else {
         let (column, rest) = column(alloc, tokens)?;
-        Ok((Selected::Column(column), rest))
+        Ok((Expression::Column(column), rest))
     }
 }
 
@@ -78,9 +79,9 @@ fn item<'t>(alloc: Global, tokens: Rest<'t>) -> Result<(SelectItem, Rest<'t>), R
     ensures exact { Gives (λ x. (x.0, unread x.1)) result (steps.item_at (unread tokens.entry)) }
     ensures shorter { IfOk result (λ x. remaining x.1 < remaining tokens.entry) }
 {
-    let (selected, rest) = selection(alloc, tokens)?;
+    let (expression, rest) = selection(alloc, tokens)?;
     let (alias, rest) = alias(alloc, rest)?;
-    Ok((SelectItem { selected, alias }, rest))
+    Ok((SelectItem { expression, alias }, rest))
 }
 
 // { "," item }, behind the first
@@ -107,17 +108,17 @@ fn items<'t>(
 
 // "*" | item { "," item }
 #[tactic(auto, unfolding(crate::specs::ClauseSteps::list_at))]
-fn list<'t>(alloc: Global, tokens: Rest<'t>) -> Result<(SelectList, Rest<'t>), Refusal>
+fn list<'t>(alloc: Global, tokens: Rest<'t>) -> Result<(Select, Rest<'t>), Refusal>
     ensures exact { Gives (λ x. (x.0, unread x.1)) result (steps.list_at (unread tokens.entry)) }
     ensures shorter { IfOk result (λ x. remaining x.1 < remaining tokens.entry) }
 {
     if tokens.at(Class::Symbol(Symbol::Asterisk)) {
         let (_, rest) = tokens.take(Class::Symbol(Symbol::Asterisk))?;
-        Ok((SelectList::All, rest))
+        Ok((Select::All, rest))
     } else {
         let (first, rest) = item(alloc, tokens)?;
         let (items, rest) = items(alloc, first, rest)?;
-        Ok((SelectList::Listed(items), rest))
+        Ok((Select::List(items), rest))
     }
 }
 
@@ -176,8 +177,8 @@ fn joined<'t>(alloc: Global, tokens: Rest<'t>) -> Result<(Join, Rest<'t>), Refus
     let (place, rest) = place(alloc, rest)?;
     let (_, rest) = rest.take(Class::Word(Keyword::On))?;
     let (first, rest) = equality(alloc, rest)?;
-    let (equalities, rest) = equalities(alloc, first, rest)?;
-    Ok((Join { place, equalities }, rest))
+    let (on, rest) = equalities(alloc, first, rest)?;
+    Ok((Join { place, on }, rest))
 }
 
 // [INNER] JOIN place ON equality { AND equality }
@@ -264,7 +265,8 @@ fn filter<'t>(
     depth: usize,
     tokens: Rest<'t>,
 ) -> Result<(Option<Predicate<ColumnName>>, Rest<'t>), Refusal>
-    ensures exact { Gives (λ x. (filter_of x.0, unread x.1)) result (steps.filter_at depth (unread tokens.entry)) }
+    ensures exact { Gives (λ x. (option_map pred_of x.0, unread x.1)) result
+        (steps.filter_at depth (unread tokens.entry)) }
 {
     if tokens.at(Class::Word(Keyword::Where)) {
         let (_, rest) = tokens.take(Class::Word(Keyword::Where))?;
@@ -282,7 +284,8 @@ fn ending<'t>(
     depth: usize,
     tokens: Rest<'t>,
 ) -> Result<((Option<Predicate<ColumnName>>, Items<ColumnName>), Rest<'t>), Refusal>
-    ensures exact { Gives (λ x. ((filter_of x.0.0, x.0.1), unread x.1)) result (steps.ending_at depth (unread tokens.entry)) }
+    ensures exact { Gives (λ x. ((option_map pred_of x.0.0, x.0.1), unread x.1)) result
+        (steps.ending_at depth (unread tokens.entry)) }
 {
     let (filter, rest) = filter(alloc, depth, tokens)?;
     let (group_by, rest) = group(alloc, rest)?;
@@ -301,11 +304,11 @@ fn query<'t>(alloc: Global, depth: usize, tokens: Rest<'t>) -> Result<(Query, Re
 {
     let (_, rest) = tokens.take(Class::Word(Keyword::Select))?;
     let (select, rest) = list(alloc, rest)?;
-    let ((place, joins), rest) = source(alloc, rest)?;
+    let ((first, joins), rest) = source(alloc, rest)?;
     let ((filter, group_by), rest) = ending(alloc, depth, rest)?;
     let query = Query {
         select,
-        place,
+        first,
         joins,
         filter,
         group_by,

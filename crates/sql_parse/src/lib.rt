@@ -9,10 +9,8 @@ mod parsing;
 mod predicates;
 mod refusal;
 mod tokens;
-pub mod tree;
 
 pub use crate::parsing::parse;
-pub use crate::tree::{ColumnName, Equality, Join, Place, Query, SelectItem, SelectList, Selected};
 
 #[cfg(test)]
 mod tests;

@@ -7,8 +7,8 @@ ghost use Rattle.sql_parse.specs.Steps as steps;
 
 use crate::refusal::Refusal;
 use crate::tokens::{Class, Rest};
-use crate::tree::ColumnName;
 use scan_base::{Comparison, Operand, Text, Value};
+use sql_query::ColumnName;
 use sql_text::{Keyword, Symbol};
 use std::alloc::Global;
 

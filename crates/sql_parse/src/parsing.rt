@@ -1,69 +1,31 @@
 //! Parsing a text.
 
-ghost use Rattle.std.specs.Prelude.{◌≡◌};
+ghost use Rattle.std.specs.Prelude.{◌≡◌, IfOk};
 ghost use Rattle.scan_base.specs.Reading.{Gives};
 ghost use Rattle.sql_parse.specs.Told.{checked, refused};
-ghost use Rattle.sql_parse.specs.Parse.{Answered, Parsed, fault_at, is_aggregate, any_aggregate, has_aggregate, is_left_out_whole};
-ghost use Rattle.sql_parse.specs.Sentence.{sentence_of};
+ghost use Rattle.sql_parse.specs.Parse.{Answered, Parsed, fault_at, is_left_out_whole};
+ghost use Rattle.sql_query.specs.Names.{HasNames};
+ghost use Rattle.sql_query.specs.Sentence.{sentence_of};
 ghost use Rattle.sql_parse.specs.Tokens.{marks};
 
 use crate::clauses::whole_query;
 use crate::limits::passes_limit;
 use crate::refusal::Refusal;
 use crate::tokens::Rest;
-use crate::tree::{Query, SelectItem, SelectList, Selected};
 use scan_base::Fault;
+use sql_query::{Query, Select};
 use sql_text::Token;
 use std::alloc::Global;
 
 /// At most so many parentheses of predicates and prefix NOTs are open at once.
 const MOST_OPEN: usize = 64;
 
-impl Selected {
-    // Whether it is an aggregate.
-    fn is_aggregate(&self) -> bool
-        ensures { result ≡ is_aggregate self.now }
-    {
-        !matches!(self, Selected::Column(_))
-    }
-}
-
-impl SelectList {
-    // Whether an item is an aggregate.
-    fn has_aggregate(&self) -> bool
-        ensures { result ≡ has_aggregate self.now }
-    {
-        match self {
-            SelectList::All => false,
-            SelectList::Listed(items) => any_aggregate(items.as_slice()),
-        }
-    }
-}
-
-// Whether one of the items is an aggregate.
-fn any_aggregate(items: &[SelectItem]) -> bool
-    ensures { result ≡ any_aggregate items.now }
+// Whether a query is left out as a whole: a JOIN with an aggregate or GROUP BY, or `*` with GROUP BY.
+fn is_left_out(query: &Query) -> bool
+    ensures { result ≡ is_left_out_whole (sentence_of query.now) }
 {
-    for item in items {
-        if item.selected.is_aggregate() {
-            return true;
-        }
-    }
-    false
-}
-
-impl Query {
-    // Whether the query is left out as a whole: a JOIN with an aggregate or GROUP BY, or `*` with GROUP BY.
-    fn is_left_out(&self) -> bool
-        ensures { result ≡ is_left_out_whole (sentence_of self.now) }
-    {
-        let is_grouped = !self.group_by.is_empty();
-        if self.joins.is_empty() {
-            is_grouped && matches!(self.select, SelectList::All)
-        } else {
-            is_grouped || self.select.has_aggregate()
-        }
-    }
+    let is_all = matches!(query.select, Select::All);
+    (!query.joins.is_empty() && query.is_grouped()) || (is_all && !query.group_by.is_empty())
 }
 
 // The fault of the first of these tokens, which offends, where the text ends at `end`.
@@ -91,7 +53,7 @@ fn checked(query: Query, tokens: &[Token<'_>]) -> Result<Query, Fault>
     if passes_limit(tokens) {
         return Err(Fault::LimitReached);
     }
-    if query.is_left_out() {
+    if is_left_out(&query) {
         return Err(Fault::NotInSubset);
     }
     Ok(query)
@@ -123,7 +85,7 @@ fn parse_tokens(alloc: Global, tokens: &[Token<'_>], end: u32) -> Result<Query, 
     }
 }
 
-/// The query that a text is.
+/// The query that a text is. Each name in it has 1 to 64 bytes.
 ///
 /// The grammar is a small part of SQL-92. At most 64 parentheses of predicates and prefix NOTs may be open at
 /// once, so the stack that is taken is bounded.
@@ -139,7 +101,8 @@ fn parse_tokens(alloc: Global, tokens: &[Token<'_>], end: u32) -> Result<Query, 
 /// `Fault::NotInSubset` for a JOIN with an aggregate or GROUP BY, and for `*` with GROUP BY.
 /// `Fault::OutOfMemory` where memory is refused.
 pub fn parse(alloc: Global, sql: &str) -> Result<Query, Fault>
-    ensures { Parsed sentence_of sql.now result }
+    ensures parsed { Parsed sentence_of sql.now result }
+    ensures named { IfOk result (λ query. HasNames (sentence_of query)) }
 {
     let tokens = sql_text::tokens(alloc, sql)?;
     parse_tokens(alloc, &tokens, sql.len() as u32)

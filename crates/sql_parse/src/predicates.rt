@@ -9,8 +9,8 @@ ghost use Rattle.sql_parse.specs.Steps as steps;
 use crate::operands::{compare, operand};
 use crate::refusal::Refusal;
 use crate::tokens::{Class, Rest};
-use crate::tree::ColumnName;
 use scan_base::{Items, Operand, Predicate, Truth};
+use sql_query::ColumnName;
 use sql_text::{Keyword, Symbol};
 use std::alloc::Global;
 
@@ -89,7 +89,8 @@ fn between<'t>(
     value: Operand<ColumnName>,
     tokens: Rest<'t>,
 ) -> Result<(Predicate<ColumnName>, Rest<'t>), Refusal>
-    ensures exact { Gives (λ x. (pred_of x.0, unread x.1)) result (steps.ranged_at negated value (unread tokens.entry)) }
+    ensures exact { Gives (λ x. (pred_of x.0, unread x.1)) result
+        (steps.ranged_at negated value (unread tokens.entry)) }
     ensures shorter { IfOk result (λ x. remaining x.1 < remaining tokens.entry) }
 {
     let (_, rest) = tokens.take(Class::Word(Keyword::Between))?;

@@ -2,6 +2,7 @@
 
 use crate::parse;
 use crate::vectors::{LEFT_OUT, OFFENDING, SENTENCES};
+use sql_query::{Expression, Query, Select};
 use std::alloc::{AllocError, Global};
 use std::test::Fail;
 
@@ -147,7 +148,37 @@ fn trees(rt: HostRuntime) -> Result<(), Fail> {
     )?;
     assert_eq!(rt;
         grouped.as_str(),
-        "Some(Or(Compare { comparison: Equal, left: Column(ColumnName { place: None, name: Text { text: \"a\" } }), right: Literal(Int(1)) }, And(Not(Compare { comparison: Equal, left: Column(ColumnName { place: None, name: Text { text: \"b\" } }), right: Literal(Text(Text { text: \"it's\" })) }), Compare { comparison: NotEqual, left: Column(ColumnName { place: None, name: Text { text: \"c\" } }), right: Literal(Int(-2)) })))"
+        "Some(Or(Compare { comparison: Equal, \
+         left: Column(ColumnName { place: None, name: Text { text: \"a\" } }), right: Literal(Int(1)) }, \
+         And(Not(Compare { comparison: Equal, left: Column(ColumnName { place: None, \
+         name: Text { text: \"b\" } }), right: Literal(Text(Text { text: \"it's\" })) }), \
+         Compare { comparison: NotEqual, left: Column(ColumnName { place: None, \
+         name: Text { text: \"c\" } }), right: Literal(Int(-2)) })))"
+    );
+    Ok(())
+}
+
+// The name of the column, where a query selects one column alone.
+fn selected_name(query: &Query) -> Option<&str> {
+    let Select::List(items) = &query.select else {
+        return None;
+    };
+    match items.as_slice() {
+        [item] => match &item.expression {
+            Expression::Column(column) => Some(column.name.as_str()),
+            _ => None,
+        },
+        _ => None,
+    }
+}
+
+#[test]
+fn names_as_they_are_written(rt: HostRuntime) -> Result<(), Fail> {
+    let doubled = parse(rt.alloc(), "select \"a\"\"b\" from t -- c")?;
+    let mixed = parse(rt.alloc(), "SELECT Ab FROM t")?;
+    assert_eq!(rt;
+        (selected_name(&doubled), selected_name(&mixed)),
+        (Some("a\"b"), Some("Ab"))
     );
     Ok(())
 }

@@ -1,1 +1,2 @@
 pub mod Sentence
+pub mod Names

@@ -132,7 +132,7 @@ ends_of digits (b ∷ front) h sound other = run_ends is_ascii_digit ascii b fro
     ascii b e = grind (arith, nat_tests)
 ends_of (mark s) front h sound other = mark_ends front s h
 
-sound_cut : (form : Form) (front rest : List ℕ) → StandsInFront (record { form = form; text = front }) (front ++ rest) rest → is_sound form front ≡ true → IsUtf8 (front ++ rest) → IsCharBoundary (front ++ rest) (length front)
+pub sound_cut : (form : Form) (front rest : List ℕ) → StandsInFront (record { form = form; text = front }) (front ++ rest) rest → is_sound form front ≡ true → IsUtf8 (front ++ rest) → IsCharBoundary (front ++ rest) (length front)
 sound_cut comment front rest s sound utf8 = comment_cut front rest s.spells s.longest
 sound_cut form front rest s sound utf8 = ends_cut front rest (ends_of form front s.spells sound (λ e. cc)) utf8
 

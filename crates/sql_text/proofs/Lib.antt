@@ -12,3 +12,4 @@ pub mod Faulty
 pub mod Cutting
 pub mod Kept
 pub mod Rows
+pub mod Names

@@ -1,11 +1,12 @@
 -- What the calls give.
-use Rattle.std.specs.Prelude.{◌≡◌, ◌≤◌, ◌<◌, ◌+◌, ℕ, ℤ, List, map, length, slice_range, Option, None, Result, Ok, Err, Vec}
+use Rattle.std.specs.Prelude.{◌≡◌, ◌≤◌, ◌<◌, ◌+◌, ℕ, ℤ, true, IsUtf8, List, map, length, slice_range, Option, None, Result, Ok, Err, Vec}
 use Rattle.std.specs.Global.{Global}
 use Rattle.scan_base.specs.declared.fault.Fault.{Fault}
 use Rattle.scan_base.specs.declared.fault.Fault.TheVariants.{LimitReached, BadSql, OutOfMemory}
 use Rattle.std.specs.Str.{byte}
 use Rattle.sql_text.specs.declared.token.TokenKind.TheVariants as kind
 use Rattle.sql_text.specs.Values.{unquoted, number_of}
+use Rattle.sql_text.specs.Words.{is_name}
 use Rattle.sql_text.specs.declared.word.Meaning.{Meaning}
 use Rattle.sql_text.specs.declared.token.TokenKind.{TokenKind}
 use Rattle.sql_text.specs.declared.token.Token.{Token}
@@ -45,3 +46,7 @@ KeepsPieces (Err other) text = ⊥
 -- the token's text is the part of the query at its place
 abbrev pub IsAtPlace : List ℕ → Lexeme → Type 0
 IsAtPlace sql token = slice_range sql token.start (token.start + length token.text) ≡ token.text
+
+-- what a name says is a text of a byte or more
+abbrev pub SaysText : Lexeme → Type 0
+SaysText token = is_name token.kind ≡ true → (1 ≤ length (value_of token)) × IsUtf8 (value_of token)

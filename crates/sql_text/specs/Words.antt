@@ -46,6 +46,12 @@ meaning_in (row ∷ rows) text =
 unfoldable pub word_kind : List ℕ → TokenKind
 word_kind text = unwrap_or (meaning_in meanings text) kind.Name
 
+-- a name, delimited or not
+abbrev pub is_name : TokenKind → Bool
+is_name kind.Name = true
+is_name kind.DelimitedName = true
+is_name _ = false
+
 -- Whether SQL has the token where this server leaves it out: such a token offends with a fault of its own.
 -- `NULL` and `DATE` have their place in the grammar, and are left out elsewhere.
 abbrev pub is_left_out : TokenKind → Bool

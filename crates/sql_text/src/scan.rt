@@ -3,7 +3,7 @@
 ghost use Rattle.std.specs.Prelude.{map, All, IfOk};
 ghost use Rattle.scan_base.specs.Reading.{GivesUnlessMemory};
 ghost use Rattle.sql_text.specs.Reading.{tokens_in};
-ghost use Rattle.sql_text.specs.Calls.{lexeme_of, KeepsPieces, IsAtPlace};
+ghost use Rattle.sql_text.specs.Calls.{lexeme_of, KeepsPieces, IsAtPlace, SaysText};
 
 use crate::front::front_of;
 use crate::token::Token;
@@ -24,6 +24,7 @@ pub fn tokens(alloc: Global, sql: &str) -> Result<Vec<Token<'_>>, Fault>
     ensures exact { GivesUnlessMemory (λ tokens. map lexeme_of tokens.items) result (tokens_in sql.now) }
     ensures pieces { KeepsPieces result sql.now }
     ensures places { IfOk result (λ tokens. All (IsAtPlace sql.now) (map lexeme_of tokens.items)) }
+    ensures names { IfOk result (λ tokens. All SaysText (map lexeme_of tokens.items)) }
 {
     read_tokens(alloc, sql)
 }

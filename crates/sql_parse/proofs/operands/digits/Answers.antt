@@ -25,4 +25,6 @@ not_negative kind.DelimitedName text n e = cc
 not_negative kind.String text n e = cc
 
 pub returns-in-Some-clause-positive : goal.returns-in-Some-clause-positive
-returns-in-Some-clause-positive c = let h : pos 0 ≤ℤ c.in-Some.number = not_negative c.in_ok-token.token.kind c.in_ok-token.token.text.now c.in-Some.number c.in-Some.ensures in search (rules, h)
+returns-in-Some-clause-positive c = let h : pos 0 ≤ℤ c.in-Some.number =
+    not_negative c.in_ok-token.token.kind c.in_ok-token.token.text.now c.in-Some.number c.in-Some.ensures in
+    search (rules, h)

@@ -1,7 +1,7 @@
 use Rattle.std.proofs.Common.{◌≡◌, Ok, Err, subst}
 use Rattle.sql_parse.specs.declared.refusal.Refusal.{Refusal}
 use Rattle.sql_parse.specs.declared.refusal.Refusal.TheVariants as refusal
-use Rattle.sql_parse.specs.Sentence.{sentence_of}
+use Rattle.sql_query.specs.Sentence.{sentence_of}
 use Rattle.sql_parse.specs.Told.{Told}
 use Rattle.sql_parse.specs.Tokens.{marks}
 use Rattle.sql_parse.proofs.Answering.{told_by, cut_at, whole_answer, refused_answer, too_deep}
@@ -10,20 +10,29 @@ use Rattle.sql_parse.proofs.parsing.parse_tokens.Goals as goal
 pub overflow_sub-tokens : goal.overflow_sub-tokens
 overflow_sub-tokens c =
     let e : c.in-Err-Offends.field-0 ≡ refusal.Offends c.in-Err-Offends.left = c.in-Err-Offends.field-0-is in
-    let t = told_by sentence_of (marks c.args.tokens.now) (Err c.in-Err-Offends.field-0) c.in-Err-Offends.ensures.exact in
-    (cut_at c.args.tokens.now c.in-Err-Offends.left (subst (λ (r : Refusal). Told sentence_of (marks c.args.tokens.now) (Err r)) e t)).2
+    let t = told_by sentence_of (marks c.args.tokens.now) (Err c.in-Err-Offends.field-0)
+    c.in-Err-Offends.ensures.exact in
+    (cut_at c.args.tokens.now c.in-Err-Offends.left
+    (subst (λ (r : Refusal). Told sentence_of (marks c.args.tokens.now) (Err r)) e t)).2
 
 pub returns-in-Ok : goal.returns-in-Ok
-returns-in-Ok c = whole_answer sentence_of (marks c.args.tokens.now) c.args.end sentence_of c.in-Ok.query c.checked.result (told_by sentence_of (marks c.args.tokens.now) (Ok c.in-Ok.query) c.in-Ok.ensures.exact) c.checked.ensures
+returns-in-Ok c = whole_answer sentence_of (marks c.args.tokens.now) c.args.end sentence_of c.in-Ok.query
+    c.checked.result (told_by sentence_of (marks c.args.tokens.now) (Ok c.in-Ok.query) c.in-Ok.ensures.exact)
+    c.checked.ensures
 
 pub returns-in-Err-Offends : goal.returns-in-Err-Offends
 returns-in-Err-Offends c = λ ne.
     let e : c.in-Err-Offends.field-0 ≡ refusal.Offends c.in-Err-Offends.left = c.in-Err-Offends.field-0-is in
-    let t = told_by sentence_of (marks c.args.tokens.now) (Err c.in-Err-Offends.field-0) c.in-Err-Offends.ensures.exact in
-    refused_answer sentence_of c.args.tokens.now c.in-Err-Offends.left c.args.end c.refused.result (subst (λ (r : Refusal). Told sentence_of (marks c.args.tokens.now) (Err r)) e t) (rw (← c.split_at.ensures.front, ← c.split_at.ensures.back) c.refused.ensures)
+    let t = told_by sentence_of (marks c.args.tokens.now) (Err c.in-Err-Offends.field-0)
+    c.in-Err-Offends.ensures.exact in
+    refused_answer sentence_of c.args.tokens.now c.in-Err-Offends.left c.args.end c.refused.result
+    (subst (λ (r : Refusal). Told sentence_of (marks c.args.tokens.now) (Err r)) e t)
+    (rw (← c.split_at.ensures.front, ← c.split_at.ensures.back) c.refused.ensures)
 
 pub returns-in-Err-TooDeep : goal.returns-in-Err-TooDeep
 returns-in-Err-TooDeep c =
     let e : c.in-Err-TooDeep.field-0 ≡ refusal.TooDeep = c.in-Err-TooDeep.field-0-is in
-    let t = told_by sentence_of (marks c.args.tokens.now) (Err c.in-Err-TooDeep.field-0) c.in-Err-TooDeep.ensures.exact in
-    λ ne. too_deep (marks c.args.tokens.now) c.args.end (subst (λ (r : Refusal). Told sentence_of (marks c.args.tokens.now) (Err r)) e t)
+    let t = told_by sentence_of (marks c.args.tokens.now) (Err c.in-Err-TooDeep.field-0)
+    c.in-Err-TooDeep.ensures.exact in
+    λ ne. too_deep (marks c.args.tokens.now) c.args.end
+    (subst (λ (r : Refusal). Told sentence_of (marks c.args.tokens.now) (Err r)) e t)
