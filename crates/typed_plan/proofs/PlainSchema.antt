@@ -9,6 +9,7 @@ use Rattle.arrow_schema.specs.declared.data_type.DataType.{DataType}
 use Rattle.arrow_schema.specs.declared.data_type.DataType.TheVariants.{Integer, Utf8, Bool as Flag, Decimal128, Dictionary}
 use Rattle.arrow_schema.specs.declared.schema.Field.{Field}
 use Rattle.arrow_schema.specs.declared.schema.Schema.{Schema}
+use Rattle.arrow_schema.specs.Answer.{answer_type, answer_field}
 use Rattle.arrow_schema.specs.Header.{shares_dictionary, same_dictionary}
 use Rattle.arrow_schema.specs.Schema.{IsType, IsField, IsSchema}
 use Rattle.scan_base.specs.declared.fault.Fault.{Fault}
@@ -26,7 +27,7 @@ use Rattle.typed_plan.specs.Bound.{must, fault_in, filter_fault, width_fault, mo
 use Rattle.typed_plan.specs.Named.{IsNameIfThere, HasNames}
 use Rattle.typed_plan.specs.Outcome.{Binds}
 use Rattle.typed_plan.specs.Plain.{column_fault, columns_fault, chosen_fault, plain_fault, place_scope}
-use Rattle.typed_plan.specs.ResultSchema.{answer_type, answer_field, field_at, item_field, list_fields, select_fields}
+use Rattle.typed_plan.specs.ResultSchema.{field_at, item_field, list_fields, select_fields}
 use Rattle.typed_plan.proofs.PlainTyped.{then_none, meant_within, placed}
 
 -- a type that is no dictionary

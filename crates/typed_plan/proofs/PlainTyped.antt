@@ -8,6 +8,7 @@ use Rattle.arrow_schema.specs.declared.data_type.DataType.{DataType}
 use Rattle.arrow_schema.specs.declared.data_type.DataType.TheVariants.{Utf8}
 use Rattle.arrow_schema.specs.declared.schema.Field.{Field}
 use Rattle.arrow_schema.specs.declared.schema.Schema.{Schema}
+use Rattle.arrow_schema.specs.Answer.{answer_type, answer_field}
 use Rattle.scan_base.specs.declared.fault.Fault.{Fault}
 use Rattle.scan_base.specs.declared.predicate.Operand.{Operand}
 use Rattle.scan_base.specs.declared.predicate.Operand.TheVariants as operand
@@ -28,7 +29,7 @@ use Rattle.typed_plan.specs.Bound.{◌then◌, fault_in, operand_class, compare_
 use Rattle.typed_plan.specs.Numbered.{operand_map, predicate_map}
 use Rattle.typed_plan.specs.Plan.{Tree, scan}
 use Rattle.typed_plan.specs.Plain.{column_fault, columns_fault, chosen_fault, plain_fault, number_of_item, chosen, numbered_filter, where_kept, place_scope, plain_plan}
-use Rattle.typed_plan.specs.ResultSchema.{answer_type, answer_field, field_at, expression_field, list_fields, select_fields}
+use Rattle.typed_plan.specs.ResultSchema.{field_at, expression_field, list_fields, select_fields}
 use Rattle.typed_plan.specs.Typed.{types_of, tree_types, class_if_there, class_of_number, IsTypedTree, IsTypedOutput, IsTyped}
 
 pub then_none : (a b : Option Fault) → (a then b) ≡ None → (a ≡ None) × (b ≡ None)

@@ -19,7 +19,7 @@ rows_after-append database scope (join ∷ joins) xs ys =
     ap (rows_after database wider joins) (flat_map-append (extensions wider join.on (place_rows database join.place)) xs ys)
     ∙ rows_after-append database wider joins _ _
 
-rows_between-append : (a b c : ℕ) (rows : List Row) → a ≤ b → b ≤ c → rows_between a b rows ++ rows_between b c rows ≡ rows_between a c rows
+pub rows_between-append : (a b c : ℕ) (rows : List Row) → a ≤ b → b ≤ c → rows_between a b rows ++ rows_between b c rows ≡ rows_between a c rows
 rows_between-append a b c rows h k =
     let sizes : c - a ≡ (b - a) + (c - b) = omega arith in
     let starts : a + (b - a) ≡ b = omega arith in

@@ -1,11 +1,11 @@
 -- The columns of a query's result.
 use Rattle.std.specs.Prelude.{ℕ, ◌+◌, true, false, List, [], ◌∷◌, ◌++◌, map, slice_get, Option, Some, None, unwrap_or, codes}
 use Rattle.std.specs.Fmt.{decimal}
-use Rattle.arrow_schema.specs.declared.data_type.DataType.{DataType}
-use Rattle.arrow_schema.specs.declared.data_type.DataType.TheVariants.{Integer, Utf8, Decimal128, Dictionary}
+use Rattle.arrow_schema.specs.declared.data_type.DataType.TheVariants.{Integer, Utf8, Decimal128}
 use Rattle.arrow_schema.specs.declared.data_type.IntegerType.TheVariants.{Int64}
 use Rattle.arrow_schema.specs.declared.schema.Field.{Field}
 use Rattle.arrow_schema.specs.declared.schema.Schema.{Schema}
+use Rattle.arrow_schema.specs.Answer.{answer_field}
 use Rattle.sql_query.specs.declared.query.Expression.{Expression}
 use Rattle.sql_query.specs.declared.query.Expression.TheVariants.{Column, CountRows, Count, Sum}
 use Rattle.sql_query.specs.declared.query.SelectItem.{SelectItem}
@@ -16,15 +16,6 @@ use Rattle.table_versions.specs.Table.{Name}
 use Rattle.table_versions.specs.Database.{Database}
 use Rattle.typed_plan.specs.Scope.{Scope, ScopeColumn, numbered}
 use Rattle.typed_plan.specs.Joined.{scope_of}
-
--- until dictionary answers are built, a dictionary of texts is answered as texts
-abbrev pub answer_type : DataType → DataType
-answer_type (Dictionary encoding) = Utf8
-answer_type other = other
-
--- a column keeps its name, its type and whether it may be null
-abbrev pub answer_field : Field → Field
-answer_field field = record field { data_type = answer_type field.data_type }
 
 -- a query with a name that means no column is refused before
 abbrev pub field_at : Option ScopeColumn → Field

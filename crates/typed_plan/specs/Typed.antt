@@ -5,6 +5,7 @@ use Rattle.arrow_schema.specs.declared.data_type.DataType.{DataType}
 use Rattle.arrow_schema.specs.declared.data_type.DataType.TheVariants.{Utf8}
 use Rattle.arrow_schema.specs.declared.schema.Field.{Field}
 use Rattle.arrow_schema.specs.declared.schema.Schema.{Schema}
+use Rattle.arrow_schema.specs.Answer.{answer_type}
 use Rattle.scan_base.specs.declared.fault.Fault.{Fault}
 use Rattle.scan_base.specs.Predicate.{Pred, names_only}
 use Rattle.scan_base.specs.declared.fault.Fault.TheVariants.{UnknownName}
@@ -16,7 +17,6 @@ use Rattle.typed_plan.specs.declared.plan.Output.{Output}
 use Rattle.typed_plan.specs.declared.plan.Output.TheVariants.{Project}
 use Rattle.typed_plan.specs.Class.{type_class}
 use Rattle.typed_plan.specs.Bound.{predicate_fault}
-use Rattle.typed_plan.specs.ResultSchema.{answer_type}
 use Rattle.typed_plan.specs.Plan.{Tree, scan, filtered, PlanAt}
 
 abbrev pub types_of : List Field → List DataType

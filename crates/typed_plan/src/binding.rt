@@ -14,7 +14,6 @@ ghost use Rattle.typed_plan.specs.Plan.{scan};
 ghost use Rattle.typed_plan.specs.declared.plan.Columns.TheVariants.{All};
 ghost use Rattle.typed_plan.specs.View.{tree_of, plan_of};
 
-use crate::answer::copy_schema;
 use crate::plan::{Columns, Output, Plan, TypedPlan};
 use crate::predicate::number_predicate;
 use crate::scope::Scope;
@@ -109,7 +108,7 @@ fn filtered_scan(
 {
     let scan = Plan::Scan {
         table: table.clone()?,
-        schema: copy_schema(alloc, schema)?,
+        schema: schema.copy(alloc)?,
         columns: Columns::All,
     };
     match filter {

@@ -1,7 +1,6 @@
 //! Each public call once, and the faults of whole queries, over a table t of one Int64 column a.
 
-ghost use Rattle.std.specs.Prelude.{◌≡◌, length, IfOk, IsTrue};
-ghost use Rattle.arrow_schema.specs.Header.{is_built, is_long};
+ghost use Rattle.std.specs.Prelude.{IfOk};
 ghost use Rattle.arrow_schema.specs.Schema.{IsField, IsSchema};
 
 use crate::laws::{ranges_join, typed_predicates_name_columns};
@@ -15,8 +14,7 @@ use std::test::Fail;
 use table_versions::{CatalogVersion, IfExists, IfNotExist, Put, Snapshot, apply};
 
 fn field(alloc: Global) -> Result<Field, Fault>
-    ensures valid { IfOk result IsField }
-    ensures typed { IfOk result (λ field. IsTrue (is_long field.data_type)) }
+    ensures { IfOk result IsField }
 {
     Ok(Field {
         name: Text::new(alloc, "a")?,
@@ -26,8 +24,7 @@ fn field(alloc: Global) -> Result<Field, Fault>
 }
 
 fn schema(alloc: Global) -> Result<Schema, Fault>
-    ensures valid { IfOk result IsSchema }
-    ensures built { IfOk result (λ schema. IsTrue (is_built schema.fields)) }
+    ensures { IfOk result IsSchema }
 {
     let mut fields = Items::new(alloc);
     fields.push(field(alloc)?)?;

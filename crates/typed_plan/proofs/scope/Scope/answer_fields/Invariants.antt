@@ -1,5 +1,5 @@
 use Rattle.std.proofs.Common.{◌≡◌, take, map}
-use Rattle.typed_plan.specs.ResultSchema.{answer_field}
+use Rattle.arrow_schema.specs.Answer.{answer_field}
 use Rattle.typed_plan.proofs.scope.Scope.answer_fields.Given as goal
 
 abbrev pub invariant-loop-column : goal.invariant-loop-column

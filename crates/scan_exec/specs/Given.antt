@@ -1,0 +1,45 @@
+-- What a plan makes of the rows of its table.
+use Rattle.std.specs.Prelude.{ℕ, Bool, true, ◌&&◌, List, map}
+use Rattle.std.specs.List.{filter}
+use Rattle.scan_base.specs.Predicate.{cell_in}
+use Rattle.table_versions.specs.Table.{Name, Row}
+use Rattle.typed_plan.specs.declared.plan.Columns.{Columns}
+use Rattle.typed_plan.specs.declared.plan.Columns.TheVariants.{All, These}
+use Rattle.typed_plan.specs.declared.plan.Output.{Output}
+use Rattle.typed_plan.specs.declared.plan.Output.TheVariants.{Project}
+use Rattle.typed_plan.specs.Plan.{Tree, scan, filtered, PlanAt, is_true}
+
+-- the table that a tree reads
+abbrev pub tree_table : Tree → Name
+tree_table (scan table schema columns) = table
+tree_table (filtered predicate tree) = tree_table tree
+
+-- the cells that a tree takes of a row of its table
+abbrev pub tree_columns : Tree → Columns
+tree_columns (scan table schema columns) = columns
+tree_columns (filtered predicate tree) = tree_columns tree
+
+abbrev pub output_columns : Output → Columns
+output_columns (Project columns) = columns
+
+-- these cells of a row
+abbrev pub cells : Columns → Row → Row
+cells All row = row
+cells (These columns) row = map (cell_in row) columns
+
+-- whether all filters of a tree are true in a row of its input
+abbrev pub passes : Tree → Row → Bool
+passes (scan table schema columns) row = true
+passes (filtered predicate tree) row = passes tree row && is_true predicate row
+
+-- whether a plan gives a row of its table
+abbrev pub holds : Tree → Row → Bool
+holds tree row = passes tree (cells (tree_columns tree) row)
+
+-- what it gives of that row
+abbrev pub shown : PlanAt → Row → Row
+shown plan row = cells (output_columns plan.output) (cells (tree_columns plan.tree) row)
+
+-- what a plan gives of rows of its table
+abbrev pub given : PlanAt → List Row → List Row
+given plan rows = map (shown plan) (filter (holds plan.tree) rows)

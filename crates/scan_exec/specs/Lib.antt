@@ -1,0 +1,7 @@
+pub mod Chosen
+pub mod Given
+pub mod Opened
+pub mod Placed
+pub mod Reading
+pub mod Runs
+pub mod Scan

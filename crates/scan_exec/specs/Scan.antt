@@ -1,0 +1,64 @@
+-- What a scan gives, and what it opens.
+use Rattle.std.specs.Prelude.{◌≡◌, ◌≢◌, ◌≤◌, ◌<◌, ℕ, List, [], ◌∷◌, ◌++◌, length, Option, Some, None, Result, Ok, Err}
+use Rattle.arrays.specs.Batch.{BatchAt, rows_of}
+use Rattle.arrays.specs.Column.{ColumnAt}
+use Rattle.arrays.specs.Typed.{IsOfType}
+use Rattle.arrow_schema.specs.declared.data_type.DataType.{DataType}
+use Rattle.scan_base.specs.declared.fault.Fault.{Fault}
+use Rattle.scan_base.specs.declared.fault.Fault.TheVariants.{OutOfMemory}
+use Rattle.table_versions.specs.Database.{table_at}
+use Rattle.table_versions.specs.Stored.{TableAt, CatalogAt}
+use Rattle.table_versions.specs.Table.{Row}
+use Rattle.typed_plan.specs.Plan.{PlanAt}
+use Rattle.typed_plan.specs.Typed.{tree_types, types_taken}
+use Rattle.scan_exec.specs.Given.{tree_table, output_columns}
+
+-- the rows that are still to be given, and the types of their columns; how many batches of the table have a row in
+-- the range, and how many were opened; and what refused the scan
+pub record ScanAt : Type 0 where
+  pub left : List Row
+  pub types : List DataType
+  pub batches : ℕ
+  pub opened : ℕ
+  pub refused : Option Fault
+
+-- there is a column for each type, of that type
+abbrev pub AreOf : List DataType → List ColumnAt → Type 0
+AreOf [] [] = Unit {0}
+AreOf (data_type ∷ types) (column ∷ columns) = IsOfType data_type column.layout × AreOf types columns
+AreOf _ _ = ⊥
+
+-- a batch has the next rows, one or more, in columns of the types
+pub record GivesRows (before : ScanAt) (batch : BatchAt) (after : ScanAt) : Type 0 where
+  pub some : 0 < batch.rows
+  pub rows : rows_of batch ++ after.left ≡ before.left
+  pub wide : length batch.columns ≡ length before.types
+  pub typed : AreOf before.types batch.columns
+  pub types : after.types ≡ before.types
+  pub batches : after.batches ≡ before.batches
+  pub opening : before.opened ≤ after.opened
+  pub opened : after.opened ≤ before.batches
+  pub refused : after.refused ≡ None
+
+-- What a call gives. Where nothing is left, all batches that have a row in the range were opened, and no other.
+-- Memory refuses a scan only where something is left, and what refused it is answered from then on.
+abbrev pub Gives : ScanAt → Result (Option BatchAt) Fault → ScanAt → Type 0
+Gives before result after = going before.refused result
+  where
+    going : Option Fault → Result (Option BatchAt) Fault → Type 0
+    going (Some fault) result = (result ≡ Err fault) × (after ≡ before)
+    going None (Ok (Some batch)) = GivesRows before batch after
+    going None (Ok None) = (before.left ≡ []) × (after ≡ record before { opened = before.batches })
+    going None (Err fault) = (fault ≡ OutOfMemory) × (after.refused ≡ Some fault) × (before.left ≢ [])
+
+-- the types of the table's columns that a plan gives; its schema has those of answers
+abbrev pub plan_types : PlanAt → List DataType
+plan_types plan = types_taken (output_columns plan.output) (tree_types plan.tree)
+
+abbrev pub batches_of : Option TableAt → List BatchAt
+batches_of (Some table) = table.batches
+batches_of None = []
+
+-- the batches of the table that a plan reads
+abbrev pub batches_read : PlanAt → CatalogAt → List BatchAt
+batches_read plan catalog = batches_of (table_at catalog (tree_table plan.tree))
