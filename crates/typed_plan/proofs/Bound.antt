@@ -4,18 +4,16 @@ use Rattle.scan_base.specs.declared.fault.Fault.{Fault}
 use Rattle.sql_query.specs.Sentence.{Sentence}
 use Rattle.table_versions.specs.Table.{Table}
 use Rattle.table_versions.specs.Database.{Database, table_at}
-use Rattle.typed_plan.specs.declared.plan.TypedPlan.{TypedPlan}
 use Rattle.typed_plan.specs.Binding.{IsPlanOf}
 use Rattle.typed_plan.specs.Bound.{fault_of, is_unbuilt}
 use Rattle.typed_plan.specs.Outcome.{Binds}
 use Rattle.typed_plan.specs.Plain.{plain_fault, place_scope, plain_plan, numbered_filter}
-use Rattle.typed_plan.specs.View.{plan_of}
+use Rattle.typed_plan.specs.View.{BoundAt, plan_of}
 use Rattle.typed_plan.proofs.Plain.{built, there}
 use Rattle.typed_plan.proofs.PlainMeaning.{means, result, over}
-use Rattle.typed_plan.proofs.PlainTyped.{typed}
 
 pub bound : (query : Sentence) (database : Database) (table : Table) → is_unbuilt query ≡ false → table_at database query.first.table ≡ Some table →
-    (given : Result TypedPlan Fault) →
+    (given : Result BoundAt Fault) →
     Binds (plain_fault query (place_scope query table.schema)) (λ plan. plan_of plan ≡ plain_plan query (place_scope query table.schema) table.schema) given →
     Binds (fault_of query database) (λ plan. IsPlanOf query database (plan_of plan)) given
 bound query database table e t (Ok plan) given =
@@ -25,7 +23,6 @@ bound query database table e t (Ok plan) given =
       subst (IsPlanOf query database) (sym given.1) (record {
         means = means query database table b t;
         schema = result query database table b t;
-        typed = typed query table.schema given.0;
         over = over query database table t (numbered_filter scope query.filter);
       }),
     )

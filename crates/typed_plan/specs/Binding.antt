@@ -5,7 +5,7 @@ use Rattle.table_versions.specs.Database.{Database}
 use Rattle.typed_plan.specs.Meaning.{meaning}
 use Rattle.typed_plan.specs.ResultSchema.{result_schema}
 use Rattle.typed_plan.specs.Plan.{PlanAt, plan_rows}
-use Rattle.typed_plan.specs.Typed.{IsTyped, IsOver}
+use Rattle.typed_plan.specs.Typed.{IsOver}
 
 -- the plan gives the rows that the query means, on each range of the first place
 abbrev pub Means : PlanAt → Sentence → Database → Type 0
@@ -15,5 +15,4 @@ Means plan query database = (a b : ℕ) → plan_rows plan database a b ≡ mean
 pub record IsPlanOf (query : Sentence) (database : Database) (plan : PlanAt) : Type 0 where
   pub means : Means plan query database
   pub schema : plan.schema ≡ result_schema query database
-  pub typed : IsTyped plan
   pub over : IsOver plan.tree database

@@ -1,12 +1,19 @@
 -- The plan that a tree of boxes stands for.
+use Rattle.arrow_schema.specs.declared.schema.Schema.{Schema}
 use Rattle.typed_plan.specs.declared.plan.Plan.{Plan, Scan, Filter'}
-use Rattle.typed_plan.specs.declared.plan.TypedPlan.{TypedPlan}
+use Rattle.typed_plan.specs.declared.plan.Output.{Output}
 use Rattle.scan_base.specs.View.{pred_of}
 use Rattle.typed_plan.specs.Plan.{Tree, scan, filtered, PlanAt}
+
+-- a bound query: a tree of boxes, what the result takes of its rows, and the result's columns
+pub record BoundAt : Type 0 where
+  pub plan : Plan
+  pub output : Output
+  pub schema : Schema
 
 abbrev pub tree_of : Plan → Tree
 tree_of (Scan table schema columns) = scan table schema columns
 tree_of (Filter' predicate _ input) = filtered (pred_of predicate) (tree_of input)
 
-abbrev pub plan_of : TypedPlan → PlanAt
-plan_of typed = record { tree = tree_of typed.plan; output = typed.output; schema = typed.schema }
+abbrev pub plan_of : BoundAt → PlanAt
+plan_of bound = record { tree = tree_of bound.plan; output = bound.output; schema = bound.schema }

@@ -69,6 +69,7 @@ fn bind_parts(
     scope: &Scope<'_>,
     schema: &Schema,
 ) -> Result<TypedPlan, Fault>
+    requires { scope.now ≡ place_scope (sentence_of query.now) schema.now }
     ensures { Binds (plain_fault (sentence_of query.now) scope.now)
         (λ plan. plan_of plan ≡ plain_plan (sentence_of query.now) scope.now schema.now) result }
 {

@@ -1,7 +1,12 @@
 //! Plans: what gives the rows of a bound query.
 
+ghost use Rattle.std.specs.Prelude.{◌≡◌};
+ghost use Rattle.typed_plan.specs.Typed.{IsTyped};
+ghost use Rattle.typed_plan.specs.View.{plan_of};
+
 use arrow_schema::Schema;
 use scan_base::{Items, Predicate, Text};
+use std::marker::Model;
 
 /// Which cells of a row are taken.
 #[derive(Debug, Drop)]
@@ -35,10 +40,50 @@ pub enum Output {
     Project(Columns),
 }
 
-/// A bound query: what gives its rows, and the columns of its result.
+/// A bound query: what gives its rows, and the columns of its result. It is well typed: each column is
+/// there, what is compared is of one class, and the result has the types that its schema says.
 #[derive(Debug, Drop)]
 pub struct TypedPlan {
-    pub plan: Plan,
-    pub output: Output,
-    pub schema: Schema,
+    pub(crate) plan: Plan,
+    pub(crate) output: Output,
+    pub(crate) schema: Schema,
+}
+
+impl Model for TypedPlan {
+    ghost use Rattle.std.specs.Coded.{codes};
+    ghost use Rattle.typed_plan.specs.contracts.plan.Plan as tree;
+    ghost use Rattle.typed_plan.specs.Typed.{IsTyped};
+    ghost use Rattle.typed_plan.specs.View.{BoundAt, plan_of};
+
+    ghost Value = { BoundAt };
+
+    ghost coded = { Prim.hlevel (codes, tree.the_row.coded) };
+
+    ghost view = { λ t. record { plan = t.plan; output = t.output; schema = t.schema } };
+
+    ghost invariant = { λ t. IsTyped (plan_of (record { plan = t.plan; output = t.output; schema = t.schema })) };
+}
+
+impl TypedPlan {
+    /// What gives the rows.
+    pub fn plan(&self) -> &Plan
+        ensures plan { result.now ≡ self.now.plan }
+        ensures typed { IsTyped (plan_of self.now) }
+    {
+        &self.plan
+    }
+
+    /// What the result takes of the rows.
+    pub fn output(&self) -> &Output
+        ensures { result.now ≡ self.now.output }
+    {
+        &self.output
+    }
+
+    /// The columns of the result.
+    pub fn schema(&self) -> &Schema
+        ensures { result.now ≡ self.now.schema }
+    {
+        &self.schema
+    }
 }

@@ -116,13 +116,13 @@ fn filtered_table(plan: &Plan) -> Option<&str> {
 fn a_filtered_column(rt: HostRuntime) -> Result<(), Fail> {
     let plan = answer(rt.alloc(), "t", "a", Value::Int(5))?;
     let name = plan
-        .schema
+        .schema()
         .fields
         .as_slice()
         .first()
         .map(|field| field.name.as_str());
     assert_eq!(rt;
-        (taken(&plan.output), filtered_table(&plan.plan), name),
+        (taken(plan.output()), filtered_table(plan.plan()), name),
         (Some((1, 0)), Some("t"), Some("b"))
     );
     ranges_join();
