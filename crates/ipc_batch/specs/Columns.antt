@@ -45,21 +45,25 @@ texts_at rows body node validity offsets bytes = do
   texts_of bits cuts text rows
 
 -- the values of another type whose validity bits and packed values lie in these buffers
-unfoldable pub values_at : DataType → List Value → ℕ → List ℕ → FieldNode → BufferPlace → BufferPlace → Result Layout Fault
+unfoldable pub values_at :
+    DataType → List Value → ℕ → List ℕ → FieldNode → BufferPlace → BufferPlace → Result Layout Fault
 values_at data_type dictionary rows body node validity values = do
   _ ← demand (node.length == rows) BadBatch
   bits ← validity_at body node validity
   packed ← buffer_at body values
   values_layout data_type dictionary bits packed rows
 
+-- a column of texts, over the buffers at the front
 abbrev pub texts_front : ℕ → List ℕ → FieldNode → List BufferPlace → Result FrontAt Fault
 texts_front rows body node (validity ∷ offsets ∷ bytes ∷ behind) =
     texts_at rows body node validity offsets bytes >>= λ cells. Ok (record { layout = Texts cells; behind = behind })
 texts_front rows body node _ = Err BadBatch
 
+-- a column of another type, over the buffers at the front
 abbrev pub values_front : DataType → List Value → ℕ → List ℕ → FieldNode → List BufferPlace → Result FrontAt Fault
 values_front data_type dictionary rows body node (validity ∷ values ∷ behind) =
-    values_at data_type dictionary rows body node validity values >>= λ layout. Ok (record { layout = layout; behind = behind })
+    values_at data_type dictionary rows body node validity values >>=
+    λ layout. Ok (record { layout = layout; behind = behind })
 values_front data_type dictionary rows body node _ = Err BadBatch
 
 -- the layout of a type, over the buffers at the front
@@ -69,7 +73,8 @@ front_of data_type dictionaries rows body node places =
     values_front data_type (values_led_to data_type dictionaries) rows body node places
 
 -- the columns of fields that have a node each, from the first on: of each its node, and then its buffers
-abbrev pub columns_from : List Field → Dictionaries → ℕ → List ℕ → List FieldNode → List BufferPlace → Result (List ColumnAt) Fault
+abbrev pub columns_from :
+    List Field → Dictionaries → ℕ → List ℕ → List FieldNode → List BufferPlace → Result (List ColumnAt) Fault
 columns_from [] dictionaries rows body nodes places = Ok []
 columns_from (field ∷ fields) dictionaries rows body [] places = Err BadBatch
 columns_from (field ∷ fields) dictionaries rows body (node ∷ nodes) places = do

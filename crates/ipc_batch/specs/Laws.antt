@@ -43,4 +43,5 @@ GlancesComeFirst = (state : State) (sent : Sent) (fault : Fault) →
 abbrev pub NegativesLieOutside : Type 0
 NegativesLieOutside = (body : List ℕ) → length body < 2 ^ 63 →
     ((place : BufferPlace) → (2 ^ 63 ≤ place.offset) ⊎ (2 ^ 63 ≤ place.length) → placed_in body place ≡ Err BadBatch)
-    × ((message : MessageAt) (claimed : ℕ) → body_length_of message ≡ Ok claimed → 2 ^ 63 ≤ claimed → body_claimed message body ≡ Err BadBatch)
+    × ((message : MessageAt) (claimed : ℕ) → body_length_of message ≡ Ok claimed → 2 ^ 63 ≤ claimed →
+    body_claimed message body ≡ Err BadBatch)

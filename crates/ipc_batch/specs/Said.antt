@@ -60,7 +60,8 @@ has_id id _ = false
 abbrev pub leads_to : ℕ → Field → Bool
 leads_to id field = has_id id field.data_type
 
--- the parts of a dictionary: its id is one that a field has, and its values are one column of texts
+-- the parts of a dictionary: its id is one that a field has, and its values are one column of texts, which has
+-- one node and three buffers
 unfoldable pub dictionary_sent : Known → MessageAt → List ℕ → Result DictionaryParts Fault
 dictionary_sent known message body = do
   sent ← dictionary_parts message body

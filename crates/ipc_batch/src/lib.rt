@@ -2,7 +2,7 @@
 #![tactic(auto)]
 
 pub mod columns;
-pub mod dictionaries;
+mod dictionaries;
 pub mod laws;
 pub mod parts;
 pub mod reader;
