@@ -1,10 +1,6 @@
 -- The laws of what is read of a buffer: it is what the buffer says, and it may be written.
-use Rattle.std.proofs.Common.{◌+◌, nat_le, if◌then◌else◌, Bool, false, Err, ◌≡◌, ◌<◌, ◌^◌, inl, inr, true, ℕ, List, length, Option, Some, None, Ok, refl, arith, sym, subst, get_or}
-use Rattle.std.specs.Prelude.{slice_index}
+use Rattle.std.proofs.Common.{◌+◌, nat_le, if◌then◌else◌, Bool, false, Err, ◌≡◌, ◌<◌, ◌^◌, true, ℕ, List, length, Option, Some, None, Ok, refl, arith, sym, subst, get_or}
 use Rattle.std.specs.Str.{IsUtf8}
-use Rattle.std.proofs.lemmas.Bool.{cases_lt}
-use Rattle.std.proofs.lemmas.List.{get_or_past}
-use Rattle.std.proofs.lemmas.List.Elements.{All-get_or}
 use Rattle.std.proofs.lemmas.Option.{slice_get-get_or}
 use Rattle.byteorder.specs.Endian.{little_from}
 use Rattle.byteorder.specs.Numbers.{little_from-lt}
@@ -12,7 +8,7 @@ use Rattle.scan_base.specs.declared.fault.Fault.{Fault}
 use Rattle.scan_base.specs.declared.fault.Fault.TheVariants.{BadFlatbuffer}
 use Rattle.flatbuf.specs.Layout.{TableAt, IsBytes, IsScalar, IsReached, IsText, HasNumber}
 use Rattle.flatbuf.specs.Place.{number_at}
-use Rattle.flatbuf.proofs.Readings.{seen_finds, seen_number}
+use Rattle.flatbuf.proofs.Readings.{byte_of, seen_finds, seen_number}
 use Rattle.arrow_schema.specs.declared.data_type.DataType.{DataType}
 use Rattle.arrow_schema.specs.declared.data_type.DataType.TheVariants.{Integer, Utf8, Bool as Flags, Decimal128, Dictionary}
 use Rattle.arrow_schema.specs.declared.schema.Field.{Field}
@@ -25,12 +21,6 @@ pub read_is_said : ReadIsSaid
 read_is_said bytes schema is = (schema_told bytes schema is, schema_read bytes schema is)
 
 -- ---- what was read may be written
-
-pub byte_of : (bytes : List ℕ) → IsBytes bytes → (k : ℕ) → slice_index bytes k < 256
-byte_of bytes is k = elim (cases_lt k (length bytes)) [
-  | inl inside ↦ All-get_or (λ byte. byte < 256) bytes k 0 inside is
-  | inr past ↦ rw (get_or_past bytes k 0 past) (omega arith)
-]
 
 if_ok : (b : Bool) (x n : ℕ) (fault : Fault) → (if b then Ok x else Err fault) ≡ Ok n → n ≡ x
 if_ok true x n fault e = cc

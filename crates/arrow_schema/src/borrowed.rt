@@ -26,6 +26,11 @@ impl<'a> Model for BorrowedField<'a> {
 
 // What an unused place of an `ArrayVec` holds.
 impl Default for BorrowedField<'_> {
+    ghost use Rattle.std.specs.Prelude.{◌≡◌, [], false};
+    ghost use Rattle.arrow_schema.specs.declared.data_type.DataType.TheVariants as kinds;
+
+    ghost is_default = { λ blank. blank ≡ record { name = []; nullable = false; data_type = kinds.Bool } };
+
     fn default() -> Self {
         BorrowedField {
             name: "",

@@ -1,6 +1,7 @@
 //! Bits of a shared buffer.
 
-ghost use Rattle.std.specs.Prelude.{◌≡◌, ◌==◌, ◌≤◌, ◌<◌, ◌+◌, ◌-◌, ◌&&◌, ◌||◌, not, length, count_by, IfOk, false, get_or, take, drop};
+ghost use Rattle.std.specs.Prelude.{◌≡◌, ◌==◌, ◌≤◌, ◌<◌, ◌+◌, ◌-◌, ◌&&◌, ◌||◌, not, length};
+ghost use Rattle.std.specs.Prelude.{count_by, IfOk, false, get_or, take, drop};
 ghost use Rattle.std.specs.Simd.Lanes.{mask_l, zip2};
 ghost use Rattle.bitmap.specs.Bits.{bits_of, joined, IsRoomy};
 

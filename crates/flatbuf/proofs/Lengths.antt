@@ -1,8 +1,9 @@
 -- How long written blocks are, and that they are whole.
 use Rattle.std.proofs.Common.{◌≡◌, ℕ, suc, ◌+◌, ◌*◌, ◌/◌, ◌%◌, ◌^◌, ◌≤◌, ◌<◌, List, [], ◌∷◌, ◌++◌, length, map, refl, arith}
 use Rattle.std.proofs.lemmas.List.{length-append, length-map}
-use Rattle.flatbuf.specs.Block.{Part, IsWhole, Given, Absent, Number, Offset, AreWhole, little, numbers, padding, entries, fields, children, vtable, table_part, items_part, text_part, structs_part, tables_from, tables_part}
+use Rattle.flatbuf.specs.Block.{Part, IsWhole, Given, Absent, Number, Offset, AreWhole, little, numbers, padding, entries, fields, children, vtable, items_part, tables_from, tables_part}
 use Rattle.flatbuf.specs.Fits.{FitsTable, FitsTables}
+use Rattle.flatbuf.specs.Lengths.{TableIsWhole, TableIsShort, TextIsWhole, TextIsShort, StructsAreWhole, StructsAreShort, TablesAreWhole, TablesAreShort}
 use Rattle.flatbuf.proofs.Standing.{length-little, length_padding, length_padded, tables_from_is}
 use Rattle.flatbuf.proofs.Written.{length-numbers, length-fields, length-entries, length-table, root_table, whole_vtable}
 
@@ -18,7 +19,7 @@ whole_children (Offset part ∷ more) whole =
     omega arith
 
 -- a table of whole blocks is whole
-pub whole_table : (slots : List Given) → AreWhole slots → IsWhole (table_part slots)
+pub whole_table : TableIsWhole
 whole_table slots whole =
     let a = length-table slots in
     let b = root_table slots in
@@ -27,7 +28,7 @@ whole_table slots whole =
     record { rooted = omega arith; whole = omega arith }
 
 -- a table takes at most so much beside the blocks that it leads to
-pub short_table : (slots : List Given) → length (table_part slots).bytes ≤ 20 + 10 * length slots + length (children slots)
+pub short_table : TableIsShort
 unfolding vtable
 short_table slots =
     let e = length-table slots in
@@ -54,10 +55,10 @@ whole_items count items =
     let f = length-little 4 count in
     record { rooted = omega arith; whole = length_padded all }
 
-pub whole_text : (text : List ℕ) → IsWhole (text_part text)
+pub whole_text : TextIsWhole
 whole_text text = whole_items (length text) (text ++ (0 ∷ []))
 
-pub whole_structs : (width : ℕ) (structs : List ℕ) → IsWhole (structs_part width structs)
+pub whole_structs : StructsAreWhole
 whole_structs width structs = whole_items (length structs / width) structs
 
 -- a count and items take at most so much
@@ -73,13 +74,13 @@ short_items count items =
     let g = length_padding (length all) in
     omega arith
 
-pub short_text : (text : List ℕ) → length (text_part text).bytes ≤ 16 + length text
+pub short_text : TextIsShort
 short_text text =
     let a = short_items (length text) (text ++ (0 ∷ [])) in
     let b : length (text ++ (0 ∷ [])) ≡ length text + 1 = length-append text (0 ∷ []) in
     omega arith
 
-pub short_structs : (width : ℕ) (structs : List ℕ) → length (structs_part width structs).bytes ≤ 15 + length structs
+pub short_structs : StructsAreShort
 short_structs width structs = short_items (length structs / width) structs
 
 -- how long a vector of tables is with the tables
@@ -99,7 +100,7 @@ length-tables tables =
     omega arith
 
 -- a vector of whole tables is whole
-pub whole_tables : (tables : List Part) → AreWhole (map Offset tables) → IsWhole (tables_part tables)
+pub whole_tables : TablesAreWhole
 unfolding tables_part
 whole_tables tables whole =
     let a = length-tables tables in
@@ -108,7 +109,7 @@ whole_tables tables whole =
     record { rooted = omega arith; whole = omega arith }
 
 -- a vector of tables takes at most so much beside the tables
-pub short_tables : (tables : List Part) → length (tables_part tables).bytes ≤ 15 + 4 * length tables + length (children (map Offset tables))
+pub short_tables : TablesAreShort
 short_tables tables =
     let a = length-tables tables in
     let c = tables_from_is (length tables) in

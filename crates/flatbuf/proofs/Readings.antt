@@ -1,6 +1,6 @@
 -- Each reading finds what the format says.
-use Rattle.std.proofs.Common.{◌≡◌, ◌≢◌, ◌≤◌, ◌<◌, ℕ, ◌+◌, ◌-◌, ◌*◌, ◌^◌, ◌⊎◌, inl, inr, List, ◌++◌, length, take, drop, slice_index, nat_lt, nat_le, ◌==◌, if◌then◌else◌, Bool, true, false, Option, Some, None, Result, Ok, Err, refl, sym, ap, subst, ◌∙◌, arith, pos, ◌-ℤ◌, length-append}
-use Rattle.std.proofs.Math.Seq.{take-append_seam, drop-append_seam}
+use Rattle.std.proofs.Common.{◌≡◌, ◌≢◌, ◌≤◌, ◌<◌, ℕ, ◌+◌, ◌-◌, ◌*◌, ◌^◌, ◌⊎◌, inl, inr, List, length, take, drop, slice_index, nat_lt, nat_le, ◌==◌, if◌then◌else◌, Bool, true, false, Option, Some, None, Result, Ok, Err, refl, sym, ap, subst, ◌∙◌, arith, pos, ◌-ℤ◌}
+use Rattle.std.proofs.Math.Seq.{take-append_seam}
 use Rattle.std.proofs.lemmas.Bool.{cases_lt, le-leb, lt-leb, lt-ltb, le-ltb}
 use Rattle.std.proofs.lemmas.Bool.Decides.{eqb_tells}
 use Rattle.std.proofs.lemmas.Int.{ints}
@@ -18,6 +18,7 @@ use Rattle.flatbuf.specs.Layout.{Stands, IsBytes, HasNumber, HasOffset, TableAt,
 use Rattle.flatbuf.specs.Place.{number_at, bytes_at, target_of, root_of, vtable_of, field_of, scalar_at, scalar_of, led_from, through, table_of, vector_of, element_of, items_at, structs_of, text_of}
 use Rattle.flatbuf.specs.Readings.{Finds}
 use Rattle.flatbuf.proofs.Numbers.{little_from-at}
+use Rattle.flatbuf.proofs.Standing.{stands_drop, stands_within}
 
 -- what is read is the one value of which this holds, and BadFlatbuffer where it holds of none
 abbrev pub Seen : {A : Type 0} → Result A Fault → (A → Type 0) → Type 0
@@ -57,16 +58,8 @@ stands_part bytes at count fits = record {
   place = length-take-le at bytes (omega arith);
 }
 
-part_fits : (part bytes : List ℕ) (at : ℕ) → Stands part bytes at → at + length part ≤ length bytes
-part_fits part bytes at stands =
-    let whole = ap length stands.whole in
-    let first = length-append stands.before (part ++ stands.after) in
-    let second = length-append part stands.after in
-    omega arith
-
 part_is : (part bytes : List ℕ) (at : ℕ) → Stands part bytes at → part ≡ take (length part) (drop at bytes)
-part_is part bytes at stands =
-    rw (stands.whole, ← stands.place, drop-append_seam stands.before (part ++ stands.after), take-append_seam part stands.after) refl
+part_is part bytes at stands = rw (stands_drop part bytes at stands, take-append_seam part stands.after) refl
 
 part_value : (width at : ℕ) (bytes : List ℕ) → little_number width (take width (drop at bytes)) ≡ little_from at width bytes
 part_value width at bytes = little_from-take 0 width width (drop at bytes) (omega arith) ∙ little_from-at at width bytes
@@ -82,7 +75,7 @@ seen_number width bytes at = elim (cases_lt (length bytes) (at + width)) [
   | inl past ↦ rw (lt-leb (at + width) (length bytes) past) (
     refl,
     λ n has.
-        let fits = part_fits has.part bytes at has.stands in
+        let fits = stands_within has.part bytes at has.stands in
         let wide = has.wide in
         omega arith,
   )
@@ -102,7 +95,7 @@ seen_bytes bytes at count = elim (cases_lt (length bytes) (at + count)) [
   | inl past ↦ rw (lt-leb (at + count) (length bytes) past) (
     refl,
     λ part h.
-        let fits = part_fits part bytes at h.0 in
+        let fits = stands_within part bytes at h.0 in
         let wide = h.1 in
         omega arith,
   )
@@ -163,7 +156,7 @@ seen_element vector index =
     (seen_led vector.bytes place)
 
 -- each is a byte
-byte_of : (bytes : List ℕ) → IsBytes bytes → (k : ℕ) → slice_index bytes k < 256
+pub byte_of : (bytes : List ℕ) → IsBytes bytes → (k : ℕ) → slice_index bytes k < 256
 byte_of bytes isbytes k = elim (cases_lt k (length bytes)) [
   | inl inside ↦ All-get_or (λ byte. byte < 256) bytes k 0 inside isbytes
   | inr past ↦ rw (get_or_past bytes k 0 past) (omega arith)

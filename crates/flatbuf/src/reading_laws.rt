@@ -1,6 +1,9 @@
 //! Laws: each reading finds what the FlatBuffers format says, and nothing else.
 
-ghost use Rattle.flatbuf.specs.Readings.{FindsNumber, FindsBytes, FindsTarget, FindsRoot, FindsVtable, FindsField, FindsScalar, FindsTable, FindsVector, FindsElement, FindsItems, FindsStructs, FindsText};
+ghost use Rattle.flatbuf.specs.Readings.{FindsNumber, FindsBytes, FindsTarget, FindsRoot};
+ghost use Rattle.flatbuf.specs.Readings.{FindsVtable, FindsField, FindsScalar, FindsTable};
+ghost use Rattle.flatbuf.specs.Readings.{FindsVector, FindsElement, FindsItems, FindsStructs};
+ghost use Rattle.flatbuf.specs.Readings.{FindsText};
 
 /// Each reading gives the value that lies there by the FlatBuffers binary format, and
 /// `Fault::BadFlatbuffer` exactly where no value does. This is a law: the call does nothing.

@@ -2,7 +2,8 @@
 
 ghost use Rattle.std.specs.Prelude.{◌≡◌, ◌≤◌, ◌<◌, ◌+◌, ◌^◌, length, IfSome, IfOk, option_map};
 ghost use Rattle.scan_base.specs.Reading.{Gives};
-ghost use Rattle.flatbuf.specs.Place.{root_of, vtable_of, field_of, scalar_of, table_of, structs_of, text_of, vector_of};
+ghost use Rattle.flatbuf.specs.Place.{root_of, vtable_of, field_of, scalar_of, table_of};
+ghost use Rattle.flatbuf.specs.Place.{structs_of, text_of, vector_of};
 ghost use Rattle.flatbuf.specs.Width.{bytes_in};
 
 use crate::number::{items, number, target};

@@ -1,9 +1,13 @@
-//! What was written is read back. Each function here has an empty body: its contract is a law, of
-//! every block that a [`Builder`](crate::Builder) writes, wherever it stands in a buffer.
+//! What was written is read back, and how long it is. Each function here has an empty body: its
+//! contract is a law, of every block that a [`Builder`](crate::Builder) writes, wherever it stands in a
+//! buffer.
 
 ghost use Rattle.flatbuf.specs.Written.{TableReadsBack, VtableReadsBack, TableIsAligned};
 ghost use Rattle.flatbuf.specs.Written.{ChildReadsBack, TextReadsBack, StructsReadBack};
 ghost use Rattle.flatbuf.specs.Written.{TablesReadBack, BufferReadsBack};
+ghost use Rattle.flatbuf.specs.Lengths.{TableIsWhole, TableIsShort, TextIsWhole, TextIsShort};
+ghost use Rattle.flatbuf.specs.Lengths.{StructsAreWhole, StructsAreShort};
+ghost use Rattle.flatbuf.specs.Lengths.{TablesAreWhole, TablesAreShort};
 
 /// Every slot of a table reads as what it was given, and a slot past the last one as absent.
 pub fn table_reads_back()
@@ -43,4 +47,30 @@ pub fn tables_read_back()
 /// A finished buffer leads to its table, and has a multiple of 8 bytes.
 pub fn buffer_reads_back()
     ensures { BufferReadsBack }
+{}
+
+/// A table of whole blocks is whole: it has a multiple of 8 bytes. It has at most 20, and 10 more for
+/// each slot, beside those of the blocks that it leads to.
+pub fn table_is_short()
+    ensures whole { TableIsWhole }
+    ensures short { TableIsShort }
+{}
+
+/// A text's block is whole, and has at most 16 bytes beside those of the text.
+pub fn text_is_short()
+    ensures whole { TextIsWhole }
+    ensures short { TextIsShort }
+{}
+
+/// A block of structs is whole, and has at most 15 bytes beside those of the structs.
+pub fn structs_are_short()
+    ensures whole { StructsAreWhole }
+    ensures short { StructsAreShort }
+{}
+
+/// A vector of whole tables is whole, and has at most 15 bytes, and 4 more for each table, beside those
+/// of the tables.
+pub fn tables_are_short()
+    ensures whole { TablesAreWhole }
+    ensures short { TablesAreShort }
 {}

@@ -16,7 +16,8 @@ use Rattle.grpc_frame.specs.declared.head.RecordKind.TheVariants as kinds
 use Rattle.grpc_frame.specs.Records.{Received, spelling, IsRecord, place_after, Leads, IsKindAt, Flaw, wrong_kind, long_path, wrong_flag, long_message, bad_text, IsFlaw, shown_by, fault_of, Breaks}
 use Rattle.grpc_frame.specs.Head.{head_by, head_of, open_head, message_head, status_head}
 use Rattle.grpc_frame.specs.Front.{Faulty, Whole, front_by, front_of}
-use Rattle.grpc_frame.proofs.Texts.{is_utf8_false, test_from_utf8}
+use Rattle.std.proofs.lemmas.Str.{is_utf8-from_IsUtf8}
+use Rattle.scan_base.proofs.Texts.{is_utf8_false}
 
 -- what has come at a place
 abbrev pub at : Place → List ℕ → Received
@@ -131,7 +132,7 @@ front_again (Status code text) BetweenCalls after rest fits moves = absurd cc
 front_again (Status code text) InsideCall after rest fits moves = absurd cc
 front_again (Status code text) InAnswer after rest fits moves =
     let here : InAnswer ≡ after = cc in
-    rw (← here) (status_front code _ _ (length text) text rest true (from_be_bytes-to_be_bytes_2 (length text) fits.1) refl (test_from_utf8 text fits.2))
+    rw (← here) (status_front code _ _ (length text) text rest true (from_be_bytes-to_be_bytes_2 (length text) fits.1) refl (is_utf8-from_IsUtf8 text fits.2))
 
 pub leads_front : (found : Record) (old new : Received) → Leads found old new → front_of old ≡ Whole found new
 leads_front found old new leads = rw leads.whole (front_again found old.place new.place new.bytes leads.fits leads.moves)

@@ -39,3 +39,6 @@ found_bad place bytes head read room looked =
     let long : nat_lt (length bytes) (head.len + head.content_len) ≡ false = le-ltb _ (head.len + head.content_len) room in
     let is : is_content head.kind (content_in head bytes) ≡ false = rw (content_same head bytes) at looked in
     rw (read, long, is) refl
+
+-- what `read_front` found
+pub ruleset found = (found_whole, found_bad)

@@ -17,7 +17,7 @@ use Rattle.grpc_frame.specs.Records.{Received, place_after, Leads, IsKindAt, wro
 use Rattle.grpc_frame.specs.Head.{AreBytes, head_by, head_of, open_head, message_head, status_head}
 use Rattle.grpc_frame.specs.Front.{Front, Wanting, Faulty, Whole, record_front, content_in, rest_behind, front_by, front_of}
 use Rattle.grpc_frame.proofs.Again.{at, front_kind}
-use Rattle.grpc_frame.proofs.Texts.{utf8_from_test, test_from_utf8}
+use Rattle.std.proofs.lemmas.Str.{IsUtf8-from_is_utf8, is_utf8-from_IsUtf8}
 
 -- what the front is, in the profile's words
 abbrev pub FrontIs : Received → Front → Type 0
@@ -184,12 +184,12 @@ status_whole code b c n rest al spelled small room = by (is_utf8 (take n rest)) 
     parts = rw len (ap (λ (t : List ℕ). 4 ∷ code ∷ t) (behind_length (b ∷ c ∷ []) n (to_be_bytes w16 n) rest spelled))
 
     by : (t : Bool) → is_utf8 (take n rest) ≡ t → FrontIs (at InAnswer (4 ∷ code ∷ b ∷ c ∷ rest)) (record_front InAnswer (kinds.Status code) (take n rest) (drop n rest))
-    by true e = rw e (record { whole = parts; fits = (al, omega (arith, len), utf8_from_test _ e); moves = refl })
+    by true e = rw e (record { whole = parts; fits = (al, omega (arith, len), IsUtf8-from_is_utf8 _ e); moves = refl })
     by false e = rw e (record {
       flaw = bad_text code (take n rest);
       rest = drop n rest;
       whole = parts;
-      is_flaw = (inr refl, omega (arith, len), (λ is. absurd (let test : is_utf8 (take n rest) ≡ true = test_from_utf8 _ is in cc)));
+      is_flaw = (inr refl, omega (arith, len), (λ is. absurd (let test : is_utf8 (take n rest) ≡ true = is_utf8-from_IsUtf8 _ is in cc)));
       fault_is = refl;
     })
 

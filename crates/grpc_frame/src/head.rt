@@ -55,7 +55,7 @@ impl RecordKind {
     }
 
     /// The record of this kind that holds these bytes.
-    #[tactic(auto, using(crate::proofs::Texts::utf8_from_test))]
+    #[tactic(auto, using(crate::proofs::Texts::texts))]
     pub fn into_record(self, content: Bytes) -> Record
         requires { is_content self content ≡ true }
         ensures { result ≡ record_of self content }
@@ -73,7 +73,7 @@ impl RecordKind {
 }
 
 // Whether the bytes are UTF-8.
-#[tactic(auto, using(crate::proofs::Texts::is_utf8_false, crate::proofs::Texts::test_from_utf8))]
+#[tactic(auto, using(crate::proofs::Texts::texts))]
 fn is_text(bytes: &[u8]) -> bool
     ensures { result ≡ is_utf8 bytes.now }
 {
@@ -176,7 +176,7 @@ pub fn read_head(place: Place, bytes: &[u8]) -> Result<Option<Head>, Fault>
 /// # Errors
 ///
 /// Those of `read_head`, and `Fault::BadFrame` where a status text is not UTF-8.
-#[tactic(auto, unfolding(crate::specs::Front::front_of), using(crate::proofs::Found::found_whole, crate::proofs::Found::found_bad))]
+#[tactic(auto, unfolding(crate::specs::Front::front_of), using(crate::proofs::Found::found))]
 pub fn read_front(place: Place, bytes: &[u8]) -> Result<Option<Head>, Fault>
     ensures front { FindsFront result (record { bytes = bytes.now; place = place }) }
     ensures bytes { AreBytes bytes.now }

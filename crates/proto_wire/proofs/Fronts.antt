@@ -1,8 +1,8 @@
 -- What reads as a field stands in front in the standard's words, and what stands there is read.
-use Rattle.std.proofs.Common.{◌≡◌, ℕ, ◌+◌, ◌*◌, ◌/◌, ◌%◌, ◌<◌, ◌↔◌, Bool, true, false, List, [], ◌∷◌, ◌++◌, length, take, drop, Ok, refl, sym, ap, ◌∙◌, append_assoc, arith, inl, inr}
-use Rattle.std.specs.Prelude.{nat_le, ◌&&◌}
+use Rattle.std.proofs.Common.{◌≡◌, ℕ, ◌+◌, ◌*◌, ◌/◌, ◌%◌, ◌<◌, ◌↔◌, true, List, [], ◌∷◌, ◌++◌, length, take, drop, Ok, refl, sym, ap, ◌∙◌, append_assoc, arith, inl, inr}
+use Rattle.std.specs.Prelude.{nat_le}
 use Rattle.std.specs.Int.{w32, w64, from_le_bytes}
-use Rattle.std.proofs.lemmas.Bool.{le-leb, leb-true}
+use Rattle.std.proofs.lemmas.Bool.{and_parts, le-leb, leb-true}
 use Rattle.std.proofs.lemmas.List.{length-append, length-take-le, take-append-drop, take_at, drop_at}
 use Rattle.scan_base.specs.declared.fault.Fault.TheVariants.{BadProto}
 use Rattle.scan_base.specs.Reading.{◌>>=◌, demand}
@@ -93,13 +93,9 @@ payload_again (Fixed32 value) front rest h = rw (bytes_again front rest 4 h.0, �
 
 -- ---- a field
 
-both : (a b : Bool) → (a && b) ≡ true → (a ≡ true) × (b ≡ true)
-both true b e = (refl, e)
-both false b e = absurd cc
-
 number_kept : (number : ℕ) → is_field_number number ≡ true → IsFieldNumber number
 number_kept number e =
-    let h = both (nat_le 1 number) (nat_le number 536870911) e in
+    let h = and_parts (nat_le 1 number) (nat_le number 536870911) e in
     (leb-true 1 number h.0, leb-true number 536870911 h.1)
 
 number_again : (number : ℕ) → IsFieldNumber number → is_field_number number ≡ true

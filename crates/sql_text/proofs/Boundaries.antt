@@ -5,7 +5,7 @@ use Rattle.std.specs.Char.{is_ascii_digit}
 use Rattle.std.specs.List.{list_all}
 use Rattle.std.specs.Str.{IsUtf8, IsCharBoundary}
 use Rattle.std.proofs.Math.Seq.{get_or-append_seam}
-use Rattle.std.proofs.lemmas.Bool.{eqb-true}
+use Rattle.std.proofs.lemmas.Bool.{and_parts, eqb-true}
 use Rattle.std.proofs.lemmas.Bool.Decides.{nat_tests}
 use Rattle.std.proofs.lemmas.List.{length-append}
 use Rattle.std.proofs.lemmas.Str.{IsCharBoundary-end, IsCharBoundary-before_ascii, IsCharBoundary-after_ascii}
@@ -15,6 +15,7 @@ use Rattle.sql_text.specs.Values.{opened}
 use Rattle.sql_text.specs.Standard.{begins_word, continues_word, is_separator, continues_comment, symbols, symbol_in, Form, separator, comment, word, delimited_name, string, unclosed, digits, mark, Spells, StandsInFront, is_sound}
 use Rattle.sql_text.specs.Reading.{front_at}
 use Rattle.sql_text.proofs.Groups.{mark_short, some_byte}
+use Rattle.sql_text.proofs.Cuts.{word_ascii, digit_ascii}
 use Rattle.sql_text.proofs.Fronts.{front_read}
 
 -- the last byte is ASCII
@@ -32,18 +33,10 @@ ends_cut front rest e utf8 =
     rw len (IsCharBoundary-after_ascii (front ++ rest) (length e.before) utf8 (omega (arith, len, length-append front rest)) byte)
 
 run_ends : (p : ℕ → Bool) → ((b : ℕ) → p b ≡ true → b < 128) → (b : ℕ) (bytes : List ℕ) → list_all p (b ∷ bytes) ≡ true → Ends (b ∷ bytes)
-run_ends p ascii b [] e = record { before = []; last = b; whole = refl; ascii = ascii b (first (p b) e) }
-  where
-    first : (x : Bool) → (x && true) ≡ true → x ≡ true
-    first true e = refl
-    first false e = absurd cc
+run_ends p ascii b [] e = record { before = []; last = b; whole = refl; ascii = ascii b (and_parts (p b) true e).0 }
 run_ends p ascii b (c ∷ bytes) e =
-    let more = run_ends p ascii c bytes (second (p b) _ e) in
+    let more = run_ends p ascii c bytes (and_parts (p b) _ e).1 in
     record { before = b ∷ more.before; last = more.last; whole = ap (λ (x : List ℕ). b ∷ x) more.whole; ascii = more.ascii }
-  where
-    second : (x y : Bool) → (x && y) ≡ true → y ≡ true
-    second true y e = e
-    second false y e = absurd cc
 
 peel : (P : ℕ → Type 0) (b k : ℕ) (x rest : Option Symbol) (s : Symbol) → P k → (rest ≡ Some s → P b) → cond ((b == k) && true) x rest ≡ Some s → P b
 peel P b k x rest s here after e = go (b == k) refl e
@@ -115,21 +108,15 @@ ends_of separator front h sound other = record { before = []; last = h.0; whole 
 ends_of comment front h sound other = absurd (other refl)
 ends_of word front h sound other =
     let begins : continues_word h.0 ≡ true = continues h.0 h.3 in
-    rw h.2 (run_ends continues_word ascii h.0 h.1 (rw (begins, h.4) refl))
+    rw h.2 (run_ends continues_word word_ascii h.0 h.1 (rw (begins, h.4) refl))
   where
     continues : (b : ℕ) → begins_word b ≡ true → continues_word b ≡ true
     continues b e = grind (arith, nat_tests)
-
-    ascii : (b : ℕ) → continues_word b ≡ true → b < 128
-    ascii b e = grind (arith, nat_tests)
 ends_of delimited_name front h sound other = record { before = opened 34 h.0; last = 34; whole = h.1; ascii = omega arith }
 ends_of string front h sound other = record { before = opened 39 h.0; last = 39; whole = h.1; ascii = omega arith }
 ends_of unclosed front h sound other = absurd cc
 ends_of digits [] h sound other = absurd (h.0 refl)
-ends_of digits (b ∷ front) h sound other = run_ends is_ascii_digit ascii b front h.1
-  where
-    ascii : (b : ℕ) → is_ascii_digit b ≡ true → b < 128
-    ascii b e = grind (arith, nat_tests)
+ends_of digits (b ∷ front) h sound other = run_ends is_ascii_digit digit_ascii b front h.1
 ends_of (mark s) front h sound other = mark_ends front s h
 
 pub sound_cut : (form : Form) (front rest : List ℕ) → StandsInFront (record { form = form; text = front }) (front ++ rest) rest → is_sound form front ≡ true → IsUtf8 (front ++ rest) → IsCharBoundary (front ++ rest) (length front)

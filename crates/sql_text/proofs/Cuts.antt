@@ -18,10 +18,10 @@ run_cut p ascii text utf8 = go (prefix_len p text) refl
         let in_run : k < prefix_len p text = omega arith in
         rw (← add-one k) (IsCharBoundary-after_ascii text k utf8 lt (ascii (get_or text k 0) (prefix_len_passes p text k 0 in_run)))
 
-word_ascii : (b : ℕ) → continues_word b ≡ true → b < 128
+pub word_ascii : (b : ℕ) → continues_word b ≡ true → b < 128
 word_ascii b e = grind (arith, nat_tests)
 
-digit_ascii : (b : ℕ) → is_ascii_digit b ≡ true → b < 128
+pub digit_ascii : (b : ℕ) → is_ascii_digit b ≡ true → b < 128
 digit_ascii b e = grind (arith, nat_tests)
 
 pub word_cut : (text : List ℕ) → IsUtf8 text → IsCharBoundary text (prefix_len continues_word text)

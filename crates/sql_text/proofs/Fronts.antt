@@ -5,7 +5,7 @@ use Rattle.std.specs.Char.{is_ascii_digit}
 use Rattle.std.specs.List.{prefix_len, flat_map}
 use Rattle.std.specs.Str.{bytes_eq}
 use Rattle.std.specs.Cmp.Lexicographic.{unequal}
-use Rattle.std.proofs.lemmas.Bool.{eqb-true, eqb-false}
+use Rattle.std.proofs.lemmas.Bool.{and_parts, eqb-true, eqb-false}
 use Rattle.std.proofs.lemmas.Bool.Decides.{nat_tests}
 use Rattle.std.proofs.lemmas.List.{take-append-drop, length-append}
 use Rattle.std.proofs.lemmas.List.Folds.{length-prefix_len}
@@ -72,12 +72,8 @@ word_stands b tail first =
 
 pub digits_bound : (b : ℕ) (tail : List ℕ) (form : Form) (t more : List ℕ) → Begins form numerals → tail ≡ t ++ more → Spells form (b ∷ t) → length (b ∷ t) ≤ suc (prefix_len is_ascii_digit tail)
 digits_bound b tail digits t more g e h =
-    let fits : length t ≤ prefix_len is_ascii_digit tail = rw e (all_fits is_ascii_digit t more (second (is_ascii_digit b) _ h.1)) in
+    let fits : length t ≤ prefix_len is_ascii_digit tail = rw e (all_fits is_ascii_digit t more (and_parts (is_ascii_digit b) _ h.1).1) in
     omega arith
-  where
-    second : (x y : Bool) → (x && y) ≡ true → y ≡ true
-    second true y p = p
-    second false y p = absurd cc
 digits_bound b tail form t more g e h = absurd g
 
 unfoldable pub digits_stands : (b : ℕ) (tail : List ℕ) → is_ascii_digit b ≡ true → Stands (b ∷ tail) digits (suc (prefix_len is_ascii_digit tail))

@@ -9,7 +9,7 @@ use Rattle.std.proofs.lemmas.Bool.Decides.{same_from_decides}
 use Rattle.std.proofs.lemmas.List.{at_drop_more}
 use Rattle.std.proofs.lemmas.Slice.Eq.{bytes_eq-Decides}
 use Rattle.std.proofs.lemmas.List.{length-map}
-use Rattle.std.proofs.lemmas.Bool.{eqb-false, leb-true}
+use Rattle.std.proofs.lemmas.Bool.{and_parts, eqb-false, leb-true}
 use Rattle.std.specs.Cmp.Lexicographic.{unequal}
 use Rattle.std.specs.Prelude.{nat_eq}
 use Rattle.sql_text.specs.declared.word.Meaning.{Meaning}
@@ -41,10 +41,6 @@ pub row_lacks : (rows : List Meaning) (i : ℕ) (d : Meaning) (text : List ℕ) 
     → meaning_in (rows_of (drop i rows)) text ≡ meaning_in (rows_of (drop (i + 1) rows)) text
 row_lacks rows i d text test lt h e = row_more rows i d text test lt h ∙ rw e refl
 
-both : (a b : Bool) → (a && b) ≡ true → (a ≡ true) × (b ≡ true)
-both true b e = (refl, e)
-both false b e = absurd cc
-
 -- ---- rows of other lengths are passed over
 
 other_length : (a b : List ℕ) → length a ≢ length b → str_eq_ignore_ascii_case a b ≡ false
@@ -74,7 +70,7 @@ pub of_no_length : (rows : List (List ℕ × TokenKind)) (text : List ℕ)
     → meaning_in rows text ≡ None
 of_no_length [] text short out = refl
 of_no_length (row ∷ rows) text short out =
-    let h = both (nat_le 2 (length row.0) && nat_le (length row.0) 9) _ short in
-    let k = both (nat_le 2 (length row.0)) (nat_le (length row.0) 9) h.0 in
+    let h = and_parts (nat_le 2 (length row.0) && nat_le (length row.0) 9) _ short in
+    let k = and_parts (nat_le 2 (length row.0)) (nat_le (length row.0) 9) h.0 in
     let f : str_eq_ignore_ascii_case text row.0 ≡ false = other_length text row.0 (out (length row.0) (leb-true 2 (length row.0) k.0) (leb-true (length row.0) 9 k.1)) in
     rw f (of_no_length rows text h.1 out)

@@ -4,8 +4,10 @@ ghost use Rattle.std.specs.Prelude.{◌≡◌, IsTrue, slice_index, length, ◌�
 ghost use Rattle.std.specs.Char.{is_ascii_digit};
 ghost use Rattle.std.specs.Str.{IsCharBoundary};
 ghost use Rattle.std.specs.List.{prefix_len};
-ghost use Rattle.sql_text.specs.Standard.{begins_word, continues_word, is_separator, continues_comment};
-ghost use Rattle.sql_text.specs.Reading.{closed_at, string_front, delimited_front, word_front, digits_front, mark_front, front_at, space, token};
+ghost use Rattle.sql_text.specs.Standard.{begins_word, continues_word, is_separator};
+ghost use Rattle.sql_text.specs.Standard.{continues_comment};
+ghost use Rattle.sql_text.specs.Reading.{closed_at, string_front, delimited_front, word_front};
+ghost use Rattle.sql_text.specs.Reading.{digits_front, mark_front, front_at, space, token};
 
 use crate::number::number;
 use crate::symbol::Symbol;
