@@ -8,6 +8,7 @@ use Rattle.std.proofs.lemmas.Option.{slice_get-map, slice_get-get_or, unwrap_or-
 use Rattle.arrow_schema.specs.declared.data_type.DataType.{DataType}
 use Rattle.arrow_schema.specs.declared.data_type.DataType.TheVariants.{Utf8}
 use Rattle.arrow_schema.specs.declared.schema.Schema.{Schema}
+use Rattle.arrow_schema.specs.Answer.{answer_type}
 use Rattle.scan_base.specs.Predicate.{cell_in}
 use Rattle.table_versions.specs.Database.{Database, table_at, columns_of}
 use Rattle.table_versions.specs.Stored.{TableAt, CatalogAt, table_of, tables_of, plain}
@@ -258,3 +259,10 @@ begins plan table read chosen from to typed is e types ordered few =
         opened = sym (none_in from from 0 table.batches (omega arith));
       };
     }
+
+-- the result's schema has the types as which the columns that a plan gives are answered
+pub answered : (plan : PlanAt) → IsTyped plan → types_of plan.schema.fields ≡ map answer_type (plan_types plan)
+answered plan typed = by plan.output typed.output
+  where
+    by : (output : Output) → IsTypedOutput output (tree_types plan.tree) plan.schema → types_of plan.schema.fields ≡ map answer_type (types_taken (output_columns output) (tree_types plan.tree))
+    by (Project columns) is = is.1
