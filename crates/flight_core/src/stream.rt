@@ -1,6 +1,7 @@
 //! Writing the rows of a table as payloads.
 
-ghost use Rattle.std.specs.Prelude.{◌≡◌, ◌+◌, ◌-◌, ◌≤◌, ◌<◌, ◌^◌, ◌++◌, [], length, take, drop, min, All, IfOk, IfSome, OnOk};
+ghost use Rattle.std.specs.Prelude.{◌≡◌, ◌+◌, ◌-◌, ◌≤◌, ◌<◌, ◌^◌, ◌++◌, [], length, take, drop, min};
+ghost use Rattle.std.specs.Prelude.{All, IfOk, IfSome, OnOk};
 ghost use Rattle.arrow_schema.specs.Answer.{answer_schema};
 ghost use Rattle.arrow_schema.specs.Limits.{most_columns};
 ghost use Rattle.arrow_schema.specs.Schema.{IsSchema};
