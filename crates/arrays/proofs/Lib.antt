@@ -5,8 +5,12 @@ mod Entries
 mod Slices
 mod Rows
 mod NoNulls
-mod Packed
+pub mod Packed
 mod Rest
-mod Appended
-mod NullSlots
+pub mod Appended
+pub mod NullSlots
 mod Lengths
+mod BitsAgain
+mod TextsAgain
+pub mod ColumnsAgain
+mod OfType

@@ -45,7 +45,7 @@ read_are_texts validity offsets bytes read_offsets read_bytes len same_offsets s
     rw (← same_offsets, ← same_bytes) (tested_are_texts (record { validity = validity; offsets = read_offsets; bytes = read_bytes; len = len }) long tested)
 
 -- the value of a slot is a text or null
-slot_is_text : (cells : TextsAt) (place : ℕ) → text_stands cells place ≡ true → IsTextOrNull (texts_slot cells place)
+pub slot_is_text : (cells : TextsAt) (place : ℕ) → text_stands cells place ≡ true → IsTextOrNull (texts_slot cells place)
 slot_is_text cells place stands =
     let behind = and_parts _ _ stands in
     let rest = and_parts _ _ behind.1 in

@@ -7,11 +7,12 @@ use Rattle.scan_base.specs.Lists.{each}
 use Rattle.flight_proto.specs.FlightData.{DataSaid, data_of}
 use Rattle.flight_proto.specs.Ingest.{IngestSaid, ingest_of}
 use Rattle.ipc_batch.specs.State.{Known, State}
+use Rattle.ipc_batch.specs.Laws.{SayOneThing}
 use Rattle.ipc_batch.specs.Said.{Sent, News, Rows, rows_in, Follows}
 use Rattle.table_versions.specs.Database.{Put}
-use Rattle.flight_core.specs.Payloads.{Payload, carries_message, message_in, PutSays}
+use Rattle.flight_core.specs.Payloads.{Payload, carries_message, message_in, DataSay, PutSays}
 use Rattle.flight_core.specs.Puts.{Told, news_carried, news_in_payload, told_by, put_made, put_said}
-use Rattle.flight_core.specs.Laws.{PutsAreSaid}
+use Rattle.flight_core.specs.Laws.{AnswersSayOneThing, PutsAreSaid}
 use Rattle.flight_core.proofs.Results.{both}
 
 -- the messages of FlightData
@@ -76,3 +77,8 @@ puts_are_said (first ∷ payloads) put e =
   where
     good_put : Put → Result Put Fault
     good_put put = Ok put
+
+pub answers_say_one_thing : SayOneThing → AnswersSayOneThing
+answers_say_one_thing law payloads one other rows others p q =
+    let same : p.0 ≡ q.0 = let a = p.1 in let b = q.1 in cc in
+    law (map message_in q.0) one other rows others (subst (λ (all : List DataSaid). DataSay all one rows) same p.2) q.2

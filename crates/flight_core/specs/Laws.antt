@@ -1,10 +1,12 @@
--- What holds of all runs, and of the payloads of a put.
+-- What holds of all runs, and of the payloads of answers and of puts.
 use Rattle.std.specs.Prelude.{◌≡◌, ℕ, ◌+◌, List, [], ◌++◌, take, drop, Some, Ok, slice_get}
 use Rattle.scan_base.specs.declared.fault.Fault.{Fault}
+use Rattle.arrow_schema.specs.declared.schema.Schema.{Schema}
+use Rattle.ipc_batch.specs.Said.{Rows}
 use Rattle.table_versions.specs.Database.{Put}
 use Rattle.flight_core.specs.declared.event.Event.{Event}
 use Rattle.flight_core.specs.declared.event.Reply.{Reply}
-use Rattle.flight_core.specs.Payloads.{Payload, PutSays}
+use Rattle.flight_core.specs.Payloads.{Payload, PayloadsSay, PutSays}
 use Rattle.flight_core.specs.Puts.{put_said}
 use Rattle.flight_core.specs.Machine.{Log, Run}
 
@@ -19,6 +21,11 @@ RefusalsLeaveNothing = (events : List Event) (replies : List Reply) (log : Log)
     → (place : ℕ) (asked : Event) (reply : Reply) (fault : Fault)
     → slice_get events place ≡ Some asked → slice_get replies place ≡ Some reply → reply.fault ≡ Some fault
     → Run [] events replies log → Run [] (without place events) (without place replies) log
+
+-- the payloads of an answer say at most one schema and one list of rows
+abbrev pub AnswersSayOneThing : Type 0
+AnswersSayOneThing = (payloads : List Payload) (one other : Schema) (rows others : Rows) →
+    PayloadsSay payloads one rows → PayloadsSay payloads other others → (one ≡ other) × (rows ≡ others)
 
 -- the payloads of a put say its schema and its rows
 abbrev pub PutsAreSaid : Type 0

@@ -57,7 +57,8 @@ pub record Carries (payload : Payload) (message : Sent) : Type 0 where
 pub record SaysSchema (payload : Payload) (schema : Schema) : Type 0 where
   pub message : Sent
   pub carries : Carries payload message
-  pub said : news_of None message ≡ Ok (record { state = Some (record { schema = schema; dictionaries = [] }); batch = None })
+  pub said : news_of None message
+      ≡ Ok (record { state = Some (record { schema = schema; dictionaries = [] }); batch = None })
 
 -- behind the schema as which its columns are answered, a payload says a batch
 pub record SaysBatchBehind (payload : Payload) (batch : BatchAt) : Type 0 where

@@ -1,7 +1,16 @@
 //! What holds of all payloads, and of all runs. Each function here has an empty body: its contract is a law.
 
 ghost use Rattle.flight_core.specs.Fetches.{HandlesMeanOne};
-ghost use Rattle.flight_core.specs.Laws.{PutsAreSaid, RefusalsLeaveNothing};
+ghost use Rattle.flight_core.specs.Laws.{AnswersSayOneThing, PutsAreSaid, RefusalsLeaveNothing};
+
+use ipc_batch::laws::messages_say_one_thing;
+
+/// The payloads of an answer say at most one schema and one list of rows.
+pub fn answers_say_one_thing()
+    ensures { AnswersSayOneThing }
+{
+    messages_say_one_thing();
+}
 
 /// The payloads of a put say its schema and its rows.
 pub fn puts_are_said()

@@ -5,3 +5,6 @@ pub mod Messages
 pub mod Negatives
 pub mod PartsAgain
 pub mod Typed
+pub mod WriterLoops
+pub mod ColumnsAgain
+pub mod BatchAgain

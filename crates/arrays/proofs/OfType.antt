@@ -1,0 +1,66 @@
+-- The values of a column are of its type.
+use Rattle.std.proofs.Common.{◌≤ℤ◌, ◌<ℤ◌, ℕ, ◌+◌, ◌*◌, ◌^◌, ◌<◌, pos, Bool as Truth, true, false, if◌then◌else◌, List, Option, get_or, arith}
+use Rattle.std.proofs.Math.Facts.{sfits_to_z, yes_leb, yes_ltb}
+use Rattle.byteorder.specs.Numbers.{little_from-lt}
+use Rattle.scan_base.specs.declared.value.Value.{Value}
+use Rattle.scan_base.specs.declared.value.Value.TheVariants.{Null, Bool, Int, Text}
+use Rattle.arrow_schema.specs.declared.data_type.IntegerType.{IntegerType}
+use Rattle.arrow_schema.specs.declared.data_type.IntegerType.TheVariants.{Int8, Int16, Int32, Int64, UInt8, UInt16, UInt32, UInt64}
+use Rattle.arrow_schema.specs.declared.data_type.DataType.{DataType}
+use Rattle.arrow_schema.specs.declared.data_type.DataType.TheVariants as type
+use Rattle.arrays.specs.declared.layout.Layout.{Layout}
+use Rattle.arrays.specs.declared.layout.Layout.TheVariants as layout
+use Rattle.arrays.specs.Number.{AreBytes, element_at, integer_at, decimal_at}
+use Rattle.arrays.specs.Validity.{is_valid, where_valid}
+use Rattle.arrays.specs.Texts.{IsTextOrNull}
+use Rattle.arrays.specs.Column.{IsColumn, slot_of}
+use Rattle.arrays.specs.Typed.{IsOfType, IsInteger, IsValueOf, ValuesAreOfTheirType}
+use Rattle.arrays.proofs.Slots.{all_slots}
+use Rattle.arrays.proofs.TextSlots.{slot_is_text}
+use Rattle.arrays.proofs.ColumnsAgain.{index_is_text}
+
+element_small : (width place : ℕ) (values : List ℕ) → AreBytes values → element_at width values place < 256 ^ width
+unfolding element_at
+element_small width place values bytes = little_from-lt (width * place) width values bytes
+
+unsigned : (n k : ℕ) → n < k → (pos 0 ≤ℤ pos n) × (pos n <ℤ pos k)
+unsigned n k low = (record { le = yes_leb (omega arith) }, record { lt = yes_ltb low })
+
+integer_in : (integer : IntegerType) (values : List ℕ) (place : ℕ) → AreBytes values → IsInteger integer (integer_at integer values place)
+integer_in Int8 values place bytes = sfits_to_z (record { fits = element_small 1 place values bytes })
+integer_in Int16 values place bytes = sfits_to_z (record { fits = element_small 2 place values bytes })
+integer_in Int32 values place bytes = sfits_to_z (record { fits = element_small 4 place values bytes })
+integer_in Int64 values place bytes = sfits_to_z (record { fits = element_small 8 place values bytes })
+integer_in UInt8 values place bytes = unsigned (element_at 1 values place) (2 ^ 8) (element_small 1 place values bytes)
+integer_in UInt16 values place bytes = unsigned (element_at 2 values place) (2 ^ 16) (element_small 2 place values bytes)
+integer_in UInt32 values place bytes = unsigned (element_at 4 values place) (2 ^ 32) (element_small 4 place values bytes)
+integer_in UInt64 values place bytes = unsigned (element_at 8 values place) (2 ^ 64) (element_small 8 place values bytes)
+
+-- what holds of a valid slot's value holds of the slot
+slot_is : (data_type : DataType) (validity : Option (List Truth)) (value : ℕ → Value) (place : ℕ) → IsValueOf data_type Null → IsValueOf data_type (value place) → IsValueOf data_type (where_valid validity value place)
+slot_is data_type validity value place null is = by (is_valid validity place)
+  where
+    by : (valid : Truth) → IsValueOf data_type (if valid then value place else Null)
+    by true = is
+    by false = null
+
+utf8_text : (value : Value) → IsTextOrNull value → IsValueOf type.Utf8 value
+utf8_text Null is = tt
+utf8_text (Text bytes) is = is
+utf8_text (Bool flag) is = absurd is
+utf8_text (Int number) is = absurd is
+
+of_type : (data_type : DataType) (known : Layout) (first len : ℕ) → IsColumn (record { layout = known; first = first; len = len }) → IsOfType data_type known →
+    (j : ℕ) → j < len → IsValueOf data_type (slot_of (record { layout = known; first = first; len = len }) j)
+of_type (type.Integer integer) (layout.Integers cells) first len stands of j low =
+    slot_is (type.Integer integer) cells.validity (λ at. Int (integer_at cells.integer cells.values at)) (first + j) tt (rw (← of) (integer_in cells.integer cells.values (first + j) stands.stands.bytes))
+of_type type.Decimal128 (layout.Decimals cells) first len stands of j low =
+    slot_is type.Decimal128 cells.validity (λ at. Int (decimal_at cells.values at)) (first + j) tt (sfits_to_z (record { fits = element_small 16 (first + j) cells.values stands.stands.bytes }))
+of_type type.Bool (layout.Bools cells) first len stands of j low = slot_is type.Bool cells.validity (λ at. Bool (get_or cells.values at false)) (first + j) tt tt
+of_type type.Utf8 (layout.Texts cells) first len stands of j low = utf8_text _ (slot_is_text cells (first + j) (stands.stands.texts (first + j) (omega (arith, stands.within))))
+of_type (type.Dictionary encoding) (layout.Indices cells) first len stands of j low = utf8_text _ (index_is_text cells (first + j) stands.stands.texts)
+of_type data_type known first len stands of j low = absurd of
+
+pub values_are : ValuesAreOfTheirType
+values_are data_type column stands of =
+    all_slots (IsValueOf data_type) (slot_of column) 0 column.len (λ j first low. of_type data_type column.layout column.first column.len stands of j (omega arith))

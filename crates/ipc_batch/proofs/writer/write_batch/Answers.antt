@@ -1,0 +1,7 @@
+use Rattle.ipc_batch.specs.Written.{buffers_written}
+use Rattle.ipc_batch.proofs.PartsAgain.{whole_body}
+use Rattle.ipc_batch.proofs.writer.write_batch.Goals as goal
+
+pub returns-clause-body : goal.returns-clause-body
+returns-clause-body c =
+    rw (c.in_ok-append_body.ensures.ok, c.new-body.ensures.items) (whole_body (buffers_written c.args.batch.now.columns))
