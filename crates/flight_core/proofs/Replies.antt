@@ -2,30 +2,13 @@
 use Rattle.std.proofs.Common.{◌≡◌, ◌≤◌, ◌^◌, ◌-◌, ℕ, pos, min, List, [], ◌∷◌, ◌++◌, length, refl, ap, ◌∙◌, arith, Option, Some, None, Result, Ok, Err}
 use Rattle.std.specs.Prelude.{IsOk}
 use Rattle.scan_base.specs.declared.fault.Fault.{Fault}
-use Rattle.scan_base.specs.declared.fault.Fault.TheVariants.{BadTicket}
 use Rattle.flight_proto.specs.PutResult.{rows_put_bytes}
-use Rattle.endpoint_split.specs.Handle.{HandleAt}
 use Rattle.table_versions.specs.Limits.{most_rows}
-use Rattle.table_versions.specs.Table.{Table}
-use Rattle.table_versions.specs.Database.{Database, Put, after, database_of, table_at}
-use Rattle.table_versions.specs.Stored.{CatalogAt, TableAt, plain, tables_of}
-use Rattle.table_versions.proofs.Stores.{table_at-tables_of}
-use Rattle.scan_base.specs.Reading.{wanted}
-use Rattle.flight_core.specs.Narrow.{table_named}
+use Rattle.table_versions.specs.Database.{Database, Put, after, database_of}
 use Rattle.table_versions.proofs.Accepted.{accepted_puts_are_few}
-use Rattle.flight_core.specs.Payloads.{Payload, PayloadsSay}
+use Rattle.flight_core.specs.Payloads.{Payload}
 use Rattle.flight_core.specs.Puts.{put_said}
-use Rattle.flight_core.specs.Fetches.{table_asked, meaning_of, FetchAt}
 use Rattle.flight_core.specs.Machine.{Log, PutStep}
-
--- the table that a query names, among stored ones
-pub table_found : (catalog : CatalogAt) (query name : List ℕ) (found : Option TableAt) → table_named query ≡ Some name → table_at catalog name ≡ found
-    → table_asked (tables_of catalog) query ≡ wanted (plain found) BadTicket
-table_found catalog query name found named e = rw (named, table_at-tables_of catalog name, e) refl
-
-pub whole_reply : (database : Database) (handle : HandleAt) (meant : Table) (payloads : List Payload) → meaning_of database handle ≡ Ok meant
-    → PayloadsSay payloads meant.schema meant.rows → FetchAt database handle payloads None
-whole_reply database handle meant payloads is says = (meant, is, says)
 
 few_where_ok : (old : Database) (n : ℕ) (put : Put) (result : Result Database Fault) → after old n put ≡ result → IsOk result → length put.rows ≤ most_rows
 few_where_ok old n put (Ok new) e ok = accepted_puts_are_few old n put new e

@@ -111,28 +111,23 @@ say_first payload schema s =
     say_carried (payload ∷ []) (s.message ∷ []) schema [] (carry_more [] payload [] s.message (record { all = []; read = refl; same = refl }) s.carries)
     (known, refl, (news, [], s.said, refl, (refl, refl)))
 
--- the types of the fields as which others are answered
-answered_types : (fields : List Field) → map (λ field. field.data_type) (map answer_field fields) ≡ map (λ field. answer_type field.data_type) fields
-answered_types [] = refl
-answered_types (field ∷ fields) = ap (λ (types : List DataType). answer_type field.data_type ∷ types) (answered_types fields)
-
 -- one batch more says its rows behind the others
 pub say_more : (payloads : List Payload) (payload : Payload) (batch : BatchAt) → SaysBatchBehind payload batch → GoOn batch.columns payloads (payloads ++ payload ∷ []) (rows_of batch)
-say_more payloads payload batch s schema rows typed said =
+say_more payloads payload batch s fields schema rows typed types said =
     let sent = map message_in said.0 in
     let known = said.2.0 in
-    let types : map (λ (field : Field). field.data_type) known.schema.fields ≡ map (λ (field : Field). answer_type field.data_type) schema.fields = rw said.2.1 (answered_types schema.fields) in
-    let read = s.said known schema.fields typed types in
+    let same : map (λ (field : Field). field.data_type) known.schema.fields ≡ map (λ (field : Field). answer_type field.data_type) fields = rw said.2.1 types in
+    let read = s.said known fields typed same in
     let news : News = record { state = Some known; batch = Some read.0 } in
     let one : Follows (Some known) (s.message ∷ []) (Some known) (rows_of read.0) = (news, [], read.1, sym (append-nil (rows_of read.0)), (refl, refl)) in
     let all : Follows None (sent ++ s.message ∷ []) (Some known) (rows ++ rows_of read.0) = joined None sent (s.message ∷ []) (Some known) (Some known) rows (rows_of read.0) said.2.2 one in
-    say_carried (payloads ++ payload ∷ []) (sent ++ s.message ∷ []) (answer_schema schema) (rows ++ rows_of batch)
+    say_carried (payloads ++ payload ∷ []) (sent ++ s.message ∷ []) schema (rows ++ rows_of batch)
     (carry_more payloads payload sent s.message (record { all = said.0; read = said.1; same = refl }) s.carries)
     (known, said.2.1, subst (λ (more : Rows). Follows None (sent ++ s.message ∷ []) (Some known) (rows ++ more)) read.2 all)
 
 -- nothing more
 pub go_nowhere : (columns : List ColumnAt) (payloads : List Payload) → GoOn columns payloads payloads []
-go_nowhere columns payloads schema rows typed said = rw (append-nil rows) said
+go_nowhere columns payloads fields schema rows typed types said = rw (append-nil rows) said
 
 -- slices of columns are of their types
 cut_typed : (fields : List Field) (columns : List ColumnAt) (from to : ℕ) → AreOfTypes fields columns → AreOfTypes fields (map (λ column. cut column from to) columns)
@@ -143,7 +138,7 @@ cut_typed (field ∷ fields) [] from to typed = absurd typed
 
 -- what goes on behind slices of columns goes on behind the columns
 pub whole_columns : (columns : List ColumnAt) (from to : ℕ) (old new : List Payload) (more : Rows) → GoOn (map (λ column. cut column from to) columns) old new more → GoOn columns old new more
-whole_columns columns from to old new more on schema rows typed said = on schema rows (cut_typed schema.fields columns from to typed) said
+whole_columns columns from to old new more on fields schema rows typed types said = on fields schema rows (cut_typed fields columns from to typed) types said
 
 -- ---- payloads that fit messages
 

@@ -1,14 +1,19 @@
 -- What a fetch answers.
-use Rattle.std.specs.Prelude.{◌≡◌, ◌≢◌, ℕ, ◌-◌, ◌≤◌, ◌<◌, ◌&&◌, nat_le, List, [], length, take, drop, Option, Some, None, Result, Ok, Err}
+use Rattle.std.specs.Prelude.{◌≡◌, ◌≢◌, ℕ, ◌≤◌, ◌<◌, List, [], length, Option, Some, None, Result, Ok, Err}
 use Rattle.scan_base.specs.declared.fault.Fault.{Fault}
 use Rattle.scan_base.specs.declared.fault.Fault.TheVariants.{BadTicket, VersionUnknown, OutOfMemory}
-use Rattle.scan_base.specs.Reading.{◌>>=◌, demand, wanted}
-use Rattle.arrow_schema.specs.Answer.{answer_schema}
+use Rattle.scan_base.specs.Reading.{◌>>=◌}
 use Rattle.endpoint_split.specs.Handle.{HandleAt, Query, Tables, handle_of}
 use Rattle.flight_proto.specs.Ticket.{statement_handle_of}
+use Rattle.sql_parse.specs.Parse.{Parsed}
+use Rattle.sql_query.specs.Sentence.{Sentence}
 use Rattle.table_versions.specs.Table.{Table}
-use Rattle.table_versions.specs.Database.{Database, Put, table_at, version}
-use Rattle.flight_core.specs.Narrow.{without_tables, table_named}
+use Rattle.table_versions.specs.Database.{Database, Put, version}
+use Rattle.typed_plan.specs.Bound.{fault_of}
+use Rattle.typed_plan.specs.Joined.{place_rows}
+use Rattle.typed_plan.specs.Meaning.{meaning}
+use Rattle.typed_plan.specs.ResultSchema.{result_schema}
+use Rattle.flight_core.specs.Narrow.{without_tables}
 use Rattle.flight_core.specs.Payloads.{Payload, PayloadsSay}
 
 -- the handle in the Ticket that begins a fetch
@@ -23,32 +28,38 @@ abbrev pub version_of : HandleAt → ℕ
 version_of (Query number from to query) = number
 version_of (Tables number) = number
 
--- rows `from` up to, not with, `to` of a table, with all its columns, as they are answered
-abbrev pub part_of : Table → ℕ → ℕ → Table
-part_of table from to = record { schema = answer_schema table.schema; rows = take (to - from) (drop from table.rows) }
+-- What a query's text means over the rows `from` up to, not with, `to` of its first place: the rows of the sentence
+-- that it says, whose names and types are bound without a fault.
+pub record Meant (database : Database) (from to : ℕ) (text : List ℕ) (answer : Table) : Type 0 where
+  pub sentence : Sentence
+  pub says : Parsed (λ s. s) text (Ok sentence)
+  pub bound : fault_of sentence database ≡ None
+  pub ordered : from ≤ to
+  pub within : to ≤ length (place_rows database sentence.first)
+  pub schema : answer.schema ≡ result_schema sentence database
+  pub rows : answer.rows ≡ meaning sentence database from to
 
--- the table that a query names
-abbrev pub table_asked : Database → List ℕ → Result Table Fault
-table_asked database query = do
-  name ← wanted (table_named query) BadTicket
-  wanted (table_at database name) BadTicket
+-- what a handle means
+abbrev pub HandleMeans : Database → HandleAt → Table → Type 0
+HandleMeans database (Query number from to text) answer = Meant database from to text answer
+HandleMeans database (Tables number) answer = ⊥
 
--- What a handle means on a database, as a table. Any fault of its query or its range is that the ticket is
--- bad.
-unfoldable pub meaning_of : Database → HandleAt → Result Table Fault
-meaning_of database (Query number from to query) = do
-  table ← table_asked database query
-  _ ← demand (nat_le from to && nat_le to (length table.rows)) BadTicket
-  Ok (part_of table from to)
-meaning_of database (Tables number) = Err BadTicket
+-- a handle means nothing
+abbrev pub MeansNothing : Database → HandleAt → Type 0
+MeansNothing database handle = (answer : Table) → HandleMeans database handle answer → ⊥
 
--- The answer to a handle at its version: the rows that it means, cut into batches freely. A refused one has no
--- payload. No answer is too large: without joins it has at most as many rows as a table may have.
+-- The answer to a handle at its version: what it means, its rows cut into batches freely. A refused one has no
+-- payload; but for want of memory it is a bad ticket, which means nothing.
 abbrev pub FetchAt : Database → HandleAt → List Payload → Option Fault → Type 0
 FetchAt database handle payloads None =
-    (meant : Table) × (meaning_of database handle ≡ Ok meant) × PayloadsSay payloads meant.schema meant.rows
+    (answer : Table) × HandleMeans database handle answer × PayloadsSay payloads answer.schema answer.rows
 FetchAt database handle payloads (Some fault) =
-    (payloads ≡ []) × (fault ≢ OutOfMemory → meaning_of database handle ≡ Err fault)
+    (payloads ≡ []) × (fault ≢ OutOfMemory → (fault ≡ BadTicket) × MeansNothing database handle)
+
+-- a handle means at most one answer
+abbrev pub HandlesMeanOne : Type 0
+HandlesMeanOne = (database : Database) (handle : HandleAt) (one other : Table) →
+    HandleMeans database handle one → HandleMeans database handle other → one ≡ other
 
 -- refused by this fault, or for want of memory
 abbrev pub Refused : Fault → List Payload → Option Fault → Type 0

@@ -2,6 +2,7 @@ pub mod Payloads
 pub mod Puts
 pub mod Narrow
 pub mod Fetches
+pub mod Planned
 pub mod Machine
 pub mod Laws
 pub mod Versions

@@ -2,7 +2,8 @@
 use Rattle.std.specs.Prelude.{◌≡◌, ◌≤◌, ℕ, ◌==◌, Bool, not, List, [], ◌++◌, length, map, filter, All, Some, None, Ok}
 use Rattle.scan_base.specs.Lists.{each}
 use Rattle.arrow_schema.specs.declared.schema.Schema.{Schema}
-use Rattle.arrow_schema.specs.Answer.{answer_schema}
+use Rattle.arrow_schema.specs.declared.schema.Field.{Field}
+use Rattle.arrow_schema.specs.Answer.{answer_type}
 use Rattle.arrays.specs.Column.{ColumnAt}
 use Rattle.arrays.specs.Batch.{BatchAt}
 use Rattle.arrays.specs.Typed.{AreOfTypes}
@@ -56,7 +57,8 @@ pub record Carries (payload : Payload) (message : Sent) : Type 0 where
 pub record SaysSchema (payload : Payload) (schema : Schema) : Type 0 where
   pub message : Sent
   pub carries : Carries payload message
-  pub said : news_of None message ≡ Ok (record { state = Some (record { schema = schema; dictionaries = [] }); batch = None })
+  pub said : news_of None message
+      ≡ Ok (record { state = Some (record { schema = schema; dictionaries = [] }); batch = None })
 
 -- behind the schema as which its columns are answered, a payload says a batch
 pub record SaysBatchBehind (payload : Payload) (batch : BatchAt) : Type 0 where
@@ -64,8 +66,9 @@ pub record SaysBatchBehind (payload : Payload) (batch : BatchAt) : Type 0 where
   pub carries : Carries payload message
   pub said : SaysBatch message batch
 
--- Payloads go on from others: behind the answer's schema of a table of such columns, they say these rows behind
--- those of the others.
+-- Payloads go on from others: behind a schema of the types as which columns of these types are answered, they say
+-- these rows behind those of the others.
 abbrev pub GoOn : List ColumnAt → List Payload → List Payload → Rows → Type 0
-GoOn columns old new more = (schema : Schema) (rows : Rows) → AreOfTypes schema.fields columns →
-    PayloadsSay old (answer_schema schema) rows → PayloadsSay new (answer_schema schema) (rows ++ more)
+GoOn columns old new more = (fields : List Field) (schema : Schema) (rows : Rows) → AreOfTypes fields columns →
+    map (λ field. field.data_type) schema.fields ≡ map (λ field. answer_type field.data_type) fields →
+    PayloadsSay old schema rows → PayloadsSay new schema (rows ++ more)

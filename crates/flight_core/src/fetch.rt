@@ -1,23 +1,29 @@
 //! Answering a fetch at a version.
 
-ghost use Rattle.std.specs.Prelude.{◌≡◌, ◌≢◌, ◌≤◌, ◌⊎◌, length, IfOk, IfErr};
+ghost use Rattle.std.specs.Prelude.{◌≡◌, ◌≢◌, length, IfOk, IfErr};
 ghost use Rattle.scan_base.specs.declared.fault.Fault.TheVariants.{BadTicket, OutOfMemory};
-ghost use Rattle.scan_base.specs.Reading.{Gives, GivesUnlessMemory};
+ghost use Rattle.scan_base.specs.Reading.{Gives};
 ghost use Rattle.endpoint_split.specs.Seen.{handle_seen};
-ghost use Rattle.table_versions.specs.Limits.{most_rows};
-ghost use Rattle.table_versions.specs.Stored.{table_of, tables_of};
-ghost use Rattle.flight_core.specs.Fetches.{version_of, handle_asked, part_of};
-ghost use Rattle.flight_core.specs.Fetches.{table_asked, meaning_of, FetchAt};
-ghost use Rattle.flight_core.specs.Payloads.{FitMessages};
+ghost use Rattle.table_versions.specs.Table.{Table};
+ghost use Rattle.table_versions.specs.Stored.{tables_of};
+ghost use Rattle.typed_plan.specs.Joined.{place_rows};
+ghost use Rattle.typed_plan.specs.View.{plan_of};
+ghost use Rattle.flight_core.specs.Fetches.{version_of, handle_asked, Meant, FetchAt};
+ghost use Rattle.flight_core.specs.Planned.{GivesMeant};
+ghost use Rattle.flight_core.specs.Payloads.{PayloadsSay, FitMessages};
 
 use crate::event::Reply;
-use crate::named_table::table_named;
-use crate::stream::write_rows;
+use crate::stream::write_scan;
+use bytes::Bytes;
 use endpoint_split::{Handle, read_handle};
 use flight_proto::read_statement_handle;
-use scan_base::{Fault, Text};
+use scan_base::Fault;
+use scan_exec::Scan;
+use sql_parse::parse;
+use sql_query::Query;
 use std::alloc::Global;
-use table_versions::{CatalogVersion, Snapshot, TableVersion};
+use table_versions::{CatalogVersion, Snapshot};
+use typed_plan::{TypedPlan, bind};
 
 /// The handle in the Ticket that begins a fetch. It takes no memory.
 ///
@@ -45,47 +51,80 @@ pub fn version_of(handle: &Handle<'_>) -> u64
     }
 }
 
-// Rows of a table: `from` up to, not with, `to`.
-#[derive(Clone, Copy, Drop)]
-struct TablePart<'a> {
-    table: &'a TableVersion,
+// How many rows the first place of a query has.
+fn first_rows(catalog: &CatalogVersion, query: &Query) -> usize
+    ensures { result ≡ length (place_rows (tables_of catalog.now) query.now.first) }
+{
+    match catalog.get(&query.first.table) {
+        Some(table) => table.rows(),
+        None => 0,
+    }
+}
+
+// The plan of a query, where the rows `from` up to, not with, `to` are rows of its first place. A fault other
+// than want of memory says why the text means nothing.
+fn plan_query(
+    alloc: Global,
+    catalog: &CatalogVersion,
+    text: &str,
     from: usize,
     to: usize,
-}
-
-// The table that a query names.
-fn find_table<'a>(
-    alloc: Global,
-    catalog: &'a CatalogVersion,
-    query: &str,
-) -> Result<&'a TableVersion, Fault>
-    ensures found { GivesUnlessMemory (λ table. table_of table.now) result
-        (table_asked (tables_of catalog.now) query.now) }
-    ensures kinds { IfErr result (λ fault. (fault ≡ OutOfMemory) ⊎ (fault ≡ BadTicket)) }
+) -> Result<TypedPlan, Fault>
+    ensures planned { IfOk result (λ plan. GivesMeant (tables_of catalog.now) from to text.now (plan_of plan)) }
+    ensures refused { IfErr result (λ fault. fault ≢ OutOfMemory →
+        (answer : Table) → Meant (tables_of catalog.now) from to text.now answer → ⊥) }
 {
-    let Some(name) = table_named(query) else {
+    let query = parse(alloc, text)?;
+    let plan = bind(alloc, &query, catalog)?;
+    if from > to || to > first_rows(catalog, &query) {
         return Err(Fault::BadTicket);
-    };
-    let name = Text::new(alloc, name)?;
-    let Some(table) = catalog.get(&name) else {
-        return Err(Fault::BadTicket);
-    };
-    Ok(table)
+    }
+    Ok(plan)
 }
 
-// What a handle means.
-#[tactic(auto, unfolding(crate::specs::Fetches::meaning_of))]
-fn find_part<'a>(
+// The payloads of what a query means over a range of its first place.
+fn write_query(
     alloc: Global,
-    catalog: &'a CatalogVersion,
-    handle: &Handle<'_>,
-) -> Result<TablePart<'a>, Fault>
-    ensures found { GivesUnlessMemory (λ part. part_of (table_of part.table.now) part.from part.to) result
-        (meaning_of (tables_of catalog.now) (handle_seen handle.now)) }
-    ensures kinds { IfErr result (λ fault. (fault ≡ OutOfMemory) ⊎ (fault ≡ BadTicket)) }
-    ensures ordered { IfOk result (λ part. part.from ≤ part.to) }
-    ensures within { IfOk result (λ part. part.to ≤ length (table_of part.table.now).rows) }
-    ensures few { IfOk result (λ part. length (table_of part.table.now).rows ≤ most_rows) }
+    catalog: &CatalogVersion,
+    text: &str,
+    from: usize,
+    to: usize,
+) -> Result<Vec<Bytes>, Fault>
+    ensures said { IfOk result (λ payloads. (answer : Table) × Meant (tables_of catalog.now) from to text.now answer
+        × PayloadsSay payloads.items answer.schema answer.rows) }
+    ensures fits { IfOk result (λ payloads. FitMessages payloads.items) }
+    ensures refused { IfErr result (λ fault. fault ≢ OutOfMemory →
+        (answer : Table) → Meant (tables_of catalog.now) from to text.now answer → ⊥) }
+{
+    let plan = plan_query(alloc, catalog, text, from, to)?;
+    let mut scan = Scan::new(alloc, &plan, catalog, from, to)?;
+    write_scan(alloc, plan.schema(), &mut scan)
+}
+
+// As a fetch answers a fault of its query: the ticket is bad.
+fn fetch_fault(fault: Fault) -> Fault
+    ensures memory { fault ≡ OutOfMemory → result ≡ OutOfMemory }
+    ensures other { fault ≢ OutOfMemory → result ≡ BadTicket }
+{
+    match fault {
+        Fault::OutOfMemory => Fault::OutOfMemory,
+        _ => Fault::BadTicket,
+    }
+}
+
+/// The answer to a handle at a version of the catalog: the message of the result's schema, and then record batches
+/// of at most 65,536 cells, whose bodies have at most 8,388,608 bytes. Each payload is a FlightData, and has at
+/// most 16,777,216 bytes. A dictionary of texts is answered as texts.
+///
+/// # Errors
+///
+/// The reply's fault, and then no payload: F17 (`Fault::BadTicket`) where the query does not parse or is not bound
+/// at this version, and where the range is not within the rows of its first place; F21 (`Fault::OutOfMemory`)
+/// where memory is refused.
+pub fn answer_fetch(alloc: Global, snapshot: &Snapshot, handle: &Handle<'_>) -> Reply
+    ensures answer { FetchAt (tables_of snapshot.now.catalog) (handle_seen handle.now)
+        result.payloads.items result.fault }
+    ensures fits { FitMessages result.payloads.items }
 {
     let Handle::Query {
         from,
@@ -94,36 +133,10 @@ fn find_part<'a>(
         ..
     } = handle
     else {
-        return Err(Fault::BadTicket);
+        return Reply::refusal(alloc, Fault::BadTicket);
     };
-    let table = find_table(alloc, catalog, query)?;
-    let (from, to) = (*from as usize, *to as usize);
-    if from > to || to > table.rows() {
-        return Err(Fault::BadTicket);
-    }
-    Ok(TablePart { table, from, to })
-}
-
-/// The answer to a handle at a version of the catalog: a schema message, and then record batches of at most
-/// 65,536 cells, whose bodies have at most 8,388,608 bytes. Each payload is a FlightData, and has at most
-/// 16,777,216 bytes. A dictionary of texts is answered as texts.
-///
-/// # Errors
-///
-/// The reply's fault, and then no payload: F17 (`Fault::BadTicket`) where the query names no table of this
-/// version, and where the range is not within the table's rows; F21 (`Fault::OutOfMemory`) where memory is
-/// refused.
-pub fn answer_fetch(alloc: Global, snapshot: &Snapshot, handle: &Handle<'_>) -> Reply
-    ensures answer { FetchAt (tables_of snapshot.now.catalog) (handle_seen handle.now)
-        result.payloads.items result.fault }
-    ensures fits { FitMessages result.payloads.items }
-{
-    let part = match find_part(alloc, snapshot.catalog(), handle) {
-        Ok(part) => part,
-        Err(fault) => return Reply::refusal(alloc, fault),
-    };
-    match write_rows(alloc, part.table, part.from, part.to) {
+    match write_query(alloc, snapshot.catalog(), query, *from as usize, *to as usize) {
         Ok(payloads) => Reply::whole(payloads),
-        Err(_) => Reply::refusal(alloc, Fault::OutOfMemory),
+        Err(fault) => Reply::refusal(alloc, fetch_fault(fault)),
     }
 }

@@ -1,5 +1,6 @@
 //! What holds of all payloads, and of all runs. Each function here has an empty body: its contract is a law.
 
+ghost use Rattle.flight_core.specs.Fetches.{HandlesMeanOne};
 ghost use Rattle.flight_core.specs.Laws.{AnswersSayOneThing, PutsAreSaid, RefusalsLeaveNothing};
 
 use ipc_batch::laws::messages_say_one_thing;
@@ -19,4 +20,9 @@ pub fn puts_are_said()
 /// A refused event changes nothing: without it, the others are answered by the other replies.
 pub fn refusals_leave_nothing()
     ensures { RefusalsLeaveNothing }
+{}
+
+/// A handle means at most one answer at a database.
+pub fn handles_mean_one()
+    ensures { HandlesMeanOne }
 {}

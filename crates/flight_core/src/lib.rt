@@ -8,7 +8,6 @@ pub mod event;
 pub mod fetch;
 pub mod laws;
 pub mod machine;
-mod named_table;
 pub mod plain;
 pub mod put;
 mod stream;

@@ -1,17 +1,14 @@
-//! Writing the rows of a table as payloads.
+//! Writing the rows that a scan gives as payloads.
 
-ghost use Rattle.std.specs.Prelude.{◌≡◌, ◌+◌, ◌-◌, ◌≤◌, ◌<◌, ◌^◌, ◌++◌, [], length, take, drop, min, All, IfOk, IfSome, OnOk};
-ghost use Rattle.arrow_schema.specs.Answer.{answer_schema};
+ghost use Rattle.std.specs.Prelude.{◌≡◌, ◌≤◌, ◌<◌, ◌^◌, length, None, IfOk, IfErr, IfSome, OnOk};
 ghost use Rattle.arrow_schema.specs.Limits.{most_columns};
 ghost use Rattle.arrow_schema.specs.Schema.{IsSchema};
 ghost use Rattle.arrays.specs.Batch.{cut_batch, rows_of};
 ghost use Rattle.ipc_batch.specs.Written.{body_length};
-ghost use Rattle.table_versions.specs.Limits.{most_rows};
-ghost use Rattle.table_versions.specs.Stored.{table_of};
-ghost use Rattle.table_versions.specs.Standing.{rows_before};
-ghost use Rattle.flight_core.specs.Fetches.{part_of};
+ghost use Rattle.scan_base.specs.declared.fault.Fault.TheVariants.{OutOfMemory};
 ghost use Rattle.flight_core.specs.Payloads.{PayloadsSay, SaysSchema, SaysBatchBehind, GoOn, FitMessages};
 ghost use Rattle.flight_core.specs.Payloads.{most_payload_bytes};
+ghost use Rattle.flight_core.specs.Planned.{HasAnswerTypes};
 
 use arrays::Batch;
 use arrays::laws::batch_slices_keep_rows;
@@ -19,9 +16,9 @@ use arrow_schema::{Schema, write_schema};
 use bytes::Bytes;
 use flight_proto::{put_flight_data, put_flight_data_head};
 use ipc_batch::{append_body, body_length, write_batch_header};
+use scan_base::Fault;
+use scan_exec::Scan;
 use std::alloc::{AllocError, Global};
-use table_versions::TableVersion;
-use table_versions::laws::batches_are_rows;
 
 // The most cells of a message that is written.
 const MOST_CELLS: usize = 65_536;
@@ -134,56 +131,25 @@ fn push_rows(
     Ok(())
 }
 
-// Writes those rows of a batch, which stands behind `start` rows of its table, that the rows `from` up to,
-// not with, `to` of the table have.
-fn push_part(
+/// The payloads of what a scan gives: a schema of the types as which its columns are answered, and then batches of
+/// at most 65,536 cells, whose bodies have at most 8,388,608 bytes. It fails for want of memory alone.
+pub(crate) fn write_scan(
     alloc: Global,
-    payloads: &mut Vec<Bytes>,
-    batch: &Batch,
-    start: usize,
-    from: usize,
-    to: usize,
-) -> Result<(), AllocError>
-    requires { length batch.now.columns ≤ most_columns }
-    ensures on { OnOk result (GoOn batch.now.columns payloads.old.items payloads.new.items
-        (take (min (to - start) batch.now.rows - (from - start))
-        (drop (from - start) (rows_of batch.now)))) }
-    ensures fits { OnOk result (FitMessages payloads.old.items → FitMessages payloads.new.items) }
-{
-    batch_slices_keep_rows();
-    let first = from.saturating_sub(start);
-    let last = to.saturating_sub(start).min(batch.rows());
-    if first < last {
-        push_rows(alloc, payloads, batch, first, last)?;
-    }
-    Ok(())
-}
-
-/// The payloads of the rows `from` up to, not with, `to` of a table: the schema as which it is answered, and
-/// then batches of at most 65,536 cells, whose bodies have at most 8,388,608 bytes.
-pub(crate) fn write_rows(
-    alloc: Global,
-    table: &TableVersion,
-    from: usize,
-    to: usize,
-) -> Result<Vec<Bytes>, AllocError>
-    requires ordered { from ≤ to }
-    requires within { to ≤ length (table_of table.now).rows }
-    requires few { length (table_of table.now).rows ≤ most_rows }
-    ensures said { IfOk result (λ payloads. PayloadsSay payloads.items (answer_schema table.now.schema)
-        (part_of (table_of table.now) from to).rows) }
+    schema: &Schema,
+    scan: &mut Scan<'_>,
+) -> Result<Vec<Bytes>, Fault>
+    requires schema { IsSchema schema.now }
+    requires typed { HasAnswerTypes schema.now scan.old.types }
+    requires begins { scan.old.refused ≡ None }
+    ensures said { IfOk result (λ payloads. PayloadsSay payloads.items schema.now scan.old.left) }
     ensures fits { IfOk result (λ payloads. FitMessages payloads.items) }
+    ensures err { IfErr result (λ fault. fault ≡ OutOfMemory) }
 {
     batch_slices_keep_rows();
-    batches_are_rows();
     let mut payloads = Vec::new(alloc);
-    let schema = table.schema().answered(alloc)?;
-    payloads.push(schema_payload(alloc, &schema)?)?;
-    let mut start = 0;
-    for index in 0..table.batch_count() {
-        let batch = table.batch(index);
-        push_part(alloc, &mut payloads, batch, start, from, to)?;
-        start += batch.rows();
+    payloads.push(schema_payload(alloc, schema)?)?;
+    while let Some(batch) = scan.next(alloc)? {
+        push_rows(alloc, &mut payloads, &batch, 0, batch.rows())?;
     }
     Ok(payloads)
 }

@@ -61,7 +61,7 @@ pub enum Fault {
     /// SQL or a field that this server leaves out by name.
     #[error("F16 NotInSubset")]
     NotInSubset,
-    /// The ticket is none that this server gave.
+    /// The ticket is one that this server cannot have given.
     #[error("F17 BadTicket")]
     BadTicket,
     /// No catalog version of this number was reached.

@@ -1,9 +1,10 @@
 //! Scans.
 
-ghost use Rattle.std.specs.Prelude.{◌≡◌, None, IfOk};
+ghost use Rattle.std.specs.Prelude.{◌≡◌, None, IfOk, map};
+ghost use Rattle.arrow_schema.specs.Answer.{answer_type};
 ghost use Rattle.table_versions.specs.Stored.{tables_of};
 ghost use Rattle.typed_plan.specs.Plan.{plan_rows};
-ghost use Rattle.typed_plan.specs.Typed.{IsTyped, IsOver};
+ghost use Rattle.typed_plan.specs.Typed.{IsOver, types_of};
 ghost use Rattle.typed_plan.specs.View.{plan_of};
 ghost use Rattle.scan_exec.specs.Opened.{batches_in};
 ghost use Rattle.scan_exec.specs.Scan.{Gives, batches_read, plan_types};
@@ -66,20 +67,22 @@ impl<'a> Scan<'a> {
         from: usize,
         to: usize,
     ) -> Result<Scan<'a>, AllocError>
-        requires over { IsOver (plan_of plan.now).tree (tables_of catalog.now) }
-        ensures { IfOk result (λ scan. scan ≡ record {
+        requires { IsOver (plan_of plan.now).tree (tables_of catalog.now) }
+        ensures scan { IfOk result (λ scan. scan ≡ record {
           left = plan_rows (plan_of plan.now) (tables_of catalog.now) from to;
           types = plan_types (plan_of plan.now);
           batches = batches_in from to 0 (batches_read (plan_of plan.now) catalog.now);
           opened = 0;
           refused = None;
         }) }
+        ensures typed { types_of plan.now.schema.fields ≡ map answer_type (plan_types (plan_of plan.now)) }
     {
-        let Some(table) = catalog.get(table_name(plan.plan())) else {
+        let tree = plan.plan();
+        let Some(table) = catalog.get(table_name(tree)) else {
             unreachable!()
         };
         let numbers = numbers_below(alloc, table.schema().fields.len())?;
-        let read = picked(alloc, table_columns(plan.plan()), numbers.as_slice())?;
+        let read = picked(alloc, table_columns(tree), numbers.as_slice())?;
         let shown = picked(alloc, output_columns(plan.output()), read.as_slice())?;
         let end = to.min(table.rows()).max(from);
         Ok(Scan {

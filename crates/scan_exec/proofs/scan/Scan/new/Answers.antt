@@ -1,7 +1,8 @@
-use Rattle.std.proofs.Common.{◌≡◌, ℕ, List, length, max, min, true, Option, Some, None, sym, ap, subst, ◌∙◌, arith}
+use Rattle.std.proofs.Common.{◌≡◌, ◌<◌, ◌≤◌, ℕ, List, length, max, min, true, Option, Some, None, refl, sym, ap, subst, ◌∙◌, arith, rules}
 use Rattle.std.specs.List.{range_with_len}
 use Rattle.std.specs.Option.{option_copied}
 use Rattle.std.proofs.lemmas.List.FromFn.{length-range_with_len}
+use Rattle.arrays.specs.Batch.{BatchAt}
 use Rattle.arrow_schema.specs.declared.schema.Schema.{Schema}
 use Rattle.table_versions.specs.Database.{table_at}
 use Rattle.table_versions.specs.Stored.{TableAt, CatalogAt, table_of, tables_of}
@@ -18,14 +19,14 @@ use Rattle.scan_exec.specs.Reading.{IsRead, IsScan}
 use Rattle.scan_exec.specs.Scan.{ScanAt, batches_of, batches_read, plan_types}
 use Rattle.scan_exec.specs.declared.cursor.Cursor.{Cursor}
 use Rattle.scan_exec.proofs.Opening.{in_clamped}
-use Rattle.scan_exec.proofs.Plans.{not_missing, reads, read_is, output_there, types_are, begins, left_is}
+use Rattle.scan_exec.proofs.Plans.{not_missing, reads, read_is, output_there, types_are, begins, left_is, answered}
 use Rattle.scan_exec.proofs.Scanning.{seen}
 use Rattle.scan_exec.proofs.scan.Scan.new.Goals as goal
 
 pub unreachable-requires : goal.unreachable-requires
 unreachable-requires c =
-    not_missing (plan_of c.args.plan.now).tree c.args.catalog.now c.requires.over
-    (rw c.plan.ensures.plan at (ap (λ (n : Name). table_at c.args.catalog.now n) (sym c.table_name.ensures) ∙ sym c.get.ensures ∙ ap option_copied c.in_default.is))
+    not_missing (plan_of c.args.plan.now).tree c.args.catalog.now c.requires
+    (ap (λ (n : Name). table_at c.args.catalog.now n) (sym (rw c.plan-tree.ensures.plan at c.table_name.ensures)) ∙ sym c.get.ensures ∙ ap option_copied c.in_default.is)
 
 module _ (tree : Tree) (catalog : CatalogAt) (table : TableAt) (typed : IsTypedTree tree) (over : IsOver tree (tables_of catalog))
     (there : table_at catalog (tree_table tree) ≡ Some table) (numbers all : List ℕ) (columns : Columns) (schema : Schema) (width : ℕ)
@@ -46,37 +47,37 @@ module _ (tree : Tree) (catalog : CatalogAt) (table : TableAt) (typed : IsTypedT
 
 pub picked-requires : goal.picked-requires
 picked-requires c =
-    let there = rw c.plan.ensures.plan at (ap (λ (n : Name). table_at c.args.catalog.now n) (sym c.table_name.ensures) ∙ sym c.get.ensures ∙ ap option_copied c.in-Some.is) in
-    columns_there (plan_of c.args.plan.now).tree c.args.catalog.now c.in-Some.table.now c.plan.ensures.typed.tree c.requires.over there
+    let there = ap (λ (n : Name). table_at c.args.catalog.now n) (sym (rw c.plan-tree.ensures.plan at c.table_name.ensures)) ∙ sym c.get.ensures ∙ ap option_copied c.in-Some.is in
+    columns_there (plan_of c.args.plan.now).tree c.args.catalog.now c.in-Some.table.now c.plan-tree.ensures.typed.tree c.requires there
     c.in_ok-numbers.numbers.items c.as_slice.result.now c.table_columns.result.now c.schema.result.now c.len.result
-    c.as_slice.ensures.value c.in_ok-numbers.ensures c.len.ensures c.schema.ensures.schema (rw c.plan-2.ensures.plan at c.table_columns.ensures)
+    c.as_slice.ensures.value c.in_ok-numbers.ensures c.len.ensures c.schema.ensures.schema (rw c.plan-tree.ensures.plan at c.table_columns.ensures)
 
 pub picked-requires-2 : goal.picked-requires-2
 picked-requires-2 c =
     let plan = plan_of c.args.plan.now in
-    let there = rw c.plan.ensures.plan at (ap (λ (n : Name). table_at c.args.catalog.now n) (sym c.table_name.ensures) ∙ sym c.get.ensures ∙ ap option_copied c.in-Some.is) in
-    let is = read_then plan.tree c.args.catalog.now c.in-Some.table.now c.plan.ensures.typed.tree c.requires.over there
+    let there = ap (λ (n : Name). table_at c.args.catalog.now n) (sym (rw c.plan-tree.ensures.plan at c.table_name.ensures)) ∙ sym c.get.ensures ∙ ap option_copied c.in-Some.is in
+    let is = read_then plan.tree c.args.catalog.now c.in-Some.table.now c.plan-tree.ensures.typed.tree c.requires there
     c.in_ok-numbers.numbers.items c.as_slice.result.now c.table_columns.result.now c.schema.result.now c.len.result
-    c.as_slice.ensures.value c.in_ok-numbers.ensures c.len.ensures c.schema.ensures.schema (rw c.plan-2.ensures.plan at c.table_columns.ensures)
+    c.as_slice.ensures.value c.in_ok-numbers.ensures c.len.ensures c.schema.ensures.schema (rw c.plan-tree.ensures.plan at c.table_columns.ensures)
     c.in_ok-read.read.items c.in_ok-read.ensures in
     ap (λ (numbers : List ℕ). has_columns (length numbers) c.output_columns.result.now) c.as_slice-2.ensures.value
     ∙ ap (has_columns (length c.in_ok-read.read.items)) (rw c.output.ensures at c.output_columns.ensures)
-    ∙ output_there plan (length c.in-Some.table.now.schema.fields) c.in_ok-read.read.items c.plan.ensures.typed is
+    ∙ output_there plan (length c.in-Some.table.now.schema.fields) c.in_ok-read.read.items c.plan-tree.ensures.typed is
 
 pub invariant_of-result : goal.invariant_of-result
 invariant_of-result c =
     let plan = plan_of c.args.plan.now in
     let table = c.in-Some.table.now in
-    let there = rw c.plan.ensures.plan at (ap (λ (n : Name). table_at c.args.catalog.now n) (sym c.table_name.ensures) ∙ sym c.get.ensures ∙ ap option_copied c.in-Some.is) in
-    let is = read_then plan.tree c.args.catalog.now table c.plan.ensures.typed.tree c.requires.over there
+    let there = ap (λ (n : Name). table_at c.args.catalog.now n) (sym (rw c.plan-tree.ensures.plan at c.table_name.ensures)) ∙ sym c.get.ensures ∙ ap option_copied c.in-Some.is in
+    let is = read_then plan.tree c.args.catalog.now table c.plan-tree.ensures.typed.tree c.requires there
     c.in_ok-numbers.numbers.items c.as_slice.result.now c.table_columns.result.now c.schema.result.now c.len.result
-    c.as_slice.ensures.value c.in_ok-numbers.ensures c.len.ensures c.schema.ensures.schema (rw c.plan-2.ensures.plan at c.table_columns.ensures)
+    c.as_slice.ensures.value c.in_ok-numbers.ensures c.len.ensures c.schema.ensures.schema (rw c.plan-tree.ensures.plan at c.table_columns.ensures)
     c.in_ok-read.read.items c.in_ok-read.ensures in
     let chosen = c.in_ok-shown.ensures ∙ ap (λ (some : Columns). numbers_at some c.as_slice-2.result.now) (rw c.output.ensures at c.output_columns.ensures)
     ∙ ap (numbers_at (output_columns plan.output)) c.as_slice-2.ensures.value in
     subst (λ (x : Cursor). IsScan plan table c.in_ok-read.read.items c.in_ok-shown.shown.items x) (sym c.new.ensures)
-    (begins plan table c.in_ok-read.read.items c.in_ok-shown.shown.items c.args.from c.max-end.result c.plan.ensures.typed is chosen
-    (types_are plan c.args.catalog.now table c.in_ok-read.read.items c.in_ok-shown.shown.items c.plan.ensures.typed c.requires.over there is chosen)
+    (begins plan table c.in_ok-read.read.items c.in_ok-shown.shown.items c.args.from c.max-end.result c.plan-tree.ensures.typed is chosen
+    (types_are plan c.args.catalog.now table c.in_ok-read.read.items c.in_ok-shown.shown.items c.plan-tree.ensures.typed c.requires there is chosen)
     (omega (arith, c.max-end.ensures)) (λ more. omega (arith, c.max-end.ensures, c.min.ensures, c.rows.ensures.rows, more)))
 
 -- a scan before its first row, as contracts see it
@@ -102,8 +103,11 @@ starts plan catalog table cursor from to end least rows there e d l r =
     ∙ ap (λ (rows : List Row). record first { left = rows }) left
     ∙ ap (λ (n : ℕ). record first { left = plan_rows plan (tables_of catalog) from to; batches = n }) batches
 
-pub returns : goal.returns
-returns c =
-    let there = rw c.plan.ensures.plan at (ap (λ (n : Name). table_at c.args.catalog.now n) (sym c.table_name.ensures) ∙ sym c.get.ensures ∙ ap option_copied c.in-Some.is) in
+pub returns-clause-scan : goal.returns-clause-scan
+returns-clause-scan c =
+    let there = ap (λ (n : Name). table_at c.args.catalog.now n) (sym (rw c.plan-tree.ensures.plan at c.table_name.ensures)) ∙ sym c.get.ensures ∙ ap option_copied c.in-Some.is in
     starts (plan_of c.args.plan.now) c.args.catalog.now c.in-Some.table.now c.new.result c.args.from c.args.to c.max-end.result c.min.result c.rows.result
     there c.new.ensures c.max-end.ensures c.min.ensures c.rows.ensures.rows
+
+pub returns-clause-typed : goal.returns-clause-typed
+returns-clause-typed c = answered (plan_of c.args.plan.now) c.plan-tree.ensures.typed
