@@ -14,7 +14,7 @@ use std::process::Abort;
 use std::test::Fail;
 
 // A message: its header and its body.
-type Message = (&'static [u8], &'static [u8]);
+pub(super) type Message = (&'static [u8], &'static [u8]);
 
 const NULL: ValueRef<'static> = ValueRef::Null;
 
@@ -28,7 +28,11 @@ fn payload(alloc: Global, front: &[u8], message: Message) -> Result<Bytes, Fault
 }
 
 // A put of messages into `t`, the first of them with the command.
-fn put(alloc: Global, schema: &'static [u8], messages: &[Message]) -> Result<Event, Fault> {
+pub(super) fn put(
+    alloc: Global,
+    schema: &'static [u8],
+    messages: &[Message],
+) -> Result<Event, Fault> {
     let (command, _) = FIRST.split_at(85);
     let mut payloads = Vec::new(alloc);
     payloads.push(payload(alloc, command, (schema, &[]))?)?;
@@ -63,7 +67,10 @@ fn push_values(alloc: Global, values: &mut Vec<Value>, batch: &Batch) -> Result<
 }
 
 // The type of the first column that an answer says, and its values.
-fn column(alloc: Global, reply: &Reply) -> Result<(Option<DataType>, Vec<Value>), Fault> {
+pub(super) fn column(
+    alloc: Global,
+    reply: &Reply,
+) -> Result<(Option<DataType>, Vec<Value>), Fault> {
     let mut reader = Reader::new();
     let mut values = Vec::new(alloc);
     for payload in &reply.payloads {
