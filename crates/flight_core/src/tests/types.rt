@@ -94,7 +94,7 @@ fn assert_answered(
     data_type: DataType,
     wanted: &[ValueRef<'_>],
 ) -> Result<(), Fail> {
-    let replies = answers(alloc, schema, messages, wanted.len() as u8)?;
+    let replies = answers(alloc, schema, messages, wanted.len().min(255) as u8)?;
     let reply = replies.last().ok_or(Fault::BadTicket)?;
     assert_eq!(rt; reply.fault, None);
     let (answered, values) = column(alloc, reply)?;
@@ -199,26 +199,36 @@ fn dictionaries(rt: HostRuntime) -> Result<(), Fail> {
     )
 }
 
-// A null of a dictionary in a column that takes none, and two columns of one name.
+// A put of these messages is refused, and no version comes of it.
+fn assert_refused(
+    rt: &impl Abort,
+    alloc: Global,
+    schema: &'static [u8],
+    messages: &[Message],
+    fault: Fault,
+) -> Result<(), Fail> {
+    let replies = answers(alloc, schema, messages, 0)?;
+    let first = replies.first().and_then(|reply| reply.fault);
+    let last = replies.last().and_then(|reply| reply.fault);
+    assert_eq!(rt; (first, last), (Some(fault), Some(Fault::VersionUnknown)));
+    Ok(())
+}
+
 #[test]
-fn refused(rt: HostRuntime) -> Result<(), Fail> {
-    let nulls: [Message; 2] = [
+fn two_columns_of_one_name(rt: HostRuntime) -> Result<(), Fail> {
+    let schema = &SCHEMA_EQUAL_NAMES_HEADER;
+    assert_refused(&rt, rt.alloc(), schema, &[], Fault::SchemaMismatch)
+}
+
+// A null of a dictionary in a column that takes none.
+#[test]
+fn null_refused(rt: HostRuntime) -> Result<(), Fail> {
+    let messages: [Message; 2] = [
         (&DICTIONARY_X_NULL_HEADER, &DICTIONARY_X_NULL_BODY),
         (&INDICES_0_1_NULL_HEADER, &INDICES_0_1_NULL_BODY),
     ];
-    let table: [(&'static [u8], &[Message], Fault); 2] = [
-        (&SCHEMA_OF_INT8_FULL_HEADER, &nulls, Fault::BadBatch),
-        (&SCHEMA_EQUAL_NAMES_HEADER, &[], Fault::SchemaMismatch),
-    ];
-    for (schema, messages, fault) in table {
-        let replies = answers(rt.alloc(), schema, messages, 0)?;
-        let faults = (
-            replies.first().and_then(|reply| reply.fault),
-            replies.last().and_then(|reply| reply.fault),
-        );
-        assert_eq!(rt; faults, (Some(fault), Some(Fault::VersionUnknown)));
-    }
-    Ok(())
+    let schema = &SCHEMA_OF_INT8_FULL_HEADER;
+    assert_refused(&rt, rt.alloc(), schema, &messages, Fault::BadBatch)
 }
 
 // The same null in a column that takes nulls.
