@@ -1,12 +1,12 @@
 -- What a text means: at most one answer, and none where it is refused.
-use Rattle.std.proofs.Common.{◌≡◌, ◌≢◌, ◌≤◌, ◌<◌, ℕ, List, length, map, Option, Some, None, Result, Ok, Err, refl, sym, ap, ◌∙◌, arith, ◌⊎◌, inl, inr}
-use Rattle.std.specs.Prelude.{IfSome, All}
+use Rattle.std.proofs.Common.{◌≡◌, ◌≢◌, ◌≤◌, ◌<◌, ℕ, List, length, map, Option, Some, None, Result, Ok, Err, sym, ap, ◌∙◌, arith, ◌⊎◌, inl, inr}
+use Rattle.std.specs.Prelude.{IfSome}
 use Rattle.std.proofs.lemmas.List.Elements.{All-weaker}
 use Rattle.scan_base.specs.declared.fault.Fault.{Fault}
 use Rattle.scan_base.specs.declared.fault.Fault.TheVariants.{OutOfMemory}
 use Rattle.arrow_schema.specs.declared.schema.Schema.{Schema}
 use Rattle.arrow_schema.specs.Schema.{IsSchema}
-use Rattle.endpoint_split.specs.Handle.{HandleAt, Query, Tables}
+use Rattle.endpoint_split.specs.Handle.{Query, Tables}
 use Rattle.sql_text.specs.Standard.{Lexeme}
 use Rattle.sql_text.specs.Reading.{tokens_in}
 use Rattle.sql_query.specs.declared.query.SelectItem.{SelectItem}
@@ -16,8 +16,8 @@ use Rattle.sql_query.specs.declared.query.Place.{Place}
 use Rattle.sql_query.specs.declared.query.Query.{Query as ParsedQuery}
 use Rattle.sql_query.specs.Names.{IsName as IsQueryName, ItemHasNames, SelectHasNames}
 use Rattle.sql_query.specs.Sentence.{Sentence, sentence_of}
-use Rattle.sql_parse.specs.Parse.{Accepts, Refuses, Parsed}
-use Rattle.sql_parse.specs.Tokens.{Mark, mark_of}
+use Rattle.sql_parse.specs.Parse.{Refuses, Parsed}
+use Rattle.sql_parse.specs.Tokens.{mark_of}
 use Rattle.sql_parse.proofs.OneAnswer.{not_both}
 use Rattle.sql_parse.proofs.Printed.{sentence_of_shallow}
 use Rattle.table_versions.specs.Table.{Name, Row, Table}
@@ -29,11 +29,10 @@ use Rattle.typed_plan.specs.Bound.{fault_of}
 use Rattle.typed_plan.specs.Joined.{place_rows, rows_in}
 use Rattle.typed_plan.specs.Meaning.{meaning}
 use Rattle.typed_plan.specs.Named.{IsNameIfThere, HasNames}
-use Rattle.typed_plan.specs.Outcome.{Binds}
 use Rattle.typed_plan.specs.Plan.{PlanAt}
 use Rattle.typed_plan.specs.ResultSchema.{result_schema}
 use Rattle.flight_core.specs.Fetches.{Meant, HandlesMeanOne}
-use Rattle.flight_core.specs.Planned.{GivesMeant, plan_answer}
+use Rattle.flight_core.specs.Planned.{GivesMeant}
 
 -- a text says the sentence
 abbrev Says : List ℕ → Sentence → Type 0

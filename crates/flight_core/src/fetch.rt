@@ -135,7 +135,13 @@ pub fn answer_fetch(alloc: Global, snapshot: &Snapshot, handle: &Handle<'_>) -> 
     else {
         return Reply::refusal(alloc, Fault::BadTicket);
     };
-    match write_query(alloc, snapshot.catalog(), query, *from as usize, *to as usize) {
+    match write_query(
+        alloc,
+        snapshot.catalog(),
+        query,
+        *from as usize,
+        *to as usize,
+    ) {
         Ok(payloads) => Reply::whole(payloads),
         Err(fault) => Reply::refusal(alloc, fetch_fault(fault)),
     }

@@ -9,6 +9,7 @@ use scan_base::{Fault, ValueRef};
 use std::alloc::{AllocError, Global};
 use std::test::Fail;
 
+mod queries;
 mod types;
 mod vectors;
 
@@ -142,7 +143,7 @@ fn first_run(rt: HostRuntime) -> Result<(), Fail> {
 fn refused_fetches(rt: HostRuntime) -> Result<(), Fail> {
     let alloc = rt.alloc();
     let mut plain = after_put(alloc)?;
-    let table: [(&[(usize, u8)], Option<Fault>); 10] = [
+    let table: [(&[(usize, u8)], Option<Fault>); 11] = [
         (&[(0, 0x0b)], Some(Fault::BadProto)),
         (&[(2, 0x0b)], Some(Fault::BadTicket)),
         (&[(74, 3)], Some(Fault::BadTicket)),
@@ -151,7 +152,8 @@ fn refused_fetches(rt: HostRuntime) -> Result<(), Fail> {
         (&[(90, 3)], Some(Fault::BadTicket)),
         (&[(86, 2), (90, 1)], Some(Fault::BadTicket)),
         (&[(86, 2)], None),
-        (&[(91, b's')], Some(Fault::BadTicket)),
+        (&[(91, b's')], None),
+        (&[(91, b'T')], Some(Fault::BadTicket)),
         (&[(105, b'u')], Some(Fault::BadTicket)),
     ];
     for (changes, fault) in table {

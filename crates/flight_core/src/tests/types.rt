@@ -14,7 +14,7 @@ use std::process::Abort;
 use std::test::Fail;
 
 // A message: its header and its body.
-type Message = (&'static [u8], &'static [u8]);
+pub(super) type Message = (&'static [u8], &'static [u8]);
 
 const NULL: ValueRef<'static> = ValueRef::Null;
 
@@ -28,7 +28,11 @@ fn payload(alloc: Global, front: &[u8], message: Message) -> Result<Bytes, Fault
 }
 
 // A put of messages into `t`, the first of them with the command.
-fn put(alloc: Global, schema: &'static [u8], messages: &[Message]) -> Result<Event, Fault> {
+pub(super) fn put(
+    alloc: Global,
+    schema: &'static [u8],
+    messages: &[Message],
+) -> Result<Event, Fault> {
     let (command, _) = FIRST.split_at(85);
     let mut payloads = Vec::new(alloc);
     payloads.push(payload(alloc, command, (schema, &[]))?)?;
@@ -63,7 +67,10 @@ fn push_values(alloc: Global, values: &mut Vec<Value>, batch: &Batch) -> Result<
 }
 
 // The type of the first column that an answer says, and its values.
-fn column(alloc: Global, reply: &Reply) -> Result<(Option<DataType>, Vec<Value>), Fault> {
+pub(super) fn column(
+    alloc: Global,
+    reply: &Reply,
+) -> Result<(Option<DataType>, Vec<Value>), Fault> {
     let mut reader = Reader::new();
     let mut values = Vec::new(alloc);
     for payload in &reply.payloads {
@@ -87,7 +94,7 @@ fn assert_answered(
     data_type: DataType,
     wanted: &[ValueRef<'_>],
 ) -> Result<(), Fail> {
-    let replies = answers(alloc, schema, messages, wanted.len() as u8)?;
+    let replies = answers(alloc, schema, messages, wanted.len().min(255) as u8)?;
     let reply = replies.last().ok_or(Fault::BadTicket)?;
     assert_eq!(rt; reply.fault, None);
     let (answered, values) = column(alloc, reply)?;
@@ -192,26 +199,36 @@ fn dictionaries(rt: HostRuntime) -> Result<(), Fail> {
     )
 }
 
-// A null of a dictionary in a column that takes none, and two columns of one name.
+// A put of these messages is refused, and no version comes of it.
+fn assert_refused(
+    rt: &impl Abort,
+    alloc: Global,
+    schema: &'static [u8],
+    messages: &[Message],
+    fault: Fault,
+) -> Result<(), Fail> {
+    let replies = answers(alloc, schema, messages, 0)?;
+    let first = replies.first().and_then(|reply| reply.fault);
+    let last = replies.last().and_then(|reply| reply.fault);
+    assert_eq!(rt; (first, last), (Some(fault), Some(Fault::VersionUnknown)));
+    Ok(())
+}
+
 #[test]
-fn refused(rt: HostRuntime) -> Result<(), Fail> {
-    let nulls: [Message; 2] = [
+fn two_columns_of_one_name(rt: HostRuntime) -> Result<(), Fail> {
+    let schema = &SCHEMA_EQUAL_NAMES_HEADER;
+    assert_refused(&rt, rt.alloc(), schema, &[], Fault::SchemaMismatch)
+}
+
+// A null of a dictionary in a column that takes none.
+#[test]
+fn null_refused(rt: HostRuntime) -> Result<(), Fail> {
+    let messages: [Message; 2] = [
         (&DICTIONARY_X_NULL_HEADER, &DICTIONARY_X_NULL_BODY),
         (&INDICES_0_1_NULL_HEADER, &INDICES_0_1_NULL_BODY),
     ];
-    let table: [(&'static [u8], &[Message], Fault); 2] = [
-        (&SCHEMA_OF_INT8_FULL_HEADER, &nulls, Fault::BadBatch),
-        (&SCHEMA_EQUAL_NAMES_HEADER, &[], Fault::SchemaMismatch),
-    ];
-    for (schema, messages, fault) in table {
-        let replies = answers(rt.alloc(), schema, messages, 0)?;
-        let faults = (
-            replies.first().and_then(|reply| reply.fault),
-            replies.last().and_then(|reply| reply.fault),
-        );
-        assert_eq!(rt; faults, (Some(fault), Some(Fault::VersionUnknown)));
-    }
-    Ok(())
+    let schema = &SCHEMA_OF_INT8_FULL_HEADER;
+    assert_refused(&rt, rt.alloc(), schema, &messages, Fault::BadBatch)
 }
 
 // The same null in a column that takes nulls.

@@ -1,7 +1,6 @@
-use Rattle.std.proofs.Common.{◌≡◌, ◌≤◌, ◌<◌, length, arith, inl, inr}
+use Rattle.std.proofs.Common.{arith, inl, inr}
 use Rattle.std.proofs.lemmas.Result.{err_from_is_err_and}
 use Rattle.table_versions.specs.Stored.{tables_of}
-use Rattle.typed_plan.specs.Joined.{place_rows}
 use Rattle.typed_plan.specs.View.{plan_of}
 use Rattle.flight_core.proofs.Meaning.{unparsed, unbound, out_of_range, planned, names_are}
 use Rattle.flight_core.proofs.fetch.plan_query.Goals as goal
@@ -21,8 +20,8 @@ pub returns-then-from-to-clause-refused : goal.returns-then-from-to-clause-refus
 returns-then-from-to-clause-refused c other =
     out_of_range (tables_of c.args.catalog.now) c.args.from c.args.to c.args.text.now c.in_ok-query.query c.in_ok-query.ensures.parsed
     (elim c.then-from-to.branch [
-      then-from-to-via-then-from-to w ↦ inl (omega (arith, w.if-from-to.true))
-    | then-from-to-via-else-from-to+then-to-first_rows w ↦ inr (omega (arith, w.if-to-first_rows.true, w.first_rows.ensures))
+      | then-from-to-via-then-from-to w ↦ inl (omega (arith, w.if-from-to.true))
+      | then-from-to-via-else-from-to+then-to-first_rows w ↦ inr (omega (arith, w.if-to-first_rows.true, w.first_rows.ensures))
     ])
 
 pub returns-clause-planned : goal.returns-clause-planned

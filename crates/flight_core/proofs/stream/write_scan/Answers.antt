@@ -1,5 +1,4 @@
-use Rattle.std.proofs.Common.{◌≡◌, ◌≤◌, [], ◌∷◌, refl, sym, subst, ◌∙◌, List, arith, rules}
-use Rattle.arrow_schema.specs.declared.data_type.DataType.{DataType}
+use Rattle.std.proofs.Common.{◌≡◌, [], ◌∷◌, refl, sym, subst, ◌∙◌, rules}
 use Rattle.scan_exec.specs.Scan.{GivesRows}
 use Rattle.flight_core.specs.Planned.{HasAnswerTypes}
 use Rattle.flight_core.proofs.Scanned.{gave, ended, failed, few_columns, say_none, say_on, fewer_left, say_all}
