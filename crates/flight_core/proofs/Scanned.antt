@@ -24,7 +24,7 @@ use Rattle.flight_core.proofs.Parts.{slice_whole}
 pub gave : (before after : ScanAt) (given : Option BatchAt) (batch : BatchAt) → before.refused ≡ None → given ≡ Some batch → Gives before (Ok given) after → GivesRows before batch after
 gave before after given batch begins e gives = going before.left before.types before.batches before.opened before.refused begins (rw e at gives)
   where
-    going : (left : Rows) (types : List DataType) (batches opened : ℕ) (refused : Option Fault) → refused ≡ None
+    going : (left : Rows) (types : List DataType) (batches opened : List ℕ) (refused : Option Fault) → refused ≡ None
         → Gives (record { left = left; types = types; batches = batches; opened = opened; refused = refused }) (Ok (Some batch)) after
         → GivesRows (record { left = left; types = types; batches = batches; opened = opened; refused = refused }) batch after
     going left types batches opened None begins gives = gives

@@ -3,6 +3,7 @@ use Rattle.std.proofs.Common.{◌≡◌, ◌≤◌, ◌<◌, ℕ, ◌+◌, ◌-�
 use Rattle.std.specs.List.{filter}
 use Rattle.std.proofs.lemmas.Bool.{cases_eq, eq-eqb, ne_eqb}
 use Rattle.std.proofs.lemmas.List.Elements.{filter-append}
+use Rattle.std.proofs.lemmas.Option.{slice_get_within}
 use Rattle.arrays.specs.Batch.{BatchAt, rows_of, cut_batch}
 use Rattle.arrays.specs.Typed.{AreOfTypes}
 use Rattle.table_versions.specs.Stored.{TableAt, table_of}
@@ -15,7 +16,7 @@ use Rattle.scan_exec.specs.declared.cursor.Run.{Run}
 use Rattle.scan_exec.specs.Opened.{batches_in}
 use Rattle.scan_exec.specs.Placed.{IsPlaced, Looks, rows_ahead}
 use Rattle.scan_exec.specs.Runs.{IsFirstRun}
-use Rattle.scan_exec.proofs.Opening.{opens, stays_open, in_few}
+use Rattle.scan_exec.proofs.Opening.{opens_one, stays_open, in_few}
 
 -- past a batch that ends before the next row
 pub past : BatchesAreRows → (table : TableAt) (cursor : Cursor) (batch : BatchAt) → IsPlaced table cursor → slice_get table.batches cursor.batch ≡ Some batch →
@@ -35,7 +36,7 @@ past standing table cursor batch is there some h =
 
 -- fewer batches were opened than there are rows before the range's end
 pub opened_few : (table : TableAt) (cursor : Cursor) → IsPlaced table cursor → cursor.opened ≤ cursor.at
-opened_few table cursor is = omega (arith, is.opened, in_few cursor.from cursor.at 0 table.batches)
+opened_few table cursor is = omega (arith, is.opened, in_few cursor.from cursor.at table.batches)
 
 module _ (standing : BatchesAreRows) (table : TableAt) (cursor : Cursor) (batch : BatchAt) (there : slice_get table.batches cursor.batch ≡ Some batch)
     (is : IsPlaced table cursor) (more : cursor.at < cursor.to) (high : cursor.at < cursor.start + batch.rows)
@@ -55,18 +56,25 @@ module _ (standing : BatchesAreRows) (table : TableAt) (cursor : Cursor) (batch 
       by (inl e) = let all = run.some e in omega (arith, all, more, high, is.behind)
       by (inr n) = let some : start < end = omega (arith, n, run.ordered) in omega (arith, some, run.low, is.behind)
 
-  counted : cursor.opened + (if cursor.at == max cursor.start cursor.from then 1 else 0) ≡ batches_in cursor.from (cursor.start + end) 0 table.batches
+  within : cursor.batch < length table.batches
+  within = slice_get_within table.batches cursor.batch batch there
+
+  -- what was looked at does not leave the batch
+  ends : cursor.start + end ≤ rows_before table.batches (cursor.batch + 1)
+  ends = let next = ((standing table).1 cursor.batch batch there).next in omega (arith, next, is.start, run.high)
+
+  counted : cursor.opened + (if cursor.at == max cursor.start cursor.from then 1 else 0) ≡ length (batches_in cursor.from (cursor.start + end) table.batches)
   counted = by (cases_eq cursor.at (max cursor.start cursor.from))
     where
       by : (cursor.at ≡ max cursor.start cursor.from) ⊎ (cursor.at ≡ max cursor.start cursor.from → ⊥) →
-          cursor.opened + (if cursor.at == max cursor.start cursor.from then 1 else 0) ≡ batches_in cursor.from (cursor.start + end) 0 table.batches
+          cursor.opened + (if cursor.at == max cursor.start cursor.from then 1 else 0) ≡ length (batches_in cursor.from (cursor.start + end) table.batches)
       by (inl e) =
-          let one = opens cursor.from cursor.at (cursor.start + end) table.batches cursor.batch batch there is.begun (omega (arith, is.start, is.behind)) forth
-          (omega (arith, is.start, run.high)) (omega (arith, e, is.start)) in
+          let one = opens_one cursor.from cursor.at (cursor.start + end) table.batches cursor.batch within is.begun (omega (arith, is.start, is.behind)) forth
+          ends (omega (arith, e, is.start)) in
           rw (eq-eqb cursor.at (max cursor.start cursor.from) e) (omega (arith, one, is.opened))
       by (inr n) =
-          let same = stays_open cursor.from cursor.at (cursor.start + end) table.batches cursor.batch batch there is.begun (omega (arith, is.start, is.behind)) forth
-          (omega (arith, is.start, run.high)) (omega (arith, n, is.start, is.behind, is.begun)) in
+          let same = ap length (stays_open cursor.from cursor.at (cursor.start + end) table.batches cursor.batch within is.begun (omega (arith, is.start, is.behind)) forth
+          ends (omega (arith, n, is.start, is.behind, is.begun))) in
           rw (ne_eqb cursor.at (max cursor.start cursor.from) n) (omega (arith, same, is.opened))
 
   pub placed_after : IsPlaced table after

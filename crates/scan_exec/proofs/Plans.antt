@@ -1,6 +1,6 @@
 -- What a plan reads and gives.
-use Rattle.std.proofs.Common.{◌≡◌, ◌≤◌, ◌<◌, ℕ, zero, suc, ◌+◌, ◌-◌, Bool, true, false, ◌&&◌, List, [], ◌∷◌, length, map, take, drop, get_or, max, min, nat_lt, slice_get, slice_index, unwrap_or, option_map, Option, Some, None, cond, refl, sym, ap, subst, ◌∙◌, arith, length-drop}
-use Rattle.std.specs.List.{filter, list_all, range_with_len}
+use Rattle.std.proofs.Common.{◌≡◌, ◌≤◌, ◌<◌, ℕ, zero, suc, ◌+◌, ◌-◌, Bool, true, false, ◌&&◌, List, [], ◌∷◌, length, map, take, drop, max, min, nat_lt, slice_get, slice_index, unwrap_or, option_map, Option, Some, None, cond, refl, sym, ap, ◌∙◌, arith, length-drop}
+use Rattle.std.specs.List.{filter, range_with_len}
 use Rattle.std.proofs.lemmas.Bool.{lt-ltb, ltb-true}
 use Rattle.std.proofs.lemmas.List.{length-map, take_min}
 use Rattle.std.proofs.lemmas.List.FromFn.{length-range_with_len, fill_by_all}
@@ -9,10 +9,9 @@ use Rattle.arrow_schema.specs.declared.data_type.DataType.{DataType}
 use Rattle.arrow_schema.specs.declared.data_type.DataType.TheVariants.{Utf8}
 use Rattle.arrow_schema.specs.declared.schema.Schema.{Schema}
 use Rattle.arrow_schema.specs.Answer.{answer_type}
-use Rattle.scan_base.specs.Predicate.{cell_in}
 use Rattle.table_versions.specs.Database.{Database, table_at, columns_of}
 use Rattle.table_versions.specs.Stored.{TableAt, CatalogAt, table_of, tables_of, plain}
-use Rattle.table_versions.specs.Table.{Name, Row, Table}
+use Rattle.table_versions.specs.Table.{Row, Table}
 use Rattle.table_versions.proofs.ListTests.{both}
 use Rattle.table_versions.proofs.Stores.{table_at-tables_of}
 use Rattle.typed_plan.specs.declared.plan.Columns.{Columns}
@@ -23,7 +22,7 @@ use Rattle.typed_plan.specs.Joined.{rows_in, rows_between}
 use Rattle.typed_plan.specs.Plan.{Tree, scan, filtered, PlanAt, taken, is_true, tree_rows, output_rows, plan_rows}
 use Rattle.typed_plan.specs.Typed.{IsTyped, IsTypedTree, IsTypedOutput, IsOver, has_columns, tree_types, types_of, types_taken}
 use Rattle.scan_exec.specs.Chosen.{are_within, numbers_at, type_at}
-use Rattle.scan_exec.specs.Given.{tree_table, tree_columns, output_columns, cells, passes, holds, shown, given}
+use Rattle.scan_exec.specs.Given.{tree_table, tree_columns, output_columns, cells, holds, given}
 use Rattle.scan_exec.specs.Reading.{IsRead, IsScan}
 use Rattle.scan_exec.specs.Scan.{plan_types}
 use Rattle.scan_exec.proofs.Cells.{within_at, places}
@@ -256,7 +255,7 @@ begins plan table read chosen from to typed is e types ordered few =
         behind = omega arith;
         start = refl;
         filled = omega arith;
-        opened = sym (none_in from from 0 table.batches (omega arith));
+        opened = ap length (sym (none_in from from table.batches (omega arith)));
       };
     }
 

@@ -1,5 +1,6 @@
 -- What a scan gives of the rows of a run.
 use Rattle.std.proofs.Common.{◌≡◌, ◌≢◌, ◌≤◌, ◌<◌, ℕ, ◌-◌, true, List, [], ◌∷◌, ◌++◌, length, map, take, drop, zero, suc, nat_lt, slice_get, option_map, unwrap_or, Option, Some, None, Ok, Err, refl, sym, ap, subst, ◌∙◌, arith, length-append}
+use Rattle.std.specs.Io.{StartsWith}
 use Rattle.std.specs.List.{range_with_len}
 use Rattle.std.proofs.lemmas.Bool.{ltb-true}
 use Rattle.std.proofs.lemmas.List.{length-map, map-append, take-map, drop-map}
@@ -124,8 +125,8 @@ abbrev pub seen : PlanAt → TableAt → Cursor → Option Fault → ScanAt
 seen plan table cursor refused = record {
   left = given plan (rows_between cursor.at cursor.to (table_of table).rows);
   types = plan_types plan;
-  batches = batches_in cursor.from cursor.to 0 table.batches;
-  opened = cursor.opened;
+  batches = batches_in cursor.from cursor.to table.batches;
+  opened = batches_in cursor.from cursor.at table.batches;
   refused = refused;
 }
 
@@ -151,12 +152,12 @@ module _ (keep : BatchSlicesKeepRows) (plan : PlanAt) (table : TableAt) (read ch
 
   gives_rows : GivesRows (seen plan table cursor None) slice (seen plan table after None)
   gives_rows =
-      let grown = in_longer cursor.from cursor.at after.at 0 table.batches (omega (arith, found.1.forth)) in
-      let few = in_longer after.from after.at after.to 0 table.batches placed.ordered in
       let from = found.1.from in
       let to = found.1.to in
-      let same = ap (λ (n : ℕ). batches_in n after.at 0 table.batches) from in
-      let whole = ap (λ (n : ℕ). batches_in n after.to 0 table.batches) from ∙ ap (λ (n : ℕ). batches_in cursor.from n 0 table.batches) to in
+      let same = ap (λ (n : ℕ). batches_in n after.at table.batches) from in
+      let whole = ap (λ (n : ℕ). batches_in n after.to table.batches) from ∙ ap (λ (n : ℕ). batches_in cursor.from n table.batches) to in
+      let grown = in_longer cursor.from cursor.at after.at table.batches (omega (arith, found.1.forth)) in
+      let front = in_longer after.from after.at after.to table.batches placed.ordered in
       record {
         some = omega (arith, found.0);
         rows = rows_are;
@@ -165,8 +166,8 @@ module _ (keep : BatchSlicesKeepRows) (plan : PlanAt) (table : TableAt) (read ch
             (chosen_typed table.schema.fields run.batch.now.columns chosen run.from run.to found.1.typed (ap (λ (n : ℕ). are_within n chosen) found.1.wide ∙ is.there));
         types = refl;
         batches = whole;
-        opening = omega (arith, grown, same, is.placed.opened, placed.opened);
-        opened = omega (arith, few, whole, placed.opened);
+        opening = subst (λ (opened : List ℕ). StartsWith opened (batches_in cursor.from cursor.at table.batches)) (sym same) grown;
+        opened = subst (λ (batches : List ℕ). StartsWith batches (batches_in after.from after.at table.batches)) whole front;
         refused = refl;
       }
 

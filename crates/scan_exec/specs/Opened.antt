@@ -1,10 +1,13 @@
 -- Which batches of a table a range of its rows touches.
-use Rattle.std.specs.Prelude.{ℕ, ◌+◌, if◌then◌else◌, List, [], ◌∷◌, nat_lt, max, min}
+use Rattle.std.specs.Prelude.{ℕ, ◌+◌, Bool, List, length, nat_lt, max, min}
+use Rattle.std.specs.List.{filter, range_with_len}
 use Rattle.arrays.specs.Batch.{BatchAt}
+use Rattle.table_versions.specs.Standing.{rows_before}
 
--- how many of these batches, the first of which begins at row `start`, have one of the rows `from` up to, not
--- with, `to`
-abbrev pub batches_in : ℕ → ℕ → ℕ → List BatchAt → ℕ
-batches_in from to start [] = 0
-batches_in from to start (batch ∷ batches) =
-    (if nat_lt (max start from) (min (start + batch.rows) to) then 1 else 0) + batches_in from to (start + batch.rows) batches
+-- whether batch i has one of the rows `from` up to, not with, `to` of its table
+abbrev pub has_row_in : ℕ → ℕ → List BatchAt → ℕ → Bool
+has_row_in from to batches i = nat_lt (max (rows_before batches i) from) (min (rows_before batches (i + 1)) to)
+
+-- the numbers, counted from 0 and in order, of the batches that have one of these rows
+abbrev pub batches_in : ℕ → ℕ → List BatchAt → List ℕ
+batches_in from to batches = filter (has_row_in from to batches) (range_with_len 0 (length batches))

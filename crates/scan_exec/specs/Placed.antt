@@ -20,7 +20,7 @@ pub record IsPlaced (table : TableAt) (cursor : Cursor) : Type 0 where
   pub behind : cursor.start ≤ cursor.at
   pub start : cursor.start ≡ rows_before table.batches cursor.batch
   pub filled : cursor.batch ≤ cursor.start
-  pub opened : cursor.opened ≡ batches_in cursor.from cursor.at 0 table.batches
+  pub opened : cursor.opened ≡ length (batches_in cursor.from cursor.at table.batches)
 
 -- the rows of a table that a cursor has still to look at, as far as they hold
 abbrev pub rows_ahead : (Row → Bool) → TableAt → Cursor → List Row

@@ -1,5 +1,6 @@
 -- What a scan gives, and what it opens.
-use Rattle.std.specs.Prelude.{◌≡◌, ◌≢◌, ◌≤◌, ◌<◌, ℕ, List, [], ◌∷◌, ◌++◌, length, Option, Some, None, Result, Ok, Err}
+use Rattle.std.specs.Prelude.{◌≡◌, ◌≢◌, ◌<◌, ℕ, List, [], ◌∷◌, ◌++◌, length, Option, Some, None, Result, Ok, Err}
+use Rattle.std.specs.Io.{StartsWith}
 use Rattle.arrays.specs.Batch.{BatchAt, rows_of}
 use Rattle.arrays.specs.Column.{ColumnAt}
 use Rattle.arrays.specs.Typed.{IsOfType}
@@ -13,13 +14,13 @@ use Rattle.typed_plan.specs.Plan.{PlanAt}
 use Rattle.typed_plan.specs.Typed.{tree_types, types_taken}
 use Rattle.scan_exec.specs.Given.{tree_table, output_columns}
 
--- the rows that are still to be given, and the types of their columns; how many batches of the table have a row in
--- the range, and how many were opened; and what refused the scan
+-- the rows that are still to be given, and the types of their columns; the numbers of the table's batches that have a
+-- row in the range, and of those that were opened; and what refused the scan
 pub record ScanAt : Type 0 where
   pub left : List Row
   pub types : List DataType
-  pub batches : ℕ
-  pub opened : ℕ
+  pub batches : List ℕ
+  pub opened : List ℕ
   pub refused : Option Fault
 
 -- there is a column for each type, of that type
@@ -28,7 +29,8 @@ AreOf [] [] = Unit {0}
 AreOf (data_type ∷ types) (column ∷ columns) = IsOfType data_type column.layout × AreOf types columns
 AreOf _ _ = ⊥
 
--- a batch has the next rows, one or more, in columns of the types
+-- A batch has the next rows, one or more, in columns of the types. Those opened are the first ones of the table's
+-- batches that have a row in the range, and go on from those opened before.
 pub record GivesRows (before : ScanAt) (batch : BatchAt) (after : ScanAt) : Type 0 where
   pub some : 0 < batch.rows
   pub rows : rows_of batch ++ after.left ≡ before.left
@@ -36,12 +38,12 @@ pub record GivesRows (before : ScanAt) (batch : BatchAt) (after : ScanAt) : Type
   pub typed : AreOf before.types batch.columns
   pub types : after.types ≡ before.types
   pub batches : after.batches ≡ before.batches
-  pub opening : before.opened ≤ after.opened
-  pub opened : after.opened ≤ before.batches
+  pub opening : StartsWith after.opened before.opened
+  pub opened : StartsWith before.batches after.opened
   pub refused : after.refused ≡ None
 
--- What a call gives. Where nothing is left, all batches that have a row in the range were opened, and no other.
--- Memory refuses a scan only where something is left, and what refused it is answered from then on.
+-- What a call gives. At the end exactly the batches that have a row in the range were opened, each once. Memory refuses
+-- a scan only where something is left, and what refused it is answered from then on.
 abbrev pub Gives : ScanAt → Result (Option BatchAt) Fault → ScanAt → Type 0
 Gives before result after = going before.refused result
   where

@@ -1,6 +1,6 @@
 //! Scans.
 
-ghost use Rattle.std.specs.Prelude.{◌≡◌, None, IfOk, map};
+ghost use Rattle.std.specs.Prelude.{◌≡◌, [], None, IfOk, length, map};
 ghost use Rattle.arrow_schema.specs.Answer.{answer_type};
 ghost use Rattle.table_versions.specs.Stored.{tables_of};
 ghost use Rattle.typed_plan.specs.Plan.{plan_rows};
@@ -21,8 +21,7 @@ use table_versions::{CatalogVersion, TableVersion};
 use typed_plan::TypedPlan;
 
 /// The rows of a plan over a range of its table's rows, still to be given. A contract sees these rows,
-/// how many batches of the table have a row in the range, how many were opened, and what refused the
-/// scan.
+/// which batches of the table have a row in the range, which were opened, and what refused the scan.
 #[derive(Drop)]
 pub struct Scan<'a> {
     plan: &'a TypedPlan,
@@ -49,8 +48,8 @@ impl<'a> Model for Scan<'a> {
     ghost view = { λ s. record {
       left = given (plan_of s.plan.now) (rows_between s.cursor.at s.cursor.to (table_of s.table.now).rows);
       types = plan_types (plan_of s.plan.now);
-      batches = batches_in s.cursor.from s.cursor.to 0 s.table.now.batches;
-      opened = s.cursor.opened;
+      batches = batches_in s.cursor.from s.cursor.to s.table.now.batches;
+      opened = batches_in s.cursor.from s.cursor.at s.table.now.batches;
       refused = s.refused;
     } };
 
@@ -71,8 +70,8 @@ impl<'a> Scan<'a> {
         ensures scan { IfOk result (λ scan. scan ≡ record {
           left = plan_rows (plan_of plan.now) (tables_of catalog.now) from to;
           types = plan_types (plan_of plan.now);
-          batches = batches_in from to 0 (batches_read (plan_of plan.now) catalog.now);
-          opened = 0;
+          batches = batches_in from to (batches_read (plan_of plan.now) catalog.now);
+          opened = [];
           refused = None;
         }) }
         ensures typed { types_of plan.now.schema.fields ≡ map answer_type (plan_types (plan_of plan.now)) }
@@ -125,7 +124,7 @@ impl<'a> Scan<'a> {
 
     /// How many batches of the table were opened: those with a row in the range that was looked at.
     pub fn opened(&self) -> usize
-        ensures { result ≡ self.now.opened }
+        ensures { result ≡ length self.now.opened }
     {
         self.cursor.opened
     }

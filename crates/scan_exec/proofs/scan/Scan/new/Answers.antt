@@ -1,8 +1,7 @@
-use Rattle.std.proofs.Common.{◌≡◌, ◌<◌, ◌≤◌, ℕ, List, length, max, min, true, Option, Some, None, refl, sym, ap, subst, ◌∙◌, arith, rules}
+use Rattle.std.proofs.Common.{◌≡◌, ℕ, List, [], length, max, min, true, Option, Some, None, sym, ap, subst, ◌∙◌, arith}
 use Rattle.std.specs.List.{range_with_len}
 use Rattle.std.specs.Option.{option_copied}
 use Rattle.std.proofs.lemmas.List.FromFn.{length-range_with_len}
-use Rattle.arrays.specs.Batch.{BatchAt}
 use Rattle.arrow_schema.specs.declared.schema.Schema.{Schema}
 use Rattle.table_versions.specs.Database.{table_at}
 use Rattle.table_versions.specs.Stored.{TableAt, CatalogAt, table_of, tables_of}
@@ -18,7 +17,7 @@ use Rattle.scan_exec.specs.Opened.{batches_in}
 use Rattle.scan_exec.specs.Reading.{IsRead, IsScan}
 use Rattle.scan_exec.specs.Scan.{ScanAt, batches_of, batches_read, plan_types}
 use Rattle.scan_exec.specs.declared.cursor.Cursor.{Cursor}
-use Rattle.scan_exec.proofs.Opening.{in_clamped}
+use Rattle.scan_exec.proofs.Opening.{none_in, in_clamped}
 use Rattle.scan_exec.proofs.Plans.{not_missing, reads, read_is, output_there, types_are, begins, left_is, answered}
 use Rattle.scan_exec.proofs.Scanning.{seen}
 use Rattle.scan_exec.proofs.scan.Scan.new.Goals as goal
@@ -87,21 +86,23 @@ starts : (plan : PlanAt) (catalog : CatalogAt) (table : TableAt) (cursor : Curso
     seen plan table cursor None ≡ record {
       left = plan_rows plan (tables_of catalog) from to;
       types = plan_types plan;
-      batches = batches_in from to 0 (batches_read plan catalog);
-      opened = 0;
+      batches = batches_in from to (batches_read plan catalog);
+      opened = [];
       refused = None;
     }
 starts plan catalog table cursor from to end least rows there e d l r =
     let most = max (min to (length (table_of table).rows)) from in
     let at_end : end ≡ most = d ∙ ap (λ (n : ℕ). max n from) (l ∙ ap (min to) r) in
     let left = ap (λ (n : ℕ). given plan (rows_between from n (table_of table).rows)) at_end ∙ left_is plan catalog table from to there in
-    let batches = ap (λ (n : ℕ). batches_in from n 0 table.batches) at_end
-    ∙ in_clamped from to (length (table_of table).rows) 0 table.batches (omega arith)
-    ∙ ap (λ (t : Option TableAt). batches_in from to 0 (batches_of t)) (sym there) in
+    let batches = ap (λ (n : ℕ). batches_in from n table.batches) at_end
+    ∙ in_clamped from to (length (table_of table).rows) table.batches (omega arith)
+    ∙ ap (λ (t : Option TableAt). batches_in from to (batches_of t)) (sym there) in
+    let none = none_in from from table.batches (omega arith) in
     let first : ScanAt = seen plan table (record { from = from; to = end; at = from; batch = 0; start = 0; opened = 0 }) None in
     ap (λ (x : Cursor). seen plan table x None) e
     ∙ ap (λ (rows : List Row). record first { left = rows }) left
-    ∙ ap (λ (n : ℕ). record first { left = plan_rows plan (tables_of catalog) from to; batches = n }) batches
+    ∙ ap (λ (some : List ℕ). record first { left = plan_rows plan (tables_of catalog) from to; batches = some }) batches
+    ∙ ap (λ (some : List ℕ). record first { left = plan_rows plan (tables_of catalog) from to; batches = batches_in from to (batches_read plan catalog); opened = some }) none
 
 pub returns-clause-scan : goal.returns-clause-scan
 returns-clause-scan c =
