@@ -51,7 +51,8 @@ fn part_len(number: u16) -> u16 {
 fn has_value(dictionary: &Dictionary, number: u16) -> bool {
     match dictionary.get(usize::from(number)) {
         Some(ValueRef::Null) => number % 7 == 3,
-        Some(ValueRef::Text(text)) => number % 7 != 3 && text.as_bytes() == letters(number).as_slice(),
+        Some(ValueRef::Text(text)) => number % 7 != 3
+            && text.as_bytes() == letters(number).as_slice(),
         _ => false,
     }
 }
