@@ -17,7 +17,7 @@ use Rattle.scan_base.specs.declared.value.Value.TheVariants.{Null}
 use Rattle.arrays.specs.Number.{byte_width}
 use Rattle.arrays.specs.Validity.{IsLong}
 use Rattle.arrays.specs.Texts.{TextsAt, texts_slot, texts_values, IsTextOrNull, AreTexts}
-use Rattle.arrays.specs.Dictionary.{parts_values, entry_at, most_values, IsDictionary}
+use Rattle.arrays.specs.Dictionary.{parts_values, entry_at}
 use Rattle.arrays.specs.Indices.{IndicesAt, index_stands, AreIndices}
 use Rattle.arrays.proofs.Slots.{slots_at}
 use Rattle.arrays.proofs.TextSlots.{values_are_texts}
@@ -37,8 +37,14 @@ in_part part more place low =
     slice_get-get_or (texts_values part ++ more) place Null (omega (arith, long, both))
     ∙ ap Some (get_or-append (texts_values part) more Null place (omega (arith, long)) ∙ get_or-map-range_with_len (texts_slot part) 0 part.len place place Null low (omega arith))
 
+-- a place within the first of two lists
+pub within_list : (xs ys : List Value) (place : ℕ) → place < length xs → slice_get (xs ++ ys) place ≡ slice_get xs place
+within_list [] ys place low = absurd (omega (arith, low))
+within_list (x ∷ xs) ys zero low = refl
+within_list (x ∷ xs) ys (suc place) low = within_list xs ys place (omega (arith, low))
+
 -- a place behind a list
-behind_list : (xs ys : List Value) (place : ℕ) → length xs ≤ place → slice_get (xs ++ ys) place ≡ slice_get ys (place - length xs)
+pub behind_list : (xs ys : List Value) (place : ℕ) → length xs ≤ place → slice_get (xs ++ ys) place ≡ slice_get ys (place - length xs)
 behind_list [] ys place le = let e : place - 0 ≡ place = omega arith in rw e refl
 behind_list (x ∷ xs) ys zero le = absurd (omega arith)
 behind_list (x ∷ xs) ys (suc place) le = let e : suc place - suc (length xs) ≡ place - length xs = omega arith in rw e (behind_list xs ys place (omega arith))
@@ -47,7 +53,7 @@ behind_list (x ∷ xs) ys (suc place) le = let e : suc place - suc (length xs) �
 pub parts_more : (parts : List TextsAt) (part : TextsAt) → parts_values (parts ++ part ∷ []) ≡ parts_values parts ++ (texts_values part ++ [])
 parts_more parts part = flat_map-append texts_values parts (part ∷ [])
 
-length-parts_more : (parts : List TextsAt) (part : TextsAt) → length (parts_values (parts ++ part ∷ [])) ≡ length (parts_values parts) + part.len
+pub length-parts_more : (parts : List TextsAt) (part : TextsAt) → length (parts_values (parts ++ part ∷ [])) ≡ length (parts_values parts) + part.len
 length-parts_more parts part =
     let nothing : List Value = [] in
     let last = length-append (texts_values part) nothing in
@@ -72,44 +78,6 @@ in_parts parts i index part low is front within =
     ∙ behind_list before (parts_values (drop i parts)) index front
     ∙ ap (λ (left : List TextsAt). slice_get (parts_values left) (index - length before)) (dropped parts i part low is)
     ∙ in_part part (parts_values (drop (i + 1) parts)) (index - length before) within
-
--- one part more
-pub counted_more : (parts : List TextsAt) (starts : List ℕ) (part : TextsAt) (count : ℕ) → IsDictionary parts starts count → AreTexts part → count + part.len ≤ most_values →
-    IsDictionary (parts ++ part ∷ []) (starts ++ count ∷ []) (count + part.len)
-counted_more parts starts part count had are small = record {
-  texts = rw (parts_more parts part) (All-append IsTextOrNull (parts_values parts) (texts_values part ++ []) had.texts
-      (All-append IsTextOrNull (texts_values part) [] (values_are_texts part are) (All-nil IsTextOrNull)));
-  counted = length-parts_more parts part ∙ ap (λ (n : ℕ). n + part.len) had.counted;
-  small = small;
-  many = omega (arith, length-append starts (count ∷ []), length-append parts (part ∷ []), had.many);
-  fronts = λ i low. elim (cases_lt i (length parts)) [
-    | inl inside ↦
-        get_or-append starts (count ∷ []) 0 i (omega (arith, had.many)) ∙ had.fronts i inside
-        ∙ ap (λ (front : List TextsAt). length (parts_values front)) (sym (take-append-le i parts (part ∷ []) (omega arith)))
-    | inr last ↦
-        let here : i ≡ length parts = omega (arith, length-append parts (part ∷ [])) in
-        let z : length starts + 0 ≡ i = omega (arith, had.many, here) in
-        ap (λ (n : ℕ). slice_index (starts ++ count ∷ []) n) (sym z) ∙ get_or-append-add starts (count ∷ []) 0 0 ∙ sym had.counted
-        ∙ ap (λ (front : List TextsAt). length (parts_values front)) (sym (ap (λ (n : ℕ). take n (parts ++ part ∷ [])) here ∙ take-append_seam parts (part ∷ [])))
-  ];
-}
-
--- the part that an index is in
-pub in_last : (parts : List TextsAt) (starts : List ℕ) (count i index : ℕ) (part : TextsAt) → IsDictionary parts starts count → i < length parts → part ≡ get_or parts i part →
-    index < count → (i + 1 < length starts → index < slice_index starts (i + 1)) → slice_index starts i ≤ index → index - slice_index starts i < part.len
-in_last parts starts count i index part had low is few ends starts_at =
-    let through = length-through parts i part low is in
-    let front = had.fronts i low in
-    elim (cases_lt (i + 1) (length parts)) [
-      | inl more ↦
-          let next = had.fronts (i + 1) more in
-          let before = ends (omega (arith, had.many)) in
-          omega (arith, through, front, next, before)
-      | inr last ↦
-          let all : take (i + 1) parts ≡ parts = take_all (i + 1) parts last in
-          let total : length (parts_values (take (i + 1) parts)) ≡ count = ap (λ (left : List TextsAt). length (parts_values left)) all ∙ had.counted in
-          omega (arith, through, front, total)
-    ]
 
 -- a number that is no place of the machine's is no index of so few values
 pub no_entry : (values : List Value) (index : ℤ) → length values < 2 ^ 64 → (FitsUnsigned w64 index → ⊥) → entry_at values index ≡ None

@@ -5,6 +5,7 @@ mod Entries
 mod Slices
 mod Rows
 mod NoNulls
+mod Joined
 pub mod Packed
 mod Rest
 pub mod Appended

@@ -11,7 +11,6 @@ use Rattle.arrays.specs.Validity.{is_null}
 use Rattle.arrays.specs.Texts.{TextsAt, texts_slot, texts_values}
 use Rattle.arrays.specs.Dictionary.{parts_values, entry_at}
 use Rattle.arrays.specs.Indices.{IndicesAt, index_stands, indices_slot}
-use Rattle.arrays.proofs.Entries.{parts_more}
 
 -- where no slot is null, no value of them is
 pub none_listed : (slot : ℕ → Value) (first len : ℕ) → ((place : ℕ) → first ≤ place → place < first + len → is_null (slot place) ≡ false) →
@@ -34,15 +33,6 @@ none_at (value ∷ values) (suc place) none some = none_at values place (others 
     others : (a b : Bool) → (a || b) ≡ false → b ≡ false
     others true b e = absurd (let no : ⊥ = cc in no)
     others false b e = e
-
--- one part more
-pub none_through : (parts : List TextsAt) (i : ℕ) (part : TextsAt) → list_any is_null (parts_values (take i parts)) ≡ false → i < length parts → part ≡ get_or parts i part →
-    ((place : ℕ) → place < part.len → is_null (texts_slot part place) ≡ false) → list_any is_null (parts_values (take (i + 1) parts)) ≡ false
-none_through parts i part before low is none =
-    let e : i + 1 ≡ suc i = omega arith in
-    let through : take (i + 1) parts ≡ take i parts ++ part ∷ [] = rw (e, take-suc parts i part low) (ap (λ (x : TextsAt). take i parts ++ x ∷ []) (sym is)) in
-    let last = none_listed (texts_slot part) 0 part.len (λ place first high. none place (omega arith)) in
-    rw (through, parts_more (take i parts) part, list_any-append is_null (parts_values (take i parts)) (texts_values part ++ []), list_any-append is_null (texts_values part) [], before, last) refl
 
 -- nor is the one that an index leads to
 pub led_to : (dictionary : List Value) (index : ℤ) → list_any is_null dictionary ≡ false → is_some (entry_at dictionary index) ≡ true →

@@ -1,6 +1,6 @@
 //! Dictionaries of texts.
 
-ghost use Rattle.std.specs.Prelude.{◌≡◌, ◌==◌, ◌≤◌, ◌<◌, ◌+◌, [], false, All, length, slice_get, slice_index, option_map, IfOk};
+ghost use Rattle.std.specs.Prelude.{◌≡◌, ◌==◌, [], false, All, length, slice_get, option_map};
 ghost use Rattle.scan_base.specs.Reading.{GivesUnlessMemory};
 ghost use Rattle.scan_base.specs.Value.{value_of};
 ghost use Rattle.std.specs.List.{list_any};
@@ -9,33 +9,35 @@ ghost use Rattle.arrays.specs.Texts.{IsTextOrNull};
 ghost use Rattle.arrays.specs.Dictionary.{extended_by};
 
 use crate::cells::Cells;
+use crate::runs::Runs;
 use crate::texts::Texts;
 use scan_base::{Fault, ValueRef};
-use std::alloc::{AllocError, Global};
+use std::alloc::Global;
 use std::marker::Model;
 
 // How many values a dictionary may have.
 const MOST_VALUES: usize = 16_777_216;
 
-/// The texts that indices lead to, in the parts in which they came. Some may be null. A contract sees the
-/// list of their values.
+/// The texts that indices lead to, in the parts in which they came: the first, and those behind it, which
+/// longer dictionaries share. Some may be null. A contract sees the list of their values.
 #[derive(Drop)]
 pub struct Dictionary {
-    parts: Vec<Texts>,
-    starts: Vec<usize>,
+    first: Texts,
+    later: Runs,
     len: usize,
 }
 
 impl Model for Dictionary {
-    ghost use Rattle.std.specs.Prelude.{List};
+    ghost use Rattle.std.specs.Prelude.{List, ◌++◌};
     ghost use Rattle.scan_base.specs.declared.value.Value.{Value as Cell};
-    ghost use Rattle.arrays.specs.Dictionary.{parts_values, IsDictionary};
+    ghost use Rattle.arrays.specs.Texts.{texts_values};
+    ghost use Rattle.arrays.specs.Dictionary.{IsDictionary};
 
     ghost Value = { List Cell };
 
-    ghost view = { λ d. parts_values d.parts.items };
+    ghost view = { λ d. texts_values d.first ++ d.later };
 
-    ghost invariant = { λ d. IsDictionary d.parts.items d.starts.items d.len };
+    ghost invariant = { λ d. IsDictionary (texts_values d.first ++ d.later) d.len };
 }
 
 impl Dictionary {
@@ -44,8 +46,8 @@ impl Dictionary {
         ensures { result ≡ [] }
     {
         Dictionary {
-            parts: Vec::new(alloc),
-            starts: Vec::new(alloc),
+            first: Texts::none(),
+            later: Runs::new(alloc),
             len: 0,
         }
     }
@@ -69,27 +71,23 @@ impl Dictionary {
     pub fn get(&self, index: usize) -> Option<ValueRef<'_>>
         ensures { option_map value_of result ≡ slice_get self.now index }
     {
-        if self.len <= index {
-            return None;
+        let first = self.first.len();
+        if index < first {
+            return Some(self.first.value_at(index));
         }
-        let part = part_of(self.starts.as_slice(), index);
-        Some(self.parts[part].value_at(index - self.starts[part]))
+        self.later.get(index - first)
     }
 
     /// Whether a value may be null: where the answer is no, none is. It looks at no value.
     pub fn may_have_nulls(&self) -> bool
         ensures { result ≡ false → list_any is_null self.now ≡ false }
     {
-        for part in &self.parts {
-            if part.may_have_nulls() {
-                return true;
-            }
-        }
-        false
+        let _first = self.first.len();
+        self.first.may_have_nulls() || self.later.may_have_nulls()
     }
 
-    /// The same values with those of one more part behind them. It takes memory for parts, and copies no
-    /// text.
+    /// The same values with those of one more part behind them. It takes memory for few handles, and copies
+    /// no text.
     ///
     /// # Errors
     ///
@@ -99,47 +97,20 @@ impl Dictionary {
     pub fn extended(&self, alloc: Global, part: Texts) -> Result<Dictionary, Fault>
         ensures { GivesUnlessMemory (λ values. values) result (extended_by self.now part) }
     {
-        if MOST_VALUES - self.len < part.len() {
+        let more = part.len();
+        if MOST_VALUES - self.len < more {
             return Err(Fault::LimitReached);
         }
-        let len = self.len + part.len();
-        let mut starts = Vec::with_capacity(alloc, self.starts.len() + 1)?;
-        starts.extend_from_slice(self.starts.as_slice())?;
-        starts.push(self.len)?;
-        let mut parts = shared(alloc, self.parts.as_slice())?;
-        parts.push(part)?;
-        Ok(Dictionary { parts, starts, len })
-    }
-}
-
-// The last part that starts at an index or before it: the one that holds it, by halving.
-fn part_of(starts: &[usize], index: usize) -> usize
-    requires some { 0 < length starts.now }
-    requires first { slice_index starts.now 0 ≤ index }
-    ensures within { result < length starts.now }
-    ensures starts { slice_index starts.now result ≤ index }
-    ensures ends { result + 1 < length starts.now → index < slice_index starts.now (result + 1) }
-{
-    let mut low = 0;
-    let mut high = starts.len();
-    while high - low > 1 {
-        let middle = low + (high - low) / 2;
-        if starts[middle] <= index {
-            low = middle;
-        } else {
-            high = middle;
+        let len = self.len + more;
+        if self.len == 0 {
+            return Ok(Dictionary {
+                first: part,
+                later: Runs::new(alloc),
+                len,
+            });
         }
+        let first = self.first.share()?;
+        let later = self.later.with(alloc, part)?;
+        Ok(Dictionary { first, later, len })
     }
-    low
-}
-
-// The same parts, once more.
-fn shared(alloc: Global, parts: &[Texts]) -> Result<Vec<Texts>, AllocError>
-    ensures { IfOk result (λ all. all.items ≡ parts.now) }
-{
-    let mut all = Vec::with_capacity(alloc, parts.len() + 1)?;
-    for part in parts {
-        all.push(part.share()?)?;
-    }
-    Ok(all)
 }

@@ -14,6 +14,7 @@ pub mod layout;
 mod nulls;
 mod numbers;
 mod packing;
+mod runs;
 pub mod texts;
 mod validity;
 mod written;
@@ -29,5 +30,7 @@ pub use crate::integers::Integers;
 pub use crate::layout::Layout;
 pub use crate::texts::Texts;
 
+#[cfg(test)]
+mod dictionary_tests;
 #[cfg(test)]
 mod tests;

@@ -1,12 +1,12 @@
 //! Columns of texts.
 
-ghost use Rattle.std.specs.Prelude.{◌≡◌, ◌≤◌, ◌<◌, ◌+◌, ◌*◌, ◌||◌, IfOk, length};
+ghost use Rattle.std.specs.Prelude.{◌≡◌, ◌≤◌, ◌<◌, ◌+◌, ◌*◌, ◌||◌, [], IfOk, length};
 ghost use Rattle.std.specs.List.{list_all, range_with_len};
 ghost use Rattle.scan_base.specs.Reading.{Gives};
 ghost use Rattle.arrays.specs.Number.{element_at};
 ghost use Rattle.std.specs.Str.{is_utf8};
 ghost use Rattle.arrays.specs.Validity.{IsLong};
-ghost use Rattle.arrays.specs.Texts.{texts_of, text_at, is_offset, text_stands, texts_stand, lack_offsets, AreTexts};
+ghost use Rattle.arrays.specs.Texts.{texts_of, text_at, is_offset, text_stands, texts_stand, lack_offsets, texts_values, AreTexts};
 
 use crate::cells::Cells;
 use crate::numbers::uint32_at;
@@ -178,6 +178,18 @@ impl Texts {
             bytes,
             len,
         })
+    }
+
+    // No slots. It takes no memory.
+    pub(crate) fn none() -> Texts
+        ensures { texts_values result ≡ [] }
+    {
+        Texts {
+            validity: None,
+            offsets: Bytes::new(),
+            bytes: Bytes::new(),
+            len: 0,
+        }
     }
 
     /// The validity bits, where there are some: one for each slot.

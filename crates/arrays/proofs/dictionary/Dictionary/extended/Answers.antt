@@ -1,14 +1,35 @@
-use Rattle.std.proofs.Common.{◌≡◌, ◌∙◌, ◌++◌, ◌∷◌, [], List, ℕ, ap, arith}
-use Rattle.arrays.specs.Texts.{TextsAt}
-use Rattle.arrays.proofs.Entries.{counted_more}
+use Rattle.std.proofs.Common.{◌≡◌, ◌≤◌, ◌+◌, ◌∙◌, ◌++◌, [], List, Ok, length, ap, sym, append_assoc, arith}
+use Rattle.std.proofs.lemmas.List.{append-nil, nil_from_length}
+use Rattle.scan_base.specs.declared.value.Value.{Value}
+use Rattle.arrays.specs.Texts.{TextsAt, texts_values}
+use Rattle.arrays.specs.Dictionary.{most_values}
+use Rattle.arrays.proofs.Joined.{dictionary_more, extended_is}
 use Rattle.arrays.proofs.dictionary.Dictionary.extended.Goals as goal
 
 pub invariant_of-result : goal.invariant_of-result
 invariant_of-result c =
-    let starts : c.push.new.self.items ≡ c.self.inside.starts.items ++ c.self.inside.len ∷ [] =
-    c.in_ok-push.ensures.items ∙ ap (λ (front : List ℕ). front ++ c.self.inside.len ∷ [])
-    (c.in_ok-extend_from_slice.ensures.items ∙ ap (λ (front : List ℕ). front ++ c.as_slice.result.now) c.in_ok-starts.ensures.items ∙ c.as_slice.ensures.value) in
-    let parts : c.push-2.new.self.items ≡ c.self.inside.parts.items ++ c.args.part ∷ [] =
-    c.in_ok-push-2.ensures.items ∙ ap (λ (front : List TextsAt). front ++ c.args.part ∷ []) (c.in_ok-parts.ensures ∙ c.as_slice-2.ensures.value) in
-    rw (parts, starts, c.len-2.ensures.count)
-    (counted_more c.self.inside.parts.items c.self.inside.starts.items c.args.part c.self.inside.len c.self.invariant c.len.ensures.stands (omega (arith, c.if-self-len.false, c.len.ensures.count, c.self.invariant.small)))
+    let values = texts_values c.self.inside.first ++ c.self.inside.later in
+    let empty : values ≡ [] = nil_from_length values (omega (arith, c.self.invariant.counted, c.if-self-eq0.true)) in
+    let small : c.self.inside.len + c.args.part.len ≤ most_values = omega (arith, c.if-self-more.false, c.len-more.ensures.count, c.self.invariant.small) in
+    rw (c.new.ensures, append-nil (texts_values c.args.part), c.len-more.ensures.count)
+    (dictionary_more [] c.args.part c.self.inside.len (rw empty at c.self.invariant) c.len-more.ensures.stands small)
+
+pub invariant_of-result-2 : goal.invariant_of-result-2
+invariant_of-result-2 c =
+    let first = texts_values c.self.inside.first in
+    let later = c.self.inside.later in
+    let small : c.self.inside.len + c.args.part.len ≤ most_values = omega (arith, c.if-self-more.false, c.len-more.ensures.count, c.self.invariant.small) in
+    rw (c.in_ok-first.ensures, c.in_ok-later.ensures, ← append_assoc first later (texts_values c.args.part), c.len-more.ensures.count)
+    (dictionary_more (first ++ later) c.args.part c.self.inside.len c.self.invariant c.len-more.ensures.stands small)
+
+pub returns : goal.returns
+returns c =
+    let first = texts_values c.self.inside.first in
+    let part = texts_values c.args.part in
+    let small : length c.args.self.now + c.args.part.len ≤ most_values =
+    omega (arith, c.if-self-more.false, c.len-more.ensures.count, c.self.invariant.small, c.self.invariant.counted, ap length c.self.view_is) in
+    extended_is c.args.self.now c.args.part small
+    ∙ ap Ok (ap (λ (values : List Value). values ++ part) (sym c.self.view_is)
+    ∙ append_assoc first c.self.inside.later part
+    ∙ ap (λ (later : List Value). first ++ later) (sym c.in_ok-later.ensures)
+    ∙ ap (λ (cells : TextsAt). texts_values cells ++ c.in_ok-later.later) (sym c.in_ok-first.ensures))
