@@ -2,7 +2,7 @@
 
 ghost use Rattle.std.specs.Prelude.{◌≡◌, Bool, IsTrue};
 ghost use Rattle.std.specs.List.{list_all};
-ghost use Rattle.scan_base.specs.Truth.{negated_if};
+ghost use Rattle.scan_base.specs.Truth.{truth_and, truth_or, negated_if};
 ghost use Rattle.scan_base.specs.Value.{value_of};
 ghost use Rattle.scan_base.specs.Predicate.{operand_names, names_only, operand_value, within, any_equal, truth_of};
 ghost use Rattle.scan_base.specs.View.{pred_of};
@@ -22,7 +22,7 @@ pub enum Operand<C> {
 
 /// A predicate of SQL over columns that `C` names. BETWEEN, IN and IS NULL carry whether a NOT stands in
 /// them.
-#[derive(Debug, Drop)]
+#[derive(Debug)]
 pub enum Predicate<C> {
     And(Box<Predicate<C>>, Box<Predicate<C>>),
     Or(Box<Predicate<C>>, Box<Predicate<C>>),
@@ -57,6 +57,44 @@ pub enum Predicate<C> {
         negated: bool,
         operand: Operand<C>,
     },
+}
+
+// A loop down the left sides: a query may be a chain of thousands of ANDs or ORs.
+impl<C: Drop> Drop for Predicate<C> {
+    fn drop(mut self) {
+        loop {
+            match self {
+                Predicate::And(left, _right) => self = Box::into_inner(left),
+                Predicate::Or(left, _right) => self = Box::into_inner(left),
+                Predicate::Not(predicate) => self = Box::into_inner(predicate),
+                Predicate::Is {
+                    negated: _,
+                    tested: _,
+                    predicate,
+                } => self = Box::into_inner(predicate),
+                Predicate::Compare {
+                    comparison: _,
+                    left: _left,
+                    right: _right,
+                } => return,
+                Predicate::Between {
+                    negated: _,
+                    operand: _operand,
+                    low: _low,
+                    high: _high,
+                } => return,
+                Predicate::In {
+                    negated: _,
+                    operand: _operand,
+                    items: _items,
+                } => return,
+                Predicate::IsNull {
+                    negated: _,
+                    operand: _operand,
+                } => return,
+            }
+        }
+    }
 }
 
 /// The cells of one row, by what names a column.
@@ -101,19 +139,14 @@ impl<C> Operand<C> {
 
 impl<C> Predicate<C> {
     /// The predicate's truth in a row. It takes no memory.
+    #[cycle(truth)]
     pub fn truth<R: RowCells<C>>(&self, row: &R) -> Truth
         requires { IsTrue (names_only (R.has row.now) (pred_of self.now)) }
         ensures { result ≡ truth_of (R.cell row.now) (pred_of self.now) }
     {
         match self {
-            Predicate::And(left, right) => {
-                let left = left.truth(row);
-                left.and(right.truth(row))
-            }
-            Predicate::Or(left, right) => {
-                let left = left.truth(row);
-                left.or(right.truth(row))
-            }
+            Predicate::And(left, right) => left.and_truth(row, right.truth(row)),
+            Predicate::Or(left, right) => left.or_truth(row, right.truth(row)),
             Predicate::Not(predicate) => predicate.truth(row).not(),
             Predicate::Is {
                 negated,
@@ -146,6 +179,46 @@ impl<C> Predicate<C> {
                 not_if(*negated, operand.value(row).is_null())
             }
         }
+    }
+
+    // The truth of the predicate AND what stands behind it, whose truth is `last`: the sides of the ANDs from the
+    // right, up to the first that is false.
+    #[tactic(auto, using(crate::proofs::Truths::and_laws))]
+    #[cycle(truth)]
+    fn and_truth<R: RowCells<C>>(&self, row: &R, last: Truth) -> Truth
+        requires { IsTrue (names_only (R.has row.now) (pred_of self.now)) }
+        ensures { result ≡ truth_and (truth_of (R.cell row.now) (pred_of self.now)) last }
+    {
+        let mut rest = self;
+        let mut truth = last;
+        while let Predicate::And(left, right) = rest {
+            if truth == Truth::False {
+                return Truth::False;
+            }
+            truth = right.truth(row).and(truth);
+            rest = left;
+        }
+        rest.truth(row).and(truth)
+    }
+
+    // The truth of the predicate OR what stands behind it, whose truth is `last`: the sides of the ORs from the
+    // right, up to the first that is true.
+    #[tactic(auto, using(crate::proofs::Truths::or_laws))]
+    #[cycle(truth)]
+    fn or_truth<R: RowCells<C>>(&self, row: &R, last: Truth) -> Truth
+        requires { IsTrue (names_only (R.has row.now) (pred_of self.now)) }
+        ensures { result ≡ truth_or (truth_of (R.cell row.now) (pred_of self.now)) last }
+    {
+        let mut rest = self;
+        let mut truth = last;
+        while let Predicate::Or(left, right) = rest {
+            if truth == Truth::True {
+                return Truth::True;
+            }
+            truth = right.truth(row).or(truth);
+            rest = left;
+        }
+        rest.truth(row).or(truth)
     }
 }
 

@@ -6,6 +6,7 @@ pub mod Meaning
 pub mod Bound
 pub mod ResultSchema
 pub mod Numbered
+pub mod Chain
 pub mod Outcome
 pub mod Named
 pub mod Plan

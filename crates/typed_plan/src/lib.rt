@@ -3,6 +3,7 @@
 
 mod answer;
 pub mod binding;
+mod chain;
 pub mod class;
 pub mod laws;
 pub mod plan;

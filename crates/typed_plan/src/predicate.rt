@@ -6,8 +6,10 @@ ghost use Rattle.scan_base.specs.View.{pred_of};
 ghost use Rattle.typed_plan.specs.Scope.{numbered};
 ghost use Rattle.typed_plan.specs.Bound.{class_of_name, operand_class, compare_fault, items_fault, predicate_fault, fault_in};
 ghost use Rattle.typed_plan.specs.Numbered.{operand_map, predicate_map};
+ghost use Rattle.typed_plan.specs.Chain.{connected};
 ghost use Rattle.typed_plan.specs.Outcome.{Binds};
 
+use crate::chain::{Connective, Side, first_of};
 use crate::class::Class;
 use crate::scope::Scope;
 use scan_base::{Fault, Items, Operand, Predicate};
@@ -126,6 +128,7 @@ fn number_in(
 }
 
 // The predicate by numbers of columns, or its first fault from the left.
+#[cycle(number)]
 pub(crate) fn number_predicate(
     alloc: Global,
     scope: &Scope<'_>,
@@ -136,14 +139,18 @@ pub(crate) fn number_predicate(
 {
     match predicate {
         Predicate::And(left, right) => {
-            let left = number_predicate(alloc, scope, left)?;
-            let right = number_predicate(alloc, scope, right)?;
-            Ok(Predicate::And(Box::new(alloc, left)?, Box::new(alloc, right)?))
+            let side = Side {
+                connective: Connective::And,
+                predicate: right,
+            };
+            number_chain(alloc, scope, left, side)
         }
         Predicate::Or(left, right) => {
-            let left = number_predicate(alloc, scope, left)?;
-            let right = number_predicate(alloc, scope, right)?;
-            Ok(Predicate::Or(Box::new(alloc, left)?, Box::new(alloc, right)?))
+            let side = Side {
+                connective: Connective::Or,
+                predicate: right,
+            };
+            number_chain(alloc, scope, left, side)
         }
         Predicate::Not(predicate) => {
             let predicate = number_predicate(alloc, scope, predicate)?;
@@ -189,4 +196,26 @@ pub(crate) fn number_predicate(
             operand: number_operand(scope, operand)?,
         }),
     }
+}
+
+// A predicate and the side behind it: what the predicate is a chain of comes first, from the left, and then the side.
+#[cycle(number)]
+fn number_chain<'p>(
+    alloc: Global,
+    scope: &Scope<'_>,
+    left: &'p Predicate<ColumnName>,
+    side: Side<'p>,
+) -> Result<Predicate<usize>, Fault>
+    ensures { Binds (predicate_fault (class_of_name scope.now) (connected side.entry.connective (pred_of left.now) (pred_of side.entry.predicate.now)))
+        (λ bound. pred_of bound ≡ predicate_map (numbered scope.now) (connected side.entry.connective (pred_of left.now) (pred_of side.entry.predicate.now))) result }
+{
+    let mut sides = Vec::new(alloc);
+    sides.push(side)?;
+    let first = first_of(left, &mut sides)?;
+    let mut bound = number_predicate(alloc, scope, first)?;
+    while let Some(side) = sides.pop() {
+        let right = number_predicate(alloc, scope, side.predicate)?;
+        bound = side.connective.connect(alloc, bound, right)?;
+    }
+    Ok(bound)
 }
