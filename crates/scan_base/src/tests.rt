@@ -146,14 +146,14 @@ fn first_equals(number: i128) -> Predicate<usize>
 #[test]
 fn long_chains(rt: HostRuntime) -> Result<(), Fail> {
     let alloc = rt.alloc();
-    let mut row = Row::new(alloc);
-    row.push(Value::Int(3))?;
     let mut all = first_equals(2);
     let mut any = first_equals(3);
     for _ in 0..100_000 {
         all = Predicate::And(Box::new(alloc, all)?, Box::new(alloc, first_equals(3))?);
         any = Predicate::Or(Box::new(alloc, any)?, Box::new(alloc, first_equals(2))?);
     }
+    let mut row = Row::new(alloc);
+    row.push(Value::Int(3))?;
     assert_eq!(rt; (all.truth(&row), any.truth(&row)), (Truth::False, Truth::True));
     Ok(())
 }
