@@ -1,4 +1,4 @@
-use Rattle.std.proofs.Common.{◌≡◌, IsTrue, nat_lt}
+use Rattle.std.proofs.Common.{IsTrue, nat_lt}
 use Rattle.scan_base.specs.Predicate.{names_only}
 use Rattle.scan_base.specs.View.{pred_of}
 use Rattle.scan_base.proofs.tests.long_chains.Given as goal
