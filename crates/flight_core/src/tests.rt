@@ -9,6 +9,7 @@ use scan_base::{Fault, ValueRef};
 use std::alloc::{AllocError, Global};
 use std::test::Fail;
 
+mod chains;
 mod queries;
 mod types;
 mod vectors;

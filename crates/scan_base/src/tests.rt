@@ -1,5 +1,12 @@
 //! Each public call once, and the printed texts.
 
+ghost use Rattle.std.specs.Prelude.{◌≡◌};
+ghost use Rattle.scan_base.specs.declared.comparison.Comparison.TheVariants.{Equal};
+ghost use Rattle.scan_base.specs.declared.predicate.Operand.TheVariants.{Column, Literal};
+ghost use Rattle.scan_base.specs.declared.value.Value.TheVariants.{Int};
+ghost use Rattle.scan_base.specs.Predicate.{comparing};
+ghost use Rattle.scan_base.specs.View.{pred_of};
+
 use crate::{
     Comparison, Fault, Items, Operand, Predicate, Row, StatusCode, Text, Truth, Value, ValueRef,
     read_text,
@@ -121,6 +128,33 @@ fn a_null_among_the_items(rt: HostRuntime) -> Result<(), Fail> {
     };
     assert!(rt; row.len() == 2);
     assert_eq!(rt; absent.truth(&row), Truth::Unknown);
+    Ok(())
+}
+
+// `$0 = number`
+fn first_equals(number: i128) -> Predicate<usize>
+    ensures { pred_of result ≡ comparing Equal (Column 0) (Literal (Int number)) }
+{
+    Predicate::Compare {
+        comparison: Comparison::Equal,
+        left: Operand::Column(0),
+        right: Operand::Literal(Value::Int(number)),
+    }
+}
+
+// Trees of 100,000 levels to the left need no more stack than short ones, and are looked at as far as the leftmost.
+#[test]
+fn long_chains(rt: HostRuntime) -> Result<(), Fail> {
+    let alloc = rt.alloc();
+    let mut all = first_equals(2);
+    let mut any = first_equals(3);
+    for _ in 0..100_000 {
+        all = Predicate::And(Box::new(alloc, all)?, Box::new(alloc, first_equals(3))?);
+        any = Predicate::Or(Box::new(alloc, any)?, Box::new(alloc, first_equals(2))?);
+    }
+    let mut row = Row::new(alloc);
+    row.push(Value::Int(3))?;
+    assert_eq!(rt; (all.truth(&row), any.truth(&row)), (Truth::False, Truth::True));
     Ok(())
 }
 

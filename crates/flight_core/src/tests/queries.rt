@@ -15,9 +15,9 @@ use std::test::Fail;
 
 const NULL: ValueRef<'static> = ValueRef::Null;
 
-const ONE: ValueRef<'static> = ValueRef::Int(1);
+pub(super) const ONE: ValueRef<'static> = ValueRef::Int(1);
 
-const TWO: ValueRef<'static> = ValueRef::Int(2);
+pub(super) const TWO: ValueRef<'static> = ValueRef::Int(2);
 
 // A fetch of a query over the rows `from` up to, not with, `to` of its first place.
 fn fetch(alloc: Global, version: u64, (from, to): (u32, u32), query: &str) -> Result<Event, Fault> {
@@ -46,7 +46,7 @@ fn answer(alloc: Global, range: (u32, u32), query: &str) -> Result<Vec<Reply>, F
 }
 
 // A query over a range of the rows is answered these values in its first column.
-fn assert_rows(
+pub(super) fn assert_rows(
     rt: &impl Abort,
     alloc: Global,
     (range, query, wanted): ((u32, u32), &str, &[ValueRef<'_>]),
