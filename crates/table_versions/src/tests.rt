@@ -461,6 +461,8 @@ fn laws(_rt: HostRuntime) {
     logs_grow();
     logs_hold_accepted_puts();
     accepted_puts_are_few();
+    accepted_puts_keep_databases();
+    versions_are_databases();
     names_are_in_order();
     batches_are_rows();
 }
