@@ -9,11 +9,11 @@ use Rattle.flight_proto.specs.Ingest.{IngestSaid, ingest_of}
 use Rattle.ipc_batch.specs.State.{Known, State}
 use Rattle.ipc_batch.specs.Laws.{SayOneThing}
 use Rattle.ipc_batch.specs.Said.{Sent, News, Rows, rows_in, Follows}
+use Rattle.ipc_batch.proofs.Lengths.{both}
 use Rattle.table_versions.specs.Database.{Put}
 use Rattle.flight_core.specs.Payloads.{Payload, carries_message, message_in, DataSay, PutSays}
 use Rattle.flight_core.specs.Puts.{Told, news_carried, news_in_payload, told_by, put_made, put_said}
 use Rattle.flight_core.specs.Laws.{AnswersSayOneThing, PutsAreSaid}
-use Rattle.flight_core.proofs.Results.{both}
 
 -- the messages of FlightData
 messages_in : List DataSaid → List Sent
