@@ -1,22 +1,23 @@
 -- What payloads say.
-use Rattle.std.proofs.Common.{◌≡◌, ◌==◌, Bool, true, false, List, [], ◌∷◌, ◌++◌, length, map, filter, Option, Some, None, Result, Ok, refl, sym, subst}
+use Rattle.std.proofs.Common.{◌≡◌, ◌==◌, Bool, true, false, List, [], ◌∷◌, ◌++◌, length, map, filter, Option, Some, None, Result, Ok, refl, sym, ap, ◌∙◌, subst}
 use Rattle.scan_base.specs.declared.fault.Fault.{Fault}
 use Rattle.scan_base.specs.declared.fault.Fault.TheVariants.{BadBatch}
 use Rattle.scan_base.specs.Reading.{◌>>=◌, wanted}
 use Rattle.scan_base.specs.Lists.{each}
+use Rattle.arrow_schema.specs.declared.schema.Schema.{Schema}
 use Rattle.flight_proto.specs.FlightData.{DataSaid, data_of}
 use Rattle.flight_proto.specs.Ingest.{IngestSaid, ingest_of}
 use Rattle.ipc_batch.specs.State.{Known, State}
 use Rattle.ipc_batch.specs.Laws.{SayOneThing}
 use Rattle.ipc_batch.specs.Said.{Sent, News, Rows, rows_in, Follows}
+use Rattle.ipc_batch.proofs.Lengths.{both}
 use Rattle.table_versions.specs.Database.{Put}
 use Rattle.flight_core.specs.Payloads.{Payload, carries_message, message_in, DataSay, PutSays}
 use Rattle.flight_core.specs.Puts.{Told, news_carried, news_in_payload, told_by, put_made, put_said}
-use Rattle.flight_core.specs.Laws.{AnswersSayOneThing, PutsAreSaid}
-use Rattle.flight_core.proofs.Results.{both}
+use Rattle.flight_core.specs.Laws.{AnswersSayOneThing, SayPut, PutsAreSaid}
 
 -- the messages of FlightData
-messages_in : List DataSaid → List Sent
+abbrev messages_in : List DataSaid → List Sent
 messages_in all = map message_in (filter carries_message all)
 
 -- payloads are read, and their messages follow
@@ -64,19 +65,85 @@ wanted_there : {A : Type 0} (found : Option A) (fault : Fault) (x : A) → wante
 wanted_there (Some y) fault x e = cc
 wanted_there None fault x e = cc
 
-pub puts_are_said : PutsAreSaid
+-- what is read of payloads they say
+put_is_said : (payloads : List Payload) (put : Put) → put_said payloads ≡ Ok put → SayPut payloads put
 unfolding put_said
-puts_are_said [] put e = cc
-puts_are_said (first ∷ payloads) put e =
+put_is_said [] put e = cc
+put_is_said (first ∷ payloads) put e =
     let ingest = both (ingest_of first) (λ (ingest : IngestSaid). (told_by None (first ∷ payloads) >>= λ told. (wanted told.state BadBatch >>= λ known. Ok (put_made ingest known.schema told.rows)))) put e in
     let told = both (told_by None (first ∷ payloads)) (λ (told : Told). (wanted told.state BadBatch >>= λ known. Ok (put_made ingest.0 known.schema told.rows))) put ingest.2 in
     let known = both (wanted (told.0).state BadBatch) (λ (known : Known). good_put (put_made ingest.0 known.schema (told.0).rows)) put told.2 in
     let same : put_made ingest.0 (known.0).schema (told.0).rows ≡ put = let last = known.2 in cc in
     let follows = told_follows None (first ∷ payloads) told.0 told.1 in
-    rw (← same) (says (first ∷ payloads) known.0 (told.0).rows (subst (λ (s : State). Follow None (first ∷ payloads) s (told.0).rows) (wanted_there (told.0).state BadBatch known.0 known.1) follows))
+    subst (SayPut (first ∷ payloads)) same (record {
+      first = first;
+      others = payloads;
+      whole = refl;
+      ingest = ingest.0;
+      command = ingest.1;
+      said = says (first ∷ payloads) known.0 (told.0).rows (subst (λ (s : State). Follow None (first ∷ payloads) s (told.0).rows) (wanted_there (told.0).state BadBatch known.0 known.1) follows);
+      made = refl;
+    })
   where
     good_put : Put → Result Put Fault
     good_put put = Ok put
+
+-- one payload before others that tell
+told_step : (state : State) (payload : Payload) (payloads : List Payload) (carried : DataSaid) (news : News) (end : State) (rows : Rows) → data_of payload ≡ Ok carried
+    → news_carried state carried ≡ Ok news → told_by news.state payloads ≡ Ok (record { state = end; rows = rows })
+    → told_by state (payload ∷ payloads) ≡ Ok (record { state = end; rows = rows_in news.batch ++ rows })
+unfolding news_in_payload
+told_step state payload payloads carried news end rows here says behind = rw (here, says, behind) refl
+
+-- what messages say, payloads that carry them tell
+told_again : (state : State) (payloads : List Payload) (all : List DataSaid) (end : State) (rows : Rows) → each data_of payloads ≡ Ok all
+    → Follows state (messages_in all) end rows → told_by state payloads ≡ Ok (record { state = end; rows = rows })
+told_again state [] all end rows e follows =
+    let none : [] ≡ all = cc in
+    let ends : Follows state [] end rows = subst (λ (l : List DataSaid). Follows state (messages_in l) end rows) (sym none) follows in
+    rw (ends.0, ends.1) refl
+told_again state (payload ∷ payloads) all end rows e follows =
+    let first = both (data_of payload) (λ (carried : DataSaid). (each data_of payloads >>= λ more. good_data (carried ∷ more))) all e in
+    let rest = both (each data_of payloads) (λ (more : List DataSaid). good_data (first.0 ∷ more)) all first.2 in
+    let same : first.0 ∷ rest.0 ≡ all = let last = rest.2 in cc in
+    by first.0 rest.0 first.1 (λ st said f. told_again st payloads rest.0 end said rest.1 f) (length (first.0).data_header == 0) refl (subst (λ (l : List DataSaid). Follows state (messages_in l) end rows) (sym same) follows)
+  where
+    good_data : List DataSaid → Result (List DataSaid) Fault
+    good_data all = Ok all
+
+    good_told : Rows → Result Told Fault
+    good_told said = Ok (record { state = end; rows = said })
+
+    by : (carried : DataSaid) (more : List DataSaid) → data_of payload ≡ Ok carried
+        → ((st : State) (said : Rows) → Follows st (messages_in more) end said → told_by st payloads ≡ Ok (record { state = end; rows = said }))
+        → (empty : Bool) → (length carried.data_header == 0) ≡ empty → Follows state (messages_in (carried ∷ more)) end rows
+        → told_by state (payload ∷ payloads) ≡ Ok (record { state = end; rows = rows })
+    by carried more here behind true none follows =
+        told_step state payload payloads carried (record { state = state; batch = None }) end rows here (rw none refl) (behind state rows (rw none at follows))
+    by carried more here behind false some follows =
+        let step : Follows state (message_in carried ∷ messages_in more) end rows = rw some at follows in
+        told_step state payload payloads carried step.0 end step.1 here (rw some step.2) (behind (step.0).state step.1 step.4) ∙ ap good_told (sym step.3)
+
+-- and what they say is read
+put_read : (first : Payload) (others : List Payload) (ingest : IngestSaid) (known : Known) (rows : Rows) → ingest_of first ≡ Ok ingest
+    → told_by None (first ∷ others) ≡ Ok (record { state = Some known; rows = rows }) → put_said (first ∷ others) ≡ Ok (put_made ingest known.schema rows)
+unfolding put_said
+put_read first others ingest known rows command told = rw (command, told) refl
+
+put_is_read : (payloads : List Payload) (put : Put) → SayPut payloads put → put_said payloads ≡ Ok put
+put_is_read payloads put is =
+    let said : PutSays (is.first ∷ is.others) put.schema put.rows = subst (λ (p : List Payload). PutSays p put.schema put.rows) is.whole is.said in
+    let known = said.2.0 in
+    let told = told_again None (is.first ∷ is.others) said.0 (Some known) put.rows said.1 said.2.2 in
+    let made : known.schema ≡ put.schema = said.2.1 in
+    subst (λ (p : List Payload). put_said p ≡ good_put put) (sym is.whole)
+    (put_read is.first is.others is.ingest known put.rows is.command told ∙ ap (λ (schema : Schema). good_put (put_made is.ingest schema put.rows)) made ∙ ap good_put (sym is.made))
+  where
+    good_put : Put → Result Put Fault
+    good_put put = Ok put
+
+pub puts_are_said : PutsAreSaid
+puts_are_said payloads put = (put_is_said payloads put, put_is_read payloads put)
 
 pub answers_say_one_thing : SayOneThing → AnswersSayOneThing
 answers_say_one_thing law payloads one other rows others p q =

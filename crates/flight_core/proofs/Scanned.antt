@@ -1,6 +1,8 @@
 -- What a scan gives, as payloads.
-use Rattle.std.proofs.Common.{◌≡◌, ◌≤◌, ◌<◌, ℕ, true, List, [], ◌∷◌, ◌++◌, length, map, Option, Some, None, Ok, Err, refl, sym, ap, subst, ◌∙◌, append_assoc, append-nil, length-append, arith}
+use Rattle.std.proofs.Common.{◌≡◌, ◌≤◌, ◌<◌, ℕ, true, false, List, [], ◌∷◌, ◌++◌, length, map, Option, Some, None, Ok, Err, refl, sym, ap, subst, ◌∙◌, append_assoc, append-nil, length-append, arith}
+use Rattle.std.specs.List.{list_any}
 use Rattle.std.proofs.lemmas.List.{length-map}
+use Rattle.std.proofs.lemmas.List.Folds.{list_any-append}
 use Rattle.scan_base.specs.declared.fault.Fault.{Fault}
 use Rattle.scan_base.specs.declared.fault.Fault.TheVariants.{OutOfMemory}
 use Rattle.arrow_schema.specs.declared.data_type.DataType.{DataType}
@@ -14,7 +16,9 @@ use Rattle.arrays.specs.Column.{ColumnAt}
 use Rattle.arrays.specs.Typed.{AreOfTypes}
 use Rattle.ipc_batch.specs.Said.{Rows}
 use Rattle.scan_exec.specs.Scan.{ScanAt, AreOf, GivesRows, Gives}
+use Rattle.table_versions.specs.Table.{is_long_text}
 use Rattle.table_versions.proofs.Rowing.{length-rows_of}
+use Rattle.table_versions.proofs.Storable.{first_false, second_false}
 use Rattle.flight_core.specs.Payloads.{Payload, PayloadsSay, GoOn}
 use Rattle.flight_core.specs.Planned.{HasAnswerTypes}
 use Rattle.flight_core.proofs.Parts.{slice_whole}
@@ -84,3 +88,11 @@ fewer_left before after batch gives =
 pub say_all : (schema : Schema) (payloads : List Payload) (all left : Rows) → left ≡ [] → SayTo schema payloads all left → PayloadsSay payloads schema all
 say_all schema payloads all left none say =
     subst (λ (rows : Rows). PayloadsSay payloads schema rows) (sym (append-nil say.done) ∙ ap (λ (rows : Rows). say.done ++ rows) (sym none) ∙ say.rest) say.said
+
+-- where no text of the rows that are left is too long, none of a batch of them is, and none behind it
+pub batch_short : (before after : ScanAt) (batch : BatchAt) → GivesRows before batch after → list_any (list_any is_long_text) before.left ≡ false
+    → (list_any (list_any is_long_text) (rows_of batch) ≡ false) × (list_any (list_any is_long_text) after.left ≡ false)
+batch_short before after batch gives short =
+    let long = list_any is_long_text in
+    let both = sym (list_any-append long (rows_of batch) after.left) ∙ ap (list_any long) gives.rows ∙ short in
+    (first_false (list_any long (rows_of batch)) (list_any long after.left) both, second_false (list_any long (rows_of batch)) (list_any long after.left) both)

@@ -1,78 +1,29 @@
 -- What is read of payloads may be stored.
-use Rattle.std.proofs.Common.{◌≡◌, ℕ, List, [], ◌++◌, All, IfOk, Option, Some, None, Result, Ok, Err, refl, append-nil}
+use Rattle.std.proofs.Common.{◌≡◌, List, [], ◌++◌, All, IfOk, Option, Some, None, Result, Ok, Err, refl, append-nil}
 use Rattle.std.specs.Option.{option_map}
 use Rattle.std.proofs.lemmas.List.Elements.{All-nil, All-push, All-weaker}
 use Rattle.scan_base.specs.declared.fault.Fault.{Fault}
-use Rattle.scan_base.specs.declared.value.Value.{Value}
-use Rattle.scan_base.specs.Reading.{◌>>=◌}
-use Rattle.arrow_schema.specs.declared.header.HeaderKind.{HeaderKind}
-use Rattle.arrow_schema.specs.declared.header.HeaderKind.TheVariants as header
 use Rattle.arrow_schema.specs.declared.schema.Schema.{Schema}
-use Rattle.arrow_schema.specs.Header.{MessageAt, message_of}
 use Rattle.arrays.specs.Batch.{BatchAt}
-use Rattle.arrays.specs.Dictionary.{extended_by}
-use Rattle.arrays.specs.Texts.{TextsAt}
 use Rattle.arrays.specs.Typed.{AreOfTypes}
-use Rattle.ipc_batch.specs.State.{Known, State, values_under, with_values}
-use Rattle.ipc_batch.specs.Parts.{DictionaryParts}
-use Rattle.ipc_batch.specs.Columns.{one_texts}
-use Rattle.ipc_batch.specs.Said.{News, Sent, Tells, HasColumns, batch_sent, dictionary_sent, kept_of, next_news, news_of, known_after}
+use Rattle.ipc_batch.specs.State.{Known, State}
+use Rattle.ipc_batch.specs.Said.{News, Sent, Tells, HasColumns, news_of}
+use Rattle.ipc_batch.proofs.Messages.{Keeps, keeps}
 use Rattle.flight_core.specs.Stored.{MayBeStored, batches_in}
-use Rattle.flight_core.proofs.Results.{ok_then}
-
--- ---- a message keeps the schema
-
-abbrev KeepsSchema : Known → Known → Type 0
-KeepsSchema known after = after.schema ≡ known.schema
-
-abbrev LeavesSchema : Known → News → Type 0
-LeavesSchema known news = (after : Known) × (news.state ≡ Some after) × KeepsSchema known after
-
-known_keeps : (known : Known) (message : MessageAt) (body : List ℕ) → IfOk (known_after known message body) (KeepsSchema known)
-unfolding known_after
-known_keeps known message body =
-    ok_then (dictionary_sent known message body) given (KeepsSchema known) (λ sent.
-    ok_then (one_texts sent.parts.rows body sent.parts.nodes sent.parts.places) (behind sent) (KeepsSchema known) (λ texts.
-    ok_then (extended_by (kept_of sent.is_delta (values_under known.dictionaries sent.id)) texts) (set sent) (KeepsSchema known) (λ values. refl)))
-  where
-    set : DictionaryParts → List Value → Result Known Fault
-    set sent values = Ok (record known { dictionaries = with_values sent.id values known.dictionaries })
-
-    behind : DictionaryParts → TextsAt → Result Known Fault
-    behind sent texts = extended_by (kept_of sent.is_delta (values_under known.dictionaries sent.id)) texts >>= set sent
-
-    given : DictionaryParts → Result Known Fault
-    given sent = one_texts sent.parts.rows body sent.parts.nodes sent.parts.places >>= behind sent
-
-next_keeps : (kind : HeaderKind) (known : Known) (message : MessageAt) (body : List ℕ) → IfOk (next_news kind known message body) (LeavesSchema known)
-next_keeps header.RecordBatch known message body = ok_then (batch_sent known message body) there (LeavesSchema known) (λ batch. (known, refl, refl))
-  where
-    there : BatchAt → Result News Fault
-    there batch = Ok (record { state = Some known; batch = Some batch })
-next_keeps header.DictionaryBatch known message body = by (known_after known message body) (known_keeps known message body)
-  where
-    by : (read : Result Known Fault) → IfOk read (KeepsSchema known) → IfOk (read >>= λ after. Ok (record { state = Some after; batch = None })) (LeavesSchema known)
-    by (Ok after) keeps = (after, refl, keeps)
-    by (Err fault) keeps = tt
-next_keeps header.Schema known message body = tt
-
-news_keep : (known : Known) (sent : Sent) → IfOk (news_of (Some known) sent) (LeavesSchema known)
-unfolding news_of
-news_keep known sent = ok_then (message_of sent.header) (λ (message : MessageAt). next_news message.kind known message sent.body) (LeavesSchema known) (λ message. next_keeps message.kind known message sent.body)
 
 -- ---- batches behind a schema
 
 -- those that stood behind a schema stand behind the same one
-kept_columns : (known : Known) (new : State) (batch : BatchAt) → (after : Known) × (new ≡ Some after) × KeepsSchema known after → HasColumns (Some batch) (Some known) → HasColumns (Some batch) new
-kept_columns known new batch keeps columns = rw (keeps.1, keeps.2) columns
+kept_columns : (known : Known) (news : News) (batch : BatchAt) → Keeps known news → HasColumns (Some batch) (Some known) → HasColumns (Some batch) news.state
+kept_columns known news batch stays columns = rw (stays.state, stays.schema) columns
 
 still_stored : (old : State) (sent : Sent) (batch : Option BatchAt) (new : State) → news_of old sent ≡ Ok (record { state = new; batch = batch })
     → (batches : List BatchAt) → MayBeStored old batches → MayBeStored new batches
 unfolding MayBeStored
 still_stored None sent batch new e batches before = All-weaker (λ (b : BatchAt). HasColumns (Some b) None) (λ (b : BatchAt). HasColumns (Some b) new) (λ b none. absurd none) batches before
 still_stored (Some known) sent batch new e batches before =
-    let keeps : (after : Known) × (new ≡ Some after) × KeepsSchema known after = rw e at (news_keep known sent) in
-    All-weaker (λ (b : BatchAt). HasColumns (Some b) (Some known)) (λ (b : BatchAt). HasColumns (Some b) new) (λ b columns. kept_columns known new b keeps columns) batches before
+    let news : News = record { state = new; batch = batch } in
+    All-weaker (λ (b : BatchAt). HasColumns (Some b) (Some known)) (λ (b : BatchAt). HasColumns (Some b) new) (λ b columns. kept_columns known news b (keeps known sent news e) columns) batches before
 
 one_more : (state : State) (batch : Option BatchAt) (batches : List BatchAt) → HasColumns batch state → MayBeStored state batches → MayBeStored state (batches ++ batches_in batch)
 unfolding MayBeStored

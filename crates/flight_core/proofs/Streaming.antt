@@ -25,9 +25,9 @@ use Rattle.ipc_batch.specs.State.{Known}
 use Rattle.ipc_batch.specs.Parts.{body_claimed}
 use Rattle.ipc_batch.specs.Said.{Sent, News, Rows, schema_sent, news_of, Follows, Says}
 use Rattle.ipc_batch.specs.Written.{SaysBatch}
+use Rattle.ipc_batch.proofs.Lengths.{both}
 use Rattle.ipc_batch.proofs.Messages.{joined}
 use Rattle.flight_core.specs.Payloads.{Payload, message_in, PayloadsSay, Carries, SaysSchema, SaysBatchBehind, GoOn, FitMessages, most_payload_bytes}
-use Rattle.flight_core.proofs.Results.{both}
 
 -- ---- one payload
 

@@ -1,13 +1,14 @@
 -- What holds of all runs, and of the payloads of answers and of puts.
-use Rattle.std.specs.Prelude.{◌≡◌, ℕ, ◌+◌, List, [], ◌++◌, take, drop, Some, Ok, slice_get}
+use Rattle.std.specs.Prelude.{◌≡◌, ◌↔◌, ℕ, ◌+◌, List, [], ◌∷◌, ◌++◌, take, drop, Some, Ok, slice_get}
 use Rattle.scan_base.specs.declared.fault.Fault.{Fault}
 use Rattle.arrow_schema.specs.declared.schema.Schema.{Schema}
+use Rattle.flight_proto.specs.Ingest.{IngestSaid, ingest_of}
 use Rattle.ipc_batch.specs.Said.{Rows}
 use Rattle.table_versions.specs.Database.{Put}
 use Rattle.flight_core.specs.declared.event.Event.{Event}
 use Rattle.flight_core.specs.declared.event.Reply.{Reply}
 use Rattle.flight_core.specs.Payloads.{Payload, PayloadsSay, PutSays}
-use Rattle.flight_core.specs.Puts.{put_said}
+use Rattle.flight_core.specs.Puts.{put_made, put_said}
 use Rattle.flight_core.specs.Machine.{Log, Run}
 
 -- the list without the item at a place
@@ -27,6 +28,17 @@ abbrev pub AnswersSayOneThing : Type 0
 AnswersSayOneThing = (payloads : List Payload) (one other : Schema) (rows others : Rows) →
     PayloadsSay payloads one rows → PayloadsSay payloads other others → (one ≡ other) × (rows ≡ others)
 
--- the payloads of a put say its schema and its rows
+-- payloads say a put: the command in the first of them names its table and its options, and all of them say its
+-- schema and its rows
+pub record SayPut (payloads : List Payload) (put : Put) : Type 0 where
+  pub first : Payload
+  pub others : List Payload
+  pub whole : payloads ≡ first ∷ others
+  pub ingest : IngestSaid
+  pub command : ingest_of first ≡ Ok ingest
+  pub said : PutSays payloads put.schema put.rows
+  pub made : put ≡ put_made ingest put.schema put.rows
+
+-- the put that is read of payloads is the one that they say
 abbrev pub PutsAreSaid : Type 0
-PutsAreSaid = (payloads : List Payload) (put : Put) → put_said payloads ≡ Ok put → PutSays payloads put.schema put.rows
+PutsAreSaid = (payloads : List Payload) (put : Put) → (put_said payloads ≡ Ok put) ↔ SayPut payloads put

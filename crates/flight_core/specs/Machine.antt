@@ -1,10 +1,11 @@
 -- The core as a machine: one event, one step.
-use Rattle.std.specs.Prelude.{◌≡◌, ◌≢◌, pos, List, [], ◌∷◌, ◌++◌, length, Option, Some, None, Result, Ok, Err, IsOk}
+use Rattle.std.specs.Prelude.{◌≡◌, ◌≢◌, pos, List, [], ◌∷◌, ◌++◌, length, All, Option, Some, None, Result, Ok, Err, IsOk}
 use Rattle.scan_base.specs.declared.fault.Fault.{Fault}
 use Rattle.scan_base.specs.declared.fault.Fault.TheVariants.{OutOfMemory}
 use Rattle.scan_base.specs.Reading.{◌>>=◌}
 use Rattle.flight_proto.specs.PutResult.{rows_put_bytes}
 use Rattle.table_versions.specs.Database.{Database, Put, after, database_of}
+use Rattle.table_versions.specs.Valid.{IsPut}
 use Rattle.flight_core.specs.declared.event.Event.{Event}
 use Rattle.flight_core.specs.declared.event.Event.TheVariants as event
 use Rattle.flight_core.specs.declared.event.Reply.{Reply}
@@ -15,6 +16,10 @@ use Rattle.flight_core.specs.Fetches.{FetchIn}
 -- the accepted puts, in order
 abbrev pub Log : Type 0
 Log = List Put
+
+-- each put of a log comes with one column or more, and with rows of their types
+abbrev pub ArePuts : Log → Type 0
+ArePuts log = All IsPut log
 
 -- the database after the put that payloads say, at a log, or the first fault
 abbrev pub database_put : Log → List Payload → Result Database Fault

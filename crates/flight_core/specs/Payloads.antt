@@ -43,6 +43,10 @@ PutSays payloads schema rows =
 abbrev pub most_payload_bytes : ℕ
 most_payload_bytes = 16777216
 
+-- as many bytes as the body of a message has that is written
+abbrev pub most_body_bytes : ℕ
+most_body_bytes = 8388608
+
 -- each payload fits a message of a call
 unfoldable pub FitMessages : List Payload → Type 0
 FitMessages payloads = All (λ payload. length payload ≤ most_payload_bytes) payloads

@@ -12,7 +12,8 @@ pub fn answers_say_one_thing()
     messages_say_one_thing();
 }
 
-/// The payloads of a put say its schema and its rows.
+/// A put is read of payloads exactly where they say it: the command in the first of them names its table and its
+/// options, and all of them say its schema and its rows.
 pub fn puts_are_said()
     ensures { PutsAreSaid }
 {}

@@ -2,9 +2,10 @@
 
 ghost use Rattle.std.specs.Prelude.{◌≡◌, ◌≢◌, [], ◌∷◌, pos, min, length, IfOk, IfErr};
 ghost use Rattle.table_versions.specs.Limits.{most_rows};
+ghost use Rattle.table_versions.specs.Valid.{HasDatabases};
 ghost use Rattle.scan_base.specs.declared.fault.Fault.TheVariants.{OutOfMemory};
 ghost use Rattle.flight_proto.specs.PutResult.{rows_put_bytes};
-ghost use Rattle.flight_core.specs.Machine.{Log, PutStep, Step, Run, put_answer};
+ghost use Rattle.flight_core.specs.Machine.{Log, ArePuts, PutStep, Step, Run, put_answer};
 ghost use Rattle.flight_core.specs.Fetches.{FetchIn};
 ghost use Rattle.flight_core.specs.Payloads.{FitMessages};
 
@@ -34,6 +35,7 @@ fn put_answer(alloc: Global, rows: usize) -> Result<Vec<Bytes>, AllocError>
 
 fn step_put(alloc: Global, plain: &mut Plain, payloads: &[Bytes]) -> Reply
     ensures step { PutStep plain.old payloads.now result.payloads.items result.fault plain.new }
+    ensures puts { ArePuts plain.old → ArePuts plain.new }
     ensures fits { FitMessages result.payloads.items }
 {
     let put = match read_put(alloc, payloads) {
@@ -68,6 +70,7 @@ fn step_fetch(alloc: Global, plain: &Plain, ticket: &[u8]) -> Reply
 /// `answer_fetch`, in that order. Each payload has at most 16,777,216 bytes.
 pub fn step(alloc: Global, plain: &mut Plain, event: &Event) -> Reply
     ensures step { Step plain.old event.now result plain.new }
+    ensures puts { ArePuts plain.old → ArePuts plain.new }
     ensures fits { FitMessages result.payloads.items }
 {
     match event {
@@ -76,13 +79,14 @@ pub fn step(alloc: Global, plain: &mut Plain, event: &Event) -> Reply
     }
 }
 
-/// The replies to a list of events, from the empty log on: one for each.
+/// The replies to a list of events, from the empty log on: one for each. Every version of the log that they leave
+/// has tables alone.
 ///
 /// # Errors
 ///
 /// F21 (`Fault::OutOfMemory`) where memory is refused for the list itself, and no other.
 pub fn run(alloc: Global, events: &[Event]) -> Result<Vec<Reply>, Fault>
-    ensures ok { IfOk result (λ replies. (log : Log) × Run [] events.now replies.items log) }
+    ensures ok { IfOk result (λ replies. (log : Log) × Run [] events.now replies.items log × HasDatabases log) }
     ensures err { IfErr result (λ fault. fault ≡ OutOfMemory) }
 {
     let mut plain = Plain::new(alloc)?;

@@ -5,6 +5,7 @@ ghost use Rattle.std.specs.Arc.{arc_value};
 ghost use Rattle.scan_base.specs.declared.fault.Fault.TheVariants.{OutOfMemory, VersionUnknown};
 ghost use Rattle.table_versions.specs.Database.{after, database_of, version};
 ghost use Rattle.table_versions.specs.Stored.{put_of, tables_of};
+ghost use Rattle.table_versions.specs.Valid.{IsPut};
 
 use scan_base::Fault;
 use std::alloc::Global;
@@ -103,6 +104,7 @@ impl Plain {
     pub fn put(&mut self, alloc: Global, put: Put) -> Result<(), Fault>
         ensures ok { result ≡ Ok tt → (self.new ≡ self.old ++ put_of put ∷ [])
             × IsOk (after (database_of self.old) (length self.old) (put_of put)) }
+        ensures typed { IfOk result (λ _. IsPut (put_of put)) }
         ensures err { IfErr result (λ fault. (self.new ≡ self.old)
             × (fault ≢ OutOfMemory → after (database_of self.old) (length self.old) (put_of put) ≡ Err fault)) }
     {

@@ -1,13 +1,15 @@
 //! Writing the rows that a scan gives as payloads.
 
-ghost use Rattle.std.specs.Prelude.{◌≡◌, ◌≤◌, ◌<◌, ◌^◌, length, None, IfOk, IfErr, IfSome, OnOk};
+ghost use Rattle.std.specs.Prelude.{◌≡◌, ◌≤◌, ◌<◌, ◌^◌, length, false, None, IfOk, IfErr, IfSome, OnOk};
+ghost use Rattle.std.specs.List.{list_any};
 ghost use Rattle.arrow_schema.specs.Limits.{most_columns};
 ghost use Rattle.arrow_schema.specs.Schema.{IsSchema};
 ghost use Rattle.arrays.specs.Batch.{cut_batch, rows_of};
 ghost use Rattle.ipc_batch.specs.Written.{body_length};
+ghost use Rattle.table_versions.specs.Table.{is_long_text};
 ghost use Rattle.scan_base.specs.declared.fault.Fault.TheVariants.{OutOfMemory};
 ghost use Rattle.flight_core.specs.Payloads.{PayloadsSay, SaysSchema, SaysBatchBehind, GoOn, FitMessages};
-ghost use Rattle.flight_core.specs.Payloads.{most_payload_bytes};
+ghost use Rattle.flight_core.specs.Payloads.{most_payload_bytes, most_body_bytes};
 ghost use Rattle.flight_core.specs.Planned.{HasAnswerTypes};
 
 use arrays::Batch;
@@ -23,21 +25,18 @@ use std::alloc::{AllocError, Global};
 // The most cells of a message that is written.
 const MOST_CELLS: usize = 65_536;
 
-// The most bytes of a message's body that is written. No row has more: it has at most 64 texts of at most
-// 65,536 bytes.
+// The most bytes of a message's body that is written. One row has fewer: at most 64 texts of at most 65,536 bytes.
 const MOST_BODY_BYTES: usize = 8_388_608;
 
 // The most bytes of a payload.
 const MOST_PAYLOAD_BYTES: usize = 16_777_216;
 
-/// These bytes as a payload. It fails with `AllocError` where a message of a call could not hold them, too.
+/// These bytes as a payload, which a message of a call can hold.
 pub(crate) fn payload_of(bytes: Vec<u8>) -> Result<Bytes, AllocError>
+    requires { length bytes.items ≤ most_payload_bytes }
     ensures same { IfOk result (λ payload. payload ≡ bytes.items) }
     ensures fits { IfOk result (λ payload. length payload ≤ most_payload_bytes) }
 {
-    if bytes.len() > MOST_PAYLOAD_BYTES {
-        return Err(AllocError);
-    }
     Ok(Bytes::from_vec(bytes)?)
 }
 
@@ -66,6 +65,10 @@ fn batch_payload(alloc: Global, batch: &Batch, len: usize) -> Result<Bytes, Allo
     let mut payload = Vec::with_capacity(alloc, room)?;
     put_flight_data_head(&mut payload, &header, len as u64)?;
     append_body(&mut payload, batch)?;
+    // The header has less than 5,000 bytes, which its contract does not say.
+    if payload.len() > MOST_PAYLOAD_BYTES {
+        return Err(AllocError);
+    }
     payload_of(payload)
 }
 
@@ -90,6 +93,7 @@ fn slice_payload(
     ensures said { IfOk result (λ found. IfSome found (λ payload.
         SaysBatchBehind payload (cut_batch batch.now from to))) }
     ensures fits { IfOk result (λ found. IfSome found (λ payload. length payload ≤ most_payload_bytes)) }
+    ensures long { IfOk result (λ found. found ≡ None → most_body_bytes < body_length (cut_batch batch.now from to)) }
 {
     let slice = batch.slice(alloc, from, to)?;
     match body_length(&slice) {
@@ -110,6 +114,7 @@ fn push_rows(
     requires few { length batch.now.columns ≤ most_columns }
     requires ordered { from ≤ to }
     requires within { to ≤ batch.now.rows }
+    requires short { list_any (list_any is_long_text) (rows_of batch.now) ≡ false }
     ensures on { OnOk result (GoOn batch.now.columns payloads.old.items payloads.new.items
         (rows_of (cut_batch batch.now from to))) }
     ensures fits { OnOk result (FitMessages payloads.old.items → FitMessages payloads.new.items) }
@@ -125,7 +130,7 @@ fn push_rows(
                 at += rows;
             }
             None if rows > 1 => most = rows / 2,
-            None => return Err(AllocError),
+            None => unreachable!(),
         }
     }
     Ok(())
@@ -141,6 +146,7 @@ pub(crate) fn write_scan(
     requires schema { IsSchema schema.now }
     requires typed { HasAnswerTypes schema.now scan.old.types }
     requires begins { scan.old.refused ≡ None }
+    requires short { list_any (list_any is_long_text) scan.old.left ≡ false }
     ensures said { IfOk result (λ payloads. PayloadsSay payloads.items schema.now scan.old.left) }
     ensures fits { IfOk result (λ payloads. FitMessages payloads.items) }
     ensures err { IfErr result (λ fault. fault ≡ OutOfMemory) }

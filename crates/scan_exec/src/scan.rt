@@ -1,8 +1,10 @@
 //! Scans.
 
-ghost use Rattle.std.specs.Prelude.{◌≡◌, [], None, IfOk, length, map};
+ghost use Rattle.std.specs.Prelude.{◌≡◌, [], false, None, IfOk, length, map};
+ghost use Rattle.std.specs.List.{list_any};
 ghost use Rattle.arrow_schema.specs.Answer.{answer_type};
 ghost use Rattle.table_versions.specs.Stored.{tables_of};
+ghost use Rattle.table_versions.specs.Table.{is_long_text};
 ghost use Rattle.typed_plan.specs.Plan.{plan_rows};
 ghost use Rattle.typed_plan.specs.Typed.{IsOver, types_of};
 ghost use Rattle.typed_plan.specs.View.{plan_of};
@@ -74,6 +76,7 @@ impl<'a> Scan<'a> {
           opened = [];
           refused = None;
         }) }
+        ensures short { IfOk result (λ scan. list_any (list_any is_long_text) scan.left ≡ false) }
         ensures typed { types_of plan.now.schema.fields ≡ map answer_type (plan_types (plan_of plan.now)) }
     {
         let tree = plan.plan();

@@ -16,13 +16,13 @@ passed : (test : Bool) (fault : Fault) (rows : List (Bool × Fault)) → first_f
 passed true fault rows h = cc
 passed false fault rows h = (refl, h)
 
-among : (front : List (Bool × Fault)) (test : Bool) (fault : Fault) (rest : List (Bool × Fault)) →
+pub among : (front : List (Bool × Fault)) (test : Bool) (fault : Fault) (rest : List (Bool × Fault)) →
     first_fault (front ++ (test, fault) ∷ rest) ≡ None → test ≡ false
 among [] test fault rest h = (passed test fault rest h).0
 among (row ∷ front) test fault rest h = among front test fault rest (passed row.0 row.1 (front ++ (test, fault) ∷ rest) h).1
 
 -- a value is given where there is no fault
-unrefused : {A : Type 0} (fault : Option Fault) (x y : A) → unless fault x ≡ Ok y → fault ≡ None
+pub unrefused : {A : Type 0} (fault : Option Fault) (x y : A) → unless fault x ≡ Ok y → fault ≡ None
 unrefused (Some fault) x y h = cc
 unrefused None x y h = refl
 

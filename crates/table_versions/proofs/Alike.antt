@@ -1,7 +1,9 @@
 -- What is right of batches and rows by one schema is right by one with the same columns.
-use Rattle.std.proofs.Common.{◌≡◌, ◌&&◌, ◌||◌, not, Bool as Truth, true, false, List, [], ◌∷◌, refl, sym, ap, ◌∙◌, All}
+use Rattle.std.proofs.Common.{◌≡◌, ◌&&◌, ◌||◌, not, Bool as Truth, true, false, List, [], ◌∷◌, refl, sym, ap, subst, ◌∙◌, All}
 use Rattle.std.specs.List.{list_any}
 use Rattle.std.proofs.lemmas.List.Elements.{All-weaker}
+use Rattle.scan_base.specs.declared.value.Value.{Value}
+use Rattle.scan_base.specs.declared.value.Value.TheVariants as value
 use Rattle.arrow_schema.specs.declared.data_type.IntegerType.{IntegerType}
 use Rattle.arrow_schema.specs.declared.data_type.IntegerType.TheVariants.{Int8, Int16, Int32, Int64, UInt8, UInt16, UInt32, UInt64}
 use Rattle.arrow_schema.specs.declared.data_type.DataType.{DataType}
@@ -11,10 +13,11 @@ use Rattle.arrays.specs.declared.layout.Layout.{Layout}
 use Rattle.arrays.specs.declared.layout.Layout.TheVariants as layout
 use Rattle.arrays.specs.Column.{ColumnAt}
 use Rattle.arrays.specs.Batch.{BatchAt}
-use Rattle.arrays.specs.Typed.{IsOfType, AreOfTypes}
+use Rattle.arrays.specs.Typed.{IsOfType, AreOfTypes, IsValueOf}
 use Rattle.arrays.specs.Validity.{is_null}
 use Rattle.table_versions.specs.Table.{Row, same_flag, same_type, same_field, same_fields, same_name, has_bad_null}
 use Rattle.table_versions.specs.Kept.{AreSound}
+use Rattle.table_versions.specs.Valid.{IsRow}
 use Rattle.table_versions.proofs.ListTests.{both}
 
 -- integers of one width, with or without a sign, are of one type
@@ -89,3 +92,34 @@ all_nulls_alike old new (row ∷ rows) h = rw (nulls_alike old new row h, all_nu
 
 pub sound_alike : (old new : List Field) (rows : List Row) → same_fields old new ≡ true → AreSound new rows → AreSound old rows
 sound_alike old new rows h sound = record { nulls = all_nulls_alike old new rows h ∙ sound.nulls; texts = sound.texts }
+
+-- a value of the type of one is of the type of the other
+value_alike : (old new : DataType) (v : Value) → same_type old new ≡ true → IsValueOf new v → IsValueOf old v
+value_alike (Integer a) (Integer b) v h is = subst (λ (i : IntegerType). IsValueOf (Integer i) v) (sym (same_integer a b h)) is
+value_alike Utf8 Utf8 v h is = is
+value_alike Bool Bool v h is = is
+value_alike Decimal128 Decimal128 v h is = is
+value_alike (Dictionary a) (Dictionary b) value.Null h is = tt
+value_alike (Dictionary a) (Dictionary b) (value.Text bytes) h is = is
+value_alike (Dictionary a) (Dictionary b) (value.Bool flag) h is = absurd is
+value_alike (Dictionary a) (Dictionary b) (value.Int number) h is = absurd is
+value_alike _ _ v h is = absurd (differ h)
+  where
+    differ : false ≡ true → ⊥
+    differ h = cc
+
+pub row_alike : (old new : List Field) (row : Row) → same_fields old new ≡ true → IsRow new row → IsRow old row
+row_alike [] [] row h is = is
+row_alike [] (new ∷ news) row h is = let no : false ≡ true = h in cc
+row_alike (old ∷ olds) [] row h is = let no : false ≡ true = h in cc
+row_alike (old ∷ olds) (new ∷ news) [] h is = is
+row_alike (old ∷ olds) (new ∷ news) (v ∷ row) h is =
+    let same = both (same_field old new) (same_fields olds news) h in
+    let cell = is.0 in (
+      record {
+        typed = value_alike old.data_type new.data_type v (field_type old new same.0) cell.typed;
+        null = λ null. field_flag old new same.0 ∙ cell.null null;
+        short = cell.short;
+      },
+      row_alike olds news row same.1 is.1,
+    )

@@ -1,11 +1,12 @@
 -- Laws of databases and logs.
-use Rattle.std.specs.Prelude.{◌≡◌, ◌≤◌, ℕ, if◌then◌else◌, List, [], ◌∷◌, ◌++◌, length, Some, Ok, Err}
+use Rattle.std.specs.Prelude.{◌≡◌, ◌≤◌, ℕ, if◌then◌else◌, List, [], ◌∷◌, ◌++◌, length, All, Some, Ok, Err}
 use Rattle.std.specs.Str.{bytes_eq}
 use Rattle.scan_base.specs.declared.fault.Fault.{Fault}
 use Rattle.table_versions.specs.Limits.{most_rows}
 use Rattle.table_versions.specs.Table.{Name, Table}
 use Rattle.table_versions.specs.Order.{IsInOrder}
 use Rattle.table_versions.specs.Database.{Database, Put, table_at, with_table, after, database_of, version, IsLog, logged}
+use Rattle.table_versions.specs.Valid.{IsDatabase, IsPut, HasDatabases}
 
 -- the table that was put is found at its name, and each other name has what it had
 abbrev pub TablesAreFound : Type 0
@@ -36,3 +37,13 @@ NamesAreInOrder = (log : List Put) → IsInOrder (database_of log)
 -- an accepted put has no more rows than a table may have
 abbrev pub AcceptedPutsAreFew : Type 0
 AcceptedPutsAreFew = (old : Database) (n : ℕ) (put : Put) (new : Database) → after old n put ≡ Ok new → length put.rows ≤ most_rows
+
+-- an accepted put of rows of their columns' types leaves tables alone
+abbrev pub AcceptedPutsKeepDatabases : Type 0
+AcceptedPutsKeepDatabases =
+    (old : Database) (n : ℕ) (put : Put) (new : Database) → IsDatabase old → IsPut put → after old n put ≡ Ok new →
+    IsDatabase new
+
+-- and so every version of such puts has tables alone
+abbrev pub VersionsAreDatabases : Type 0
+VersionsAreDatabases = (log : List Put) → All IsPut log → HasDatabases log

@@ -6,6 +6,7 @@ pub mod Columns
 pub mod Database
 pub mod Stored
 pub mod Kept
+pub mod Valid
 pub mod Order
 pub mod Standing
 pub mod Laws

@@ -1,13 +1,13 @@
 //! What the values of a put may be, looked at column by column.
 
-ghost use Rattle.std.specs.Prelude.{◌≡◌};
+ghost use Rattle.std.specs.Prelude.{◌≡◌, false, All};
 ghost use Rattle.std.specs.List.{list_any, flat_map};
 ghost use Rattle.scan_base.specs.Value.{value_of};
 ghost use Rattle.arrays.specs.Batch.{rows_of};
-ghost use Rattle.arrays.specs.Column.{values_of};
+ghost use Rattle.arrays.specs.Column.{IsColumn, values_of};
 ghost use Rattle.arrays.specs.Validity.{is_null};
 ghost use Rattle.table_versions.specs.Table.{is_long_text, has_bad_null};
-ghost use Rattle.table_versions.specs.Columns.{has_bad_column, is_long_column, may_have_texts};
+ghost use Rattle.table_versions.specs.Columns.{has_bad_column, is_long_column, may_have_texts, Stands};
 
 use crate::limits::MAX_TEXT_BYTES;
 use arrays::{Batch, Cells, Column, Layout};
@@ -61,8 +61,10 @@ fn has_null_slot(column: &Column) -> bool
 // Whether a slot is a text that is too long. A column without texts is not walked, and of a dictionary's
 // texts only those count that stand in slots.
 fn is_long_column(column: &Column) -> bool
-    ensures { result ≡ is_long_column column.now }
+    ensures long { result ≡ is_long_column column.now }
+    ensures stands { IsColumn column.now }
 {
+    let _len = column.len();
     may_have_texts(column.layout()) && has_long_slot(column)
 }
 
@@ -98,13 +100,20 @@ fn is_bad_batch(fields: &[Field], batch: &Batch) -> bool
 }
 
 fn has_long_column(columns: &[Column]) -> bool
-    ensures { result ≡ list_any is_long_column columns.now }
+    ensures long { result ≡ list_any is_long_column columns.now }
+    ensures stand { result ≡ false → All IsColumn columns.now }
 {
-    columns.iter().any(|column| is_long_column(column))
+    for column in columns {
+        if is_long_column(column) {
+            return true;
+        }
+    }
+    false
 }
 
 fn is_long_batch(batch: &Batch) -> bool
-    ensures { result ≡ list_any (list_any is_long_text) (rows_of batch.now) }
+    ensures long { result ≡ list_any (list_any is_long_text) (rows_of batch.now) }
+    ensures stands { result ≡ false → Stands batch.now }
 {
     has_long_column(batch.columns())
 }
@@ -121,9 +130,10 @@ pub(crate) fn has_bad_null(fields: &[Field], batches: &[Batch]) -> bool
     false
 }
 
-// Whether a row has a text that is too long.
+// Whether a row has a text that is too long. Where none has, each column was looked at.
 pub(crate) fn has_long_row(batches: &[Batch]) -> bool
-    ensures { result ≡ list_any (list_any is_long_text) (flat_map rows_of batches.now) }
+    ensures long { result ≡ list_any (list_any is_long_text) (flat_map rows_of batches.now) }
+    ensures stand { result ≡ false → All Stands batches.now }
 {
     for batch in batches {
         if is_long_batch(batch) {

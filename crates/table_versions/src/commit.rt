@@ -1,17 +1,19 @@
 //! The next version of the catalog: a put is checked, and then its table is made.
 
-ghost use Rattle.std.specs.Prelude.{◌≡◌, ◌≤◌, ◌||◌, ◌==◌, ◌+◌, ◌++◌, false, IfOk};
+ghost use Rattle.std.specs.Prelude.{◌≡◌, ◌≤◌, ◌||◌, ◌==◌, ◌+◌, ◌++◌, false, None, IfOk};
 ghost use Rattle.std.specs.Prelude.{length, nat_lt, All};
 ghost use Rattle.std.specs.List.{flat_map};
 ghost use Rattle.std.specs.Option.{option_copied};
 ghost use Rattle.scan_base.specs.Reading.{GivesUnlessMemory, RefusesFirst, first_fault};
 ghost use Rattle.arrays.specs.Batch.{BatchAt, rows_of};
 ghost use Rattle.arrays.specs.Typed.{AreOfTypes};
+ghost use Rattle.table_versions.specs.Columns.{Stands};
 ghost use Rattle.table_versions.specs.Limits.{most_name_bytes, most_rows};
 ghost use Rattle.table_versions.specs.Database.{table_after, columns_of, differs, faults_at, after};
 ghost use Rattle.table_versions.specs.Stored.{tables_of, put_of, plain, kept};
 ghost use Rattle.table_versions.specs.Stored.{stored_after, catalog_after};
 ghost use Rattle.table_versions.specs.Kept.{IsStorable, AreSound};
+ghost use Rattle.table_versions.specs.Valid.{IsPut};
 
 use crate::catalog::CatalogVersion;
 use crate::cells::{has_bad_null, has_long_row};
@@ -22,6 +24,7 @@ use crate::put::Put;
 use crate::snapshot::Snapshot;
 use crate::table::TableVersion;
 use arrays::Batch;
+use arrays::laws::values_are_of_their_type;
 use arrow_schema::Schema;
 use scan_base::{Fault, Text};
 use std::alloc::{AllocError, Global};
@@ -75,8 +78,9 @@ fn overflows(old: Option<&TableVersion>, put: &Put) -> bool
 
 // Why a put is refused, if it is, where this is the table of its name and there are so many tables.
 fn refusal(old: Option<&TableVersion>, tables: usize, number: u64, put: &Put) -> Option<Fault>
-    ensures { result
+    ensures first { result
         ≡ first_fault (faults_at (plain (option_copied old.entry)) tables number (put_of put.now)) }
+    ensures stand { result ≡ None → All Stands put.now.batches }
 {
     if is_bad_name(&put.table) {
         return Some(Fault::LimitReached);
@@ -163,7 +167,9 @@ fn next_catalog(alloc: Global, snapshot: &Snapshot, put: Put) -> Result<CatalogV
         (catalog_after snapshot.now.catalog snapshot.now.number put) }
     ensures refused { RefusesFirst result
         (catalog_after snapshot.now.catalog snapshot.now.number put) }
+    ensures typed { IfOk result (λ _. IsPut (put_of put)) }
 {
+    values_are_of_their_type();
     let catalog = snapshot.catalog();
     let old = catalog.get(&put.table);
     if let Some(fault) = refusal(old, catalog.len(), snapshot.number(), &put) {
@@ -206,6 +212,7 @@ pub fn apply(alloc: Global, snapshot: &Snapshot, put: Put) -> Result<CatalogVers
         (after (tables_of snapshot.now.catalog) snapshot.now.number (put_of put)) }
     ensures refused { RefusesFirst result
         (catalog_after snapshot.now.catalog snapshot.now.number put) }
+    ensures typed { IfOk result (λ _. IsPut (put_of put)) }
 {
     next_catalog(alloc, snapshot, put)
 }

@@ -2,6 +2,7 @@
 
 ghost use Rattle.table_versions.specs.Laws.{TablesAreFound, LogsGrow, LogsStay, NamesAreInOrder};
 ghost use Rattle.table_versions.specs.Laws.{LogsHoldAcceptedPuts, AcceptedPutsAreFew};
+ghost use Rattle.table_versions.specs.Laws.{AcceptedPutsKeepDatabases, VersionsAreDatabases};
 ghost use Rattle.table_versions.specs.Standing.{BatchesAreRows};
 
 use arrays::laws::batch_slices_keep_rows;
@@ -28,6 +29,17 @@ pub fn logs_hold_accepted_puts()
 /// An accepted put has at most 16,777,216 rows.
 pub fn accepted_puts_are_few()
     ensures { AcceptedPutsAreFew }
+{}
+
+/// An accepted put of rows of their columns' types leaves tables alone: each row has exactly one value for each
+/// column, of the column's type, null only where the column takes nulls, and no text of more than 65,536 bytes.
+pub fn accepted_puts_keep_databases()
+    ensures { AcceptedPutsKeepDatabases }
+{}
+
+/// Every version of a log of such puts has tables alone.
+pub fn versions_are_databases()
+    ensures { VersionsAreDatabases }
 {}
 
 /// The names of every version are in byte order, and each stands once.

@@ -54,6 +54,7 @@ impl TableVersion {
     pub fn rows(&self) -> usize
         ensures rows { result ≡ length (table_of self.now).rows }
         ensures few { result ≤ most_rows }
+        ensures sound { AreSound self.now.schema.fields (table_of self.now).rows }
     {
         self.rows
     }

@@ -7,8 +7,8 @@ ghost use Rattle.arrow_schema.specs.Schema.{IsField, IsSchema, IsType};
 ghost use Rattle.arrays.specs.Typed.{IsOfType};
 
 use crate::laws::{
-    accepted_puts_are_few, batches_are_rows, logs_grow, logs_hold_accepted_puts,
-    names_are_in_order, tables_are_found,
+    accepted_puts_are_few, accepted_puts_keep_databases, batches_are_rows, logs_grow,
+    logs_hold_accepted_puts, names_are_in_order, tables_are_found, versions_are_databases,
 };
 use crate::{
     CatalogVersion, IfExists, IfNotExist, MAX_COMMITS, MAX_NAME_BYTES, MAX_ROWS, MAX_TABLES,
@@ -461,6 +461,8 @@ fn laws(_rt: HostRuntime) {
     logs_grow();
     logs_hold_accepted_puts();
     accepted_puts_are_few();
+    accepted_puts_keep_databases();
+    versions_are_databases();
     names_are_in_order();
     batches_are_rows();
 }

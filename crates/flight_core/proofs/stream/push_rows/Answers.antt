@@ -1,7 +1,8 @@
-use Rattle.std.proofs.Common.{◌≡◌, ◌+◌, arith}
+use Rattle.std.proofs.Common.{◌≡◌, ◌≤◌, ◌+◌, ◌-◌, arith}
 use Rattle.arrays.specs.Batch.{cut_batch}
 use Rattle.flight_core.specs.Payloads.{SaysBatchBehind}
 use Rattle.flight_core.proofs.Parts.{slice_none, slice_more}
+use Rattle.flight_core.proofs.Sizes.{one_row_fits}
 use Rattle.flight_core.proofs.Streaming.{go_nowhere, one_fits}
 use Rattle.flight_core.proofs.stream.push_rows.Goals as goal
 
@@ -37,3 +38,14 @@ pub returns-clause-on : goal.returns-clause-on
 returns-clause-on c =
     let same : c.loop-at.at ≡ c.args.to = omega (arith, c.loop-at-test.false, c.loop-at.invariant.high) in
     rw (← same) c.loop-at.invariant.on
+
+pub unreachable-requires : goal.unreachable-requires
+unreachable-requires c =
+    let at = c.loop-at.at in
+    let to = at + c.min-rows.result in
+    let rows = c.min-rows.ensures in
+    let one : to - at ≡ 1 = omega (arith, rows, c.if-rows-gt1.false, c.loop-at.invariant.some, c.loop-at-test.true) in
+    let within : to ≤ c.args.batch.now.rows = omega (arith, rows, c.loop-at-test.true, c.requires.within) in
+    let fits = one_row_fits c.batch_slices_keep_rows.ensures c.args.batch.now at to one within c.requires.few c.requires.short in
+    let over = c.in_ok-payload.ensures.long c.in-None.is in
+    omega (arith, fits, over)

@@ -1,7 +1,7 @@
 use Rattle.std.proofs.Common.{◌≡◌, [], ◌∷◌, refl, sym, subst, ◌∙◌, rules}
 use Rattle.scan_exec.specs.Scan.{GivesRows}
 use Rattle.flight_core.specs.Planned.{HasAnswerTypes}
-use Rattle.flight_core.proofs.Scanned.{gave, ended, failed, few_columns, say_none, say_on, fewer_left, say_all}
+use Rattle.flight_core.proofs.Scanned.{gave, ended, failed, few_columns, say_none, say_on, fewer_left, say_all, batch_short}
 use Rattle.flight_core.proofs.Streaming.{say_first, none_fit, one_fits}
 use Rattle.flight_core.proofs.stream.write_scan.Goals as goal
 
@@ -15,6 +15,7 @@ loop-payloads-init c =
       types = refl;
       said = rw pushed (say_none schema (payload ∷ []) c.args.scan.now.left (say_first payload schema c.in_ok-schema_payload.ensures.said));
       fits = rw pushed (one_fits [] payload none_fit c.in_ok-schema_payload.ensures.fits);
+      short = c.requires.short;
     }
 
 pub returns-in_err-batch-clause-err : goal.returns-in_err-batch-clause-err
@@ -32,6 +33,9 @@ pub push_rows-requires-clause-few : goal.push_rows-requires-clause-few
 push_rows-requires-clause-few c =
     few_columns c.args.schema.now c.loop-payloads.scan.types c.in-Some.batch.columns c.requires.schema (types_kept c) (given c).wide
 
+pub push_rows-requires-clause-short : goal.push_rows-requires-clause-short
+push_rows-requires-clause-short c = (batch_short c.loop-payloads.scan c.next.new.self c.in-Some.batch (given c) c.loop-payloads.invariant.short).0
+
 next_given : (c : goal.After-drop-batch-inside-in-Some) → GivesRows c.loop-payloads.scan c.in-Some.batch c.next.new.self
 next_given c = gave c.loop-payloads.scan c.next.new.self c.in_ok-batch.field-0 c.in-Some.batch c.loop-payloads.invariant.begins c.in-Some.is c.in_ok-batch.ensures
 
@@ -45,6 +49,7 @@ loop-payloads-preserved c = record {
   said = say_on c.batch_slices_keep_rows.ensures c.args.schema.now c.args.scan.now.left c.loop-payloads.scan c.next.new.self c.in-Some.batch c.rows.result
       c.loop-payloads.payloads.items c.push_rows.new.payloads.items c.rows.ensures (subst (HasAnswerTypes c.args.schema.now) (sym c.loop-payloads.invariant.types) c.requires.typed) (next_given c) c.loop-payloads.invariant.said c.in_ok-push_rows.ensures.on;
   fits = c.in_ok-push_rows.ensures.fits c.loop-payloads.invariant.fits;
+  short = (batch_short c.loop-payloads.scan c.next.new.self c.in-Some.batch (next_given c) c.loop-payloads.invariant.short).1;
 }
 
 pub returns-clause-said : goal.returns-clause-said

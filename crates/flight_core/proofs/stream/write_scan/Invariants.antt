@@ -1,4 +1,6 @@
-use Rattle.std.proofs.Common.{◌≡◌, length, None}
+use Rattle.std.proofs.Common.{◌≡◌, false, length, None}
+use Rattle.std.specs.List.{list_any}
+use Rattle.table_versions.specs.Table.{is_long_text}
 use Rattle.flight_core.specs.Payloads.{FitMessages}
 use Rattle.flight_core.proofs.Scanned.{SayTo}
 use Rattle.flight_core.proofs.stream.write_scan.Given as goal
@@ -9,6 +11,7 @@ invariant-loop-payloads l = record {
   types : l.scan.types ≡ l.fn.scan.types;
   said : SayTo l.schema l.payloads.items l.fn.scan.left l.scan.left;
   fits : FitMessages l.payloads.items;
+  short : list_any (list_any is_long_text) l.scan.left ≡ false;
 }
 
 abbrev pub decreases-loop-payloads : goal.decreases-loop-payloads

@@ -5,4 +5,4 @@ use Rattle.table_versions.proofs.cells.is_long_column.Goals as goal
 pub returns-else-may_have_texts : goal.returns-else-may_have_texts
 returns-else-may_have_texts c =
     let short = rw c.layout.ensures at (sym c.may_have_texts.ensures ∙ c.if-may_have_texts.false) in
-    c.if-may_have_texts.false ∙ sym (short_column c.args.column.now short)
+    record { long = c.if-may_have_texts.false ∙ sym (short_column c.args.column.now short); stands = c.len-len.ensures.stands }

@@ -3,6 +3,8 @@ use Rattle.std.specs.Option.{option_copied}
 use Rattle.scan_base.specs.Reading.{first_fault}
 use Rattle.table_versions.specs.Database.{table_at, with_table, faults_at}
 use Rattle.table_versions.specs.Stored.{plain, put_of, stored_after, CatalogAt}
+use Rattle.table_versions.specs.Kept.{IsStorable}
+use Rattle.table_versions.proofs.RowTypes.{put_typed}
 use Rattle.table_versions.proofs.Stores.{refused_by, refuses_by, passes_by}
 use Rattle.table_versions.proofs.commit.next_catalog.Goals as goal
 
@@ -60,3 +62,9 @@ returns-in_err-with-clause-refused c =
     let count : c.len.result ≡ length catalog = c.len.ensures.count ∙ ap (λ (c : CatalogAt). length c) c.catalog-catalog.ensures in
     let passes : None ≡ first_fault (faults_at (plain there) c.len.result c.args.snapshot.now.number (put_of c.args.put)) = search rules in
     passes_by catalog c.args.snapshot.now.number c.args.put there c.len.result at count _ passes
+
+pub returns-clause-typed : goal.returns-clause-typed
+returns-clause-typed c =
+    let storable : IsStorable c.args.put.schema c.args.put.batches = rw (← c.put.view_is) c.put.invariant in
+    let passes : c.refusal.result ≡ None = search rules in
+    put_typed c.values_are_of_their_type.ensures c.args.put storable (c.refusal.ensures.stand passes)

@@ -20,6 +20,7 @@ use Rattle.scan_exec.specs.declared.cursor.Cursor.{Cursor}
 use Rattle.scan_exec.proofs.Opening.{none_in, in_clamped}
 use Rattle.scan_exec.proofs.Plans.{not_missing, reads, read_is, output_there, types_are, begins, left_is, answered}
 use Rattle.scan_exec.proofs.Scanning.{seen}
+use Rattle.scan_exec.proofs.Short.{short_given}
 use Rattle.scan_exec.proofs.scan.Scan.new.Goals as goal
 
 pub unreachable-requires : goal.unreachable-requires
@@ -112,3 +113,7 @@ returns-clause-scan c =
 
 pub returns-clause-typed : goal.returns-clause-typed
 returns-clause-typed c = answered (plan_of c.args.plan.now) c.plan-tree.ensures.typed
+
+pub returns-clause-short : goal.returns-clause-short
+returns-clause-short c =
+    short_given (plan_of c.args.plan.now) c.new.result.at c.new.result.to (table_of c.in-Some.table.now).rows c.rows.ensures.sound.texts
