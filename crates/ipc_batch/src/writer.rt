@@ -402,6 +402,7 @@ pub fn write_dictionary(
         (texts_values values.now) is_delta) }
     ensures zeros { IfOk result (λ message. message.body.items
         ≡ body_of (buffers_written (values_batch values.now).columns)) }
+    ensures short { OnOk result (body_length (values_batch values.now) < 2 ^ 31) }
 {
     let batch = values_batch(alloc, values)?;
     body_length(&batch).ok_or(AllocError)?;
