@@ -1,5 +1,5 @@
 -- A batch that was written is read again with the same rows.
-use Rattle.std.proofs.Common.{◌≡◌, ◌∙◌, ℕ, zero, suc, ◌%◌, ◌^◌, ◌≤◌, ◌<◌, List, [], ◌∷◌, length, map, get_or, Ok, refl, arith, ap, sym, subst, All}
+use Rattle.std.proofs.Common.{◌≡◌, ◌∙◌, ℕ, zero, suc, ◌%◌, ◌^◌, ◌≤◌, ◌<◌, List, [], ◌∷◌, length, map, get_or, Ok, refl, arith, ap, subst}
 use Rattle.std.specs.List.{AllByRecursion, flat_map}
 use Rattle.std.proofs.lemmas.Bool.{eq-eqb}
 use Rattle.std.proofs.lemmas.List.{length-map}
@@ -9,8 +9,8 @@ use Rattle.scan_base.specs.Lists.{each}
 use Rattle.flatbuf.specs.Block.{Part, table_part}
 use Rattle.arrow_schema.specs.declared.header.HeaderKind.TheVariants.{RecordBatch}
 use Rattle.arrow_schema.specs.Message.{message_bytes}
-use Rattle.arrays.specs.Column.{ColumnAt, IsColumn}
-use Rattle.arrays.specs.Batch.{BatchAt, AreLong}
+use Rattle.arrays.specs.Column.{ColumnAt}
+use Rattle.arrays.specs.Batch.{BatchAt}
 use Rattle.ipc_batch.specs.declared.parts.BufferPlace.{BufferPlace}
 use Rattle.ipc_batch.specs.Parts.{buffer_at}
 use Rattle.arrays.specs.Written.{buffers_written as column_written}

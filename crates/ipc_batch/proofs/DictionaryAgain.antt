@@ -1,6 +1,6 @@
 -- A dictionary that was written is read again with the same values.
-use Rattle.std.proofs.Common.{◌≡◌, ℕ, suc, ◌+◌, ◌==◌, ◌%◌, ◌^◌, ◌≤◌, ◌<◌, nat_le, not, Bool, true, false, List, [], ◌∷◌, ◌++◌, length, map, Some, None, Result, Ok, refl, arith, ap, sym, subst, ◌∙◌, append-nil}
-use Rattle.std.specs.List.{range_with_len, list_any}
+use Rattle.std.proofs.Common.{◌≡◌, ℕ, ◌+◌, ◌==◌, ◌^◌, ◌<◌, nat_le, not, Bool, true, false, List, [], ◌∷◌, ◌++◌, length, Some, None, Result, Ok, refl, arith, ap, sym, subst, ◌∙◌, append-nil}
+use Rattle.std.specs.List.{list_any}
 use Rattle.std.proofs.lemmas.Bool.{eq-eqb, eqb-true, eqb-false, ne_eqb, le-leb}
 use Rattle.std.proofs.lemmas.List.{length-append}
 use Rattle.std.proofs.lemmas.List.FromFn.{length-map-range_with_len}
@@ -9,9 +9,8 @@ use Rattle.scan_base.specs.declared.fault.Fault.TheVariants.{BadBatch, LimitReac
 use Rattle.scan_base.specs.declared.value.Value.{Value}
 use Rattle.scan_base.specs.Reading.{◌>>=◌, demand}
 use Rattle.scan_base.specs.Lists.{each}
-use Rattle.flatbuf.specs.Place.{scalar_of, table_of}
-use Rattle.flatbuf.specs.Layout.{Stands}
-use Rattle.flatbuf.specs.Block.{Part, IsWhole, Given, Number, Offset, given_at, AreWhole, table_part, children}
+use Rattle.flatbuf.specs.Place.{scalar_of}
+use Rattle.flatbuf.specs.Block.{Part, Given, Number, Offset, given_at, table_part}
 use Rattle.flatbuf.specs.Fits.{FitsTable}
 use Rattle.flatbuf.specs.Written.{table_at, LeadsToBlock, SlotReads}
 use Rattle.flatbuf.proofs.Written.{table_reads}
@@ -29,15 +28,15 @@ use Rattle.arrays.specs.Texts.{TextsAt, texts_slot, texts_values}
 use Rattle.arrays.specs.Dictionary.{most_values, extended_by}
 use Rattle.arrays.specs.Column.{ColumnAt, slot_of, values_of, whole}
 use Rattle.arrays.specs.Batch.{BatchAt}
-use Rattle.arrays.specs.Written.{values_written, buffers_written as column_written}
+use Rattle.arrays.specs.Written.{values_written}
 use Rattle.arrays.proofs.Packed.{map_same}
 use Rattle.ipc_batch.specs.declared.parts.BufferPlace.{BufferPlace}
 use Rattle.ipc_batch.specs.Parts.{DictionaryParts, dictionary_parts, buffer_at}
 use Rattle.ipc_batch.specs.Columns.{FrontAt, texts_at, front_of, values_led_to, one_texts, counts_agree}
-use Rattle.ipc_batch.specs.State.{Known, State, Dictionaries, values_under, with_values}
-use Rattle.ipc_batch.specs.Said.{Sent, News, leads_to, kept_of, has_id, dictionary_sent, known_after, news_of, Rows, Follows}
+use Rattle.ipc_batch.specs.State.{Known, Dictionaries, values_under, with_values}
+use Rattle.ipc_batch.specs.Said.{Sent, News, leads_to, kept_of, has_id, dictionary_sent, known_after, news_of}
 use Rattle.ipc_batch.specs.Written.{WrittenParts, FitsBatch, FitParts, parts_part, dictionary_part, body_of, body_length, buffers_written, node_written, parts_written, values_batch, values_after, dictionary_news, SaysDictionaryParts, SaysDictionary}
-use Rattle.ipc_batch.specs.Laws.{LeadInto, DictionariesReadBack}
+use Rattle.ipc_batch.specs.Laws.{DictionariesReadBack}
 use Rattle.ipc_batch.proofs.Entries.{under_set, under_other}
 use Rattle.ipc_batch.proofs.Lengths.{fine, both}
 use Rattle.ipc_batch.proofs.PartsAgain.{parts_read, is_whole, short_parts}

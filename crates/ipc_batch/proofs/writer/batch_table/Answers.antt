@@ -1,4 +1,4 @@
-use Rattle.std.proofs.Common.{rules, refl}
+use Rattle.std.proofs.Common.{refl}
 use Rattle.ipc_batch.proofs.BatchAgain.{nodes_small, places_small, made_table}
 use Rattle.ipc_batch.proofs.writer.batch_table.Goals as goal
 

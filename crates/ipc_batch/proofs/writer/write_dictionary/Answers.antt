@@ -1,6 +1,5 @@
 use Rattle.std.proofs.Common.{rules}
-use Rattle.ipc_batch.specs.Written.{buffers_written, parts_written, values_batch, SaysDictionaryParts, SaysDictionary}
-use Rattle.arrays.specs.Texts.{texts_values}
+use Rattle.ipc_batch.specs.Written.{buffers_written}
 use Rattle.ipc_batch.proofs.PartsAgain.{whole_body}
 use Rattle.ipc_batch.proofs.DictionaryAgain.{tells}
 use Rattle.ipc_batch.proofs.writer.write_dictionary.Goals as goal
