@@ -165,7 +165,7 @@ pub record SaysDictionaryParts (sent : Sent) (id : ℕ) (parts : WrittenParts) (
 abbrev pub values_after : Dictionaries → ℕ → List Value → Bool → List Value
 values_after dictionaries id values is_delta = kept_of is_delta (values_under dictionaries id) ++ values
 
--- What these values leave behind. F8 where no field has the id, and F12 where there would be too many of them.
+-- What these values leave behind. A field has to have the id, and there has to be room for all values.
 unfoldable pub dictionary_news : Known → ℕ → List Value → Bool → Result News Fault
 dictionary_news known id values is_delta = do
   _ ← demand (list_any (leads_to id) known.schema.fields) BadBatch
