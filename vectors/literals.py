@@ -57,3 +57,11 @@ def listed(name, remark, rows):
     assert all(line.count("\t") == lines[0].count("\t") and "\n" not in line for line in lines), name
     letters = (letter for line in lines for letter in [*map(in_text, line), "\\n"])
     return f"// {remark}\npub(crate) static {name}: &str = {joined(letters)};\n"
+
+
+def array(name, data):
+    """A static of these bytes, 16 on a line."""
+    lines = [f"pub(crate) static {name.upper()}: [u8; {len(data)}] = ["]
+    for start in range(0, len(data), 16):
+        lines.append("    " + " ".join(f"0x{byte:02x}," for byte in data[start : start + 16]))
+    return "\n".join(lines + ["];\n"]) if data else lines[0] + "];\n"

@@ -8,18 +8,11 @@ import sys
 sys.dont_write_bytecode = True
 HERE = pathlib.Path(__file__).parent
 sys.path.append(str(HERE.parent))
-from literals import dots, listed, literal, table, text
+from literals import array, dots, listed, literal, table, text
 from reader import Fault, Table, there
 
 CRATES = HERE.parent.parent / "crates"
 FAULTS = {"F6": "F6 BadFlatbuffer", "F7": "F7 UnsupportedArrow", "F8": "F8 BadBatch", "F12": "F12 LimitReached"}
-
-
-def array(name, data):
-    lines = [f"pub(crate) static {name.upper()}: [u8; {len(data)}] = ["]
-    for start in range(0, len(data), 16):
-        lines.append("    " + " ".join(f"0x{byte:02x}," for byte in data[start : start + 16]))
-    return "\n".join(lines + ["];\n"]) if data else lines[0] + "];\n"
 
 
 def lines(name):

@@ -1,5 +1,5 @@
 -- A batch that was written is read again with the same rows.
-use Rattle.std.proofs.Common.{◌≡◌, ◌∙◌, ℕ, zero, suc, ◌%◌, ◌^◌, ◌≤◌, ◌<◌, List, [], ◌∷◌, length, map, get_or, Ok, refl, arith, ap, sym, subst, All}
+use Rattle.std.proofs.Common.{◌≡◌, ◌∙◌, ℕ, zero, suc, ◌%◌, ◌^◌, ◌≤◌, ◌<◌, List, [], ◌∷◌, length, map, get_or, Ok, refl, arith, ap, subst}
 use Rattle.std.specs.List.{AllByRecursion, flat_map}
 use Rattle.std.proofs.lemmas.Bool.{eq-eqb}
 use Rattle.std.proofs.lemmas.List.{length-map}
@@ -9,41 +9,33 @@ use Rattle.scan_base.specs.Lists.{each}
 use Rattle.flatbuf.specs.Block.{Part, table_part}
 use Rattle.arrow_schema.specs.declared.header.HeaderKind.TheVariants.{RecordBatch}
 use Rattle.arrow_schema.specs.Message.{message_bytes}
-use Rattle.arrays.specs.Column.{ColumnAt, IsColumn}
-use Rattle.arrays.specs.Batch.{BatchAt, AreLong}
+use Rattle.arrays.specs.Column.{ColumnAt}
+use Rattle.arrays.specs.Batch.{BatchAt}
 use Rattle.ipc_batch.specs.declared.parts.BufferPlace.{BufferPlace}
 use Rattle.ipc_batch.specs.Parts.{buffer_at}
 use Rattle.arrays.specs.Written.{buffers_written as column_written}
 use Rattle.ipc_batch.specs.Columns.{counts_agree, buffers_wanted}
 use Rattle.ipc_batch.specs.Said.{Sent, news_of, batch_sent, batch_parts}
-use Rattle.ipc_batch.specs.Written.{parts_part, body_of, node_bytes, place_bytes, places_from, node_written, buffers_written, parts_written, FitsNode, FitParts, SaysParts, SaysBatch, body_length}
+use Rattle.ipc_batch.specs.Written.{parts_part, body_of, node_bytes, place_bytes, places_from, node_written, buffers_written, parts_written, FitsNode, FitParts, FitsBatch, SaysParts, SaysBatch, body_length}
 use Rattle.ipc_batch.proofs.Lengths.{fine, both}
 use Rattle.ipc_batch.proofs.PartsAgain.{length-nodes, length-places, length-places_from, batch_slots, parts_read, message_reads, message_written, parts_said}
 use Rattle.ipc_batch.proofs.WriterLoops.{short_texts, length_more}
 use Rattle.ipc_batch.proofs.ColumnsAgain.{IsWritable, columns_again, rows_again, wanted_again, few_buffers}
 use Rattle.arrays.proofs.NullSlots.{nulls_and_others}
 
--- what is known of a batch that is written
-pub record Writes (batch : BatchAt) : Type 0 where
-  pub rows : batch.rows < 2 ^ 64
-  pub few : length batch.columns ≤ 64
-  pub long : AreLong batch.rows batch.columns
-  pub stand : All IsColumn batch.columns
-  pub small : body_length batch < 2 ^ 31
-
 -- the texts of each column are short where the body is
-column_short : (columns : List ColumnAt) (k : ℕ) (d : ColumnAt) → k < length columns → length (body_of (buffers_written columns)) < 2 ^ 31 →
+pub column_short : (columns : List ColumnAt) (k : ℕ) (d : ColumnAt) → k < length columns → length (body_of (buffers_written columns)) < 2 ^ 31 →
     length (body_of (column_written (get_or columns k d))) < 2 ^ 31
 column_short [] k d low small = absurd (omega arith)
 column_short (column ∷ columns) zero d low small = omega (arith, small, length_more (column ∷ columns) columns 0 column refl)
 column_short (column ∷ columns) (suc k) d low small = column_short columns k d (omega arith) (omega (arith, small, length_more (column ∷ columns) columns 0 column refl))
 
-columns_writable : (batch : BatchAt) → Writes batch → AllByRecursion (IsWritable batch.rows) batch.columns
+columns_writable : (batch : BatchAt) → FitsBatch batch → AllByRecursion (IsWritable batch.rows) batch.columns
 columns_writable batch w = recursion_from_All (IsWritable batch.rows) batch.columns
     (λ (k : ℕ) (d : ColumnAt) (low : k < length batch.columns).
     record { len = w.long k d low; stands = w.stand k d low; short = short_texts (get_or batch.columns k d) (column_short batch.columns k d low w.small) })
 
-pub fit_parts : (batch : BatchAt) → Writes batch → FitParts (parts_written batch)
+pub fit_parts : (batch : BatchAt) → FitsBatch batch → FitParts (parts_written batch)
 fit_parts batch w =
     let many = length-map batch.columns node_written in
     let three = few_buffers batch.columns in
@@ -68,7 +60,7 @@ length-each body (place ∷ more) buffers e =
     ap suc (length-each body more b.0 b.1) ∙ ap length same
 
 -- the message of a batch says its rows
-pub batch_said : (batch : BatchAt) → Writes batch → SaysBatch (message_written (parts_written batch)) batch
+pub batch_said : (batch : BatchAt) → FitsBatch batch → SaysBatch (message_written (parts_written batch)) batch
 unfolding news_of batch_sent batch_parts counts_agree
 batch_said batch w known fields of answered =
     let parts = parts_written batch in
@@ -105,46 +97,24 @@ places_small columns few =
     let c = few_buffers columns in
     (omega arith, omega arith)
 
--- the bytes that are made of a batch, step by step
-pub record Made (batch : BatchAt) (columns : List ColumnAt) (rows n : ℕ) (header nodes places : List ℕ) (block : Part) : Type 0 where
+-- a RecordBatch table that is made of a batch, step by step
+pub record Made (batch : BatchAt) (columns : List ColumnAt) (rows : ℕ) (nodes places : List ℕ) (block : Part) : Type 0 where
   pub same : columns ≡ batch.columns
   pub counted : rows ≡ batch.rows
-  pub low : rows < 2 ^ 64
-  pub few : length batch.columns ≤ 64
-  pub long : AreLong batch.rows columns
-  pub stand : All IsColumn columns
-  pub small : body_length batch < 2 ^ 31
-  pub all : n ≡ length (body_of (buffers_written columns))
   pub nodes_is : nodes ≡ flat_map node_bytes (map node_written columns)
   pub places_is : places ≡ flat_map place_bytes (places_from 0 (buffers_written columns))
   pub block_is : block ≡ table_part (batch_slots rows nodes places)
-  pub header_is : header ≡ message_bytes RecordBatch block n
 
-is_written : (batch : BatchAt) (columns : List ColumnAt) (rows n : ℕ) (header nodes places : List ℕ) (block : Part) → Made batch columns rows n header nodes places block →
-    record { header = header; body = body_of (buffers_written batch.columns) } ≡ message_written (parts_written batch)
+pub made_table : (batch : BatchAt) (columns : List ColumnAt) (rows : ℕ) (nodes places : List ℕ) (block : Part) → Made batch columns rows nodes places block → block ≡ parts_part (parts_written batch)
 unfolding parts_part
-is_written batch columns rows n header nodes places block m =
-    rw (m.header_is, m.block_is, m.nodes_is, m.places_is, m.all, m.same, m.counted) refl
+made_table batch columns rows nodes places block m = rw (m.block_is, m.nodes_is, m.places_is, m.same, m.counted) refl
 
-writes : (batch : BatchAt) (columns : List ColumnAt) (rows n : ℕ) (header nodes places : List ℕ) (block : Part) → Made batch columns rows n header nodes places block → Writes batch
-writes batch columns rows n header nodes places block m =
-    let a = m.counted in
-    let b = m.low in
-    record {
-      rows = omega arith;
-      few = m.few;
-      long = subst (λ (x : List ColumnAt). AreLong batch.rows x) m.same m.long;
-      stand = subst (All IsColumn) m.same m.stand;
-      small = m.small;
-    }
-
--- what they say
-pub said : (batch : BatchAt) (columns : List ColumnAt) (rows n : ℕ) (header nodes places : List ℕ) (block : Part) → Made batch columns rows n header nodes places block →
+-- what the message of a batch says
+pub said : (batch : BatchAt) (block : Part) (n : ℕ) (header : List ℕ) → FitsBatch batch → block ≡ parts_part (parts_written batch) → n ≡ body_length batch → header ≡ message_bytes RecordBatch block n →
     SaysParts (record { header = header; body = body_of (buffers_written batch.columns) }) (parts_written batch)
     × SaysBatch (record { header = header; body = body_of (buffers_written batch.columns) }) batch
-said batch columns rows n header nodes places block m =
-    let is = sym (is_written batch columns rows n header nodes places block m) in
-    let w = writes batch columns rows n header nodes places block m in (
-      subst (λ (x : Sent). SaysParts x (parts_written batch)) is (parts_said (parts_written batch) (fit_parts batch w)),
-      subst (λ (x : Sent). SaysBatch x batch) is (batch_said batch w),
+said batch block n header fits block_is n_is header_is =
+    let is : message_written (parts_written batch) ≡ record { header = header; body = body_of (buffers_written batch.columns) } = rw (header_is, block_is, n_is) refl in (
+      subst (λ (x : Sent). SaysParts x (parts_written batch)) is (parts_said (parts_written batch) (fit_parts batch fits)),
+      subst (λ (x : Sent). SaysBatch x batch) is (batch_said batch fits),
     )

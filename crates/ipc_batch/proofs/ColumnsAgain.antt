@@ -165,7 +165,7 @@ decimals_front dictionaries body column places (packed ∷ []) others say found 
     record { front = record { layout = v.layout; behind = v.more }; read = subst (λ (xs : List BufferPlace). front_of Decimal128 dictionaries column.len body (node_written column) xs ≡ Ok (record { layout = v.layout; behind = v.more })) (sym v.is) (rw v.read refl); behind = v.behind; values = v.values }
 decimals_front dictionaries body column places (packed ∷ more ∷ buffers) others say found = absurd say
 
-front_again : (data_type : DataType) (dictionaries : Dictionaries) (body : List ℕ) (column : ColumnAt) (places : List BufferPlace) (others : List (List ℕ)) →
+pub front_again : (data_type : DataType) (dictionaries : Dictionaries) (body : List ℕ) (column : ColumnAt) (places : List BufferPlace) (others : List (List ℕ)) →
     IsColumn column → IsOfType data_type column.layout → HasShortTexts column → each (buffer_at body) places ≡ Ok (column_written column ++ others) →
     Front (answer_type data_type) dictionaries column.len body column places others
 front_again (Integer integer) dictionaries body column places others stands of short found =

@@ -8,3 +8,4 @@ pub mod Typed
 pub mod WriterLoops
 pub mod ColumnsAgain
 pub mod BatchAgain
+pub mod DictionaryAgain

@@ -157,7 +157,7 @@ fits_batch rows nodes places few less =
     let a = length-batch_slots rows nodes places in
     fits_table (batch_slots rows nodes places) (omega arith) (omega arith)
 
-pub short_batch : (rows : ℕ) (nodes places : List ℕ) → length nodes ≤ 2 ^ 20 → length places ≤ 2 ^ 20 → length (table_part (batch_slots rows nodes places)).bytes < 2 ^ 30
+pub short_batch : (rows : ℕ) (nodes places : List ℕ) → length nodes ≤ 2 ^ 20 → length places ≤ 2 ^ 20 → length (table_part (batch_slots rows nodes places)).bytes < 2 ^ 29
 short_batch rows nodes places few less =
     let a = length-batch_slots rows nodes places in
     let b = short_table (batch_slots rows nodes places) in
@@ -250,11 +250,11 @@ parts_read parts message bytes place fit s claimed =
       aligned = places_aligned 0 parts.buffers refl;
     }
 
-pub short_parts : (parts : WrittenParts) → FitParts parts → length (parts_part parts).bytes < 2 ^ 30
+pub short_parts : (parts : WrittenParts) → FitParts parts → length (parts_part parts).bytes < 2 ^ 29
 unfolding parts_part
 short_parts parts fit = short_batch parts.rows (nodes_packed parts) (places_packed parts) (length-nodes_packed parts fit).1 (length-places_packed parts fit).1
 
-is_whole : (parts : WrittenParts) → IsWhole (parts_part parts)
+pub is_whole : (parts : WrittenParts) → IsWhole (parts_part parts)
 unfolding parts_part
 is_whole parts = whole_table (parts_slots parts) (whole_parts parts)
 
@@ -262,7 +262,7 @@ is_whole parts = whole_table (parts_slots parts) (whole_parts parts)
 pub message_reads : (parts : WrittenParts) → FitParts parts → MessageReads (message_bytes RecordBatch (parts_part parts) (length (body_of parts.buffers))) RecordBatch (parts_part parts) (length (body_of parts.buffers))
 message_reads parts fit =
     let small = fit.small in
-    messages_read RecordBatch (parts_part parts) (length (body_of parts.buffers)) (is_whole parts) (short_parts parts fit) (omega arith)
+    messages_read RecordBatch (parts_part parts) (length (body_of parts.buffers)) (is_whole parts) (omega (arith, short_parts parts fit)) (omega arith)
 
 abbrev pub message_written : WrittenParts → Sent
 message_written parts = record { header = message_bytes RecordBatch (parts_part parts) (length (body_of parts.buffers)); body = body_of parts.buffers }

@@ -1,13 +1,19 @@
 -- What holds of all messages.
-use Rattle.std.specs.Prelude.{◌≡◌, ◌↔◌, ◌≤◌, ◌<◌, ◌⊎◌, ◌^◌, ℕ, List, ◌++◌, length, Ok, Err}
+use Rattle.std.specs.Prelude.{◌≡◌, ◌↔◌, ◌≤◌, ◌<◌, ◌⊎◌, ◌^◌, ℕ, Bool, true, false, List, ◌∷◌, ◌++◌, length, Some, Ok, Err}
+use Rattle.std.specs.List.{list_any}
 use Rattle.scan_base.specs.declared.fault.Fault.{Fault}
 use Rattle.scan_base.specs.declared.fault.Fault.TheVariants.{BadBatch}
+use Rattle.scan_base.specs.declared.value.Value.{Value}
+use Rattle.arrow_schema.specs.declared.data_type.DataType.{DataType}
 use Rattle.arrow_schema.specs.declared.schema.Schema.{Schema}
 use Rattle.arrow_schema.specs.Header.{MessageAt, body_length_of}
+use Rattle.arrays.specs.Dictionary.{most_values}
 use Rattle.ipc_batch.specs.declared.parts.BufferPlace.{BufferPlace}
 use Rattle.ipc_batch.specs.Parts.{placed_in, body_claimed}
-use Rattle.ipc_batch.specs.State.{State}
-use Rattle.ipc_batch.specs.Said.{Sent, news_of, glance_of, Rows, Follows, Says, AreWide}
+use Rattle.ipc_batch.specs.Columns.{values_led_to}
+use Rattle.ipc_batch.specs.State.{Known, State}
+use Rattle.ipc_batch.specs.Said.{Sent, has_id, leads_to, news_of, glance_of, Rows, Follows, Says, AreWide}
+use Rattle.ipc_batch.specs.Written.{values_after, SaysDictionary}
 
 -- messages say at most one schema and one list of rows
 abbrev pub SayOneThing : Type 0
@@ -45,3 +51,21 @@ NegativesLieOutside = (body : List ℕ) → length body < 2 ^ 63 →
     ((place : BufferPlace) → (2 ^ 63 ≤ place.offset) ⊎ (2 ^ 63 ≤ place.length) → placed_in body place ≡ Err BadBatch)
     × ((message : MessageAt) (claimed : ℕ) → body_length_of message ≡ Ok claimed → 2 ^ 63 ≤ claimed →
     body_claimed message body ≡ Err BadBatch)
+
+-- What is known behind a dictionary: the same schema. The indices of its id lead into these values, and those of
+-- each other id to where they led.
+pub record LeadInto (before : Known) (id : ℕ) (values : List Value) (after : Known) : Type 0 where
+  pub schema : after.schema ≡ before.schema
+  pub own : (data_type : DataType) → has_id id data_type ≡ true → values_led_to data_type after.dictionaries ≡ values
+  pub others : (data_type : DataType) → has_id id data_type ≡ false →
+      values_led_to data_type after.dictionaries ≡ values_led_to data_type before.dictionaries
+
+-- Where a field has its id and there is room for its values, a dictionary adds no row: what messages behind it say,
+-- over these values, they all say together.
+abbrev pub DictionariesReadBack : Type 0
+DictionariesReadBack = (sent : Sent) (id : ℕ) (values : List Value) (is_delta : Bool) →
+    SaysDictionary sent id values is_delta → (known : Known) → list_any (leads_to id) known.schema.fields ≡ true →
+    length (values_after known.dictionaries id values is_delta) ≤ most_values →
+    (after : Known) × LeadInto known id (values_after known.dictionaries id values is_delta) after
+    × ((behind : List Sent) (end : State) (rows : Rows) → Follows (Some after) behind end rows →
+    Follows (Some known) (sent ∷ behind) end rows)

@@ -1,6 +1,11 @@
--- How a record batch is written: the body that its buffers make, and the table that says where they lie.
-use Rattle.std.specs.Prelude.{◌≡◌, ℕ, ◌+◌, ◌*◌, ◌^◌, ◌%◌, ◌≤◌, ◌<◌, List, [], ◌∷◌, ◌++◌, length, map, All, Some, Ok}
-use Rattle.std.specs.List.{flat_map}
+-- How record batches and dictionaries are written: the body that the buffers make, and the tables that say where
+-- they lie.
+use Rattle.std.specs.Prelude.{◌≡◌, ℕ, ◌+◌, ◌*◌, ◌^◌, ◌%◌, ◌≤◌, ◌<◌, Bool, List, [], ◌∷◌, ◌++◌, length, map, All, Some, None, nat_le, Result, Ok}
+use Rattle.std.specs.List.{flat_map, list_any}
+use Rattle.scan_base.specs.declared.fault.Fault.{Fault}
+use Rattle.scan_base.specs.declared.fault.Fault.TheVariants.{BadBatch, LimitReached}
+use Rattle.scan_base.specs.declared.value.Value.{Value}
+use Rattle.scan_base.specs.Reading.{◌>>=◌, demand}
 use Rattle.scan_base.specs.Lists.{each}
 use Rattle.flatbuf.specs.Place.{TableAt}
 use Rattle.flatbuf.specs.Layout.{Stands}
@@ -10,16 +15,20 @@ use Rattle.arrow_schema.specs.declared.schema.Field.{Field}
 use Rattle.arrow_schema.specs.Answer.{answer_type}
 use Rattle.arrow_schema.specs.Header.{MessageAt, message_of, header_of, body_length_of}
 use Rattle.arrow_schema.specs.Limits.{most_columns}
-use Rattle.arrays.specs.Column.{ColumnAt}
-use Rattle.arrays.specs.Batch.{BatchAt, rows_of}
+use Rattle.arrow_schema.specs.Written.{flag}
+use Rattle.arrays.specs.declared.layout.Layout.TheVariants.{Texts}
+use Rattle.arrays.specs.Texts.{TextsAt}
+use Rattle.arrays.specs.Dictionary.{most_values}
+use Rattle.arrays.specs.Column.{ColumnAt, IsColumn, whole}
+use Rattle.arrays.specs.Batch.{BatchAt, AreLong, rows_of}
 use Rattle.arrays.specs.Typed.{AreOfTypes}
 use Rattle.arrays.specs.Nulls.{null_count}
 use Rattle.arrays.specs.Written.{buffers_written as column_written}
 use Rattle.ipc_batch.specs.declared.parts.FieldNode.{FieldNode}
 use Rattle.ipc_batch.specs.declared.parts.BufferPlace.{BufferPlace}
-use Rattle.ipc_batch.specs.Parts.{parts_of, buffer_at}
-use Rattle.ipc_batch.specs.State.{Known}
-use Rattle.ipc_batch.specs.Said.{Sent, news_of}
+use Rattle.ipc_batch.specs.Parts.{parts_of, dictionary_parts, buffer_at}
+use Rattle.ipc_batch.specs.State.{Known, Dictionaries, values_under, with_values}
+use Rattle.ipc_batch.specs.Said.{Sent, News, leads_to, kept_of, news_of}
 
 -- ---- parts, of any types
 
@@ -60,6 +69,11 @@ pub record FitsNode (node : FieldNode) : Type 0 where
 -- the buffers of that many columns, each of at most three
 abbrev pub most_buffers : ℕ
 most_buffers = 3 * most_columns
+
+-- the DictionaryBatch table: an id, the RecordBatch table of the values, and whether they stand behind the old
+-- ones
+unfoldable pub dictionary_part : ℕ → WrittenParts → Bool → Part
+dictionary_part id parts is_delta = table_part (Number id ∷ Offset (parts_part parts) ∷ Number (flag is_delta) ∷ [])
 
 -- parts that can be written
 pub record FitParts (parts : WrittenParts) : Type 0 where
@@ -104,6 +118,18 @@ parts_written batch = record {
 abbrev pub body_length : BatchAt → ℕ
 body_length batch = length (body_of (buffers_written batch.columns))
 
+-- a batch that can be written
+pub record FitsBatch (batch : BatchAt) : Type 0 where
+  pub rows : batch.rows < 2 ^ 64
+  pub few : length batch.columns ≤ most_columns
+  pub long : AreLong batch.rows batch.columns
+  pub stand : All IsColumn batch.columns
+  pub small : body_length batch < 2 ^ 31
+
+-- the values of a dictionary, as the batch that is written of them: one column of texts
+abbrev pub values_batch : TextsAt → BatchAt
+values_batch values = record { columns = whole (Texts values) ∷ []; rows = values.len }
+
 -- ---- messages
 
 -- a message says these parts, each of whose buffers lies at a multiple of 8, and claims all of its body
@@ -121,3 +147,37 @@ SaysBatch sent batch = (known : Known) (fields : List Field) → AreOfTypes fiel
     map (λ field. field.data_type) known.schema.fields ≡ map (λ field. answer_type field.data_type) fields →
     (read : BatchAt) × (news_of (Some known) sent ≡ Ok (record { state = Some known; batch = Some read }))
     × (rows_of read ≡ rows_of batch)
+
+-- a message says a dictionary of this id, whose values have these parts, and claims all of its body
+pub record SaysDictionaryParts (sent : Sent) (id : ℕ) (parts : WrittenParts) (is_delta : Bool) : Type 0 where
+  pub message : MessageAt
+  pub table : TableAt
+  pub found : message_of sent.header ≡ Ok message
+  pub claimed : body_length_of message ≡ Ok (length sent.body)
+  pub same : SaysSame message table sent.body parts
+  pub said : dictionary_parts message sent.body ≡ Ok (record {
+    id = id;
+    parts = record { rows = parts.rows; nodes = parts.nodes; places = same.places };
+    is_delta = is_delta;
+  })
+
+-- the values of an id with those that a message sends: behind the old ones, or in their place
+abbrev pub values_after : Dictionaries → ℕ → List Value → Bool → List Value
+values_after dictionaries id values is_delta = kept_of is_delta (values_under dictionaries id) ++ values
+
+-- What these values leave behind. A field has to have the id, and there has to be room for all values.
+unfoldable pub dictionary_news : Known → ℕ → List Value → Bool → Result News Fault
+dictionary_news known id values is_delta = do
+  _ ← demand (list_any (leads_to id) known.schema.fields) BadBatch
+  _ ← demand (nat_le (length (values_after known.dictionaries id values is_delta)) most_values) LimitReached
+  Ok (record {
+    state = Some (record known {
+      dictionaries = with_values id (values_after known.dictionaries id values is_delta) known.dictionaries;
+    });
+    batch = None;
+  })
+
+-- behind any schema a message says these values of a dictionary
+abbrev pub SaysDictionary : Sent → ℕ → List Value → Bool → Type 0
+SaysDictionary sent id values is_delta =
+    (known : Known) → news_of (Some known) sent ≡ dictionary_news known id values is_delta

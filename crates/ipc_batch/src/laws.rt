@@ -1,7 +1,7 @@
 //! What holds of all messages. Each function here has an empty body: its contract is a law.
 
 ghost use Rattle.ipc_batch.specs.Laws.{SayOneThing, JoinRows, RowsFitSchema};
-ghost use Rattle.ipc_batch.specs.Laws.{GlancesComeFirst, NegativesLieOutside};
+ghost use Rattle.ipc_batch.specs.Laws.{GlancesComeFirst, NegativesLieOutside, DictionariesReadBack};
 ghost use Rattle.ipc_batch.specs.Written.{PartsReadBack};
 
 /// Messages say at most one schema and one list of rows.
@@ -32,4 +32,9 @@ pub fn negatives_lie_outside()
 /// What is read of written parts is those parts, whatever the types of their columns are.
 pub fn parts_read_back()
     ensures { PartsReadBack }
+{}
+
+/// What is read behind the message of a dictionary is read over its values.
+pub fn dictionaries_read_back()
+    ensures { DictionariesReadBack }
 {}

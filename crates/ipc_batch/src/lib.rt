@@ -10,11 +10,13 @@ pub mod writer;
 
 pub use crate::reader::Reader;
 pub use crate::writer::{
-    WrittenMessage, append_body, body_length, write_batch, write_batch_header,
+    WrittenMessage, append_body, body_length, write_batch, write_batch_header, write_dictionary,
 };
 
 #[cfg(test)]
 mod cases;
+#[cfg(test)]
+mod dictionary_writing;
 #[cfg(test)]
 mod lies;
 #[cfg(test)]

@@ -9,7 +9,7 @@ use std::alloc::{AllocError, Global};
 use std::process::Abort;
 use std::test::Fail;
 
-const NULL: ValueRef<'static> = ValueRef::Null;
+pub(crate) const NULL: ValueRef<'static> = ValueRef::Null;
 
 // What a message tells.
 fn told(
@@ -22,7 +22,7 @@ fn told(
 }
 
 // The batch of a message.
-fn batch(
+pub(crate) fn batch(
     alloc: Global,
     reader: &mut Reader,
     header: &'static [u8],
@@ -32,14 +32,14 @@ fn batch(
 }
 
 // A reader to which a schema came.
-fn reader(alloc: Global, schema: &'static [u8]) -> Result<Reader, Fault> {
+pub(crate) fn reader(alloc: Global, schema: &'static [u8]) -> Result<Reader, Fault> {
     let mut reader = Reader::new();
     told(alloc, &mut reader, schema, &[])?;
     Ok(reader)
 }
 
 // The values of a batch's column are those that are wanted.
-fn assert_column(
+pub(crate) fn assert_column(
     rt: &impl Abort,
     alloc: Global,
     batch: &Batch,

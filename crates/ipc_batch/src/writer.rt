@@ -1,20 +1,26 @@
-//! Writing record batches.
+//! Writing record batches and dictionaries.
 
 ghost use Rattle.std.specs.Prelude.{◌≡◌, ◌≤◌, ◌<◌, ◌+◌, ◌-◌, ◌*◌, ◌%◌, ◌^◌, [], ◌∷◌, ◌++◌, All, length, map, take};
 ghost use Rattle.std.specs.Prelude.{IfOk, OnOk, OnErr, SomeIff};
 ghost use Rattle.std.specs.List.{flat_map};
 ghost use Rattle.flatbuf.specs.Block.{Number, Offset, little, padding, padded, table_part};
 ghost use Rattle.flatbuf.specs.Block.{structs_part};
+ghost use Rattle.arrow_schema.specs.declared.header.HeaderKind.TheVariants.{DictionaryBatch};
 ghost use Rattle.arrow_schema.specs.Limits.{most_columns};
+ghost use Rattle.arrow_schema.specs.Message.{message_bytes};
+ghost use Rattle.arrow_schema.specs.Written.{flag};
+ghost use Rattle.arrays.specs.Texts.{texts_values};
 ghost use Rattle.arrays.specs.Column.{IsColumn};
 ghost use Rattle.arrays.specs.Written.{buffer_of, buffers_written as column_written};
 ghost use Rattle.ipc_batch.specs.Written.{node_bytes, place_bytes, body_of, places_from};
+ghost use Rattle.ipc_batch.specs.Written.{parts_part, dictionary_part};
 ghost use Rattle.ipc_batch.specs.Written.{node_written, buffers_written, parts_written, body_length};
-ghost use Rattle.ipc_batch.specs.Written.{SaysParts, SaysBatch};
+ghost use Rattle.ipc_batch.specs.Written.{FitsBatch, values_batch};
+ghost use Rattle.ipc_batch.specs.Written.{SaysParts, SaysBatch, SaysDictionaryParts, SaysDictionary};
 ghost use Rattle.ipc_batch.specs.Seen.{written_seen};
 
 use crate::parts::STRUCT_BYTES;
-use arrays::{Batch, Cells, Column};
+use arrays::{Batch, Cells, Column, Layout, Texts};
 use arrow_schema::{HeaderKind, write_message};
 use flatbuf::{Block, Builder, Slot};
 use std::alloc::{AllocError, Global};
@@ -252,6 +258,32 @@ fn batch_block(alloc: Global, rows: u64, nodes: &[u8], places: &[u8]) -> Result<
     ])
 }
 
+// A RecordBatch table, and how many bytes the body has whose buffers it places.
+#[derive(Drop)]
+struct BatchTable {
+    block: Block,
+    body_length: u64,
+}
+
+// The RecordBatch table of a batch.
+fn batch_table(alloc: Global, batch: &Batch) -> Result<BatchTable, AllocError>
+    requires few { length batch.now.columns ≤ most_columns }
+    requires short { body_length batch.now < 2 ^ 31 }
+    ensures block { IfOk result (λ table. table.block ≡ parts_part (parts_written batch.now)) }
+    ensures body { IfOk result (λ table. table.body_length ≡ body_length batch.now) }
+    ensures fits { OnOk result (FitsBatch batch.now) }
+{
+    let columns = batch.columns();
+    let nodes = node_structs(alloc, columns)?;
+    let places = column_places(alloc, columns)?;
+    let rows = batch.rows() as u64;
+    let block = batch_block(alloc, rows, nodes.as_slice(), places.structs.as_slice())?;
+    Ok(BatchTable {
+        block,
+        body_length: places.end as u64,
+    })
+}
+
 /// The header of the message of a batch, whose body [`append_body`] writes, and which claims all of that
 /// body. The header and the body have a multiple of 8 bytes. It fails with [`AllocError`] where memory is
 /// refused, and with no other error.
@@ -268,12 +300,13 @@ pub fn write_batch_header(alloc: Global, batch: &Batch) -> Result<Vec<u8>, Alloc
       body = body_of (buffers_written batch.now.columns);
     }) batch.now) }
 {
-    let columns = batch.columns();
-    let nodes = node_structs(alloc, columns)?;
-    let places = column_places(alloc, columns)?;
-    let rows = batch.rows() as u64;
-    let block = batch_block(alloc, rows, nodes.as_slice(), places.structs.as_slice())?;
-    write_message(alloc, HeaderKind::RecordBatch, &block, places.end as u64)
+    let table = batch_table(alloc, batch)?;
+    write_message(
+        alloc,
+        HeaderKind::RecordBatch,
+        &table.block,
+        table.body_length,
+    )
 }
 
 /// The message of a record batch. Each buffer begins at a multiple of 8 in the body, with zeros between,
@@ -293,5 +326,88 @@ pub fn write_batch(alloc: Global, batch: &Batch) -> Result<WrittenMessage, Alloc
     let header = write_batch_header(alloc, batch)?;
     let mut body = Vec::new(alloc);
     append_body(&mut body, batch)?;
+    Ok(WrittenMessage { header, body })
+}
+
+// ---- dictionaries
+
+// The values of a dictionary, as the batch that is written of them. No value is copied.
+fn values_batch(alloc: Global, values: &Texts) -> Result<Batch, AllocError>
+    ensures { IfOk result (λ batch. batch ≡ values_batch values.now) }
+{
+    let mut columns = Vec::with_capacity(alloc, 1)?;
+    columns.push(Column::new(Layout::Texts(values.share()?)))?;
+    Ok(Batch::new(columns, values.len()))
+}
+
+// The DictionaryBatch table of an id, of the table of its values, and whether they stand behind the old ones.
+#[tactic(auto, using(flatbuf::proofs::Lengths::fits))]
+fn dictionary_block(
+    alloc: Global,
+    id: u64,
+    values: &Block,
+    is_delta: bool,
+) -> Result<Block, AllocError>
+    requires { length (values.now).bytes < 2 ^ 29 }
+    ensures { IfOk result (λ block. block
+        ≡ table_part (Number id ∷ Offset values.now ∷ Number (flag is_delta) ∷ [])) }
+{
+    Builder::new(alloc).table(&[
+        Slot::Number(id),
+        Slot::Offset(values),
+        Slot::Number(u64::from(is_delta)),
+    ])
+}
+
+// The header of the message of a dictionary whose values are this batch.
+fn dictionary_header(
+    alloc: Global,
+    id: u64,
+    values: &Batch,
+    is_delta: bool,
+) -> Result<Vec<u8>, AllocError>
+    requires few { length values.now.columns ≤ most_columns }
+    requires short { body_length values.now < 2 ^ 31 }
+    ensures whole { IfOk result (λ header. length header.items % 8 ≡ 0) }
+    ensures items { IfOk result (λ header. header.items ≡ message_bytes DictionaryBatch
+        (dictionary_part id (parts_written values.now) is_delta) (body_length values.now)) }
+    ensures fits { OnOk result (FitsBatch values.now) }
+{
+    let table = batch_table(alloc, values)?;
+    let block = dictionary_block(alloc, id, &table.block, is_delta)?;
+    write_message(
+        alloc,
+        HeaderKind::DictionaryBatch,
+        &block,
+        table.body_length,
+    )
+}
+
+/// The message of a dictionary's values, which are set or, where they are a delta, stand behind the old
+/// ones. The values may be null, and their buffers are written as those of a batch of one column: each
+/// begins at a multiple of 8 in the body, with zeros between, and the offsets begin at 0. The header claims
+/// all of the body, and both have a multiple of 8 bytes. It fails with [`AllocError`] where memory is
+/// refused, as for a body of 2 to the 31 bytes or more, and with no other error.
+pub fn write_dictionary(
+    alloc: Global,
+    id: u64,
+    values: &Texts,
+    is_delta: bool,
+) -> Result<WrittenMessage, AllocError>
+    ensures header { IfOk result (λ message. length message.header.items % 8 ≡ 0) }
+    ensures body { IfOk result (λ message. length message.body.items % 8 ≡ 0) }
+    ensures parts { IfOk result (λ message. SaysDictionaryParts (written_seen message) id
+        (parts_written (values_batch values.now)) is_delta) }
+    ensures values { IfOk result (λ message. SaysDictionary (written_seen message) id
+        (texts_values values.now) is_delta) }
+    ensures zeros { IfOk result (λ message. message.body.items
+        ≡ body_of (buffers_written (values_batch values.now).columns)) }
+    ensures short { OnOk result (body_length (values_batch values.now) < 2 ^ 31) }
+{
+    let batch = values_batch(alloc, values)?;
+    body_length(&batch).ok_or(AllocError)?;
+    let header = dictionary_header(alloc, id, &batch, is_delta)?;
+    let mut body = Vec::new(alloc);
+    append_body(&mut body, &batch)?;
     Ok(WrittenMessage { header, body })
 }
