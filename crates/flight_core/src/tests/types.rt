@@ -1,266 +1,159 @@
 //! Columns of every type, as other tools write them, put and fetched.
 
-use super::vectors::*;
-use super::{FIRST, fetch};
+use super::messages::PUTS;
+use super::words::{answer_told, fetch_of, payload, payloads, put_of, rows_in, rows_told};
+use super::{APPENDS, REPLACES};
 use crate::{Event, Reply, run};
-use arrays::{Batch, Cells};
-use arrow_schema::{DataType, IntegerType};
 use bytes::Bytes;
-use flight_proto::{FlightData, put_flight_data};
-use ipc_batch::Reader;
-use scan_base::{Fault, Value, ValueRef};
+use flight_proto::FlightData;
+use scan_base::Fault;
 use std::alloc::Global;
 use std::process::Abort;
 use std::test::Fail;
 
-// A message: its header and its body.
-pub(super) type Message = (&'static [u8], &'static [u8]);
-
-const NULL: ValueRef<'static> = ValueRef::Null;
-
-// A FlightData that carries a message, behind what stands in front of it.
-fn payload(alloc: Global, front: &[u8], message: Message) -> Result<Bytes, Fault> {
-    let (header, body) = message;
-    let mut bytes = Vec::new(alloc);
-    bytes.extend_from_slice(front)?;
-    put_flight_data(&mut bytes, None, header, body)?;
-    Ok(Bytes::from_vec(bytes)?)
-}
-
-// A put of messages into `t`, the first of them with the command.
-pub(super) fn put(
-    alloc: Global,
-    schema: &'static [u8],
-    messages: &[Message],
-) -> Result<Event, Fault> {
-    let (command, _) = FIRST.split_at(85);
-    let mut payloads = Vec::new(alloc);
-    payloads.push(payload(alloc, command, (schema, &[]))?)?;
-    for message in messages {
-        payloads.push(payload(alloc, &[], *message)?)?;
-    }
-    Ok(Event::Put(payloads))
-}
-
-// What a put is answered, and a fetch of its first `rows` rows.
-fn answers(
-    alloc: Global,
-    schema: &'static [u8],
-    messages: &[Message],
-    rows: u8,
-) -> Result<Vec<Reply>, Fault> {
+// The replies to a put into `t`, and to a fetch of so many rows.
+fn replies(alloc: Global, names: &str, rows: u8) -> Result<Vec<Reply>, Fail> {
     let mut events = Vec::new(alloc);
-    events.push(put(alloc, schema, messages)?)?;
-    events.push(fetch(alloc, &[(90, rows)])?)?;
-    run(alloc, &events)
+    events.push(put_of(alloc, &[], names)?)?;
+    events.push(fetch_of(alloc, 1, (0, rows.into()), "SELECT * FROM t")?)?;
+    Ok(run(alloc, &events)?)
 }
 
-// Adds the values of a batch's first column.
-fn push_values(alloc: Global, values: &mut Vec<Value>, batch: &Batch) -> Result<(), Fault> {
-    let Some(column) = batch.columns().first() else {
-        return Err(Fault::BadBatch);
-    };
-    for place in 0..column.len() {
-        values.push(column.value_at(place).to_value(alloc)?)?;
-    }
-    Ok(())
-}
-
-// The type of the first column that an answer says, and its values.
-pub(super) fn column(
-    alloc: Global,
-    reply: &Reply,
-) -> Result<(Option<DataType>, Vec<Value>), Fault> {
-    let mut reader = Reader::new();
-    let mut values = Vec::new(alloc);
-    for payload in &reply.payloads {
-        let data = FlightData::read(payload)?;
-        if let Some(batch) = reader.message(alloc, data.data_header, data.data_body)? {
-            push_values(alloc, &mut values, &batch)?;
-        }
-    }
-    let field = reader
-        .schema()
-        .and_then(|schema| schema.fields.as_slice().first());
-    Ok((field.map(|field| field.data_type), values))
-}
-
-// These messages are put, and a fetch answers this type and these values.
-fn assert_answered(
-    rt: &impl Abort,
-    alloc: Global,
-    schema: &'static [u8],
-    messages: &[Message],
-    data_type: DataType,
-    wanted: &[ValueRef<'_>],
-) -> Result<(), Fail> {
-    let replies = answers(alloc, schema, messages, wanted.len().min(255) as u8)?;
-    let reply = replies.last().ok_or(Fault::BadTicket)?;
-    assert_eq!(rt; reply.fault, None);
-    let (answered, values) = column(alloc, reply)?;
-    assert_eq!(rt; (answered, values.len()), (Some(data_type), wanted.len()));
-    for (place, (value, wanted)) in values.iter().zip(wanted).enumerate() {
-        assert_eq!(rt; value, &wanted.to_value(alloc)?, "row {place}");
-    }
-    Ok(())
-}
-
-#[test]
-fn texts(rt: HostRuntime) -> Result<(), Fail> {
-    let wanted = [ValueRef::Text("ab"), NULL, ValueRef::Text("")];
-    let batch: Message = (&BATCH_UTF8_HEADER, &BATCH_UTF8_BODY);
-    assert_answered(
-        &rt,
-        rt.alloc(),
-        &SCHEMA_UTF8_HEADER,
-        &[batch],
-        DataType::Utf8,
-        &wanted,
-    )
-}
-
-#[test]
-fn bools(rt: HostRuntime) -> Result<(), Fail> {
-    let wanted = [
-        ValueRef::Bool(true),
-        NULL,
-        ValueRef::Bool(false),
-        ValueRef::Bool(true),
-    ];
-    let batch: Message = (&BATCH_BOOL_HEADER, &BATCH_BOOL_BODY);
-    assert_answered(
-        &rt,
-        rt.alloc(),
-        &SCHEMA_BOOL_HEADER,
-        &[batch],
-        DataType::Bool,
-        &wanted,
-    )
-}
-
-#[test]
-fn decimals(rt: HostRuntime) -> Result<(), Fail> {
-    let batch: Message = (&BATCH_DECIMAL128_FULL_HEADER, &BATCH_DECIMAL128_FULL_BODY);
-    let schema = &SCHEMA_DECIMAL128_FULL_HEADER;
-    let wanted = [ValueRef::Int(-1)];
-    assert_answered(
-        &rt,
-        rt.alloc(),
-        schema,
-        &[batch],
-        DataType::Decimal128,
-        &wanted,
-    )
-}
-
-// Under the same bits, a count of no null and one of 7.
-#[test]
-fn null_counts(rt: HostRuntime) -> Result<(), Fail> {
-    let messages: [Message; 2] = [
-        (&VALIDITY_INT64_0_HEADER, &VALIDITY_INT64_0_BODY),
-        (&VALIDITY_INT64_7_HEADER, &VALIDITY_INT64_7_BODY),
-    ];
-    let wanted = [ValueRef::Int(1), ValueRef::Int(2), NULL, ValueRef::Int(2)];
-    let long = DataType::Integer(IntegerType::Int64);
-    assert_answered(
-        &rt,
-        rt.alloc(),
-        &SCHEMA_INT64_HEADER,
-        &messages,
-        long,
-        &wanted,
-    )
-}
-
-// A dictionary `a`, then `b` behind it, then `c` in its place. The answer is one of texts.
-#[test]
-fn dictionaries(rt: HostRuntime) -> Result<(), Fail> {
-    let messages: [Message; 6] = [
-        (&DICTIONARY_A_HEADER, &DICTIONARY_A_BODY),
-        (&INDICES_0_HEADER, &INDICES_0_BODY),
-        (&DICTIONARY_DELTA_B_HEADER, &DICTIONARY_DELTA_B_BODY),
-        (&INDICES_1_0_HEADER, &INDICES_1_0_BODY),
-        (&DICTIONARY_C_HEADER, &DICTIONARY_C_BODY),
-        (&INDICES_0_HEADER, &INDICES_0_BODY),
-    ];
-    let wanted = [
-        ValueRef::Text("a"),
-        ValueRef::Text("b"),
-        ValueRef::Text("a"),
-        ValueRef::Text("c"),
-    ];
-    assert_answered(
-        &rt,
-        rt.alloc(),
-        &SCHEMA_OF_INT8_HEADER,
-        &messages,
-        DataType::Utf8,
-        &wanted,
-    )
-}
-
-// A put of these messages is refused, and no version comes of it.
+// A put is refused by this fault, and no version comes of it.
 fn assert_refused(
     rt: &impl Abort,
     alloc: Global,
-    schema: &'static [u8],
-    messages: &[Message],
-    fault: Fault,
+    replies: &[Reply],
+    wanted: &str,
 ) -> Result<(), Fail> {
-    let replies = answers(alloc, schema, messages, 0)?;
-    let first = replies.first().and_then(|reply| reply.fault);
-    let last = replies.last().and_then(|reply| reply.fault);
-    assert_eq!(rt; (first, last), (Some(fault), Some(Fault::VersionUnknown)));
+    let [put, fetch] = replies else {
+        return Err("two replies are wanted".into());
+    };
+    let fault = put.fault.ok_or("the put is accepted")?;
+    let told = format!(in alloc; "{fault}")?;
+    assert_eq!(rt; told.as_str(), wanted);
+    assert_eq!(rt;
+        (put.payloads.is_empty(), fetch.fault),
+        (true, Some(Fault::VersionUnknown))
+    );
     Ok(())
 }
 
-#[test]
-fn two_columns_of_one_name(rt: HostRuntime) -> Result<(), Fail> {
-    let schema = &SCHEMA_EQUAL_NAMES_HEADER;
-    assert_refused(&rt, rt.alloc(), schema, &[], Fault::SchemaMismatch)
+// A put of so many rows is accepted, and a fetch answers these columns and rows.
+fn assert_answered(
+    rt: &impl Abort,
+    alloc: Global,
+    replies: &[Reply],
+    (rows, wanted): (u8, &str),
+) -> Result<(), Fail> {
+    let [put, fetch] = replies else {
+        return Err("two replies are wanted".into());
+    };
+    let count = [0x0a, 2, 8, rows];
+    let answer: &[u8] = if rows == 0 { &[] } else { &count };
+    assert_eq!(rt; (put.fault, fetch.fault), (None, None), "{wanted}");
+    for payload in &put.payloads {
+        assert_eq!(rt; payload.as_slice(), answer);
+    }
+    let told = answer_told(alloc, fetch)?;
+    assert_eq!(rt; told.as_str(), wanted);
+    Ok(())
 }
 
-// A null of a dictionary in a column that takes none.
+// Each is messages, and then the columns and the rows of the table, or the fault and no row.
 #[test]
-fn null_refused(rt: HostRuntime) -> Result<(), Fail> {
-    let messages: [Message; 2] = [
-        (&DICTIONARY_X_NULL_HEADER, &DICTIONARY_X_NULL_BODY),
-        (&INDICES_0_1_NULL_HEADER, &INDICES_0_1_NULL_BODY),
+fn puts(rt: HostRuntime) -> Result<(), Fail> {
+    let alloc = rt.alloc();
+    let mut count = 0u32;
+    for line in PUTS.split('\n') {
+        let Some((names, wanted)) = line.split_once('\t') else {
+            continue;
+        };
+        let (first, told) = wanted.split_once('\t').ok_or("no rows")?;
+        let rows = rows_in(told).min(127) as u8;
+        let replies = replies(alloc, names, rows)?;
+        if first.starts_with('F') {
+            assert_refused(&rt, alloc, &replies, first)?;
+        } else {
+            assert_answered(&rt, alloc, &replies, (rows, wanted))?;
+        }
+        count = count.wrapping_add(1);
+    }
+    assert_eq!(rt; count, 227);
+    Ok(())
+}
+
+// Ten rows with nulls at 2 and 9, whatever bits stand past them: a range is answered behind bits of its own.
+#[test]
+fn validity_of_a_range(rt: HostRuntime) -> Result<(), Fail> {
+    let alloc = rt.alloc();
+    let table: [((u32, u32), &str, [u8; 2]); 2] = [
+        ((0, 10), "1;2;null;4;5;6;7;8;9;null;", [0xfb, 0x01]),
+        ((2, 10), "null;4;5;6;7;8;9;null;", [0x7e, 0]),
     ];
-    let schema = &SCHEMA_OF_INT8_FULL_HEADER;
-    assert_refused(&rt, rt.alloc(), schema, &messages, Fault::BadBatch)
+    for names in ["schema_Int8 ten_FB01", "schema_Int8 validity_10_FBFD"] {
+        for (range, rows, bits) in table {
+            let mut events = Vec::new(alloc);
+            events.push(put_of(alloc, &[], names)?)?;
+            events.push(fetch_of(alloc, 1, range, "SELECT * FROM t")?)?;
+            let replies = run(alloc, &events)?;
+            let reply = replies.last().ok_or("no reply")?;
+            assert_eq!(rt; rows_told(alloc, reply)?.as_str(), rows);
+            let batch = FlightData::read(reply.payloads.last().ok_or("no payload")?)?;
+            assert_eq!(rt; batch.data_body.as_slice().get(..2), Some(bits.as_slice()));
+        }
+    }
+    Ok(())
 }
 
-// The same null in a column that takes nulls.
+// Two puts whose third batch has an offset past its text are refused as a whole: the table stays, and the put
+// behind them makes the next version.
 #[test]
-fn nulls_of_a_dictionary(rt: HostRuntime) -> Result<(), Fail> {
-    let messages: [Message; 2] = [
-        (&DICTIONARY_X_NULL_HEADER, &DICTIONARY_X_NULL_BODY),
-        (&INDICES_0_1_NULL_HEADER, &INDICES_0_1_NULL_BODY),
+fn third_batch_refused(rt: HostRuntime) -> Result<(), Fail> {
+    let alloc = rt.alloc();
+    let three = "schema_Utf8 batch_Utf8 batch_Utf8_null_bytes bad_offsets_outside";
+    let two = "schema_Utf8 batch_Utf8 batch_Utf8_null_bytes";
+    let mut events = Vec::new(alloc);
+    events.push(put_of(alloc, &[], "schema_Utf8 batch_Utf8")?)?;
+    events.push(put_of(alloc, &APPENDS, three)?)?;
+    events.push(put_of(alloc, &REPLACES, three)?)?;
+    events.push(fetch_of(alloc, 1, (0, 4), "SELECT * FROM t")?)?;
+    events.push(fetch_of(alloc, 2, (0, 0), "SELECT * FROM t")?)?;
+    events.push(put_of(alloc, &APPENDS, two)?)?;
+    events.push(fetch_of(alloc, 1, (0, 3), "SELECT * FROM t")?)?;
+    events.push(fetch_of(alloc, 2, (0, 9), "SELECT * FROM t")?)?;
+    events.push(fetch_of(alloc, 3, (0, 0), "SELECT * FROM t")?)?;
+    let wanted = [
+        "",
+        "F8 BadBatch",
+        "F8 BadBatch",
+        "F17 BadTicket",
+        "F18 VersionUnknown",
+        "",
+        "\"ab\";null;\"\";",
+        "\"ab\";null;\"\";\"ab\";null;\"\";\"a\";null;\"b\";",
+        "F18 VersionUnknown",
     ];
-    let wanted = [ValueRef::Text("x"), NULL, NULL];
-    assert_answered(
-        &rt,
-        rt.alloc(),
-        &SCHEMA_OF_INT8_HEADER,
-        &messages,
-        DataType::Utf8,
-        &wanted,
-    )
+    let replies = run(alloc, &events)?;
+    assert_eq!(rt; replies.len(), wanted.len());
+    for (reply, wanted) in replies.iter().zip(wanted) {
+        assert_eq!(rt; rows_told(alloc, reply)?.as_str(), wanted);
+    }
+    Ok(())
 }
 
-// A body of 200 texts of 65,536 bytes: 201 offsets, 4 zeros and the bytes.
-fn long_texts(alloc: Global) -> Result<Bytes, Fault> {
-    let mut body = Vec::new(alloc);
+// The FlightData of 200 texts of 65,536 bytes: its header, and a body of 13,108,008 bytes, which are 201 offsets,
+// 4 zeros and the texts.
+fn long_texts(alloc: Global) -> Result<Bytes, Fail> {
+    let mut bytes = payload(alloc, &[], "long_texts")?;
+    bytes.extend_from_slice(&[0xc2, 0x3e, 0xa8, 0x86, 0xa0, 0x06])?;
     for place in 0..201_u32 {
-        body.extend_from_slice(&place.wrapping_mul(65_536).to_le_bytes())?;
+        bytes.extend_from_slice(&place.wrapping_mul(65_536).to_le_bytes())?;
     }
-    body.extend_from_slice(&[0; 4])?;
+    bytes.extend_from_slice(&[0; 4])?;
     for _ in 0..12_800 {
-        body.extend_from_slice(&[b'x'; 1_024])?;
+        bytes.extend_from_slice(&[b'x'; 1_024])?;
     }
-    let mut bytes = Vec::new(alloc);
-    put_flight_data(&mut bytes, None, &LONG_TEXTS_HEADER, &body)?;
     Ok(Bytes::from_vec(bytes)?)
 }
 
@@ -268,13 +161,11 @@ fn long_texts(alloc: Global) -> Result<Bytes, Fault> {
 #[test]
 fn long_texts_are_cut(rt: HostRuntime) -> Result<(), Fail> {
     let alloc = rt.alloc();
-    let (command, _) = FIRST.split_at(85);
-    let mut payloads = Vec::new(alloc);
-    payloads.push(payload(alloc, command, (&SCHEMA_UTF8_HEADER, &[]))?)?;
+    let mut payloads = payloads(alloc, &[], "schema_Utf8")?;
     payloads.push(long_texts(alloc)?)?;
     let mut events = Vec::new(alloc);
     events.push(Event::Put(payloads))?;
-    events.push(fetch(alloc, &[(90, 200)])?)?;
+    events.push(fetch_of(alloc, 1, (0, 200), "SELECT * FROM t")?)?;
     let replies = run(alloc, &events)?;
     let reply = replies.last().ok_or(Fault::BadTicket)?;
     assert_eq!(rt; (reply.fault, reply.payloads.len()), (None, 3));
