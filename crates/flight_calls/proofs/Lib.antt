@@ -1,3 +1,4 @@
+pub mod Asking
 pub mod Taking
 pub mod Writing
 pub mod Serving

@@ -14,11 +14,12 @@ use Rattle.grpc_frame.specs.Ends.{AppendsBeginning}
 use Rattle.grpc_frame.proofs.Growing.{beginning_of_content}
 use Rattle.flight_core.specs.declared.event.Reply.{Reply}
 use Rattle.flight_core.specs.Machine.{Log}
-use Rattle.flight_calls.specs.declared.call.Call.{Call}
 use Rattle.flight_calls.specs.declared.call.Arrival.TheVariants as arrival
-use Rattle.flight_calls.specs.Calls.{call_records, answer_records, asked_by, ReplyTo, Answers}
+use Rattle.flight_calls.specs.declared.request.Request.{Request}
+use Rattle.flight_calls.specs.Calls.{Call, call_records, answer_records, asked_by, ReplyTo, Answers}
 use Rattle.flight_calls.specs.Owed.{calls_bytes, answers_bytes, FitsMessages, Served, behind_calls, IsCause, last_status, Connection, Finished, CutShort, Refused, Failed, Serves}
 use Rattle.flight_calls.specs.Ending.{RefusesBy}
+use Rattle.flight_calls.specs.Requests.{Holds}
 use Rattle.flight_calls.specs.Reading.{Stops, CallArrives}
 
 pub record Progress (old now : Connection) (left : Received) : Type 0 where
@@ -93,28 +94,28 @@ module _ (old mid : Connection) (left : Received) (p : Progress old mid left) wh
       received bytes place = record { bytes = bytes; place = place }
 
   -- a call came, and was answered
-  pub call_served : (new : Connection) (left' : Received) (call : Call) (reply : Reply) → (more : List ℕ) × Consumes mid.input new.input more × CallArrives (Ok (arrival.Whole call)) left left' more
-      → ReplyTo (asked_by call) mid.log reply new.log → FitsMessages reply → Appends mid.output new.output (flat_map spelling (answer_records reply)) → Progress old new left'
-  call_served new left' call reply q replied sent wrote = record {
+  pub call_served : (new : Connection) (left' : Received) (request : Request) (reply : Reply) → (more : List ℕ) × Consumes mid.input new.input more × CallArrives (Ok (arrival.Whole request)) left left' more
+      → ((call : Call) → Holds request call → ReplyTo (asked_by call) mid.log reply new.log) → FitsMessages reply → Appends mid.output new.output (flat_map spelling (answer_records reply)) → Progress old new left'
+  call_served new left' request reply q replied sent wrote = record {
     came = p.came ++ q.0;
     consumed = Consumes-trans old.input mid.input new.input p.came q.0 p.consumed q.1;
     replies = p.replies ++ reply ∷ [];
-    served = served_more old.log mid.log new.log (p.came ++ q.0) (left.bytes ++ q.0) left'.bytes p.replies call reply (served_then old.log mid.log p.came left.bytes q.0 p.replies p.served) q.2.whole q.2.fits replied sent;
+    served = served_more old.log mid.log new.log (p.came ++ q.0) (left.bytes ++ q.0) left'.bytes p.replies q.2.0 reply (served_then old.log mid.log p.came left.bytes q.0 p.replies p.served) q.2.2.whole q.2.2.fits (replied q.2.0 q.2.1) sent;
     wrote = rw (answers_last p.replies reply) (Appends-trans old.output mid.output new.output (answers_bytes p.replies) (flat_map spelling (answer_records reply)) p.wrote wrote);
-    between = q.2.behind;
+    between = q.2.2.behind;
   }
 
   -- its answer was begun
-  pub answer_failed : (new : Connection) (left' : Received) (call : Call) (reply : Reply) → (more : List ℕ) × Consumes mid.input new.input more × CallArrives (Ok (arrival.Whole call)) left left' more
-      → ReplyTo (asked_by call) mid.log reply new.log → FitsMessages reply → AppendsBeginning mid.output new.output (flat_map spelling (answer_records reply)) → new.failures ≡ old.failures + 1 → Failed old new
-  answer_failed new left' call reply q replied sent wrote counted = record {
+  pub answer_failed : (new : Connection) (left' : Received) (request : Request) (reply : Reply) → (more : List ℕ) × Consumes mid.input new.input more × CallArrives (Ok (arrival.Whole request)) left left' more
+      → ((call : Call) → Holds request call → ReplyTo (asked_by call) mid.log reply new.log) → FitsMessages reply → AppendsBeginning mid.output new.output (flat_map spelling (answer_records reply)) → new.failures ≡ old.failures + 1 → Failed old new
+  answer_failed new left' request reply q replied sent wrote counted = record {
     came = p.came ++ q.0;
     consumed = Consumes-trans old.input mid.input new.input p.came q.0 p.consumed q.1;
     rest = left'.bytes;
     last = [];
     is_last = inl refl;
     replies = p.replies ++ reply ∷ [];
-    served = served_more old.log mid.log new.log (p.came ++ q.0) (left.bytes ++ q.0) left'.bytes p.replies call reply (served_then old.log mid.log p.came left.bytes q.0 p.replies p.served) q.2.whole q.2.fits replied sent;
+    served = served_more old.log mid.log new.log (p.came ++ q.0) (left.bytes ++ q.0) left'.bytes p.replies q.2.0 reply (served_then old.log mid.log p.came left.bytes q.0 p.replies p.served) q.2.2.whole q.2.2.fits (replied q.2.0 q.2.1) sent;
     wrote = rw (append-nil (answers_bytes (p.replies ++ reply ∷ [])), answers_last p.replies reply) (beginning_of_content old.output mid.output new.output (answers_bytes p.replies) (flat_map spelling (answer_records reply)) p.wrote wrote);
     counted = counted;
   }

@@ -18,8 +18,10 @@ use Rattle.grpc_frame.specs.Arrivals.{Arrives}
 use Rattle.grpc_frame.proofs.Splitting.{place_after_all-append}
 use Rattle.flight_core.specs.Payloads.{Payload}
 use Rattle.flight_calls.specs.Owed.{EndsIn}
-use Rattle.flight_calls.specs.Reading.{Fronts, EndsInside, Stops, MessagesArrive, CallArrives}
+use Rattle.flight_calls.specs.Requests.{Holds}
+use Rattle.flight_calls.specs.Reading.{Fronts, EndsInside, Stops, RequestArrives, CallArrives}
 use Rattle.flight_calls.specs.declared.call.Arrival.TheVariants as arrival
+use Rattle.flight_calls.specs.declared.request.Request.{Request}
 
 -- these records stand in front, none ends a call, and what is left follows them
 pub record Passed (from : Received) (records : List Record) (left : Received) : Type 0 where
@@ -146,8 +148,9 @@ module _ (a b c : Option (List ℕ)) (old mid new : Received) (messages : List P
       stays : (next : Place) → place_after InsideCall (Message message) ≡ Some next → next ≡ InsideCall
       stays next e = cc
 
-  pub collected_end : (found : Record) → ((message : Payload) → found ≢ Message message) → Since b c mid new (Ok (Some found)) → (came : List ℕ) × Consumes a c came × MessagesArrive (Ok (Some messages)) old new came
-  collected_end found other q = (all_came q.came, all_consumed q.came q.consumed, by found other q.arrives)
+  pub collected_end : (path : List ℕ) (request : Request) → Holds request (record { path = path; messages = messages }) → (found : Record) → ((message : Payload) → found ≢ Message message)
+      → Since b c mid new (Ok (Some found)) → (came : List ℕ) × Consumes a c came × RequestArrives (Ok (Some request)) path old new came
+  collected_end path request holds found other q = (all_came q.came, all_consumed q.came q.consumed, (messages, holds, by found other q.arrives))
     where
       by : (found : Record) → ((message : Payload) → found ≢ Message message) → Leads found (with_more mid q.came) new → Fronts (map Message messages ++ End ∷ []) (with_more old (all_came q.came)) new
       by (Open path) other leads = let moves = rw p.inside at leads.moves in absurd cc
@@ -155,24 +158,20 @@ module _ (a b c : Option (List ℕ)) (old mid new : Received) (messages : List P
       by End other leads = passed_end (with_more old (all_came q.came)) (with_more mid q.came) new (map Message messages) (stand q.came) leads
       by (Status code text) other leads = let moves = rw p.inside at leads.moves in absurd cc
 
-  pub collected_cut : Since b c mid new (Ok None) → (came : List ℕ) × Consumes a c came × MessagesArrive (Ok None) old new came
-  collected_cut q = (
+  pub collected_cut : (path : List ℕ) → Since b c mid new (Ok None) → (came : List ℕ) × Consumes a c came × RequestArrives (Ok None) path old new came
+  collected_cut path q = (
     all_came q.came,
     all_consumed q.came q.consumed,
     passed_cut (with_more old (all_came q.came)) (with_more mid q.came) (map Message messages) (stand q.came) (rw q.arrives.0 at q.arrives.1),
   )
 
-  pub collected_stop : (fault : Fault) → Since b c mid new (Err fault) → (came : List ℕ) × Consumes a c came × MessagesArrive (Err fault) old new came
-  collected_stop fault q = (all_came q.came, all_consumed q.came q.consumed, by q.arrives)
+  pub collected_stop : (path : List ℕ) (fault : Fault) → Since b c mid new (Err fault) → (came : List ℕ) × Consumes a c came × RequestArrives (Err fault) path old new came
+  collected_stop path fault q = (all_came q.came, all_consumed q.came q.consumed, by q.arrives)
     where
       by : (fault ≡ Transport) ⊎ ((fault ≡ OutOfMemory) ⊎ Breaks (with_more mid q.came) fault) → Stops fault (with_more old (all_came q.came))
       by (inl e) = inl e
       by (inr (inl e)) = inr (inl e)
       by (inr (inr breaks)) = inr (inr (passed_ends (with_more old (all_came q.came)) (with_more mid q.came) (map Message messages) (broken fault) (stand q.came) breaks))
-
-  -- a message came, and memory for it was refused
-  pub collected_lost : (message : Payload) → Since b c mid new (Ok (Some (Message message))) → (fault : Fault) → fault ≡ OutOfMemory → (came : List ℕ) × Consumes a c came × MessagesArrive (Err fault) old new came
-  collected_lost message q fault e = (all_came q.came, all_consumed q.came q.consumed, inr (inl e))
 
 -- ---- a call
 
@@ -237,21 +236,25 @@ module _ (a b c : Option (List ℕ)) (old mid new : Received) (path : List ℕ) 
   both_consumed : (more : List ℕ) → Consumes b c more → Consumes a c (together more)
   both_consumed more q = Consumes-trans a b c p.came more p.consumed q
 
-  pub call_whole : (messages : List Payload) → (more : List ℕ) × Consumes b c more × MessagesArrive (Ok (Some messages)) mid new more
-      → (came : List ℕ) × Consumes a c came × Fronts (Open path ∷ (map Message messages ++ End ∷ [])) (with_more old came) new
-  call_whole messages q = (
+  pub call_whole : (request : Request) → (more : List ℕ) × Consumes b c more × RequestArrives (Ok (Some request)) path mid new more
+      → (came : List ℕ) × Consumes a c came × CallArrives (Ok (arrival.Whole request)) old new came
+  call_whole request q = (
     together q.0,
     both_consumed q.0 q.1,
-    record {
-      whole = (opened q.0).whole ∙ ap (λ (t : List ℕ). flat_map spelling (Open path ∷ []) ++ t) q.2.whole
-          ∙ sym (append_assoc (flat_map spelling (Open path ∷ [])) (flat_map spelling (map Message messages ++ End ∷ [])) new.bytes)
-          ∙ ap (λ (t : List ℕ). t ++ new.bytes) (sym (flat_map-append spelling (Open path ∷ []) (map Message messages ++ End ∷ [])));
-      fits = All-append IsRecord (Open path ∷ []) (map Message messages ++ End ∷ []) (opened q.0).fits q.2.fits;
-      behind = q.2.behind;
-    },
+    (
+      record { path = path; messages = q.2.0 },
+      q.2.1,
+      record {
+        whole = (opened q.0).whole ∙ ap (λ (t : List ℕ). flat_map spelling (Open path ∷ []) ++ t) q.2.2.whole
+            ∙ sym (append_assoc (flat_map spelling (Open path ∷ [])) (flat_map spelling (map Message q.2.0 ++ End ∷ [])) new.bytes)
+            ∙ ap (λ (t : List ℕ). t ++ new.bytes) (sym (flat_map-append spelling (Open path ∷ []) (map Message q.2.0 ++ End ∷ [])));
+        fits = All-append IsRecord (Open path ∷ []) (map Message q.2.0 ++ End ∷ []) (opened q.0).fits q.2.2.fits;
+        behind = q.2.2.behind;
+      },
+    ),
   )
 
-  pub call_cut : (more : List ℕ) × Consumes b c more × MessagesArrive (Ok None) mid new more → (came : List ℕ) × Consumes a c came × CallArrives (Ok arrival.CutShort) old new came
+  pub call_cut : (more : List ℕ) × Consumes b c more × RequestArrives (Ok None) path mid new more → (came : List ℕ) × Consumes a c came × CallArrives (Ok arrival.CutShort) old new came
   call_cut q = (together q.0, both_consumed q.0 q.1, ((λ none. some (sym none ∙ (opened q.0).whole)), by q.2))
     where
       some : ¬ ([] ≡ flat_map spelling (Open path ∷ []) ++ (with_more mid q.0).bytes)
@@ -261,7 +264,7 @@ module _ (a b c : Option (List ℕ)) (old mid new : Received) (path : List ℕ) 
       by (inl ends) = inl (ends_after (with_more old (together q.0)) (with_more mid q.0) (Open path ∷ []) cut (opened q.0) ends)
       by (inr ends) = inr (ends_after (with_more old (together q.0)) (with_more mid q.0) (Open path ∷ []) nothing_more (opened q.0) ends)
 
-  pub call_stops : (fault : Fault) → (more : List ℕ) × Consumes b c more × MessagesArrive (Err fault) mid new more → (came : List ℕ) × Consumes a c came × CallArrives (Err fault) old new came
+  pub call_stops : (fault : Fault) → (more : List ℕ) × Consumes b c more × RequestArrives (Err fault) path mid new more → (came : List ℕ) × Consumes a c came × CallArrives (Err fault) old new came
   call_stops fault q = (together q.0, both_consumed q.0 q.1, by q.2)
     where
       by : Stops fault (with_more mid q.0) → Stops fault (with_more old (together q.0))

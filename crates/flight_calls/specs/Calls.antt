@@ -7,14 +7,17 @@ use Rattle.scan_base.specs.Reading.{◌>>=◌, wanted}
 use Rattle.grpc_frame.specs.declared.record.Record.{Record}
 use Rattle.grpc_frame.specs.declared.record.Record.TheVariants.{Open, Message, End}
 use Rattle.grpc_frame.specs.Calls.{status_of}
-use Rattle.flight_core.specs.declared.event.Event.{Event}
-use Rattle.flight_core.specs.declared.event.Event.TheVariants as event
 use Rattle.flight_core.specs.declared.event.Reply.{Reply}
 use Rattle.flight_core.specs.Payloads.{Payload}
-use Rattle.flight_core.specs.Machine.{Log, Step}
-use Rattle.flight_calls.specs.declared.call.Call.{Call}
-use Rattle.flight_calls.specs.declared.call.Method.{Method}
-use Rattle.flight_calls.specs.declared.call.Method.TheVariants as method
+use Rattle.flight_core.specs.Fetches.{FetchIn}
+use Rattle.flight_core.specs.Machine.{Log, PutStep}
+use Rattle.flight_calls.specs.declared.request.Method.{Method}
+use Rattle.flight_calls.specs.declared.request.Method.TheVariants as method
+
+-- a call: the path of its method, and its messages
+pub record Call : Type 0 where
+  pub path : List ℕ
+  pub messages : List Payload
 
 -- the records of a call, and of an answer
 
@@ -55,15 +58,10 @@ asked_by call = do
 
 -- ---- what answers it
 
--- the event holds what is asked
-abbrev pub Holds : Asked → Event → Type 0
-Holds (put messages) (event.Put payloads) = payloads.items ≡ messages
-Holds (fetch message) (event.Fetch ticket) = ticket ≡ message
-Holds _ _ = ⊥
-
--- a step of the core on that event; or the fault, and the log stays
+-- a step of the core on what is asked; or the fault, and the log stays
 abbrev pub ReplyTo : Result Asked Fault → Log → Reply → Log → Type 0
-ReplyTo (Ok asked) log reply new = (event : Event) × Holds asked event × Step log event reply new
+ReplyTo (Ok (put messages)) log reply new = PutStep log messages reply.payloads.items reply.fault new
+ReplyTo (Ok (fetch ticket)) log reply new = (new ≡ log) × FetchIn log ticket reply.payloads.items reply.fault
 ReplyTo (Err fault) log reply new = (new ≡ log) × (reply.payloads.items ≡ []) × (reply.fault ≡ Some fault)
 
 -- one reply a call, in order, each from the log that the one before left

@@ -1,5 +1,5 @@
 pub mod Calls
 pub mod Owed
 pub mod Ending
+pub mod Requests
 pub mod Reading
-pub mod Asking

@@ -13,8 +13,7 @@ use Rattle.grpc_frame.specs.Ends.{AppendsBeginning}
 use Rattle.flight_core.specs.declared.event.Reply.{Reply}
 use Rattle.flight_core.specs.Payloads.{FitMessages}
 use Rattle.flight_core.specs.Machine.{Log}
-use Rattle.flight_calls.specs.declared.call.Call.{Call}
-use Rattle.flight_calls.specs.Calls.{call_records, answer_records, Answers}
+use Rattle.flight_calls.specs.Calls.{Call, call_records, answer_records, Answers}
 
 -- the bytes of calls, and of answers
 

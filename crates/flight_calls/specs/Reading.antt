@@ -10,8 +10,10 @@ use Rattle.grpc_frame.specs.Records.{spelling, IsRecord, Received, with_more, no
 use Rattle.flight_core.specs.Payloads.{Payload}
 use Rattle.flight_calls.specs.declared.call.Arrival.{Arrival}
 use Rattle.flight_calls.specs.declared.call.Arrival.TheVariants as arrival
-use Rattle.flight_calls.specs.Calls.{call_records}
+use Rattle.flight_calls.specs.declared.request.Request.{Request}
+use Rattle.flight_calls.specs.Calls.{Call, call_records}
 use Rattle.flight_calls.specs.Owed.{EndsIn}
+use Rattle.flight_calls.specs.Requests.{Holds}
 
 -- the records stand in front, and the rest, which begins behind a call, follows them
 pub record Fronts (records : List Record) (old new : Received) : Type 0 where
@@ -27,21 +29,24 @@ EndsInside left = EndsIn left cut ⊎ EndsIn left nothing_more
 abbrev pub Stops : Fault → Received → Type 0
 Stops fault left = (fault ≡ Transport) ⊎ ((fault ≡ OutOfMemory) ⊎ EndsIn left (broken fault))
 
--- The messages of a call, up to its End, of which these bytes came behind what was there. Nothing where the
--- input ends before.
-abbrev pub MessagesArrive : Result (Option (List Payload)) Fault → Received → Received → List ℕ → Type 0
-MessagesArrive (Ok (Some messages)) old new came = Fronts (map Message messages ++ End ∷ []) (with_more old came) new
-MessagesArrive (Ok None) old new came = EndsInside (with_more old came)
-MessagesArrive (Err fault) old new came = Stops fault (with_more old came)
+-- The messages of a call to a path, up to its End, of which these bytes came behind what was there: a request holds
+-- what they ask. Nothing where the input ends before.
+abbrev pub RequestArrives : Result (Option Request) Fault → List ℕ → Received → Received → List ℕ → Type 0
+RequestArrives (Ok (Some request)) path old new came = (messages : List Payload)
+    × Holds request (record { path = path; messages = messages })
+    × Fronts (map Message messages ++ End ∷ []) (with_more old came) new
+RequestArrives (Ok None) path old new came = EndsInside (with_more old came)
+RequestArrives (Err fault) path old new came = Stops fault (with_more old came)
 
 -- A call, of which these bytes came behind what was there; or the input ended, behind a call or inside one.
 abbrev pub CallArrives : Result Arrival Fault → Received → Received → List ℕ → Type 0
-CallArrives (Ok (arrival.Whole call)) old new came = Fronts (call_records call) (with_more old came) new
+CallArrives (Ok (arrival.Whole request)) old new came =
+    (call : Call) × Holds request call × Fronts (call_records call) (with_more old came) new
 CallArrives (Ok arrival.Nothing) old new came = with_more old came ≡ record { bytes = []; place = BetweenCalls }
 CallArrives (Ok arrival.CutShort) old new came = ((with_more old came).bytes ≢ []) × EndsInside (with_more old came)
 CallArrives (Err fault) old new came = Stops fault (with_more old came)
 
 -- this holds of a call that came
 abbrev pub FallsForCall : Arrival → Type 0 → Type 0
-FallsForCall (arrival.Whole call) holds = holds
+FallsForCall (arrival.Whole request) holds = holds
 FallsForCall _ holds = Unit {0}

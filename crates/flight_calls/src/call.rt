@@ -1,4 +1,4 @@
-//! Calls, and reading them.
+//! Reading the calls of a connection.
 
 ghost use Rattle.std.specs.Prelude.{◌≡◌, ◌≢◌, ◌<◌, ℕ, List, Ok, None, IfOk, OnSome, MatchOption};
 ghost use Rattle.std.specs.Io.KnownBytes.{Consumes, IsAtEnd};
@@ -6,32 +6,19 @@ ghost use Rattle.grpc_frame.specs.declared.place.Place.TheVariants.{BetweenCalls
 ghost use Rattle.grpc_frame.specs.declared.record.Record.TheVariants.{Open, Message};
 ghost use Rattle.grpc_frame.specs.Arrivals.{CountsTransport, work_left};
 ghost use Rattle.flight_calls.specs.declared.call.Arrival.TheVariants as arrival;
-ghost use Rattle.flight_calls.specs.Reading.{MessagesArrive, CallArrives, FallsForCall};
+ghost use Rattle.flight_calls.specs.Reading.{RequestArrives, CallArrives, FallsForCall};
 
+use crate::request::Request;
 use bytes::Bytes;
 use grpc_frame::{Inbox, Input, Record};
-use scan_base::{Fault, Items};
+use scan_base::Fault;
 use std::alloc::Global;
 
-/// The methods that are built.
-#[derive(Clone, Copy, Debug, PartialEq, Eq)]
-pub enum Method {
-    DoPut,
-    DoGet,
-}
-
-/// A whole call: the path of its method and its messages.
-#[derive(Debug, Drop)]
-pub struct Call {
-    pub path: Bytes,
-    pub messages: Items<Bytes>,
-}
-
 /// What comes of an input behind whole calls.
-#[derive(Debug, Drop)]
+#[derive(Drop)]
 pub enum Arrival {
-    /// One more call.
-    Whole(Call),
+    /// One more call, and what it asks.
+    Whole(Request),
     /// The input ended.
     Nothing,
     /// The input ended inside a call.
@@ -69,37 +56,38 @@ pub fn read_call<R: Input>(
     let Some(path) = path_of(found) else {
         return Err(Fault::BadFrame);
     };
-    match read_messages(alloc, inbox, input)? {
-        Some(messages) => Ok(Arrival::Whole(Call { path, messages })),
+    match read_request(alloc, path.as_slice(), inbox, input)? {
+        Some(request) => Ok(Arrival::Whole(request)),
         None => Ok(Arrival::CutShort),
     }
 }
 
-// Reads the messages of a call that is open, up to its End. Nothing where the input ends before.
-fn read_messages<R: Input>(
+// Reads the messages of a call to this path, up to its End. Nothing where the input ends before.
+fn read_request<R: Input>(
     alloc: Global,
+    path: &[u8],
     inbox: &mut Inbox,
     input: &mut R,
-) -> Result<Option<Items<Bytes>>, Fault>
+) -> Result<Option<Request>, Fault>
     requires failures { R.failures input.old < 18446744073709551615 }
     requires inside { inbox.old.place ≡ InsideCall }
     ensures arrives { (came : List ℕ)
         × Consumes (R.remaining input.old) (R.remaining input.new) came
-        × MessagesArrive result inbox.old inbox.new came }
+        × RequestArrives result path.now inbox.old inbox.new came }
     ensures ended { result ≡ Ok None → IsAtEnd (R.remaining input.new) }
     ensures counted { CountsTransport result (R.failures input.old) (R.failures input.new) }
     ensures fewer { IfOk result (λ found. OnSome found
         (work_left (R.turns input.new) inbox.new < work_left (R.turns input.old) inbox.old)) }
 {
-    let mut messages = Items::new(alloc);
+    let mut request = Request::at(path);
     loop {
         let Some(found) = inbox.next_from(input)? else {
             return Ok(None);
         };
         let Some(message) = message_of(found) else {
-            return Ok(Some(messages));
+            return Ok(Some(request));
         };
-        messages.push(message)?;
+        request.push(alloc, message);
     }
 }
 

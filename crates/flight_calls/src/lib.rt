@@ -6,6 +6,7 @@
 
 mod answer;
 mod call;
+mod request;
 mod server;
 
 pub use crate::server::{serve, serve_alone};

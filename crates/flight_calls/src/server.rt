@@ -5,7 +5,7 @@ ghost use Rattle.flight_core.specs.Machine.{Log};
 ghost use Rattle.flight_calls.specs.Owed.{Serves};
 ghost use Rattle.flight_calls.specs.Ending.{RefusesBy};
 
-use crate::answer::{answer, write_answer};
+use crate::answer::write_answer;
 use crate::call::{Arrival, read_call};
 use flight_core::Plain;
 use grpc_frame::{Inbox, Input, Output, write_status};
@@ -49,13 +49,13 @@ pub fn serve<R: Input, W: Output>(
 {
     let mut inbox = Inbox::of_server(alloc);
     loop {
-        let call = match read_call(alloc, &mut inbox, reader) {
-            Ok(Arrival::Whole(call)) => call,
+        let request = match read_call(alloc, &mut inbox, reader) {
+            Ok(Arrival::Whole(request)) => request,
             Ok(Arrival::Nothing) => return Ok(()),
             Ok(Arrival::CutShort) => return Err(Fault::Transport),
             Err(fault) => return refuse(writer, fault),
         };
-        let reply = answer(alloc, plain, call);
+        let reply = request.answer(alloc, plain);
         let Ok(()) = write_answer(writer, &reply) else {
             return Err(Fault::Transport);
         };

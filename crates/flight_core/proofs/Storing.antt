@@ -1,7 +1,7 @@
 -- What is read of payloads may be stored.
-use Rattle.std.proofs.Common.{◌≡◌, List, [], ◌++◌, All, IfOk, Option, Some, None, Result, Ok, Err, refl, append-nil}
+use Rattle.std.proofs.Common.{◌≡◌, ℕ, List, [], ◌∷◌, ◌++◌, All, IfOk, Option, Some, None, Result, Ok, Err, refl, append-nil}
 use Rattle.std.specs.Option.{option_map}
-use Rattle.std.proofs.lemmas.List.Elements.{All-nil, All-push, All-weaker}
+use Rattle.std.proofs.lemmas.List.Elements.{All-cons, All-head, All-nil, All-push, All-tail, All-weaker}
 use Rattle.scan_base.specs.declared.fault.Fault.{Fault}
 use Rattle.arrow_schema.specs.declared.schema.Schema.{Schema}
 use Rattle.arrays.specs.Batch.{BatchAt}
@@ -49,3 +49,11 @@ stored_typed (Some known) schema batches e stored =
 pub none_stored : (state : State) → MayBeStored state []
 unfolding MayBeStored
 none_stored state = All-nil (λ (batch : BatchAt). HasColumns (Some batch) state)
+
+-- and so were the first of batches
+pub front_stored : (state : State) (batches more : List BatchAt) → MayBeStored state (batches ++ more) → MayBeStored state batches
+unfolding MayBeStored
+front_stored state [] more all = All-nil (λ (batch : BatchAt). HasColumns (Some batch) state)
+front_stored state (first ∷ batches) more all =
+    let fits = λ (batch : BatchAt). HasColumns (Some batch) state in
+    All-cons fits first batches (All-head fits first (batches ++ more) all) (front_stored state batches more (All-tail fits first (batches ++ more) all))

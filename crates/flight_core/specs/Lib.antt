@@ -1,5 +1,6 @@
 pub mod Payloads
 pub mod Puts
+pub mod Arriving
 pub mod Narrow
 pub mod Fetches
 pub mod Planned

@@ -14,9 +14,9 @@ mod stream;
 
 pub use crate::event::{Event, Reply};
 pub use crate::fetch::{answer_fetch, read_ticket};
-pub use crate::machine::{run, step};
+pub use crate::machine::{run, step, step_put};
 pub use crate::plain::Plain;
-pub use crate::put::read_put;
+pub use crate::put::{PutReader, read_put};
 
 #[cfg(test)]
 mod tests;

@@ -1,13 +1,16 @@
 //! Steps and runs.
 
-ghost use Rattle.std.specs.Prelude.{◌≡◌, ◌≢◌, [], ◌∷◌, pos, min, length, IfOk, IfErr};
+ghost use Rattle.std.specs.Prelude.{◌≡◌, ◌≢◌, [], ◌∷◌, pos, min, length, List, IfOk, IfErr};
 ghost use Rattle.table_versions.specs.Limits.{most_rows};
 ghost use Rattle.table_versions.specs.Valid.{HasDatabases};
 ghost use Rattle.scan_base.specs.declared.fault.Fault.TheVariants.{OutOfMemory};
 ghost use Rattle.flight_proto.specs.PutResult.{rows_put_bytes};
 ghost use Rattle.flight_core.specs.Machine.{Log, ArePuts, PutStep, Step, Run, put_answer};
 ghost use Rattle.flight_core.specs.Fetches.{FetchIn};
-ghost use Rattle.flight_core.specs.Payloads.{FitMessages};
+ghost use Rattle.scan_base.specs.Reading.{GivesUnlessMemory};
+ghost use Rattle.table_versions.specs.Stored.{put_of};
+ghost use Rattle.flight_core.specs.Payloads.{Payload, FitMessages};
+ghost use Rattle.flight_core.specs.Puts.{put_said};
 
 use crate::event::{Event, Reply};
 use crate::fetch::{answer_fetch, read_ticket, version_of};
@@ -18,7 +21,7 @@ use bytes::Bytes;
 use flight_proto::put_rows_put;
 use scan_base::Fault;
 use std::alloc::{AllocError, Global};
-use table_versions::MAX_ROWS;
+use table_versions::{MAX_ROWS, Put};
 
 // The answer to a put of so many rows, or of as many as a table may have where they are more.
 fn put_answer(alloc: Global, rows: usize) -> Result<Vec<Bytes>, AllocError>
@@ -33,12 +36,15 @@ fn put_answer(alloc: Global, rows: usize) -> Result<Vec<Bytes>, AllocError>
     Ok(payloads)
 }
 
-fn step_put(alloc: Global, plain: &mut Plain, payloads: &[Bytes]) -> Reply
-    ensures step { PutStep plain.old payloads.now result.payloads.items result.fault plain.new }
+/// Answers a put whose payloads were read, or its first fault. A put that is accepted stands at the end of the
+/// log, and a refused one changes nothing. The reply's fault is that one, or one of those of `Plain::put`.
+pub fn step_put(alloc: Global, plain: &mut Plain, read: Result<Put, Fault>) -> Reply
+    ensures step { (payloads : List Payload) → GivesUnlessMemory put_of read (put_said payloads)
+        → PutStep plain.old payloads result.payloads.items result.fault plain.new }
     ensures puts { ArePuts plain.old → ArePuts plain.new }
     ensures fits { FitMessages result.payloads.items }
 {
-    let put = match read_put(alloc, payloads) {
+    let put = match read {
         Ok(put) => put,
         Err(fault) => return Reply::refusal(alloc, fault),
     };
@@ -74,7 +80,7 @@ pub fn step(alloc: Global, plain: &mut Plain, event: &Event) -> Reply
     ensures fits { FitMessages result.payloads.items }
 {
     match event {
-        Event::Put(payloads) => step_put(alloc, plain, payloads.as_slice()),
+        Event::Put(payloads) => step_put(alloc, plain, read_put(alloc, payloads.as_slice())),
         Event::Fetch(ticket) => step_fetch(alloc, plain, ticket.as_slice()),
     }
 }

@@ -1,13 +1,14 @@
 //! Reading the payloads of a put.
 
-ghost use Rattle.std.specs.Prelude.{◌≡◌, ◌++◌, None, IfOk, List};
-ghost use Rattle.std.specs.List.{flat_map};
+ghost use Rattle.std.specs.Prelude.{◌≡◌, ◌++◌, ◌∷◌, [], Ok, Err, None, Some, IfOk, OnErr, List};
+ghost use Rattle.scan_base.specs.declared.fault.Fault.{Fault};
 ghost use Rattle.scan_base.specs.Reading.{GivesUnlessMemory};
-ghost use Rattle.arrays.specs.Batch.{BatchAt, rows_of};
+ghost use Rattle.arrays.specs.Batch.{BatchAt};
 ghost use Rattle.table_versions.specs.Stored.{put_of};
-ghost use Rattle.flight_core.specs.Puts.{if_not_exist_put, if_exists_put};
-ghost use Rattle.flight_core.specs.Puts.{news_in_payload, told_by, put_said};
+ghost use Rattle.flight_core.specs.Payloads.{Payload};
+ghost use Rattle.flight_core.specs.Puts.{if_not_exist_put, if_exists_put, news_in_payload, put_said};
 ghost use Rattle.flight_core.specs.Stored.{MayBeStored, batches_in};
+ghost use Rattle.flight_core.specs.Arriving.{begun_by, after_payload, said_next, whole_put, HasRead};
 
 use arrays::Batch;
 use bytes::Bytes;
@@ -15,6 +16,7 @@ use flight_proto::{FlightData, Ingest, read_ingest};
 use ipc_batch::Reader;
 use scan_base::{Fault, Text};
 use std::alloc::Global;
+use std::marker::Model;
 use table_versions::{IfExists, IfNotExist, Put};
 
 // The options of a command as those of a put.
@@ -44,6 +46,7 @@ fn if_exists(option: flight_proto::IfExists) -> IfExists
 fn read_payload(alloc: Global, reader: &mut Reader, payload: &Bytes) -> Result<Option<Batch>, Fault>
     ensures told { GivesUnlessMemory (λ batch. record { state = reader.new; batch = batch })
         result (news_in_payload reader.old payload.now) }
+    ensures kept { OnErr result (reader.new ≡ reader.old) }
     ensures stored { (batches : List BatchAt) → MayBeStored reader.old batches →
         IfOk result (λ batch. MayBeStored reader.new (batches ++ batches_in batch)) }
 {
@@ -54,20 +57,147 @@ fn read_payload(alloc: Global, reader: &mut Reader, payload: &Bytes) -> Result<O
     reader.message(alloc, data.data_header, data.data_body)
 }
 
-// The batches of payloads. Their columns are cuts of the payloads.
-fn read_batches(alloc: Global, reader: &mut Reader, payloads: &[Bytes]) -> Result<Vec<Batch>, Fault>
-    ensures told { GivesUnlessMemory
-        (λ batches. record { state = reader.new; rows = flat_map rows_of batches.items })
-        result (told_by reader.old payloads.now) }
-    ensures stored { IfOk result (λ batches. MayBeStored reader.new batches.items) }
+// A put whose command was read: its options, and what its payloads tell.
+#[derive(Drop)]
+struct Begun {
+    table: Text,
+    if_not_exist: flight_proto::IfNotExist,
+    if_exists: flight_proto::IfExists,
+    reader: Reader,
+    batches: Vec<Batch>,
+}
+
+impl Model for Begun {
+    ghost use Rattle.std.specs.List.{flat_map};
+    ghost use Rattle.arrays.specs.Batch.{rows_of};
+    ghost use Rattle.flight_core.specs.Stored.{MayBeStored};
+    ghost use Rattle.flight_core.specs.Arriving.{BegunAt};
+
+    ghost Value = { BegunAt };
+
+    ghost view = { λ b. record {
+      ingest = record { table = b.table; if_not_exist = b.if_not_exist; if_exists = b.if_exists };
+      told = record { state = b.reader; rows = flat_map rows_of b.batches.items };
+    } };
+
+    ghost invariant = { λ b. MayBeStored b.reader b.batches.items };
+}
+
+impl Begun {
+    // A put with the command of its first payload. No message was read.
+    fn new(alloc: Global, first: &Bytes) -> Result<Begun, Fault>
+        ensures { GivesUnlessMemory (λ begun. begun) result (begun_by first.now) }
+    {
+        let ingest = read_ingest(first.as_slice())?;
+        Ok(Begun {
+            table: Text::new(alloc, ingest.table)?,
+            if_not_exist: ingest.if_not_exist,
+            if_exists: ingest.if_exists,
+            reader: Reader::new(),
+            batches: Vec::new(alloc),
+        })
+    }
+
+    // Reads the next payload.
+    fn push(&mut self, alloc: Global, payload: &Bytes) -> Result<(), Fault>
+        ensures { GivesUnlessMemory (λ _. Some self.new) result (after_payload self.old payload.now) }
+    {
+        if let Some(batch) = read_payload(alloc, &mut self.reader, payload)? {
+            self.batches.push(batch)?;
+        }
+        Ok(())
+    }
+}
+
+// Reads the next payload of a put: the first one has its command.
+fn read_next(alloc: Global, begun: &mut Option<Begun>, payload: &Bytes) -> Result<(), Fault>
+    ensures { GivesUnlessMemory (λ _. begun.new) result (said_next begun.old payload.now) }
 {
-    let mut batches = Vec::new(alloc);
-    for payload in payloads {
-        if let Some(batch) = read_payload(alloc, reader, payload)? {
-            batches.push(batch)?;
+    match begun {
+        Some(begun) => begun.push(alloc, payload),
+        None => {
+            let mut first = Begun::new(alloc, payload)?;
+            first.push(alloc, payload)?;
+            *begun = Some(first);
+            Ok(())
         }
     }
-    Ok(batches)
+}
+
+// The put, where no payload follows: F5 where none came, and F8 where no schema did.
+fn whole_put(begun: Option<Begun>) -> Result<Put, Fault>
+    ensures { GivesUnlessMemory put_of result (whole_put begun) }
+{
+    let Some(begun) = begun else {
+        return Err(Fault::UnknownCommand);
+    };
+    let Some(schema) = begun.reader.into_schema() else {
+        return Err(Fault::BadBatch);
+    };
+    Ok(Put::new(
+        begun.table,
+        if_not_exist(begun.if_not_exist),
+        if_exists(begun.if_exists),
+        schema,
+        begun.batches,
+    ))
+}
+
+/// Reads the payloads of a put one after another. Of those that came it holds no more than the put needs: the
+/// columns of their batches, which are cuts of them, and behind the first fault nothing.
+///
+/// A contract sees what the payloads say so far, or the first fault.
+#[derive(Drop)]
+pub struct PutReader {
+    begun: Result<Option<Begun>, Fault>,
+}
+
+impl Model for PutReader {
+    ghost use Rattle.std.specs.Prelude.{Option, Result};
+    ghost use Rattle.scan_base.specs.declared.fault.Fault.{Fault};
+    ghost use Rattle.flight_core.specs.Arriving.{BegunAt};
+
+    ghost Value = { Result (Option BegunAt) Fault };
+
+    ghost view = { λ r. r.begun };
+}
+
+impl PutReader {
+    /// A reader to which no payload came. It takes no memory.
+    pub fn new() -> PutReader
+        ensures { result ≡ Ok None }
+    {
+        PutReader { begun: Ok(None) }
+    }
+
+    /// Reads the next payload. Its fault is kept, and what comes behind it is not looked at.
+    pub fn push(&mut self, alloc: Global, payload: &Bytes)
+        ensures read { (payloads : List Payload) → HasRead payloads self.old
+            → HasRead (payloads ++ payload.now ∷ []) self.new }
+        ensures kept { (fault : Fault) → self.old ≡ Err fault → self.new ≡ Err fault }
+    {
+        let Ok(begun) = &mut self.begun else {
+            return;
+        };
+        if let Err(fault) = read_next(alloc, begun, payload) {
+            self.begun = Err(fault);
+        }
+    }
+
+    /// The put that the payloads say. It takes no memory.
+    ///
+    /// # Errors
+    ///
+    /// The first fault, as in [`read_put`].
+    pub fn into_put(self) -> Result<Put, Fault>
+        ensures { (payloads : List Payload) → HasRead payloads self
+            → GivesUnlessMemory put_of result (put_said payloads) }
+    {
+        match self.begun {
+            Ok(begun) => whole_put(begun),
+            Err(fault) => Err(fault),
+        }
+    }
 }
 
 /// The put that the payloads of a call say, each a FlightData. Its columns are cuts of the payloads: no value
@@ -83,24 +213,12 @@ fn read_batches(alloc: Global, reader: &mut Reader, payloads: &[Bytes]) -> Resul
 ///   header has none.
 /// - F8 (`Fault::BadBatch`) where no schema came.
 /// - F21 (`Fault::OutOfMemory`) where memory is refused.
-#[tactic(auto, unfolding(crate::specs::Puts::put_said))]
 pub fn read_put(alloc: Global, payloads: &[Bytes]) -> Result<Put, Fault>
     ensures { GivesUnlessMemory put_of result (put_said payloads.now) }
 {
-    let Some(first) = payloads.first() else {
-        return Err(Fault::UnknownCommand);
-    };
-    let ingest = read_ingest(first.as_slice())?;
-    let mut reader = Reader::new();
-    let batches = read_batches(alloc, &mut reader, payloads)?;
-    let Some(schema) = reader.into_schema() else {
-        return Err(Fault::BadBatch);
-    };
-    Ok(Put::new(
-        Text::new(alloc, ingest.table)?,
-        if_not_exist(ingest.if_not_exist),
-        if_exists(ingest.if_exists),
-        schema,
-        batches,
-    ))
+    let mut reader = PutReader::new();
+    for payload in payloads {
+        reader.push(alloc, payload);
+    }
+    reader.into_put()
 }

@@ -295,6 +295,71 @@ fn a_put_twice(rt: HostRuntime) -> Result<(), Fail> {
 
 const PUT_PATH: &[u8] = b"\x01\x00\x2a/arrow.flight.protocol.FlightService/DoPut";
 
+// A put that appends to `t`, up to its first batch; a batch of two rows; and one whose body has 8 bytes of 16.
+const APPEND: [&[u8]; 5] = [
+    PUT_PATH,
+    b"\x02\x00\x00\x00\x00\xc7\x0a\x53\x08\x02\x12\x4f\x0a\x44",
+    b"type.googleapis.com/arrow.flight.protocol.sql.CommandStatementIngest",
+    b"\x12\x07\x0a\x02\x10\x02\x12\x01t\x12\x70",
+    &SCHEMA_HEADER,
+];
+
+const BATCH: [&[u8]; 4] = [
+    b"\x02\x00\x00\x00\x00\x96\x12\x80\x01",
+    &BATCH_HEADER,
+    b"\xc2\x3e\x10",
+    &BODY,
+];
+
+const SHORT_BATCH: [&[u8]; 3] = [
+    b"\x02\x00\x00\x00\x00\x8e\x12\x80\x01",
+    &BATCH_HEADER,
+    b"\xc2\x3e\x08\x01\x00\x00\x00\x00\x00\x00\x00",
+];
+
+// Rows 0 to 4 at version 2, and at version 3.
+const NEXT_HANDLE: &[u8] =
+    b"\x01\x00\x00\x00\x00\x00\x00\x00\x02\x00\x00\x00\x00\x00\x00\x00\x04SELECT * FROM t";
+
+const THIRD_HANDLE: &[u8] =
+    b"\x01\x00\x00\x00\x00\x00\x00\x00\x03\x00\x00\x00\x00\x00\x00\x00\x04SELECT * FROM t";
+
+// A put of two rows; an append of three batches, the third broken; an append of one batch; and two fetches.
+fn puts_and_fetches(alloc: Global) -> Result<Vec<u8>, AllocError> {
+    let append = joined(alloc, &APPEND)?;
+    let batch = joined(alloc, &BATCH)?;
+    let broken = joined(alloc, &SHORT_BATCH)?;
+    let end = b"\x03".as_slice();
+    let refused = joined(alloc, &[&append, &batch, &batch, &broken, end])?;
+    let accepted = joined(alloc, &[&append, &batch, end])?;
+    let fetches = joined(
+        alloc,
+        &[&fetch(alloc, NEXT_HANDLE)?, &fetch(alloc, THIRD_HANDLE)?],
+    )?;
+    joined(alloc, &[&put(alloc)?, &refused, &accepted, &fetches])
+}
+
+// A put whose third batch is broken leaves the table as before, and the next accepted put makes the next version.
+#[test]
+fn a_broken_third_batch(rt: HostRuntime) -> Result<(), Fail> {
+    let bytes = puts_and_fetches(rt.alloc())?;
+    let (status, written, said) = piped(rt.alloc(), &bytes, 65_536);
+    assert_eq!(rt; (status, said.as_slice()), (0, b"".as_slice()));
+    let front = joined(
+        rt.alloc(),
+        &[PUT_ANSWER, b"\x04\x03\x00\x0bF8 BadBatch", PUT_ANSWER],
+    )?;
+    let rest = written.as_slice().strip_prefix(&front).unwrap_or(&[]);
+    let unknown = b"\x04\x05\x00\x12F18 VersionUnknown".as_slice();
+    let answer = rest.strip_suffix(unknown).unwrap_or(&[]);
+    let told = told(rt.alloc(), answer)?;
+    assert_eq!(rt;
+        (told.rows.as_slice(), told.code),
+        ([1i128, 2, 1, 2].as_slice(), Some(0))
+    );
+    Ok(())
+}
+
 const BAD_FRAME: &[u8] = b"\x04\x03\x00\x0bF1 BadFrame";
 
 const BAD_FRAME_LINE: &[u8] = b"fault: F1 BadFrame\n";

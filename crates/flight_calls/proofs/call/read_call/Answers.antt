@@ -11,18 +11,18 @@ returns-in_err-found-clause-arrives g c =
 pub returns-in_default-clause-arrives : goal.returns-in_default-clause-arrives
 returns-in_default-clause-arrives g c = first_cut _ _ _ _ c.requires.between (search rules) (since _ _ _ _ _ (rw c.in_default.is at c.in_ok-found.ensures.arrives))
 
-pub returns-in_err-messages-clause-arrives : goal.returns-in_err-messages-clause-arrives
-returns-in_err-messages-clause-arrives g c =
-    let p = err_from_is_err_and c.from_residual-in_err-messages.result c.from_residual-in_err-messages.ensures.1 in
+pub returns-in_err-request-clause-arrives : goal.returns-in_err-request-clause-arrives
+returns-in_err-request-clause-arrives g c =
+    let p = err_from_is_err_and c.from_residual-in_err-request.result c.from_residual-in_err-request.ensures.1 in
     let arrived = rw (c.in-Some.is, c.in-Some-path_of.ensures) at c.in_ok-found.ensures.arrives in
-    rw (p.1, p.2) (call_stops _ _ _ _ _ c.read_messages.new.inbox _ c.requires.between (since _ _ _ _ _ arrived) c.in_err-messages.field-0.0 c.in_err-messages.ensures.arrives)
+    rw (p.1, p.2) (call_stops _ _ _ _ _ c.read_request.new.inbox _ c.requires.between (since _ _ _ _ _ arrived) c.in_err-request.field-0.0 c.in_err-request.ensures.arrives)
 
 pub returns-in-Some-2-clause-arrives : goal.returns-in-Some-2-clause-arrives
 returns-in-Some-2-clause-arrives g c =
     let arrived = rw (c.in-Some.is, c.in-Some-path_of.ensures) at c.in_ok-found.ensures.arrives in
-    call_whole _ _ _ _ _ _ _ c.requires.between (since _ _ _ _ _ arrived) c.in-Some-2.messages (rw c.in-Some-2.is at c.in_ok-messages.ensures.arrives)
+    call_whole _ _ _ _ _ _ _ c.requires.between (since _ _ _ _ _ arrived) c.in-Some-2.request (rw (c.in-Some-2.is, c.as_slice.ensures) at c.in_ok-request.ensures.arrives)
 
-pub returns-in-None-clause-arrives : goal.returns-in-None-clause-arrives
-returns-in-None-clause-arrives g c =
+pub returns-clause-arrives : goal.returns-clause-arrives
+returns-clause-arrives g c =
     let arrived = rw (c.in-Some.is, c.in-Some-path_of.ensures) at c.in_ok-found.ensures.arrives in
-    call_cut _ _ _ _ _ c.read_messages.new.inbox _ c.requires.between (since _ _ _ _ _ arrived) (rw c.in-None.is at c.in_ok-messages.ensures.arrives)
+    call_cut _ _ _ _ _ c.read_request.new.inbox _ c.requires.between (since _ _ _ _ _ arrived) (rw c.in-None.is at c.in_ok-request.ensures.arrives)

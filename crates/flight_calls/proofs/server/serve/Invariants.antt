@@ -3,8 +3,8 @@ use Rattle.grpc_frame.specs.Arrivals.{work_left}
 use Rattle.flight_calls.proofs.Serving.{Progress}
 use Rattle.flight_calls.proofs.server.serve.Given as goal
 
-abbrev pub invariant-loop-call : goal.invariant-loop-call
-invariant-loop-call g l = record {
+abbrev pub invariant-loop-request : goal.invariant-loop-request
+invariant-loop-request g l = record {
   progress : Progress
       (record {
         input = g.R.Input.remaining l.initial.reader;
@@ -23,5 +23,5 @@ invariant-loop-call g l = record {
   writes : g.W.Output.failures l.writer ≡ g.W.Output.failures l.initial.writer;
 }
 
-abbrev pub decreases-loop-call : goal.decreases-loop-call
-decreases-loop-call g l = work_left (g.R.Input.turns l.reader) l.inbox
+abbrev pub decreases-loop-request : goal.decreases-loop-request
+decreases-loop-request g l = work_left (g.R.Input.turns l.reader) l.inbox

@@ -1,5 +1,7 @@
-use Rattle.flight_core.proofs.Storing.{stored_typed}
+use Rattle.std.proofs.Common.{refl}
+use Rattle.flight_core.specs.Arriving.{said_so_far}
 use Rattle.flight_core.proofs.put.read_put.Goals as goal
 
-pub new-requires-2-clause-typed : goal.new-requires-2-clause-typed
-new-requires-2-clause-typed c = stored_typed _ c.in-Some-into_schema.schema c.in_ok-batches.batches.items (rw c.in-Some-into_schema.is at c.into_schema.ensures.value) c.in_ok-batches.ensures.stored
+pub loop-payload-init : goal.loop-payload-init
+unfolding said_so_far
+loop-payload-init c = rw c.new-reader.ensures refl
