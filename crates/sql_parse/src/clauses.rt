@@ -5,7 +5,7 @@ ghost use Rattle.sql_parse.specs.Answers.{Gives};
 ghost use Rattle.sql_parse.specs.Calls.{unread, remaining};
 ghost use Rattle.sql_parse.specs.ClauseSteps as steps;
 ghost use Rattle.scan_base.specs.View.{pred_of};
-ghost use Rattle.sql_query.specs.Sentence.{sentence_of};
+ghost use Rattle.sql_query.specs.Sentence.{Sentence, sentence_of};
 
 use crate::operands::{column, name};
 use crate::predicates::predicate;
@@ -316,14 +316,22 @@ fn query<'t>(alloc: Global, depth: usize, tokens: Rest<'t>) -> Result<(Query, Re
     Ok((query, rest))
 }
 
+// Whether no token is left. The first one that is left offends.
+fn end(tokens: Rest<'_>) -> Result<(), Refusal>
+    ensures exact { (s : Sentence) → Gives (λ _. s) result (steps.finished (s, unread tokens.entry)) }
+{
+    match tokens.tokens {
+        [] => Ok(()),
+        [_, ..] => Err(Refusal::Offends(tokens.tokens.len())),
+    }
+}
+
 /// The query that the tokens, all of them, are, where `depth` parentheses and prefix NOTs may be open.
 #[tactic(auto, unfolding(crate::specs::ClauseSteps::whole_at))]
 pub(crate) fn whole_query(alloc: Global, depth: usize, tokens: Rest<'_>) -> Result<Query, Refusal>
     ensures exact { Gives sentence_of result (steps.whole_at depth (unread tokens.entry)) }
 {
     let (query, rest) = query(alloc, depth, tokens)?;
-    match rest.tokens {
-        [] => Ok(query),
-        [_, ..] => Err(Refusal::Offends(rest.tokens.len())),
-    }
+    end(rest)?;
+    Ok(query)
 }
