@@ -30,6 +30,7 @@ use Rattle.sql_parse.proofs.ClauseReading.{query_same}
 use Rattle.sql_parse.proofs.Printed.{read_shallow, printed_shallow, read_sentence, printed_sentence}
 use Rattle.sql_parse.proofs.Printed.{sentence_of_shallow}
 use Rattle.sql_parse.proofs.Whole.{told}
+use Rattle.sql_parse.proofs.Limited.{limited}
 
 nothing_after : {A : Type 0} (xs : List A) → xs ++ [] ≡ xs
 nothing_after [] = refl
@@ -126,12 +127,25 @@ whole_past ts end s q p = inl (
 
 pub left_out : (ts : List Mark) (end : ℕ) (s : Sentence) → IsShallow ts s → passes ts ≡ false →
     is_left_out_whole s ≡ true → Refuses ts end NotInSubset
-left_out ts end s q p w = inr (inr (record { sentence = s; shallow = q; counts = p; whole = w }, refl))
+left_out ts end s q p w = inr (inr (
+  record {
+    sentence = s;
+    shallow = q;
+    within = (limited ts s (sentence_of_shallow ts s q)).0 p;
+    whole = w;
+  },
+  refl,
+))
 
 pub accepted : (ts : List Mark) (s : Sentence) → IsShallow ts s ×
     ((other : Sentence) → IsSentence ts other → other ≡ s) → passes ts ≡ false → is_left_out_whole s ≡ false →
     Accepts ts s
-accepted ts s q p w = record { shallow = q.0; only = q.1; counts = p; whole = w }
+accepted ts s q p w = record {
+  shallow = q.0;
+  only = q.1;
+  within = (limited ts s (sentence_of_shallow ts s q.0)).0 p;
+  whole = w;
+}
 
 -- the tokens before the place, and those from there on
 cut : (xs : List Token) (a b : List Mark) → marks xs ≡ a ++ b → (marks (take (length a) xs) ≡ a) ×

@@ -4,6 +4,12 @@ pub mod Whole
 pub mod Steps
 pub mod ClauseReading
 pub mod Printed
+pub mod Gathered
+pub mod Parts
+pub mod NameTokens
+pub mod ListTokens
+pub mod Limiting
+pub mod Limited
 pub mod Answering
 pub mod OneAnswer
 pub mod Named

@@ -41,6 +41,7 @@ use Rattle.sql_parse.specs.Productions.{equal, join, group, filter, source, endi
 use Rattle.sql_parse.specs.Tokens.{Mark, mark, marks, value_of, is_word, is_symbol, name_token, word_token}
 use Rattle.sql_parse.specs.Tokens.{symbol_token}
 use Rattle.sql_parse.proofs.Printed.{sentence_of_shallow}
+use Rattle.sql_parse.proofs.Limited.{limited}
 use Rattle.grammar.proofs.Flags.{or-left, or-right}
 
 -- a token that is a name says one
@@ -411,8 +412,10 @@ accepted_names : (tokens : List Token) (s : Sentence) → All SaysText (map lexe
     Accepts (marks tokens) s → HasNames s
 unfolding passes
 accepted_names tokens s says a =
-    names_of_tokens (marks tokens) s (sentence_of_shallow (marks tokens) s a.shallow)
-    (all_named (record { places = 0; items = 0; most = 64 }) tokens says a.counts)
+    let sentence = sentence_of_shallow (marks tokens) s a.shallow in
+    names_of_tokens (marks tokens) s sentence
+    (all_named (record { places = 0; items = 0; most = 64 }) tokens says
+    ((limited (marks tokens) s sentence).1 a.within))
 
 pub answered_names : {X : Type 0} (view : X → Sentence) (tokens : List Token) (end : ℕ) (result : Result X Fault) →
     All SaysText (map lexeme_of tokens) →

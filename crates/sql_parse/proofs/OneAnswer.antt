@@ -17,6 +17,8 @@ use Rattle.sql_parse.specs.Tokens.{Mark, kinds}
 use Rattle.sql_parse.proofs.Conditions.{one_way, made_well, guarded, filled, begins_so, query_made_well, query_one_way}
 use Rattle.sql_parse.proofs.Everywhere.{covered, apart}
 use Rattle.sql_parse.proofs.Printed.{read_sentence, sentence_of_shallow}
+use Rattle.sql_parse.proofs.Limited.{limited}
+use Rattle.sql_parse.specs.Within.{IsWithinLimits}
 
 -- a list of tokens says at most one sentence
 pub one_sentence : (ts : List Mark) (s other : Sentence) → IsSentence ts s → IsSentence ts other → s ≡ other
@@ -83,6 +85,12 @@ whole_none : (front place : List Mark) → NoneGoesOn IsSentence front place →
 whole_none front [] none s q = none s (subst (λ (z : List Mark). IsSentence z s) (nothing_after front) q)
 whole_none front (t ∷ place) none s q = none place s q
 
+-- tokens that pass a limit begin no sentence within the limits
+pub past_stays : (front more : List Mark) (s : Sentence) → passes front ≡ true → IsSentence (front ++ more) s →
+    IsWithinLimits s → ⊥
+past_stays front more s past q w =
+    let none = part_passes front more ((limited (front ++ more) s q).1 w) in cc
+
 -- ---- of the answers no two hold
 
 -- a front within the limits passes none
@@ -91,8 +99,9 @@ no_limit : (front : List Mark) → Begins IsShallow front → passes front ≡ f
 no_limit front b p (inl n) = n b
 no_limit front b p (inr q) = cc
 
-limit_or_whole : (ts : List Mark) (s : Sentence) → PassesLimit ts → IsShallow ts s → passes ts ≡ false → ⊥
-limit_or_whole ts s l q p =
+limit_or_whole : (ts : List Mark) (s : Sentence) → PassesLimit ts → IsShallow ts s → IsWithinLimits s → ⊥
+limit_or_whole ts s l q w =
+    let p = (limited ts s (sentence_of_shallow ts s q)).1 w in
     no_limit l.front (whole_begins IsShallow l.front l.rest s (subst (λ (z : List Mark). IsShallow z s) l.splits q))
     (part_passes l.front l.rest (subst (λ (z : List Mark). passes z ≡ false) l.splits p)) l.past
 
@@ -141,7 +150,7 @@ one_offender ts first second o p = go
 
 -- tokens that are accepted are not refused
 pub not_both : (ts : List Mark) (end : ℕ) (s : Sentence) (fault : Fault) → Accepts ts s → Refuses ts end fault → ⊥
-not_both ts end s fault a (inl q) = limit_or_whole ts s q.0 a.shallow a.counts
+not_both ts end s fault a (inl q) = limit_or_whole ts s q.0 a.shallow a.within
 not_both ts end s fault a (inr (inl q)) = offender_or_whole ts q.0 s q.1 a.shallow
 not_both ts end s fault a (inr (inr q)) =
     let same_sentence : q.0.sentence ≡ s = a.only q.0.sentence (sentence_of_shallow ts q.0.sentence q.0.shallow) in
@@ -154,13 +163,13 @@ pub one_fault : (ts : List Mark) (end : ℕ) (first second : Fault) → Refuses 
     first ≡ second
 one_fault ts end first second (inl p) (inl q) = p.1 ∙ sym q.1
 one_fault ts end first second (inl p) (inr (inl q)) = absurd (limit_or_offender ts q.0 p.0 q.1)
-one_fault ts end first second (inl p) (inr (inr q)) = absurd (limit_or_whole ts q.0.sentence p.0 q.0.shallow q.0.counts)
+one_fault ts end first second (inl p) (inr (inr q)) = absurd (limit_or_whole ts q.0.sentence p.0 q.0.shallow q.0.within)
 one_fault ts end first second (inr (inl p)) (inl q) = absurd (limit_or_offender ts p.0 q.0 p.1)
 one_fault ts end first second (inr (inl p)) (inr (inl q)) =
     p.2 ∙ (ap (fault_at end) (one_offender ts p.0 q.0 p.1 q.1) ∙ sym q.2)
 one_fault ts end first second (inr (inl p)) (inr (inr q)) =
     absurd (offender_or_whole ts p.0 q.0.sentence p.1 q.0.shallow)
-one_fault ts end first second (inr (inr p)) (inl q) = absurd (limit_or_whole ts p.0.sentence q.0 p.0.shallow p.0.counts)
+one_fault ts end first second (inr (inr p)) (inl q) = absurd (limit_or_whole ts p.0.sentence q.0 p.0.shallow p.0.within)
 one_fault ts end first second (inr (inr p)) (inr (inl q)) =
     absurd (offender_or_whole ts q.0 p.0.sentence q.1 p.0.shallow)
 one_fault ts end first second (inr (inr p)) (inr (inr q)) = p.1 ∙ sym q.1

@@ -1,9 +1,11 @@
 -- The laws of what parsing answers.
-use Rattle.std.specs.Prelude.{◌≡◌, ℕ, List}
+use Rattle.std.specs.Prelude.{◌≡◌, ◌↔◌, ℕ, true, false, List, ◌++◌}
 use Rattle.scan_base.specs.declared.fault.Fault.{Fault}
 use Rattle.sql_parse.specs.Parse.{IsSentence, Accepts, Refuses}
 use Rattle.sql_query.specs.Sentence.{Sentence}
 use Rattle.sql_parse.specs.Tokens.{Mark}
+use Rattle.sql_parse.specs.Limits.{passes}
+use Rattle.sql_parse.specs.Within.{IsWithinLimits}
 
 abbrev pub AtMostOneSentence : Type 0
 AtMostOneSentence = (ts : List Mark) (s other : Sentence) → IsSentence ts s → IsSentence ts other → s ≡ other
@@ -15,3 +17,13 @@ AtMostOneFault =
 abbrev pub AcceptedIsNotRefused : Type 0
 AcceptedIsNotRefused =
     (ts : List Mark) (end : ℕ) (s : Sentence) (fault : Fault) → Accepts ts s → Refuses ts end fault → ⊥
+
+-- the tokens of a sentence pass no limit exactly where the sentence is within the limits
+abbrev pub LimitsAreOfTheSentence : Type 0
+LimitsAreOfTheSentence =
+    (ts : List Mark) (s : Sentence) → IsSentence ts s → (passes ts ≡ false) ↔ IsWithinLimits s
+
+-- tokens that pass a limit begin no sentence within the limits
+abbrev pub PassedForGood : Type 0
+PassedForGood =
+    (front more : List Mark) (s : Sentence) → passes front ≡ true → IsSentence (front ++ more) s → IsWithinLimits s → ⊥

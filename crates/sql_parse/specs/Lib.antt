@@ -6,6 +6,7 @@ pub mod Calls
 pub mod Steps
 pub mod ClauseSteps
 pub mod Limits
+pub mod Within
 pub mod Parse
 pub mod Told
 pub mod Laws

@@ -14,6 +14,7 @@ use Rattle.sql_query.specs.Sentence.{Sentence, is_grouped}
 use Rattle.sql_parse.specs.Tokens.{Mark, mark_of}
 use Rattle.sql_parse.specs.Productions.{factor, query}
 use Rattle.sql_parse.specs.Limits.{passes}
+use Rattle.sql_parse.specs.Within.{IsWithinLimits}
 
 -- the tokens are a query, which says the sentence
 abbrev pub IsSentence : Language Mark Sentence
@@ -39,7 +40,7 @@ pub record Accepts (ts : List Mark) (s : Sentence) : Type 0 where
   pub shallow : IsShallow ts s
   -- the tokens say no other sentence
   pub only : (other : Sentence) → IsSentence ts other → other ≡ s
-  pub counts : passes ts ≡ false
+  pub within : IsWithinLimits s
   pub whole : is_left_out_whole s ≡ false
 
 -- Tokens from the first on begin a sentence, and pass a limit.
@@ -60,7 +61,7 @@ pub record HasOffender (ts place : List Mark) : Type 0 where
 pub record HasLeftOut (ts : List Mark) : Type 0 where
   pub sentence : Sentence
   pub shallow : IsShallow ts sentence
-  pub counts : passes ts ≡ false
+  pub within : IsWithinLimits sentence
   pub whole : is_left_out_whole sentence ≡ true
 
 -- the fault of an offending token, where the text ends at `end`

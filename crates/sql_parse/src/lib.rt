@@ -13,6 +13,8 @@ mod tokens;
 pub use crate::parsing::parse;
 
 #[cfg(test)]
+mod cases;
+#[cfg(test)]
 mod tests;
 #[cfg(test)]
 mod vectors;

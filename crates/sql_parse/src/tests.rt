@@ -1,7 +1,8 @@
-//! Queries with their answers by a recogniser of another making (`vectors/`), the limits, and the trees.
+//! Queries with their answers, by hand and by a recogniser of another making (`vectors/`), and the trees.
 
+use crate::cases::{EDGES, FIRST, LEXICAL, ROWS};
 use crate::parse;
-use crate::vectors::{LEFT_OUT, OFFENDING, SENTENCES};
+use crate::vectors::QUERIES;
 use sql_query::{Expression, Query, Select};
 use std::alloc::{AllocError, Global};
 use std::test::Fail;
@@ -14,122 +15,90 @@ fn told(alloc: Global, sql: &str) -> Result<String, AllocError> {
     }
 }
 
-// The first query that is answered otherwise.
-fn first_wrong<'a>(
-    alloc: Global,
-    queries: &'a [(&'a str, &'a str)],
-) -> Result<Option<&'a str>, AllocError> {
-    for (sql, wanted) in queries {
-        let told = told(alloc, sql)?;
-        if told.as_str() != *wanted {
-            return Ok(Some(*sql));
+// What is told of a query with this answer.
+fn wanted(alloc: Global, answer: &str) -> Result<String, AllocError> {
+    match answer {
+        "ok" => String::from_str(alloc, "sentence"),
+        "F12" => String::from_str(alloc, "F12 LimitReached"),
+        "F16" => String::from_str(alloc, "F16 NotInSubset"),
+        position => format!(in alloc; "F13 BadSql at byte {position}"),
+    }
+}
+
+// Appends what `64:NOT ` stands for.
+fn push_repeated(sql: &mut String, repeated: &str) -> Result<(), AllocError> {
+    let Some((times, piece)) = repeated.split_once(':') else {
+        return Ok(());
+    };
+    for _ in 0..times.parse::<usize>().unwrap_or(0) {
+        sql.push_str(piece)?;
+    }
+    Ok(())
+}
+
+// The query that is written so, with `{64:NOT }` for 64 times `NOT `.
+fn query_of(alloc: Global, written: &str) -> Result<String, AllocError> {
+    let mut sql = String::new(alloc);
+    for part in written.split('{') {
+        match part.split_once('}') {
+            Some((repeated, after)) => {
+                push_repeated(&mut sql, repeated)?;
+                sql.push_str(after)?;
+            }
+            None => sql.push_str(part)?,
+        }
+    }
+    Ok(sql)
+}
+
+// Whether the query of a line is answered as the line says.
+fn is_right(alloc: Global, line: &str) -> Result<bool, AllocError> {
+    let Some((answer, written)) = line.split_once(' ') else {
+        return Ok(line.is_empty());
+    };
+    let sql = query_of(alloc, written)?;
+    let told = told(alloc, sql.as_str())?;
+    Ok(told.as_str() == wanted(alloc, answer)?.as_str())
+}
+
+// The first line whose query is answered otherwise.
+fn first_wrong<'a>(alloc: Global, lines: &'a str) -> Result<Option<&'a str>, AllocError> {
+    for line in lines.lines() {
+        if !is_right(alloc, line)? {
+            return Ok(Some(line));
         }
     }
     Ok(None)
 }
 
 #[test]
-fn sentences(rt: HostRuntime) -> Result<(), Fail> {
-    assert_eq!(rt; first_wrong(rt.alloc(), &SENTENCES)?, None);
+fn queries_of_the_recogniser(rt: HostRuntime) -> Result<(), Fail> {
+    assert_eq!(rt; QUERIES.lines().count(), 713);
+    assert_eq!(rt; first_wrong(rt.alloc(), QUERIES)?, None);
     Ok(())
 }
-
-#[test]
-fn tokens_that_are_left_out(rt: HostRuntime) -> Result<(), Fail> {
-    assert_eq!(rt; first_wrong(rt.alloc(), &LEFT_OUT)?, None);
-    Ok(())
-}
-
-#[test]
-fn tokens_that_offend(rt: HostRuntime) -> Result<(), Fail> {
-    assert_eq!(rt; first_wrong(rt.alloc(), &OFFENDING)?, None);
-    Ok(())
-}
-
-// The queries of the table of this stage, and those of both rows of faults.
-const ROWS: [(&str, &str); 12] = [
-    (
-        "SELECT a FROM t WHERE a BETWEEN 1 2",
-        "F13 BadSql at byte 34",
-    ),
-    ("SELECT a FROM t WHERE a + 1 = 2", "F16 NotInSubset"),
-    ("SELECT a FROM t WHERE 'x", "F13 BadSql at byte 22"),
-    ("SELECT a FROM t;;", "F13 BadSql at byte 16"),
-    ("SELECT a FROM t WHERE a = --1", "F13 BadSql at byte 29"),
-    ("SELECT a FROM t WHERE a", "F13 BadSql at byte 23"),
-    ("select \"a\"\"b\" from t -- c", "sentence"),
-    ("SELECT a FROM t WHERE a IS NULL IS NOT TRUE", "sentence"),
-    (
-        "SELECT COUNT(*) FROM t JOIN u ON t.a = u.a",
-        "F16 NotInSubset",
-    ),
-    ("SELECT a FROM t ORDER BY a", "F16 NotInSubset"),
-    ("SELECT a FROM t WHERE a =", "F13 BadSql at byte 25"),
-    ("SELECT a,, b FROM t", "F13 BadSql at byte 9"),
-];
 
 #[test]
 fn rows(rt: HostRuntime) -> Result<(), Fail> {
-    assert_eq!(rt; first_wrong(rt.alloc(), &ROWS)?, None);
-    Ok(())
-}
-
-// What is told of a text with a piece so many times between its front and its end.
-fn told_of(
-    alloc: Global,
-    front: &str,
-    piece: &str,
-    times: usize,
-    end: &str,
-) -> Result<String, AllocError> {
-    let mut sql = String::from_str(alloc, front)?;
-    for _ in 0..times {
-        sql.push_str(piece)?;
-    }
-    sql.push_str(end)?;
-    told(alloc, sql.as_str())
-}
-
-#[test]
-fn depth(rt: HostRuntime) -> Result<(), Fail> {
-    let where_ = "SELECT a FROM t WHERE ";
-    let most = told_of(rt.alloc(), where_, "NOT ", 64, "a = 1")?;
-    let more = told_of(rt.alloc(), where_, "NOT ", 65, "a = 1")?;
-    let open = told_of(rt.alloc(), where_, "(", 65, "a = 1)")?;
-    let deep = told_of(rt.alloc(), where_, "(", 16_362, "")?;
-    assert_eq!(rt;
-        (most.as_str(), more.as_str()),
-        ("sentence", "F12 LimitReached")
-    );
-    assert_eq!(rt;
-        (open.as_str(), deep.as_str()),
-        ("F12 LimitReached", "F12 LimitReached")
-    );
+    assert_eq!(rt; first_wrong(rt.alloc(), ROWS)?, None);
     Ok(())
 }
 
 #[test]
-fn depth_and_an_offender(rt: HostRuntime) -> Result<(), Fail> {
-    let where_ = "SELECT a FROM t WHERE ";
-    let after = told_of(rt.alloc(), where_, "(", 65, ")")?;
-    let before = told_of(rt.alloc(), "SELECT a FROM t WHERE ) ", "(", 65, "")?;
-    let closed = told_of(rt.alloc(), where_, "NOT a = 1 AND ", 65, "a = 1")?;
-    assert_eq!(rt;
-        (after.as_str(), before.as_str(), closed.as_str()),
-        ("F12 LimitReached", "F13 BadSql at byte 22", "sentence")
-    );
+fn lexical_faults_come_first(rt: HostRuntime) -> Result<(), Fail> {
+    assert_eq!(rt; first_wrong(rt.alloc(), LEXICAL)?, None);
     Ok(())
 }
 
 #[test]
-fn long_lists(rt: HostRuntime) -> Result<(), Fail> {
-    let most = told_of(rt.alloc(), "SELECT a", ", a", 63, " FROM t")?;
-    let more = told_of(rt.alloc(), "SELECT a", ", a", 64, " FROM t")?;
-    let comma = told_of(rt.alloc(), "SELECT a", ", a", 63, ", FROM t")?;
-    assert_eq!(rt;
-        (most.as_str(), more.as_str(), comma.as_str()),
-        ("sentence", "F12 LimitReached", "F13 BadSql at byte 199")
-    );
+fn first_of_two_faults(rt: HostRuntime) -> Result<(), Fail> {
+    assert_eq!(rt; first_wrong(rt.alloc(), FIRST)?, None);
+    Ok(())
+}
+
+#[test]
+fn edges_of_the_limits(rt: HostRuntime) -> Result<(), Fail> {
+    assert_eq!(rt; first_wrong(rt.alloc(), EDGES)?, None);
     Ok(())
 }
 
@@ -154,6 +123,12 @@ fn trees(rt: HostRuntime) -> Result<(), Fail> {
          name: Text { text: \"b\" } }), right: Literal(Text(Text { text: \"it's\" })) }), \
          Compare { comparison: NotEqual, left: Column(ColumnName { place: None, \
          name: Text { text: \"c\" } }), right: Literal(Int(-2)) })))"
+    );
+    let tested = filter_of(rt.alloc(), "SELECT a FROM t WHERE a IS NULL IS NOT TRUE")?;
+    assert_eq!(rt;
+        tested.as_str(),
+        "Some(Is { negated: true, tested: True, predicate: IsNull { negated: false, \
+         operand: Column(ColumnName { place: None, name: Text { text: \"a\" } }) } })"
     );
     Ok(())
 }
@@ -180,42 +155,5 @@ fn names_as_they_are_written(rt: HostRuntime) -> Result<(), Fail> {
         (selected_name(&doubled), selected_name(&mixed)),
         (Some("a\"b"), Some("Ab"))
     );
-    Ok(())
-}
-
-// Whether the first is a sentence and the second passes a limit.
-fn bounds(most: &String, more: &String) -> bool {
-    most.as_str() == "sentence" && more.as_str() == "F12 LimitReached"
-}
-
-#[test]
-fn items(rt: HostRuntime) -> Result<(), Fail> {
-    let front = "SELECT a FROM t WHERE a IN (1";
-    let most = told_of(rt.alloc(), front, ", 1", 255, ")")?;
-    let more = told_of(rt.alloc(), front, ", 1", 256, ")")?;
-    assert!(rt; bounds(&most, &more));
-    let front = "SELECT a FROM t GROUP BY a";
-    let most = told_of(rt.alloc(), front, ", a", 63, "")?;
-    let more = told_of(rt.alloc(), front, ", a", 64, "")?;
-    assert!(rt; bounds(&most, &more));
-    Ok(())
-}
-
-#[test]
-fn places(rt: HostRuntime) -> Result<(), Fail> {
-    let most = told_of(rt.alloc(), "SELECT a FROM t", " JOIN t ON a = a", 3, "")?;
-    let more = told_of(rt.alloc(), "SELECT a FROM t", " JOIN t ON a = a", 4, "")?;
-    assert!(rt; bounds(&most, &more));
-    Ok(())
-}
-
-#[test]
-fn names(rt: HostRuntime) -> Result<(), Fail> {
-    let most = told_of(rt.alloc(), "SELECT a FROM ", "x", 64, "")?;
-    let more = told_of(rt.alloc(), "SELECT a FROM ", "x", 65, "")?;
-    assert!(rt; bounds(&most, &more));
-    let most = told_of(rt.alloc(), "SELECT a FROM \"", "\"\"", 64, "\"")?;
-    let more = told_of(rt.alloc(), "SELECT a FROM \"", "\"\"", 65, "\"")?;
-    assert!(rt; bounds(&most, &more));
     Ok(())
 }

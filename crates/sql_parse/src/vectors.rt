@@ -1,241 +1,716 @@
-//! Some of the queries of `vectors/queries.txt`, and what the rules answer. `vectors/make.py --rattle` prints it.
+//! The queries of `vectors/queries.txt`, each behind what the rules answer: `ok`, `F12`, `F16`, or the byte at which
+//! a token offends. `{64:NOT }` stands for 64 times `NOT `. `vectors/make.py --rattle` prints this file.
 
-pub(crate) static SENTENCES: [(&str, &str); 40] = [
-    ("SELECT * FROM t", "sentence"),
-    ("select a from t;", "sentence"),
-    ("SELECT t.a FROM t", "sentence"),
-    ("SELECT a b FROM t", "sentence"),
-    ("SELECT x.a FROM t AS x", "sentence"),
-    ("SELECT COUNT(a) FROM t", "sentence"),
-    ("SELECT a FROM t GROUP BY a, b, t.c;", "sentence"),
-    ("SELECT a FROM t JOIN u ON t.a = u.a", "sentence"),
-    (
-        "SELECT * FROM t x JOIN u y ON x.a = y.a JOIN v z ON y.b = z.b WHERE x.a > 1",
-        "sentence",
-    ),
-    ("SELECT a FROM t WHERE a <> b", "sentence"),
-    ("SELECT a FROM t WHERE 1 < a", "sentence"),
-    ("SELECT a FROM t WHERE a > -1", "sentence"),
-    ("SELECT a FROM t WHERE FALSE = b", "sentence"),
-    (
-        "SELECT a FROM t WHERE a NOT BETWEEN 'a' AND 'b' AND b = 1",
-        "sentence",
-    ),
-    (
-        "SELECT a FROM t WHERE a NOT IN (1, b, 'c', TRUE, -4)",
-        "sentence",
-    ),
-    ("SELECT a FROM t WHERE a IS NOT NULL", "sentence"),
-    ("SELECT a FROM t WHERE a = 1 IS UNKNOWN", "sentence"),
-    ("SELECT a FROM t WHERE NOT a = 1", "sentence"),
-    (
-        "SELECT a FROM t WHERE a = 1 AND b = 2 OR c = 3 AND NOT d = 4",
-        "sentence",
-    ),
-    ("SELECT a FROM t WHERE a = b GROUP BY a", "sentence"),
-    ("SELECT a FROM t WHERE 1 IN (a, b) IS TRUE", "sentence"),
-    (
-        "SELECT a FROM t WHERE a = 99999999999999999999999999999999999999",
-        "sentence",
-    ),
-    ("SELECT a FROM t WHERE a = - 1", "sentence"),
-    ("SELECT a AS \"select\" FROM t", "sentence"),
-    ("SELECT a FROM t WHERE 1 = 1", "sentence"),
-    (
-        "SELECT a FROM nnnnnnnnnnnnnnnnnnnnnnnnnnnnnnnnnnnnnnnnnnnnnnnnnnnnnnnnnnnnnnnn",
-        "sentence",
-    ),
-    (
-        "SELECT nnnnnnnnnnnnnnnnnnnnnnnnnnnnnnnnnnnnnnnnnnnnnnnnnnnnnnnnnnnnnnnn.a FROM t",
-        "sentence",
-    ),
-    (
-        "SELECT \"nnnnnnnnnnnnnnnnnnnnnnnnnnnnnnnnnnnnnnnnnnnnnnnnnnnnnnnnnnnnnnnn\" FROM t",
-        "sentence",
-    ),
-    (
-        "SELECT a FROM t nnnnnnnnnnnnnnnnnnnnnnnnnnnnnnnnnnnnnnnnnnnnnnnnnnnnnnnnnnnnnnnn",
-        "sentence",
-    ),
-    (
-        "SELECT \"\u{e9}\u{e9}\u{e9}\u{e9}\u{e9}\u{e9}\u{e9}\u{e9}\u{e9}\u{e9}\u{e9}\u{e9}\u{e9}\u{e9}\u{e9}\u{e9}\u{e9}\u{e9}\u{e9}\u{e9}\u{e9}\u{e9}\u{e9}\u{e9}\u{e9}\u{e9}\u{e9}\u{e9}\u{e9}\u{e9}\u{e9}\u{e9}\" FROM t",
-        "sentence",
-    ),
-    (
-        "SELECT * FROM t0 JOIN t1 ON a = b JOIN t2 ON a = b JOIN t3 ON a = b",
-        "sentence",
-    ),
-    ("SELECT a FROM t GROUP BY a , b", "sentence"),
-    ("SELECT * FROM t WHERE a BETWEEN 1 AND 2", "sentence"),
-    ("SELECT COUNT ( a ) FROM t", "sentence"),
-    ("SELECT a FROM t WHERE NOT a IN ( 1 )", "sentence"),
-    ("SELECT b FROM t", "sentence"),
-    (
-        "SELECT a FROM \"y\" WHERE 1 IN ( a , b ) IS TRUE",
-        "sentence",
-    ),
-    ("SELECT x . a FROM t AS \"y\"", "sentence"),
-    (
-        "SELECT * FROM t x JOIN u ON x . a = y . a JOIN v z ON y . b = z . b WHERE x . a > 1",
-        "sentence",
-    ),
-    ("select a from t", "sentence"),
-];
-
-pub(crate) static LEFT_OUT: [(&str, &str); 40] = [
-    ("SELECT a FROM t WHERE a + 1 = 2", "F16 NotInSubset"),
-    (
-        "SELECT COUNT(*) FROM t JOIN u ON t.a = u.a",
-        "F16 NotInSubset",
-    ),
-    ("SELECT ALL a FROM t", "F16 NotInSubset"),
-    ("SELECT a FROM t OFFSET 1", "F16 NotInSubset"),
-    ("SELECT a FROM t GROUP BY a HAVING a = 1", "F16 NotInSubset"),
-    ("SELECT a FROM t EXCEPT SELECT a FROM t", "F16 NotInSubset"),
-    ("SELECT a FROM t LEFT JOIN u ON a = b", "F16 NotInSubset"),
-    (
-        "SELECT a FROM t FULL OUTER JOIN u ON a = b",
-        "F16 NotInSubset",
-    ),
-    ("SELECT a FROM t NATURAL JOIN u", "F16 NotInSubset"),
-    ("SELECT a FROM t WHERE a LIKE 'x'", "F16 NotInSubset"),
-    ("SELECT a FROM t WHERE a = ANY (1)", "F16 NotInSubset"),
-    ("SELECT CASE a FROM t", "F16 NotInSubset"),
-    ("SELECT MIN(a) FROM t", "F16 NotInSubset"),
-    ("SELECT AVG(a) FROM t", "F16 NotInSubset"),
-    ("VALUES (1)", "F16 NotInSubset"),
-    ("UPDATE t", "F16 NotInSubset"),
-    ("SELECT a FROM t WHERE a = NULL", "F16 NotInSubset"),
-    ("SELECT a FROM t WHERE NULL IS NULL", "F16 NotInSubset"),
-    (
-        "SELECT a FROM t WHERE a = DATE '1994-01-01'",
-        "F16 NotInSubset",
-    ),
-    ("SELECT a FROM DATE", "F16 NotInSubset"),
-    ("SELECT a * 2 FROM t", "F16 NotInSubset"),
-    ("SELECT a % 2 FROM t", "F16 NotInSubset"),
-    ("SELECT -a FROM t", "F16 NotInSubset"),
-    ("SELECT a FROM t WHERE a = 1 ORDER BY a", "F16 NotInSubset"),
-    ("SELECT t.* FROM t", "F16 NotInSubset"),
-    ("SELECT a FROM t WHERE * = 1", "F16 NotInSubset"),
-    ("SELECT a FROM t WHERE (a = 1) IS NULL", "F16 NotInSubset"),
-    ("SELECT SUM(*) FROM t", "F16 NotInSubset"),
-    ("SELECT * FROM t GROUP BY a", "F16 NotInSubset"),
-    (
-        "SELECT SUM(a) FROM t JOIN u ON t.a = u.a WHERE a = 1;",
-        "F16 NotInSubset",
-    ),
-    (
-        "SELECT COUNT(*) FROM t JOIN u ON t.a = u.a ORDER",
-        "F16 NotInSubset",
-    ),
-    (
-        "SELECT a FROM t ORDER nnnnnnnnnnnnnnnnnnnnnnnnnnnnnnnnnnnnnnnnnnnnnnnnnnnnnnnnnnnnnnnnn",
-        "F16 NotInSubset",
-    ),
-    (
-        "SELECT * FROM t JOIN u ON a = b JOIN v ON a = b JOIN w ON a = b JOIN ORDER",
-        "F16 NotInSubset",
-    ),
-    (
-        "SELECT a FROM ORDER WHERE a IS NULL IS NOT TRUE",
-        "F16 NotInSubset",
-    ),
-    ("+ SELECT a FROM t WHERE a IS NULL", "F16 NotInSubset"),
-    (
-        "SELECT a FROM t JOIN u ON t . a = + u . a",
-        "F16 NotInSubset",
-    ),
-    ("SELECT a FROM t WHERE a - 1", "F16 NotInSubset"),
-    ("SELECT COUNT ( * ) * t", "F16 NotInSubset"),
-    (
-        "SELECT a FROM t WHERE a = 1 AND b = 2 OR c = 3 NULL AND NOT d = 4",
-        "F16 NotInSubset",
-    ),
-    ("* FROM t", "F16 NotInSubset"),
-];
-
-pub(crate) static OFFENDING: [(&str, &str); 40] = [
-    ("SELECT a FROM t WHERE a =", "F13 BadSql at byte 25"),
-    (
-        "SELECT a FROM t WHERE a = 100000000000000000000000000000000000000",
-        "F13 BadSql at byte 26",
-    ),
-    ("SELECT a FROM t GROUP BY a,", "F13 BadSql at byte 27"),
-    ("SELECT a FROM t AS", "F13 BadSql at byte 18"),
-    ("SELECT *, a FROM t", "F13 BadSql at byte 8"),
-    ("SELECT a FROM t WHERE TRUE", "F13 BadSql at byte 26"),
-    ("SELECT a FROM t WHERE a IN (1 2)", "F13 BadSql at byte 30"),
-    (
-        "SELECT a FROM t JOIN u ON t.a = u.a OR a = b",
-        "F13 BadSql at byte 36",
-    ),
-    ("SELECT f(a) FROM t", "F13 BadSql at byte 8"),
-    ("SELECT a FROM on", "F13 BadSql at byte 14"),
-    ("SELECT a FROM t WHERE a. = 1", "F13 BadSql at byte 25"),
-    (
-        "SELECT * FROM t0 JOIN t1 ON a = b JOIN t2 ON a = b JOIN t3 ON a = b WHERE",
-        "F13 BadSql at byte 73",
-    ),
-    ("SELECT a FROM t IS a IS NOT NULL", "F13 BadSql at byte 16"),
-    ("SELECT a FROM t WHERE IS NOT NULL", "F13 BadSql at byte 22"),
-    ("SELECT a , b , c t", "F13 BadSql at byte 18"),
-    ("SELECT * FROM", "F13 BadSql at byte 13"),
-    ("SELECT a FROM t WHERE a = 1 AND b", "F13 BadSql at byte 33"),
-    (
-        "SELECT a FROM t WHERE a = b GROUP BY AND a",
-        "F13 BadSql at byte 37",
-    ),
-    ("SELECT COUNT ( * )", "F13 BadSql at byte 18"),
-    ("SELECT ) t . a FROM t", "F13 BadSql at byte 7"),
-    (
-        "SELECT * FROM t INNER JOIN u AS v AND ON t . a = v . a AND t . b = v . b",
-        "F13 BadSql at byte 34",
-    ),
-    ("SELECT a t WHERE a = 1 IS UNKNOWN", "F13 BadSql at byte 11"),
-    ("SELECT a FROM t WHERE NOT a OR 1", "F13 BadSql at byte 28"),
-    ("SELECT NOT a AS b FROM t", "F13 BadSql at byte 7"),
-    ("SELECT a FROM t WHERE a NOT IN", "F13 BadSql at byte 30"),
-    ("SELECT a , b , c FROM BETWEEN t", "F13 BadSql at byte 22"),
-    (
-        "SELECT a ( FROM t WHERE ( a = 1 ) IS NOT FALSE",
-        "F13 BadSql at byte 9",
-    ),
-    ("a from t ;", "F13 BadSql at byte 0"),
-    ("SELECT a FROM t WHERE NOT a", "F13 BadSql at byte 27"),
-    (
-        "SELECT * FROM t x JOIN u y ON x . a = y . a JOIN v z ON . b = z . b WHERE x . a > 1",
-        "F13 BadSql at byte 56",
-    ),
-    ("SELECT t . 7 a FROM t", "F13 BadSql at byte 11"),
-    (
-        "SELECT a FROM t WHERE a IS NULL , IS NOT TRUE",
-        "F13 BadSql at byte 32",
-    ),
-    (
-        "SELECT a FROM t WHERE a NOT BETWEEN 'a'",
-        "F13 BadSql at byte 39",
-    ),
-    ("SELECT a t WHERE a > - 1", "F13 BadSql at byte 11"),
-    (
-        "SELECT * FROM t INNER JOIN u AS ON t . a = v . a AND t . b = v . b",
-        "F13 BadSql at byte 32",
-    ),
-    (
-        "SELECT a FROM t WHERE a 7 1 AND b = 2 OR c = 3 AND NOT d = 4",
-        "F13 BadSql at byte 24",
-    ),
-    (
-        "SELECT a FROM t WHERE a = 1 , UNKNOWN",
-        "F13 BadSql at byte 28",
-    ),
-    (". SELECT a FROM t WHERE a >= TRUE", "F13 BadSql at byte 0"),
-    (
-        "SELECT a FROM t WHERE 1 GROUP ( a , b ) IS TRUE",
-        "F13 BadSql at byte 24",
-    ),
-    (
-        "SELECT a t WHERE 1 IN ( a , b ) IS TRUE",
-        "F13 BadSql at byte 11",
-    ),
-];
+pub(crate) static QUERIES: &str = r#"
+ok SELECT * FROM t
+ok SELECT a FROM t
+ok select a from t;
+ok SELECT a, b, c FROM t
+ok SELECT t.a FROM t
+ok SELECT a AS b FROM t
+ok SELECT a b FROM t
+ok SELECT a FROM t x
+ok SELECT x.a FROM t AS x
+ok SELECT COUNT(*) FROM t
+ok SELECT COUNT(a) FROM t
+ok SELECT SUM(t.a) AS s, COUNT(*) n, b FROM t GROUP BY b
+ok SELECT a FROM t GROUP BY a, b, t.c;
+ok SELECT "a""b" FROM "t" -- c
+ok SELECT a FROM t JOIN u ON t.a = u.a
+ok SELECT * FROM t INNER JOIN u AS v ON t.a = v.a AND t.b = v.b
+ok SELECT * FROM t x JOIN u y ON x.a = y.a JOIN v z ON y.b = z.b WHERE x.a > 1
+ok SELECT a FROM t WHERE a = 1
+ok SELECT a FROM t WHERE a <> b
+ok SELECT a FROM t WHERE a != 'x'
+ok SELECT a FROM t WHERE 1 < a
+ok SELECT a FROM t WHERE a <= +1
+ok SELECT a FROM t WHERE a > -1
+ok SELECT a FROM t WHERE a >= TRUE
+ok SELECT a FROM t WHERE FALSE = b
+ok SELECT a FROM t WHERE a BETWEEN 1 AND 2
+ok SELECT a FROM t WHERE a NOT BETWEEN 'a' AND 'b' AND b = 1
+ok SELECT a FROM t WHERE a IN (1)
+ok SELECT a FROM t WHERE a NOT IN (1, b, 'c', TRUE, -4)
+ok SELECT a FROM t WHERE a IS NULL
+ok SELECT a FROM t WHERE a IS NOT NULL
+ok SELECT a FROM t WHERE a IS NULL IS NOT TRUE
+ok SELECT a FROM t WHERE a = 1 IS UNKNOWN
+ok SELECT a FROM t WHERE (a = 1) IS NOT FALSE
+ok SELECT a FROM t WHERE NOT a = 1
+ok SELECT a FROM t WHERE NOT NOT (NOT a = 1)
+ok SELECT a FROM t WHERE a = 1 AND b = 2 OR c = 3 AND NOT d = 4
+ok SELECT a FROM t WHERE (a = 1 OR b = 2) AND (c = 3 OR (d = 4))
+ok SELECT a FROM t WHERE a = b GROUP BY a
+ok SELECT a FROM t WHERE TRUE IS NULL
+ok SELECT a FROM t WHERE 1 IN (a, b) IS TRUE
+ok SELECT COUNT(*) FROM t WHERE a BETWEEN b AND c OR a = 1;
+25 SELECT a FROM t WHERE a =
+9 SELECT a,, b FROM t
+34 SELECT a FROM t WHERE a BETWEEN 1 2
+F16 SELECT a FROM t WHERE a + 1 = 2
+22 SELECT a FROM t WHERE 'x
+16 SELECT a FROM t;;
+29 SELECT a FROM t WHERE a = --1
+23 SELECT a FROM t WHERE a
+F16 SELECT a FROM t ORDER BY a
+F16 SELECT COUNT(*) FROM t JOIN u ON t.a = u.a
+5 FROM @
+12 SELECT FROM '
+25 SELECT a FROM t ORDER BY ""
+0 @ SELECT
+26 SELECT a FROM t WHERE a = 1{38:0}
+ok SELECT a FROM t WHERE a = {38:9}
+0 
+6 SELECT
+8 SELECT a
+13 SELECT a FROM
+21 SELECT a FROM t WHERE
+25 SELECT a FROM t WHERE NOT
+23 SELECT a FROM t WHERE (
+28 SELECT a FROM t WHERE (a = 1
+21 SELECT a FROM t GROUP
+24 SELECT a FROM t GROUP BY
+27 SELECT a FROM t GROUP BY a,
+20 SELECT a FROM t JOIN
+22 SELECT a FROM t JOIN u
+25 SELECT a FROM t JOIN u ON
+27 SELECT a FROM t JOIN u ON a
+35 SELECT a FROM t JOIN u ON a = b AND
+12 SELECT COUNT
+13 SELECT COUNT(
+12 SELECT SUM(a
+11 SELECT a AS
+9 SELECT t.
+18 SELECT a FROM t AS
+21 SELECT a FROM t INNER
+26 SELECT a FROM t WHERE a IS
+30 SELECT a FROM t WHERE a IS NOT
+27 SELECT a FROM t WHERE a NOT
+26 SELECT a FROM t WHERE a IN
+28 SELECT a FROM t WHERE a IN (
+29 SELECT a FROM t WHERE a IN (1
+30 SELECT a FROM t WHERE a IN (1,
+23 SELECT a FROM t WHERE -
+ok SELECT a FROM t -- x
+F16 SELECT DISTINCT a FROM t
+F16 SELECT ALL a FROM t
+F16 SELECT a FROM t LIMIT 1
+F16 SELECT a FROM t OFFSET 1
+F16 SELECT a FROM t FETCH 1
+F16 SELECT a FROM t GROUP BY a HAVING a = 1
+F16 SELECT a FROM t UNION SELECT a FROM t
+F16 SELECT a FROM t EXCEPT SELECT a FROM t
+F16 SELECT a FROM t INTERSECT SELECT b FROM t
+F16 SELECT a FROM t LEFT JOIN u ON a = b
+F16 SELECT a FROM t RIGHT JOIN u ON a = b
+F16 SELECT a FROM t FULL OUTER JOIN u ON a = b
+F16 SELECT a FROM t CROSS JOIN u
+F16 SELECT a FROM t NATURAL JOIN u
+F16 SELECT a FROM t JOIN u USING (a)
+F16 SELECT a FROM t WHERE a LIKE 'x'
+F16 SELECT a FROM t WHERE EXISTS (a)
+F16 SELECT a FROM t WHERE a = ANY (1)
+F16 SELECT a FROM t WHERE a = SOME (1)
+F16 SELECT CASE a FROM t
+F16 SELECT CAST(a) FROM t
+F16 SELECT MIN(a) FROM t
+F16 SELECT MAX(a) FROM t
+F16 SELECT AVG(a) FROM t
+F16 WITH x SELECT a FROM t
+F16 VALUES (1)
+F16 INSERT INTO t
+F16 UPDATE t
+F16 DELETE FROM t
+F16 SELECT a FROM t WHERE a = NULL
+F16 SELECT NULL FROM t
+F16 SELECT a FROM t WHERE NULL IS NULL
+F16 SELECT a FROM t WHERE a IN (NULL)
+F16 SELECT a FROM t WHERE a = DATE '1994-01-01'
+F16 SELECT DATE FROM t
+F16 SELECT a FROM DATE
+F16 SELECT a + b FROM t
+F16 SELECT a * 2 FROM t
+F16 SELECT a / 2 FROM t
+F16 SELECT a % 2 FROM t
+F16 SELECT a || b FROM t
+F16 SELECT -a FROM t
+27 SELECT a FROM t WHERE a = -b
+ok SELECT a FROM t WHERE a = - 1
+F16 SELECT a FROM t WHERE a = - -1
+F16 SELECT a FROM t WHERE a = 1 ORDER BY a
+F16 SELECT a, * FROM t
+8 SELECT *, a FROM t
+F16 SELECT t.* FROM t
+F16 SELECT COUNT(*) * 2 FROM t
+F16 SELECT a FROM t WHERE * = 1
+15 SELECT a FROM t, u
+7 SELECT 1 FROM t
+7 SELECT 'a' FROM t
+14 SELECT a FROM 'a'
+25 SELECT a FROM t WHERE a == 1
+28 SELECT a FROM t WHERE a = 1 = 2
+24 SELECT a FROM t WHERE (a)
+24 SELECT a FROM t WHERE (a) = 1
+30 SELECT a FROM t WHERE ((a = 1)
+29 SELECT a FROM t WHERE (a = 1))
+26 SELECT a FROM t WHERE TRUE
+30 SELECT a FROM t WHERE NOT TRUE
+27 SELECT a FROM t WHERE a IS TRUE
+27 SELECT a FROM t WHERE a IS UNKNOWN
+31 SELECT a FROM t WHERE a IS NOT TRUE
+F16 SELECT a FROM t WHERE a = 1 IS NULL
+F16 SELECT a FROM t WHERE (a = 1) IS NULL
+36 SELECT a FROM t WHERE a = 1 IS TRUE IS TRUE
+ok SELECT a FROM t WHERE (a = 1 IS TRUE) IS TRUE
+F16 SELECT a FROM t WHERE a NOT NULL
+28 SELECT a FROM t WHERE a NOT = 1
+28 SELECT a FROM t WHERE a NOT NOT IN (1)
+28 SELECT a FROM t WHERE a IN ()
+27 SELECT a FROM t WHERE a IN 1
+28 SELECT a FROM t WHERE a IN ((1))
+30 SELECT a FROM t WHERE a IN (1 2)
+34 SELECT a FROM t WHERE a BETWEEN 1 OR 2
+32 SELECT a FROM t WHERE a BETWEEN (1) AND 2
+38 SELECT a FROM t WHERE a BETWEEN 1 AND NOT 2
+28 SELECT a FROM t WHERE a < b < c
+22 SELECT a FROM t WHERE AND a = 1
+31 SELECT a FROM t WHERE a = 1 AND
+31 SELECT a FROM t WHERE a = 1 OR OR b = 1
+30 SELECT a FROM t JOIN u ON t.a < u.a
+26 SELECT a FROM t JOIN u ON (t.a = u.a)
+32 SELECT a FROM t JOIN u ON t.a = 1
+36 SELECT a FROM t JOIN u ON t.a = u.a OR a = b
+26 SELECT a FROM t JOIN u ON NOT a = b
+28 SELECT a FROM t WHERE a = 1 JOIN u ON a = b
+27 SELECT a FROM t GROUP BY a WHERE a = 1
+25 SELECT a FROM t GROUP BY 1
+25 SELECT a FROM t GROUP BY COUNT(*)
+22 SELECT a FROM t GROUP a
+14 SELECT COUNT(a, b) FROM t
+13 SELECT COUNT() FROM t
+F16 SELECT SUM(*) FROM t
+11 SELECT SUM(SUM(a)) FROM t
+13 SELECT COUNT a FROM t
+8 SELECT f(a) FROM t
+10 SELECT a.b.c FROM t
+15 SELECT a FROM t.u
+14 SELECT a FROM (t)
+7 SELECT (a) FROM t
+12 SELECT a AS 'b' FROM t
+12 SELECT a AS select FROM t
+ok SELECT a AS "select" FROM t
+11 SELECT a b c FROM t
+21 SELECT a FROM t AS x y
+18 SELECT a FROM t x AS y
+13 SELECT count FROM t
+ok SELECT "count" FROM t
+14 SELECT a FROM on
+19 SELECT a FROM t AS WHERE a = 1
+0 a
+7 SELECT SELECT
+0 ; SELECT a FROM t
+7 SELECT ; FROM t
+17 SELECT a FROM t; SELECT a FROM t
+0 ;
+0 (SELECT a FROM t)
+30 SELECT a FROM t WHERE a = 'b' 'c'
+ok SELECT a FROM t WHERE 1 = 1
+25 SELECT a FROM t WHERE a.b.c = 1
+25 SELECT a FROM t WHERE a. = 1
+7 SELECT .a FROM t
+27 SELECT a FROM t WHERE a = 1.5
+26 SELECT a FROM t WHERE a = .5
+F16 SELECT a FROM t WHERE a = + + 1
+27 SELECT a FROM t WHERE a = +'1'
+27 SELECT a FROM t WHERE a = -TRUE
+F16 SELECT * FROM t GROUP BY a
+F16 SELECT a FROM t JOIN u ON t.a = u.a GROUP BY a
+F16 SELECT SUM(a) FROM t JOIN u ON t.a = u.a WHERE a = 1;
+F16 SELECT * FROM t JOIN u ON t.a = u.a GROUP BY a
+48 SELECT COUNT(*) FROM t JOIN u ON t.a = u.a GROUP
+F16 SELECT COUNT(*) FROM t JOIN u ON t.a = u.a ORDER
+27 SELECT * FROM t GROUP BY a,
+ok SELECT {64:n} FROM t
+ok SELECT a FROM {64:n}
+ok SELECT a AS {64:n} FROM t
+ok SELECT {64:n}.a FROM t
+ok SELECT a FROM t WHERE {64:n} = 1
+ok SELECT "{64:n}" FROM t
+ok SELECT a FROM t WHERE '{64:n}' = a
+ok SELECT a FROM t {64:n}
+ok SELECT a FROM t GROUP BY {64:n}
+72 SELECT {64:n},, FROM t
+7 SELECT ,{64:n} FROM t
+F16 SELECT a FROM t ORDER {64:n}
+ok SELECT {130:"} FROM t
+ok SELECT "{32:é}" FROM t
+F12 SELECT {65:n} FROM t
+F12 SELECT a FROM {65:n}
+F12 SELECT a AS {65:n} FROM t
+F12 SELECT {65:n}.a FROM t
+F12 SELECT a FROM t WHERE {65:n} = 1
+F12 SELECT "{65:n}" FROM t
+ok SELECT a FROM t WHERE '{65:n}' = a
+F12 SELECT a FROM t {65:n}
+F12 SELECT a FROM t GROUP BY {65:n}
+F12 SELECT {65:n},, FROM t
+7 SELECT ,{65:n} FROM t
+F16 SELECT a FROM t ORDER {65:n}
+F12 SELECT {132:"} FROM t
+F12 SELECT "{32:é}x" FROM t
+F12 SELECT {65:n}
+ok SELECT * FROM t0 JOIN t1 ON a = b JOIN t2 ON a = b JOIN t3 ON a = b
+73 SELECT * FROM t0 JOIN t1 ON a = b JOIN t2 ON a = b JOIN t3 ON a = b WHERE
+88 SELECT * FROM t0 JOIN t1 ON a = b JOIN t2 ON a = b JOIN t3 ON a = b WHERE a = 1 GROUP BY
+F16 SELECT * FROM t0 JOIN t1 ON a = b JOIN t2 ON a = b JOIN t3 ON a = b ORDER BY a
+F12 SELECT * FROM t0 JOIN t1 ON a = b JOIN t2 ON a = b JOIN t3 ON a = b JOIN t4 ON a = b
+F12 SELECT * FROM t0 JOIN t1 ON a = b JOIN t2 ON a = b JOIN t3 ON a = b JOIN t4 ON a = b WHERE
+F12 SELECT * FROM t0 JOIN t1 ON a = b JOIN t2 ON a = b JOIN t3 ON a = b JOIN t4 ON a = b WHERE a = 1 GROUP BY
+F12 SELECT * FROM t0 JOIN t1 ON a = b JOIN t2 ON a = b JOIN t3 ON a = b JOIN t4 ON a = b ORDER BY a
+69 SELECT * FROM t JOIN u ON a = b JOIN v ON a = b JOIN w ON a = b JOIN 1
+F16 SELECT * FROM t JOIN u ON a = b JOIN v ON a = b JOIN w ON a = b JOIN ORDER
+68 SELECT * FROM t JOIN u ON a = b JOIN v ON a = b JOIN w ON a = b JOIN
+ok SELECT{63: a,} a FROM t
+ok SELECT{63: COUNT(*),} COUNT(*) FROM t
+658 SELECT{63: t.a AS b,} t.a AS b FROM t WHERE
+ok SELECT a FROM t GROUP BY{63: a,} a
+344 SELECT a FROM t GROUP BY{63: t.a,} t.a;;
+199 SELECT{64: a,} FROM t
+F12 SELECT{64: a,} a FROM t
+F12 SELECT{64: COUNT(*),} COUNT(*) FROM t
+F12 SELECT{64: t.a AS b,} t.a AS b FROM t WHERE
+F12 SELECT a FROM t GROUP BY{64: a,} a
+F12 SELECT a FROM t GROUP BY{64: t.a,} t.a;;
+F12 SELECT{65: a,} FROM t
+199 SELECT{64: a,} 1 FROM t
+F16 SELECT{64: a,} MIN(a) FROM t
+F16 SELECT a FROM t GROUP BY{64: a,} ORDER
+ok SELECT a FROM t WHERE a IN ({255:1, }1)
+ok SELECT a FROM t WHERE a NOT IN ({255:-1, }-1) AND b = 1
+794 SELECT a FROM t WHERE a IN ({255:b, }b
+ok SELECT a FROM t WHERE a IN ({255:1, }1) AND b IN ({255:2, }2)
+F12 SELECT a FROM t WHERE a IN ({256:1, }1)
+F12 SELECT a FROM t WHERE a NOT IN ({256:-1, }-1) AND b = 1
+F12 SELECT a FROM t WHERE a IN ({256:b, }b
+F12 SELECT a FROM t WHERE a IN ({256:1, }1) AND b IN ({256:2, }2)
+ok SELECT a FROM t WHERE a IN ({199:1, }1) AND b IN ({199:2, }2)
+F12 SELECT a FROM t WHERE a IN ({256:1, }-)
+F12 SELECT a FROM t WHERE a IN ({256:1, }-1)
+F16 SELECT a FROM t WHERE a IN ({256:1, }NULL)
+ok SELECT a FROM t WHERE{64: NOT} a = 1
+ok SELECT a FROM t WHERE {64:(}a = 1{64:)}
+ok SELECT a FROM t WHERE {32:NOT (}a = 1{32:)}
+86 SELECT a FROM t WHERE {64:(}
+278 SELECT a FROM t WHERE{64: NOT} 
+86 SELECT a FROM t WHERE {64:(})
+ok SELECT a FROM t WHERE {63:(}NOT a = 1{63:)}
+ok SELECT a FROM t WHERE{63: NOT} (a = 1)
+ok SELECT a FROM t WHERE {63:(}a NOT IN (1{64:)}
+ok SELECT a FROM t WHERE {63:(}a IS NOT NULL{63:)}
+F16 SELECT a FROM t WHERE {64:(}ORDER
+ok SELECT a FROM t WHERE a = 1 AND {64:(}b = 1{64:)}
+F12 SELECT a FROM t WHERE{65: NOT} a = 1
+F12 SELECT a FROM t WHERE {65:(}a = 1{65:)}
+F12 SELECT a FROM t WHERE {32:NOT (}NOT a = 1{32:)}
+F12 SELECT a FROM t WHERE {65:(}
+F12 SELECT a FROM t WHERE{65: NOT} 
+F12 SELECT a FROM t WHERE {65:(})
+F12 SELECT a FROM t WHERE {64:(}NOT a = 1{64:)}
+F12 SELECT a FROM t WHERE{64: NOT} (a = 1)
+ok SELECT a FROM t WHERE {64:(}a NOT IN (1{65:)}
+ok SELECT a FROM t WHERE {64:(}a IS NOT NULL{64:)}
+F12 SELECT a FROM t WHERE {65:(}ORDER
+F12 SELECT a FROM t WHERE a = 1 AND {65:(}b = 1{65:)}
+ok SELECT a FROM t WHERE{64: NOT} a = 1 AND NOT b = 1
+ok SELECT a FROM t WHERE{64: NOT} a = 1 OR{64: NOT} b = 1
+ok SELECT a FROM t WHERE {63:(}NOT a = 1 AND NOT b = 1 OR NOT c = 1{63:)}
+ok SELECT a FROM t WHERE{32: NOT} ({31:NOT }a = 1 AND{31: NOT} b = 1) AND{64: NOT} c = 1
+F12 SELECT a FROM t WHERE{32: NOT} ({31:NOT }a = 1 AND{32: NOT} b = 1)
+ok SELECT a FROM t WHERE{79: NOT (a = 1) AND} NOT (a = 1)
+F12 SELECT a FROM t WHERE {16362:(}
+F12 SELECT a FROM t WHERE {16363:(}
+F12 SELECT a FROM t WHERE{4000: NOT} a = 1
+ok SELECT a FROM t WHERE{999: a = 1 AND} a = 1
+ok SELECT a FROM t{16369: }
+F12 SELECT a FROM t{16370: }
+F12 @{16384: }
+47 SELECT a FROM t WHERE a = 1 AND b = 2 OR c = 3 ( AND NOT d = 4
+0 a FROM t WHERE TRUE IS NULL
+24 SELECT a FROM t WHERE 1 ( a , b ) IS TRUE
+16 SELECT COUNT ( a
+F16 SELECT a FROM ORDER WHERE a IS NULL IS NOT TRUE
+34 SELECT a FROM t WHERE a BETWEEN 1 >= 2
+16 SELECT a FROM t IS a IS NOT NULL
+34 SELECT a FROM t WHERE a BETWEEN 1 . 2
+14 SELECT a FROM GROUP WHERE a = b GROUP BY a
+ok SELECT * FROM x JOIN u y ON x . a = y . a JOIN v z ON y . b = z . b WHERE x . a > 1
+38 SELECT a FROM t WHERE a NOT IN ( 1 , b
+17 SELECT SUM ( t . ) ) AS s , COUNT ( * ) n , b FROM t GROUP BY b
+34 SELECT * FROM t x JOIN u y ON x . . a = y . a JOIN v z ON y . b = z . b WHERE x . a > 1
+14 SELECT a AS b x t
+34 SELECT a FROM t WHERE a = b GROUP 7 a
+55 SELECT a FROM t WHERE a NOT BETWEEN 'a' AND 'b' AND b =
+7 SELECT , ( a ) FROM t
+26 SELECT * FROM t INNER JOIN
+F16 SELECT || COUNT ( * ) FROM t
+22 SELECT a FROM t WHERE IS NOT NULL
+11 SELECT SUM a FROM t WHERE a = 1
+28 SELECT * FROM t INNER JOIN u
+16 SELECT "a""b" , FROM "t"
+7 SELECT = COUNT ( * ) FROM t WHERE a BETWEEN b AND c OR a = 1 ;
+50 SELECT COUNT ( * ) FROM t WHERE a BETWEEN b AND c FROM a = 1 ;
+14 SELECT a FROM BY WHERE a IS NOT NULL
+F16 + SELECT a FROM t WHERE a IS NULL
+26 SELECT a FROM t WHERE NOT ) a = 1
+55 SELECT a FROM t WHERE a = 1 AND b = 2 OR c = 3 AND NOT = 4
+11 SELECT a t WHERE FALSE = b
+10 SELECT a t
+18 SELECT a , b , c t
+11 SELECT a , SELECT , c FROM t
+14 SELECT a FROM WHERE a IS NOT NULL
+ok SELECT a FROM t GROUP BY a , b
+36 SELECT a FROM t WHERE a = 1 AND b = OR c = 3 AND NOT d = 4
+F16 * a FROM t WHERE NOT a = 1
+27 SELECT a FROM t WHERE a <> WHERE b
+45 SELECT a FROM t WHERE NOT NOT ( ( NOT a = 1 )
+14 SELECT a FROM WHERE a <= + 1
+7 select from t ;
+22 SELECT a FROM t WHERE ; <> b
+16 SELECT a FROM t ) a <> b
+11 SELECT a t x
+13 SELECT * FROM
+F16 SELECT a FROM t JOIN u ON t . a = + u . a
+14 SELECT t . a t
+13 SELECT "a""b"
+18 SELECT a FROM t a = 1 IS UNKNOWN
+ok SELECT a FROM x
+0 a FROM t
+7 SELECT JOIN FROM t x
+14 SELECT a FROM = GROUP BY a , b , t . c ;
+76 SELECT * FROM t x JOIN u y ON x . a = y . a JOIN v z ON y . b = z . b WHERE SUM x . a > 1
+59 SELECT SUM ( t . a ) AS s , COUNT ( * ) n , b FROM t GROUP FROM BY b
+ok SELECT * FROM t WHERE a BETWEEN 1 AND 2
+7 SELECT FROM t
+57 SELECT a FROM t WHERE a NOT BETWEEN 'a' AND 'b' AND b IS = 1
+33 SELECT a FROM t WHERE a = 1 AND b
+7 select NOT a from t ;
+27 SELECT a FROM t WHERE a IS COUNT
+9 SELECT a <> FROM t WHERE ( a = 1 ) IS NOT FALSE
+14 SELECT a FROM WHERE a IS NULL
+ok SELECT a FROM t WHERE NOT ( NOT a = 1 )
+22 SELECT a FROM t WHERE SUM = 1
+7 SELECT BETWEEN COUNT ( * ) FROM t
+19 SELECT COUNT ( * ) . FROM t
+18 SELECT a FROM t ; a IS NULL
+30 SELECT a FROM t WHERE NOT a = SELECT
+29 SELECT a FROM t GROUP BY a , ) , t . c ;
+37 SELECT a FROM t WHERE a = b GROUP BY AND a
+11 SELECT a t WHERE a = 1
+30 SELECT a FROM t WHERE a IN ( 1
+7 SELECT FROM t JOIN u ON t . a = u . a
+F16 SELECT x . a FROM t AS * x
+F16 SELECT a FROM t WHERE a - 1
+13 SELECT COUNT 'z' ( a ) FROM t
+ok SELECT COUNT ( a ) FROM t
+26 SELECT a FROM t WHERE a = ON IS UNKNOWN
+22 SELECT a FROM t GROUP a IN ( 1 )
+40 SELECT * FROM t x JOIN u y ON x . a = y a JOIN v z ON y . b = z . b WHERE x . a > 1
+0 a FROM t WHERE a = 1 AND b = 2 OR c = 3 AND NOT d = 4
+7 SELECT AND FROM t WHERE a IS NOT NULL
+14 select a from >= ;
+18 SELECT COUNT ( * )
+0 = SELECT a FROM t WHERE a IS NULL IS NOT TRUE
+40 SELECT a FROM t WHERE NOT NOT NOT a = 1 )
+14 SELECT a FROM WHERE a NOT IN ( 1 , b , 'c' , TRUE , - 4 )
+14 SELECT a FROM WHERE NOT a = 1
+0 a FROM t WHERE a != 'x'
+22 SELECT a FROM t WHERE ) a <> b
+7 SELECT = a FROM t WHERE a >= TRUE
+7 SELECT FROM t x
+0 ; a AS b FROM t
+F16 NULL SELECT a FROM t GROUP BY a , b , t . c ;
+53 SELECT SUM ( t . a ) AS s , COUNT ( * ) n , b FROM t NOT GROUP BY b
+7 SELECT ) t . a FROM t
+24 SELECT SUM ( t . a ) AS = , COUNT ( * ) n , b FROM t GROUP BY b
+0 "a""b" FROM "t"
+ok SELECT a FROM t WHERE a IN ( 1 , b , 'c' , TRUE , - 4 )
+14 SELECT a FROM . t WHERE 1 < a
+F16 SELECT COUNT ( * ) * t
+7 SELECT . a FROM t AS x
+F16 SELECT a FROM t WHERE a NULL b
+0 7 a FROM t
+7 SELECT FROM t WHERE 1 < a
+30 SELECT a FROM t WHERE NOT NOT AS NOT a = 1 )
+0 x . a FROM t AS x
+22 SELECT a FROM t WHERE AS <= + 1
+16 SELECT a FROM t < WHERE a >= TRUE
+34 SELECT * FROM t INNER JOIN u AS v AND ON t . a = v . a AND t . b = v . b
+27 SELECT a FROM t WHERE a >= BY
+40 SELECT SUM ( t . a ) AS s , COUNT ( * ) COUNT n , b FROM t GROUP BY b
+15 SELECT COUNT ( IS ) FROM t
+36 SELECT a FROM t WHERE a NOT IN ( 1 ,
+7 SELECT FROM t WHERE a >= TRUE
+9 SELECT a 7 FROM t WHERE 1 < a
+64 SELECT a FROM t WHERE ( a = 1 OR b = 2 ) AND ( c = 3 OR ( d = 4 COUNT ) )
+9 SELECT a ) FROM t JOIN u ON t . a = u . a
+0 >= * FROM t INNER JOIN u AS v ON t . a = v . a AND t . b = v . b
+37 SELECT a FROM t WHERE 1 IN ( a , b ) FROM IS TRUE
+11 SELECT a t WHERE a = 1 IS UNKNOWN
+F16 SELECT a FROM t WHERE a = 1 AND b = 2 OR c = 3 NULL AND NOT d = 4
+7 SELECT ON FROM t WHERE a IS NOT NULL
+F16 ORDER select a from t ;
+F16 * FROM t
+14 SELECT a FROM AND t WHERE a <= + 1
+14 select a from ) ;
+16 SELECT a FROM t <> x
+9 select a IN t ;
+0 NOT SELECT a FROM t WHERE NOT a = 1
+22 SELECT a FROM t WHERE = b GROUP BY a
+62 SELECT SUM ( t . a ) AS s , COUNT ( * ) n , b FROM t GROUP BY >=
+14 SELECT a FROM SUM t WHERE a = 1 IS UNKNOWN
+0 a FROM t WHERE ( a = 1 ) IS NOT FALSE
+F16 SELECT * FROM t x JOIN u * y ON x . a = y . a JOIN v z ON y . b = z . b WHERE x . a > 1
+28 SELECT a FROM t WHERE NOT a OR 1
+9 SELECT a UNKNOWN FROM t WHERE a != 'x'
+7 SELECT GROUP COUNT ( a ) FROM t
+23 SELECT COUNT ( * ) FROM
+14 SELECT a FROM < t WHERE 1 < a
+19 SELECT COUNT ( a ) . t
+0 a FROM t WHERE a <> b
+F16 SELECT SUM ( t . a ) AS s , COUNT ( + * ) n , b FROM t GROUP BY b
+16 SELECT a FROM t UNKNOWN WHERE 1 < a
+14 SELECT a FROM COUNT t WHERE a IS NULL
+F16 SELECT a FROM t WHERE NULL FALSE = b
+26 SELECT a FROM t WHERE a = <> IS UNKNOWN
+14 SELECT a FROM WHERE a != 'x'
+7 SELECT NOT a AS b FROM t
+0 7 SELECT a FROM t WHERE FALSE = b
+9 SELECT a SELECT t WHERE TRUE IS NULL
+26 SELECT a FROM t WHERE ( a 1 OR b = 2 ) AND ( c = 3 OR ( d = 4 ) )
+F16 SELECT * FROM t INNER JOIN u AS v - t . a = v . a AND t . b = v . b
+ok SELECT a FROM t WHERE NOT a IN ( 1 )
+34 SELECT * FROM t INNER JOIN u AS v t . a = v . a AND t . b = v . b
+9 select a NOT from t ;
+16 SELECT a FROM t NOT NOT ( NOT a = 1 )
+22 SELECT a FROM t GROUP NOT a = 1
+9 SELECT a AND FROM t WHERE ( a = 1 ) IS NOT FALSE
+25 SELECT a FROM t WHERE ( a
+86 SELECT * FROM t x JOIN u y ON x . a = y . a JOIN v z ON y . b = z . b WHERE x BETWEEN . a > 1
+30 SELECT a FROM t WHERE a NOT IN
+ok SELECT a FROM t WHERE a = 1 AND 'z' = 2 OR c = 3 AND NOT d = 4
+24 SELECT a FROM t WHERE a ( IS NOT NULL
+7 SELECT 'z' FROM t WHERE 1 < a
+7 SELECT BY FROM t WHERE a <= + 1
+7 SELECT FROM t WHERE a = 1
+7 SELECT FROM t WHERE a = b GROUP BY a
+14 SELECT * FROM <> t INNER JOIN u AS v ON t . a = v . a AND t . b = v . b
+F16 NULL SELECT a FROM t WHERE a = 1 IS UNKNOWN
+11 SELECT a b COUNT t
+28 SELECT a FROM t WHERE a NOT b GROUP BY a
+67 SELECT * FROM t x JOIN u y ON x . a = y . a JOIN v z ON y . b = z .
+37 SELECT a FROM t JOIN u ON t . a = u .
+22 SELECT a , b , c FROM BETWEEN t
+37 SELECT a FROM t WHERE ( a = 1 OR b = ) AND ( c = 3 OR ( d = 4 ) )
+26 SELECT a FROM t WHERE a = , GROUP BY a
+16 SELECT a b FROM GROUP t
+9 SELECT x TRUE . a FROM t AS x
+24 SELECT a FROM t WHERE - ( a = 1 OR b = 2 ) AND ( c = 3 OR ( d = 4 ) )
+14 SELECT a FROM . t
+6 select
+28 SELECT a FROM t WHERE a NOT ( 1 , b , 'c' , TRUE , - 4 )
+ok SELECT b FROM t
+F16 SELECT a FROM t WHERE TRUE IS ||
+F16 SELECT || b FROM t
+F16 SELECT a FROM t JOIN - ON t . a = u . a
+9 SELECT a ) FROM t WHERE a BETWEEN 1 AND 2
+14 SELECT a FROM WHERE a IN ( 1 )
+F16 ORDER SELECT a FROM t WHERE a > - 1
+9 SELECT a ( FROM t WHERE ( a = 1 ) IS NOT FALSE
+26 SELECT a FROM t WHERE a = BETWEEN 1
+11 SELECT a t GROUP BY a , b , t . c ;
+30 SELECT a FROM t WHERE a = 1 IS
+33 SELECT a FROM t JOIN u ON t . a =
+0 >= SELECT a FROM t WHERE NOT a = 1
+ok SELECT a b , c FROM t
+14 SELECT a AS b AND FROM t
+24 SELECT a FROM t WHERE a AND NULL
+7 SELECT AS x . a FROM t AS x
+F16 + SELECT a FROM t WHERE a = b GROUP BY a
+24 SELECT a FROM t WHERE a ) = 1 IS UNKNOWN
+14 SELECT a FROM TRUE WHERE a <= + 1
+0 a from t ;
+11 SELECT a x t WHERE ( a = 1 ) IS NOT FALSE
+15 SELECT COUNT ( ) FROM t
+22 SELECT a FROM t WHERE <> <> b
+7 SELECT 'z' FROM t WHERE a = 1
+16 SELECT a FROM t IS a <= + 1
+18 SELECT a FROM t ; a > - 1
+29 SELECT a FROM t WHERE FALSE =
+37 SELECT * FROM t INNER JOIN u AS v ON ; . a = v . a AND t . b = v . b
+32 SELECT a FROM t WHERE ( a = 1 ) NOT FALSE
+22 SELECT a FROM t WHERE . NOT a = 1
+27 SELECT a FROM t WHERE NOT a
+7 SELECT SELECT FROM t
+ok SELECT a FROM "y" WHERE 1 IN ( a , b ) IS TRUE
+32 SELECT a FROM t WHERE a BETWEEN AND 2
+27 SELECT a FROM t WHERE a >= FROM TRUE
+F16 SELECT a FROM t WHERE ( a = 1 ) ORDER NOT FALSE
+52 SELECT a FROM t WHERE a NOT BETWEEN 'a' AND 'b' AND = 1
+7 SELECT ( t . a ) AS s , COUNT ( * ) n , b FROM t GROUP BY b
+30 SELECT a FROM t JOIN u ON t . AND a = u . a
+29 SELECT a FROM t WHERE a <> 7 b
+F16 SELECT + "a""b" FROM "t"
+0 IN a FROM t WHERE a IS NULL
+18 SELECT COUNT ( a )
+39 SELECT SUM ( t . a ) AS s , COUNT ( * )
+56 SELECT * FROM t x JOIN u y ON x . a = y . a JOIN v z ON . b = z . b WHERE x . a > 1
+14 SELECT "a""b" 'z' "t"
+17 SELECT "a""b" "t"
+ok SELECT x a FROM t AS x
+34 SELECT SUM ( t . a ) AS s , COUNT x * ) n , b FROM t GROUP BY b
+23 SELECT COUNT ( a ) FROM
+27 SELECT a FROM t WHERE a <= UNKNOWN + 1
+9 SELECT a ; t WHERE a = 1 IS UNKNOWN
+ok SELECT x . a FROM t AS "y"
+0 "y" a FROM t JOIN u ON t . a = u . a
+16 SELECT a FROM t 1 < a
+20 SELECT COUNT ( a ) t
+26 SELECT a FROM t WHERE ( a ; 1 ) IS NOT FALSE
+11 SELECT t . 7 a FROM t
+14 SELECT a FROM FROM t
+34 SELECT a FROM t WHERE a NOT IN ( 1
+31 SELECT a FROM t WHERE a BETWEEN
+11 SELECT a t WHERE NOT a = 1
+36 SELECT a FROM t WHERE a NOT BETWEEN WHERE AND 'b' AND b = 1
+0 t . a FROM t
+7 SELECT IN COUNT ( * ) FROM t
+0 . x . a FROM t AS x
+61 SELECT SUM ( t . a ) AS s , COUNT ( * ) n , b FROM t GROUP BY
+ok SELECT a FROM t WHERE a BETWEEN 'a' AND 'b' AND b = 1
+ok SELECT * FROM t x JOIN u ON x . a = y . a JOIN v z ON y . b = z . b WHERE x . a > 1
+14 SELECT a FROM JOIN u ON t . a = u . a
+32 SELECT a FROM t WHERE a IS NULL , IS NOT TRUE
+22 SELECT x . a FROM t AS
+37 SELECT a FROM t WHERE 1 IN ( a , b ) x IS TRUE
+41 SELECT a FROM t WHERE a = 1 AND b = 2 IS OR c = 3 AND NOT d = 4
+21 SELECT a FROM t AS a = 1
+19 SELECT COUNT ( * ) < FROM t
+32 SELECT a FROM t WHERE a NOT IN (
+29 SELECT a FROM t WHERE a IN ( >= 1 )
+9 SELECT a ( FROM t JOIN u ON t . a = u . a
+62 SELECT a FROM t WHERE ( a = 1 OR b = 2 ) AND ( c = 3 OR ( d = BETWEEN ) )
+22 SELECT a FROM t WHERE IS NULL IS NOT TRUE
+39 SELECT a FROM t WHERE a NOT BETWEEN 'a'
+17 SELECT COUNT ( a BY FROM t
+0 >= SELECT a FROM t GROUP BY a , b , t . c ;
+9 SELECT a COUNT FROM t WHERE a = 1 IS UNKNOWN
+22 SELECT a FROM t GROUP a IS NULL IS NOT TRUE
+23 SELECT x . a FROM t AS SUM x
+7 SELECT . a FROM t
+26 SELECT a FROM t WHERE a <>
+22 SELECT a FROM t WHERE , = b
+ok SELECT t a FROM t
+28 SELECT a FROM t GROUP BY a ,
+22 SELECT a FROM t WHERE = b
+11 SELECT a t WHERE a > - 1
+16 SELECT t . a , t
+21 SELECT a , b , c FROM
+ok select a from t
+ok SELECT "a""b" FROM "t"
+9 SELECT a 'z' FROM t WHERE FALSE = b
+20 SELECT COUNT ( * ) t
+0 AND "a""b" FROM "t"
+14 SELECT a FROM WHERE 1 < a
+44 SELECT a FROM t WHERE a NOT BETWEEN 'a' AND NOT 'b' AND b = 1
+57 SELECT a FROM t WHERE a = 1 AND b = 2 OR c = 3 AND x NOT d = 4
+16 SELECT a b FROM >=
+F16 SELECT - FROM t WHERE a BETWEEN 1 AND 2
+14 SELECT a FROM NOT WHERE 1 IN ( a , b ) IS TRUE
+F16 SELECT a FROM t || a IS NOT NULL
+32 SELECT * FROM t INNER JOIN u AS ON t . a = v . a AND t . b = v . b
+F16 SELECT a FROM t WHERE NOT || NOT ( NOT a = 1 )
+0 TRUE SELECT "a""b" FROM "t"
+35 SELECT a FROM t WHERE a IS NULL IS IS NOT TRUE
+ok SELECT * FROM t JOIN u AS v ON t . a = v . a AND t . b = v . b
+14 SELECT a FROM TRUE WHERE a IN ( 1 )
+11 SELECT a , BETWEEN b , c FROM t
+14 SELECT a FROM = t WHERE a != 'x'
+F16 NULL SELECT "a""b" FROM "t"
+ok SELECT a FROM t JOIN u ON t . a = u . a
+57 SELECT a FROM t WHERE a = 1 AND b = 2 OR c = 3 AND NOT d SELECT 4
+0 a FROM t WHERE a NOT IN ( 1 , b , 'c' , TRUE , - 4 )
+34 SELECT a FROM t WHERE a BETWEEN 1 ) 2
+14 SELECT a FROM 7 t WHERE 1 < a
+34 SELECT COUNT ( * ) FROM t WHERE a BY b AND c OR a = 1 ;
+24 SELECT a FROM t WHERE a 7 1 AND b = 2 OR c = 3 AND NOT d = 4
+24 SELECT a FROM t WHERE a ( 1 )
+14 select a from TRUE ;
+ok SELECT a FROM t WHERE a = 1 AND b = 2 OR c = 3
+9 SELECT a OR t WHERE NOT a = 1
+42 SELECT a FROM t WHERE NOT NOT ( NOT a = 1 AS )
+22 SELECT a FROM t WHERE UNKNOWN > - 1
+F16 SELECT x . a FROM * AS x
+14 SELECT a FROM WHERE a BETWEEN 1 AND 2
+16 SELECT a FROM t ( WHERE a NOT IN ( 1 , b , 'c' , TRUE , - 4 )
+7 SELECT AND FROM t WHERE ( a = 1 OR b = 2 ) AND ( c = 3 OR ( d = 4 ) )
+0 >= SELECT COUNT ( a ) FROM t
+22 SELECT * FROM t x JOIN
+28 SELECT a FROM t WHERE a = 1 , UNKNOWN
+18 SELECT a FROM t a = b GROUP BY a
+11 SELECT t . FROM t
+22 SELECT a FROM t WHERE UNKNOWN 1 IN ( a , b ) IS TRUE
+F16 SELECT * FROM t x JOIN u y ON x . - a = y . a JOIN v z ON y . b = z . b WHERE x . a > 1
+19 SELECT COUNT ( * ) AND FROM t WHERE a BETWEEN b AND c OR a = 1 ;
+22 SELECT a FROM t WHERE < a
+11 SELECT SUM b FROM t
+7 select WHERE from t ;
+25 SELECT a FROM t JOIN u t . a = u . a
+27 SELECT a FROM t WHERE a IS UNKNOWN NOT NULL
+59 SELECT * FROM t INNER JOIN u AS v ON t . a = v . a AND t . = v . b
+0 . SELECT a FROM t WHERE a >= TRUE
+27 SELECT * FROM t x JOIN u y JOIN x . a = y . a JOIN v z ON y . b = z . b WHERE x . a > 1
+45 SELECT SUM ( t . a ) AS s , COUNT ( * ) n , b
+29 SELECT a FROM t WHERE a IN ( )
+39 SELECT a FROM t WHERE a IS NULL IS NOT BETWEEN TRUE
+ok SELECT a x FROM t WHERE ( a = 1 ) IS NOT FALSE
+0 "y" a FROM t WHERE a = 1 IS UNKNOWN
+37 SELECT SUM ( t . a ) AS s , COUNT ( *
+26 SELECT a FROM t WHERE a = IS UNKNOWN
+24 SELECT a FROM t WHERE a UNKNOWN b GROUP BY a
+26 SELECT a FROM t WHERE ( a AS 1 OR b = 2 ) AND ( c = 3 OR ( d = 4 ) )
+57 SELECT * FROM t INNER JOIN u AS v ON t . a = v . a AND t ; . b = v . b
+24 SELECT a FROM t WHERE 1 GROUP ( a , b ) IS TRUE
+35 SELECT a FROM t WHERE 1 IN ( a , b FROM IS TRUE
+11 SELECT a t WHERE a != 'x'
+26 SELECT a FROM t WHERE a > . - 1
+22 SELECT a FROM t WHERE JOIN = 1
+F16 SELECT a FROM || WHERE a = 1 IS UNKNOWN
+9 SELECT a ; t WHERE a > - 1
+9 SELECT x BY . a FROM t AS x
+7 SELECT GROUP COUNT ( * ) FROM t
+F16 - SELECT a FROM t WHERE ( a = 1 OR b = 2 ) AND ( c = 3 OR ( d = 4 ) )
+7 SELECT WHERE a b FROM t
+24 SELECT COUNT ( * ) FROM WHERE a BETWEEN b AND c OR a = 1 ;
+F16 SELECT a FROM t WHERE || a IN ( 1 )
+F16 NULL a FROM t WHERE 1 IN ( a , b ) IS TRUE
+37 SELECT a FROM t GROUP BY a , b , t . IS c ;
+11 SELECT a t WHERE 1 IN ( a , b ) IS TRUE
+19 SELECT a AS b FROM ; t
+12 SELECT a , b
+0 OR "a""b" FROM "t"
+9 SELECT a SUM FROM t WHERE a >= TRUE
+22 SELECT a FROM t WHERE IN ( a = 1 ) IS NOT FALSE
+0 a FROM t x
+14 SELECT a FROM BY t WHERE TRUE IS NULL
+ok SELECT COUNT ( * ) FROM t WHERE a BETWEEN b AND c OR a = 1
+31 SELECT COUNT ( * ) FROM t WHERE
+26 SELECT a FROM t WHERE 1 < ;
+ok SELECT a FROM t WHERE a > 1
+24 SELECT a FROM t WHERE a b
+36 SELECT a FROM t WHERE a = 1 AND b = ; OR c = 3 AND NOT d = 4
+70 SELECT * FROM t x JOIN u y ON x . a = y . a JOIN v z ON y . b = z . b x . a > 1
+7 SELECT UNKNOWN a FROM t WHERE 1 < a
+F16 SELECT a FROM * t WHERE a IN ( 1 )
+14 SELECT a FROM NOT WHERE NOT a = 1
+10 SELECT t .
+27 SELECT a FROM t GROUP BY a COUNT , b , t . c ;"#;

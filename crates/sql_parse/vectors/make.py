@@ -6,7 +6,7 @@ stands and run by Earley's recogniser over the tokens of sql_text's lexer (a lex
 the offending token is the first one with which no sentence of the grammar goes on. The limits are read
 off the recogniser's items. Nothing is shared with the crate, and no test needs this script.
 
-With the argument `--rattle` it prints some of the queries as Rattle arrays: `src/vectors.rt`.
+With the argument `--rattle` it prints them as a constant of Rattle: `src/vectors.rt`.
 """
 import importlib.util
 import pathlib
@@ -422,24 +422,37 @@ def changed(count):
             yield query
 
 
+# ---- the same as a constant of Rattle
+
+REPEATED = re.compile(r"(.{1,40}?)\1{4,}")
+ANSWERS = {"sentence": "ok", "F12 LimitReached": "F12", "F16 NotInSubset": "F16"}
+HEAD = """//! The queries of `vectors/queries.txt`, each behind what the rules answer: `ok`, `F12`, `F16`, or the byte at which
+//! a token offends. `{64:NOT }` stands for 64 times `NOT `. `vectors/make.py --rattle` prints this file.
+
+pub(crate) static QUERIES: &str = r#"
+"""
+
+
+def shortened(query):
+    """The query, in which what is repeated is written once behind its number."""
+    return REPEATED.sub(lambda run: "{%d:%s}" % (len(run[0]) // len(run[1]), run[1]), query)
+
+
+def whole(text):
+    return re.sub(r"\{(\d+):([^}]*)\}", lambda run: run[2] * int(run[1]), text)
+
+
+def line_of(told, query):
+    assert not set("{}#") & set(query) and whole(shortened(query)) == query
+    return f"{ANSWERS.get(told, told.removeprefix('F13 BadSql at byte '))} {shortened(query)}"
+
+
 def main():
     queries = list(dict.fromkeys(SENTENCES + OTHERS + list(limits()) + list(changed(400))))
     rows = [(answer(query), query) for query in queries]
     assert all("\t" not in query and "\n" not in query for query in queries)
     if "--rattle" in sys.argv:
-        print("//! Some of the queries of `vectors/queries.txt`, and what the rules answer. `vectors/make.py --rattle` prints it.")
-        short = [(told, query) for told, query in rows if len(query) <= 100]
-        groups = {
-            "SENTENCES": [row for row in short if row[0] == "sentence"],
-            "LEFT_OUT": [row for row in short if row[0].startswith("F16")],
-            "OFFENDING": [row for row in short if row[0].startswith("F13")],
-        }
-        for name, group in groups.items():
-            picked = group[::max(1, len(group) // 40)][:40]
-            print(f"\npub(crate) static {name}: [(&str, &str); {len(picked)}] = [")
-            for told, query in picked:
-                print(f"    ({lexer.literal(query)}, {lexer.literal(told)}),")
-            print("];")
+        print(HEAD + "\n".join(line_of(told, query) for told, query in rows) + '"#;')
     else:
         (HERE / "queries.txt").write_text("".join(f"{told}\t{query}\n" for told, query in rows))
 

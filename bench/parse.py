@@ -1,0 +1,97 @@
+#!/usr/bin/env python3
+"""How long `flightscan pipe` takes to parse texts of 16 KiB of several kinds.
+
+It makes its own inputs: 1,000 fetches of one text each, at version 0, where no table is, so that a sentence is parsed
+and then refused at its first table. The texts are parsed whole, unless their row says otherwise. The row `nothing`
+is a text whose first byte is no token: what a fetch costs without parsing. It is taken off the other rows. Times are
+of the processor, in user mode, the best of five runs. Build the program first, as for `pipe.py`.
+"""
+
+import os
+import subprocess
+import sys
+import tempfile
+
+from pipe import ROOT, chunk
+from first_run import END, PACKAGE, record_message, record_open
+
+BYTES = 16_384
+CALLS = 1_000
+RUNS = 5
+WHERE = "SELECT a FROM t WHERE "
+
+
+def filled(front, piece, end=""):
+    """The front, as many pieces as fit, the end, and blanks up to 16,384 bytes."""
+    times = (BYTES - len(front) - len(end)) // len(piece)
+    text = front + piece * times + end
+    return text + " " * (BYTES - len(text))
+
+
+def lists(items):
+    """INs of so many items, joined by AND."""
+    one = "a IN (" + "1, " * (items - 1) + "1)"
+    return filled(WHERE + one, " AND " + one)
+
+
+TEXTS = {
+    "nothing": filled("@", " "),
+    "blanks": filled("SELECT a FROM t", " "),
+    "comments": filled("SELECT a FROM t ", "--c\n"),
+    "one comment": filled("SELECT a FROM t --", "c"),
+    "one name (F12)": filled("SELECT ", "n", " FROM t"),
+    "one delimited name (F12)": filled('SELECT "', '""', '" FROM t'),
+    "one string": filled(WHERE + "a = '", "s", "'"),
+    "one string of quotes": filled(WHERE + "a = '", "''", "'"),
+    "strings": filled(WHERE + "a = ''", " OR a = 's'"),
+    "one number": filled(WHERE + "a = ", "0", "1"),
+    "OR chain": filled(WHERE + "a = 1", " OR a = 1"),
+    "AND chain": filled(WHERE + "a = 1", " AND a = 1"),
+    "BETWEEN chain": filled(WHERE + "a = 1", " AND a BETWEEN 1 AND 2"),
+    "IN lists": lists(256),
+    "one IN (F12)": filled(WHERE + "a IN (1", ", 1", ")"),
+    "parentheses, closed": filled(WHERE + "a = 1", " OR " + "(" * 64 + "a = 1" + ")" * 64),
+    "parentheses (F12 at the 65th)": filled(WHERE, "("),
+    "NOTs, closed": filled(WHERE + "a = 1", " OR " + "NOT " * 64 + "a = 1"),
+    "NOTs (F12 at the 65th)": filled(WHERE, "NOT "),
+    "select list (F12)": filled("SELECT a", ", a", " FROM t"),
+    "joins (F12)": filled("SELECT a FROM t", " JOIN t ON a = a"),
+    "GROUP BY (F12)": filled("SELECT a FROM t GROUP BY a", ", a"),
+}
+
+
+def fetch(text):
+    """One fetch of the text, of no rows, at version 0."""
+    handle = b"\x01" + bytes(16) + text.encode()
+    ticket = chunk(1, PACKAGE + b"TicketStatementQuery") + chunk(2, chunk(1, handle))
+    return record_open(b"DoGet") + record_message(chunk(1, ticket)) + END
+
+
+def user_seconds(program, source):
+    with open(source, "rb") as feed, open(os.devnull, "wb") as out:
+        child = subprocess.Popen([program, "pipe"], stdin=feed, stdout=out)
+        _, status, usage = os.wait4(child.pid, 0)
+    code = os.waitstatus_to_exitcode(status)
+    if code != 0:
+        sys.exit(f"{program} pipe ended with {code}")
+    return usage.ru_utime
+
+
+def main():
+    program = sys.argv[1] if len(sys.argv) > 1 else str(ROOT / "crates/flightscan/out/flightscan")
+    if not os.path.exists(program):
+        sys.exit("build the program first: cd crates/flightscan && rt run -- pipe < stdin > /dev/null")
+    print(f"{'text of 16,384 bytes':32}{'milliseconds':>13}")
+    spent = {}
+    with tempfile.TemporaryDirectory() as folder:
+        for name, text in TEXTS.items():
+            assert len(text) == BYTES
+            source = os.path.join(folder, "fetches")
+            with open(source, "wb") as out:
+                out.write(fetch(text) * CALLS)
+            spent[name] = min(user_seconds(program, source) for _ in range(RUNS)) / CALLS * 1_000
+            print(f"{name:32}{spent[name] - (spent['nothing'] if name != 'nothing' else 0):13.3f}", flush=True)
+
+
+if __name__ == "__main__":
+    main()
