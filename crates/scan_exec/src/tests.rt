@@ -1,19 +1,17 @@
-//! Queries as texts, which are parsed, bound and scanned. The rows that are wanted were worked out by hand.
+//! Queries over a table t of two nullable Int64 columns, in three batches of two rows.
 
-ghost use Rattle.std.specs.Prelude.{◌≡◌, IfOk, length};
+ghost use Rattle.std.specs.Prelude.{◌≡◌, IfOk};
 ghost use Rattle.arrow_schema.specs.declared.data_type.DataType.TheVariants.{Integer};
 ghost use Rattle.arrow_schema.specs.declared.data_type.IntegerType.TheVariants.{Int64};
 ghost use Rattle.arrow_schema.specs.Schema.{IsField};
 ghost use Rattle.arrays.specs.Typed.{IsOfType};
 
-mod types;
-
 use crate::Scan;
 use arrays::{Batch, Cells, Column, Integers, Layout};
 use arrow_schema::{DataType, Field, IntegerType, Schema};
 use bytes::Bytes;
-use scan_base::{Fault, Items, Text, ValueRef};
-use sql_parse::parse;
+use scan_base::{Comparison, Fault, Items, Operand, Predicate, Text, Truth, Value, ValueRef};
+use sql_query::{ColumnName, Expression, Place, Query, Select, SelectItem};
 use std::alloc::Global;
 use std::sync::Arc;
 use std::test::Fail;
@@ -55,7 +53,7 @@ fn field(alloc: Global, is_b: bool) -> Result<Field, Fault>
     })
 }
 
-// The version after an append of two rows to t, between two batches of no row.
+// The version after an append of two rows to t.
 fn appended(
     alloc: Global,
     catalog: CatalogVersion,
@@ -63,9 +61,6 @@ fn appended(
     b: [i64; 2],
 ) -> Result<CatalogVersion, Fault> {
     let columns = vec![in alloc; column(alloc, a)?, column(alloc, b)?]?;
-    let batch = Batch::new(columns, 2);
-    let front = batch.slice(alloc, 0, 0)?;
-    let end = batch.slice(alloc, 2, 2)?;
     let mut fields = Items::new(alloc);
     fields.push(field(alloc, false)?)?;
     fields.push(field(alloc, true)?)?;
@@ -74,17 +69,72 @@ fn appended(
         IfNotExist::Create,
         IfExists::Append,
         Schema { fields },
-        vec![in alloc; front, batch, end]?,
+        vec![in alloc; Batch::new(columns, 2)]?,
     );
     apply(alloc, &Snapshot::new(0, Arc::new(alloc, catalog)?), put)
 }
 
-// A table t of two nullable Int64 columns a and b, in three batches of two rows.
 fn catalog(alloc: Global) -> Result<CatalogVersion, Fault> {
     let none = CatalogVersion::empty(alloc);
     let first = appended(alloc, none, [1, NULL], [10, 20])?;
     let second = appended(alloc, first, [3, 4], [NULL, 40])?;
     appended(alloc, second, [5, 6], [50, 60])
+}
+
+fn named(alloc: Global, name: &str) -> Result<ColumnName, Fault> {
+    Ok(ColumnName {
+        place: None,
+        name: Text::new(alloc, name)?,
+    })
+}
+
+fn cell(alloc: Global, name: &str) -> Result<Operand<ColumnName>, Fault> {
+    Ok(Operand::Column(named(alloc, name)?))
+}
+
+fn number(number: i128) -> Operand<ColumnName> {
+    Operand::Literal(Value::Int(number))
+}
+
+// `name = number`
+fn equal(alloc: Global, name: &str, value: i128) -> Result<Predicate<ColumnName>, Fault> {
+    Ok(Predicate::Compare {
+        comparison: Comparison::Equal,
+        left: cell(alloc, name)?,
+        right: number(value),
+    })
+}
+
+// `a = one AND b = other`
+fn both(alloc: Global, one: i128, other: i128) -> Result<Predicate<ColumnName>, Fault> {
+    let left = Box::new(alloc, equal(alloc, "a", one)?)?;
+    let right = Box::new(alloc, equal(alloc, "b", other)?)?;
+    Ok(Predicate::And(left, right))
+}
+
+// `SELECT columns FROM t [WHERE filter]`, each column with the alias x.
+fn query(
+    alloc: Global,
+    columns: &[&str],
+    filter: Option<Predicate<ColumnName>>,
+) -> Result<Query, Fault> {
+    let mut items = Items::new(alloc);
+    for column in columns {
+        items.push(SelectItem {
+            expression: Expression::Column(named(alloc, column)?),
+            alias: Some(Text::new(alloc, "x")?),
+        })?;
+    }
+    Ok(Query {
+        select: Select::List(items),
+        first: Place {
+            table: Text::new(alloc, "t")?,
+            alias: None,
+        },
+        joins: Items::new(alloc),
+        filter,
+        group_by: Items::new(alloc),
+    })
 }
 
 // The cells of a batch, row by row.
@@ -103,13 +153,13 @@ fn push_cells(cells: &mut Vec<i128>, batch: &Batch) -> Result<(), Fault> {
 // The cells that a query gives of a range, row by row, how many batches were opened, and how many were given.
 fn scanned(
     alloc: Global,
-    catalog: &CatalogVersion,
-    sql: &str,
-    (from, to): (usize, usize),
+    query: &Query,
+    from: usize,
+    to: usize,
 ) -> Result<(Vec<i128>, usize, usize), Fault> {
-    let query = parse(alloc, sql)?;
-    let plan = bind(alloc, &query, catalog)?;
-    let mut scan = Scan::new(alloc, &plan, catalog, from, to)?;
+    let catalog = catalog(alloc)?;
+    let plan = bind(alloc, query, &catalog)?;
+    let mut scan = Scan::new(alloc, &plan, &catalog, from, to)?;
     let mut cells = Vec::new(alloc);
     for given in 0..100 {
         match scan.next(alloc)? {
@@ -120,88 +170,103 @@ fn scanned(
     Err(Fault::ResultTooLarge)
 }
 
-// The first query that gives other rows than these.
-fn first_wrong<'a>(
-    alloc: Global,
-    catalog: &CatalogVersion,
-    front: &str,
-    range: (usize, usize),
-    queries: &[(&'a str, &[i128])],
-) -> Result<Option<&'a str>, Fault> {
-    for (end, wanted) in queries {
-        let mut sql = String::from_str(alloc, front)?;
-        sql.push_str(end)?;
-        let found = scanned(alloc, catalog, sql.as_str(), range)?;
-        if found.0.as_slice() != *wanted {
-            return Ok(Some(*end));
-        }
-    }
-    Ok(None)
+// The values of a where a filter is true.
+fn kept(alloc: Global, filter: Predicate<ColumnName>) -> Result<Vec<i128>, Fault> {
+    let query = query(alloc, &["a"], Some(filter))?;
+    Ok(scanned(alloc, &query, 0, 6)?.0)
 }
 
-// A predicate, and the values of a where it is true.
-const PREDICATES: [(&str, &[i128]); 7] = [
-    ("a BETWEEN 3 AND 5", &[3, 4, 5]),
-    ("a IS NULL", &[-1]),
-    ("a NOT IN (1, b)", &[4, 5, 6]),
-    ("a = 1 OR b = 40", &[1, 4]),
-    ("NOT (a = 1 AND b = 40)", &[1, -1, 3, 4, 5, 6]),
-    ("(a = 3 AND b = 40) IS UNKNOWN", &[3]),
-    ("a IS NULL IS NOT TRUE", &[1, 3, 4, 5, 6]),
-];
-
 #[test]
-fn predicates(rt: HostRuntime) -> Result<(), Fail> {
+fn between(rt: HostRuntime) -> Result<(), Fail> {
     let alloc = rt.alloc();
-    let wrong = first_wrong(
-        alloc,
-        &catalog(alloc)?,
-        "SELECT a FROM t WHERE ",
-        (0, 6),
-        &PREDICATES,
-    )?;
-    assert_eq!(rt; wrong, None);
+    let filter = Predicate::Between {
+        negated: false,
+        operand: cell(alloc, "a")?,
+        low: number(3),
+        high: number(5),
+    };
+    let values = kept(alloc, filter)?;
+    assert_eq!(rt; values.as_slice(), [3, 4, 5].as_slice());
     Ok(())
 }
 
-// Over the rows 1, null and 3, and over the row (3, null).
 #[test]
-fn nulls_in_lists(rt: HostRuntime) -> Result<(), Fail> {
+fn is_null(rt: HostRuntime) -> Result<(), Fail> {
     let alloc = rt.alloc();
-    let catalog = catalog(alloc)?;
-    for (range, end, wanted) in [
-        ((0, 3), "a NOT IN (1)", [3].as_slice()),
-        ((0, 3), "(a = 1) IS UNKNOWN", [-1].as_slice()),
-        ((2, 3), "a NOT IN (1, b)", [].as_slice()),
-    ] {
-        let wrong = first_wrong(
-            alloc,
-            &catalog,
-            "SELECT a FROM t WHERE ",
-            range,
-            &[(end, wanted)],
-        )?;
-        assert_eq!(rt; wrong, None);
-    }
+    let filter = Predicate::IsNull {
+        negated: false,
+        operand: cell(alloc, "a")?,
+    };
+    let values = kept(alloc, filter)?;
+    assert_eq!(rt; values.as_slice(), [-1].as_slice());
     Ok(())
 }
 
-// A range of rows, and the values of b in it. Each batch that it touches is opened, and gives one batch.
+// `a NOT IN (1, b)`: unknown where a is null, or b is and a is not 1.
+#[test]
+fn not_in_null(rt: HostRuntime) -> Result<(), Fail> {
+    let alloc = rt.alloc();
+    let mut items = Items::new(alloc);
+    items.push(number(1))?;
+    items.push(cell(alloc, "b")?)?;
+    let filter = Predicate::In {
+        negated: true,
+        operand: cell(alloc, "a")?,
+        items,
+    };
+    let values = kept(alloc, filter)?;
+    assert_eq!(rt; values.as_slice(), [4, 5, 6].as_slice());
+    Ok(())
+}
+
+// `a = 1 OR b = 40`: an OR with an unknown side.
+#[test]
+fn either(rt: HostRuntime) -> Result<(), Fail> {
+    let alloc = rt.alloc();
+    let left = Box::new(alloc, equal(alloc, "a", 1)?)?;
+    let right = Box::new(alloc, equal(alloc, "b", 40)?)?;
+    let values = kept(alloc, Predicate::Or(left, right))?;
+    assert_eq!(rt; values.as_slice(), [1, 4].as_slice());
+    Ok(())
+}
+
+// `NOT (a = 1 AND b = 40)`: an AND of unknown and false is false.
+#[test]
+fn not_both(rt: HostRuntime) -> Result<(), Fail> {
+    let alloc = rt.alloc();
+    let filter = Box::new(alloc, both(alloc, 1, 40)?)?;
+    let values = kept(alloc, Predicate::Not(filter))?;
+    assert_eq!(rt; values.as_slice(), [1, -1, 3, 4, 5, 6].as_slice());
+    Ok(())
+}
+
+// `(a = 3 AND b = 40) IS UNKNOWN`: an AND of unknown and true is unknown.
+#[test]
+fn both_unknown(rt: HostRuntime) -> Result<(), Fail> {
+    let alloc = rt.alloc();
+    let filter = Predicate::Is {
+        negated: false,
+        tested: Truth::Unknown,
+        predicate: Box::new(alloc, both(alloc, 3, 40)?)?,
+    };
+    let values = kept(alloc, filter)?;
+    assert_eq!(rt; values.as_slice(), [3].as_slice());
+    Ok(())
+}
+
+// Each range gives one batch of a table's batch that it touches.
 #[test]
 fn ranges(rt: HostRuntime) -> Result<(), Fail> {
     let alloc = rt.alloc();
-    let catalog = catalog(alloc)?;
-    for (range, values, opened) in [
-        ((0, usize::MAX), [10, 20, -1, 40, 50, 60].as_slice(), 3),
-        ((1, 4), [20, -1, 40].as_slice(), 2),
-        ((2, 4), [-1, 40].as_slice(), 1),
-        ((1, 5), [20, -1, 40, 50].as_slice(), 3),
-        ((3, 3), [].as_slice(), 0),
-        ((4, 2), [].as_slice(), 0),
-        ((5, 100), [60].as_slice(), 1),
-        ((6, 100), [].as_slice(), 0),
+    let query = query(alloc, &["b"], None)?;
+    for (from, to, values, opened) in [
+        (1, 4, [20, -1, 40].as_slice(), 2),
+        (2, 4, [-1, 40].as_slice(), 1),
+        (3, 3, [].as_slice(), 0),
+        (4, 2, [].as_slice(), 0),
+        (5, 100, [60].as_slice(), 1),
     ] {
-        let found = scanned(alloc, &catalog, "SELECT b FROM t", range)?;
+        let found = scanned(alloc, &query, from, to)?;
         assert_eq!(rt;
             (found.0.as_slice(), found.1, found.2),
             (values, opened, opened)
@@ -210,84 +275,16 @@ fn ranges(rt: HostRuntime) -> Result<(), Fail> {
     Ok(())
 }
 
-// A filter over a range: the cells, how many batches were opened, and how many were given.
+// `SELECT b AS x, a AS x, a AS x FROM t WHERE a = 3`: the columns in the order of the list, one of them twice.
 #[test]
-fn filtered_ranges(rt: HostRuntime) -> Result<(), Fail> {
+fn columns(rt: HostRuntime) -> Result<(), Fail> {
     let alloc = rt.alloc();
-    let catalog = catalog(alloc)?;
-    for (range, sql, cells, opened, given) in [
-        (
-            (0, 6),
-            "SELECT b, a, a FROM t WHERE a = 3",
-            [-1, 3, 3].as_slice(),
-            3,
-            1,
-        ),
-        (
-            (1, 5),
-            "SELECT a FROM t WHERE a >= 3",
-            [3, 4, 5].as_slice(),
-            3,
-            2,
-        ),
-        (
-            (0, 6),
-            "SELECT a FROM t WHERE a <> 4",
-            [1, 3, 5, 6].as_slice(),
-            3,
-            3,
-        ),
-        ((1, 4), "SELECT a FROM t WHERE a > 4", [].as_slice(), 2, 0),
-        (
-            (3, 5),
-            "SELECT * FROM t WHERE b > 0",
-            [4, 40, 5, 50].as_slice(),
-            2,
-            2,
-        ),
-    ] {
-        let found = scanned(alloc, &catalog, sql, range)?;
-        assert_eq!(rt;
-            (found.0.as_slice(), found.1, found.2),
-            (cells, opened, given),
-            "{sql}"
-        );
-    }
-    Ok(())
-}
-
-// Texts that are refused by parsing or by binding.
-#[test]
-fn refused(rt: HostRuntime) -> Result<(), Fail> {
-    let alloc = rt.alloc();
-    let catalog = catalog(alloc)?;
-    for (sql, fault) in [
-        ("SELECT a FROM t ORDER BY a", Fault::NotInSubset),
-        ("SELECT a FROM t WHERE a =", Fault::BadSql { position: 25 }),
-        ("SELECT a,, b FROM t", Fault::BadSql { position: 9 }),
-        ("SELECT z FROM t", Fault::UnknownName),
-        ("SELECT a FROM t WHERE a = 'x'", Fault::TypeClash),
-        ("SELECT a FROM u", Fault::TableMissing),
-        ("SELECT COUNT(*) FROM t", Fault::NotInSubset),
-    ] {
-        let found = scanned(alloc, &catalog, sql, (0, 6)).err();
-        assert_eq!(rt; found, Some(fault), "{sql}");
-    }
-    Ok(())
-}
-
-// What a scan is refused by is answered again, by calls for which memory is there.
-#[test]
-fn refused_again(rt: HostRuntime) -> Result<(), Fail> {
-    let alloc = rt.alloc();
-    let catalog = catalog(alloc)?;
-    let plan = bind(alloc, &parse(alloc, "SELECT * FROM t")?, &catalog)?;
-    let mut scan = Scan::new(alloc, &plan, &catalog, 0, 6)?;
-    let mut refused = None;
-    for _ in 0..6 {
-        let found = scan.next(alloc).err();
-        assert!(rt; refused.is_none() || found == refused);
-        refused = found;
-    }
+    let filter = equal(alloc, "a", 3)?;
+    let query = query(alloc, &["b", "a", "a"], Some(filter))?;
+    let found = scanned(alloc, &query, 0, 6)?;
+    assert_eq!(rt;
+        (found.0.as_slice(), found.1, found.2),
+        ([-1, 3, 3].as_slice(), 3, 1)
+    );
     Ok(())
 }
