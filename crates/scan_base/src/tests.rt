@@ -154,7 +154,10 @@ fn long_chains(rt: HostRuntime) -> Result<(), Fail> {
     }
     let mut row = Row::new(alloc);
     row.push(Value::Int(3))?;
-    assert_eq!(rt; (all.truth(&row), any.truth(&row)), (Truth::False, Truth::True));
+    assert_eq!(rt;
+        (all.truth(&row), any.truth(&row)),
+        (Truth::False, Truth::True)
+    );
     Ok(())
 }
 

@@ -234,6 +234,23 @@ fn filtered_ranges(rt: HostRuntime) -> Result<(), Fail> {
             3,
             3,
         ),
+    ] {
+        let found = scanned(alloc, &catalog, sql, range)?;
+        assert_eq!(rt;
+            (found.0.as_slice(), found.1, found.2),
+            (cells, opened, given),
+            "{sql}"
+        );
+    }
+    Ok(())
+}
+
+// The same, where a batch that was opened gives nothing.
+#[test]
+fn ranges_with_batches_left_out(rt: HostRuntime) -> Result<(), Fail> {
+    let alloc = rt.alloc();
+    let catalog = catalog(alloc)?;
+    for (range, sql, cells, opened, given) in [
         ((1, 4), "SELECT a FROM t WHERE a > 4", [].as_slice(), 2, 0),
         (
             (3, 5),

@@ -64,9 +64,18 @@ fn parentheses(rt: HostRuntime) -> Result<(), Fail> {
     let alloc = rt.alloc();
     let parts: [(&str, &str); 4] = [
         ("(", ")"),
-        ("(", " OR a=3 OR a=3 OR a=3 OR a=3) AND a<>3 AND a<>3 AND a<>3 AND a<>3"),
-        ("a=3 OR a=3 OR a=3 OR a=3 OR a<>3 AND a<>3 AND a<>3 AND (", ")"),
-        ("a=3 OR a=3 OR a=3 OR a=3 OR a<>3 AND a<>3 AND a<>3 AND (", ") IS TRUE"),
+        (
+            "(",
+            " OR a=3 OR a=3 OR a=3 OR a=3) AND a<>3 AND a<>3 AND a<>3 AND a<>3",
+        ),
+        (
+            "a=3 OR a=3 OR a=3 OR a=3 OR a<>3 AND a<>3 AND a<>3 AND (",
+            ")",
+        ),
+        (
+            "a=3 OR a=3 OR a=3 OR a=3 OR a<>3 AND a<>3 AND a<>3 AND (",
+            ") IS TRUE",
+        ),
     ];
     for (open, close) in parts {
         let query = nest(alloc, open, close)?;

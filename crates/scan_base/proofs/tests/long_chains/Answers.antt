@@ -12,9 +12,9 @@ covers predicate row = IsTrue (names_only (λ column. nat_lt column (length row)
 pub truth-requires : goal.truth-requires
 truth-requires g c =
     subst (covers (pred_of c.loop.all)) (sym (c.in_ok-push.ensures.ok ∙ ap (λ row. row ++ Int (pos 3) ∷ []) c.new-row.ensures))
-        c.loop.invariant.all
+    c.loop.invariant.all
 
 pub truth-requires-2 : goal.truth-requires-2
 truth-requires-2 g c =
     subst (covers (pred_of c.loop.any)) (sym (c.in_ok-push.ensures.ok ∙ ap (λ row. row ++ Int (pos 3) ∷ []) c.new-row.ensures))
-        c.loop.invariant.any
+    c.loop.invariant.any
