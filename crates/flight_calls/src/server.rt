@@ -20,7 +20,8 @@ use std::alloc::Global;
 /// # Errors
 ///
 /// - `Fault::BadFrame` (F1) and `Fault::MessageTooLarge` (F2) where a record is faulty, and
-///   `Fault::OutOfMemory` (F21) where memory is refused while a call is read. The fault's Status is written.
+///   `Fault::OutOfMemory` (F21) where memory is refused while a piece of input is taken in. The fault's Status
+///   is written.
 /// - `Fault::Transport` (F22) where a read or a write failed, and where the input ended inside a call.
 ///
 /// Nothing is done for a call whose End has not come. Where only the writing of an answer failed, its call was
