@@ -1,5 +1,5 @@
 -- Calls that are refused whatever comes.
-use Rattle.std.proofs.Common.{◌≡◌, List, [], ◌++◌, Err, append-nil}
+use Rattle.std.proofs.Common.{◌≡◌, List, [], Err, append-nil}
 use Rattle.scan_base.specs.declared.fault.Fault.{Fault}
 use Rattle.flight_core.specs.Payloads.{Payload}
 use Rattle.flight_calls.specs.Calls.{Call, asked_by}

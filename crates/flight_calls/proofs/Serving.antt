@@ -9,15 +9,14 @@ use Rattle.scan_base.specs.declared.fault.Fault.{Fault}
 use Rattle.scan_base.specs.declared.fault.Fault.TheVariants.{OutOfMemory, Transport}
 use Rattle.grpc_frame.specs.declared.place.Place.{Place}
 use Rattle.grpc_frame.specs.declared.place.Place.TheVariants.{BetweenCalls}
-use Rattle.grpc_frame.specs.Records.{spelling, IsRecord, Received, with_more}
+use Rattle.grpc_frame.specs.Records.{spelling, IsRecord, Received, with_more, broken, Flaw, fault_of, wrong_kind, long_path, wrong_flag, long_message, bad_text}
 use Rattle.grpc_frame.specs.Ends.{AppendsBeginning}
-use Rattle.grpc_frame.proofs.Growing.{beginning_of_content}
 use Rattle.flight_core.specs.declared.event.Reply.{Reply}
 use Rattle.flight_core.specs.Machine.{Log}
 use Rattle.flight_calls.specs.declared.call.Arrival.TheVariants as arrival
 use Rattle.flight_calls.specs.declared.request.Request.{Request}
 use Rattle.flight_calls.specs.Calls.{Call, call_records, answer_records, asked_by, ReplyTo, Answers}
-use Rattle.flight_calls.specs.Owed.{calls_bytes, answers_bytes, FitsMessages, Served, behind_calls, IsCause, last_status, Connection, Finished, CutShort, Refused, Failed, Serves}
+use Rattle.flight_calls.specs.Owed.{calls_bytes, answer_bytes, answers_bytes, FitsMessages, Served, EndsIn, EndsInside, behind_calls, IsCause, last_status, Connection, Finished, CutShort, Refused, ReadFailed, AnswerFailed, StatusFailed, Serves}
 use Rattle.flight_calls.specs.Ending.{RefusesBy}
 use Rattle.flight_calls.specs.Requests.{Holds}
 use Rattle.flight_calls.specs.Reading.{Stops, CallArrives}
@@ -107,16 +106,17 @@ module _ (old mid : Connection) (left : Received) (p : Progress old mid left) wh
 
   -- its answer was begun
   pub answer_failed : (new : Connection) (left' : Received) (request : Request) (reply : Reply) → (more : List ℕ) × Consumes mid.input new.input more × CallArrives (Ok (arrival.Whole request)) left left' more
-      → ((call : Call) → Holds request call → ReplyTo (asked_by call) mid.log reply new.log) → FitsMessages reply → AppendsBeginning mid.output new.output (flat_map spelling (answer_records reply)) → new.failures ≡ old.failures + 1 → Failed old new
-  answer_failed new left' request reply q replied sent wrote counted = record {
+      → ((call : Call) → Holds request call → ReplyTo (asked_by call) mid.log reply new.log) → FitsMessages reply → AppendsBeginning mid.output new.output (answer_bytes reply) → new.failures ≡ old.failures + 1 → AnswerFailed old new
+  answer_failed new left' request reply q replied sent begun counted = record {
     came = p.came ++ q.0;
     consumed = Consumes-trans old.input mid.input new.input p.came q.0 p.consumed q.1;
     rest = left'.bytes;
-    last = [];
-    is_last = inl refl;
-    replies = p.replies ++ reply ∷ [];
+    replies = p.replies;
+    last = reply;
     served = served_more old.log mid.log new.log (p.came ++ q.0) (left.bytes ++ q.0) left'.bytes p.replies q.2.0 reply (served_then old.log mid.log p.came left.bytes q.0 p.replies p.served) q.2.2.whole q.2.2.fits (replied q.2.0 q.2.1) sent;
-    wrote = rw (append-nil (answers_bytes (p.replies ++ reply ∷ [])), answers_last p.replies reply) (beginning_of_content old.output mid.output new.output (answers_bytes p.replies) (flat_map spelling (answer_records reply)) p.wrote wrote);
+    before = mid.output;
+    wrote = p.wrote;
+    begun = begun;
     counted = counted;
   }
 
@@ -153,7 +153,7 @@ module _ (old mid : Connection) (left : Received) (p : Progress old mid left) wh
 
   -- why reading stopped
   cause : (fault : Fault) (more : List ℕ) → fault ≢ Transport → Stops fault (with_more left more) → IsCause fault (left.bytes ++ more)
-  cause fault more other (inl e) = absurd (other e)
+  cause fault more other (inl e) = absurd (other e.0)
   cause fault more other (inr (inl e)) = inl e
   cause fault more other (inr (inr ends)) = inr (rw (behind more) at ends)
 
@@ -173,30 +173,48 @@ module _ (old mid : Connection) (left : Received) (p : Progress old mid left) wh
 
   -- its status was begun
   pub status_failed : (new : Connection) (left' : Received) (fault : Fault) → (more : List ℕ) × Consumes mid.input new.input more × CallArrives (Err fault) left left' more → fault ≢ Transport
-      → AppendsBeginning mid.output new.output (last_status fault) → new.log ≡ mid.log → new.failures ≡ old.failures + 1 → Failed old new
-  status_failed new left' fault q other wrote log counted = record {
+      → AppendsBeginning mid.output new.output (last_status fault) → new.log ≡ mid.log → new.failures ≡ old.failures + 1 → StatusFailed old new
+  status_failed new left' fault q other begun log counted = record {
     came = p.came ++ q.0;
     consumed = Consumes-trans old.input mid.input new.input p.came q.0 p.consumed q.1;
     rest = left.bytes ++ q.0;
-    last = last_status fault;
-    is_last = inr (fault, cause fault q.0 other q.2, refl);
+    fault = fault;
+    cause = cause fault q.0 other q.2;
     replies = p.replies;
     served = rw log (served_then old.log mid.log p.came left.bytes q.0 p.replies p.served);
-    wrote = beginning_of_content old.output mid.output new.output (answers_bytes p.replies) (last_status fault) p.wrote wrote;
+    before = mid.output;
+    wrote = p.wrote;
+    begun = begun;
     counted = counted;
   }
 
+  -- a call of which more has to come, where a read failed
+  waits : (fault : Fault) (more : List ℕ) → fault ≡ Transport → Stops fault (with_more left more) → EndsInside (behind_calls (left.bytes ++ more))
+  waits fault more is (inl stops) = rw (behind more) at stops.1
+  waits fault more is (inr (inl e)) = let both : OutOfMemory ≡ Transport = sym e ∙ is in absurd cc
+  waits fault more is (inr (inr ends)) = absurd (not_broken fault is ends)
+    where
+      not_broken : (fault : Fault) → fault ≡ Transport → EndsIn (with_more left more) (broken fault) → ⊥
+      not_broken fault is ends = let wrong = ends.splits.ends.fault_is in not_flaw ends.splits.ends.flaw (sym is ∙ wrong)
+        where
+          not_flaw : (flaw : Flaw) → Transport ≡ fault_of flaw → ⊥
+          not_flaw (wrong_kind kind) e = absurd cc
+          not_flaw (long_path len) e = absurd cc
+          not_flaw (wrong_flag flag) e = absurd cc
+          not_flaw (long_message len) e = absurd cc
+          not_flaw (bad_text code text) e = absurd cc
+
   -- a read failed
-  pub read_failed : (new : Connection) → (more : List ℕ) → Consumes mid.input new.input more → new.output ≡ mid.output → new.log ≡ mid.log → new.failures ≡ old.failures + 1 → Failed old new
-  read_failed new more consumed output log counted = record {
-    came = p.came ++ more;
-    consumed = Consumes-trans old.input mid.input new.input p.came more p.consumed consumed;
-    rest = left.bytes ++ more;
-    last = [];
-    is_last = inl refl;
+  pub read_failed : (new : Connection) (left' : Received) (fault : Fault) → (more : List ℕ) × Consumes mid.input new.input more × CallArrives (Err fault) left left' more → fault ≡ Transport
+      → new.output ≡ mid.output → new.log ≡ mid.log → new.failures ≡ old.failures + 1 → ReadFailed old new
+  read_failed new left' fault q is output log counted = record {
+    came = p.came ++ q.0;
+    consumed = Consumes-trans old.input mid.input new.input p.came q.0 p.consumed q.1;
+    rest = left.bytes ++ q.0;
+    inside = waits fault q.0 is q.2;
     replies = p.replies;
-    served = rw log (served_then old.log mid.log p.came left.bytes more p.replies p.served);
-    wrote = rw (append-nil (answers_bytes p.replies), output) (record { front = answers_bytes p.replies; rest = []; splits = sym (append-nil (answers_bytes p.replies)); wrote = p.wrote });
+    served = rw log (served_then old.log mid.log p.came left.bytes q.0 p.replies p.served);
+    wrote = rw output p.wrote;
     counted = counted;
   }
 
@@ -207,7 +225,7 @@ module _ (old mid : Connection) (left : Received) (p : Progress old mid left) wh
   ended_by new left' fault result reads writes reads' writes' q counted (inl stays) log before after =
       let one = counted.0 stays.transport in
       let none = stays.quiet in
-      rw stays.result_is (inr (read_failed new q.0 q.1 stays.same log (omega arith)))
+      rw stays.result_is (inr (inl (read_failed new left' fault q stays.transport stays.same log (omega arith))))
   ended_by new left' fault result reads writes reads' writes' q counted (inr (inl says)) log before after =
       let none = counted.1 says.other in
       let quiet = says.quiet in
@@ -219,7 +237,7 @@ module _ (old mid : Connection) (left : Received) (p : Progress old mid left) wh
   ended_by new left' fault result reads writes reads' writes' q counted (inr (inr fails)) log before after =
       let none = counted.1 fails.other in
       let one = fails.counted in
-      rw fails.result_is (inr (status_failed new left' fault q fails.other fails.wrote log (omega arith)))
+      rw fails.result_is (inr (inr (inr (status_failed new left' fault q fails.other fails.wrote log (omega arith)))))
 
 -- a connection that is refused before anything came
 pub refused_first : (old new : Connection) (fault : Fault) (result : Result (Unit {0}) Fault) (reads writes writes' : ℕ) → old.log ≡ [] → new.log ≡ [] → new.input ≡ old.input → fault ≡ OutOfMemory

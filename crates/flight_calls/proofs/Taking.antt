@@ -17,9 +17,9 @@ use Rattle.grpc_frame.specs.Records.{spelling, IsRecord, place_after, place_afte
 use Rattle.grpc_frame.specs.Arrivals.{Arrives}
 use Rattle.grpc_frame.proofs.Splitting.{place_after_all-append}
 use Rattle.flight_core.specs.Payloads.{Payload}
-use Rattle.flight_calls.specs.Owed.{EndsIn}
+use Rattle.flight_calls.specs.Owed.{EndsIn, EndsInside}
 use Rattle.flight_calls.specs.Requests.{Holds}
-use Rattle.flight_calls.specs.Reading.{Fronts, EndsInside, Stops, RequestArrives, CallArrives}
+use Rattle.flight_calls.specs.Reading.{Fronts, Stops, RequestArrives, CallArrives}
 use Rattle.flight_calls.specs.declared.call.Arrival.TheVariants as arrival
 use Rattle.flight_calls.specs.declared.request.Request.{Request}
 
@@ -168,8 +168,8 @@ module _ (a b c : Option (List ℕ)) (old mid new : Received) (messages : List P
   pub collected_stop : (path : List ℕ) (fault : Fault) → Since b c mid new (Err fault) → (came : List ℕ) × Consumes a c came × RequestArrives (Err fault) path old new came
   collected_stop path fault q = (all_came q.came, all_consumed q.came q.consumed, by q.arrives)
     where
-      by : (fault ≡ Transport) ⊎ ((fault ≡ OutOfMemory) ⊎ Breaks (with_more mid q.came) fault) → Stops fault (with_more old (all_came q.came))
-      by (inl e) = inl e
+      by : ((fault ≡ Transport) × IsCut (with_more mid q.came)) ⊎ ((fault ≡ OutOfMemory) ⊎ Breaks (with_more mid q.came) fault) → Stops fault (with_more old (all_came q.came))
+      by (inl e) = inl (e.0, passed_cut (with_more old (all_came q.came)) (with_more mid q.came) (map Message messages) (stand q.came) e.1)
       by (inr (inl e)) = inr (inl e)
       by (inr (inr breaks)) = inr (inr (passed_ends (with_more old (all_came q.came)) (with_more mid q.came) (map Message messages) (broken fault) (stand q.came) breaks))
 
@@ -195,8 +195,8 @@ ends_after from left records ending p q = record {
 pub first_stops : (a b : Option (List ℕ)) (old new : Received) (fault : Fault) → Since a b old new (Err fault) → (came : List ℕ) × Consumes a b came × CallArrives (Err fault) old new came
 first_stops a b old new fault q = (q.came, q.consumed, by q.arrives)
   where
-    by : (fault ≡ Transport) ⊎ ((fault ≡ OutOfMemory) ⊎ Breaks (with_more old q.came) fault) → Stops fault (with_more old q.came)
-    by (inl e) = inl e
+    by : ((fault ≡ Transport) × IsCut (with_more old q.came)) ⊎ ((fault ≡ OutOfMemory) ⊎ Breaks (with_more old q.came) fault) → Stops fault (with_more old q.came)
+    by (inl e) = inl (e.0, passed_cut (with_more old q.came) (with_more old q.came) [] (passed_none (with_more old q.came)) e.1)
     by (inr (inl e)) = inr (inl e)
     by (inr (inr breaks)) = inr (inr (passed_ends (with_more old q.came) (with_more old q.came) [] (broken fault) (passed_none (with_more old q.came)) breaks))
 
@@ -254,20 +254,21 @@ module _ (a b c : Option (List ℕ)) (old mid new : Received) (path : List ℕ) 
     ),
   )
 
+  -- what ends inside the messages ends inside the call
+  still_inside : (more : List ℕ) → EndsInside (with_more mid more) → EndsInside (with_more old (together more))
+  still_inside more (inl ends) = inl (ends_after (with_more old (together more)) (with_more mid more) (Open path ∷ []) cut (opened more) ends)
+  still_inside more (inr ends) = inr (ends_after (with_more old (together more)) (with_more mid more) (Open path ∷ []) nothing_more (opened more) ends)
+
   pub call_cut : (more : List ℕ) × Consumes b c more × RequestArrives (Ok None) path mid new more → (came : List ℕ) × Consumes a c came × CallArrives (Ok arrival.CutShort) old new came
-  call_cut q = (together q.0, both_consumed q.0 q.1, ((λ none. some (sym none ∙ (opened q.0).whole)), by q.2))
+  call_cut q = (together q.0, both_consumed q.0 q.1, ((λ none. some (sym none ∙ (opened q.0).whole)), still_inside q.0 q.2))
     where
       some : ¬ ([] ≡ flat_map spelling (Open path ∷ []) ++ (with_more mid q.0).bytes)
       some e = cc
-
-      by : EndsInside (with_more mid q.0) → EndsInside (with_more old (together q.0))
-      by (inl ends) = inl (ends_after (with_more old (together q.0)) (with_more mid q.0) (Open path ∷ []) cut (opened q.0) ends)
-      by (inr ends) = inr (ends_after (with_more old (together q.0)) (with_more mid q.0) (Open path ∷ []) nothing_more (opened q.0) ends)
 
   pub call_stops : (fault : Fault) → (more : List ℕ) × Consumes b c more × RequestArrives (Err fault) path mid new more → (came : List ℕ) × Consumes a c came × CallArrives (Err fault) old new came
   call_stops fault q = (together q.0, both_consumed q.0 q.1, by q.2)
     where
       by : Stops fault (with_more mid q.0) → Stops fault (with_more old (together q.0))
-      by (inl e) = inl e
+      by (inl (e, ends)) = inl (e, still_inside q.0 ends)
       by (inr (inl e)) = inr (inl e)
       by (inr (inr ends)) = inr (inr (ends_after (with_more old (together q.0)) (with_more mid q.0) (Open path ∷ []) (broken fault) (opened q.0) ends))

@@ -9,8 +9,7 @@ use Rattle.grpc_frame.specs.declared.record.Record.TheVariants.{Open, Message, E
 use Rattle.grpc_frame.specs.Calls.{status_of}
 use Rattle.flight_core.specs.declared.event.Reply.{Reply}
 use Rattle.flight_core.specs.Payloads.{Payload}
-use Rattle.flight_core.specs.Fetches.{FetchIn}
-use Rattle.flight_core.specs.Machine.{Log, PutStep}
+use Rattle.flight_core.specs.Machine.{Log, Asked, put, fetch, StepOn}
 use Rattle.flight_calls.specs.declared.request.Method.{Method}
 use Rattle.flight_calls.specs.declared.request.Method.TheVariants as method
 
@@ -40,10 +39,6 @@ method_at path =
     else (if bytes_eq path (service ++ codes "DoGet") then Some method.DoGet
     else None)
 
-pub data Asked : Type 0 where
-  put : List Payload → Asked
-  fetch : Payload → Asked
-
 -- what the messages ask of a method: of a fetch there is one
 abbrev pub asked_of : Method → List Payload → Result Asked Fault
 asked_of method.DoPut messages = Ok (put messages)
@@ -60,8 +55,7 @@ asked_by call = do
 
 -- a step of the core on what is asked; or the fault, and the log stays
 abbrev pub ReplyTo : Result Asked Fault → Log → Reply → Log → Type 0
-ReplyTo (Ok (put messages)) log reply new = PutStep log messages reply.payloads.items reply.fault new
-ReplyTo (Ok (fetch ticket)) log reply new = (new ≡ log) × FetchIn log ticket reply.payloads.items reply.fault
+ReplyTo (Ok asked) log reply new = StepOn log asked reply new
 ReplyTo (Err fault) log reply new = (new ≡ log) × (reply.payloads.items ≡ []) × (reply.fault ≡ Some fault)
 
 -- one reply a call, in order, each from the log that the one before left

@@ -1,5 +1,5 @@
 -- What a server owes for the bytes that came, and what it did with a connection.
-use Rattle.std.specs.Prelude.{◌≡◌, ◌≢◌, ◌⊎◌, ℕ, ◌+◌, List, [], ◌++◌, All, Option, Some, Result, Ok, Err}
+use Rattle.std.specs.Prelude.{◌≡◌, ◌≢◌, ◌⊎◌, ℕ, ◌+◌, List, [], ◌∷◌, ◌++◌, All, Option, Some, Result, Ok, Err}
 use Rattle.std.specs.List.{flat_map}
 use Rattle.std.specs.Io.KnownBytes.{Appends, Consumes, IsAtEnd}
 use Rattle.scan_base.specs.declared.fault.Fault.{Fault}
@@ -19,6 +19,9 @@ use Rattle.flight_calls.specs.Calls.{Call, call_records, answer_records, Answers
 
 abbrev pub calls_bytes : List Call → List ℕ
 calls_bytes calls = flat_map spelling (flat_map call_records calls)
+
+abbrev pub answer_bytes : Reply → List ℕ
+answer_bytes reply = flat_map spelling (answer_records reply)
 
 abbrev pub answers_bytes : List Reply → List ℕ
 answers_bytes replies = flat_map spelling (flat_map answer_records replies)
@@ -45,13 +48,17 @@ pub record EndsIn (left : Received) (ending : Ending) : Type 0 where
   pub splits : Splits left records rest ending
   pub no_end : All (λ found. found ≢ End) records
 
+-- none of its records ends a call, and none is faulty
+abbrev pub EndsInside : Received → Type 0
+EndsInside left = EndsIn left cut ⊎ EndsIn left nothing_more
+
 -- bytes behind whole calls
 abbrev pub behind_calls : List ℕ → Received
 behind_calls bytes = record { bytes = bytes; place = BetweenCalls }
 
 -- a call that was begun, of which more has to come
 abbrev pub IsOpenCall : List ℕ → Type 0
-IsOpenCall rest = (rest ≢ []) × (EndsIn (behind_calls rest) cut ⊎ EndsIn (behind_calls rest) nothing_more)
+IsOpenCall rest = (rest ≢ []) × EndsInside (behind_calls rest)
 
 -- why a server ends a connection: memory was refused, or a faulty record stands behind the whole calls
 abbrev pub IsCause : Fault → List ℕ → Type 0
@@ -104,21 +111,49 @@ pub record Refused (fault : Fault) (old new : Connection) : Type 0 where
   pub wrote : Appends old.output new.output (answers_bytes replies ++ last_status fault)
   pub quiet : new.failures ≡ old.failures
 
--- nothing, or the status that says why the connection ends
-abbrev pub IsLast : List ℕ → List ℕ → Type 0
-IsLast last rest = (last ≡ []) ⊎ ((fault : Fault) × IsCause fault rest × (last ≡ last_status fault))
-
--- one read or write failed: a beginning is written of the answers to whole calls and of a last status
-pub record Failed (old new : Connection) : Type 0 where
+-- A read failed: all whole calls that came before are answered, and nothing is done for one of which more had to come.
+pub record ReadFailed (old new : Connection) : Type 0 where
   pub came : List ℕ
   pub consumed : Consumes old.input new.input came
   pub rest : List ℕ
-  pub last : List ℕ
-  pub is_last : IsLast last rest
+  pub inside : EndsInside (behind_calls rest)
   pub replies : List Reply
   pub served : Served old.log came rest replies new.log
-  pub wrote : AppendsBeginning old.output new.output (answers_bytes replies ++ last)
+  pub wrote : Appends old.output new.output (answers_bytes replies)
   pub counted : new.failures ≡ old.failures + 1
+
+-- A write of an answer failed: the answers before it are written, then a beginning of it, and its call was the last
+-- one that was looked at.
+pub record AnswerFailed (old new : Connection) : Type 0 where
+  pub came : List ℕ
+  pub consumed : Consumes old.input new.input came
+  pub rest : List ℕ
+  pub replies : List Reply
+  pub last : Reply
+  pub served : Served old.log came rest (replies ++ last ∷ []) new.log
+  pub before : Option (List ℕ)
+  pub wrote : Appends old.output before (answers_bytes replies)
+  pub begun : AppendsBeginning before new.output (answer_bytes last)
+  pub counted : new.failures ≡ old.failures + 1
+
+-- A write of the status that says why the connection ends failed: the whole calls that came are answered, and a
+-- beginning of it is written.
+pub record StatusFailed (old new : Connection) : Type 0 where
+  pub came : List ℕ
+  pub consumed : Consumes old.input new.input came
+  pub rest : List ℕ
+  pub fault : Fault
+  pub cause : IsCause fault rest
+  pub replies : List Reply
+  pub served : Served old.log came rest replies new.log
+  pub before : Option (List ℕ)
+  pub wrote : Appends old.output before (answers_bytes replies)
+  pub begun : AppendsBeginning before new.output (last_status fault)
+  pub counted : new.failures ≡ old.failures + 1
+
+-- one read or write failed
+abbrev pub Failed : Connection → Connection → Type 0
+Failed old new = ReadFailed old new ⊎ (AnswerFailed old new ⊎ StatusFailed old new)
 
 -- by what the server gave back
 abbrev pub Serves : Result (Unit {0}) Fault → Connection → Connection → Type 0

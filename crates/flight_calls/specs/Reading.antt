@@ -6,13 +6,13 @@ use Rattle.scan_base.specs.declared.fault.Fault.TheVariants.{OutOfMemory, Transp
 use Rattle.grpc_frame.specs.declared.place.Place.TheVariants.{BetweenCalls}
 use Rattle.grpc_frame.specs.declared.record.Record.{Record}
 use Rattle.grpc_frame.specs.declared.record.Record.TheVariants.{Message, End}
-use Rattle.grpc_frame.specs.Records.{spelling, IsRecord, Received, with_more, nothing_more, cut, broken}
+use Rattle.grpc_frame.specs.Records.{spelling, IsRecord, Received, with_more, broken}
 use Rattle.flight_core.specs.Payloads.{Payload}
 use Rattle.flight_calls.specs.declared.call.Arrival.{Arrival}
 use Rattle.flight_calls.specs.declared.call.Arrival.TheVariants as arrival
 use Rattle.flight_calls.specs.declared.request.Request.{Request}
 use Rattle.flight_calls.specs.Calls.{Call, call_records}
-use Rattle.flight_calls.specs.Owed.{EndsIn}
+use Rattle.flight_calls.specs.Owed.{EndsIn, EndsInside}
 use Rattle.flight_calls.specs.Requests.{Holds}
 
 -- the records stand in front, and the rest, which begins behind a call, follows them
@@ -21,13 +21,10 @@ pub record Fronts (records : List Record) (old new : Received) : Type 0 where
   pub fits : All IsRecord records
   pub behind : new.place ≡ BetweenCalls
 
--- the input ended where no call may end
-abbrev pub EndsInside : Received → Type 0
-EndsInside left = EndsIn left cut ⊎ EndsIn left nothing_more
-
--- why reading a call may stop: a fault of the transport, want of memory, or a faulty record in the call
+-- why reading a call may stop: a read failed before the call's End had come, memory was refused, or a record of the
+-- call is faulty
 abbrev pub Stops : Fault → Received → Type 0
-Stops fault left = (fault ≡ Transport) ⊎ ((fault ≡ OutOfMemory) ⊎ EndsIn left (broken fault))
+Stops fault left = ((fault ≡ Transport) × EndsInside left) ⊎ ((fault ≡ OutOfMemory) ⊎ EndsIn left (broken fault))
 
 -- The messages of a call to a path, up to its End, of which these bytes came behind what was there: a request holds
 -- what they ask. Nothing where the input ends before.

@@ -20,8 +20,8 @@ returns-in-Err g c = ended_by _ _ _ c.loop-request.invariant.progress _ c.read_c
 
 pub returns-in_default : goal.returns-in_default
 returns-in_default g c =
-    inr (answer_failed _ _ _ c.loop-request.invariant.progress _ c.read_call.new.inbox c.in-Ok-Whole.request c.answer-reply.result (rw c.in-Ok-Whole.field-0-is at c.in-Ok-Whole.ensures.arrives)
-    c.answer-reply.ensures.reply c.answer-reply.ensures.short c.in_default.ensures.bytes (search rules))
+    inr (inr (inl (answer_failed _ _ _ c.loop-request.invariant.progress _ c.read_call.new.inbox c.in-Ok-Whole.request c.answer-reply.result (rw c.in-Ok-Whole.field-0-is at c.in-Ok-Whole.ensures.arrives)
+    c.answer-reply.ensures.reply c.answer-reply.ensures.short c.in_default.ensures.bytes (search rules))))
 
 pub loop-request-preserved : goal.loop-request-preserved
 loop-request-preserved g c =
