@@ -2,7 +2,7 @@
 use Rattle.std.proofs.Common.{◌≡◌, ◌≢◌, List, [], ◌∷◌, ◌++◌, Option, Some, None, Result, Ok, Err, refl, ◌∙◌, append_assoc, append-nil}
 use Rattle.scan_base.specs.declared.fault.Fault.{Fault}
 use Rattle.scan_base.specs.declared.fault.Fault.TheVariants.{BadBatch, OutOfMemory}
-use Rattle.scan_base.specs.Reading.{◌>>=◌, wanted, GivesUnlessMemory}
+use Rattle.scan_base.specs.Reading.{◌>>=◌, wanted, Gives, GivesUnlessMemory}
 use Rattle.flight_proto.specs.Ingest.{IngestSaid, ingest_of}
 use Rattle.ipc_batch.specs.State.{State}
 use Rattle.ipc_batch.specs.Said.{News, rows_in}
@@ -110,13 +110,18 @@ read_past payloads payload fault old is has = rw is (λ other.
     let before : said_so_far payloads ≡ Err fault = (rw is at has) other in
     said_so_far-append payloads payload ∙ rw before refl)
 
+-- what a call gives that takes no memory, it gives whether or not memory is wanted
+unless_memory : {X : Type 0} (view : X → Put) (result : Result X Fault) (read : Result Put Fault) → Gives view result read → GivesUnlessMemory view result read
+unless_memory view (Ok x) read gives = gives
+unless_memory view (Err fault) read gives = λ other. gives
+
 -- nothing more comes
 pub read_whole : {X : Type 0} (view : X → Put) (result : Result X Fault) (payloads : List Payload) (begun : Option BegunAt) (reader : Result (Option BegunAt) Fault) → reader ≡ Ok begun
-    → GivesUnlessMemory view result (whole_put begun) → HasRead payloads reader → GivesUnlessMemory view result (put_said payloads)
+    → Gives view result (whole_put begun) → HasRead payloads reader → GivesUnlessMemory view result (put_said payloads)
 read_whole view result payloads begun reader is gives has =
     let before : said_so_far payloads ≡ Ok begun = rw is at has in
     let same : put_said payloads ≡ whole_put begun = put_said-is payloads ∙ rw before refl in
-    rw same gives
+    rw same (unless_memory view result (whole_put begun) gives)
 
 -- nothing more comes behind a fault
 pub read_refused : (payloads : List Payload) (fault : Fault) (reader : Result (Option BegunAt) Fault) → reader ≡ Err fault → HasRead payloads reader → fault ≢ OutOfMemory → put_said payloads ≡ Err fault

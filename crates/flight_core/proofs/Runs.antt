@@ -9,6 +9,7 @@ use Rattle.flight_core.specs.declared.event.Reply.{Reply}
 use Rattle.flight_core.specs.Payloads.{Payload}
 use Rattle.flight_core.specs.Machine.{Log, PutStep, Step, Run}
 use Rattle.flight_core.specs.Laws.{RefusalsLeaveNothing}
+use Rattle.flight_core.proofs.Results.{same_some}
 
 pub run_joins : (old : Log) (events : List Event) (replies : List Reply) (mid : Log) (more : List Event) (others : List Reply) (new : Log)
     → Run old events replies mid → Run mid more others new → Run old (events ++ more) (replies ++ others) new
@@ -31,9 +32,6 @@ record At (old : Log) (events : List Event) (replies : List Reply) (new : Log) (
   before : Run old (take place events) (take place replies) log
   step : Step log e r after
   behind : Run after (drop (suc place) events) (drop (suc place) replies) new
-
-same_some : {X : Type 0} {a b : X} → Some a ≡ Some b → a ≡ b
-same_some e = cc
 
 run_at : (old : Log) (events : List Event) (replies : List Reply) (new : Log) (place : ℕ) (e : Event) (r : Reply)
     → Run old events replies new → slice_get events place ≡ Some e → slice_get replies place ≡ Some r → At old events replies new place e r

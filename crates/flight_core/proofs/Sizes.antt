@@ -17,13 +17,13 @@ use Rattle.arrays.specs.Nulls.{null_count, valid_slots}
 use Rattle.arrays.specs.Number.{byte_width}
 use Rattle.arrays.specs.Written.{packed_bits, validity_written, elements, text_bytes, texts_joined, offsets_from, written_by, values_written, buffers_written as column_written}
 use Rattle.arrays.proofs.NullSlots.{length-valid_slots}
-use Rattle.flight_proto.specs.FlightData.{data_bytes}
+use Rattle.flight_proto.specs.FlightData.{data_bytes, body_head, data_head}
 use Rattle.flight_proto.specs.Message.{is_set, set_fields, spelled}
 use Rattle.flight_proto.specs.PutResult.{update_bytes, rows_put_bytes}
 use Rattle.proto_wire.specs.Calls.{chunk_entry, varint_entry}
 use Rattle.proto_wire.specs.Standard.{Entry}
-use Rattle.proto_wire.specs.Writing.{groups_of, varint, spelling}
-use Rattle.ipc_batch.specs.Written.{body_of, buffers_written, body_length}
+use Rattle.proto_wire.specs.Writing.{groups_of, varint, spelling, chunk_head}
+use Rattle.ipc_batch.specs.Written.{body_of, buffers_written, body_length, most_header_bytes}
 use Rattle.ipc_batch.proofs.WriterLoops.{buffer_more, length_more}
 use Rattle.table_versions.specs.Limits.{most_text_bytes}
 use Rattle.table_versions.specs.Table.{is_long_text}
@@ -207,6 +207,35 @@ schema_fits header payload is short =
       length-append (spelling second) [],
       short_chunk 2 header,
       short_chunk 1000 [],
+    )
+
+-- the head of a body
+short_head : (len : ℕ) → length (body_head len) ≤ 20
+unfolding chunk_head
+short_head len = by (len == 0)
+  where
+    by : (none : Bool) → length (if none then [] else varint (8 * 1000 + 2) ++ varint len) ≤ 20
+    by true = omega arith
+    by false = omega (arith, short_varint (8 * 1000 + 2), short_varint len, length-append (varint (8 * 1000 + 2)) (varint len))
+
+-- the payload of a batch: its header, its body, and the heads of both
+pub batch_fits : (header body payload : List ℕ) → payload ≡ data_head header (length body) ++ body → length header ≤ most_header_bytes → length body ≤ most_body_bytes
+    → length payload ≤ most_payload_bytes
+batch_fits header body payload is few short =
+    let first = chunk_entry 2 header in
+    let front = spelled (set_fields (first ∷ [])) in
+    let whole : length payload ≡ length (data_head header (length body) ++ body) = ap length is in
+    omega (
+      arith,
+      few,
+      short,
+      whole,
+      length-append (data_head header (length body)) body,
+      length-append front (body_head (length body)),
+      short_head (length body),
+      short_set (first ∷ []),
+      length-append (spelling first) [],
+      short_chunk 2 header,
     )
 
 -- the answer to a put

@@ -5,13 +5,9 @@ use Rattle.std.specs.Option.{option_map}
 use Rattle.std.proofs.lemmas.Option.{slice_get-map}
 use Rattle.std.proofs.lemmas.List.{map-append, length-map}
 use Rattle.table_versions.specs.Database.{Database, Put, after, accepted, after_all, database_of}
+use Rattle.table_versions.proofs.Databases.{logs_grow}
 use Rattle.flight_core.specs.Versions.{versions_from, versions_of}
-
-after_all-more : (old : Database) (n : ℕ) (log : List Put) (put : Put) → after_all old n (log ++ put ∷ []) ≡ accepted (after_all old n log) (after (after_all old n log) (n + length log) put)
-after_all-more old n [] put = ap (λ k. accepted old (after old k put)) (omega arith)
-after_all-more old n (p ∷ ps) put =
-    let mid = accepted old (after old n p) in
-    after_all-more mid (n + 1) ps put ∙ ap (λ k. accepted (after_all mid (n + 1) ps) (after (after_all mid (n + 1) ps) k put)) (omega arith)
+use Rattle.flight_core.proofs.Results.{same_some}
 
 versions_from-more : (old : Database) (n : ℕ) (log : List Put) (put : Put) → versions_from old n (log ++ put ∷ []) ≡ versions_from old n log ++ after_all old n (log ++ put ∷ []) ∷ []
 versions_from-more old n [] put = refl
@@ -22,8 +18,11 @@ versions_from-at old n [] k lt = absurd (omega arith)
 versions_from-at old n (p ∷ ps) zero lt = refl
 versions_from-at old n (p ∷ ps) (suc k) lt = versions_from-at (accepted old (after old n p)) (n + 1) ps k (omega arith)
 
+-- the database after one put more
 database_of-more : (log : List Put) (put : Put) (new : Database) → after (database_of log) (length log) put ≡ Ok new → database_of (log ++ put ∷ []) ≡ new
-database_of-more log put new e = after_all-more [] 0 log put ∙ ap (accepted (after_all [] 0 log)) (ap (λ k. after (after_all [] 0 log) k put) (omega arith) ∙ e)
+database_of-more log put new e =
+    let grown = logs_grow log put new e in
+    ap database_of (sym grown.0) ∙ grown.1
 
 versions_of-more : (log : List Put) (put : Put) → versions_of (log ++ put ∷ []) ≡ versions_of log ++ database_of (log ++ put ∷ []) ∷ []
 unfolding versions_of
@@ -34,9 +33,6 @@ unfolding versions_of
 versions_of-at log k lt = versions_from-at [] 0 log k lt
 
 -- ---- a list of entries, each seen as a version and as the put that made it
-
-same_some : {X : Type 0} {a b : X} → Some a ≡ Some b → a ≡ b
-same_some e = cc
 
 -- entry n - 1 is version n
 pub entry_at : {X : Type 0} (view : X → Database) (put : X → Put) (xs : List X) (n : ℕ) (x : X) → map view xs ≡ versions_of (map put xs)

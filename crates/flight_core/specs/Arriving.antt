@@ -51,3 +51,7 @@ whole_put None = Err UnknownCommand
 whole_put (Some begun) = do
   known ← wanted begun.told.state BadBatch
   Ok (put_made begun.ingest known.schema begun.told.rows)
+
+-- the same of what a reader holds, or its fault
+abbrev pub put_from : Result (Option BegunAt) Fault → Result Put Fault
+put_from reader = reader >>= whole_put

@@ -37,10 +37,24 @@ PutStep log payloads answers None new = (put : Put) × (put_said payloads ≡ Ok
 PutStep log payloads answers (Some fault) new = (new ≡ log) × (answers ≡ [])
     × (fault ≢ OutOfMemory → database_put log payloads ≡ Err fault)
 
--- at this log the event may be answered by this reply, and then the log is the last one
+-- what is asked of the core: a put, with its payloads, or a fetch, with its ticket
+pub data Asked : Type 0 where
+  put : List Payload → Asked
+  fetch : Payload → Asked
+
+-- at this log what is asked may be answered by this reply, and then the log is the last one
+abbrev pub StepOn : Log → Asked → Reply → Log → Type 0
+StepOn log (put payloads) reply new = PutStep log payloads reply.payloads.items reply.fault new
+StepOn log (fetch ticket) reply new = (new ≡ log) × FetchIn log ticket reply.payloads.items reply.fault
+
+-- what an event asks
+abbrev pub asked_in : Event → Asked
+asked_in (event.Put payloads) = put payloads.items
+asked_in (event.Fetch ticket) = fetch ticket
+
+-- the same of an event
 abbrev pub Step : Log → Event → Reply → Log → Type 0
-Step log (event.Put payloads) reply new = PutStep log payloads.items reply.payloads.items reply.fault new
-Step log (event.Fetch ticket) reply new = (new ≡ log) × FetchIn log ticket reply.payloads.items reply.fault
+Step log event reply new = StepOn log (asked_in event) reply new
 
 -- these replies answer these events, one step after another, from one log to the other
 abbrev pub Run : Log → List Event → List Reply → Log → Type 0

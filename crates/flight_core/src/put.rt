@@ -2,13 +2,13 @@
 
 ghost use Rattle.std.specs.Prelude.{◌≡◌, ◌++◌, ◌∷◌, [], Ok, Err, None, Some, IfOk, OnErr, List};
 ghost use Rattle.scan_base.specs.declared.fault.Fault.{Fault};
-ghost use Rattle.scan_base.specs.Reading.{GivesUnlessMemory};
+ghost use Rattle.scan_base.specs.Reading.{Gives, GivesUnlessMemory};
 ghost use Rattle.arrays.specs.Batch.{BatchAt};
 ghost use Rattle.table_versions.specs.Stored.{put_of};
 ghost use Rattle.flight_core.specs.Payloads.{Payload};
 ghost use Rattle.flight_core.specs.Puts.{if_not_exist_put, if_exists_put, news_in_payload, put_said};
 ghost use Rattle.flight_core.specs.Stored.{MayBeStored, batches_in};
-ghost use Rattle.flight_core.specs.Arriving.{begun_by, after_payload, said_next, whole_put, HasRead};
+ghost use Rattle.flight_core.specs.Arriving.{begun_by, after_payload, said_next, whole_put, put_from, HasRead};
 
 use arrays::Batch;
 use bytes::Bytes;
@@ -126,7 +126,7 @@ fn read_next(alloc: Global, begun: &mut Option<Begun>, payload: &Bytes) -> Resul
 
 // The put, where no payload follows: F5 where none came, and F8 where no schema did.
 fn whole_put(begun: Option<Begun>) -> Result<Put, Fault>
-    ensures { GivesUnlessMemory put_of result (whole_put begun) }
+    ensures { Gives put_of result (whole_put begun) }
 {
     let Some(begun) = begun else {
         return Err(Fault::UnknownCommand);
@@ -188,10 +188,11 @@ impl PutReader {
     ///
     /// # Errors
     ///
-    /// The first fault, as in [`read_put`].
+    /// The first fault, as in [`read_put`]: F21 (`Fault::OutOfMemory`) only where it was refused before.
     pub fn into_put(self) -> Result<Put, Fault>
-        ensures { (payloads : List Payload) → HasRead payloads self
+        ensures read { (payloads : List Payload) → HasRead payloads self
             → GivesUnlessMemory put_of result (put_said payloads) }
+        ensures whole { Gives put_of result (put_from self) }
     {
         match self.begun {
             Ok(begun) => whole_put(begun),

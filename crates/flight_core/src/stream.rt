@@ -1,6 +1,6 @@
 //! Writing the rows that a scan gives as payloads.
 
-ghost use Rattle.std.specs.Prelude.{◌≡◌, ◌≤◌, ◌<◌, ◌^◌, length, false, None, IfOk, IfErr, IfSome, OnOk};
+ghost use Rattle.std.specs.Prelude.{◌≡◌, ◌≤◌, ◌<◌, length, false, None, IfOk, IfErr, IfSome, OnOk};
 ghost use Rattle.std.specs.List.{list_any};
 ghost use Rattle.arrow_schema.specs.Limits.{most_columns};
 ghost use Rattle.arrow_schema.specs.Schema.{IsSchema};
@@ -28,9 +28,6 @@ const MOST_CELLS: usize = 65_536;
 // The most bytes of a message's body that is written. One row has fewer: at most 64 texts of at most 65,536 bytes.
 const MOST_BODY_BYTES: usize = 8_388_608;
 
-// The most bytes of a payload.
-const MOST_PAYLOAD_BYTES: usize = 16_777_216;
-
 /// These bytes as a payload, which a message of a call can hold.
 pub(crate) fn payload_of(bytes: Vec<u8>) -> Result<Bytes, AllocError>
     requires { length bytes.items ≤ most_payload_bytes }
@@ -56,7 +53,7 @@ fn schema_payload(alloc: Global, schema: &Schema) -> Result<Bytes, AllocError>
 fn batch_payload(alloc: Global, batch: &Batch, len: usize) -> Result<Bytes, AllocError>
     requires few { length batch.now.columns ≤ most_columns }
     requires long { len ≡ body_length batch.now }
-    requires short { len < 2 ^ 31 }
+    requires short { len ≤ most_body_bytes }
     ensures said { IfOk result (λ payload. SaysBatchBehind payload batch.now) }
     ensures fits { IfOk result (λ payload. length payload ≤ most_payload_bytes) }
 {
@@ -65,10 +62,6 @@ fn batch_payload(alloc: Global, batch: &Batch, len: usize) -> Result<Bytes, Allo
     let mut payload = Vec::with_capacity(alloc, room)?;
     put_flight_data_head(&mut payload, &header, len as u64)?;
     append_body(&mut payload, batch)?;
-    // The header has less than 5,000 bytes, which its contract does not say.
-    if payload.len() > MOST_PAYLOAD_BYTES {
-        return Err(AllocError);
-    }
     payload_of(payload)
 }
 

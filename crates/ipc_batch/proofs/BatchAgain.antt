@@ -1,5 +1,5 @@
 -- A batch that was written is read again with the same rows.
-use Rattle.std.proofs.Common.{◌≡◌, ◌∙◌, ℕ, zero, suc, ◌%◌, ◌^◌, ◌≤◌, ◌<◌, List, [], ◌∷◌, length, map, get_or, Ok, refl, arith, ap, subst}
+use Rattle.std.proofs.Common.{◌≡◌, ◌∙◌, ℕ, zero, suc, ◌%◌, ◌^◌, ◌≤◌, ◌<◌, List, [], ◌∷◌, length, map, get_or, Ok, refl, arith, ap, sym, subst}
 use Rattle.std.specs.List.{AllByRecursion, flat_map}
 use Rattle.std.proofs.lemmas.Bool.{eq-eqb}
 use Rattle.std.proofs.lemmas.List.{length-map}
@@ -16,9 +16,9 @@ use Rattle.ipc_batch.specs.Parts.{buffer_at}
 use Rattle.arrays.specs.Written.{buffers_written as column_written}
 use Rattle.ipc_batch.specs.Columns.{counts_agree, buffers_wanted}
 use Rattle.ipc_batch.specs.Said.{Sent, news_of, batch_sent, batch_parts}
-use Rattle.ipc_batch.specs.Written.{parts_part, body_of, node_bytes, place_bytes, places_from, node_written, buffers_written, parts_written, FitsNode, FitParts, FitsBatch, SaysParts, SaysBatch, body_length}
+use Rattle.ipc_batch.specs.Written.{parts_part, body_of, node_bytes, place_bytes, places_from, node_written, buffers_written, parts_written, FitsNode, FitParts, FitsBatch, SaysParts, SaysBatch, body_length, most_header_bytes}
 use Rattle.ipc_batch.proofs.Lengths.{fine, both}
-use Rattle.ipc_batch.proofs.PartsAgain.{length-nodes, length-places, length-places_from, batch_slots, parts_read, message_reads, message_written, parts_said}
+use Rattle.ipc_batch.proofs.PartsAgain.{length-nodes, length-places, length-places_from, batch_slots, parts_read, message_reads, message_written, parts_said, short_header}
 use Rattle.ipc_batch.proofs.WriterLoops.{short_texts, length_more}
 use Rattle.ipc_batch.proofs.ColumnsAgain.{IsWritable, columns_again, rows_again, wanted_again, few_buffers}
 use Rattle.arrays.proofs.NullSlots.{nulls_and_others}
@@ -118,3 +118,10 @@ said batch block n header fits block_is n_is header_is =
       subst (λ (x : Sent). SaysParts x (parts_written batch)) is (parts_said (parts_written batch) (fit_parts batch fits)),
       subst (λ (x : Sent). SaysBatch x batch) is (batch_said batch fits),
     )
+
+-- and how long its header is
+pub header_short : (batch : BatchAt) (block : Part) (n : ℕ) (header : List ℕ) → FitsBatch batch → block ≡ parts_part (parts_written batch) → header ≡ message_bytes RecordBatch block n →
+    length header ≤ most_header_bytes
+header_short batch block n header fits block_is header_is =
+    let is : header ≡ message_bytes RecordBatch (parts_part (parts_written batch)) n = rw (header_is, block_is) refl in
+    subst (λ (x : List ℕ). length x ≤ most_header_bytes) (sym is) (short_header (parts_written batch) n (fit_parts batch fits))

@@ -11,7 +11,7 @@ use Rattle.byteorder.specs.Numbers.{little_number-reads_back}
 use Rattle.scan_base.specs.Lists.{each}
 use Rattle.flatbuf.specs.Place.{TableAt, field_of, scalar_of}
 use Rattle.flatbuf.specs.Layout.{Stands}
-use Rattle.flatbuf.specs.Block.{IsWhole, Given, Number, Offset, given_at, AreWhole, little, padding, padded, table_part, structs_part, children}
+use Rattle.flatbuf.specs.Block.{IsWhole, Given, Number, Offset, given_at, AreWhole, little, padding, padded, structs_part, children, buffer_of}
 use Rattle.flatbuf.specs.Fits.{FitsTable}
 use Rattle.flatbuf.specs.Written.{table_at, LeadsToBlock, SlotReads}
 use Rattle.flatbuf.proofs.Numbers.{little_from-at}
@@ -20,13 +20,13 @@ use Rattle.flatbuf.proofs.Written.{table_reads}
 use Rattle.flatbuf.proofs.Lengths.{whole_table, whole_structs, short_table, short_structs, fits_table}
 use Rattle.flatbuf.proofs.Led.{led_structs, absent_table}
 use Rattle.arrow_schema.specs.declared.header.HeaderKind.TheVariants.{RecordBatch}
-use Rattle.arrow_schema.specs.Message.{message_bytes, MessageReads}
-use Rattle.arrow_schema.proofs.Messages.{messages_read}
+use Rattle.arrow_schema.specs.Message.{message_part, message_bytes, MessageReads}
+use Rattle.arrow_schema.proofs.Messages.{messages_read, short_message}
 use Rattle.ipc_batch.specs.declared.parts.FieldNode.{FieldNode}
 use Rattle.ipc_batch.specs.declared.parts.BufferPlace.{BufferPlace}
 use Rattle.ipc_batch.specs.Parts.{word_at, node_at, place_at, nodes_in, places_in, struct_count, structs_wanted, buffer_at, body_claimed, parts_of}
 use Rattle.ipc_batch.specs.Said.{Sent}
-use Rattle.ipc_batch.specs.Written.{node_bytes, place_bytes, body_of, places_from, parts_part, WrittenParts, FitsNode, FitParts, PartsReadBack, SaysParts}
+use Rattle.ipc_batch.specs.Written.{node_bytes, place_bytes, body_of, places_from, parts_part, WrittenParts, FitsNode, FitParts, PartsReadBack, SaysParts, most_header_bytes}
 
 -- a number that stands at a place is the one that is read there
 pub stands_word : (n : ℕ) (bytes : List ℕ) (at : ℕ) → n < 2 ^ 64 → Stands (little 8 n) bytes at → word_at bytes at ≡ n
@@ -157,12 +157,6 @@ fits_batch rows nodes places few less =
     let a = length-batch_slots rows nodes places in
     fits_table (batch_slots rows nodes places) (omega arith) (omega arith)
 
-pub short_batch : (rows : ℕ) (nodes places : List ℕ) → length nodes ≤ 2 ^ 20 → length places ≤ 2 ^ 20 → length (table_part (batch_slots rows nodes places)).bytes < 2 ^ 29
-short_batch rows nodes places few less =
-    let a = length-batch_slots rows nodes places in
-    let b = short_table (batch_slots rows nodes places) in
-    omega arith
-
 -- the packed nodes and places of parts
 abbrev pub nodes_packed : WrittenParts → List ℕ
 nodes_packed parts = flat_map node_bytes parts.nodes
@@ -250,9 +244,30 @@ parts_read parts message bytes place fit s claimed =
       aligned = places_aligned 0 parts.buffers refl;
     }
 
-pub short_parts : (parts : WrittenParts) → FitParts parts → length (parts_part parts).bytes < 2 ^ 29
+-- the table of parts, and with it the message, has few bytes
+few_bytes : (parts : WrittenParts) → FitParts parts → length (parts_part parts).bytes ≤ 4176
 unfolding parts_part
-short_parts parts fit = short_batch parts.rows (nodes_packed parts) (places_packed parts) (length-nodes_packed parts fit).1 (length-places_packed parts fit).1
+few_bytes parts fit =
+    let slots = length-batch_slots parts.rows (nodes_packed parts) (places_packed parts) in
+    let table = short_table (parts_slots parts) in
+    let nodes = (length-nodes_packed parts fit).0 in
+    let places = (length-places_packed parts fit).0 in
+    let few_nodes = fit.few_nodes in
+    let few_buffers = fit.few_buffers in
+    omega arith
+
+pub short_header : (parts : WrittenParts) (body : ℕ) → FitParts parts → length (message_bytes RecordBatch (parts_part parts) body) ≤ most_header_bytes
+unfolding buffer_of
+short_header parts body fit =
+    let table = few_bytes parts fit in
+    let part = message_part RecordBatch (parts_part parts) body in
+    let message = short_message RecordBatch (parts_part parts) body in
+    let all = length-append (little 8 (8 + part.root)) part.bytes in
+    let front = length-little 8 (8 + part.root) in
+    omega arith
+
+pub short_parts : (parts : WrittenParts) → FitParts parts → length (parts_part parts).bytes < 2 ^ 29
+short_parts parts fit = omega (arith, few_bytes parts fit)
 
 pub is_whole : (parts : WrittenParts) → IsWhole (parts_part parts)
 unfolding parts_part

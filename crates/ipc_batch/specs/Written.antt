@@ -132,6 +132,10 @@ values_batch values = record { columns = whole (Texts values) ∷ []; rows = val
 
 -- ---- messages
 
+-- as many bytes as the header of a batch's message has
+abbrev pub most_header_bytes : ℕ
+most_header_bytes = 8192
+
 -- a message says these parts, each of whose buffers lies at a multiple of 8, and claims all of its body
 pub record SaysParts (sent : Sent) (parts : WrittenParts) : Type 0 where
   pub message : MessageAt

@@ -15,7 +15,7 @@ ghost use Rattle.arrays.specs.Written.{buffer_of, buffers_written as column_writ
 ghost use Rattle.ipc_batch.specs.Written.{node_bytes, place_bytes, body_of, places_from};
 ghost use Rattle.ipc_batch.specs.Written.{parts_part, dictionary_part};
 ghost use Rattle.ipc_batch.specs.Written.{node_written, buffers_written, parts_written, body_length};
-ghost use Rattle.ipc_batch.specs.Written.{FitsBatch, values_batch};
+ghost use Rattle.ipc_batch.specs.Written.{FitsBatch, values_batch, most_header_bytes};
 ghost use Rattle.ipc_batch.specs.Written.{SaysParts, SaysBatch, SaysDictionaryParts, SaysDictionary};
 ghost use Rattle.ipc_batch.specs.Seen.{written_seen};
 
@@ -285,12 +285,13 @@ fn batch_table(alloc: Global, batch: &Batch) -> Result<BatchTable, AllocError>
 }
 
 /// The header of the message of a batch, whose body [`append_body`] writes, and which claims all of that
-/// body. The header and the body have a multiple of 8 bytes. It fails with [`AllocError`] where memory is
-/// refused, and with no other error.
+/// body. The header and the body have a multiple of 8 bytes, the header at most 8,192. It fails with
+/// [`AllocError`] where memory is refused, and with no other error.
 pub fn write_batch_header(alloc: Global, batch: &Batch) -> Result<Vec<u8>, AllocError>
     requires few { length batch.now.columns ≤ most_columns }
     requires short { body_length batch.now < 2 ^ 31 }
     ensures whole { IfOk result (λ header. length header.items % 8 ≡ 0) }
+    ensures short { IfOk result (λ header. length header.items ≤ most_header_bytes) }
     ensures parts { IfOk result (λ header. SaysParts (record {
       header = header.items;
       body = body_of (buffers_written batch.now.columns);
