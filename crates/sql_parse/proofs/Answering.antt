@@ -1,6 +1,6 @@
 -- What reading tells is what parsing answers.
 use Rattle.std.proofs.Common.{◌≡◌, ◌≢◌, ℕ, ◌+◌, ◌-◌, ◌≤◌, Bool, true, false, inl, inr, List, [], ◌∷◌, ◌++◌, length}
-use Rattle.std.proofs.Common.{take, drop, map, Some, Ok, Err, refl, sym, ◌∙◌, ap, subst, arith, Fits, w32}
+use Rattle.std.proofs.Common.{take, drop, map, Some, Ok, Err, refl, sym, ◌∙◌, ap, subst, arith, Fits, w32, append-nil}
 use Rattle.std.specs.Prelude.{Result}
 use Rattle.scan_base.specs.declared.fault.Fault.{Fault}
 use Rattle.scan_base.specs.declared.fault.Fault.TheVariants.{LimitReached, NotInSubset}
@@ -31,10 +31,6 @@ use Rattle.sql_parse.proofs.Printed.{read_shallow, printed_shallow, read_sentenc
 use Rattle.sql_parse.proofs.Printed.{sentence_of_shallow}
 use Rattle.sql_parse.proofs.Whole.{told}
 use Rattle.sql_parse.proofs.Limited.{limited}
-
-nothing_after : {A : Type 0} (xs : List A) → xs ++ [] ≡ xs
-nothing_after [] = refl
-nothing_after {A} (x ∷ xs) = ap (λ (z : List A). x ∷ z) (nothing_after xs)
 
 -- ---- of the grammar that is read, and of the one that is printed
 
@@ -116,9 +112,9 @@ whole_past ts end s q p = inl (
   record {
     front = ts;
     rest = [];
-    splits = sym (nothing_after ts);
+    splits = sym (append-nil ts);
     begins =
-        ([], s, subst (λ (z : List Mark). IsSentence z s) (sym (nothing_after ts)) (sentence_of_shallow ts s q));
+        ([], s, subst (λ (z : List Mark). IsSentence z s) (sym (append-nil ts)) (sentence_of_shallow ts s q));
     past =
         inr p;
   },

@@ -1,6 +1,6 @@
 -- Reading the clauses is these steps.
 use Rattle.std.proofs.Common.{◌≡◌, ℕ, Bool, true, false, cond, ◌||◌, List, [], ◌∷◌, ◌++◌, Some, None, Ok, refl, ◌∙◌}
-use Rattle.std.proofs.Common.{ap, sym}
+use Rattle.std.proofs.Common.{ap, sym, append-nil}
 use Rattle.sql_text.specs.declared.word.Keyword.TheVariants as word
 use Rattle.sql_text.specs.declared.symbol.Symbol.TheVariants as symbol
 use Rattle.grammar.specs.Rule.{many}
@@ -21,7 +21,7 @@ use Rattle.sql_parse.specs.ClauseSteps.{alias_at, counted_at, selection_at, item
 use Rattle.sql_parse.specs.ClauseSteps.{equal_at, equals_at, joined_at, join_at, joins_at, source_at, columns_at}
 use Rattle.sql_parse.specs.ClauseSteps.{group_at, filter_at, ending_at, query_at}
 use Rattle.sql_parse.proofs.Whole.{one_more}
-use Rattle.sql_parse.proofs.Steps.{Nest, flat, name_same, column_same, pred_same, nil_after, nothing_after}
+use Rattle.sql_parse.proofs.Steps.{Nest, flat, name_same, column_same, pred_same, nil_after}
 
 or_false : (a b : Bool) → ((a || false) || b) ≡ (a || b)
 or_false true b = refl
@@ -66,7 +66,7 @@ more : {A : Type 0} (g : Of A) → well_made g ≡ true → nullable g ≡ false
     (seen (reads None g ts) >>= λ x.
     (seen (reads None (many g) x.1) >>= λ xs. Ok ((front ++ x.0 ∷ []) ++ xs.0, xs.1))) (Ok (front, ts))
 more {A} g w n f front ts = rw (sym (alike ts), one_more g w n 0 ts)
-    (simp (flat, nil_after, nothing_after, alike, alone))
+    (simp (flat, nil_after, append-nil, alike, alone))
   where
     alike : (us : List Mark) → reads (Some (read factor 0)) (many g) us ≡ reads None (many g) us
     alike us = flat_alike (Some (read factor 0)) None (many g) f us

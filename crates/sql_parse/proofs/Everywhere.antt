@@ -75,7 +75,7 @@ everywhere p h kind.DelimitedName = holds_at p kinds 24 kind.DelimitedName h ref
 everywhere p h kind.String = holds_at p kinds 25 kind.String h refl
 everywhere p h kind.Digits = holds_at p kinds 26 kind.Digits h refl
 
-follows_by : (a b : Bool) → (not a || b) ≡ true → a ≡ true → b ≡ true
+pub follows_by : (a b : Bool) → (not a || b) ≡ true → a ≡ true → b ≡ true
 follows_by true b h e = h
 follows_by false b h e = cc
 

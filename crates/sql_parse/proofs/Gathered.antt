@@ -8,6 +8,7 @@ use Rattle.grammar.specs.Reading.{nullable, disjoint}
 use Rattle.grammar.proofs.Flags.{and-left, and-right}
 use Rattle.grammar.proofs.Laws.{Solid}
 use Rattle.grammar.proofs.Rules.{Disjoins, nulls, solid_of}
+use Rattle.sql_parse.proofs.Everywhere.{follows_by}
 
 -- what the tokens of each sentence of L gather is what its value says
 abbrev pub Gathers : {T E A : Type 0} → (T → List E) → Language T A → (A → List E) → Type 0
@@ -137,10 +138,6 @@ behind_front {K} {V} q ts l r e n = record {
   other = n.other;
 }
 
-or_there : (a b : Bool) → (not a || b) ≡ true → a ≡ true → b ≡ true
-or_there true b h e = h
-or_there false b h e = cc
-
 module _ {K V P : Type 0} (kinds : List K) (apart : Disjoins kinds) (q : K → Bool) (D : Language (K × V) P)
     (solid : Solid D) (within : EndsApart q D) where
   ends_many : {A : Type 0} (g : Rule K V P A) → EndsApart q (Spells D g) → EndsApart q (Repeats (Spells D g))
@@ -174,7 +171,7 @@ module _ {K V P : Type 0} (kinds : List K) (apart : Disjoins kinds) (q : K → B
       go ts v l r e a b m (inl f) =
           let same : l ≡ ts = sym (after ts l r e f) in
           subst (λ (z : List (K × V)). (z ≡ []) ⊎ Ending q z) same
-          (m (or_there (nullable h) (ends_apart kinds q g)
+          (m (follows_by (nullable h) (ends_apart kinds q g)
           (and-right (ends_apart kinds q h) (not (nullable h) || ends_apart kinds q g) w)
           (nulls D solid h v.1 (subst (λ (z : List (K × V)). Spells D h z v.1) f b))) l v.0 a)
   ends (either {A} g h) w = λ ts v t. go ts v

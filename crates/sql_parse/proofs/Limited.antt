@@ -1,6 +1,6 @@
 -- The tokens of a sentence pass no limit exactly where the sentence is within the limits.
 use Rattle.std.proofs.Common.{◌≡◌, ℕ, ◌+◌, ◌≤◌, true, false, ◌⊎◌, inl, inr, ◌↔◌, List, [], ◌∷◌, ◌++◌, length}
-use Rattle.std.proofs.Common.{Option, Some, None, refl, sym, ap, subst, flat_map, arith, append_assoc}
+use Rattle.std.proofs.Common.{Option, Some, None, refl, sym, subst, flat_map, arith, append_assoc, append-nil}
 use Rattle.std.specs.Prelude.{All}
 use Rattle.std.proofs.lemmas.List.Elements.{All-nil, All-cons, All-head, All-tail, All-append}
 use Rattle.scan_base.specs.Predicate.{conjunction, disjunction, negation, truth_test, comparing, between, membership}
@@ -188,21 +188,17 @@ group_fresh : (xs : List ColumnName) → IsFresh (group_steps xs)
 group_fresh [] = tt
 group_fresh (x ∷ xs) = tt
 
-nothing_after : (steps : List Step) → steps ++ [] ≡ steps
-nothing_after [] = refl
-nothing_after (s ∷ steps) = ap (λ (z : List Step). s ∷ z) (nothing_after steps)
-
 group_fits : (xs : List ColumnName) → Fit 0 64 (group_steps xs) → length xs ≤ 64
 group_fits [] f = omega arith
 group_fits (x ∷ xs) f =
     (list_fits 64 (x ∷ xs) [] tt
-    (subst (Fit 1 64) (sym (nothing_after (flat_map {X = ColumnName} (λ y. next ∷ []) xs))) f.1)).0
+    (subst (Fit 1 64) (sym (append-nil (flat_map {X = ColumnName} (λ y. next ∷ []) xs))) f.1)).0
 
 fits_group : (xs : List ColumnName) → length xs ≤ 64 → Fit 0 64 (group_steps xs)
 fits_group [] few = omega arith
 fits_group (x ∷ xs) few =
     let whole = fits_list 64 (x ∷ xs) [] tt (omega arith) few (omega arith) in
-    (omega arith, subst (Fit 1 64) (nothing_after (flat_map {X = ColumnName} (λ y. next ∷ []) xs)) whole)
+    (omega arith, subst (Fit 1 64) (append-nil (flat_map {X = ColumnName} (λ y. next ∷ []) xs)) whole)
 
 filter_fresh : (p : Option Condition) (rest : List Step) → IsFresh rest → IsFresh (if_said condition_steps p ++ rest)
 filter_fresh None rest fresh = fresh

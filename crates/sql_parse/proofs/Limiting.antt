@@ -3,7 +3,7 @@ use Rattle.std.proofs.Common.{◌≡◌, ℕ, ◌+◌, ◌≤◌, Bool, true, fa
 use Rattle.std.proofs.Common.{[], ◌∷◌, ◌++◌, length, refl, ◌∙◌, flat_map, arith}
 use Rattle.std.proofs.Common.{append-nil}
 use Rattle.std.specs.Prelude.{All}
-use Rattle.std.proofs.lemmas.Bool.{ltb-false, le-ltb}
+use Rattle.std.proofs.lemmas.Bool.{ltb-false, le-ltb, or_from}
 use Rattle.std.proofs.lemmas.List.Elements.{All-nil, All-cons, All-head, All-tail, All-append}
 use Rattle.sql_text.specs.declared.word.Keyword.TheVariants as word
 use Rattle.sql_text.specs.declared.symbol.Symbol.TheVariants as symbol
@@ -37,10 +37,6 @@ pub record AllFit (tally : Tally) (announced : List (Unit {0})) (steps : List St
 
 -- ---- one token
 
-neither : (a b : Bool) → a ≡ false → b ≡ false → (a || b) ≡ false
-neither true b e f = cc
-neither false b e f = f
-
 in_time : (tally : Tally) → is_past tally ≡ false → (tally.places ≤ 4) × (tally.items ≤ tally.most)
 unfolding is_past
 in_time tally h = (
@@ -51,7 +47,7 @@ in_time tally h = (
 not_past : (tally : Tally) → tally.places ≤ 4 → tally.items ≤ tally.most → is_past tally ≡ false
 unfolding is_past
 not_past tally p i =
-    neither (nat_lt 4 tally.places) (nat_lt tally.most tally.items) (le-ltb 4 tally.places p)
+    or_from (nat_lt 4 tally.places) (nat_lt tally.most tally.items) (le-ltb 4 tally.places p)
     (le-ltb tally.most tally.items i)
 
 short_by : (t : Mark) → is_long_name t.0 t.1.1 ≡ false → All IsShort (names_at t)
@@ -173,8 +169,8 @@ none_pass tally [] f = refl
 none_pass tally (t ∷ ts) f =
     let places = flat_map places_at ts in
     let steps = flat_map steps_at ts in
-    neither (is_long_name t.0 t.1.1 || is_past tally) (passes_from (counted tally t.0) ts)
-    (neither (is_long_name t.0 t.1.1) (is_past tally)
+    or_from (is_long_name t.0 t.1.1 || is_past tally) (passes_from (counted tally t.0) ts)
+    (or_from (is_long_name t.0 t.1.1) (is_past tally)
     (not_long t (all_front IsShort (names_at t) (flat_map names_at ts) f.names))
     (fits_now tally (places_at t ++ places) (steps_at t ++ steps) f.announced))
     (none_pass (counted tally t.0) ts (record {

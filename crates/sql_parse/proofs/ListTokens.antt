@@ -1,6 +1,7 @@
 -- The lists and the places that the tokens of a sentence announce.
 use Rattle.std.proofs.Common.{◌≡◌, ℕ, ◌+◌, ◌≤◌, Bool, true, false, not, ◌||◌, inl, inr, List, [], ◌∷◌, ◌++◌, length, Option}
 use Rattle.std.proofs.Common.{Some, refl, sym, ◌∙◌, ap, subst, flat_map, append-nil, arith}
+use Rattle.std.proofs.lemmas.Bool.{not-false}
 use Rattle.scan_base.specs.declared.comparison.Comparison.{Comparison}
 use Rattle.scan_base.specs.declared.predicate.Operand.{Operand}
 use Rattle.scan_base.specs.Predicate.{conjunction, disjunction, negation, truth_test, comparing, between, membership}
@@ -77,13 +78,9 @@ stepless t = go (announces_place t.0) (begins_list t.0) (is_word word.In t.0) (i
 placeless : (t : Mark) → announces_place t.0 ≡ false → places_at t ≡ []
 placeless t h = ap placed h
 
-un_not : (b : Bool) → not b ≡ false → b ≡ true
-un_not true e = refl
-un_not false e = cc
-
 logical_stepless : (t : Mark) → not (is_logical t.0) ≡ false → steps_at t ≡ []
 unfolding same_word same_symbol
-logical_stepless t h = stepless t (apart steps_list is_logical refl t.0 (un_not (is_logical t.0) h))
+logical_stepless t h = stepless t (apart steps_list is_logical refl t.0 (not-false (is_logical t.0) h))
 
 stepped_as : (a b c d x y z w : Bool) → a ≡ x → b ≡ y → c ≡ z → d ≡ w → stepped a b c d ≡ stepped x y z w
 stepped_as a b c d x y z w e f g h = cc

@@ -2,6 +2,7 @@
 use Rattle.std.proofs.Common.{◌≡◌, ℕ, Bool, true, false, not, if◌then◌else◌, List, [], ◌∷◌, ◌++◌, Option}
 use Rattle.std.proofs.Common.{Some, None, refl, ◌∙◌, ap, flat_map, append-nil}
 use Rattle.std.specs.Option.{option_to_list}
+use Rattle.std.proofs.lemmas.Bool.{not-false}
 use Rattle.scan_base.specs.declared.comparison.Comparison.{Comparison}
 use Rattle.scan_base.specs.declared.value.Value.{Value}
 use Rattle.scan_base.specs.declared.value.Value.TheVariants as value
@@ -60,11 +61,7 @@ nameless t h = ap (λ (b : Bool). if b then value_of t ∷ [] else []) h
 
 logical_nameless : (t : Mark) → not (is_logical t.0) ≡ false → names_at t ≡ []
 unfolding same_word same_symbol
-logical_nameless t h = nameless t (apart is_name is_logical refl t.0 (un_not (is_logical t.0) h))
-  where
-    un_not : (b : Bool) → not b ≡ false → b ≡ true
-    un_not true e = refl
-    un_not false e = cc
+logical_nameless t h = nameless t (apart is_name is_logical refl t.0 (not-false (is_logical t.0) h))
 
 column_said : (first : List ℕ) (second : Option (List ℕ)) →
     (first ∷ []) ++ if_said (λ n. n ∷ []) second ≡ column_names (column_name first second)

@@ -1,6 +1,7 @@
 -- Tokens have at most one answer.
-use Rattle.std.proofs.Common.{◌≡◌, ℕ, Bool, true, false, ◌||◌, ◌⊎◌, inl, inr, List, [], ◌∷◌, ◌++◌, refl, sym, ◌∙◌, ap}
-use Rattle.std.proofs.Common.{subst, append_assoc}
+use Rattle.std.proofs.Common.{◌≡◌, ℕ, true, false, ◌||◌, ◌⊎◌, inl, inr, List, [], ◌∷◌, ◌++◌, refl, sym, ◌∙◌, ap}
+use Rattle.std.proofs.Common.{subst, append_assoc, append-nil}
+use Rattle.std.proofs.lemmas.Bool.{or_from}
 use Rattle.scan_base.specs.declared.fault.Fault.{Fault}
 use Rattle.grammar.specs.Rule.{Language}
 use Rattle.grammar.specs.Sentence.{Begins, NoneGoesOn}
@@ -28,10 +29,6 @@ one_sentence ts s other q r = one_value kinds factor begins_factor follows_facto
 
 -- ---- lists
 
-nothing_after : {A : Type 0} (xs : List A) → xs ++ [] ≡ xs
-nothing_after [] = refl
-nothing_after {A} (x ∷ xs) = ap (λ (z : List A). x ∷ z) (nothing_after xs)
-
 -- of two ways to cut a list, one cuts no later than the other
 cut_either : {T : Type 0} (a x b y : List T) → a ++ x ≡ b ++ y → ((c : List T) × (b ≡ a ++ c) × (x ≡ c ++ y)) ⊎
     ((c : List T) × (a ≡ b ++ c) × (y ≡ c ++ x))
@@ -54,17 +51,13 @@ part_begins L a b q = (b ++ q.0, q.1, subst (λ (z : List Mark). L z q.1) (appen
 whole_begins : (L : Language Mark Sentence) (a b : List Mark) (s : Sentence) → L (a ++ b) s → Begins L a
 whole_begins L a b s q = (b, s, q)
 
-neither : (a b : Bool) → a ≡ false → b ≡ false → (a || b) ≡ false
-neither true b e f = cc
-neither false b e f = f
-
 part_passes_from : (tally : Tally) (a b : List Mark) → passes_from tally (a ++ b) ≡ false → passes_from tally a ≡ false
 part_passes_from tally [] b e = refl
 part_passes_from tally (t ∷ a) b e =
     let here : (is_long_name t.0 t.1.1 || is_past tally) ≡ false =
     or-left (is_long_name t.0 t.1.1 || is_past tally) (passes_from (counted tally t.0) (a ++ b)) e in
     let there = or-right (is_long_name t.0 t.1.1 || is_past tally) (passes_from (counted tally t.0) (a ++ b)) e in
-    neither (is_long_name t.0 t.1.1 || is_past tally) (passes_from (counted tally t.0) a) here
+    or_from (is_long_name t.0 t.1.1 || is_past tally) (passes_from (counted tally t.0) a) here
     (part_passes_from (counted tally t.0) a b there)
 
 part_passes : (a b : List Mark) → passes (a ++ b) ≡ false → passes a ≡ false
@@ -82,7 +75,7 @@ beyond front (u ∷ place) none t c y e b = let h : u ≡ t =
 -- a whole sentence has no offending token
 whole_none : (front place : List Mark) → NoneGoesOn IsSentence front place → (s : Sentence) →
     IsSentence (front ++ place) s → ⊥
-whole_none front [] none s q = none s (subst (λ (z : List Mark). IsSentence z s) (nothing_after front) q)
+whole_none front [] none s q = none s (subst (λ (z : List Mark). IsSentence z s) (append-nil front) q)
 whole_none front (t ∷ place) none s q = none place s q
 
 -- tokens that pass a limit begin no sentence within the limits
@@ -113,7 +106,7 @@ limit_or_offender : (ts place : List Mark) → PassesLimit ts → HasOffender ts
 limit_or_offender ts place l o = go (cut_either l.front l.rest o.offends.front place (sym l.splits ∙ o.offends.splits))
   where
     further : (c : List Mark) → l.front ≡ o.offends.front ++ c → place ≡ c ++ l.rest → ⊥
-    further [] e f = let same_front : l.front ≡ o.offends.front = e ∙ nothing_after o.offends.front in
+    further [] e f = let same_front : l.front ≡ o.offends.front = e ∙ append-nil o.offends.front in
         no_limit l.front (subst (Begins IsShallow) (sym same_front) o.offends.begins)
         (subst (λ (z : List Mark). passes z ≡ false) (sym same_front) o.counts) l.past
     further (t ∷ c) e f = beyond o.offends.front place o.offends.ends t c l.rest f

@@ -1,6 +1,6 @@
 -- Reading by the grammar is these steps.
 use Rattle.std.proofs.Common.{◌≡◌, ℕ, zero, suc, ◌-◌, Bool, true, false, cond, List, [], ◌∷◌, ◌++◌, Option, Some}
-use Rattle.std.proofs.Common.{None, Ok, Err, refl, ◌∙◌, ap, sym, append_assoc, arith}
+use Rattle.std.proofs.Common.{None, Ok, Err, refl, ◌∙◌, ap, sym, append_assoc, arith, append-nil}
 use Rattle.std.specs.Prelude.{◌==◌, ℤ}
 use Rattle.sql_text.specs.Values.{number_of}
 use Rattle.std.proofs.lemmas.Bool.{ne_eqb}
@@ -233,10 +233,6 @@ ors_step d p ts = rw (one_more (a_word word.Or ⊳ conj) or_made refl d ts) (sim
 pub nil_after : {A : Type 0} (xs ys : List A) (x : A) → (xs ++ x ∷ []) ++ ys ≡ xs ++ x ∷ ys
 nil_after xs ys x = append_assoc xs (x ∷ []) ys
 
-pub nothing_after : {A : Type 0} (xs : List A) → xs ++ [] ≡ xs
-nothing_after [] = refl
-nothing_after {A} (x ∷ xs) = ap (λ (z : List A). x ∷ z) (nothing_after xs)
-
 operand_made : well_made (a_symbol symbol.Comma ⊳ operand) ≡ true
 unfolding operand column name number minus digits string same_symbol same_word number_of
 operand_made = refl
@@ -255,4 +251,4 @@ operands_step front ts = rw (
   sym (operands_flat (Some (read factor 0)) ts),
   one_more (a_symbol symbol.Comma ⊳ operand) operand_made refl 0 ts,
 )
-    (simp (flat, operand_same, nil_after, nothing_after, operands_flat))
+    (simp (flat, operand_same, nil_after, append-nil, operands_flat))

@@ -1,7 +1,10 @@
 -- The laws of what parsing answers.
 use Rattle.std.specs.Prelude.{◌≡◌, ◌↔◌, ℕ, true, false, List, ◌++◌}
 use Rattle.scan_base.specs.declared.fault.Fault.{Fault}
-use Rattle.sql_parse.specs.Parse.{IsSentence, Accepts, Refuses}
+use Rattle.grammar.specs.Rule.{Spells, Nested, Any}
+use Rattle.sql_parse.specs.Productions.{query}
+use Rattle.sql_parse.specs.Factored as factored
+use Rattle.sql_parse.specs.Parse.{IsSentence, IsShallow, Accepts, Refuses}
 use Rattle.sql_query.specs.Sentence.{Sentence}
 use Rattle.sql_parse.specs.Tokens.{Mark}
 use Rattle.sql_parse.specs.Limits.{passes}
@@ -27,3 +30,10 @@ LimitsAreOfTheSentence =
 abbrev pub PassedForGood : Type 0
 PassedForGood =
     (front more : List Mark) (s : Sentence) → passes front ≡ true → IsSentence (front ++ more) s → IsWithinLimits s → ⊥
+
+-- The factored productions, which one token of look-ahead reads, spell the same as the printed ones: with any depth of
+-- parentheses and NOTs, and with at most 64.
+abbrev pub FactoredSpellsTheSame : Type 0
+FactoredSpellsTheSame = (ts : List Mark) (s : Sentence)
+    → (IsSentence ts s ↔ Spells (Any factored.factor) query ts s)
+    × (IsShallow ts s ↔ Spells (Nested factored.factor 64) query ts s)

@@ -271,7 +271,7 @@ fn filter<'t>(
     if tokens.at(Class::Word(Keyword::Where)) {
         let (_, rest) = tokens.take(Class::Word(Keyword::Where))?;
         let (predicate, rest) = predicate(alloc, depth, rest)?;
-        Ok((Some(predicate), rest))
+        Ok((Some(Box::into_inner(predicate)), rest))
     } else {
         Ok((None, tokens))
     }

@@ -7,6 +7,7 @@ ghost use Rattle.sql_parse.specs.Laws.{
   AcceptedIsNotRefused,
   LimitsAreOfTheSentence,
   PassedForGood,
+  FactoredSpellsTheSame,
 };
 
 /// A list of tokens says at most one sentence.
@@ -33,4 +34,10 @@ pub fn limits_are_of_the_sentence()
 /// Tokens that pass a limit begin no sentence within the limits.
 pub fn passed_for_good()
     ensures { PassedForGood }
+{}
+
+/// The factored productions, by which the parser reads with one token of look-ahead, spell the same as the printed
+/// ones.
+pub fn factored_spells_the_same()
+    ensures { FactoredSpellsTheSame }
 {}

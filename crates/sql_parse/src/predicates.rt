@@ -180,6 +180,8 @@ fn behind_operand<'t>(
     }
 }
 
+// ---- From here on a predicate is in a box, since each parenthesis hands it on.
+
 // NOT factor
 #[tactic(auto, unfolding(crate::specs::Steps::negation_at))]
 #[cycle(nested)]
@@ -187,8 +189,8 @@ fn negation<'t>(
     alloc: Global,
     depth: usize,
     tokens: Rest<'t>,
-) -> Result<(Predicate<ColumnName>, Rest<'t>), Refusal>
-    ensures exact { Gives (λ x. (pred_of x.0, unread x.1)) result (steps.negation_at depth (unread tokens.entry)) }
+) -> Result<(Box<Predicate<ColumnName>>, Rest<'t>), Refusal>
+    ensures exact { Gives (λ x. (pred_of x.0.value, unread x.1)) result (steps.negation_at depth (unread tokens.entry)) }
     ensures shorter { IfOk result (λ x. remaining x.1 < remaining tokens.entry) }
 {
     if depth == 0 {
@@ -196,7 +198,7 @@ fn negation<'t>(
     }
     let (_, rest) = tokens.take(Class::Word(Keyword::Not))?;
     let (predicate, rest) = factor(alloc, depth - 1, rest)?;
-    Ok((Predicate::Not(Box::new(alloc, predicate)?), rest))
+    Ok((Box::new(alloc, Predicate::Not(predicate))?, rest))
 }
 
 // NOT factor | test, where `depth` parentheses and prefix NOTs more may be open
@@ -206,8 +208,8 @@ fn factor<'t>(
     alloc: Global,
     depth: usize,
     tokens: Rest<'t>,
-) -> Result<(Predicate<ColumnName>, Rest<'t>), Refusal>
-    ensures exact { Gives (λ x. (pred_of x.0, unread x.1)) result (steps.factor_at depth (unread tokens.entry)) }
+) -> Result<(Box<Predicate<ColumnName>>, Rest<'t>), Refusal>
+    ensures exact { Gives (λ x. (pred_of x.0.value, unread x.1)) result (steps.factor_at depth (unread tokens.entry)) }
     ensures shorter { IfOk result (λ x. remaining x.1 < remaining tokens.entry) }
 {
     if tokens.at(Class::Word(Keyword::Not)) {
@@ -224,15 +226,15 @@ fn conjunction<'t>(
     alloc: Global,
     depth: usize,
     tokens: Rest<'t>,
-) -> Result<(Predicate<ColumnName>, Rest<'t>), Refusal>
-    ensures exact { Gives (λ x. (pred_of x.0, unread x.1)) result (steps.conj_at depth (unread tokens.entry)) }
+) -> Result<(Box<Predicate<ColumnName>>, Rest<'t>), Refusal>
+    ensures exact { Gives (λ x. (pred_of x.0.value, unread x.1)) result (steps.conj_at depth (unread tokens.entry)) }
     ensures shorter { IfOk result (λ x. remaining x.1 < remaining tokens.entry) }
 {
     let (mut left, mut rest) = factor(alloc, depth, tokens)?;
     while rest.at(Class::Word(Keyword::And)) {
         let (_, after) = rest.take(Class::Word(Keyword::And))?;
         let (right, after) = factor(alloc, depth, after)?;
-        left = Predicate::And(Box::new(alloc, left)?, Box::new(alloc, right)?);
+        left = Box::new(alloc, Predicate::And(left, right))?;
         rest = after;
     }
     Ok((left, rest))
@@ -245,15 +247,15 @@ pub(crate) fn predicate<'t>(
     alloc: Global,
     depth: usize,
     tokens: Rest<'t>,
-) -> Result<(Predicate<ColumnName>, Rest<'t>), Refusal>
-    ensures exact { Gives (λ x. (pred_of x.0, unread x.1)) result (steps.pred_at depth (unread tokens.entry)) }
+) -> Result<(Box<Predicate<ColumnName>>, Rest<'t>), Refusal>
+    ensures exact { Gives (λ x. (pred_of x.0.value, unread x.1)) result (steps.pred_at depth (unread tokens.entry)) }
     ensures shorter { IfOk result (λ x. remaining x.1 < remaining tokens.entry) }
 {
     let (mut left, mut rest) = conjunction(alloc, depth, tokens)?;
     while rest.at(Class::Word(Keyword::Or)) {
         let (_, after) = rest.take(Class::Word(Keyword::Or))?;
         let (right, after) = conjunction(alloc, depth, after)?;
-        left = Predicate::Or(Box::new(alloc, left)?, Box::new(alloc, right)?);
+        left = Box::new(alloc, Predicate::Or(left, right))?;
         rest = after;
     }
     Ok((left, rest))
@@ -266,8 +268,8 @@ fn parenthesized<'t>(
     alloc: Global,
     depth: usize,
     tokens: Rest<'t>,
-) -> Result<(Predicate<ColumnName>, Rest<'t>), Refusal>
-    ensures exact { Gives (λ x. (pred_of x.0, unread x.1)) result (steps.inside_at depth (unread tokens.entry)) }
+) -> Result<(Box<Predicate<ColumnName>>, Rest<'t>), Refusal>
+    ensures exact { Gives (λ x. (pred_of x.0.value, unread x.1)) result (steps.inside_at depth (unread tokens.entry)) }
     ensures shorter { IfOk result (λ x. remaining x.1 < remaining tokens.entry) }
 {
     if depth == 0 {
@@ -286,15 +288,16 @@ fn primary<'t>(
     alloc: Global,
     depth: usize,
     tokens: Rest<'t>,
-) -> Result<(Predicate<ColumnName>, Rest<'t>), Refusal>
-    ensures exact { Gives (λ x. (pred_of x.0, unread x.1)) result (steps.primary_at depth (unread tokens.entry)) }
+) -> Result<(Box<Predicate<ColumnName>>, Rest<'t>), Refusal>
+    ensures exact { Gives (λ x. (pred_of x.0.value, unread x.1)) result (steps.primary_at depth (unread tokens.entry)) }
     ensures shorter { IfOk result (λ x. remaining x.1 < remaining tokens.entry) }
 {
     if tokens.at(Class::Symbol(Symbol::LeftParenthesis)) {
         parenthesized(alloc, depth, tokens)
     } else {
         let (left, rest) = operand(alloc, tokens)?;
-        behind_operand(alloc, left, rest)
+        let (predicate, rest) = behind_operand(alloc, left, rest)?;
+        Ok((Box::new(alloc, predicate)?, rest))
     }
 }
 
@@ -305,8 +308,8 @@ fn test<'t>(
     alloc: Global,
     depth: usize,
     tokens: Rest<'t>,
-) -> Result<(Predicate<ColumnName>, Rest<'t>), Refusal>
-    ensures exact { Gives (λ x. (pred_of x.0, unread x.1)) result (steps.test_at depth (unread tokens.entry)) }
+) -> Result<(Box<Predicate<ColumnName>>, Rest<'t>), Refusal>
+    ensures exact { Gives (λ x. (pred_of x.0.value, unread x.1)) result (steps.test_at depth (unread tokens.entry)) }
     ensures shorter { IfOk result (λ x. remaining x.1 < remaining tokens.entry) }
 {
     let (predicate, rest) = primary(alloc, depth, tokens)?;
@@ -317,9 +320,9 @@ fn test<'t>(
         let predicate = Predicate::Is {
             negated,
             tested,
-            predicate: Box::new(alloc, predicate)?,
+            predicate,
         };
-        Ok((predicate, rest))
+        Ok((Box::new(alloc, predicate)?, rest))
     } else {
         Ok((predicate, rest))
     }
