@@ -1,5 +1,6 @@
 -- A cursor's steps over the rows of a table.
-use Rattle.std.proofs.Common.{◌≡◌, ◌≤◌, ◌<◌, ℕ, ◌+◌, ◌-◌, ◌==◌, Bool, if◌then◌else◌, List, ◌++◌, length, take, drop, max, min, slice_get, Some, sym, ap, subst, ◌∙◌, ◌⊎◌, inl, inr, arith}
+use Rattle.std.proofs.Common.{◌≡◌, ◌≤◌, ◌<◌, ℕ, ◌+◌, ◌-◌, ◌==◌, Bool, if◌then◌else◌, List, ◌++◌, length, take, drop}
+use Rattle.std.proofs.Common.{max, min, slice_get, Some, sym, ap, subst, ◌∙◌, ◌⊎◌, inl, inr, arith}
 use Rattle.std.specs.List.{filter}
 use Rattle.std.proofs.lemmas.Bool.{cases_eq, eq-eqb, ne_eqb}
 use Rattle.std.proofs.lemmas.List.Elements.{filter-append}
@@ -19,7 +20,8 @@ use Rattle.scan_exec.specs.Runs.{IsFirstRun}
 use Rattle.scan_exec.proofs.Opening.{opens_one, stays_open, in_few}
 
 -- past a batch that ends before the next row
-pub past : BatchesAreRows → (table : TableAt) (cursor : Cursor) (batch : BatchAt) → IsPlaced table cursor → slice_get table.batches cursor.batch ≡ Some batch →
+pub past : BatchesAreRows → (table : TableAt) (cursor : Cursor) (batch : BatchAt) → IsPlaced table cursor →
+    slice_get table.batches cursor.batch ≡ Some batch →
     0 < batch.rows → cursor.start + batch.rows ≤ cursor.at →
     IsPlaced table (record cursor { batch = cursor.batch + 1; start = cursor.start + batch.rows })
 past standing table cursor batch is there some h =
@@ -38,7 +40,8 @@ past standing table cursor batch is there some h =
 pub opened_few : (table : TableAt) (cursor : Cursor) → IsPlaced table cursor → cursor.opened ≤ cursor.at
 opened_few table cursor is = omega (arith, is.opened, in_few cursor.from cursor.at table.batches)
 
-module _ (standing : BatchesAreRows) (table : TableAt) (cursor : Cursor) (batch : BatchAt) (there : slice_get table.batches cursor.batch ≡ Some batch)
+module _ (standing : BatchesAreRows) (table : TableAt) (cursor : Cursor) (batch : BatchAt)
+    (there : slice_get table.batches cursor.batch ≡ Some batch)
     (is : IsPlaced table cursor) (more : cursor.at < cursor.to) (high : cursor.at < cursor.start + batch.rows)
     (held : Row → Bool) (start end : ℕ)
     (run : IsFirstRun held batch (cursor.at - cursor.start) (min batch.rows (cursor.to - cursor.start)) start end) where
@@ -63,17 +66,21 @@ module _ (standing : BatchesAreRows) (table : TableAt) (cursor : Cursor) (batch 
   ends : cursor.start + end ≤ rows_before table.batches (cursor.batch + 1)
   ends = let next = ((standing table).1 cursor.batch batch there).next in omega (arith, next, is.start, run.high)
 
-  counted : cursor.opened + (if cursor.at == max cursor.start cursor.from then 1 else 0) ≡ length (batches_in cursor.from (cursor.start + end) table.batches)
+  counted : cursor.opened + (if cursor.at == max cursor.start cursor.from then 1 else 0)
+      ≡ length (batches_in cursor.from (cursor.start + end) table.batches)
   counted = by (cases_eq cursor.at (max cursor.start cursor.from))
     where
       by : (cursor.at ≡ max cursor.start cursor.from) ⊎ (cursor.at ≡ max cursor.start cursor.from → ⊥) →
-          cursor.opened + (if cursor.at == max cursor.start cursor.from then 1 else 0) ≡ length (batches_in cursor.from (cursor.start + end) table.batches)
+          cursor.opened + (if cursor.at == max cursor.start cursor.from then 1 else 0)
+          ≡ length (batches_in cursor.from (cursor.start + end) table.batches)
       by (inl e) =
-          let one = opens_one cursor.from cursor.at (cursor.start + end) table.batches cursor.batch within is.begun (omega (arith, is.start, is.behind)) forth
+          let one = opens_one cursor.from cursor.at (cursor.start + end) table.batches cursor.batch within is.begun
+          (omega (arith, is.start, is.behind)) forth
           ends (omega (arith, e, is.start)) in
           rw (eq-eqb cursor.at (max cursor.start cursor.from) e) (omega (arith, one, is.opened))
       by (inr n) =
-          let same = ap length (stays_open cursor.from cursor.at (cursor.start + end) table.batches cursor.batch within is.begun (omega (arith, is.start, is.behind)) forth
+          let same = ap length (stays_open cursor.from cursor.at
+          (cursor.start + end) table.batches cursor.batch within is.begun (omega (arith, is.start, is.behind)) forth
           ends (omega (arith, n, is.start, is.behind, is.begun))) in
           rw (ne_eqb cursor.at (max cursor.start cursor.from) n) (omega (arith, same, is.opened))
 
@@ -89,7 +96,8 @@ module _ (standing : BatchesAreRows) (table : TableAt) (cursor : Cursor) (batch 
   }
 
   -- rows of the batch are rows of the table
-  cut_is : (from to : ℕ) → from ≤ to → to ≤ batch.rows → rows_between (cursor.start + from) (cursor.start + to) (table_of table).rows ≡ rows_of (cut_batch batch from to)
+  cut_is : (from to : ℕ) → from ≤ to → to ≤ batch.rows →
+      rows_between (cursor.start + from) (cursor.start + to) (table_of table).rows ≡ rows_of (cut_batch batch from to)
   cut_is from to low within =
       let size : cursor.start + to - (cursor.start + from) ≡ to - from = omega arith in
       let place : cursor.start + from ≡ rows_before table.batches cursor.batch + from = omega (arith, is.start) in
@@ -103,36 +111,48 @@ module _ (standing : BatchesAreRows) (table : TableAt) (cursor : Cursor) (batch 
       let first = cursor.at - cursor.start in
       let at : cursor.start + first ≡ cursor.at = omega (arith, is.behind) in
       let within : end ≤ batch.rows = omega (arith, run.high) in
-      let one = rows_between-append (cursor.start + first) (cursor.start + start) cursor.to rows (omega (arith, run.low)) (omega (arith, run.ordered, run.high, is.behind, more)) in
-      let two = rows_between-append (cursor.start + start) (cursor.start + end) cursor.to rows (omega (arith, run.ordered)) (omega (arith, run.high, is.behind, more)) in
+      let one = rows_between-append (cursor.start + first) (cursor.start + start) cursor.to rows
+      (omega (arith, run.low)) (omega (arith, run.ordered, run.high, is.behind, more)) in
+      let two = rows_between-append (cursor.start + start) (cursor.start + end) cursor.to rows
+      (omega (arith, run.ordered)) (omega (arith, run.high, is.behind, more)) in
       let passed = ap (filter held) (cut_is first start run.low (omega (arith, run.ordered, within))) ∙ run.passed in
       let whole = ap (filter held) (cut_is start end run.ordered within) ∙ run.whole in
       ap (λ (n : ℕ). filter held (rows_between n cursor.to rows)) (sym at)
-      ∙ ap (filter held) (sym one) ∙ filter-append held (rows_between (cursor.start + first) (cursor.start + start) rows) (rows_between (cursor.start + start) cursor.to rows)
+      ∙ ap (filter held) (sym one) ∙ filter-append held
+      (rows_between (cursor.start + first) (cursor.start + start) rows)
+      (rows_between (cursor.start + start) cursor.to rows)
       ∙ ap (λ (none : List Row). none ++ filter held (rows_between (cursor.start + start) cursor.to rows)) passed
-      ∙ ap (filter held) (sym two) ∙ filter-append held (rows_between (cursor.start + start) (cursor.start + end) rows) (rows_between (cursor.start + end) cursor.to rows)
+      ∙ ap (filter held) (sym two) ∙ filter-append held (rows_between (cursor.start + start) (cursor.start + end) rows)
+      (rows_between (cursor.start + end) cursor.to rows)
       ∙ ap (λ (some : List Row). some ++ filter held (rows_between (cursor.start + end) cursor.to rows)) whole
 
 -- a cursor that went on to a batch has as many rows ahead
-pub still_more : (before mid : Cursor) → mid ≡ record before { batch = mid.batch; start = mid.start } → before.at < before.to → mid.at < mid.to
+pub still_more : (before mid : Cursor) → mid ≡ record before { batch = mid.batch; start = mid.start } →
+    before.at < before.to → mid.at < mid.to
 still_more before mid moved h = omega (arith, h, ap (λ (x : Cursor). x.at) moved, ap (λ (x : Cursor). x.to) moved)
 
 -- what looking at rows of a batch gives, once the batch is counted
-pub placed_then : BatchesAreRows → (table : TableAt) (mid counted : Cursor) (batch : BatchAt) (held : Row → Bool) (last start end : ℕ) →
-    slice_get table.batches mid.batch ≡ Some batch → IsPlaced table mid → mid.at < mid.to → mid.at < mid.start + batch.rows →
+pub placed_then : BatchesAreRows → (table : TableAt) (mid counted : Cursor) (batch : BatchAt) (held : Row → Bool)
+    (last start end : ℕ) →
+    slice_get table.batches mid.batch ≡ Some batch → IsPlaced table mid → mid.at < mid.to →
+    mid.at < mid.start + batch.rows →
     counted ≡ record mid { opened = mid.opened + (if mid.at == max mid.start mid.from then 1 else 0) } →
     last ≡ min batch.rows (mid.to - mid.start) → IsFirstRun held batch (mid.at - mid.start) last start end →
     IsPlaced table (record counted { at = counted.start + end })
 placed_then standing table mid noted batch held last start end there is more high e l run =
     let its = subst (λ (n : ℕ). IsFirstRun held batch (mid.at - mid.start) n start end) l run in
-    subst (λ (x : Cursor). IsPlaced table (record x { at = x.start + end })) (sym e) (placed_after standing table mid batch there is more high held start end its)
+    subst (λ (x : Cursor). IsPlaced table (record x { at = x.start + end })) (sym e)
+    (placed_after standing table mid batch there is more high held start end its)
 
-pub looks_then : BatchesAreRows → (table : TableAt) (before mid counted : Cursor) (run : Run) (held : Row → Bool) (last : ℕ) →
+pub looks_then : BatchesAreRows → (table : TableAt) (before mid counted : Cursor) (run : Run) (held : Row → Bool)
+    (last : ℕ) →
     mid ≡ record before { batch = mid.batch; start = mid.start } →
     length run.batch.now.columns ≡ length table.schema.fields → AreOfTypes table.schema.fields run.batch.now.columns →
-    slice_get table.batches mid.batch ≡ Some run.batch.now → IsPlaced table mid → before.at < before.to → mid.at < mid.start + run.batch.now.rows →
+    slice_get table.batches mid.batch ≡ Some run.batch.now → IsPlaced table mid → before.at < before.to →
+    mid.at < mid.start + run.batch.now.rows →
     counted ≡ record mid { opened = mid.opened + (if mid.at == max mid.start mid.from then 1 else 0) } →
-    last ≡ min run.batch.now.rows (mid.to - mid.start) → IsFirstRun held run.batch.now (mid.at - mid.start) last run.from run.to →
+    last ≡ min run.batch.now.rows (mid.to - mid.start) →
+    IsFirstRun held run.batch.now (mid.at - mid.start) last run.from run.to →
     Looks held table before run (record counted { at = counted.start + run.to })
 looks_then standing table before mid counted run held last moved wide typed there is more high e l found =
     let batch = run.batch.now in
@@ -143,11 +163,14 @@ looks_then standing table before mid counted run held last moved wide typed ther
     record {
       from = ap (λ (x : Cursor). x.from) e ∙ ap (λ (x : Cursor). x.from) moved;
       to = ap (λ (x : Cursor). x.to) e ∙ ap (λ (x : Cursor). x.to) moved;
-      forth = let f = forth standing table mid batch there is some high held run.from run.to its in omega (arith, f, at, begin);
+      forth = let f = forth standing table mid batch there is some high held run.from run.to its in
+          omega (arith, f, at, begin);
       ordered = its.ordered;
       within = omega (arith, its.high);
       wide = wide;
       typed = typed;
-      rows = ap (λ (x : Cursor). rows_ahead held table x) (sym moved) ∙ rows_after standing table mid batch there is some high held run.from run.to its
-          ∙ ap (λ (x : Cursor). rows_of (cut_batch batch run.from run.to) ++ rows_ahead held table (record x { at = x.start + run.to })) (sym e);
+      rows = ap (λ (x : Cursor). rows_ahead held table x) (sym moved)
+          ∙ rows_after standing table mid batch there is some high held run.from run.to its
+          ∙ ap (λ (x : Cursor). rows_of (cut_batch batch run.from run.to) ++ rows_ahead held table
+          (record x { at = x.start + run.to })) (sym e);
     }

@@ -1,10 +1,13 @@
 -- What a plan reads and gives.
-use Rattle.std.proofs.Common.{◌≡◌, ◌≤◌, ◌<◌, ℕ, zero, suc, ◌+◌, ◌-◌, Bool, true, false, ◌&&◌, List, [], ◌∷◌, length, map, take, drop, max, min, nat_lt, slice_get, slice_index, unwrap_or, option_map, Option, Some, None, cond, refl, sym, ap, ◌∙◌, arith, length-drop}
+use Rattle.std.proofs.Common.{◌≡◌, ◌≤◌, ◌<◌, ℕ, zero, suc, ◌+◌, ◌-◌, Bool, true, false, ◌&&◌, List, [], ◌∷◌, length}
+use Rattle.std.proofs.Common.{map, take, drop, max, min, nat_lt, slice_get, slice_index, unwrap_or, option_map, Option}
+use Rattle.std.proofs.Common.{Some, None, cond, refl, sym, ap, ◌∙◌, arith, length-drop}
 use Rattle.std.specs.List.{filter, range_with_len}
-use Rattle.std.proofs.lemmas.Bool.{lt-ltb, ltb-true}
-use Rattle.std.proofs.lemmas.List.{length-map, take_min}
+use Rattle.std.proofs.lemmas.Bool.{lt-ltb, ltb-true, and_parts}
+use Rattle.std.proofs.lemmas.List.{length-map, take_min, map-id}
 use Rattle.std.proofs.lemmas.List.FromFn.{length-range_with_len, fill_by_all}
 use Rattle.std.proofs.lemmas.Option.{slice_get-map, slice_get-get_or, unwrap_or-slice_get}
+use Rattle.std.proofs.lemmas.Simd.{map-map}
 use Rattle.arrow_schema.specs.declared.data_type.DataType.{DataType}
 use Rattle.arrow_schema.specs.declared.data_type.DataType.TheVariants.{Utf8}
 use Rattle.arrow_schema.specs.declared.schema.Schema.{Schema}
@@ -12,15 +15,16 @@ use Rattle.arrow_schema.specs.Answer.{answer_type}
 use Rattle.table_versions.specs.Database.{Database, table_at, columns_of}
 use Rattle.table_versions.specs.Stored.{TableAt, CatalogAt, table_of, tables_of, plain}
 use Rattle.table_versions.specs.Table.{Row, Table}
-use Rattle.table_versions.proofs.ListTests.{both}
 use Rattle.table_versions.proofs.Stores.{table_at-tables_of}
+use Rattle.typed_plan.proofs.PlainMeaning.{filter-all}
 use Rattle.typed_plan.specs.declared.plan.Columns.{Columns}
 use Rattle.typed_plan.specs.declared.plan.Columns.TheVariants.{All, These}
 use Rattle.typed_plan.specs.declared.plan.Output.{Output}
 use Rattle.typed_plan.specs.declared.plan.Output.TheVariants.{Project}
 use Rattle.typed_plan.specs.Joined.{rows_in, rows_between}
 use Rattle.typed_plan.specs.Plan.{Tree, scan, filtered, PlanAt, taken, is_true, tree_rows, output_rows, plan_rows}
-use Rattle.typed_plan.specs.Typed.{IsTyped, IsTypedTree, IsTypedOutput, IsOver, has_columns, tree_types, types_of, types_taken}
+use Rattle.typed_plan.specs.Typed.{IsTyped, IsTypedTree, IsTypedOutput, IsOver, has_columns, tree_types, types_of}
+use Rattle.typed_plan.specs.Typed.{types_taken}
 use Rattle.scan_exec.specs.Chosen.{are_within, numbers_at, type_at}
 use Rattle.scan_exec.specs.Given.{tree_table, tree_columns, output_columns, cells, holds, given}
 use Rattle.scan_exec.specs.Reading.{IsRead, IsScan}
@@ -30,11 +34,8 @@ use Rattle.scan_exec.proofs.Opening.{none_in}
 
 -- ---- the rows that a plan gives
 
-filter_true : {X : Type 0} (xs : List X) → filter (λ _. true) xs ≡ xs
-filter_true [] = refl
-filter_true (x ∷ xs) = ap (λ rest. x ∷ rest) (filter_true xs)
-
-filter-map : {X Y : Type 0} (test : Y → Bool) (f : X → Y) (xs : List X) → filter test (map f xs) ≡ map f (filter (λ x. test (f x)) xs)
+filter-map : {X Y : Type 0} (test : Y → Bool) (f : X → Y) (xs : List X) →
+    filter test (map f xs) ≡ map f (filter (λ x. test (f x)) xs)
 filter-map test f [] = refl
 filter-map test f (x ∷ xs) =
     elim (test (f x)) as (λ b. cond b (f x ∷ filter test (map f xs)) (filter test (map f xs))
@@ -43,7 +44,8 @@ filter-map test f (x ∷ xs) =
       | false ↦ filter-map test f xs
     ]
 
-filter-filter : {X : Type 0} (first second : X → Bool) (xs : List X) → filter second (filter first xs) ≡ filter (λ x. first x && second x) xs
+filter-filter : {X : Type 0} (first second : X → Bool) (xs : List X) →
+    filter second (filter first xs) ≡ filter (λ x. first x && second x) xs
 filter-filter first second [] = refl
 filter-filter first second (x ∷ xs) =
     elim (first x) as (λ b. filter second (cond b (x ∷ filter first xs) (filter first xs))
@@ -52,23 +54,16 @@ filter-filter first second (x ∷ xs) =
       | false ↦ filter-filter first second xs
     ]
 
-map_same : {X : Type 0} (xs : List X) → map (λ x. x) xs ≡ xs
-map_same [] = refl
-map_same (x ∷ xs) = ap (λ rest. x ∷ rest) (map_same xs)
-
-map_both : {X Y Z : Type 0} (f : X → Y) (g : Y → Z) (xs : List X) → map g (map f xs) ≡ map (λ x. g (f x)) xs
-map_both f g [] = refl
-map_both f g (x ∷ xs) = ap (λ rest. g (f x) ∷ rest) (map_both f g xs)
-
 taken_is : (columns : Columns) (rows : List Row) → taken columns rows ≡ map (cells columns) rows
-taken_is All rows = sym (map_same rows)
+taken_is All rows = sym (map-id rows)
 taken_is (These numbers) rows = refl
 
 tree_is : (tree : Tree) (database : Database) (part : List Row → List Row) →
-    tree_rows tree database part ≡ map (cells (tree_columns tree)) (filter (holds tree) (part (rows_in (table_at database (tree_table tree)))))
+    tree_rows tree database part ≡ map (cells (tree_columns tree))
+    (filter (holds tree) (part (rows_in (table_at database (tree_table tree)))))
 tree_is (scan table schema columns) database part =
     taken_is columns (part (rows_in (table_at database table)))
-    ∙ ap (map (cells columns)) (sym (filter_true (part (rows_in (table_at database table)))))
+    ∙ ap (map (cells columns)) (sym (filter-all (part (rows_in (table_at database table)))))
 tree_is (filtered predicate tree) database part =
     let rows = part (rows_in (table_at database (tree_table tree))) in
     let of_row = cells (tree_columns tree) in
@@ -81,24 +76,32 @@ given_is : (plan : PlanAt) (database : Database) (a b : ℕ) →
 given_is plan database a b = by plan.output
   where
     by : (output : Output) → output_rows output (tree_rows plan.tree database (rows_between a b))
-        ≡ map (λ row. cells (output_columns output) (cells (tree_columns plan.tree) row)) (filter (holds plan.tree) (rows_between a b (rows_in (table_at database (tree_table plan.tree)))))
+        ≡ map (λ row. cells (output_columns output) (cells (tree_columns plan.tree) row))
+        (filter (holds plan.tree) (rows_between a b (rows_in (table_at database (tree_table plan.tree)))))
     by (Project columns) =
         taken_is columns (tree_rows plan.tree database (rows_between a b))
         ∙ ap (map (cells columns)) (tree_is plan.tree database (rows_between a b))
-        ∙ map_both (cells (tree_columns plan.tree)) (cells columns) (filter (holds plan.tree) (rows_between a b (rows_in (table_at database (tree_table plan.tree)))))
+        ∙ map-map (cells columns) (cells (tree_columns plan.tree))
+        (filter (holds plan.tree) (rows_between a b (rows_in (table_at database (tree_table plan.tree)))))
 
 -- a range may end with the rows, and not before it begins
-clamped : (from to : ℕ) (rows : List Row) → rows_between from (max (min to (length rows)) from) rows ≡ rows_between from to rows
+clamped : (from to : ℕ) (rows : List Row) →
+    rows_between from (max (min to (length rows)) from) rows ≡ rows_between from to rows
 clamped from to rows =
     let size = length-drop from rows in
-    let same : min (max (min to (length rows)) from - from) (length (drop from rows)) ≡ min (to - from) (length (drop from rows)) = omega (arith, size) in
-    sym (take_min (max (min to (length rows)) from - from) (drop from rows)) ∙ ap (λ (n : ℕ). take n (drop from rows)) same ∙ take_min (to - from) (drop from rows)
+    let same : min (max (min to (length rows)) from - from) (length (drop from rows))
+    ≡ min (to - from) (length (drop from rows)) = omega (arith, size) in
+    sym (take_min (max (min to (length rows)) from - from) (drop from rows))
+    ∙ ap (λ (n : ℕ). take n (drop from rows)) same ∙ take_min (to - from) (drop from rows)
 
-pub left_is : (plan : PlanAt) (catalog : CatalogAt) (table : TableAt) (from to : ℕ) → table_at catalog (tree_table plan.tree) ≡ Some table →
-    given plan (rows_between from (max (min to (length (table_of table).rows)) from) (table_of table).rows) ≡ plan_rows plan (tables_of catalog) from to
+pub left_is : (plan : PlanAt) (catalog : CatalogAt) (table : TableAt) (from to : ℕ) →
+    table_at catalog (tree_table plan.tree) ≡ Some table →
+    given plan (rows_between from (max (min to (length (table_of table).rows)) from) (table_of table).rows)
+    ≡ plan_rows plan (tables_of catalog) from to
 left_is plan catalog table from to there =
     let found = table_at-tables_of catalog (tree_table plan.tree) ∙ ap plain there in
-    ap (given plan) (clamped from to (table_of table).rows ∙ ap (λ (t : Option Table). rows_between from to (rows_in t)) (sym found))
+    ap (given plan) (clamped from to (table_of table).rows
+    ∙ ap (λ (t : Option Table). rows_between from to (rows_in t)) (sym found))
     ∙ sym (given_is plan (tables_of catalog) from to)
 
 -- ---- the columns that it reads
@@ -107,24 +110,28 @@ abbrev tree_schema : Tree → Schema
 tree_schema (scan table schema columns) = schema
 tree_schema (filtered predicate tree) = tree_schema tree
 
-over_at : (tree : Tree) (database : Database) → IsOver tree database → columns_of (table_at database (tree_table tree)) ≡ Some (tree_schema tree)
+over_at : (tree : Tree) (database : Database) → IsOver tree database →
+    columns_of (table_at database (tree_table tree)) ≡ Some (tree_schema tree)
 over_at (scan table schema columns) database over = over
 over_at (filtered predicate tree) database over = over_at tree database over
 
-pub not_missing : (tree : Tree) (catalog : CatalogAt) → IsOver tree (tables_of catalog) → table_at catalog (tree_table tree) ≡ None → ⊥
+pub not_missing : (tree : Tree) (catalog : CatalogAt) → IsOver tree (tables_of catalog) →
+    table_at catalog (tree_table tree) ≡ None → ⊥
 not_missing tree catalog over missing =
     let none = table_at-tables_of catalog (tree_table tree) ∙ ap plain missing in
     let some = sym (ap columns_of none) ∙ over_at tree (tables_of catalog) over in
     cc
 
-same_schema : (tree : Tree) (catalog : CatalogAt) (table : TableAt) → IsOver tree (tables_of catalog) → table_at catalog (tree_table tree) ≡ Some table →
+same_schema : (tree : Tree) (catalog : CatalogAt) (table : TableAt) → IsOver tree (tables_of catalog) →
+    table_at catalog (tree_table tree) ≡ Some table →
     table.schema ≡ tree_schema tree
 same_schema tree catalog table over there =
     let found = table_at-tables_of catalog (tree_table tree) ∙ ap plain there in
     let some = sym (ap columns_of found) ∙ over_at tree (tables_of catalog) over in
     cc
 
-columns_there : (tree : Tree) → IsTypedTree tree → has_columns (length (tree_schema tree).fields) (tree_columns tree) ≡ true
+columns_there : (tree : Tree) → IsTypedTree tree →
+    has_columns (length (tree_schema tree).fields) (tree_columns tree) ≡ true
 columns_there (scan table schema columns) typed = typed
 columns_there (filtered predicate tree) typed = columns_there tree typed.1
 
@@ -133,37 +140,48 @@ range_within first zero width h = refl
 range_within first (suc count) width h =
     rw (lt-ltb first width (omega (arith, h)), range_within (first + 1) count width (omega (arith, h))) refl
 
-pub places_within : (columns : Columns) (numbers : List ℕ) (width : ℕ) → are_within width numbers ≡ true → has_columns (length numbers) columns ≡ true →
+pub places_within : (columns : Columns) (numbers : List ℕ) (width : ℕ) → are_within width numbers ≡ true →
+    has_columns (length numbers) columns ≡ true →
     are_within width (numbers_at columns numbers) ≡ true
 places_within All numbers width all h = all
 places_within (These places) numbers width all h = each places h
   where
-    each : (some : List ℕ) → are_within (length numbers) some ≡ true → are_within width (map (slice_index numbers) some) ≡ true
+    each : (some : List ℕ) → are_within (length numbers) some ≡ true →
+        are_within width (map (slice_index numbers) some) ≡ true
     each [] g = refl
     each (place ∷ some) g =
-        let parts = both (nat_lt place (length numbers)) (are_within (length numbers) some) g in
-        rw (lt-ltb (slice_index numbers place) width (within_at width numbers place all (ltb-true place (length numbers) parts.0)), each some parts.1) refl
+        let parts = and_parts (nat_lt place (length numbers)) (are_within (length numbers) some) g in
+        rw (
+          lt-ltb (slice_index numbers place) width
+              (within_at width numbers place all (ltb-true place (length numbers) parts.0)),
+          each some parts.1,
+        ) refl
 
 -- as many columns are taken as types
 pub taken_wide : (columns : Columns) (types : List DataType) (numbers : List ℕ) → length types ≡ length numbers →
     length (types_taken columns types) ≡ length (numbers_at columns numbers)
 taken_wide All types numbers e = e
 taken_wide (These places) types numbers e =
-    length-map places (λ column. unwrap_or (slice_get types column) Utf8) ∙ sym (length-map places (slice_index numbers))
+    length-map places (λ column. unwrap_or (slice_get types column) Utf8)
+    ∙ sym (length-map places (slice_index numbers))
 
-tree_wide : (tree : Tree) → length (tree_types tree) ≡ length (numbers_at (tree_columns tree) (range_with_len 0 (length (tree_schema tree).fields)))
+tree_wide : (tree : Tree) → length (tree_types tree)
+    ≡ length (numbers_at (tree_columns tree) (range_with_len 0 (length (tree_schema tree).fields)))
 tree_wide (scan table schema columns) =
     taken_wide columns (types_of schema.fields) (range_with_len 0 (length schema.fields))
     (length-map schema.fields (λ field. field.data_type) ∙ sym (length-range_with_len 0 (length schema.fields)))
 tree_wide (filtered predicate tree) = tree_wide tree
 
-pub read_is : (tree : Tree) (catalog : CatalogAt) (table : TableAt) (read : List ℕ) → IsTypedTree tree → IsOver tree (tables_of catalog) →
-    table_at catalog (tree_table tree) ≡ Some table → read ≡ numbers_at (tree_columns tree) (range_with_len 0 (length table.schema.fields)) →
+pub read_is : (tree : Tree) (catalog : CatalogAt) (table : TableAt) (read : List ℕ) → IsTypedTree tree →
+    IsOver tree (tables_of catalog) →
+    table_at catalog (tree_table tree) ≡ Some table →
+    read ≡ numbers_at (tree_columns tree) (range_with_len 0 (length table.schema.fields)) →
     IsRead tree (length table.schema.fields) read
 read_is tree catalog table read typed over there e =
     let width = length table.schema.fields in
     let same = same_schema tree catalog table over there in
-    let sized = ap (λ (n : ℕ). has_columns n (tree_columns tree)) (ap (λ (s : Schema). length s.fields) same) ∙ columns_there tree typed in
+    let sized = ap (λ (n : ℕ). has_columns n (tree_columns tree)) (ap (λ (s : Schema). length s.fields) same)
+    ∙ columns_there tree typed in
     let long = length-range_with_len 0 width in
     record {
       typed = typed;
@@ -172,26 +190,32 @@ read_is tree catalog table read typed over there e =
       there = ap (are_within width) e
           ∙ places_within (tree_columns tree) (range_with_len 0 width) width (range_within 0 width width (omega arith))
           (ap (λ (n : ℕ). has_columns n (tree_columns tree)) long ∙ sized);
-      wide = tree_wide tree ∙ ap (λ (s : Schema). length (numbers_at (tree_columns tree) (range_with_len 0 (length s.fields)))) (sym same) ∙ ap length (sym e);
+      wide = tree_wide tree ∙ ap (λ (s : Schema). length
+          (numbers_at (tree_columns tree) (range_with_len 0 (length s.fields)))) (sym same) ∙ ap length (sym e);
     }
 
 -- what a result takes of them is there
-pub output_there : (plan : PlanAt) (width : ℕ) (read : List ℕ) → IsTyped plan → IsRead plan.tree width read → has_columns (length read) (output_columns plan.output) ≡ true
+pub output_there : (plan : PlanAt) (width : ℕ) (read : List ℕ) → IsTyped plan → IsRead plan.tree width read →
+    has_columns (length read) (output_columns plan.output) ≡ true
 output_there plan width read typed is = by plan.output typed.output
   where
-    by : (output : Output) → IsTypedOutput output (tree_types plan.tree) plan.schema → has_columns (length read) (output_columns output) ≡ true
+    by : (output : Output) → IsTypedOutput output (tree_types plan.tree) plan.schema →
+        has_columns (length read) (output_columns output) ≡ true
     by (Project columns) h = ap (λ (n : ℕ). has_columns n columns) (sym is.wide) ∙ h.0
 
 -- the columns that a tree reads are there
 pub reads : (tree : Tree) (catalog : CatalogAt) (table : TableAt) → IsTypedTree tree → IsOver tree (tables_of catalog) →
-    table_at catalog (tree_table tree) ≡ Some table → has_columns (length table.schema.fields) (tree_columns tree) ≡ true
+    table_at catalog (tree_table tree) ≡ Some table →
+    has_columns (length table.schema.fields) (tree_columns tree) ≡ true
 reads tree catalog table typed over there =
-    ap (λ (n : ℕ). has_columns n (tree_columns tree)) (ap (λ (s : Schema). length s.fields) (same_schema tree catalog table over there)) ∙ columns_there tree typed
+    ap (λ (n : ℕ). has_columns n (tree_columns tree))
+    (ap (λ (s : Schema). length s.fields) (same_schema tree catalog table over there)) ∙ columns_there tree typed
 
 -- ---- the types of the columns that it gives
 
 all_types : (types : List DataType) → types ≡ map (type_at types) (range_with_len 0 (length types))
-all_types types = fill_by_all (type_at types) types (length types) Utf8 refl (λ k h. sym (unwrap_or-slice_get types k Utf8))
+all_types types = fill_by_all (type_at types) types (length types) Utf8 refl
+    (λ k h. sym (unwrap_or-slice_get types k Utf8))
 
 types_read : (columns : Columns) (types : List DataType) → has_columns (length types) columns ≡ true →
     types_taken columns types ≡ map (type_at types) (numbers_at columns (range_with_len 0 (length types)))
@@ -207,25 +231,29 @@ types_chosen (These numbers) types read h = each numbers h
         map (type_at (map (type_at types) read)) some ≡ map (type_at types) (map (slice_index read) some)
     each [] g = refl
     each (number ∷ some) g =
-        let parts = both (nat_lt number (length read)) (are_within (length read) some) g in
+        let parts = and_parts (nat_lt number (length read)) (are_within (length read) some) g in
         let one : type_at (map (type_at types) read) number ≡ type_at types (slice_index read number) =
         ap (λ (there : Option DataType). unwrap_or there Utf8)
-        (slice_get-map (type_at types) read number ∙ ap (option_map (type_at types)) (slice_get-get_or read number 0 (ltb-true number (length read) parts.0))) in
+        (slice_get-map (type_at types) read number
+        ∙ ap (option_map (type_at types)) (slice_get-get_or read number 0 (ltb-true number (length read) parts.0))) in
         rw (one, each some parts.1) refl
 
 types_at : (tree : Tree) → tree_types tree ≡ types_taken (tree_columns tree) (types_of (tree_schema tree).fields)
 types_at (scan table schema columns) = refl
 types_at (filtered predicate tree) = types_at tree
 
-pub types_are : (plan : PlanAt) (catalog : CatalogAt) (table : TableAt) (read chosen : List ℕ) → IsTyped plan → IsOver plan.tree (tables_of catalog) →
-    table_at catalog (tree_table plan.tree) ≡ Some table → IsRead plan.tree (length table.schema.fields) read → chosen ≡ numbers_at (output_columns plan.output) read →
+pub types_are : (plan : PlanAt) (catalog : CatalogAt) (table : TableAt) (read chosen : List ℕ) → IsTyped plan →
+    IsOver plan.tree (tables_of catalog) →
+    table_at catalog (tree_table plan.tree) ≡ Some table → IsRead plan.tree (length table.schema.fields) read →
+    chosen ≡ numbers_at (output_columns plan.output) read →
     plan_types plan ≡ map (type_at (types_of table.schema.fields)) chosen
 types_are plan catalog table read chosen typed over there is e =
     let types = types_of table.schema.fields in
     let output = output_columns plan.output in
     let long : length types ≡ length table.schema.fields = length-map table.schema.fields (λ field. field.data_type) in
     let schema = same_schema plan.tree catalog table over there in
-    let of_tree = types_at plan.tree ∙ ap (λ (s : Schema). types_taken (tree_columns plan.tree) (types_of s.fields)) (sym schema)
+    let of_tree = types_at plan.tree ∙ ap (λ (s : Schema). types_taken (tree_columns plan.tree) (types_of s.fields))
+    (sym schema)
     ∙ types_read (tree_columns plan.tree) types (ap (λ (n : ℕ). has_columns n (tree_columns plan.tree)) long ∙ is.taken)
     ∙ ap (λ (n : ℕ). map (type_at types) (numbers_at (tree_columns plan.tree) (range_with_len 0 n))) long
     ∙ ap (map (type_at types)) (sym is.numbers) in
@@ -234,8 +262,10 @@ types_are plan catalog table read chosen typed over there is e =
     ∙ ap (map (type_at types)) (sym e)
 
 -- a scan before its first row
-pub begins : (plan : PlanAt) (table : TableAt) (read chosen : List ℕ) (from to : ℕ) → IsTyped plan → IsRead plan.tree (length table.schema.fields) read →
-    chosen ≡ numbers_at (output_columns plan.output) read → plan_types plan ≡ map (type_at (types_of table.schema.fields)) chosen →
+pub begins : (plan : PlanAt) (table : TableAt) (read chosen : List ℕ) (from to : ℕ) → IsTyped plan →
+    IsRead plan.tree (length table.schema.fields) read →
+    chosen ≡ numbers_at (output_columns plan.output) read →
+    plan_types plan ≡ map (type_at (types_of table.schema.fields)) chosen →
     from ≤ to → (from < to → to ≤ length (table_of table).rows) →
     IsScan plan table read chosen (record { from = from; to = to; at = from; batch = 0; start = 0; opened = 0 })
 begins plan table read chosen from to typed is e types ordered few =
@@ -263,5 +293,6 @@ begins plan table read chosen from to typed is e types ordered few =
 pub answered : (plan : PlanAt) → IsTyped plan → types_of plan.schema.fields ≡ map answer_type (plan_types plan)
 answered plan typed = by plan.output typed.output
   where
-    by : (output : Output) → IsTypedOutput output (tree_types plan.tree) plan.schema → types_of plan.schema.fields ≡ map answer_type (types_taken (output_columns output) (tree_types plan.tree))
+    by : (output : Output) → IsTypedOutput output (tree_types plan.tree) plan.schema →
+        types_of plan.schema.fields ≡ map answer_type (types_taken (output_columns output) (tree_types plan.tree))
     by (Project columns) is = is.1

@@ -35,7 +35,8 @@ pub record Looks (held : Row → Bool) (table : TableAt) (before : Cursor) (run 
   pub within : run.to ≤ run.batch.now.rows
   pub wide : length run.batch.now.columns ≡ length table.schema.fields
   pub typed : AreOfTypes table.schema.fields run.batch.now.columns
-  pub rows : rows_ahead held table before ≡ rows_of (cut_batch run.batch.now run.from run.to) ++ rows_ahead held table after
+  pub rows : rows_ahead held table before
+      ≡ rows_of (cut_batch run.batch.now run.from run.to) ++ rows_ahead held table after
 
 -- the next run, or none where no row ahead holds
 abbrev pub Finds : (Row → Bool) → TableAt → Cursor → Option Run → Cursor → Type 0

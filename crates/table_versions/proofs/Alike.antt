@@ -2,6 +2,7 @@
 use Rattle.std.proofs.Common.{◌≡◌, ◌&&◌, ◌||◌, not, Bool as Truth, true, false, List, [], ◌∷◌, refl, sym, ap, subst, ◌∙◌, All}
 use Rattle.std.specs.List.{list_any}
 use Rattle.std.proofs.lemmas.List.Elements.{All-weaker}
+use Rattle.std.proofs.lemmas.Bool.{and_parts}
 use Rattle.scan_base.specs.declared.value.Value.{Value}
 use Rattle.scan_base.specs.declared.value.Value.TheVariants as value
 use Rattle.arrow_schema.specs.declared.data_type.IntegerType.{IntegerType}
@@ -18,7 +19,6 @@ use Rattle.arrays.specs.Validity.{is_null}
 use Rattle.table_versions.specs.Table.{Row, same_flag, same_type, same_field, same_fields, same_name, has_bad_null}
 use Rattle.table_versions.specs.Kept.{AreSound}
 use Rattle.table_versions.specs.Valid.{IsRow}
-use Rattle.table_versions.proofs.ListTests.{both}
 
 -- integers of one width, with or without a sign, are of one type
 same_integer : (a b : IntegerType) → same_type (Integer a) (Integer b) ≡ true → a ≡ b
@@ -48,8 +48,8 @@ typed_layout _ _ _ h typed = absurd (differ h)
 -- two columns that are the same have one type, and take nulls alike
 field_type : (old new : Field) → same_field old new ≡ true → same_type old.data_type new.data_type ≡ true
 field_type old new h =
-    let front = (both (same_name old new && same_type old.data_type new.data_type) (same_flag old.nullable new.nullable) h).0 in
-    (both (same_name old new) (same_type old.data_type new.data_type) front).1
+    let front = (and_parts (same_name old new && same_type old.data_type new.data_type) (same_flag old.nullable new.nullable) h).0 in
+    (and_parts (same_name old new) (same_type old.data_type new.data_type) front).1
 
 flag : (a b : Truth) → same_flag a b ≡ true → a ≡ b
 flag true b h = sym h
@@ -58,7 +58,7 @@ flag false true h = cc
 
 field_flag : (old new : Field) → same_field old new ≡ true → old.nullable ≡ new.nullable
 field_flag old new h =
-    flag old.nullable new.nullable (both (same_name old new && same_type old.data_type new.data_type) (same_flag old.nullable new.nullable) h).1
+    flag old.nullable new.nullable (and_parts (same_name old new && same_type old.data_type new.data_type) (same_flag old.nullable new.nullable) h).1
 
 typed_columns : (old new : List Field) (columns : List ColumnAt) → same_fields old new ≡ true → AreOfTypes new columns → AreOfTypes old columns
 typed_columns [] [] columns h typed = typed
@@ -66,7 +66,7 @@ typed_columns [] (new ∷ news) columns h typed = let no : false ≡ true = h in
 typed_columns (old ∷ olds) [] columns h typed = let no : false ≡ true = h in cc
 typed_columns (old ∷ olds) (new ∷ news) [] h typed = typed
 typed_columns (old ∷ olds) (new ∷ news) (column ∷ columns) h typed =
-    let same = both (same_field old new) (same_fields olds news) h in
+    let same = and_parts (same_field old new) (same_fields olds news) h in
     (typed_layout old.data_type new.data_type column.layout (field_type old new same.0) typed.0, typed_columns olds news columns same.1 typed.1)
 
 pub typed_alike : (old new : List Field) (batches : List BatchAt) → same_fields old new ≡ true →
@@ -81,7 +81,7 @@ nulls_alike [] (new ∷ news) row h = let no : false ≡ true = h in cc
 nulls_alike (old ∷ olds) [] row h = let no : false ≡ true = h in cc
 nulls_alike (old ∷ olds) (new ∷ news) [] h = refl
 nulls_alike (old ∷ olds) (new ∷ news) (value ∷ row) h =
-    let same = both (same_field old new) (same_fields olds news) h in
+    let same = and_parts (same_field old new) (same_fields olds news) h in
     ap (λ nullable. (not nullable && is_null value) || has_bad_null olds row) (field_flag old new same.0)
     ∙ ap (λ rest. (not new.nullable && is_null value) || rest) (nulls_alike olds news row same.1)
 
@@ -114,7 +114,7 @@ row_alike [] (new ∷ news) row h is = let no : false ≡ true = h in cc
 row_alike (old ∷ olds) [] row h is = let no : false ≡ true = h in cc
 row_alike (old ∷ olds) (new ∷ news) [] h is = is
 row_alike (old ∷ olds) (new ∷ news) (v ∷ row) h is =
-    let same = both (same_field old new) (same_fields olds news) h in
+    let same = and_parts (same_field old new) (same_fields olds news) h in
     let cell = is.0 in (
       record {
         typed = value_alike old.data_type new.data_type v (field_type old new same.0) cell.typed;

@@ -2,9 +2,10 @@
 use Rattle.std.proofs.Common.{◌≡◌, ℕ, zero, suc, ◌+◌, ◌*◌, ◌<◌, true, List, [], ◌∷◌, ◌++◌, length, Some, refl, ap, ◌∙◌, append_assoc, length-append, arith, rules, slice_get, get_or, map, option_map}
 use Rattle.std.specs.List.{flat_map, list_all}
 use Rattle.std.proofs.lemmas.Option.{slice_get-map, slice_get_read}
+use Rattle.std.proofs.lemmas.Bool.{and_parts}
 use Rattle.arrays.specs.Batch.{BatchAt}
 use Rattle.table_versions.specs.Batches.{joined, is_full}
-use Rattle.table_versions.proofs.ListTests.{both, all_at}
+use Rattle.table_versions.proofs.ListTests.{all_at}
 
 slice_get-append_left : {X : Type 0} (xs ys : List X) (i : ℕ) → i < length xs → slice_get (xs ++ ys) i ≡ slice_get xs i
 slice_get-append_left [] ys i h = absurd (omega (arith, h))
@@ -23,7 +24,7 @@ full_length page h = search rules
 pub length-full : (full : List (List BatchAt)) → list_all is_full full ≡ true → length (flat_map (λ page. page) full) ≡ length full * 256
 length-full [] h = refl
 length-full (page ∷ pages) h =
-    let parts = both (is_full page) (list_all is_full pages) h in
+    let parts = and_parts (is_full page) (list_all is_full pages) h in
     omega (arith, length-append page (flat_map (λ page. page) pages), full_length page parts.0, length-full pages parts.1)
 
 pub length-joined : (full : List (List BatchAt)) (last : List BatchAt) → list_all is_full full ≡ true →
@@ -35,14 +36,14 @@ pub in_page : (full : List (List BatchAt)) (last page : List BatchAt) (p r i : �
     slice_get full p ≡ Some page → r < 256 → i ≡ p * 256 + r → slice_get (joined full last) i ≡ slice_get page r
 in_page [] last page p r i h at small e = cc
 in_page (first ∷ pages) last page zero r i h at small e =
-    let parts = both (is_full first) (list_all is_full pages) h in
+    let parts = and_parts (is_full first) (list_all is_full pages) h in
     let same : first ≡ page = cc in
     let long = full_length first parts.0 in
     let here : i ≡ r = omega (arith, e) in
     rw (here, append_assoc first (flat_map (λ page. page) pages) last)
     (slice_get-append_left first (joined pages last) r (omega (arith, long, small)) ∙ ap (λ page. slice_get page r) same)
 in_page (first ∷ pages) last page (suc p) r i h at small e =
-    let parts = both (is_full first) (list_all is_full pages) h in
+    let parts = and_parts (is_full first) (list_all is_full pages) h in
     let long = full_length first parts.0 in
     rw (append_assoc first (flat_map (λ page. page) pages) last)
     (slice_get-append_right first (joined pages last) (p * 256 + r) i (omega (arith, e, long))

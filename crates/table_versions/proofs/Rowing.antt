@@ -7,8 +7,8 @@ use Rattle.arrays.specs.Batch.{BatchAt, rows_of, row_of}
 use Rattle.table_versions.specs.Stored.{has_rows}
 use Rattle.table_versions.specs.Standing.{rows_before}
 use Rattle.std.proofs.lemmas.Option.{slice_get_read}
+use Rattle.std.proofs.lemmas.Bool.{and_parts}
 use Rattle.table_versions.proofs.Places.{split_at}
-use Rattle.table_versions.proofs.ListTests.{both}
 
 pub length-rows_of : (batch : BatchAt) → length (rows_of batch) ≡ batch.rows
 length-rows_of batch = length-map-range_with_len (row_of batch.columns) 0 batch.rows
@@ -33,7 +33,7 @@ rows-push batches batch = omega (arith, rows-append batches (batch ∷ []), rows
 pub length-filled-le : (batches : List BatchAt) → list_all has_rows batches ≡ true → length batches ≤ length (flat_map rows_of batches)
 length-filled-le [] h = omega arith
 length-filled-le (batch ∷ batches) h =
-    let parts = both (has_rows batch) (list_all has_rows batches) h in
+    let parts = and_parts (has_rows batch) (list_all has_rows batches) h in
     let some : 1 ≤ batch.rows = search (rules, parts.0) in
     omega (arith, some, rows-cons batch batches, length-filled-le batches parts.1)
 

@@ -4,6 +4,7 @@ use Rattle.std.specs.List.{list_any, flat_map}
 use Rattle.std.proofs.lemmas.List.Elements.{All-push, All-get_or}
 use Rattle.std.proofs.lemmas.List.Folds.{list_any-append}
 use Rattle.std.proofs.lemmas.Option.{slice_get_within, get_or_from_slice_get}
+use Rattle.std.proofs.lemmas.Bool.{or_from}
 use Rattle.arrow_schema.specs.declared.schema.Field.{Field}
 use Rattle.arrow_schema.specs.declared.schema.Schema.{Schema}
 use Rattle.arrays.specs.Column.{ColumnAt}
@@ -32,11 +33,7 @@ length-typed [] (column ∷ columns) typed = absurd typed
 length-typed (field ∷ fields) [] typed = absurd typed
 length-typed (field ∷ fields) (column ∷ columns) typed = omega (arith, length-typed fields columns typed.1)
 
--- a test that fails of each part, and one that fails of the whole
-neither : (a b : Bool) → a ≡ false → b ≡ false → (a || b) ≡ false
-neither true b h g = h
-neither false b h g = g
-
+-- a test that fails of the whole
 pub first_false : (a b : Bool) → (a || b) ≡ false → a ≡ false
 first_false true b h = h
 first_false false b h = refl
@@ -48,8 +45,8 @@ second_false false b h = h
 -- sound rows and sound rows behind them
 pub sound-append : (fields : List Field) (front rest : List Row) → AreSound fields front → AreSound fields rest → AreSound fields (front ++ rest)
 sound-append fields front rest f r = record {
-  nulls = list_any-append (has_bad_null fields) front rest ∙ neither _ _ f.nulls r.nulls;
-  texts = list_any-append (list_any is_long_text) front rest ∙ neither _ _ f.texts r.texts;
+  nulls = list_any-append (has_bad_null fields) front rest ∙ or_from _ _ f.nulls r.nulls;
+  texts = list_any-append (list_any is_long_text) front rest ∙ or_from _ _ f.texts r.texts;
 }
 
 pub sound-front : (fields : List Field) (front rest : List Row) → AreSound fields (front ++ rest) → AreSound fields front

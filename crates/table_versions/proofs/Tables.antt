@@ -1,10 +1,11 @@
 -- Every version has tables alone.
-use Rattle.std.proofs.Common.{◌≡◌, ◌≤◌, ◌==◌, ◌||◌, ◌&&◌, not, ℕ, ◌+◌, Bool, true, false, if◌then◌else◌, List, [], ◌∷◌, ◌++◌, length, take, drop, nat_lt, Option, Some, None, Result, Ok, Err, refl, sym, ap, subst, ◌∙◌, arith, rules, All}
+use Rattle.std.proofs.Common.{◌≡◌, ◌≤◌, ◌==◌, ◌||◌, ◌&&◌, not, ℕ, ◌+◌, Bool, true, false, if◌then◌else◌, List, [], ◌∷◌, ◌++◌, length, take, drop, nat_lt, Option, Some, None, Result, Ok, Err, refl, sym, subst, ◌∙◌, rules, All}
 use Rattle.std.specs.List.{list_any}
 use Rattle.std.specs.Str.{bytes_eq}
 use Rattle.std.specs.Cmp.Lexicographic.{slice_cmp}
 use Rattle.std.specs.Ordering.{nat_cmp, is_lt}
 use Rattle.std.proofs.lemmas.List.Elements.{All-nil, All-cons, All-head, All-tail, All-append, All-weaker, All-take}
+use Rattle.std.proofs.lemmas.Bool.{not-false}
 use Rattle.scan_base.specs.declared.fault.Fault.{Fault}
 use Rattle.scan_base.specs.declared.fault.Fault.TheVariants.{BadBatch, SchemaMismatch, LimitReached}
 use Rattle.scan_base.specs.Lists.{repeats}
@@ -15,12 +16,11 @@ use Rattle.table_versions.specs.declared.options.IfExists.{IfExists}
 use Rattle.table_versions.specs.declared.options.IfExists.TheVariants.{Unspecified, Fail, Append, Replace}
 use Rattle.table_versions.specs.Limits.{most_name_bytes, most_rows}
 use Rattle.table_versions.specs.Table.{Name, Row, Table, same_name, same_fields, has_bad_null, is_long_text}
-use Rattle.table_versions.specs.Database.{Database, Put, table_at, with_table, table_after, columns_of, differs, put_faults, after, accepted, after_all, version}
-use Rattle.table_versions.specs.Valid.{IsCell, IsRow, IsTable, IsName, IsDatabase, HasTypes, IsPut}
+use Rattle.table_versions.specs.Database.{Database, Put, table_at, with_table, table_after, columns_of, differs, put_faults, after, accepted, after_all}
+use Rattle.table_versions.specs.Valid.{IsRow, IsTable, IsName, IsDatabase, HasTypes, IsPut}
 use Rattle.table_versions.specs.Laws.{AcceptedPutsKeepDatabases, VersionsAreDatabases}
 use Rattle.table_versions.proofs.Accepted.{among, unrefused}
 use Rattle.table_versions.proofs.Alike.{row_alike}
-use Rattle.table_versions.proofs.ListTests.{not_false}
 use Rattle.table_versions.proofs.Order.{in_order-with_table}
 use Rattle.table_versions.proofs.Storable.{first_false, second_false}
 
@@ -131,7 +131,7 @@ table_is : (if_exists : IfExists) (there : Option Table) (put : Put) → ((table
     → list_any (list_any is_long_text) put.rows ≡ false → length (table_after if_exists there put).rows ≤ most_rows → IsTable (table_after if_exists there put)
 table_is Append (Some old) put there is columns nulls texts few =
     let alike = second_false (repeats same_name put.schema.fields) (not (same_fields old.schema.fields put.schema.fields)) columns in
-    extended old put (there old refl) is (not_false (same_fields old.schema.fields put.schema.fields) alike) nulls texts few
+    extended old put (there old refl) is (not-false (same_fields old.schema.fields put.schema.fields) alike) nulls texts few
 table_is Append None put there is columns nulls texts few = alone put is (first_false (repeats same_name put.schema.fields) false columns) nulls texts few
 table_is Unspecified there put old is columns nulls texts few = alone put is (first_false (repeats same_name put.schema.fields) false columns) nulls texts few
 table_is Fail there put old is columns nulls texts few = alone put is (first_false (repeats same_name put.schema.fields) false columns) nulls texts few

@@ -12,9 +12,11 @@ use Rattle.typed_plan.specs.View.{BoundAt, plan_of}
 use Rattle.typed_plan.proofs.Plain.{built, there}
 use Rattle.typed_plan.proofs.PlainMeaning.{means, result, over}
 
-pub bound : (query : Sentence) (database : Database) (table : Table) → is_unbuilt query ≡ false → table_at database query.first.table ≡ Some table →
+pub bound : (query : Sentence) (database : Database) (table : Table) → is_unbuilt query ≡ false →
+    table_at database query.first.table ≡ Some table →
     (given : Result BoundAt Fault) →
-    Binds (plain_fault query (place_scope query table.schema)) (λ plan. plan_of plan ≡ plain_plan query (place_scope query table.schema) table.schema) given →
+    Binds (plain_fault query (place_scope query table.schema))
+    (λ plan. plan_of plan ≡ plain_plan query (place_scope query table.schema) table.schema) given →
     Binds (fault_of query database) (λ plan. IsPlanOf query database (plan_of plan)) given
 bound query database table e t (Ok plan) given =
     let b = built query e in

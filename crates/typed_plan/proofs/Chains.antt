@@ -1,8 +1,10 @@
 -- A chain is bound from its first predicate on, and each predicate of it is smaller than it.
-use Rattle.std.proofs.Common.{◌≡◌, ℕ, ◌+◌, ◌<◌, ◌≤◌, List, [], ◌∷◌, ◌++◌, map, Option, Some, None, Result, arith, refl, ap, sym, ◌∙◌}
+use Rattle.std.proofs.Common.{◌≡◌, ℕ, ◌+◌, ◌≤◌, List, [], ◌∷◌, ◌++◌, map, Some, None, Result, arith, refl}
+use Rattle.std.proofs.Common.{ap, sym, ◌∙◌}
 use Rattle.std.proofs.lemmas.List.{map-append}
 use Rattle.scan_base.specs.declared.fault.Fault.{Fault}
-use Rattle.scan_base.specs.Predicate.{Pred, conjunction, disjunction, negation, truth_test, comparing, between, membership, null_test}
+use Rattle.scan_base.specs.Predicate.{Pred, conjunction, disjunction, negation, truth_test, comparing, between}
+use Rattle.scan_base.specs.Predicate.{membership, null_test}
 use Rattle.sql_query.specs.declared.query.ColumnName.{ColumnName}
 use Rattle.typed_plan.specs.declared.chain.Connective.{Connective}
 use Rattle.typed_plan.specs.declared.chain.Connective.TheVariants.{And, Or}
@@ -43,7 +45,8 @@ chained_first (null_test negated operand) = refl
 pub chained_nearest : (p : Pred ColumnName) (sides : List SideAt) (side : SideAt) →
     chained p (sides ++ side ∷ []) ≡ chained (connected side.connective p side.predicate) sides
 chained_nearest p [] side = refl
-chained_nearest p (far ∷ sides) side = ap (λ left. connected far.connective left far.predicate) (chained_nearest p sides side)
+chained_nearest p (far ∷ sides) side =
+    ap (λ left. connected far.connective left far.predicate) (chained_nearest p sides side)
 
 -- a fault of what comes first is the chain's
 pub first_fault : (f : ColumnName → Result Class Fault) (p : Pred ColumnName) (sides : List SideAt) (fault : Fault) →
@@ -57,7 +60,8 @@ first_fault f p (side ∷ sides) fault e = connected_fault side.connective (firs
     connected_fault Or e = ap (λ first. first then predicate_fault f side.predicate) e
 
 -- without a fault of what comes first, the side's is the first
-pub side_fault : (f : ColumnName → Result Class Fault) (p q : Pred ColumnName) (connective : Connective) → predicate_fault f p ≡ None →
+pub side_fault : (f : ColumnName → Result Class Fault) (p q : Pred ColumnName) (connective : Connective) →
+    predicate_fault f p ≡ None →
     predicate_fault f (connected connective p q) ≡ predicate_fault f q
 side_fault f p q And e = ap (λ first. first then predicate_fault f q) e
 side_fault f p q Or e = ap (λ first. first then predicate_fault f q) e
@@ -88,28 +92,34 @@ first_operators (between negated operand low high) = omega arith
 first_operators (membership negated operand items) = omega arith
 first_operators (null_test negated operand) = omega arith
 
-pub chain_fault : (f : ColumnName → Result Class Fault) (p whole : Pred ColumnName) (sides : List SideAt) (fault : Fault) →
+pub chain_fault : (f : ColumnName → Result Class Fault) (p whole : Pred ColumnName) (sides : List SideAt)
+    (fault : Fault) →
     chained p sides ≡ whole → predicate_fault f p ≡ Some fault → predicate_fault f whole ≡ Some fault
 chain_fault f p whole sides fault is e = ap (predicate_fault f) (sym is) ∙ first_fault f p sides fault e
 
 -- a predicate and a side, taken apart
-pub started : (side : Side) (left : Pred ColumnName) (fresh pushed all : List Side) → fresh ≡ [] → pushed ≡ fresh ++ side ∷ [] →
+pub started : (side : Side) (left : Pred ColumnName) (fresh pushed all : List Side) → fresh ≡ [] →
+    pushed ≡ fresh ++ side ∷ [] →
     map side_of all ≡ map side_of pushed ++ sides_of left →
     chained (first_of left) (map side_of all) ≡ connected side.connective left (pred_of side.predicate.now)
 started side left fresh pushed all is_new is_pushed behind =
-    ap (chained (first_of left)) (behind ∙ ap (λ sides. map side_of sides ++ sides_of left) (is_pushed ∙ ap (λ front. front ++ side ∷ []) is_new))
+    ap (chained (first_of left)) (behind
+    ∙ ap (λ sides. map side_of sides ++ sides_of left) (is_pushed ∙ ap (λ front. front ++ side ∷ []) is_new))
     ∙ ap (λ p. connected side.connective p (pred_of side.predicate.now)) (chained_first left)
 
 -- the nearest side, taken from the sides that are left
-pub popped : (done whole : Pred ColumnName) (all rest : List Side) (side : Side) → all ≡ rest ++ side ∷ [] → chained done (map side_of all) ≡ whole →
+pub popped : (done whole : Pred ColumnName) (all rest : List Side) (side : Side) → all ≡ rest ++ side ∷ [] →
+    chained done (map side_of all) ≡ whole →
     chained (connected side.connective done (pred_of side.predicate.now)) (map side_of rest) ≡ whole
 popped done whole all rest side is chain =
-    sym (chained_nearest done (map side_of rest) (side_of side)) ∙ ap (chained done) (sym (map-append side_of rest (side ∷ [])))
+    sym (chained_nearest done (map side_of rest) (side_of side))
+    ∙ ap (chained done) (sym (map-append side_of rest (side ∷ [])))
     ∙ ap (λ sides. chained done (map side_of sides)) (sym is) ∙ chain
 
 -- a side has fewer operators than the chain
 pub side_operators : (done q left right : Pred ColumnName) (connective outer : Connective) (sides : List SideAt) →
-    chained (connected connective done q) sides ≡ connected outer left right → operators q ≤ operators left + operators right
+    chained (connected connective done q) sides ≡ connected outer left right →
+    operators q ≤ operators left + operators right
 side_operators done q left right connective outer sides is =
     omega (
       arith,
@@ -119,8 +129,10 @@ side_operators done q left right connective outer sides is =
       connected_operators left right outer,
     )
 
-pub bound_more : {C : Type 0} (g : ColumnName → C) (connective : Connective) (done q : Pred ColumnName) (whole left right : Pred C) →
+pub bound_more : {C : Type 0} (g : ColumnName → C) (connective : Connective) (done q : Pred ColumnName)
+    (whole left right : Pred C) →
     whole ≡ connected connective left right → left ≡ predicate_map g done → right ≡ predicate_map g q →
     whole ≡ predicate_map g (connected connective done q)
 bound_more g connective done q whole left right is l r =
-    is ∙ ap (λ p. connected connective p right) l ∙ ap (λ p. connected connective (predicate_map g done) p) r ∙ sym (connected_map g done q connective)
+    is ∙ ap (λ p. connected connective p right) l ∙ ap (λ p. connected connective (predicate_map g done) p) r
+    ∙ sym (connected_map g done q connective)

@@ -1,7 +1,9 @@
 -- Until joins and groups are built: what the rules, the meaning and the result columns of a query come to.
-use Rattle.std.proofs.Common.{◌≡◌, ℕ, Bool, true, false, not, ◌||◌, List, [], ◌∷◌, map, Option, Some, None, Result, Ok, Err, refl, ap, ◌∙◌, is_some, length, ◌==◌, rules, arith}
+use Rattle.std.proofs.Common.{◌≡◌, ℕ, false, not, ◌||◌, List, [], ◌∷◌, map, Option, Some, None, Result, Ok}
+use Rattle.std.proofs.Common.{Err, refl, ap, ◌∙◌, is_some, length, ◌==◌, rules, arith}
 use Rattle.std.specs.List.{list_any}
 use Rattle.std.specs.Str.{bytes_eq}
+use Rattle.std.proofs.lemmas.Bool.{or_parts}
 use Rattle.scan_base.specs.declared.fault.Fault.{Fault}
 use Rattle.scan_base.specs.declared.fault.Fault.TheVariants.{TableMissing, UnknownName, NotInSubset}
 use Rattle.sql_query.specs.declared.query.ColumnName.{ColumnName}
@@ -16,7 +18,9 @@ use Rattle.table_versions.specs.Table.{Table}
 use Rattle.table_versions.specs.Database.{Database, table_at}
 use Rattle.typed_plan.specs.Scope.{Scope, columns_in, column_of}
 use Rattle.typed_plan.specs.Joined.{scope_after, fields_in}
-use Rattle.typed_plan.specs.Bound.{◌then◌, must, fault_in, list_fault, expression_fault, plain_fault as ungrouped_fault, width_fault, select_fault, filter_fault, names_fault, places_fault, joins_fault, rules_fault, fault_of, is_unbuilt, is_column}
+use Rattle.typed_plan.specs.Bound.{◌then◌, must, fault_in, list_fault, expression_fault, ungrouped_fault, width_fault}
+use Rattle.typed_plan.specs.Bound.{select_fault, filter_fault, names_fault, places_fault, joins_fault, rules_fault}
+use Rattle.typed_plan.specs.Bound.{fault_of, is_unbuilt, is_column}
 use Rattle.typed_plan.specs.Plain.{column_fault, columns_fault, chosen_fault, plain_fault, place_scope}
 
 -- what is left of a query that is built
@@ -26,44 +30,51 @@ pub record IsBuilt (query : Sentence) : Type 0 where
   pub plain : has_aggregate query.select ≡ false
   pub ungrouped : is_grouped query ≡ false
 
-none_of : (a b : Bool) → (a || b) ≡ false → (a ≡ false) × (b ≡ false)
-none_of true b e = cc
-none_of false b e = (refl, e)
-
 none_left : {X : Type 0} (xs : List X) → not (length xs == 0) ≡ false → xs ≡ []
 none_left [] e = refl
 none_left (x ∷ xs) e = let none : length (x ∷ xs) ≡ 0 = search (rules, e) in absurd (omega (arith, none))
 
 pub built : (query : Sentence) → is_unbuilt query ≡ false → IsBuilt query
 built query e =
-    let outer = none_of (not (length query.joins == 0)) (is_grouped query) e in
-    let inner = none_of (has_aggregate query.select) (not (length query.group_by == 0)) outer.1 in
-    record { joins = none_left query.joins outer.0; group_by = none_left query.group_by inner.1; plain = inner.0; ungrouped = outer.1 }
+    let outer = or_parts (not (length query.joins == 0)) (is_grouped query) e in
+    let inner = or_parts (has_aggregate query.select) (not (length query.group_by == 0)) outer.1 in
+    record {
+      joins = none_left query.joins outer.0;
+      group_by = none_left query.group_by inner.1;
+      plain =
+          inner.0;
+      ungrouped = outer.1;
+    }
 
 -- an item that names a column
-column_is : (query : Sentence) (scope : Scope) (expression : Expression) → is_grouped query ≡ false → is_aggregate expression ≡ false →
+column_is : (query : Sentence) (scope : Scope) (expression : Expression) → is_grouped query ≡ false →
+    is_aggregate expression ≡ false →
     expression_fault query scope expression ≡ column_fault scope expression
 column_is query scope (Column name) g e = named (column_of scope name)
   where
     named : (meant : Result ℕ Fault) → ungrouped_fault query scope meant ≡ fault_in meant
-    named (Ok number) = ap (λ grouped. must (not grouped || list_any (λ other. is_column number (column_of scope other)) query.group_by) NotInSubset) g
+    named (Ok number) = ap (λ grouped. must
+        (not grouped || list_any (λ other. is_column number (column_of scope other)) query.group_by) NotInSubset) g
     named (Err fault) = refl
 column_is query scope CountRows g e = cc
 column_is query scope (Count name) g e = cc
 column_is query scope (Sum name) g e = cc
 
-list_is : (query : Sentence) (scope : Scope) (items : List SelectItem) → is_grouped query ≡ false → list_any (λ item. is_aggregate item.expression) items ≡ false →
+list_is : (query : Sentence) (scope : Scope) (items : List SelectItem) → is_grouped query ≡ false →
+    list_any (λ item. is_aggregate item.expression) items ≡ false →
     list_fault query scope items ≡ columns_fault scope items
 list_is query scope [] g e = refl
 list_is query scope (item ∷ items) g e =
-    let parts = none_of (is_aggregate item.expression) (list_any (λ item. is_aggregate item.expression) items) e in
+    let parts = or_parts (is_aggregate item.expression) (list_any (λ item. is_aggregate item.expression) items) e in
     ap (λ fault. fault then list_fault query scope items) (column_is query scope item.expression g parts.0)
     ∙ ap (λ fault. column_fault scope item.expression then fault) (list_is query scope items g parts.1)
 
-select_is : (query : Sentence) (scope : Scope) (selecting : Select) → is_grouped query ≡ false → has_aggregate selecting ≡ false →
+select_is : (query : Sentence) (scope : Scope) (selecting : Select) → is_grouped query ≡ false →
+    has_aggregate selecting ≡ false →
     select_fault query scope selecting ≡ chosen_fault scope selecting
 select_is query scope select.All g e = refl
-select_is query scope (select.List items) g e = ap (λ fault. fault then width_fault (length items)) (list_is query scope items g e)
+select_is query scope (select.List items) g e =
+    ap (λ fault. fault then width_fault (length items)) (list_is query scope items g e)
 
 -- the rules, over parts of a query
 abbrev rules_over : Sentence → Database → List Join → List ColumnName → Option Table → Option Fault
@@ -77,10 +88,13 @@ rules_over query database joins names there =
     then names_fault scope names
     then select_fault query scope query.select
 
-rules_are : (query : Sentence) (database : Database) → rules_fault query database ≡ rules_over query database query.joins query.group_by (table_at database query.first.table)
+rules_are : (query : Sentence) (database : Database) →
+    rules_fault query database ≡ rules_over query database query.joins query.group_by
+    (table_at database query.first.table)
 rules_are query database = refl
 
-parts_are : (query : Sentence) (database : Database) (there : Option Table) → IsBuilt query → table_at database query.first.table ≡ there →
+parts_are : (query : Sentence) (database : Database) (there : Option Table) → IsBuilt query →
+    table_at database query.first.table ≡ there →
     rules_fault query database ≡ rules_over query database [] [] there
 parts_are query database there b t =
     rules_are query database
@@ -88,16 +102,19 @@ parts_are query database there b t =
     ∙ ap (λ names. rules_over query database [] names (table_at database query.first.table)) b.group_by
     ∙ ap (rules_over query database [] []) t
 
-rules_alone : (query : Sentence) (database : Database) → is_unbuilt query ≡ false → fault_of query database ≡ rules_fault query database
+rules_alone : (query : Sentence) (database : Database) → is_unbuilt query ≡ false →
+    fault_of query database ≡ rules_fault query database
 rules_alone query database e = ap (λ unbuilt. must (not unbuilt) NotInSubset then rules_fault query database) e
 
 -- the table is absent
-pub missing : (query : Sentence) (database : Database) → is_unbuilt query ≡ false → table_at database query.first.table ≡ None →
+pub missing : (query : Sentence) (database : Database) → is_unbuilt query ≡ false →
+    table_at database query.first.table ≡ None →
     fault_of query database ≡ Some TableMissing
 missing query database e t = rules_alone query database e ∙ parts_are query database None (built query e) t
 
 -- the table is there
-pub there : (query : Sentence) (database : Database) (table : Table) → is_unbuilt query ≡ false → table_at database query.first.table ≡ Some table →
+pub there : (query : Sentence) (database : Database) (table : Table) → is_unbuilt query ≡ false →
+    table_at database query.first.table ≡ Some table →
     fault_of query database ≡ plain_fault query (place_scope query table.schema)
 there query database table e t =
     let b = built query e in

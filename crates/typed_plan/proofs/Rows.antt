@@ -1,5 +1,6 @@
 -- Worked rows: the meaning of queries, why they are refused, and their result columns, worked out by hand.
-use Rattle.std.proofs.Common.{ℕ, ◌≡◌, refl, pos, negsuc, true, false, List, [], ◌∷◌, ◌++◌, codes, Some, None, ap, ◌∙◌, arith}
+use Rattle.std.proofs.Common.{ℕ, ◌≡◌, refl, pos, negsuc, true, false, List, [], ◌∷◌, ◌++◌, codes, Some, None, ap, ◌∙◌}
+use Rattle.std.proofs.Common.{arith}
 use Rattle.std.specs.Fmt.{decimal}
 use Rattle.std.proofs.lemmas.Fmt.{decimal_digit}
 use Rattle.arrow_schema.specs.declared.data_type.DataType.{DataType}
@@ -90,16 +91,19 @@ is_small = refl
 abbrev three : Database
 three = t_of (Integer Int64) (int 1 ∷ Null ∷ int 3 ∷ [])
 
-not_in : whole_meaning (all_where (membership true (operand.Column a) (operand.Literal (int 1) ∷ []))) three ≡ (int 3 ∷ []) ∷ []
+not_in : whole_meaning (all_where (membership true (operand.Column a) (operand.Literal (int 1) ∷ []))) three
+    ≡ (int 3 ∷ []) ∷ []
 not_in = refl
 
-is_unknown : whole_meaning (all_where (truth_test false Unknown (comparing Equal (operand.Column a) (operand.Literal (int 1))))) three ≡ (Null ∷ []) ∷ []
+is_unknown : whole_meaning (all_where
+    (truth_test false Unknown (comparing Equal (operand.Column a) (operand.Literal (int 1))))) three ≡ (Null ∷ []) ∷ []
 is_unknown = refl
 
 -- one row (a, b) = (3, NULL): a NOT IN (1, b)
 not_in_null : whole_meaning
     (all_where (membership true (operand.Column a) (operand.Literal (int 1) ∷ operand.Column (named (codes "b")) ∷ [])))
-    (table (codes "t") (field (codes "a") (Integer Int64) ∷ field (codes "b") (Integer Int64) ∷ []) ((int 3 ∷ Null ∷ []) ∷ [])) ≡ []
+    (table (codes "t") (field (codes "a") (Integer Int64) ∷ field (codes "b") (Integer Int64) ∷ [])
+    ((int 3 ∷ Null ∷ []) ∷ [])) ≡ []
 not_in_null = refl
 
 -- SELECT COUNT(*), COUNT(a), SUM(a) FROM t
@@ -127,14 +131,20 @@ totals_columns =
     ∙ ap (totals_named (codes "1") (codes "2")) (decimal_digit 3 (omega arith))
 
 -- sums beyond 64 bits, and below 0
-of_greatest : whole_meaning (from_t (select.List (item (Sum a) ∷ []))) (t_of (Integer UInt64) (int 18446744073709551615 ∷ int 18446744073709551615 ∷ [])) ≡ (int 36893488147419103230 ∷ []) ∷ []
+of_greatest : whole_meaning (from_t (select.List (item (Sum a) ∷ [])))
+    (t_of (Integer UInt64) (int 18446744073709551615 ∷ int 18446744073709551615 ∷ []))
+    ≡ (int 36893488147419103230 ∷ []) ∷ []
 of_greatest = refl
 
-of_least : whole_meaning (from_t (select.List (item (Sum a) ∷ []))) (t_of (Integer Int8) (Int (negsuc 127) ∷ Int (negsuc 127) ∷ [])) ≡ (Int (negsuc 255) ∷ []) ∷ []
+of_least : whole_meaning (from_t (select.List (item (Sum a) ∷ [])))
+    (t_of (Integer Int8) (Int (negsuc 127) ∷ Int (negsuc 127) ∷ [])) ≡ (Int (negsuc 255) ∷ []) ∷ []
 of_least = refl
 
 of_none_kept : whole_meaning
-    (record (from_t (select.List (item CountRows ∷ item (Sum a) ∷ []))) { filter = Some (comparing Greater (operand.Column a) (operand.Literal (int 100))) })
+    (record (from_t (select.List (item CountRows ∷ item (Sum a) ∷ []))) {
+      filter =
+          Some (comparing Greater (operand.Column a) (operand.Literal (int 100)));
+    })
     (t_of (Integer Int64) (int 1 ∷ [])) ≡ (int 0 ∷ Null ∷ []) ∷ []
 of_none_kept = refl
 
@@ -147,16 +157,21 @@ grouped : whole_meaning by_text (t_of Utf8 (text (codes "b") ∷ Null ∷ text (
 grouped = refl
 
 -- indices 0 and 1 of a dictionary "x", "x" are one text
-of_dictionary : whole_meaning by_text (t_of (Dictionary (record { id = 0; index = Int8 })) (text (codes "x") ∷ text (codes "x") ∷ [])) ≡ (text (codes "x") ∷ int 2 ∷ []) ∷ []
+of_dictionary : whole_meaning by_text
+    (t_of (Dictionary (record { id = 0; index = Int8 })) (text (codes "x") ∷ text (codes "x") ∷ []))
+    ≡ (text (codes "x") ∷ int 2 ∷ []) ∷ []
 of_dictionary = refl
 
-dictionary_columns : result_schema (from_t (select.List (record { expression = Column a; alias = Some (codes "s") } ∷ []))) (t_of (Dictionary (record { id = 0; index = Int8 })) [])
+dictionary_columns : result_schema (from_t
+    (select.List (record { expression = Column a; alias = Some (codes "s") } ∷ [])))
+    (t_of (Dictionary (record { id = 0; index = Int8 })) [])
     ≡ record { fields = field (codes "s") Utf8 ∷ [] }
 dictionary_columns = refl
 
 -- t(a, i) = (1, 10), (1, 20); SELECT x.i, y.i FROM t AS x JOIN t AS y ON x.a = y.a
 abbrev pairs : Database
-pairs = table (codes "t") (field (codes "a") (Integer Int64) ∷ field (codes "i") (Integer Int64) ∷ []) ((int 1 ∷ int 10 ∷ []) ∷ (int 1 ∷ int 20 ∷ []) ∷ [])
+pairs = table (codes "t") (field (codes "a") (Integer Int64) ∷ field (codes "i") (Integer Int64) ∷ [])
+    ((int 1 ∷ int 10 ∷ []) ∷ (int 1 ∷ int 20 ∷ []) ∷ [])
 
 abbrev x_of : Name → ColumnName
 x_of = of_place (codes "x")
@@ -178,20 +193,32 @@ second_half = refl
 
 -- t(a) = 1, NULL, 1; u(a) = 1, 1, NULL; SELECT * FROM t JOIN u ON t.a = u.a: nulls join nothing
 abbrev t_and_u : Database
-t_and_u = t_of (Integer Int64) (int 1 ∷ Null ∷ int 1 ∷ []) ++ table (codes "u") (field (codes "a") (Integer Int64) ∷ []) ((int 1 ∷ []) ∷ (int 1 ∷ []) ∷ (Null ∷ []) ∷ [])
+t_and_u = t_of (Integer Int64) (int 1 ∷ Null ∷ int 1 ∷ []) ++ table (codes "u") (field (codes "a") (Integer Int64) ∷ [])
+    ((int 1 ∷ []) ∷ (int 1 ∷ []) ∷ (Null ∷ []) ∷ [])
 
 abbrev t_of_name : Name → ColumnName
 t_of_name = of_place (codes "t")
 
 abbrev t_join_u : Sentence
-t_join_u = record (from_t select.All) { joins = join (place (codes "u")) (t_of_name (codes "a")) (of_place (codes "u") (codes "a")) ∷ [] }
+t_join_u = record (from_t select.All) {
+  joins =
+      join (place (codes "u")) (t_of_name (codes "a")) (of_place (codes "u") (codes "a")) ∷ [];
+}
 
-four : whole_meaning t_join_u t_and_u ≡ (int 1 ∷ int 1 ∷ []) ∷ (int 1 ∷ int 1 ∷ []) ∷ (int 1 ∷ int 1 ∷ []) ∷ (int 1 ∷ int 1 ∷ []) ∷ []
+four : whole_meaning t_join_u t_and_u
+    ≡ (int 1 ∷ int 1 ∷ []) ∷ (int 1 ∷ int 1 ∷ []) ∷ (int 1 ∷ int 1 ∷ []) ∷ (int 1 ∷ int 1 ∷ []) ∷ []
 four = refl
 
 -- t = 1 to 5, an append of 6, 7, a replace with other columns: version 1 keeps its rows
 abbrev put : IfExists → List Field → List Row → Put
-put if_exists fields rows = record { table = codes "t"; if_not_exist = absent.Create; if_exists = if_exists; schema = record { fields = fields }; rows = rows }
+put if_exists fields rows = record {
+  table = codes "t";
+  if_not_exist = absent.Create;
+  if_exists = if_exists;
+  schema =
+      record { fields = fields };
+  rows = rows;
+}
 
 abbrev a_column : List Field
 a_column = field (codes "a") (Integer Int64) ∷ []
@@ -218,16 +245,20 @@ missing = refl
 no_such_column : fault_of (from_t (select.List (item (Column (named (codes "z"))) ∷ []))) three ≡ Some UnknownName
 no_such_column = refl
 
-number_and_text : fault_of (all_where (comparing Equal (operand.Column a) (operand.Literal (text (codes "x"))))) three ≡ Some TypeClash
+number_and_text : fault_of (all_where (comparing Equal (operand.Column a) (operand.Literal (text (codes "x"))))) three
+    ≡ Some TypeClash
 number_and_text = refl
 
 -- the right name is looked at before the classes
-name_before_class : fault_of (all_where (comparing Equal (operand.Literal (text (codes "x"))) (operand.Column (named (codes "z"))))) three ≡ Some UnknownName
+name_before_class : fault_of (all_where
+    (comparing Equal (operand.Literal (text (codes "x"))) (operand.Column (named (codes "z"))))) three
+    ≡ Some UnknownName
 name_before_class = refl
 
 -- the left conjunct before the right one
 left_before_right : fault_of
-    (all_where (conjunction (comparing Equal (operand.Column a) (operand.Literal (text (codes "x")))) (comparing Equal (operand.Column (named (codes "z"))) (operand.Literal (int 1)))))
+    (all_where (conjunction (comparing Equal (operand.Column a) (operand.Literal (text (codes "x"))))
+    (comparing Equal (operand.Column (named (codes "z"))) (operand.Literal (int 1)))))
     three ≡ Some TypeClash
 left_before_right = refl
 
@@ -236,11 +267,27 @@ two_columns : rules_fault (record t_join_u { select = select.List (item (Column 
 two_columns = refl
 
 -- SELECT t.a FROM t JOIN t ON t.a = t.a: two places t
-two_places : rules_fault (record t_join_u { joins = join (place (codes "t")) (t_of_name (codes "a")) (t_of_name (codes "a")) ∷ [] }) t_and_u ≡ Some UnknownName
+two_places : rules_fault (record t_join_u {
+  joins =
+      join (place (codes "t")) (t_of_name (codes "a")) (t_of_name (codes "a")) ∷ [];
+}) t_and_u ≡ Some UnknownName
 two_places = refl
 
+-- SELECT * FROM t JOIN v AS t ON t.a = t.b: two places t, whose columns have names of their own
+abbrev t_and_v : Database
+t_and_v = t_of (Integer Int64) [] ++ table (codes "v") (field (codes "b") (Integer Int64) ∷ []) []
+
+one_name_twice : rules_fault (record t_join_u {
+  joins =
+      join (record { table = codes "v"; alias = Some (codes "t") }) (t_of_name (codes "a")) (t_of_name (codes "b")) ∷ [];
+}) t_and_v ≡ Some UnknownName
+one_name_twice = refl
+
 -- SELECT t.a FROM t JOIN u ON t.a = t.a: no column of the new place
-one_sided : rules_fault (record t_join_u { joins = join (place (codes "u")) (t_of_name (codes "a")) (t_of_name (codes "a")) ∷ [] }) t_and_u ≡ Some NotInSubset
+one_sided : rules_fault (record t_join_u {
+  joins =
+      join (place (codes "u")) (t_of_name (codes "a")) (t_of_name (codes "a")) ∷ [];
+}) t_and_u ≡ Some NotInSubset
 one_sided = refl
 
 -- SELECT a, COUNT(*) FROM t GROUP BY i

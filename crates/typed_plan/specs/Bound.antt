@@ -1,12 +1,15 @@
 -- The rules of names and classes: why a query is refused, and the order in which it is looked at.
-use Rattle.std.specs.Prelude.{ℕ, ◌==◌, Bool, true, false, not, ◌&&◌, ◌||◌, if◌then◌else◌, nat_lt, List, [], ◌∷◌, ◌++◌, length, map, slice_get, Option, Some, None, is_some, Result, Ok, Err}
+use Rattle.std.specs.Prelude.{ℕ, ◌==◌, Bool, true, false, not, ◌&&◌, ◌||◌, nat_lt, List, [], ◌∷◌, ◌++◌}
+use Rattle.std.specs.Prelude.{length, map, slice_get, Option, Some, None, is_some, Result, Ok, Err}
 use Rattle.std.specs.List.{list_any}
 use Rattle.std.specs.Str.{bytes_eq}
 use Rattle.scan_base.specs.declared.fault.Fault.{Fault}
-use Rattle.scan_base.specs.declared.fault.Fault.TheVariants.{TableMissing, LimitReached, UnknownName, TypeClash, NotInSubset}
+use Rattle.scan_base.specs.declared.fault.Fault.TheVariants.{TableMissing, LimitReached, UnknownName, TypeClash}
+use Rattle.scan_base.specs.declared.fault.Fault.TheVariants.{NotInSubset}
 use Rattle.scan_base.specs.declared.predicate.Operand.{Operand}
 use Rattle.scan_base.specs.declared.predicate.Operand.TheVariants.{Column, Literal}
-use Rattle.scan_base.specs.Predicate.{Pred, conjunction, disjunction, negation, truth_test, comparing, between, membership, null_test}
+use Rattle.scan_base.specs.Predicate.{Pred, conjunction, disjunction, negation, truth_test, comparing, between}
+use Rattle.scan_base.specs.Predicate.{membership, null_test}
 use Rattle.sql_query.specs.declared.query.ColumnName.{ColumnName}
 use Rattle.sql_query.specs.declared.query.Place.{Place}
 use Rattle.sql_query.specs.declared.query.Equality.{Equality}
@@ -67,7 +70,8 @@ compare_fault (Ok left) (Ok right) = must (same_class left right) TypeClash
 -- each item's name, and whether its class agrees
 abbrev pub items_fault : {C : Type 0} → (C → Result Class Fault) → Result Class Fault → List (Operand C) → Option Fault
 items_fault class_of class [] = None
-items_fault class_of class (item ∷ items) = compare_fault class (operand_class class_of item) then items_fault class_of class items
+items_fault class_of class (item ∷ items) =
+    compare_fault class (operand_class class_of item) then items_fault class_of class items
 
 -- a predicate from the left, where `class_of` says each column's class
 abbrev pub predicate_fault : {C : Type 0} → (C → Result Class Fault) → Pred C → Option Fault
@@ -75,9 +79,11 @@ predicate_fault class_of (conjunction p q) = predicate_fault class_of p then pre
 predicate_fault class_of (disjunction p q) = predicate_fault class_of p then predicate_fault class_of q
 predicate_fault class_of (negation p) = predicate_fault class_of p
 predicate_fault class_of (truth_test negated tested p) = predicate_fault class_of p
-predicate_fault class_of (comparing comparison left right) = compare_fault (operand_class class_of left) (operand_class class_of right)
+predicate_fault class_of (comparing comparison left right) =
+    compare_fault (operand_class class_of left) (operand_class class_of right)
 predicate_fault class_of (between negated operand low high) =
-    fault_in (operand_class class_of operand) then items_fault class_of (operand_class class_of operand) (low ∷ high ∷ [])
+    fault_in (operand_class class_of operand)
+    then items_fault class_of (operand_class class_of operand) (low ∷ high ∷ [])
 predicate_fault class_of (membership negated operand items) =
     fault_in (operand_class class_of operand) then items_fault class_of (operand_class class_of operand) items
 predicate_fault class_of (null_test negated operand) = fault_in (operand_class class_of operand)
@@ -99,7 +105,8 @@ places_fault database earlier (place ∷ places) =
 
 -- whether one column is of the new place, whose columns begin at this number, and one of an earlier place
 abbrev pub crosses : ℕ → Result ℕ Fault → Result ℕ Fault → Bool
-crosses seam (Ok left) (Ok right) = (nat_lt left seam && not (nat_lt right seam)) || (nat_lt right seam && not (nat_lt left seam))
+crosses seam (Ok left) (Ok right) =
+    (nat_lt left seam && not (nat_lt right seam)) || (nat_lt right seam && not (nat_lt left seam))
 crosses seam _ _ = false
 
 abbrev pub on_fault : ℕ → Scope → List Equality → Option Fault
@@ -134,13 +141,14 @@ is_column number (Ok other) = number == other
 is_column number (Err fault) = false
 
 -- a column of a grouped query is one of GROUP BY
-abbrev pub plain_fault : Sentence → Scope → Result ℕ Fault → Option Fault
-plain_fault query scope (Ok number) =
-    must (not (is_grouped query) || list_any (λ name. is_column number (column_of scope name)) query.group_by) NotInSubset
-plain_fault query scope (Err fault) = Some fault
+abbrev pub ungrouped_fault : Sentence → Scope → Result ℕ Fault → Option Fault
+ungrouped_fault query scope (Ok number) =
+    must
+    (not (is_grouped query) || list_any (λ name. is_column number (column_of scope name)) query.group_by) NotInSubset
+ungrouped_fault query scope (Err fault) = Some fault
 
 abbrev pub expression_fault : Sentence → Scope → Expression → Option Fault
-expression_fault query scope (expression.Column name) = plain_fault query scope (column_of scope name)
+expression_fault query scope (expression.Column name) = ungrouped_fault query scope (column_of scope name)
 expression_fault query scope expression.CountRows = None
 expression_fault query scope (expression.Count name) = fault_in (column_of scope name)
 expression_fault query scope (expression.Sum name) = sum_fault scope (column_of scope name)

@@ -42,7 +42,8 @@ scope_of query database = scope_after database (place_columns database query.fir
 -- whether each equality of an ON is true
 abbrev pub fits_on : Scope → List Equality → Row → Bool
 fits_on scope on row =
-    list_all (λ equality. keeps (compared Equal (cell_of scope row equality.left) (cell_of scope row equality.right))) on
+    list_all
+    (λ equality. keeps (compared Equal (cell_of scope row equality.left) (cell_of scope row equality.right))) on
 
 -- a row with each row of the new place that fits it, in the order of the table
 abbrev pub extensions : Scope → List Equality → List Row → Row → List Row
@@ -62,7 +63,8 @@ rows_between a b rows = take (b - a) (drop a rows)
 -- the joined rows of a range of the first place; each other place has all its rows
 abbrev pub joined : Sentence → Database → ℕ → ℕ → List Row
 joined query database a b =
-    rows_after database (place_columns database query.first) query.joins (rows_between a b (place_rows database query.first))
+    rows_after database (place_columns database query.first) query.joins
+    (rows_between a b (place_rows database query.first))
 
 -- whether WHERE is true
 abbrev pub passes : Scope → Option (Pred ColumnName) → Row → Bool

@@ -1,9 +1,22 @@
 -- What a call that binds answers.
-use Rattle.std.specs.Prelude.{◌≡◌, ◌≢◌, Option, Some, None, Result, Ok, Err}
+use Rattle.std.specs.Prelude.{◌≡◌, ◌≢◌, ℕ, Option, Some, None, Result, Ok, Err}
 use Rattle.scan_base.specs.declared.fault.Fault.{Fault}
 use Rattle.scan_base.specs.declared.fault.Fault.TheVariants.{OutOfMemory}
+use Rattle.scan_base.specs.declared.predicate.Predicate.{Predicate}
+use Rattle.scan_base.specs.Predicate.{Pred}
+use Rattle.scan_base.specs.View.{pred_of}
+use Rattle.sql_query.specs.declared.query.ColumnName.{ColumnName}
+use Rattle.typed_plan.specs.Bound.{class_of_name, predicate_fault}
+use Rattle.typed_plan.specs.Numbered.{predicate_map}
+use Rattle.typed_plan.specs.Scope.{Scope, numbered}
 
 -- Ok where there is no fault, and the value is as said; else the first fault, or want of memory
 abbrev pub Binds : {X : Type 0} → Option Fault → (X → Type 0) → Result X Fault → Type 0
 Binds first IsBound (Ok x) = (first ≡ None) × IsBound x
 Binds first IsBound (Err fault) = fault ≢ OutOfMemory → first ≡ Some fault
+
+-- a predicate's first fault from the left, or the predicate over numbers of columns
+abbrev pub BindsPredicate : Scope → Pred ColumnName → Result (Predicate ℕ) Fault → Type 0
+BindsPredicate scope predicate =
+    Binds (predicate_fault (class_of_name scope) predicate)
+    (λ bound. pred_of bound ≡ predicate_map (numbered scope) predicate)

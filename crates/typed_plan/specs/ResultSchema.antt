@@ -1,5 +1,6 @@
 -- The columns of a query's result.
-use Rattle.std.specs.Prelude.{ℕ, ◌+◌, true, false, List, [], ◌∷◌, ◌++◌, map, slice_get, Option, Some, None, unwrap_or, codes}
+use Rattle.std.specs.Prelude.{ℕ, ◌+◌, true, false, List, [], ◌∷◌, ◌++◌, map, slice_get, Option, Some, None, unwrap_or}
+use Rattle.std.specs.Prelude.{codes}
 use Rattle.std.specs.Fmt.{decimal}
 use Rattle.arrow_schema.specs.declared.data_type.DataType.TheVariants.{Integer, Utf8, Decimal128}
 use Rattle.arrow_schema.specs.declared.data_type.IntegerType.TheVariants.{Int64}
@@ -29,9 +30,12 @@ position_name position = codes "col" ++ decimal position
 -- the column of an expression at this position, before an alias
 abbrev pub expression_field : Scope → ℕ → Expression → Field
 expression_field scope position (Column name) = field_at (slice_get scope (numbered scope name))
-expression_field scope position CountRows = record { name = position_name position; nullable = false; data_type = Integer Int64 }
-expression_field scope position (Count name) = record { name = position_name position; nullable = false; data_type = Integer Int64 }
-expression_field scope position (Sum name) = record { name = position_name position; nullable = true; data_type = Decimal128 }
+expression_field scope position CountRows =
+    record { name = position_name position; nullable = false; data_type = Integer Int64 }
+expression_field scope position (Count name) =
+    record { name = position_name position; nullable = false; data_type = Integer Int64 }
+expression_field scope position (Sum name) =
+    record { name = position_name position; nullable = true; data_type = Decimal128 }
 
 -- the alias is the name where there is one
 abbrev pub item_field : Scope → ℕ → SelectItem → Field

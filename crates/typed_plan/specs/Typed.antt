@@ -1,5 +1,6 @@
 -- What a plan that is well typed has: each column is there, and what is compared is of one class.
-use Rattle.std.specs.Prelude.{◌≡◌, ℕ, Bool, true, IsTrue, List, length, map, nat_lt, slice_get, unwrap_or, Option, Some, None, Result, Ok, Err}
+use Rattle.std.specs.Prelude.{◌≡◌, ℕ, Bool, true, IsTrue, List, length, map, nat_lt, slice_get, unwrap_or, Option, Some}
+use Rattle.std.specs.Prelude.{None, Result, Ok, Err}
 use Rattle.std.specs.List.{list_all}
 use Rattle.arrow_schema.specs.declared.data_type.DataType.{DataType}
 use Rattle.arrow_schema.specs.declared.data_type.DataType.TheVariants.{Utf8}
@@ -48,7 +49,8 @@ class_of_number types number = class_if_there (slice_get types number)
 -- each column is there, and what a predicate compares is of one class
 abbrev pub IsTypedTree : Tree → Type 0
 IsTypedTree (scan table schema columns) = IsTrue (has_columns (length schema.fields) columns)
-IsTypedTree (filtered predicate tree) = (predicate_fault (class_of_number (tree_types tree)) predicate ≡ None) × IsTypedTree tree
+IsTypedTree (filtered predicate tree) =
+    (predicate_fault (class_of_number (tree_types tree)) predicate ≡ None) × IsTypedTree tree
 
 abbrev pub IsTypedOutput : Output → List DataType → Schema → Type 0
 IsTypedOutput (Project columns) types schema =

@@ -53,7 +53,9 @@ pub fn bind(alloc: Global, query: &Query, catalog: &CatalogVersion) -> Result<Ty
 // The plan of a query of one place, over its table.
 fn bind_place(alloc: Global, query: &Query, table: &TableVersion) -> Result<TypedPlan, Fault>
     ensures bound { Binds (plain_fault (sentence_of query.now) (place_scope (sentence_of query.now) table.now.schema))
-        (λ plan. plan_of plan ≡ plain_plan (sentence_of query.now) (place_scope (sentence_of query.now) table.now.schema) table.now.schema)
+        (λ plan. plan_of plan
+        ≡ plain_plan (sentence_of query.now) (place_scope (sentence_of query.now) table.now.schema)
+        table.now.schema)
         result }
     ensures named { HasNames query.now.select → IfOk result (λ plan. IsSchema plan.schema) }
 {
@@ -105,7 +107,8 @@ fn filtered_scan(
     schema: &Schema,
     filter: Option<Predicate<usize>>,
 ) -> Result<Plan, AllocError>
-    ensures { IfOk result (λ plan. tree_of plan ≡ where_kept (option_map pred_of filter) (scan table.now schema.now All)) }
+    ensures { IfOk result (λ plan. tree_of plan
+        ≡ where_kept (option_map pred_of filter) (scan table.now schema.now All)) }
 {
     let scan = Plan::Scan {
         table: table.clone()?,

@@ -1,18 +1,18 @@
 //! Predicates whose columns are numbers, from those of names.
 
 ghost use Rattle.std.specs.Prelude.{◌≡◌, Ok, map};
-ghost use Rattle.scan_base.specs.Predicate.{between, membership};
+ghost use Rattle.scan_base.specs.Predicate.{truth_test, comparing, between, membership, null_test};
 ghost use Rattle.scan_base.specs.View.{pred_of};
 ghost use Rattle.typed_plan.specs.Scope.{numbered};
-ghost use Rattle.typed_plan.specs.Bound.{class_of_name, operand_class, compare_fault, items_fault, predicate_fault, fault_in};
-ghost use Rattle.typed_plan.specs.Numbered.{operand_map, predicate_map};
+ghost use Rattle.typed_plan.specs.Bound.{class_of_name, operand_class, compare_fault, items_fault, fault_in};
+ghost use Rattle.typed_plan.specs.Numbered.{operand_map};
 ghost use Rattle.typed_plan.specs.Chain.{connected};
-ghost use Rattle.typed_plan.specs.Outcome.{Binds};
+ghost use Rattle.typed_plan.specs.Outcome.{Binds, BindsPredicate};
 
 use crate::chain::{Connective, Side, first_of};
 use crate::class::Class;
 use crate::scope::Scope;
-use scan_base::{Fault, Items, Operand, Predicate};
+use scan_base::{Comparison, Fault, Items, Operand, Predicate, Truth};
 use sql_query::ColumnName;
 use std::alloc::Global;
 
@@ -54,19 +54,6 @@ fn number_operand(scope: &Scope<'_>, operand: &Operand<ColumnName>) -> Result<Op
     }
 }
 
-// The two sides of a comparison.
-fn number_sides(
-    scope: &Scope<'_>,
-    left: &Operand<ColumnName>,
-    right: &Operand<ColumnName>,
-) -> Result<(Operand<usize>, Operand<usize>), Fault>
-    ensures { Binds (compare_fault (operand_class (class_of_name scope.now) left.now) (operand_class (class_of_name scope.now) right.now))
-        (λ sides. (sides.0 ≡ operand_map (numbered scope.now) left.now) × (sides.1 ≡ operand_map (numbered scope.now) right.now)) result }
-{
-    agree(operand_class(scope, left)?, operand_class(scope, right))?;
-    Ok((number_operand(scope, left)?, number_operand(scope, right)?))
-}
-
 // The items whose classes agree with an operand's.
 fn number_items(
     alloc: Global,
@@ -85,6 +72,23 @@ fn number_items(
     Ok(bound)
 }
 
+// The left side, the right side, then whether their classes agree.
+fn number_comparison(
+    scope: &Scope<'_>,
+    comparison: Comparison,
+    left: &Operand<ColumnName>,
+    right: &Operand<ColumnName>,
+) -> Result<Predicate<usize>, Fault>
+    ensures { BindsPredicate scope.now (comparing comparison left.now right.now) result }
+{
+    agree(operand_class(scope, left)?, operand_class(scope, right))?;
+    Ok(Predicate::Compare {
+        comparison,
+        left: number_operand(scope, left)?,
+        right: number_operand(scope, right)?,
+    })
+}
+
 // `operand BETWEEN low AND high`: the operand, then each end's name and class.
 fn number_between(
     scope: &Scope<'_>,
@@ -93,8 +97,7 @@ fn number_between(
     low: &Operand<ColumnName>,
     high: &Operand<ColumnName>,
 ) -> Result<Predicate<usize>, Fault>
-    ensures { Binds (predicate_fault (class_of_name scope.now) (between negated operand.now low.now high.now))
-        (λ bound. pred_of bound ≡ predicate_map (numbered scope.now) (between negated operand.now low.now high.now)) result }
+    ensures { BindsPredicate scope.now (between negated operand.now low.now high.now) result }
 {
     let class = operand_class(scope, operand)?;
     agree(class, operand_class(scope, low))?;
@@ -115,8 +118,7 @@ fn number_in(
     operand: &Operand<ColumnName>,
     items: &[Operand<ColumnName>],
 ) -> Result<Predicate<usize>, Fault>
-    ensures { Binds (predicate_fault (class_of_name scope.now) (membership negated operand.now items.now))
-        (λ bound. pred_of bound ≡ predicate_map (numbered scope.now) (membership negated operand.now items.now)) result }
+    ensures { BindsPredicate scope.now (membership negated operand.now items.now) result }
 {
     let class = operand_class(scope, operand)?;
     let items = number_items(alloc, scope, class, items)?;
@@ -127,6 +129,17 @@ fn number_in(
     })
 }
 
+fn number_null_test(
+    scope: &Scope<'_>,
+    negated: bool,
+    operand: &Operand<ColumnName>,
+) -> Result<Predicate<usize>, Fault>
+    ensures { BindsPredicate scope.now (null_test negated operand.now) result }
+{
+    let operand = number_operand(scope, operand)?;
+    Ok(Predicate::IsNull { negated, operand })
+}
+
 // The predicate by numbers of columns, or its first fault from the left.
 #[cycle(number)]
 pub(crate) fn number_predicate(
@@ -134,24 +147,11 @@ pub(crate) fn number_predicate(
     scope: &Scope<'_>,
     predicate: &Predicate<ColumnName>,
 ) -> Result<Predicate<usize>, Fault>
-    ensures { Binds (predicate_fault (class_of_name scope.now) (pred_of predicate.now))
-        (λ bound. pred_of bound ≡ predicate_map (numbered scope.now) (pred_of predicate.now)) result }
+    ensures { BindsPredicate scope.now (pred_of predicate.now) result }
 {
     match predicate {
-        Predicate::And(left, right) => {
-            let side = Side {
-                connective: Connective::And,
-                predicate: right,
-            };
-            number_chain(alloc, scope, left, side)
-        }
-        Predicate::Or(left, right) => {
-            let side = Side {
-                connective: Connective::Or,
-                predicate: right,
-            };
-            number_chain(alloc, scope, left, side)
-        }
+        Predicate::And(left, right) => number_chain(alloc, scope, Connective::And, left, right),
+        Predicate::Or(left, right) => number_chain(alloc, scope, Connective::Or, left, right),
         Predicate::Not(predicate) => {
             let predicate = number_predicate(alloc, scope, predicate)?;
             Ok(Predicate::Not(Box::new(alloc, predicate)?))
@@ -160,26 +160,12 @@ pub(crate) fn number_predicate(
             negated,
             tested,
             predicate,
-        } => {
-            let predicate = number_predicate(alloc, scope, predicate)?;
-            Ok(Predicate::Is {
-                negated: *negated,
-                tested: *tested,
-                predicate: Box::new(alloc, predicate)?,
-            })
-        }
+        } => number_truth_test(alloc, scope, *negated, *tested, predicate),
         Predicate::Compare {
             comparison,
             left,
             right,
-        } => {
-            let (left, right) = number_sides(scope, left, right)?;
-            Ok(Predicate::Compare {
-                comparison: *comparison,
-                left,
-                right,
-            })
-        }
+        } => number_comparison(scope, *comparison, left, right),
         Predicate::Between {
             negated,
             operand,
@@ -191,26 +177,45 @@ pub(crate) fn number_predicate(
             operand,
             items,
         } => number_in(alloc, scope, *negated, operand, items.as_slice()),
-        Predicate::IsNull { negated, operand } => Ok(Predicate::IsNull {
-            negated: *negated,
-            operand: number_operand(scope, operand)?,
-        }),
+        Predicate::IsNull { negated, operand } => number_null_test(scope, *negated, operand),
     }
 }
 
-// A predicate and the side behind it: what the predicate is a chain of comes first, from the left, and then the side.
+// `predicate IS tested`.
 #[cycle(number)]
-fn number_chain<'p>(
+fn number_truth_test(
     alloc: Global,
     scope: &Scope<'_>,
-    left: &'p Predicate<ColumnName>,
-    side: Side<'p>,
+    negated: bool,
+    tested: Truth,
+    predicate: &Predicate<ColumnName>,
 ) -> Result<Predicate<usize>, Fault>
-    ensures { Binds (predicate_fault (class_of_name scope.now) (connected side.entry.connective (pred_of left.now) (pred_of side.entry.predicate.now)))
-        (λ bound. pred_of bound ≡ predicate_map (numbered scope.now) (connected side.entry.connective (pred_of left.now) (pred_of side.entry.predicate.now))) result }
+    ensures { BindsPredicate scope.now (truth_test negated tested (pred_of predicate.now)) result }
+{
+    let predicate = number_predicate(alloc, scope, predicate)?;
+    Ok(Predicate::Is {
+        negated,
+        tested,
+        predicate: Box::new(alloc, predicate)?,
+    })
+}
+
+// `left AND right` or `left OR right`: what the left side is a chain of comes first, from the left, and then the right.
+#[cycle(number)]
+fn number_chain(
+    alloc: Global,
+    scope: &Scope<'_>,
+    connective: Connective,
+    left: &Predicate<ColumnName>,
+    right: &Predicate<ColumnName>,
+) -> Result<Predicate<usize>, Fault>
+    ensures { BindsPredicate scope.now (connected connective (pred_of left.now) (pred_of right.now)) result }
 {
     let mut sides = Vec::new(alloc);
-    sides.push(side)?;
+    sides.push(Side {
+        connective,
+        predicate: right,
+    })?;
     let first = first_of(left, &mut sides)?;
     let mut bound = number_predicate(alloc, scope, first)?;
     while let Some(side) = sides.pop() {

@@ -13,8 +13,11 @@ loop-number-preserved c =
     let is = rw c.columns-columns.ensures.columns at c.index-columns-number.is in
     let more = columns_more numbers columns i column c.loop-number-test.true c.requires.there is in
     record {
-      cut = sliced c.args.from c.args.to _ (columns_at (take i numbers) columns) column c.in_ok-slice.field-0 c.loop-number.slices.items c.push.new.self.items
+      cut = sliced c.args.from c.args.to _
+          (columns_at (take i numbers) columns) column c.in_ok-slice.field-0 c.loop-number.slices.items
+          c.push.new.self.items
           more c.loop-number.invariant.cut c.in_ok-slice.ensures c.in_ok-push.ensures.items;
-      long = long_more _ c.in_ok-slice.field-0 c.loop-number.slices.items c.push.new.self.items c.loop-number.invariant.long
+      long = long_more _ c.in_ok-slice.field-0 c.loop-number.slices.items c.push.new.self.items
+          c.loop-number.invariant.long
           (ap (λ (slice : ColumnAt). slice.len) c.in_ok-slice.ensures) c.in_ok-push.ensures.items;
     }

@@ -12,4 +12,5 @@ truth-requires t c =
     let types = tree_types (tree_of c.in-Filter.input.value) in
     let typed = rw c.in-Filter.is at c.requires.typed in
     let wide : length types ≡ length c.args.row.now = rw c.in-Filter.is at c.requires.wide in
-    subst (λ (n : ℕ). IsTrue (names_only (λ column. nat_lt column n) predicate)) wide (names_there types predicate typed.0)
+    subst (λ (n : ℕ). IsTrue (names_only (λ column. nat_lt column n) predicate)) wide
+    (names_there types predicate typed.0)

@@ -24,20 +24,24 @@ other false true e = refl
 other false false e = cc
 
 -- what the row that was looked at is
-looked_at : (tree : Tree) (columns found : List ColumnAt) (read : List ℕ) (row : ℕ) (result : Bool) → IsRead tree (length columns) read → found ≡ columns →
+looked_at : (tree : Tree) (columns found : List ColumnAt) (read : List ℕ) (row : ℕ) (result : Bool) →
+    IsRead tree (length columns) read → found ≡ columns →
     result ≡ passes tree (map (cell_in (row_of found row)) read) → result ≡ holds tree (row_of columns row)
 looked_at tree columns found read row result is e h =
-    h ∙ ap (λ (some : List ColumnAt). passes tree (map (cell_in (row_of some row)) read)) e ∙ held_is tree columns read row is
+    h ∙ ap (λ (some : List ColumnAt). passes tree (map (cell_in (row_of some row)) read)) e
+    ∙ held_is tree columns read row is
 
 pub returns-then-passes-held-clause-found : goal.returns-then-passes-held-clause-found
 returns-then-passes-held-clause-found c h =
-    let here = looked_at (tree_of c.args.plan.now) c.args.batch.now.columns c.columns-columns.result.now c.args.read.now c.loop-row.row c.passes.result
+    let here = looked_at (tree_of c.args.plan.now) c.args.batch.now.columns c.columns-columns.result.now c.args.read.now
+    c.loop-row.row c.passes.result
     c.requires.read c.columns-columns.ensures.columns c.passes.ensures in
     sym here ∙ same c.passes.result c.args.held c.if-passes-held.true
 
 pub loop-row-preserved : goal.loop-row-preserved
 loop-row-preserved c k low high =
-    let here = looked_at (tree_of c.args.plan.now) c.args.batch.now.columns c.columns-columns.result.now c.args.read.now c.loop-row.row c.passes.result
+    let here = looked_at (tree_of c.args.plan.now) c.args.batch.now.columns c.columns-columns.result.now c.args.read.now
+    c.loop-row.row c.passes.result
     c.requires.read c.columns-columns.ensures.columns c.passes.ensures in
     elim (cases_lt k c.loop-row.row) [
       | inl before ↦ c.loop-row.invariant k low before

@@ -11,13 +11,18 @@ use Rattle.typed_plan.proofs.binding.bind.Goals as goal
 pub returns-in_default-clause-bound : goal.returns-in_default-clause-bound
 returns-in_default-clause-bound c other =
     let query = sentence_of c.args.query.now in
-    let is_built : is_unbuilt query ≡ false = search (rules, c.is_empty.ensures, c.if-not-is_empty.false, c.is_grouped.ensures, c.if-is_grouped.false) in
+    let is_built : is_unbuilt query ≡ false =
+    search (rules, c.is_empty.ensures, c.if-not-is_empty.false, c.is_grouped.ensures, c.if-is_grouped.false) in
     missing query (tables_of c.args.catalog.now) is_built
-    (table_at-tables_of c.args.catalog.now query.first.table ∙ ap plain (sym c.get.ensures ∙ ap option_copied c.in_default.is))
+    (table_at-tables_of c.args.catalog.now query.first.table
+    ∙ ap plain (sym c.get.ensures ∙ ap option_copied c.in_default.is))
 
 pub returns-clause-bound : goal.returns-clause-bound
 returns-clause-bound c =
     let query = sentence_of c.args.query.now in
-    let is_built : is_unbuilt query ≡ false = search (rules, c.is_empty.ensures, c.if-not-is_empty.false, c.is_grouped.ensures, c.if-is_grouped.false) in
-    let there = table_at-tables_of c.args.catalog.now query.first.table ∙ ap plain (sym c.get.ensures ∙ ap option_copied c.in-Some.is) in
-    bound query (tables_of c.args.catalog.now) (table_of c.in-Some.table.now) is_built there c.bind_place.result c.bind_place.ensures.bound
+    let is_built : is_unbuilt query ≡ false =
+    search (rules, c.is_empty.ensures, c.if-not-is_empty.false, c.is_grouped.ensures, c.if-is_grouped.false) in
+    let there = table_at-tables_of c.args.catalog.now query.first.table
+    ∙ ap plain (sym c.get.ensures ∙ ap option_copied c.in-Some.is) in
+    bound query (tables_of c.args.catalog.now)
+    (table_of c.in-Some.table.now) is_built there c.bind_place.result c.bind_place.ensures.bound

@@ -13,7 +13,12 @@ invariant_of-result c =
     let scope = c.args.scope.now in
     let schema = c.args.schema.now in
     let none : plain_fault query scope ≡ None = search rules in
-    let is : plan_of (record { plan = c.in_ok-plan.plan; output = Project c.in_ok-columns.columns; schema = c.in_ok-columns.result }) ≡ plain_plan query scope schema =
+    let is : plan_of (record {
+      plan = c.in_ok-plan.plan;
+      output = Project c.in_ok-columns.columns;
+      schema =
+          c.in_ok-columns.result;
+    }) ≡ plain_plan query scope schema =
     search rules in
     let placed = rw c.requires at is in
     subst IsTyped (sym placed) (typed query schema (rw c.requires at none))

@@ -7,7 +7,12 @@ use Rattle.typed_plan.proofs.PlainSchema.{result_schema_is, if_bound}
 use Rattle.typed_plan.proofs.binding.bind_place.Goals as goal
 
 pub returns-clause-bound : goal.returns-clause-bound
-returns-clause-bound c = rw (c.in_ok-scope.ensures, c.name.ensures, c.as_slice.ensures, c.schema-schema.ensures.schema) at c.bind_parts.ensures
+returns-clause-bound c = rw (
+  c.in_ok-scope.ensures,
+  c.name.ensures,
+  c.as_slice.ensures,
+  c.schema-schema.ensures.schema,
+) at c.bind_parts.ensures
 
 pub returns-clause-named : goal.returns-clause-named
 returns-clause-named c names =
@@ -15,6 +20,8 @@ returns-clause-named c names =
     let schema = c.args.table.now.schema in
     let scope = place_scope query schema in
     let valid = subst IsSchema c.schema-schema.ensures.schema c.schema-schema.ensures.valid in
-    if_bound (plain_fault query scope) (λ plan. plan_of plan ≡ plain_plan query scope schema) (λ plan. IsSchema plan.schema) c.bind_parts.result
+    if_bound (plain_fault query scope) (λ plan. plan_of plan ≡ plain_plan query scope schema)
+    (λ plan. IsSchema plan.schema) c.bind_parts.result
     (returns-clause-bound c)
-    (λ plan none is. subst IsSchema (sym (ap (λ parts. parts.schema) is)) (result_schema_is query schema valid none names))
+    (λ plan none is. subst IsSchema (sym (ap (λ parts. parts.schema) is))
+    (result_schema_is query schema valid none names))

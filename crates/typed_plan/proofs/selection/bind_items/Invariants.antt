@@ -6,6 +6,7 @@ use Rattle.typed_plan.proofs.selection.bind_items.Given as goal
 abbrev pub invariant-loop-item : goal.invariant-loop-item
 invariant-loop-item l = record {
   numbers : l.numbers ≡ map (number_of_item l.scope) (take l.item-index l.items);
-  fields : list_fields l.scope 1 l.items ≡ l.fields ++ list_fields l.scope (1 + l.item-index) (drop l.item-index l.items);
+  fields : list_fields l.scope 1 l.items
+      ≡ l.fields ++ list_fields l.scope (1 + l.item-index) (drop l.item-index l.items);
   left : columns_fault l.scope l.items ≡ columns_fault l.scope (drop l.item-index l.items);
 }
