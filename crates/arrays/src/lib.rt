@@ -34,3 +34,5 @@ pub use crate::texts::Texts;
 mod dictionary_tests;
 #[cfg(test)]
 mod tests;
+#[cfg(test)]
+mod written_tests;

@@ -9,7 +9,7 @@ use std::process::Abort;
 use std::sync::Arc;
 use std::test::Fail;
 
-fn buffer(alloc: Global, bytes: &[u8]) -> Result<Bytes, AllocError> {
+pub(crate) fn buffer(alloc: Global, bytes: &[u8]) -> Result<Bytes, AllocError> {
     Bytes::copy_from_slice(alloc, bytes)
 }
 
@@ -28,23 +28,78 @@ fn assert_slots(
     Ok(())
 }
 
+// The same of cells that are not used again.
+fn assert_cells<C: Cells + Drop>(
+    rt: &impl Abort,
+    alloc: Global,
+    cells: C,
+    wanted: &[ValueRef<'_>],
+) -> Result<(), Fail> {
+    let asserted = assert_slots(rt, alloc, &cells, wanted);
+    drop(cells);
+    asserted
+}
+
+// Whether it is refused as a bad batch.
+fn is_bad<T: Drop>(made: Result<T, Fault>) -> bool {
+    let bad = matches!(&made, Err(Fault::BadBatch));
+    drop(made);
+    bad
+}
+
 const NULL: ValueRef<'static> = ValueRef::Null;
+
+// The slots of a column from one up to, not with, another. The column is not used again.
+pub(crate) fn part(
+    rt: &impl Abort,
+    column: Column,
+    from: usize,
+    to: usize,
+) -> Result<Column, Fail> {
+    assert!(rt; from <= to && to <= column.len());
+    let part = column.slice(from, to);
+    drop(column);
+    Ok(part?)
+}
+
+// The text `ab`, a null and a text of no byte.
+fn three_texts(alloc: Global) -> Result<Texts, Fault> {
+    let validity = buffer(alloc, &[0x05])?;
+    let offsets = buffer(alloc, &[0, 0, 0, 0, 2, 0, 0, 0, 2, 0, 0, 0, 2, 0, 0, 0])?;
+    Texts::new(Some(validity), offsets, buffer(alloc, b"ab")?, 3)
+}
 
 #[test]
 fn texts(rt: HostRuntime) -> Result<(), Fail> {
-    let alloc = rt.alloc();
-    let validity = buffer(alloc, &[0x05])?;
-    let offsets = buffer(alloc, &[0, 0, 0, 0, 2, 0, 0, 0, 2, 0, 0, 0, 2, 0, 0, 0])?;
-    let texts = Texts::new(Some(validity), offsets, buffer(alloc, b"ab")?, 3)?;
-    assert_slots(
+    let texts = three_texts(rt.alloc())?;
+    assert_cells(
         &rt,
-        alloc,
-        &texts,
+        rt.alloc(),
+        texts,
         &[ValueRef::Text("ab"), NULL, ValueRef::Text("")],
-    )?;
-    let column = Column::new(Layout::Texts(texts)).slice(1, 3)?;
-    assert_eq!(rt; (column.first(), column.is_empty()), (1, false));
-    assert_slots(&rt, alloc, &column, &[NULL, ValueRef::Text("")])
+    )
+}
+
+// A column begins at a place and has these slots. It is not used again.
+fn assert_column(
+    rt: &impl Abort,
+    alloc: Global,
+    column: Column,
+    first: usize,
+    wanted: &[ValueRef<'_>],
+) -> Result<(), Fail> {
+    assert_eq!(rt;
+        (column.first(), column.is_empty()),
+        (first, wanted.is_empty())
+    );
+    assert_cells(rt, alloc, column, wanted)
+}
+
+#[test]
+fn last_two_texts(rt: HostRuntime) -> Result<(), Fail> {
+    let texts = three_texts(rt.alloc())?;
+    let column = part(&rt, Column::new(Layout::Texts(texts)), 1, 3)?;
+    assert_column(&rt, rt.alloc(), column, 1, &[NULL, ValueRef::Text("")])
 }
 
 #[test]
@@ -52,10 +107,10 @@ fn bools(rt: HostRuntime) -> Result<(), Fail> {
     let alloc = rt.alloc();
     for values in [0x09, 0x0b] {
         let cells = Bools::new(Some(buffer(alloc, &[0x0d])?), buffer(alloc, &[values])?, 4)?;
-        assert_slots(
+        assert_cells(
             &rt,
             alloc,
-            &cells,
+            cells,
             &[
                 ValueRef::Bool(true),
                 NULL,
@@ -73,16 +128,15 @@ fn decimals(rt: HostRuntime) -> Result<(), Fail> {
     let mut values = [0xff; 32];
     values[31] = 0x7f;
     let cells = Decimals::new(None, buffer(alloc, &values)?, 2)?;
-    assert_slots(
+    assert_cells(
         &rt,
         alloc,
-        &cells,
+        cells,
         &[
             ValueRef::Int(-1),
             ValueRef::Int(170141183460469231731687303715884105727),
         ],
-    )?;
-    Ok(())
+    )
 }
 
 // So many numbers in eight bytes, and the first of them.
@@ -96,7 +150,9 @@ fn assert_first(
     let bytes = buffer(alloc, &[0xfe, 0xff, 0xff, 0xff, 0xff, 0xff, 0xff, 0xff])?;
     let cells = Integers::new(integer, None, bytes, count)?;
     assert!(rt; cells.len() == count && count > 0);
-    assert_eq!(rt; cells.value_at(0).to_value(alloc)?, Value::Int(first));
+    let value = cells.value_at(0).to_value(alloc);
+    drop(cells);
+    assert_eq!(rt; value?, Value::Int(first));
     Ok(())
 }
 
@@ -123,7 +179,7 @@ fn integers(rt: HostRuntime) -> Result<(), Fail> {
 // Whether 15 bytes are enough for so many numbers.
 fn fit(alloc: Global, integer: IntegerType, count: usize) -> Result<bool, Fail> {
     let cells = Integers::new(integer, None, buffer(alloc, &[0; 15])?, count);
-    Ok(!matches!(cells, Err(Fault::BadBatch)))
+    Ok(!is_bad(cells))
 }
 
 // How many numbers of each type 15 bytes hold.
@@ -153,11 +209,11 @@ fn short_buffers(rt: HostRuntime) -> Result<(), Fail> {
     let alloc = rt.alloc();
     let bits = Some(buffer(alloc, &[0xff])?);
     let integers = Integers::new(IntegerType::Int8, bits, buffer(alloc, &[0; 9])?, 9);
-    assert!(rt; matches!(integers, Err(Fault::BadBatch)));
+    assert!(rt; is_bad(integers));
     let decimals = Decimals::new(None, buffer(alloc, &[0; 31])?, 2);
-    assert!(rt; matches!(decimals, Err(Fault::BadBatch)));
+    assert!(rt; is_bad(decimals));
     let bools = Bools::new(None, buffer(alloc, &[0])?, 9);
-    assert!(rt; matches!(bools, Err(Fault::BadBatch)));
+    assert!(rt; is_bad(bools));
     Ok(())
 }
 
@@ -170,7 +226,7 @@ fn are_texts(alloc: Global, offsets: &[u8], bytes: &[u8], len: usize) -> Result<
         buffer(alloc, bytes)?,
         len,
     );
-    Ok(!matches!(texts, Err(Fault::BadBatch)))
+    Ok(!is_bad(texts))
 }
 
 // Offsets, data and a number of slots, and whether they are texts.
@@ -214,6 +270,12 @@ fn letters(alloc: Global, letters: &[u8]) -> Result<Texts, Fault> {
     Texts::new(None, offsets, buffer(alloc, letters)?, letters.len())
 }
 
+// A dictionary of these letters.
+fn dictionary(alloc: Global, texts: &[u8]) -> Result<Arc<Dictionary>, Fault> {
+    let values = Dictionary::new(alloc).extended(alloc, letters(alloc, texts)?)?;
+    Ok(Arc::new(alloc, values)?)
+}
+
 // Indices into a dictionary have these values.
 fn assert_indices(
     rt: &impl Abort,
@@ -225,22 +287,16 @@ fn assert_indices(
     let values = buffer(alloc, indices)?;
     let dictionary = Arc::try_clone(dictionary)?;
     let cells = Indices::new(IntegerType::Int8, None, values, dictionary, indices.len())?;
-    assert_slots(rt, alloc, &cells, wanted)
+    assert_cells(rt, alloc, cells, wanted)
 }
 
 // A dictionary `a`, then with `b` behind it, then `c` in its place; each column keeps its own.
 #[test]
 fn dictionaries(rt: HostRuntime) -> Result<(), Fail> {
     let alloc = rt.alloc();
-    let first = Arc::new(
-        alloc,
-        Dictionary::new(alloc).extended(alloc, letters(alloc, b"a")?)?,
-    )?;
+    let first = dictionary(alloc, b"a")?;
     let second = Arc::new(alloc, first.extended(alloc, letters(alloc, b"b")?)?)?;
-    let third = Arc::new(
-        alloc,
-        Dictionary::new(alloc).extended(alloc, letters(alloc, b"c")?)?,
-    )?;
+    let third = dictionary(alloc, b"c")?;
     assert_eq!(rt;
         (first.len(), second.len(), third.is_empty()),
         (1, 2, false)
@@ -254,35 +310,49 @@ fn dictionaries(rt: HostRuntime) -> Result<(), Fail> {
 // After the second dictionary went, its index 1 leads to nothing.
 #[test]
 fn index_past_the_dictionary(rt: HostRuntime) -> Result<(), Fail> {
-    let alloc = rt.alloc();
-    let values = Dictionary::new(alloc).extended(alloc, letters(alloc, b"c")?)?;
-    let dictionary = Arc::new(alloc, values)?;
-    let beyond = Indices::new(IntegerType::Int8, None, buffer(alloc, &[1])?, dictionary, 1);
-    assert!(rt; matches!(beyond, Err(Fault::BadBatch)));
+    let dictionary = dictionary(rt.alloc(), b"c")?;
+    let beyond = one_index(rt.alloc(), IntegerType::Int8, &[1], &dictionary);
+    assert!(rt; is_bad(beyond));
     Ok(())
+}
+
+// A dictionary of the text `x` and a null.
+pub(crate) fn text_and_null(alloc: Global) -> Result<Arc<Dictionary>, Fault> {
+    let validity = Some(buffer(alloc, &[0x01])?);
+    let offsets = buffer(alloc, &[0, 0, 0, 0, 1, 0, 0, 0, 1, 0, 0, 0])?;
+    let values = Texts::new(validity, offsets, buffer(alloc, b"x")?, 2)?;
+    Ok(Arc::new(alloc, Dictionary::new(alloc).extended(alloc, values)?)?)
+}
+
+// Three indices into it, the last of them null.
+fn three_indices(alloc: Global) -> Result<Indices, Fault> {
+    let validity = Some(buffer(alloc, &[0x03])?);
+    let values = buffer(alloc, &[0, 1, 9])?;
+    Indices::new(
+        IntegerType::UInt8,
+        validity,
+        values,
+        text_and_null(alloc)?,
+        3,
+    )
 }
 
 // A slot is null where its index is, and where the dictionary's value is.
 #[test]
 fn nulls_of_a_dictionary(rt: HostRuntime) -> Result<(), Fail> {
-    let alloc = rt.alloc();
-    let offsets = buffer(alloc, &[0, 0, 0, 0, 1, 0, 0, 0, 1, 0, 0, 0])?;
-    let values = Texts::new(
-        Some(buffer(alloc, &[0x01])?),
-        offsets,
-        buffer(alloc, b"x")?,
-        2,
-    )?;
-    let dictionary = Arc::new(alloc, Dictionary::new(alloc).extended(alloc, values)?)?;
-    let validity = Some(buffer(alloc, &[0x03])?);
-    let cells = Indices::new(
-        IntegerType::UInt8,
-        validity,
-        buffer(alloc, &[0, 1, 9])?,
-        dictionary,
-        3,
-    )?;
-    assert_slots(&rt, alloc, &cells, &[ValueRef::Text("x"), NULL, NULL])
+    let cells = three_indices(rt.alloc())?;
+    assert_cells(&rt, rt.alloc(), cells, &[ValueRef::Text("x"), NULL, NULL])
+}
+
+// One index of these bytes.
+fn one_index(
+    alloc: Global,
+    index: IntegerType,
+    bytes: &[u8],
+    dictionary: &Arc<Dictionary>,
+) -> Result<Indices, Fault> {
+    let dictionary = Arc::try_clone(dictionary)?;
+    Indices::new(index, None, buffer(alloc, bytes)?, dictionary, 1)
 }
 
 // Index 1 leads to `b`, and one of all ones to nothing.
@@ -292,12 +362,9 @@ fn assert_index(
     index: IntegerType,
     dictionary: &Arc<Dictionary>,
 ) -> Result<(), Fail> {
-    let one = buffer(alloc, &[1, 0, 0, 0, 0, 0, 0, 0])?;
-    let cells = Indices::new(index, None, one, Arc::try_clone(dictionary)?, 1)?;
-    assert_slots(rt, alloc, &cells, &[ValueRef::Text("b")])?;
-    let none = buffer(alloc, &[0xff; 8])?;
-    let refused = Indices::new(index, None, none, Arc::try_clone(dictionary)?, 1);
-    assert!(rt; matches!(refused, Err(Fault::BadBatch)));
+    let cells = one_index(alloc, index, &[1, 0, 0, 0, 0, 0, 0, 0], dictionary)?;
+    assert_cells(rt, alloc, cells, &[ValueRef::Text("b")])?;
+    assert!(rt; is_bad(one_index(alloc, index, &[0xff; 8], dictionary)));
     Ok(())
 }
 
@@ -305,8 +372,7 @@ fn assert_index(
 #[test]
 fn index_types(rt: HostRuntime) -> Result<(), Fail> {
     let alloc = rt.alloc();
-    let values = Dictionary::new(alloc).extended(alloc, letters(alloc, b"ab")?)?;
-    let dictionary = Arc::new(alloc, values)?;
+    let dictionary = dictionary(alloc, b"ab")?;
     let sample = [
         IntegerType::Int8,
         IntegerType::Int16,
@@ -323,126 +389,53 @@ fn index_types(rt: HostRuntime) -> Result<(), Fail> {
     Ok(())
 }
 
-// The rows of a part of a batch, and a batch without columns.
-#[test]
-fn batches(rt: HostRuntime) -> Result<(), Fail> {
-    let alloc = rt.alloc();
+// The second and third row of a batch, which is not used again.
+fn last_rows(rt: &impl Abort, alloc: Global, batch: Batch) -> Result<Batch, Fail> {
+    assert!(rt; batch.rows() >= 3);
+    let rows = batch.slice(alloc, 1, 3);
+    drop(batch);
+    Ok(rows?)
+}
+
+// The numbers 5, 6 and 7 in one column.
+fn three_rows(alloc: Global) -> Result<Batch, Fault> {
     let cells = Integers::new(IntegerType::Int8, None, buffer(alloc, &[5, 6, 7])?, 3)?;
     let mut columns = Vec::new(alloc);
     columns.push(Column::new(Layout::Integers(cells)))?;
-    let rows = Batch::new(columns, 3).slice(alloc, 1, 3)?;
-    assert_eq!(rt; (rows.rows(), rows.columns().len()), (2, 1));
-    for column in rows.columns() {
-        assert_slots(&rt, alloc, column, &[ValueRef::Int(6), ValueRef::Int(7)])?;
-    }
-    let none = Batch::new(Vec::new(alloc), 4).slice(alloc, 1, 3)?;
-    assert_eq!(rt; (none.rows(), none.columns().len()), (2, 0));
-    Ok(())
+    Ok(Batch::new(columns, 3))
 }
 
-// A column is written as these buffers, and so many of its slots are null.
-fn assert_written(
+// A batch has two rows, and so many columns of these slots.
+fn assert_two_rows(
     rt: &impl Abort,
     alloc: Global,
-    column: &Column,
-    nulls: usize,
-    wanted: &[&[u8]],
+    batch: &Batch,
+    columns: usize,
+    wanted: &[ValueRef<'_>],
 ) -> Result<(), Fail> {
-    assert_eq!(rt;
-        (column.null_count(), column.buffer_count()),
-        (nulls, wanted.len())
-    );
-    assert!(rt; column.may_have_nulls() || nulls == 0);
-    let Some(_) = column.texts_length() else {
-        return Ok(());
-    };
-    for index in 0..column.buffer_count() {
-        let mut out = vec![in alloc; 9]?;
-        column.append_buffer(index, &mut out)?;
-        assert_eq!(rt; &out[1..], wanted[index], "buffer {index}");
-        assert_eq!(rt; column.buffer_length(index), Some(wanted[index].len()));
+    assert_eq!(rt; (batch.rows(), batch.columns().len()), (2, columns));
+    for column in batch.columns() {
+        assert_slots(rt, alloc, column, wanted)?;
     }
     Ok(())
 }
 
-// Of three numbers the first two are not written, and the bit of the second is not either.
+// The rows of a part of a batch.
 #[test]
-fn written_integers(rt: HostRuntime) -> Result<(), Fail> {
-    let alloc = rt.alloc();
-    let validity = Some(buffer(alloc, &[0x05])?);
-    let cells = Integers::new(
-        IntegerType::Int16,
-        validity,
-        buffer(alloc, &[5, 0, 6, 0, 7, 0])?,
-        3,
-    )?;
-    let column = Column::new(Layout::Integers(cells));
-    assert_written(&rt, alloc, &column, 1, &[&[0x05], &[5, 0, 6, 0, 7, 0]])?;
-    assert_written(
-        &rt,
-        alloc,
-        &column.slice(1, 3)?,
-        1,
-        &[&[0x02], &[6, 0, 7, 0]],
-    )?;
-    assert_written(&rt, alloc, &column.slice(2, 3)?, 0, &[&[], &[7, 0]])
+fn batches(rt: HostRuntime) -> Result<(), Fail> {
+    let rows = last_rows(&rt, rt.alloc(), three_rows(rt.alloc())?)?;
+    let wanted = [ValueRef::Int(6), ValueRef::Int(7)];
+    let asserted = assert_two_rows(&rt, rt.alloc(), &rows, 1, &wanted);
+    drop(rows);
+    asserted
 }
 
-// More bits than a word has, from the third of a byte on, and the bits of three bytes for fewer.
+// A batch without columns has rows too.
 #[test]
-fn written_bools(rt: HostRuntime) -> Result<(), Fail> {
-    let alloc = rt.alloc();
-    let cells = Bools::new(None, buffer(alloc, &[0xff; 9])?, 72)?;
-    let column = Column::new(Layout::Bools(cells)).slice(3, 70)?;
-    let wanted = [0xff, 0xff, 0xff, 0xff, 0xff, 0xff, 0xff, 0xff, 0x07];
-    assert_written(&rt, alloc, &column, 0, &[&[], &wanted])?;
-    let cells = Bools::new(None, buffer(alloc, &[0x0b])?, 4)?;
-    let column = Column::new(Layout::Bools(cells)).slice(1, 4)?;
-    assert_written(&rt, alloc, &column, 0, &[&[], &[0x05]])
-}
-
-#[test]
-fn written_decimals(rt: HostRuntime) -> Result<(), Fail> {
-    let alloc = rt.alloc();
-    let mut values = [0; 32];
-    values[16] = 1;
-    let cells = Decimals::new(None, buffer(alloc, &values)?, 2)?;
-    let column = Column::new(Layout::Decimals(cells)).slice(1, 2)?;
-    let wanted = [1, 0, 0, 0, 0, 0, 0, 0, 0, 0, 0, 0, 0, 0, 0, 0];
-    assert_written(&rt, alloc, &column, 0, &[&[], &wanted])
-}
-
-// The bytes of a null are not written, nor those in front of a slice.
-#[test]
-fn written_texts(rt: HostRuntime) -> Result<(), Fail> {
-    let alloc = rt.alloc();
-    let offsets = buffer(alloc, &[0, 0, 0, 0, 1, 0, 0, 0, 2, 0, 0, 0, 4, 0, 0, 0])?;
-    let validity = Some(buffer(alloc, &[0x05])?);
-    let texts = Texts::new(validity, offsets, buffer(alloc, b"abcd")?, 3)?;
-    let column = Column::new(Layout::Texts(texts));
-    let offsets = [0, 0, 0, 0, 1, 0, 0, 0, 1, 0, 0, 0, 3, 0, 0, 0];
-    assert_written(&rt, alloc, &column, 1, &[&[0x05], &offsets, b"acd"])?;
-    let offsets = [0, 0, 0, 0, 0, 0, 0, 0, 2, 0, 0, 0];
-    assert_written(
-        &rt,
-        alloc,
-        &column.slice(1, 3)?,
-        1,
-        &[&[0x02], &offsets, b"cd"],
-    )
-}
-
-// Indices are written as the texts that they lead to, and as null where those are.
-#[test]
-fn written_indices(rt: HostRuntime) -> Result<(), Fail> {
-    let alloc = rt.alloc();
-    let offsets = buffer(alloc, &[0, 0, 0, 0, 1, 0, 0, 0, 1, 0, 0, 0])?;
-    let validity = Some(buffer(alloc, &[0x01])?);
-    let values = Texts::new(validity, offsets, buffer(alloc, b"x")?, 2)?;
-    let dictionary = Arc::new(alloc, Dictionary::new(alloc).extended(alloc, values)?)?;
-    let indices = buffer(alloc, &[0, 1, 0])?;
-    let cells = Indices::new(IntegerType::Int8, None, indices, dictionary, 3)?;
-    let column = Column::new(Layout::Indices(cells));
-    let offsets = [0, 0, 0, 0, 1, 0, 0, 0, 1, 0, 0, 0, 2, 0, 0, 0];
-    assert_written(&rt, alloc, &column, 1, &[&[0x05], &offsets, b"xx"])
+fn no_columns(rt: HostRuntime) -> Result<(), Fail> {
+    let batch = Batch::new(Vec::new(rt.alloc()), 4);
+    let rows = last_rows(&rt, rt.alloc(), batch)?;
+    let asserted = assert_two_rows(&rt, rt.alloc(), &rows, 0, &[]);
+    drop(rows);
+    asserted
 }
