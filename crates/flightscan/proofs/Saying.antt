@@ -6,6 +6,7 @@ use Rattle.grpc_frame.specs.Ends.{AppendsBeginning, CountsFailure, Writes}
 use Rattle.grpc_frame.proofs.Growing.{beginning_of_head, beginning_of_content, content_behind}
 use Rattle.flight_calls.specs.Owed.{Connection, Serves}
 use Rattle.flightscan.specs.Pipe.{fault_line, Said, Says, Pipes}
+use Rattle.flightscan.specs.declared.exit_status.ExitStatus.TheVariants.{FaultAtThisEnd}
 
 -- the line's head, its text and its end
 
@@ -23,5 +24,5 @@ line_ended : {A E : Type 0} (r : Result A E) (old new : Said) (line : List ℕ) 
 line_ended (Ok x) old new line w n = inl (w, n)
 line_ended (Err e) old new line w n = inr (w, n)
 
-pub piped_badly : {A E : Type 0} (r : Result A E) (fault : Fault) (old new : Connection) (a b : Said) → Serves (Err fault) old new → Writes r a.bytes b.bytes (fault_line fault) → CountsFailure r a.failures b.failures → Pipes 3 old new a b
+pub piped_badly : {A E : Type 0} (r : Result A E) (fault : Fault) (old new : Connection) (a b : Said) → Serves (Err fault) old new → Writes r a.bytes b.bytes (fault_line fault) → CountsFailure r a.failures b.failures → Pipes FaultAtThisEnd old new a b
 piped_badly r fault old new a b served w n = inr (record { status_is = refl; fault = fault; served = served; says = line_ended r a b (fault_line fault) w n })

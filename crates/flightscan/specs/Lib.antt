@@ -1,1 +1,3 @@
+pub mod Status
 pub mod Pipe
+pub mod Run

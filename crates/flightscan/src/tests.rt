@@ -4,10 +4,11 @@
 ghost use Rattle.std.specs.Prelude.{◌<◌};
 
 use crate::pipe::pipe;
+use crate::run::run;
 use arrays::Cells;
 use arrow_schema::{DataType, IntegerType};
 use flight_proto::FlightData;
-use grpc_frame::{Inbox, MemoryInput, MemoryOutput, Record};
+use grpc_frame::{Inbox, Input, MemoryInput, MemoryOutput, Output, Record};
 use ipc_batch::Reader;
 use scan_base::{Fault, ValueRef};
 use std::alloc::{AllocError, Global};
@@ -97,7 +98,7 @@ fn piped(alloc: Global, bytes: &[u8], most: usize) -> (u8, MemoryOutput, MemoryO
     let mut reader = MemoryInput::new(bytes).in_pieces_of(most);
     let mut writer = MemoryOutput::new(alloc);
     let mut faults = MemoryOutput::new(alloc);
-    let status = pipe(alloc, &mut reader, &mut writer, &mut faults);
+    let status = pipe(alloc, &mut reader, &mut writer, &mut faults).number();
     (status, writer, faults)
 }
 
@@ -295,6 +296,78 @@ fn a_put_twice(rt: HostRuntime) -> Result<(), Fail> {
 
 const PUT_PATH: &[u8] = b"\x01\x00\x2a/arrow.flight.protocol.FlightService/DoPut";
 
+// A put that appends to `t`, up to its first batch; a batch of two rows; and one whose body has 8 bytes of 16.
+const APPEND: [&[u8]; 5] = [
+    PUT_PATH,
+    b"\x02\x00\x00\x00\x00\xc7\x0a\x53\x08\x02\x12\x4f\x0a\x44",
+    b"type.googleapis.com/arrow.flight.protocol.sql.CommandStatementIngest",
+    b"\x12\x07\x0a\x02\x10\x02\x12\x01t\x12\x70",
+    &SCHEMA_HEADER,
+];
+
+const BATCH: [&[u8]; 4] = [
+    b"\x02\x00\x00\x00\x00\x96\x12\x80\x01",
+    &BATCH_HEADER,
+    b"\xc2\x3e\x10",
+    &BODY,
+];
+
+const SHORT_BATCH: [&[u8]; 3] = [
+    b"\x02\x00\x00\x00\x00\x8e\x12\x80\x01",
+    &BATCH_HEADER,
+    b"\xc2\x3e\x08\x01\x00\x00\x00\x00\x00\x00\x00",
+];
+
+// Rows 0 to 4 at version 2, and at version 3.
+const NEXT_HANDLE: &[u8] =
+    b"\x01\x00\x00\x00\x00\x00\x00\x00\x02\x00\x00\x00\x00\x00\x00\x00\x04SELECT * FROM t";
+
+const THIRD_HANDLE: &[u8] =
+    b"\x01\x00\x00\x00\x00\x00\x00\x00\x03\x00\x00\x00\x00\x00\x00\x00\x04SELECT * FROM t";
+
+// A put of two rows; an append of three batches, the third broken; and an append of one batch.
+fn three_puts(alloc: Global) -> Result<Vec<u8>, AllocError> {
+    let put = put(alloc)?;
+    let append = joined(alloc, &APPEND)?;
+    let batch = joined(alloc, &BATCH)?;
+    let broken = joined(alloc, &SHORT_BATCH)?;
+    joined(
+        alloc,
+        &[
+            &put, &append, &batch, &batch, &broken, b"\x03", &append, &batch, b"\x03",
+        ],
+    )
+}
+
+// The same, and two fetches behind them.
+fn puts_and_fetches(alloc: Global) -> Result<Vec<u8>, AllocError> {
+    let puts = three_puts(alloc)?;
+    let next = fetch(alloc, NEXT_HANDLE)?;
+    let third = fetch(alloc, THIRD_HANDLE)?;
+    joined(alloc, &[&puts, &next, &third])
+}
+
+// A put whose third batch is broken leaves the table as before, and the next accepted put makes the next version.
+#[test]
+fn a_broken_third_batch(rt: HostRuntime) -> Result<(), Fail> {
+    let bytes = puts_and_fetches(rt.alloc())?;
+    let (status, written, said) = piped(rt.alloc(), &bytes, 65_536);
+    assert_eq!(rt; (status, said.as_slice()), (0, b"".as_slice()));
+    let front = joined(
+        rt.alloc(),
+        &[PUT_ANSWER, b"\x04\x03\x00\x0bF8 BadBatch", PUT_ANSWER],
+    )?;
+    let rest = written.as_slice().strip_prefix(&front).unwrap_or(&[]);
+    let unknown = b"\x04\x05\x00\x12F18 VersionUnknown".as_slice();
+    let answer = rest.strip_suffix(unknown).unwrap_or(&[]);
+    let told = told(rt.alloc(), answer)?;
+    assert_eq!(rt;
+        (told.rows.as_slice(), told.code),
+        ([1i128, 2, 1, 2].as_slice(), Some(0))
+    );
+    Ok(())
+}
+
 const BAD_FRAME: &[u8] = b"\x04\x03\x00\x0bF1 BadFrame";
 
 const BAD_FRAME_LINE: &[u8] = b"fault: F1 BadFrame\n";
@@ -357,7 +430,7 @@ fn each_read(rt: HostRuntime) -> Result<(), Fail> {
             .failing_after(calls);
         let mut writer = MemoryOutput::new(rt.alloc());
         let mut faults = MemoryOutput::new(rt.alloc());
-        let status = pipe(rt.alloc(), &mut reader, &mut writer, &mut faults);
+        let status = pipe(rt.alloc(), &mut reader, &mut writer, &mut faults).number();
         let (code, want, line) = match calls {
             0 | 1 => (3, b"".as_slice(), TRANSPORT_LINE),
             2 => (3, PUT_ANSWER, TRANSPORT_LINE),
@@ -382,7 +455,7 @@ fn each_write(rt: HostRuntime) -> Result<(), Fail> {
         let mut reader = MemoryInput::new(&bytes);
         let mut writer = MemoryOutput::new(rt.alloc()).failing_after(calls);
         let mut faults = MemoryOutput::new(rt.alloc());
-        let status = pipe(rt.alloc(), &mut reader, &mut writer, &mut faults);
+        let status = pipe(rt.alloc(), &mut reader, &mut writer, &mut faults).number();
         let (code, line) = if calls < 8 {
             (3, TRANSPORT_LINE)
         } else {
@@ -406,8 +479,80 @@ fn a_fault_that_cannot_be_said(rt: HostRuntime) {
         let mut reader = MemoryInput::new(b"\x05");
         let mut writer = MemoryOutput::new(rt.alloc());
         let mut faults = MemoryOutput::new(rt.alloc()).failing_after(calls);
-        let status = pipe(rt.alloc(), &mut reader, &mut writer, &mut faults);
+        let status = pipe(rt.alloc(), &mut reader, &mut writer, &mut faults).number();
         let begun = b"fault: F1 BadFrame\n".starts_with(faults.as_slice());
-        assert_eq!(rt; (status, begun), (3, true), "after {calls}");
+        assert_eq!(rt;
+            (status, writer.as_slice(), begun),
+            (3, BAD_FRAME, true),
+            "after {calls}"
+        );
     }
+}
+
+// The first word is the program's name.
+fn words(alloc: Global, line: &[&str]) -> Result<Vec<String>, AllocError> {
+    let mut words = Vec::new(alloc);
+    words.push(String::from_str(alloc, "flightscan")?)?;
+    for word in line {
+        words.push(String::from_str(alloc, word)?)?;
+    }
+    Ok(words)
+}
+
+// Each read and each write would fail, and be counted.
+#[test]
+fn refused_command_lines(rt: HostRuntime) -> Result<(), Fail> {
+    let table: [(&[&str], &[u8]); 5] = [
+        (&[], b"error: "),
+        (&["pipes"], b"error: unrecognized subcommand 'pipes'"),
+        (
+            &["pipe", "more"],
+            b"error: unexpected argument 'more' found",
+        ),
+        (&["--help"], b"Usage: flightscan"),
+        (&["pipe", "--help"], b"Usage: flightscan pipe"),
+    ];
+    for (line, text) in table {
+        let words = words(rt.alloc(), line)?;
+        let mut reader = MemoryInput::new(b"\x05").failing_after(0);
+        let mut writer = MemoryOutput::new(rt.alloc()).failing_after(0);
+        let mut faults = MemoryOutput::new(rt.alloc());
+        let status = run(rt.alloc(), &words, &mut reader, &mut writer, &mut faults).number();
+        let calls = (reader.failures(), writer.failures());
+        let said = faults.as_slice().starts_with(text);
+        assert_eq!(rt; (status, calls, said), (2, (0, 0), true), "{line:?}");
+    }
+    Ok(())
+}
+
+#[test]
+fn a_refusal_that_cannot_be_said(rt: HostRuntime) -> Result<(), Fail> {
+    let words = words(rt.alloc(), &["pipes"])?;
+    let mut reader = MemoryInput::new(b"\x05").failing_after(0);
+    let mut writer = MemoryOutput::new(rt.alloc()).failing_after(0);
+    let mut faults = MemoryOutput::new(rt.alloc()).failing_after(0);
+    let status = run(rt.alloc(), &words, &mut reader, &mut writer, &mut faults).number();
+    let calls = (reader.failures(), writer.failures(), faults.failures());
+    assert_eq!(rt; (status, calls), (2, (0, 0, 1)));
+    Ok(())
+}
+
+#[test]
+fn the_command_pipe(rt: HostRuntime) -> Result<(), Fail> {
+    let words = words(rt.alloc(), &["pipe"])?;
+    let put = put(rt.alloc())?;
+    for (bytes, code, want, line) in [
+        (put.as_slice(), 0, PUT_ANSWER, b"".as_slice()),
+        (b"\x05", 3, BAD_FRAME, BAD_FRAME_LINE),
+    ] {
+        let mut reader = MemoryInput::new(bytes);
+        let mut writer = MemoryOutput::new(rt.alloc());
+        let mut faults = MemoryOutput::new(rt.alloc());
+        let status = run(rt.alloc(), &words, &mut reader, &mut writer, &mut faults).number();
+        assert_eq!(rt;
+            (status, writer.as_slice(), faults.as_slice()),
+            (code, want, line)
+        );
+    }
+    Ok(())
 }
