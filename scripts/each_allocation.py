@@ -1,0 +1,74 @@
+#!/usr/bin/env python3
+"""Runs `flightscan pipe` with each of its allocations refused in turn, and looks at what it writes.
+
+The input is the first run's put, the same put again, and two fetches of version 1. With one allocation refused, each
+answer is whole or has status F21; the first put is there exactly where its status is 0, and else the second put makes
+version 1; where the connection ends, whole answers and a status F21 were written; and where the command line could not
+be read, nothing was. Build the program first (`cd crates/flightscan && rt run -- pipe < stdin > /dev/null`). It needs a
+C compiler, and runs in a few seconds.
+"""
+
+import collections
+import os
+import pathlib
+import subprocess
+import sys
+import tempfile
+
+ROOT = pathlib.Path(__file__).resolve().parent.parent
+CRATE = ROOT / "crates/flightscan"
+PUT_LENGTH = 407
+
+MADE = bytes.fromhex("02 00 00 00 00 04 0A 02 08 02 04 00 00 00")
+EXISTS = bytes.fromhex("04 06 00 0F") + b"F10 TableExists"
+REFUSED = bytes.fromhex("04 08 00 0F") + b"F21 OutOfMemory"
+FAULT_LINE = b"fault: F21 OutOfMemory\n"
+COMMAND_LINE = b"error: out of memory\n"
+
+
+def allowed(rows):
+    """Each outcome that may be: what is written, what is said and the exit status, with a name."""
+    whole = [MADE, EXISTS, rows, rows]
+    outcomes = {(b"".join(whole), b"", 0): "all whole", (b"", COMMAND_LINE, 2): "command line refused"}
+    outcomes[b"", b"", 2] = "command line not read"
+    outcomes[REFUSED + MADE + rows + rows, b"", 0] = "first put refused"
+    for place, name in [(1, "second put refused"), (2, "first fetch refused"), (3, "second fetch refused")]:
+        outcomes[b"".join(whole[:place] + [REFUSED] + whole[place + 1 :]), b"", 0] = name
+    for done in range(5):
+        outcomes[b"".join(whole[:done]) + REFUSED, FAULT_LINE, 3] = f"connection ended behind {done} answers"
+    return outcomes
+
+
+def run(program, bytes_in, shim, number, counted):
+    preload = {"LD_PRELOAD": str(shim), "REFUSED": str(number), "COUNTED": str(counted)}
+    done = subprocess.run([program, "pipe"], input=bytes_in, capture_output=True, env=os.environ | preload)
+    return done.stdout, done.stderr, done.returncode
+
+
+def main():
+    program = sys.argv[1] if len(sys.argv) > 1 else str(CRATE / "out/flightscan")
+    first_run = (CRATE / "stdin").read_bytes()
+    put, fetch = first_run[:PUT_LENGTH], first_run[PUT_LENGTH:]
+    answers = (CRATE / "stdout").read_bytes()
+    assert answers.startswith(MADE)
+    outcomes = allowed(answers[len(MADE) :])
+    seen = collections.Counter()
+    with tempfile.TemporaryDirectory() as folder:
+        shim = pathlib.Path(folder) / "refuse_allocation.so"
+        source = ROOT / "scripts/refuse_allocation.c"
+        subprocess.run(["cc", "-shared", "-fPIC", "-O1", "-o", shim, source, "-ldl"], check=True)
+        counted = pathlib.Path(folder) / "counted"
+        run(program, put + put + fetch + fetch, shim, 0, counted)
+        allocations = int(counted.read_text())
+        for number in range(1, allocations + 1):
+            outcome = run(program, put + put + fetch + fetch, shim, number, counted)
+            if outcome not in outcomes:
+                sys.exit(f"allocation {number}: status {outcome[2]}, said {outcome[1]}, wrote {outcome[0].hex(' ')}")
+            seen[outcomes[outcome]] += 1
+    print(f"{allocations} allocations, each refused in turn")
+    for name, times in seen.items():
+        print(f"{times:5} {name}")
+
+
+if __name__ == "__main__":
+    main()
