@@ -9,6 +9,7 @@ use crate::{
 use bytes::Bytes;
 use scan_base::Fault;
 use std::alloc::{AllocError, Global};
+use std::process::Abort;
 use std::test::Fail;
 
 pub(crate) static INGEST_URL: &str =
@@ -43,56 +44,82 @@ fn last_of_data(rt: HostRuntime) -> Result<(), Fail> {
     Ok(())
 }
 
-#[test]
-fn ingests_merged_and_skipped(rt: HostRuntime) {
-    let with = |table_definition_options| CommandStatementIngest {
-        table_definition_options,
+// An ingest into the table `t` with these options.
+fn ingest_with(if_not_exist: u32, if_exists: u32) -> CommandStatementIngest<'static> {
+    CommandStatementIngest {
+        table_definition_options: options(if_not_exist, if_exists),
         ..plain_ingest()
-    };
-    let table: [(&[u8], Result<CommandStatementIngest, Fault>); 12] = [
+    }
+}
+
+#[test]
+fn options_of_ingests(rt: HostRuntime) {
+    let table: [(&[u8], CommandStatementIngest); 5] = [
         // Options in two payloads, and as one; the last value of each counts.
         (
             b"\x0a\x02\x08\x02\x12\x01t\x0a\x02\x10\x01",
-            Ok(with(options(2, 1))),
+            ingest_with(2, 1),
         ),
-        (
-            b"\x0a\x04\x08\x02\x10\x01\x12\x01t",
-            Ok(with(options(2, 1))),
-        ),
+        (b"\x0a\x04\x08\x02\x10\x01\x12\x01t", ingest_with(2, 1)),
         (
             b"\x0a\x06\x08\x01\x08\x02\x10\x01\x12\x01u\x12\x01t",
-            Ok(with(options(2, 1))),
+            ingest_with(2, 1),
         ),
         // The low 32 bits of an enum's varint.
         (
             b"\x12\x01t\x0a\x06\x08\x81\x80\x80\x80\x10",
-            Ok(with(options(1, 0))),
+            ingest_with(1, 0),
         ),
         // Known numbers with another wire type, and an unknown number.
         (
             b"\x12\x01t\x08\x01\x10\x01\x2a\x01a\x0a\x02\x0a\x00",
-            Ok(with(options(0, 0))),
+            ingest_with(0, 0),
         ),
-        (
-            b"\x12\x01t\x3a\x01\xff\x35\x00\x00\x00\x00",
-            Ok(plain_ingest()),
-        ),
-        // A bool that is not 0, and is 0 at last.
-        (b"\x12\x01t\x28\x02\x28\x00", Ok(plain_ingest())),
-        // Options that are a map's entries are not read.
-        (
-            b"\x12\x01t\xc2\x3e\x03\x0a\x01\xff\xc2\x3e\x01\x0a",
-            Ok(plain_ingest()),
-        ),
-        // No UTF-8 in a text, also where another takes its place.
-        (b"\x12\x01\xff\x12\x01t", Err(Fault::BadProto)),
-        (b"\x12\x01t\x1a\x02\xc3\x28\x1a\x00", Err(Fault::BadProto)),
-        // An embedded message, and a field, that do not read.
-        (b"\x12\x01t\x0a\x01\x08", Err(Fault::BadProto)),
-        (b"\x12\x02t", Err(Fault::BadProto)),
     ];
     for (bytes, want) in table {
-        assert_eq!(rt; CommandStatementIngest::read(bytes), want, "of {bytes:?}");
+        assert_eq!(rt;
+            CommandStatementIngest::read(bytes),
+            Ok(want),
+            "of {bytes:?}"
+        );
+    }
+}
+
+#[test]
+fn plain_ingests(rt: HostRuntime) {
+    let table: [&[u8]; 3] = [
+        // An unknown number, and a known one with another wire type.
+        b"\x12\x01t\x3a\x01\xff\x35\x00\x00\x00\x00",
+        // A bool that is not 0, and is 0 at last.
+        b"\x12\x01t\x28\x02\x28\x00",
+        // Options that are a map's entries are not read.
+        b"\x12\x01t\xc2\x3e\x03\x0a\x01\xff\xc2\x3e\x01\x0a",
+    ];
+    for bytes in table {
+        assert_eq!(rt;
+            CommandStatementIngest::read(bytes),
+            Ok(plain_ingest()),
+            "of {bytes:?}"
+        );
+    }
+}
+
+#[test]
+fn ingests_that_do_not_read(rt: HostRuntime) {
+    let table: [&[u8]; 4] = [
+        // No UTF-8 in a text, also where another takes its place.
+        b"\x12\x01\xff\x12\x01t",
+        b"\x12\x01t\x1a\x02\xc3\x28\x1a\x00",
+        // An embedded message, and a field, that do not read.
+        b"\x12\x01t\x0a\x01\x08",
+        b"\x12\x02t",
+    ];
+    for bytes in table {
+        assert_eq!(rt;
+            CommandStatementIngest::read(bytes),
+            Err(Fault::BadProto),
+            "of {bytes:?}"
+        );
     }
 }
 
@@ -135,62 +162,89 @@ pub(crate) fn first_message(
     Ok(first)
 }
 
+// What is read of a put's first message, with a descriptor of this type.
+fn ingest_in(
+    rt: &impl Abort,
+    alloc: Global,
+    descriptor_type: u32,
+    type_url: &str,
+    value: &[u8],
+    want: Result<Ingest, Fault>,
+) -> Result<(), Fail> {
+    let first = first_message(alloc, descriptor_type, type_url, value)?;
+    assert_eq!(rt; read_ingest(&first), want, "of {value:?} at {type_url}");
+    Ok(())
+}
+
 #[test]
-fn ingests_and_their_faults(rt: HostRuntime) -> Result<(), Fail> {
-    let url = INGEST_URL;
-    let ok = Ok(Ingest {
+fn ingests(rt: HostRuntime) -> Result<(), Fail> {
+    let want = Ok(Ingest {
         table: "t",
         if_not_exist: IfNotExist::Unspecified,
         if_exists: IfExists::Unspecified,
     });
-    let table: [(u32, &str, &[u8], Result<Ingest, Fault>); 18] = [
-        (2, url, b"\x12\x01t", ok),
+    let table: [(&str, &[u8]); 5] = [
+        (INGEST_URL, b"\x12\x01t"),
         (
-            2,
             "a/b/arrow.flight.protocol.sql.CommandStatementIngest",
             b"\x12\x01t",
-            ok,
         ),
         (
-            2,
             "/arrow.flight.protocol.sql.CommandStatementIngest",
             b"\x12\x01t",
-            ok,
         ),
         (
-            2,
-            url,
+            INGEST_URL,
             b"\x0a\x00\x12\x01t\x1a\x00\x22\x00\x28\x00\x32\x00",
-            ok,
         ),
-        (2, url, b"\x12\x01t\xc2\x3e\x03\x0a\x01\xff", ok),
-        (0, url, b"\x12\x01t", Err(Fault::UnknownCommand)),
-        (1, url, b"\x12\x01t", Err(Fault::UnknownCommand)),
-        (3, url, b"\x12\x01t", Err(Fault::UnknownCommand)),
-        (
-            2,
-            "arrow.flight.protocol.sql.CommandStatementIngest",
-            b"",
-            Err(Fault::UnknownCommand),
-        ),
+        (INGEST_URL, b"\x12\x01t\xc2\x3e\x03\x0a\x01\xff"),
+    ];
+    for (type_url, value) in table {
+        ingest_in(&rt, rt.alloc(), 2, type_url, value, want)?;
+    }
+    Ok(())
+}
+
+#[test]
+fn no_ingests(rt: HostRuntime) -> Result<(), Fail> {
+    let table: [(u32, &str, &[u8]); 6] = [
+        (0, INGEST_URL, b"\x12\x01t"),
+        (1, INGEST_URL, b"\x12\x01t"),
+        (3, INGEST_URL, b"\x12\x01t"),
+        (2, "arrow.flight.protocol.sql.CommandStatementIngest", b""),
         (
             2,
             "a/arrow.flight.protocol.sql.CommandStatementIngest/b",
             b"",
-            Err(Fault::UnknownCommand),
         ),
-        (2, TICKET_URL, b"", Err(Fault::UnknownCommand)),
-        (2, url, b"\x12\x02t", Err(Fault::BadProto)),
-        (2, url, b"\x0a\x02\x08\x03\x1a\x01s", Err(Fault::BadProto)),
-        (2, url, b"\x0a\x02\x10\x04", Err(Fault::BadProto)),
-        (2, url, b"\x1a\x01s", Err(Fault::NotInSubset)),
-        (2, url, b"\x22\x01c", Err(Fault::NotInSubset)),
-        (2, url, b"\x28\x01", Err(Fault::NotInSubset)),
-        (2, url, b"\x32\x01x", Err(Fault::NotInSubset)),
+        (2, TICKET_URL, b""),
     ];
-    for (descriptor_type, type_url, value, want) in table {
-        let first = first_message(rt.alloc(), descriptor_type, type_url, value)?;
-        assert_eq!(rt; read_ingest(&first), want, "of {value:?} at {type_url}");
+    for (descriptor_type, type_url, value) in table {
+        ingest_in(
+            &rt,
+            rt.alloc(),
+            descriptor_type,
+            type_url,
+            value,
+            Err(Fault::UnknownCommand),
+        )?;
+    }
+    Ok(())
+}
+
+#[test]
+fn refused_ingests(rt: HostRuntime) -> Result<(), Fail> {
+    let table: [(&[u8], Fault); 7] = [
+        (b"\x12\x02t", Fault::BadProto),
+        (b"\x0a\x02\x08\x03\x1a\x01s", Fault::BadProto),
+        (b"\x0a\x02\x10\x04", Fault::BadProto),
+        (b"\x1a\x01s", Fault::NotInSubset),
+        (b"\x22\x01c", Fault::NotInSubset),
+        (b"\x28\x01", Fault::NotInSubset),
+        (b"\x32\x01x", Fault::NotInSubset),
+    ];
+    for (value, fault) in table {
+        ingest_in(&rt, rt.alloc(), 2, INGEST_URL, value, Err(fault))?;
     }
     Ok(())
 }
