@@ -2,3 +2,4 @@ pub mod Asking
 pub mod Taking
 pub mod Writing
 pub mod Serving
+pub mod Telling

@@ -16,7 +16,7 @@ use Rattle.flight_core.specs.Machine.{Log}
 use Rattle.flight_calls.specs.declared.call.Arrival.TheVariants as arrival
 use Rattle.flight_calls.specs.declared.request.Request.{Request}
 use Rattle.flight_calls.specs.Calls.{Call, call_records, answer_records, asked_by, ReplyTo, Answers}
-use Rattle.flight_calls.specs.Owed.{calls_bytes, answer_bytes, answers_bytes, FitsMessages, Served, EndsIn, EndsInside, behind_calls, IsCause, last_status, Connection, Finished, CutShort, Refused, ReadFailed, AnswerFailed, StatusFailed, Serves}
+use Rattle.flight_calls.specs.Owed.{calls_bytes, answer_bytes, answers_bytes, FitsMessages, Served, EndsIn, EndsInside, behind_calls, IsCause, last_status, Connection, Finished, CutShort, Refused, ReadFailed, AnswerFailed, StatusFailed, Serves, IsQuiet, CountsRead, CountsWrite}
 use Rattle.flight_calls.specs.Ending.{RefusesBy}
 use Rattle.flight_calls.specs.Requests.{Holds}
 use Rattle.flight_calls.specs.Reading.{Stops, CallArrives}
@@ -106,7 +106,7 @@ module _ (old mid : Connection) (left : Received) (p : Progress old mid left) wh
 
   -- its answer was begun
   pub answer_failed : (new : Connection) (left' : Received) (request : Request) (reply : Reply) → (more : List ℕ) × Consumes mid.input new.input more × CallArrives (Ok (arrival.Whole request)) left left' more
-      → ((call : Call) → Holds request call → ReplyTo (asked_by call) mid.log reply new.log) → FitsMessages reply → AppendsBeginning mid.output new.output (answer_bytes reply) → new.failures ≡ old.failures + 1 → AnswerFailed old new
+      → ((call : Call) → Holds request call → ReplyTo (asked_by call) mid.log reply new.log) → FitsMessages reply → AppendsBeginning mid.output new.output (answer_bytes reply) → CountsWrite old new → AnswerFailed old new
   answer_failed new left' request reply q replied sent begun counted = record {
     came = p.came ++ q.0;
     consumed = Consumes-trans old.input mid.input new.input p.came q.0 p.consumed q.1;
@@ -122,7 +122,7 @@ module _ (old mid : Connection) (left : Received) (p : Progress old mid left) wh
 
   -- the input ended
   pub input_ended : (new : Connection) (left' : Received) → (more : List ℕ) × Consumes mid.input new.input more × CallArrives (Ok arrival.Nothing) left left' more → IsAtEnd new.input
-      → new.output ≡ mid.output → new.log ≡ mid.log → new.failures ≡ old.failures → Finished old new
+      → new.output ≡ mid.output → new.log ≡ mid.log → IsQuiet old new → Finished old new
   input_ended new left' q at_end output log quiet =
       let nothing : left.bytes ++ q.0 ≡ [] = ap (λ (r : Received). r.bytes) q.2 in
       let served = served_then old.log mid.log p.came left.bytes q.0 p.replies p.served in
@@ -138,7 +138,7 @@ module _ (old mid : Connection) (left : Received) (p : Progress old mid left) wh
 
   -- the input ended inside a call
   pub call_cut_short : (new : Connection) (left' : Received) → (more : List ℕ) × Consumes mid.input new.input more × CallArrives (Ok arrival.CutShort) left left' more → IsAtEnd new.input
-      → new.output ≡ mid.output → new.log ≡ mid.log → new.failures ≡ old.failures → CutShort old new
+      → new.output ≡ mid.output → new.log ≡ mid.log → IsQuiet old new → CutShort old new
   call_cut_short new left' q at_end output log quiet = record {
     came = p.came ++ q.0;
     consumed = Consumes-trans old.input mid.input new.input p.came q.0 p.consumed q.1;
@@ -159,7 +159,7 @@ module _ (old mid : Connection) (left : Received) (p : Progress old mid left) wh
 
   -- a faulty record, or want of memory
   pub connection_refused : (new : Connection) (left' : Received) (fault : Fault) → (more : List ℕ) × Consumes mid.input new.input more × CallArrives (Err fault) left left' more → fault ≢ Transport
-      → Appends mid.output new.output (last_status fault) → new.log ≡ mid.log → new.failures ≡ old.failures → Refused fault old new
+      → Appends mid.output new.output (last_status fault) → new.log ≡ mid.log → IsQuiet old new → Refused fault old new
   connection_refused new left' fault q other wrote log quiet = record {
     came = p.came ++ q.0;
     consumed = Consumes-trans old.input mid.input new.input p.came q.0 p.consumed q.1;
@@ -173,7 +173,7 @@ module _ (old mid : Connection) (left : Received) (p : Progress old mid left) wh
 
   -- its status was begun
   pub status_failed : (new : Connection) (left' : Received) (fault : Fault) → (more : List ℕ) × Consumes mid.input new.input more × CallArrives (Err fault) left left' more → fault ≢ Transport
-      → AppendsBeginning mid.output new.output (last_status fault) → new.log ≡ mid.log → new.failures ≡ old.failures + 1 → StatusFailed old new
+      → AppendsBeginning mid.output new.output (last_status fault) → new.log ≡ mid.log → CountsWrite old new → StatusFailed old new
   status_failed new left' fault q other begun log counted = record {
     came = p.came ++ q.0;
     consumed = Consumes-trans old.input mid.input new.input p.came q.0 p.consumed q.1;
@@ -206,7 +206,7 @@ module _ (old mid : Connection) (left : Received) (p : Progress old mid left) wh
 
   -- a read failed
   pub read_failed : (new : Connection) (left' : Received) (fault : Fault) → (more : List ℕ) × Consumes mid.input new.input more × CallArrives (Err fault) left left' more → fault ≡ Transport
-      → new.output ≡ mid.output → new.log ≡ mid.log → new.failures ≡ old.failures + 1 → ReadFailed old new
+      → new.output ≡ mid.output → new.log ≡ mid.log → CountsRead old new → ReadFailed old new
   read_failed new left' fault q is output log counted = record {
     came = p.came ++ q.0;
     consumed = Consumes-trans old.input mid.input new.input p.came q.0 p.consumed q.1;
@@ -221,27 +221,27 @@ module _ (old mid : Connection) (left : Received) (p : Progress old mid left) wh
   -- by a fault while a call was read
   pub ended_by : (new : Connection) (left' : Received) (fault : Fault) (result : Result (Unit {0}) Fault) (reads writes reads' writes' : ℕ) → (more : List ℕ) × Consumes mid.input new.input more × CallArrives (Err fault) left left' more
       → (fault ≡ Transport → reads' ≡ reads + 1) × (fault ≢ Transport → reads' ≡ reads) → RefusesBy fault result mid.output new.output writes writes' → new.log ≡ mid.log
-      → old.failures ≡ reads + writes → new.failures ≡ reads' + writes' → Serves result old new
-  ended_by new left' fault result reads writes reads' writes' q counted (inl stays) log before after =
+      → reads ≡ old.failed_reads → writes ≡ old.failed_writes → new.failed_reads ≡ reads' → new.failed_writes ≡ writes' → Serves result old new
+  ended_by new left' fault result reads writes reads' writes' q counted (inl stays) log before before' after after' =
       let one = counted.0 stays.transport in
       let none = stays.quiet in
-      rw stays.result_is (inr (inl (read_failed new left' fault q stays.transport stays.same log (omega arith))))
-  ended_by new left' fault result reads writes reads' writes' q counted (inr (inl says)) log before after =
+      rw stays.result_is (inr (inl (read_failed new left' fault q stays.transport stays.same log ((omega arith, omega arith)))))
+  ended_by new left' fault result reads writes reads' writes' q counted (inr (inl says)) log before before' after after' =
       let none = counted.1 says.other in
       let quiet = says.quiet in
-      rw says.result_is (by_fault fault says.other (connection_refused new left' fault q says.other says.wrote log (omega arith)))
+      rw says.result_is (by_fault fault says.other (connection_refused new left' fault q says.other says.wrote log ((omega arith, omega arith))))
     where
       by_fault : (fault : Fault) → fault ≢ Transport → Refused fault old new → Serves (Err fault) old new
       by_fault Transport other refused = absurd (other refl)
       by_fault fault other refused = refused
-  ended_by new left' fault result reads writes reads' writes' q counted (inr (inr fails)) log before after =
+  ended_by new left' fault result reads writes reads' writes' q counted (inr (inr fails)) log before before' after after' =
       let none = counted.1 fails.other in
       let one = fails.counted in
-      rw fails.result_is (inr (inr (inr (status_failed new left' fault q fails.other fails.wrote log (omega arith)))))
+      rw fails.result_is (inr (inr (inr (status_failed new left' fault q fails.other fails.wrote log ((omega arith, omega arith))))))
 
 -- a connection that is refused before anything came
 pub refused_first : (old new : Connection) (fault : Fault) (result : Result (Unit {0}) Fault) (reads writes writes' : ℕ) → old.log ≡ [] → new.log ≡ [] → new.input ≡ old.input → fault ≡ OutOfMemory
-    → RefusesBy fault result old.output new.output writes writes' → old.failures ≡ reads + writes → new.failures ≡ reads + writes' → Serves result old new
-refused_first old new fault result reads writes writes' begins same input memory refuses before after =
+    → RefusesBy fault result old.output new.output writes writes' → reads ≡ old.failed_reads → writes ≡ old.failed_writes → new.failed_reads ≡ reads → new.failed_writes ≡ writes' → Serves result old new
+refused_first old new fault result reads writes writes' begins same input memory refuses before before' after after' =
     ended_by old old (behind_calls []) (started old (behind_calls []) refl) new (behind_calls []) fault result reads writes reads writes'
-    ([], rw input (Consumes-nil old.input), inr (inl memory)) ((λ e. let both : OutOfMemory ≡ Transport = sym memory ∙ e in absurd cc), λ _. refl) refuses (same ∙ sym begins) before after
+    ([], rw input (Consumes-nil old.input), inr (inl memory)) ((λ e. let both : OutOfMemory ≡ Transport = sym memory ∙ e in absurd cc), λ _. refl) refuses (same ∙ sym begins) before before' after after'

@@ -168,10 +168,11 @@ module _ (a b c : Option (List ℕ)) (old mid new : Received) (messages : List P
   pub collected_stop : (path : List ℕ) (fault : Fault) → Since b c mid new (Err fault) → (came : List ℕ) × Consumes a c came × RequestArrives (Err fault) path old new came
   collected_stop path fault q = (all_came q.came, all_consumed q.came q.consumed, by q.arrives)
     where
-      by : ((fault ≡ Transport) × IsCut (with_more mid q.came)) ⊎ ((fault ≡ OutOfMemory) ⊎ Breaks (with_more mid q.came) fault) → Stops fault (with_more old (all_came q.came))
-      by (inl e) = inl (e.0, passed_cut (with_more old (all_came q.came)) (with_more mid q.came) (map Message messages) (stand q.came) e.1)
+      by : ((fault ≡ Transport) × ((new ≡ with_more mid q.came) × IsCut new)) ⊎ ((fault ≡ OutOfMemory) ⊎ ((new ≡ with_more mid q.came) × Breaks new fault))
+          → Stops fault (with_more old (all_came q.came))
+      by (inl e) = inl (e.0, passed_cut (with_more old (all_came q.came)) (with_more mid q.came) (map Message messages) (stand q.came) (rw e.1.0 at e.1.1))
       by (inr (inl e)) = inr (inl e)
-      by (inr (inr breaks)) = inr (inr (passed_ends (with_more old (all_came q.came)) (with_more mid q.came) (map Message messages) (broken fault) (stand q.came) breaks))
+      by (inr (inr e)) = inr (inr (passed_ends (with_more old (all_came q.came)) (with_more mid q.came) (map Message messages) (broken fault) (stand q.came) (rw e.0 at e.1)))
 
 -- ---- a call
 
@@ -195,10 +196,10 @@ ends_after from left records ending p q = record {
 pub first_stops : (a b : Option (List ℕ)) (old new : Received) (fault : Fault) → Since a b old new (Err fault) → (came : List ℕ) × Consumes a b came × CallArrives (Err fault) old new came
 first_stops a b old new fault q = (q.came, q.consumed, by q.arrives)
   where
-    by : ((fault ≡ Transport) × IsCut (with_more old q.came)) ⊎ ((fault ≡ OutOfMemory) ⊎ Breaks (with_more old q.came) fault) → Stops fault (with_more old q.came)
-    by (inl e) = inl (e.0, passed_cut (with_more old q.came) (with_more old q.came) [] (passed_none (with_more old q.came)) e.1)
+    by : ((fault ≡ Transport) × ((new ≡ with_more old q.came) × IsCut new)) ⊎ ((fault ≡ OutOfMemory) ⊎ ((new ≡ with_more old q.came) × Breaks new fault)) → Stops fault (with_more old q.came)
+    by (inl e) = inl (e.0, passed_cut (with_more old q.came) (with_more old q.came) [] (passed_none (with_more old q.came)) (rw e.1.0 at e.1.1))
     by (inr (inl e)) = inr (inl e)
-    by (inr (inr breaks)) = inr (inr (passed_ends (with_more old q.came) (with_more old q.came) [] (broken fault) (passed_none (with_more old q.came)) breaks))
+    by (inr (inr e)) = inr (inr (passed_ends (with_more old q.came) (with_more old q.came) [] (broken fault) (passed_none (with_more old q.came)) (rw e.0 at e.1)))
 
 -- the input ended before the first record was whole
 pub first_cut : (a b : Option (List ℕ)) (old new : Received) → old.place ≡ BetweenCalls → ¬ (new ≡ record { bytes = []; place = BetweenCalls }) → Since a b old new (Ok None)

@@ -3,3 +3,4 @@ pub mod Owed
 pub mod Ending
 pub mod Requests
 pub mod Reading
+pub mod Laws

@@ -75,8 +75,21 @@ last_status fault = spelling (status_of (Some fault))
 pub record Connection : Type 0 where
   pub input : Option (List ℕ)
   pub output : Option (List ℕ)
-  pub failures : ℕ
+  pub failed_reads : ℕ
+  pub failed_writes : ℕ
   pub log : Log
+
+-- no read and no write failed
+abbrev pub IsQuiet : Connection → Connection → Type 0
+IsQuiet old new = (new.failed_reads ≡ old.failed_reads) × (new.failed_writes ≡ old.failed_writes)
+
+-- one read failed, and no write
+abbrev pub CountsRead : Connection → Connection → Type 0
+CountsRead old new = (new.failed_reads ≡ old.failed_reads + 1) × (new.failed_writes ≡ old.failed_writes)
+
+-- one write failed, and no read
+abbrev pub CountsWrite : Connection → Connection → Type 0
+CountsWrite old new = (new.failed_reads ≡ old.failed_reads) × (new.failed_writes ≡ old.failed_writes + 1)
 
 -- all that the input had came; it is whole calls, and their answers were written
 pub record Finished (old new : Connection) : Type 0 where
@@ -86,7 +99,7 @@ pub record Finished (old new : Connection) : Type 0 where
   pub replies : List Reply
   pub served : Served old.log came [] replies new.log
   pub wrote : Appends old.output new.output (answers_bytes replies)
-  pub quiet : new.failures ≡ old.failures
+  pub quiet : IsQuiet old new
 
 -- the input ended inside a call: the calls before it are answered, and nothing is done for it
 pub record CutShort (old new : Connection) : Type 0 where
@@ -98,9 +111,10 @@ pub record CutShort (old new : Connection) : Type 0 where
   pub replies : List Reply
   pub served : Served old.log came rest replies new.log
   pub wrote : Appends old.output new.output (answers_bytes replies)
-  pub quiet : new.failures ≡ old.failures
+  pub quiet : IsQuiet old new
 
--- the whole calls that came are answered, and then a status says why the connection ends
+-- Calls that came are answered, and then a status says why the connection ends. Behind them stands the faulty record;
+-- where memory was refused, nothing is said of what stands there.
 pub record Refused (fault : Fault) (old new : Connection) : Type 0 where
   pub came : List ℕ
   pub consumed : Consumes old.input new.input came
@@ -109,7 +123,7 @@ pub record Refused (fault : Fault) (old new : Connection) : Type 0 where
   pub replies : List Reply
   pub served : Served old.log came rest replies new.log
   pub wrote : Appends old.output new.output (answers_bytes replies ++ last_status fault)
-  pub quiet : new.failures ≡ old.failures
+  pub quiet : IsQuiet old new
 
 -- A read failed: all whole calls that came before are answered, and nothing is done for one of which more had to come.
 pub record ReadFailed (old new : Connection) : Type 0 where
@@ -120,7 +134,7 @@ pub record ReadFailed (old new : Connection) : Type 0 where
   pub replies : List Reply
   pub served : Served old.log came rest replies new.log
   pub wrote : Appends old.output new.output (answers_bytes replies)
-  pub counted : new.failures ≡ old.failures + 1
+  pub counted : CountsRead old new
 
 -- A write of an answer failed: the answers before it are written, then a beginning of it, and its call was the last
 -- one that was looked at.
@@ -134,10 +148,10 @@ pub record AnswerFailed (old new : Connection) : Type 0 where
   pub before : Option (List ℕ)
   pub wrote : Appends old.output before (answers_bytes replies)
   pub begun : AppendsBeginning before new.output (answer_bytes last)
-  pub counted : new.failures ≡ old.failures + 1
+  pub counted : CountsWrite old new
 
--- A write of the status that says why the connection ends failed: the whole calls that came are answered, and a
--- beginning of it is written.
+-- A write of the status that says why the connection ends failed: what it stands behind is answered, and a beginning
+-- of it is written.
 pub record StatusFailed (old new : Connection) : Type 0 where
   pub came : List ℕ
   pub consumed : Consumes old.input new.input came
@@ -149,7 +163,7 @@ pub record StatusFailed (old new : Connection) : Type 0 where
   pub before : Option (List ℕ)
   pub wrote : Appends old.output before (answers_bytes replies)
   pub begun : AppendsBeginning before new.output (last_status fault)
-  pub counted : new.failures ≡ old.failures + 1
+  pub counted : CountsWrite old new
 
 -- one read or write failed
 abbrev pub Failed : Connection → Connection → Type 0

@@ -6,6 +6,7 @@
 
 mod answer;
 mod call;
+pub mod laws;
 mod request;
 mod server;
 

@@ -1,6 +1,6 @@
 //! Serving a connection.
 
-ghost use Rattle.std.specs.Prelude.{◌+◌, ◌<◌, []};
+ghost use Rattle.std.specs.Prelude.{◌<◌, []};
 ghost use Rattle.flight_core.specs.Machine.{Log};
 ghost use Rattle.flight_calls.specs.Owed.{Serves};
 ghost use Rattle.flight_calls.specs.Ending.{RefusesBy};
@@ -38,13 +38,15 @@ pub fn serve<R: Input, W: Output>(
         (record {
           input = R.remaining reader.old;
           output = W.contents writer.old;
-          failures = R.failures reader.old + W.failures writer.old;
+          failed_reads = R.failures reader.old;
+          failed_writes = W.failures writer.old;
           log = plain.old;
         })
         (record {
           input = R.remaining reader.new;
           output = W.contents writer.new;
-          failures = R.failures reader.new + W.failures writer.new;
+          failed_reads = R.failures reader.new;
+          failed_writes = W.failures writer.new;
           log = plain.new;
         }) }
 {
@@ -79,13 +81,15 @@ pub fn serve_alone<R: Input, W: Output>(
         (record {
           input = R.remaining reader.old;
           output = W.contents writer.old;
-          failures = R.failures reader.old + W.failures writer.old;
+          failed_reads = R.failures reader.old;
+          failed_writes = W.failures writer.old;
           log = [];
         })
         (record {
           input = R.remaining reader.new;
           output = W.contents writer.new;
-          failures = R.failures reader.new + W.failures writer.new;
+          failed_reads = R.failures reader.new;
+          failed_writes = W.failures writer.new;
           log = log;
         }) }
 {

@@ -1,6 +1,6 @@
 //! `flightscan pipe`: one connection, from a reader to a writer.
 
-ghost use Rattle.std.specs.Prelude.{◌+◌, ◌<◌, []};
+ghost use Rattle.std.specs.Prelude.{◌<◌, []};
 ghost use Rattle.grpc_frame.specs.Ends.{CountsFailure, FailsByTransport, Writes};
 ghost use Rattle.flight_core.specs.Machine.{Log};
 ghost use Rattle.flightscan.specs.Pipe.{Pipes, fault_line};
@@ -26,13 +26,15 @@ pub fn pipe<R: Input, W: Output, E: Output>(
         (record {
           input = R.remaining reader.old;
           output = W.contents writer.old;
-          failures = R.failures reader.old + W.failures writer.old;
+          failed_reads = R.failures reader.old;
+          failed_writes = W.failures writer.old;
           log = [];
         })
         (record {
           input = R.remaining reader.new;
           output = W.contents writer.new;
-          failures = R.failures reader.new + W.failures writer.new;
+          failed_reads = R.failures reader.new;
+          failed_writes = W.failures writer.new;
           log = log;
         })
         (record { bytes = E.contents faults.old; failures = E.failures faults.old })

@@ -1,6 +1,6 @@
 //! `flightscan`: reads the command line, and does what it asks for.
 
-ghost use Rattle.std.specs.Prelude.{◌≡◌, ◌≢◌, ◌+◌, ◌<◌, [], map, string_bytes, IfOk};
+ghost use Rattle.std.specs.Prelude.{◌≡◌, ◌≢◌, ◌<◌, [], map, string_bytes, IfOk};
 ghost use Rattle.clap.specs.Words.{fault_of, kind_of};
 ghost use Rattle.clap.specs.declared.error.kind.ErrorKind.TheVariants.{OutOfMemory};
 ghost use Rattle.command_line.specs.Line.{program};
@@ -33,13 +33,15 @@ pub fn run<R: Input, W: Output, E: Output>(
         (record {
           input = R.remaining reader.old;
           output = W.contents writer.old;
-          failures = R.failures reader.old + W.failures writer.old;
+          failed_reads = R.failures reader.old;
+          failed_writes = W.failures writer.old;
           log = [];
         })
         (record {
           input = R.remaining reader.new;
           output = W.contents writer.new;
-          failures = R.failures reader.new + W.failures writer.new;
+          failed_reads = R.failures reader.new;
+          failed_writes = W.failures writer.new;
           log = log;
         })
         (record { bytes = E.contents faults.old; failures = E.failures faults.old })

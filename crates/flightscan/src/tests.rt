@@ -419,6 +419,24 @@ fn too_large_a_message(rt: HostRuntime) -> Result<(), Fail> {
 
 const TRANSPORT_LINE: &[u8] = b"fault: F22 Transport\n";
 
+// A faulty record is answered at once: the read behind it would fail.
+#[test]
+fn a_fault_before_a_failed_read(rt: HostRuntime) {
+    let mut reader = MemoryInput::new(b"\x05").failing_after(1);
+    let mut writer = MemoryOutput::new(rt.alloc());
+    let mut faults = MemoryOutput::new(rt.alloc());
+    let status = pipe(rt.alloc(), &mut reader, &mut writer, &mut faults).number();
+    assert_eq!(rt;
+        (
+            status,
+            reader.failures(),
+            writer.as_slice(),
+            faults.as_slice()
+        ),
+        (3, 0, BAD_FRAME, BAD_FRAME_LINE)
+    );
+}
+
 // Each read fails in turn: of the input's pieces of 250 bytes the second ends the put, and the third the fetch.
 #[test]
 fn each_read(rt: HostRuntime) -> Result<(), Fail> {

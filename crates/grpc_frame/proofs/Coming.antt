@@ -18,9 +18,10 @@ pub not_taken : (a b c : Option (List ℕ)) (old mid new : Received) (fault : Fa
     → (came : List ℕ) × Consumes a c came × Arrives (Err fault) old new came
 not_taken a b c old mid new fault p is_cut q = (p.came ++ q.0, Consumes-trans a b c p.came q.0 p.consumed q.1, either q.2)
   where
-    waits : q.0 ≡ [] → IsCut (with_more old (p.came ++ q.0))
-    waits none = subst IsCut (p.whole ∙ ap (λ (came : List ℕ). with_more old came) (sym (append-nil p.came) ∙ ap (λ (l : List ℕ). p.came ++ l) (sym none))) is_cut
+    all_came : q.0 ≡ [] → mid ≡ with_more old (p.came ++ q.0)
+    all_came none = p.whole ∙ ap (λ (came : List ℕ). with_more old came) (sym (append-nil p.came) ∙ ap (λ (l : List ℕ). p.came ++ l) (sym none))
 
-    either : ((fault ≡ Transport) × (q.0 ≡ [])) ⊎ (fault ≡ OutOfMemory) → ((fault ≡ Transport) × IsCut (with_more old (p.came ++ q.0))) ⊎ ((fault ≡ OutOfMemory) ⊎ Breaks (with_more old (p.came ++ q.0)) fault)
-    either (inl e) = inl (e.0, waits e.1)
+    either : ((fault ≡ Transport) × ((new ≡ mid) × (q.0 ≡ []))) ⊎ (fault ≡ OutOfMemory)
+        → ((fault ≡ Transport) × ((new ≡ with_more old (p.came ++ q.0)) × IsCut new)) ⊎ ((fault ≡ OutOfMemory) ⊎ ((new ≡ with_more old (p.came ++ q.0)) × Breaks new fault))
+    either (inl e) = inl (e.0, (e.1.0 ∙ all_came e.1.1, subst IsCut (sym e.1.0) is_cut))
     either (inr e) = inr (inl e)

@@ -6,17 +6,17 @@ use Rattle.grpc_frame.specs.declared.record.Record.{Record}
 use Rattle.grpc_frame.specs.Records.{Received, with_more, Leads, Breaks, IsCut}
 
 -- The record in front once these bytes came behind what was there. Nothing where they end before one is whole. A read
--- that fails was made since more had to come.
+-- that fails was made since more had to come. Behind it, as behind a faulty record, what came is still there.
 abbrev pub Arrives : Result (Option Record) Fault → Received → Received → List ℕ → Type 0
 Arrives (Ok (Some found)) old new came = Leads found (with_more old came) new
 Arrives (Ok None) old new came = (new ≡ with_more old came) × IsCut new
-Arrives (Err fault) old new came = ((fault ≡ Transport) × IsCut (with_more old came))
-    ⊎ ((fault ≡ OutOfMemory) ⊎ Breaks (with_more old came) fault)
+Arrives (Err fault) old new came = ((fault ≡ Transport) × ((new ≡ with_more old came) × IsCut new))
+    ⊎ ((fault ≡ OutOfMemory) ⊎ ((new ≡ with_more old came) × Breaks new fault))
 
--- a piece of so many bytes was taken in; none came where the read failed
+-- a piece of so many bytes was taken in; none came where the read failed, and nothing changed
 abbrev pub TakesIn : Result ℕ Fault → Received → Received → List ℕ → Type 0
 TakesIn (Ok count) old new came = (new ≡ with_more old came) × (length came ≡ count)
-TakesIn (Err fault) old new came = ((fault ≡ Transport) × (came ≡ [])) ⊎ (fault ≡ OutOfMemory)
+TakesIn (Err fault) old new came = ((fault ≡ Transport) × ((new ≡ old) × (came ≡ []))) ⊎ (fault ≡ OutOfMemory)
 
 -- a failed transport is counted, and no other fault
 abbrev pub CountsTransport : {A : Type 0} → Result A Fault → ℕ → ℕ → Type 0

@@ -9,13 +9,15 @@ invariant-loop-request g l = record {
       (record {
         input = g.R.Input.remaining l.initial.reader;
         output = g.W.Output.contents l.initial.writer;
-        failures = g.R.Input.failures l.initial.reader + g.W.Output.failures l.initial.writer;
+        failed_reads = g.R.Input.failures l.initial.reader;
+        failed_writes = g.W.Output.failures l.initial.writer;
         log = l.initial.plain;
       })
       (record {
         input = g.R.Input.remaining l.reader;
         output = g.W.Output.contents l.writer;
-        failures = g.R.Input.failures l.reader + g.W.Output.failures l.writer;
+        failed_reads = g.R.Input.failures l.reader;
+        failed_writes = g.W.Output.failures l.writer;
         log = l.plain;
       })
       l.inbox;

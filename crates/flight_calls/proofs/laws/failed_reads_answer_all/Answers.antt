@@ -1,0 +1,5 @@
+use Rattle.flight_calls.proofs.Telling.{failed_reads}
+use Rattle.flight_calls.proofs.laws.failed_reads_answer_all.Goals as goal
+
+pub returns : goal.returns
+returns c = failed_reads
