@@ -319,19 +319,16 @@ fn schemas(rt: HostRuntime) -> Result<(), Fault> {
     assert_told(&rt, rt.alloc(), &messages)
 }
 
-// The schema of a reader to which a batch came, then a schema and then another, and whether there was one before
-// those.
+// The schema of a reader to which a batch came, then a schema, another one and the batch again, and whether there was
+// one behind the first of these.
 fn schema_of(alloc: Global) -> (bool, Option<Schema>) {
+    let (header, body) = (&BATCH_INT64_TWO_HEADER, &BATCH_INT64_TWO_BODY);
     let mut reader = Reader::new();
-    let _ = told(
-        alloc,
-        &mut reader,
-        &BATCH_INT64_TWO_HEADER,
-        &BATCH_INT64_TWO_BODY,
-    );
+    let _ = told(alloc, &mut reader, header, body);
     let early = reader.schema().is_some();
     let _ = told(alloc, &mut reader, &SCHEMA_INT64_HEADER, &[]);
     let _ = told(alloc, &mut reader, &SCHEMA_INT64_HEADER, &[]);
+    let _ = told(alloc, &mut reader, header, body);
     (early, reader.into_schema())
 }
 
