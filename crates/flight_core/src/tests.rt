@@ -1,10 +1,11 @@
 //! The first run: one put and one fetch, and what refuses them.
 
-use self::words::{answer_told, rows_told};
-use crate::{Event, Plain, run, step};
+use self::words::{Says, answer_told, assert_answers, assert_text, rows_told};
+use crate::{Event, Plain, Reply, step};
 use bytes::Bytes;
 use scan_base::Fault;
-use std::alloc::Global;
+use std::alloc::{AllocError, Global};
+use std::process::Abort;
 use std::test::Fail;
 
 mod chains;
@@ -89,36 +90,95 @@ const APPENDS: [(usize, u8); 2] = [(80, 0x10), (81, 2)];
 // The options of an ingest that replaces, and does not create.
 const REPLACES: [(usize, u8); 2] = [(80, 0x10), (81, 3)];
 
+// What a put of the batch is answered.
+fn put_answered(alloc: Global, plain: &mut Plain, changes: &[(usize, u8)]) -> Result<Reply, Fault> {
+    Ok(step(alloc, plain, &put(alloc, changes)?))
+}
+
+// What a fetch is answered.
+fn fetch_answered(
+    alloc: Global,
+    plain: &mut Plain,
+    changes: &[(usize, u8)],
+) -> Result<Reply, Fault> {
+    Ok(step(alloc, plain, &fetch(alloc, changes)?))
+}
+
 // The versions after one put.
 fn after_put(alloc: Global) -> Result<Plain, Fault> {
     let mut plain = Plain::new(alloc)?;
-    match step(alloc, &mut plain, &put(alloc, &[])?).fault {
+    match put_answered(alloc, &mut plain, &[])?.fault {
         None => Ok(plain),
         Some(fault) => Err(fault),
     }
 }
 
-// How many rows were put, and the rows that are fetched.
-#[test]
-fn first_run(rt: HostRuntime) -> Result<(), Fail> {
-    let alloc = rt.alloc();
-    let mut plain = Plain::new(alloc)?;
-    let answer = step(alloc, &mut plain, &put(alloc, &[])?);
-    assert_eq!(rt; (answer.fault, answer.payloads.len()), (None, 1));
+// A reply has no fault, and so many payloads.
+fn assert_payloads(rt: &impl Abort, reply: &Reply, count: usize) {
+    assert_eq!(rt; (reply.fault, reply.payloads.len()), (None, count));
+}
+
+// The batch is put, and its two rows are counted.
+fn assert_put(rt: &impl Abort, alloc: Global, plain: &mut Plain) -> Result<(), Fault> {
+    let answer = put_answered(alloc, plain, &[])?;
+    assert_payloads(rt, &answer, 1);
     for payload in &answer.payloads {
         assert_eq!(rt; payload.as_slice(), [0x0a, 2, 8, 2].as_slice());
     }
-    let rows = step(alloc, &mut plain, &fetch(alloc, &[])?);
-    assert_eq!(rt; rows_told(alloc, &rows)?.as_str(), "1;2;");
     Ok(())
 }
 
-// A change of the ticket, and the fault. The range 2..2 is empty, and 0..3 and 2..1 are no ranges of 2 rows.
+// Its rows are fetched.
+fn assert_fetched(rt: &impl Abort, alloc: Global, plain: &mut Plain) -> Result<(), Fault> {
+    let reply = fetch_answered(alloc, plain, &[])?;
+    let told = rows_told(alloc, &reply)?;
+    assert_text(rt, told.as_str(), "1;2;", "both rows");
+    Ok(())
+}
+
+// How many rows were put, and the rows that are fetched.
 #[test]
-fn refused_fetches(rt: HostRuntime) -> Result<(), Fail> {
-    let alloc = rt.alloc();
-    let mut plain = after_put(alloc)?;
-    let table: [(&[(usize, u8)], Option<Fault>); 11] = [
+fn first_run(rt: HostRuntime) -> Result<(), Fault> {
+    let mut plain = Plain::new(rt.alloc())?;
+    assert_put(&rt, rt.alloc(), &mut plain)?;
+    assert_fetched(&rt, rt.alloc(), &mut plain)
+}
+
+// A fetch whose ticket is changed has this fault, and no payload where it has one.
+fn assert_fetch(
+    rt: &impl Abort,
+    alloc: Global,
+    plain: &mut Plain,
+    changes: &[(usize, u8)],
+    fault: Option<Fault>,
+) -> Result<(), Fault> {
+    let reply = fetch_answered(alloc, plain, changes)?;
+    assert_eq!(rt;
+        (reply.fault, reply.payloads.is_empty()),
+        (fault, fault.is_some())
+    );
+    Ok(())
+}
+
+// A change of a message or a ticket, and the fault.
+type Change = (&'static [(usize, u8)], Option<Fault>);
+
+fn assert_fetches(
+    rt: &impl Abort,
+    alloc: Global,
+    plain: &mut Plain,
+    table: &[Change],
+) -> Result<(), Fault> {
+    for (changes, fault) in table {
+        assert_fetch(rt, alloc, plain, changes, *fault)?;
+    }
+    Ok(())
+}
+
+// A change of the ticket. The range 2..2 is empty, and 0..3 and 2..1 are no ranges of 2 rows.
+#[test]
+fn refused_fetches(rt: HostRuntime) -> Result<(), Fault> {
+    let table: [Change; 11] = [
         (&[(0, 0x0b)], Some(Fault::BadProto)),
         (&[(2, 0x0b)], Some(Fault::BadTicket)),
         (&[(74, 3)], Some(Fault::BadTicket)),
@@ -131,93 +191,88 @@ fn refused_fetches(rt: HostRuntime) -> Result<(), Fail> {
         (&[(91, b'T')], Some(Fault::BadTicket)),
         (&[(105, b'u')], Some(Fault::BadTicket)),
     ];
+    assert_fetches(&rt, rt.alloc(), &mut after_put(rt.alloc())?, &table)
+}
+
+fn assert_puts(
+    rt: &impl Abort,
+    alloc: Global,
+    plain: &mut Plain,
+    table: &[Change],
+) -> Result<(), Fault> {
     for (changes, fault) in table {
-        let reply = step(alloc, &mut plain, &fetch(alloc, changes)?);
-        assert_eq!(rt;
-            (reply.fault, reply.payloads.is_empty()),
-            (fault, fault.is_some())
-        );
+        let found = put_answered(alloc, plain, changes)?.fault;
+        assert_eq!(rt; found, *fault);
     }
     Ok(())
 }
 
-// A change of the first message, and the fault: the table is there, or it is absent.
+// A change of the first message of a put, where the table is there.
 #[test]
-fn refused_puts(rt: HostRuntime) -> Result<(), Fail> {
-    let alloc = rt.alloc();
-    let mut there = after_put(alloc)?;
-    let mut absent = Plain::new(alloc)?;
-    let table: [(&[(usize, u8)], Fault, Fault); 5] = [
-        (&[], Fault::TableExists, Fault::OutOfMemory),
-        (&[(0, 0x0b)], Fault::BadProto, Fault::BadProto),
-        (
-            &[(80, 0x10), (81, 1)],
-            Fault::TableExists,
-            Fault::TableMissing,
-        ),
-        (&[(81, 3)], Fault::BadProto, Fault::BadProto),
-        (&[(87, 0xff)], Fault::BadFlatbuffer, Fault::BadFlatbuffer),
+fn refused_puts(rt: HostRuntime) -> Result<(), Fault> {
+    let table: [Change; 5] = [
+        (&[], Some(Fault::TableExists)),
+        (&[(0, 0x0b)], Some(Fault::BadProto)),
+        (&[(80, 0x10), (81, 1)], Some(Fault::TableExists)),
+        (&[(81, 3)], Some(Fault::BadProto)),
+        (&[(87, 0xff)], Some(Fault::BadFlatbuffer)),
     ];
-    for (changes, at_table, at_none) in table {
-        let first = step(alloc, &mut there, &put(alloc, changes)?).fault;
-        assert_eq!(rt; first, Some(at_table));
-        if at_none != Fault::OutOfMemory {
-            let second = step(alloc, &mut absent, &put(alloc, changes)?).fault;
-            assert_eq!(rt; second, Some(at_none));
-        }
-    }
-    Ok(())
+    assert_puts(&rt, rt.alloc(), &mut after_put(rt.alloc())?, &table)
+}
+
+// The same where it is absent.
+#[test]
+fn refused_first_puts(rt: HostRuntime) -> Result<(), Fault> {
+    let table: [Change; 4] = [
+        (&[(0, 0x0b)], Some(Fault::BadProto)),
+        (&[(80, 0x10), (81, 1)], Some(Fault::TableMissing)),
+        (&[(81, 3)], Some(Fault::BadProto)),
+        (&[(87, 0xff)], Some(Fault::BadFlatbuffer)),
+    ];
+    assert_puts(&rt, rt.alloc(), &mut Plain::new(rt.alloc())?, &table)
 }
 
 // An append before the table is there, a put, an append, a put that is refused, and fetches of both versions.
 #[test]
 fn versions(rt: HostRuntime) -> Result<(), Fail> {
-    let alloc = rt.alloc();
-    let mut events = Vec::new(alloc);
-    events.push(put(alloc, &APPENDS)?)?;
-    events.push(put(alloc, &[])?)?;
-    events.push(put(alloc, &APPENDS)?)?;
-    events.push(put(alloc, &[])?)?;
-    events.push(fetch(alloc, &[(82, 2), (86, 1), (90, 4)])?)?;
-    events.push(fetch(alloc, &[])?)?;
-    events.push(fetch(alloc, &[(82, 3)])?)?;
-    events.push(Event::Put(Vec::new(alloc)))?;
-    let wanted = [
-        "F9 TableMissing",
-        "",
-        "",
-        "F10 TableExists",
-        "2;1;2;",
-        "1;2;",
-        "F18 VersionUnknown",
-        "F5 UnknownCommand",
+    let table: [(Says, &'static str); 8] = [
+        (Says::Batch(&APPENDS), "F9 TableMissing"),
+        (Says::Batch(&[]), ""),
+        (Says::Batch(&APPENDS), ""),
+        (Says::Batch(&[]), "F10 TableExists"),
+        (Says::Ticket(&[(82, 2), (86, 1), (90, 4)]), "2;1;2;"),
+        (Says::Ticket(&[]), "1;2;"),
+        (Says::Ticket(&[(82, 3)]), "F18 VersionUnknown"),
+        (Says::Nothing, "F5 UnknownCommand"),
     ];
-    let replies = run(alloc, &events)?;
-    assert_eq!(rt; replies.len(), wanted.len());
-    for (reply, wanted) in replies.iter().zip(wanted) {
-        assert_eq!(rt; rows_told(alloc, reply)?.as_str(), wanted);
-    }
-    Ok(())
+    assert_answers(&rt, rt.alloc(), &table)
 }
 
 // An empty range says the schema alone.
 #[test]
-fn schema(rt: HostRuntime) -> Result<(), Fail> {
-    let alloc = rt.alloc();
-    let mut plain = after_put(alloc)?;
-    let reply = step(alloc, &mut plain, &fetch(alloc, &[(90, 0)])?);
-    assert_eq!(rt; (reply.fault, reply.payloads.len()), (None, 1));
-    let told = answer_told(alloc, &reply)?;
-    assert_eq!(rt; told.as_str(), "a Integer(Int64) or null;\t");
+fn schema(rt: HostRuntime) -> Result<(), Fault> {
+    let reply = fetch_answered(rt.alloc(), &mut after_put(rt.alloc())?, &[(90, 0)])?;
+    assert_payloads(&rt, &reply, 1);
+    let told = answer_told(rt.alloc(), &reply)?;
+    assert_text(&rt, told.as_str(), "a Integer(Int64) or null;\t", "no row");
     Ok(())
 }
 
+// Sets bytes at their places.
+fn set(bytes: &mut [u8], changes: &[(usize, u8)]) {
+    for (place, byte) in changes {
+        if let Some(slot) = bytes.get_mut(*place) {
+            *slot = *byte;
+        }
+    }
+}
+
 // The second FlightData with a batch of 70,000 rows, all 0.
-fn long_batch(alloc: Global) -> Result<Bytes, Fault> {
+fn long_batch(alloc: Global) -> Result<Bytes, AllocError> {
     let (front, _) = SECOND.split_at(133);
     let mut bytes = Vec::new(alloc);
     bytes.extend_from_slice(front)?;
-    for (place, byte) in [
+    let changes = [
         (27, 0x80),
         (28, 0x8b),
         (29, 0x08),
@@ -230,11 +285,8 @@ fn long_batch(alloc: Global) -> Result<Bytes, Fault> {
         (123, 0x80),
         (124, 0x8b),
         (125, 0x08),
-    ] {
-        if let Some(slot) = bytes.get_mut(place) {
-            *slot = byte;
-        }
-    }
+    ];
+    set(&mut bytes, &changes);
     bytes.extend_from_slice(&[0x80, 0x97, 0x22])?;
     for _ in 0..4_375 {
         bytes.extend_from_slice(&[0; 128])?;
@@ -242,19 +294,17 @@ fn long_batch(alloc: Global) -> Result<Bytes, Fault> {
     Ok(Bytes::from_vec(bytes)?)
 }
 
-// A batch of 70,000 rows is answered in two, of 65,536 rows and of the rest.
-#[test]
-fn a_long_batch_is_cut(rt: HostRuntime) -> Result<(), Fail> {
-    let alloc = rt.alloc();
-    let mut plain = Plain::new(alloc)?;
+// The put of it.
+fn long_put(alloc: Global) -> Result<Event, AllocError> {
     let mut payloads = Vec::new(alloc);
     payloads.push(Bytes::from_static(&FIRST))?;
     payloads.push(long_batch(alloc)?)?;
-    let answer = step(alloc, &mut plain, &Event::Put(payloads));
-    assert_eq!(rt; (answer.fault, answer.payloads.len()), (None, 1));
-    let range = [(88, 0x01), (89, 0x11), (90, 0x70)];
-    let reply = step(alloc, &mut plain, &fetch(alloc, &range)?);
-    assert_eq!(rt; (reply.fault, reply.payloads.len()), (None, 3));
+    Ok(Event::Put(payloads))
+}
+
+// The reply to a fetch of 70,000 rows: the schema, and two batches.
+fn assert_cut(rt: &impl Abort, reply: &Reply) {
+    assert_payloads(rt, reply, 3);
     for (payload, (least, most)) in reply
         .payloads
         .iter()
@@ -263,5 +313,18 @@ fn a_long_batch_is_cut(rt: HostRuntime) -> Result<(), Fail> {
         let len = payload.len();
         assert!(rt; least <= len && len <= most, "{len}");
     }
+}
+
+// A batch of 70,000 rows is answered in two, of 65,536 rows and of the rest.
+#[test]
+fn a_long_batch_is_cut(rt: HostRuntime) -> Result<(), Fault> {
+    let mut plain = Plain::new(rt.alloc())?;
+    assert_payloads(
+        &rt,
+        &step(rt.alloc(), &mut plain, &long_put(rt.alloc())?),
+        1,
+    );
+    let range = [(88, 0x01), (89, 0x11), (90, 0x70)];
+    assert_cut(&rt, &fetch_answered(rt.alloc(), &mut plain, &range)?);
     Ok(())
 }

@@ -1,21 +1,21 @@
 //! Dictionaries that are written: bytes that flatc reads, a body that was worked out by hand, and what a
 //! reader takes of them.
 
-use crate::tests::{NULL, assert_column, batch, reader};
+use crate::tests::{A, B, C, NULL, X, assert_batch, batch, reader};
 use crate::vectors::*;
 use crate::{Reader, WrittenMessage, write_dictionary};
-use arrays::Texts;
+use arrays::{Batch, Texts};
 use bytes::Bytes;
-use scan_base::{Fault, ValueRef};
+use scan_base::Fault;
 use std::alloc::Global;
 use std::process::Abort;
 use std::test::Fail;
 
 // One text of one letter, behind a byte that is none of its own.
-fn letter(alloc: Global, letter: u8) -> Result<Texts, Fail> {
+fn letter(alloc: Global, letter: u8) -> Result<Texts, Fault> {
     let offsets = Bytes::from_static(&[1, 0, 0, 0, 2, 0, 0, 0]);
     let bytes = Bytes::copy_from_slice(alloc, &[b'-', letter])?;
-    Ok(Texts::new(None, offsets, bytes, 1)?)
+    Texts::new(None, offsets, bytes, 1)
 }
 
 // 'x' and a null, with bits past the length.
@@ -38,17 +38,22 @@ const WITH_NULL: [u8; 32] = [
     0, 0, 0,
 ];
 
+// Bytes are those that are wanted.
+fn assert_bytes(rt: &impl Abort, found: &[u8], wanted: &[u8]) {
+    assert_eq!(rt; found, wanted);
+}
+
 #[test]
 fn body(rt: HostRuntime) -> Result<(), Fail> {
     let message = write_dictionary(rt.alloc(), 0, &with_null()?, false)?;
-    assert_eq!(rt; message.body.as_slice(), WITH_NULL.as_slice());
+    assert_bytes(&rt, message.body.as_slice(), &WITH_NULL);
     Ok(())
 }
 
 // A message has these bytes: `vectors/arrow/written.py` lays the header out, and flatc reads it.
 fn assert_message(rt: &impl Abort, message: &WrittenMessage, header: &[u8], body: &[u8]) {
-    assert_eq!(rt; message.header.as_slice(), header);
-    assert_eq!(rt; message.body.as_slice(), body);
+    assert_bytes(rt, message.header.as_slice(), header);
+    assert_bytes(rt, message.body.as_slice(), body);
 }
 
 #[test]
@@ -75,8 +80,11 @@ fn greatest_id(rt: HostRuntime) -> Result<(), Fail> {
 #[test]
 fn null(rt: HostRuntime) -> Result<(), Fail> {
     let message = write_dictionary(rt.alloc(), 1, &x_null()?, false)?;
-    let header = WRITTEN_DICTIONARY_X_NULL_HEADER.as_slice();
-    assert_eq!(rt; message.header.as_slice(), header);
+    assert_bytes(
+        &rt,
+        message.header.as_slice(),
+        &WRITTEN_DICTIONARY_X_NULL_HEADER,
+    );
     Ok(())
 }
 
@@ -87,38 +95,57 @@ fn learn(
     id: u64,
     values: &Texts,
     is_delta: bool,
-) -> Result<(), Fail> {
+) -> Result<(), Fault> {
     let message = write_dictionary(alloc, id, values, is_delta)?;
     let header = Bytes::from_vec(message.header)?;
     reader.message(alloc, header, Bytes::from_vec(message.body)?)?;
     Ok(())
 }
 
-// A dictionary is set, grows and is replaced, and a batch behind each has its values.
-#[test]
-fn read_back(rt: HostRuntime) -> Result<(), Fail> {
-    let alloc = rt.alloc();
-    let mut reader = reader(alloc, &SCHEMA_OF_INT8_HEADER)?;
-    learn(alloc, &mut reader, 1, &letter(alloc, b'a')?, false)?;
-    learn(alloc, &mut reader, 1, &letter(alloc, b'b')?, true)?;
-    let grown = batch(alloc, &mut reader, &INDICES_1_0_HEADER, &INDICES_1_0_BODY)?;
-    learn(alloc, &mut reader, 1, &letter(alloc, b'c')?, false)?;
-    let replaced = batch(alloc, &mut reader, &INDICES_0_HEADER, &INDICES_0_BODY)?;
-    let (a, b, c) = (
-        ValueRef::Text("a"),
-        ValueRef::Text("b"),
-        ValueRef::Text("c"),
-    );
-    assert_column(&rt, alloc, &grown, 0, &[b, a])?;
-    assert_column(&rt, alloc, &replaced, 0, &[c])
+// The same of the dictionary 1, whose one text is a letter.
+fn learn_letter(alloc: Global, reader: &mut Reader, new: u8, is_delta: bool) -> Result<(), Fault> {
+    learn(alloc, reader, 1, &letter(alloc, new)?, is_delta)
 }
 
+// A batch behind a dictionary that is set and then grows.
+fn grown(alloc: Global, reader: &mut Reader) -> Result<Batch, Fault> {
+    learn_letter(alloc, reader, b'a', false)?;
+    learn_letter(alloc, reader, b'b', true)?;
+    batch(alloc, reader, &INDICES_1_0_HEADER, &INDICES_1_0_BODY)
+}
+
+// A batch behind a dictionary that is replaced.
+fn replaced(alloc: Global, reader: &mut Reader) -> Result<Batch, Fault> {
+    learn_letter(alloc, reader, b'c', false)?;
+    batch(alloc, reader, &INDICES_0_HEADER, &INDICES_0_BODY)
+}
+
+// Both, by one reader.
+fn grown_and_replaced(alloc: Global) -> Result<(Batch, Batch), Fault> {
+    let mut reader = reader(alloc, &SCHEMA_OF_INT8_HEADER)?;
+    let grown = grown(alloc, &mut reader)?;
+    let replaced = replaced(alloc, &mut reader)?;
+    Ok((grown, replaced))
+}
+
+// A dictionary is set, grows and is replaced, and a batch behind each has its values.
 #[test]
-fn null_read_back(rt: HostRuntime) -> Result<(), Fail> {
-    let alloc = rt.alloc();
+fn read_back(rt: HostRuntime) -> Result<(), Fault> {
+    let (grown, replaced) = grown_and_replaced(rt.alloc())?;
+    assert_batch(&rt, rt.alloc(), grown, &[B, A])?;
+    assert_batch(&rt, rt.alloc(), replaced, &[C])
+}
+
+// A batch behind a dictionary of `x` and a null.
+fn behind_null(alloc: Global) -> Result<Batch, Fault> {
     let mut reader = reader(alloc, &SCHEMA_OF_INT8_HEADER)?;
     learn(alloc, &mut reader, 1, &x_null()?, false)?;
     let (header, body) = (&INDICES_0_1_NULL_HEADER, &INDICES_0_1_NULL_BODY);
-    let batch = batch(alloc, &mut reader, header, body)?;
-    assert_column(&rt, alloc, &batch, 0, &[ValueRef::Text("x"), NULL, NULL])
+    batch(alloc, &mut reader, header, body)
+}
+
+#[test]
+fn null_read_back(rt: HostRuntime) -> Result<(), Fault> {
+    let batch = behind_null(rt.alloc())?;
+    assert_batch(&rt, rt.alloc(), batch, &[X, NULL, NULL])
 }

@@ -6,6 +6,7 @@ use arrays::{Batch, Cells};
 use bytes::Bytes;
 use scan_base::{Fault, ValueRef};
 use std::alloc::{AllocError, Global};
+use std::process::Abort;
 
 // The header of a record batch of two rows of one column of numbers of eight bytes.
 static BATCH: [u8; 128] = [
@@ -89,7 +90,48 @@ fn told(alloc: Global, reader: &mut Reader, header: Bytes) -> Result<Vec<i128>, 
     }
 }
 
-// A byte of the header, and the answer. After each the reader goes on.
+// A header is read as these numbers.
+fn assert_numbers(
+    rt: &impl Abort,
+    alloc: Global,
+    reader: &mut Reader,
+    header: Bytes,
+    wanted: &[i128],
+) -> Result<(), Fault> {
+    let numbers = told(alloc, reader, header)?;
+    assert_eq!(rt; numbers.as_slice(), wanted);
+    Ok(())
+}
+
+// A header with these changes is refused by this fault.
+fn assert_refused(
+    rt: &impl Abort,
+    alloc: Global,
+    reader: &mut Reader,
+    header: &[u8],
+    (changes, fault): (&[(usize, u8)], Fault),
+) -> Result<(), Fault> {
+    let header = changed(alloc, header, changes, 0)?;
+    let refused = told(alloc, reader, header).err();
+    assert_eq!(rt; refused, Some(fault), "{changes:?}");
+    Ok(())
+}
+
+// After each of these bytes, which are refused, the reader goes on.
+fn assert_lying(
+    rt: &impl Abort,
+    alloc: Global,
+    reader: &mut Reader,
+    lies: &[(usize, u8, Fault)],
+) -> Result<(), Fault> {
+    for (place, byte, fault) in lies {
+        assert_refused(rt, alloc, reader, &BATCH, (&[(*place, *byte)], *fault))?;
+        assert_numbers(rt, alloc, reader, Bytes::from_static(&BATCH), &[1, 2])?;
+    }
+    Ok(())
+}
+
+// A byte of the header, and the answer.
 #[test]
 fn lying_bytes(rt: HostRuntime) -> Result<(), Fault> {
     let table = [
@@ -108,16 +150,21 @@ fn lying_bytes(rt: HostRuntime) -> Result<(), Fault> {
         (38, 12, Fault::UnsupportedArrow), // slot 3 of the vtable, which is compression
         (96, 0x11, Fault::BadBatch), // an empty buffer past the body
     ];
-    let mut reader = reader(rt.alloc())?;
-    for (place, byte, fault) in table {
-        let lying = changed(rt.alloc(), &BATCH, &[(place, byte)], 0)?;
-        let refused = told(rt.alloc(), &mut reader, lying).err();
-        let numbers = told(rt.alloc(), &mut reader, Bytes::from_static(&BATCH))?;
-        assert_eq!(rt;
-            (refused, numbers.as_slice()),
-            (Some(fault), [1, 2].as_slice()),
-            "byte {place} is {byte}"
-        );
+    assert_lying(&rt, rt.alloc(), &mut reader(rt.alloc())?, &table)
+}
+
+// Changes of a header, and the answer.
+type Lie = (&'static [(usize, u8)], Fault);
+
+fn assert_lies(
+    rt: &impl Abort,
+    alloc: Global,
+    reader: &mut Reader,
+    header: &[u8],
+    lies: &[Lie],
+) -> Result<(), Fault> {
+    for lie in lies {
+        assert_refused(rt, alloc, reader, header, *lie)?;
     }
     Ok(())
 }
@@ -125,24 +172,27 @@ fn lying_bytes(rt: HostRuntime) -> Result<(), Fault> {
 // Headers in which two causes stand: the first one in the order of reading is answered.
 #[test]
 fn first_cause(rt: HostRuntime) -> Result<(), Fault> {
-    let table: [(&[(usize, u8)], Fault); 3] = [
+    let table: [Lie; 3] = [
         (&[(38, 12), (24, 0x18)], Fault::UnsupportedArrow), // compression, then bodyLength
         (&[(38, 12), (92, 1)], Fault::UnsupportedArrow), // compression, then the count of buffers
         (&[(92, 1), (20, 0xff)], Fault::BadFlatbuffer), // the header's place, then that count
     ];
-    let mut reader = reader(rt.alloc())?;
-    for (changes, fault) in table {
-        let header = changed(rt.alloc(), &BATCH, changes, 0)?;
-        let refused = told(rt.alloc(), &mut reader, header).err();
-        assert_eq!(rt; refused, Some(fault));
+    assert_lies(&rt, rt.alloc(), &mut reader(rt.alloc())?, &BATCH, &table)
+}
+
+// Before the schema nothing of a dictionary is read.
+fn assert_early(rt: &impl Abort, alloc: Global, lies: &[Lie]) -> Result<(), Fault> {
+    for (changes, _) in lies {
+        let early = (*changes, Fault::BadBatch);
+        assert_refused(rt, alloc, &mut Reader::new(), &DICTIONARY, early)?;
     }
     Ok(())
 }
 
-// A dictionary is read, and no field has its id. Before the schema nothing of it is read.
+// A dictionary is read, and no field has its id.
 #[test]
 fn dictionary(rt: HostRuntime) -> Result<(), Fault> {
-    let table: [(&[(usize, u8)], Fault); 7] = [
+    let table: [Lie; 7] = [
         (&[], Fault::BadBatch),
         (&[(20, 0xff)], Fault::BadFlatbuffer), // the header lies past the end
         (&[(41, 0xff)], Fault::BadFlatbuffer), // the id lies past the end
@@ -151,12 +201,28 @@ fn dictionary(rt: HostRuntime) -> Result<(), Fault> {
         (&[(84, 0xff)], Fault::BadFlatbuffer), // the nodes of the data lie past the end
         (&[(70, 12)], Fault::UnsupportedArrow), // slot 3 of the data's vtable, which is compression
     ];
-    let mut reader = reader(rt.alloc())?;
-    for (changes, fault) in table {
-        let header = changed(rt.alloc(), &DICTIONARY, changes, 0)?;
-        let early = told(rt.alloc(), &mut Reader::new(), header.clone()?).err();
-        let refused = told(rt.alloc(), &mut reader, header).err();
-        assert_eq!(rt; (early, refused), (Some(Fault::BadBatch), Some(fault)));
+    assert_early(&rt, rt.alloc(), &table)?;
+    assert_lies(
+        &rt,
+        rt.alloc(),
+        &mut reader(rt.alloc())?,
+        &DICTIONARY,
+        &table,
+    )
+}
+
+// Changes of the batch's header, and the numbers that are read all the same.
+type Free = (&'static [(usize, u8)], &'static [i128]);
+
+fn assert_free(
+    rt: &impl Abort,
+    alloc: Global,
+    reader: &mut Reader,
+    places: &[Free],
+) -> Result<(), Fault> {
+    for (changes, wanted) in places {
+        let header = changed(alloc, &BATCH, changes, 0)?;
+        assert_numbers(rt, alloc, reader, header, wanted)?;
     }
     Ok(())
 }
@@ -165,22 +231,24 @@ fn dictionary(rt: HostRuntime) -> Result<(), Fault> {
 // the body, and that bodyLength does not hold.
 #[test]
 fn free_places(rt: HostRuntime) -> Result<(), Fault> {
-    let one: [i128; 1] = [1];
-    let two: [i128; 1] = [2];
-    let both: [i128; 2] = [1, 2];
-    let table: [(&[(usize, u8)], &[i128]); 4] = [
-        (&[(104, 16)], &both),
-        (&[(56, 1), (72, 1)], &one),
-        (&[(56, 1), (72, 1), (112, 8), (120, 8)], &two),
-        (&[(24, 0)], &both),
+    let table: [Free; 4] = [
+        (&[(104, 16)], &[1, 2]),
+        (&[(56, 1), (72, 1)], &[1]),
+        (&[(56, 1), (72, 1), (112, 8), (120, 8)], &[2]),
+        (&[(24, 0)], &[1, 2]),
     ];
-    let mut reader = reader(rt.alloc())?;
-    for (changes, wanted) in table {
-        let header = changed(rt.alloc(), &BATCH, changes, 0)?;
-        let numbers = told(rt.alloc(), &mut reader, header)?;
-        assert_eq!(rt; numbers.as_slice(), wanted);
-    }
-    Ok(())
+    assert_free(&rt, rt.alloc(), &mut reader(rt.alloc())?, &table)
+}
+
+// Whether a change of a byte of the batch's header is refused by want of memory.
+fn lacks_memory(
+    alloc: Global,
+    reader: &mut Reader,
+    place: usize,
+    byte: u8,
+) -> Result<bool, AllocError> {
+    let header = changed(alloc, &BATCH, &[(place, byte)], 0)?;
+    Ok(told(alloc, reader, header).err() == Some(Fault::OutOfMemory))
 }
 
 // Each byte of the batch's header, set to each value: every call returns.
@@ -189,10 +257,8 @@ fn every_byte(rt: HostRuntime) -> Result<(), Fault> {
     let mut reader = reader(rt.alloc())?;
     for change in 0..128 * 256_usize {
         let byte = (change % 256) as u8;
-        let header = changed(rt.alloc(), &BATCH, &[(change / 256, byte)], 0)?;
-        if let Err(fault) = told(rt.alloc(), &mut reader, header) {
-            assert!(rt; fault != Fault::OutOfMemory, "change {change}");
-        }
+        let lacking = lacks_memory(rt.alloc(), &mut reader, change / 256, byte)?;
+        assert!(rt; !lacking, "change {change}");
     }
     Ok(())
 }

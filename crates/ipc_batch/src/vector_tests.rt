@@ -35,30 +35,43 @@ fn bytes_of(alloc: Global, text: &str) -> Result<Vec<u8>, AllocError> {
     Ok(bytes)
 }
 
-// The header and the body of the message of a name.
-fn message(alloc: Global, name: &str) -> Result<(Vec<u8>, Vec<u8>), Fail> {
-    for line in MESSAGES.split('\n') {
-        let Some((other, parts)) = line.split_once('\t') else {
-            continue;
-        };
-        if other == name {
-            let (header, body) = parts.split_once('\t').ok_or("no body")?;
-            return Ok((bytes_of(alloc, header)?, bytes_of(alloc, body)?));
+// What stands behind a name, in a text of one name a line.
+fn behind_name(lines: &'static str, name: &str) -> Option<&'static str> {
+    for line in lines.split('\n') {
+        if let Some((other, parts)) = line.split_once('\t') {
+            if other == name {
+                return Some(parts);
+            }
         }
     }
-    Err("no message of this name".into())
+    None
+}
+
+// The header and the body of the message of a name.
+fn message(alloc: Global, name: &str) -> Result<(Vec<u8>, Vec<u8>), Fail> {
+    let parts = behind_name(MESSAGES, name).ok_or("no message of this name")?;
+    let (header, body) = parts.split_once('\t').ok_or("no body")?;
+    Ok((bytes_of(alloc, header)?, bytes_of(alloc, body)?))
 }
 
 // What a reader says to a message.
+type Answer = Result<Option<Batch>, Fault>;
+
 fn read(
     alloc: Global,
     reader: &mut Reader,
     header: &[u8],
     body: &[u8],
-) -> Result<Result<Option<Batch>, Fault>, Fail> {
+) -> Result<Answer, AllocError> {
     let header = Bytes::copy_from_slice(alloc, header)?;
     let body = Bytes::copy_from_slice(alloc, body)?;
     Ok(reader.message(alloc, header, body))
+}
+
+// The same of the message of a name.
+fn read_named(alloc: Global, reader: &mut Reader, name: &str) -> Result<Answer, Fail> {
+    let (header, body) = message(alloc, name)?;
+    Ok(read(alloc, reader, &header, &body)?)
 }
 
 fn push_value(alloc: Global, told: &mut String, value: ValueRef<'_>) -> Result<(), AllocError> {
@@ -137,11 +150,7 @@ fn push_schema(alloc: Global, told: &mut String, schema: &Schema) -> Result<(), 
 }
 
 // What a reader told, in words.
-fn told(
-    alloc: Global,
-    answer: &Result<Option<Batch>, Fault>,
-    schema: Option<&Schema>,
-) -> Result<String, AllocError> {
+fn told(alloc: Global, answer: &Answer, schema: Option<&Schema>) -> Result<String, AllocError> {
     let mut told = String::new(alloc);
     match (answer, schema) {
         (Err(fault), _) => return format!(in alloc; "{fault}"),
@@ -158,16 +167,25 @@ fn told(
     Ok(told)
 }
 
-// The batches of messages, read one behind the other. A refused one is passed over.
+// Adds the batch of the message of a name, where a reader gives one. A refused one is passed over.
+fn push_batch(
+    alloc: Global,
+    found: &mut Vec<Batch>,
+    reader: &mut Reader,
+    name: &str,
+) -> Result<(), Fail> {
+    if let Ok(Some(batch)) = read_named(alloc, reader, name)? {
+        found.push(batch)?;
+    }
+    Ok(())
+}
+
+// The batches of messages, read one behind the other.
 fn batches(alloc: Global, reader: &mut Reader, names: &str) -> Result<Vec<Batch>, Fail> {
     let mut found = Vec::new(alloc);
     for name in names.split(' ') {
-        if name.is_empty() {
-            continue;
-        }
-        let (header, body) = message(alloc, name)?;
-        if let Ok(Some(batch)) = read(alloc, reader, &header, &body)? {
-            found.push(batch)?;
+        if !name.is_empty() {
+            push_batch(alloc, &mut found, reader, name)?;
         }
     }
     Ok(found)
@@ -181,34 +199,52 @@ fn total(alloc: Global, batches: &[Batch]) -> Result<String, AllocError> {
     Ok(told)
 }
 
+// The answer to the message of a name.
+fn last_answer(alloc: Global, reader: &mut Reader, name: &str) -> Result<String, Fail> {
+    let first = reader.schema().is_none();
+    let last = read_named(alloc, reader, name)?;
+    let schema = if first { reader.schema() } else { None };
+    Ok(told(alloc, &last, schema)?)
+}
+
+// The rows of batches, and of that of the message of a name.
+fn all_rows(
+    alloc: Global,
+    mut found: Vec<Batch>,
+    reader: &mut Reader,
+    name: &str,
+) -> Result<String, Fail> {
+    push_batch(alloc, &mut found, reader, name)?;
+    Ok(total(alloc, &found)?)
+}
+
 // The answer to a message behind others, or the rows of all batches.
 fn answer(alloc: Global, name: &str, before: &str, of_all: bool) -> Result<String, Fail> {
     let mut reader = Reader::new();
-    let mut found = batches(alloc, &mut reader, before)?;
-    let first = reader.schema().is_none();
-    let (header, body) = message(alloc, name)?;
-    let last = read(alloc, &mut reader, &header, &body)?;
-    if !of_all {
-        let schema = if first { reader.schema() } else { None };
-        return Ok(told(alloc, &last, schema)?);
+    let found = batches(alloc, &mut reader, before)?;
+    if of_all {
+        return all_rows(alloc, found, &mut reader, name);
     }
-    if let Ok(Some(batch)) = last {
-        found.push(batch)?;
-    }
-    Ok(total(alloc, &found)?)
+    drop(found);
+    last_answer(alloc, &mut reader, name)
+}
+
+// A message is answered as is wanted: the messages before it, and the answer.
+fn assert_case(rt: &impl Abort, alloc: Global, name: &str, parts: &str) -> Result<(), Fail> {
+    let (before, wanted) = parts.split_once('\t').ok_or("no answer")?;
+    let found = answer(alloc, name, before, wanted.starts_with("total"))?;
+    assert_eq!(rt; found.as_str(), wanted, "{name} behind {before}");
+    Ok(())
 }
 
 #[test]
 fn cases(rt: HostRuntime) -> Result<(), Fail> {
     let mut count = 0u32;
     for line in CASES.split('\n') {
-        let Some((name, parts)) = line.split_once('\t') else {
-            continue;
-        };
-        let (before, wanted) = parts.split_once('\t').ok_or("no answer")?;
-        let found = answer(rt.alloc(), name, before, wanted.starts_with("total"))?;
-        assert_eq!(rt; found.as_str(), wanted, "{name} behind {before}");
-        count = count.wrapping_add(1);
+        if let Some((name, parts)) = line.split_once('\t') {
+            assert_case(&rt, rt.alloc(), name, parts)?;
+            count = count.wrapping_add(1);
+        }
     }
     assert_eq!(rt; count, 524);
     Ok(())
@@ -278,23 +314,51 @@ impl Hostile {
     }
 }
 
-// Each byte set to each value: the runs of a byte end with 255. Gives how many bytes there are.
-fn sweep(rt: &impl Abort, alloc: Global, in_header: bool, runs: &str) -> Result<usize, Fail> {
-    let mut hostile = Hostile::new(alloc)?;
+// The answer that stands at a place.
+fn wanted_answer(place: usize) -> Option<&'static str> {
+    ANSWERS.get(place).copied()
+}
+
+// The values of a byte from the first up to that of a run are answered as the run says. Gives the last one.
+fn assert_run(
+    rt: &impl Abort,
+    alloc: Global,
+    hostile: &mut Hostile,
+    (in_header, place, first): (bool, usize, u8),
+    run: &[u8],
+) -> Result<u8, Fail> {
+    let [last, answer] = run else {
+        return Err("half a run".into());
+    };
+    let wanted = wanted_answer(usize::from(*answer)).ok_or("no answer")?;
+    let wrong = hostile.first_wrong(alloc, in_header, place, (first, *last), wanted)?;
+    assert_eq!(rt; wrong, None, "byte {place}: {wanted}");
+    Ok(*last)
+}
+
+// The runs of a byte end with 255. Gives how many bytes there are.
+fn assert_runs(
+    rt: &impl Abort,
+    alloc: Global,
+    hostile: &mut Hostile,
+    in_header: bool,
+    runs: &[u8],
+) -> Result<usize, Fail> {
     let (mut place, mut first) = (0usize, 0u8);
-    for run in bytes_of(alloc, runs)?.chunks_exact(2) {
-        let [last, answer] = run else {
-            return Err("half a run".into());
-        };
-        let wanted = ANSWERS.get(usize::from(*answer)).ok_or("no answer")?;
-        let wrong = hostile.first_wrong(alloc, in_header, place, (first, *last), wanted)?;
-        assert_eq!(rt; wrong, None, "byte {place}: {wanted}");
+    for run in runs.chunks_exact(2) {
+        let last = assert_run(rt, alloc, hostile, (in_header, place, first), run)?;
         first = last.wrapping_add(1);
         if first == 0 {
             place = place.wrapping_add(1);
         }
     }
     Ok(place)
+}
+
+// Each byte set to each value.
+fn sweep(rt: &impl Abort, alloc: Global, in_header: bool, runs: &str) -> Result<usize, Fail> {
+    let runs = bytes_of(alloc, runs)?;
+    assert_runs(rt, alloc, &mut Hostile::new(alloc)?, in_header, &runs)
 }
 
 #[test]
@@ -310,13 +374,26 @@ fn every_byte_of_a_body(rt: HostRuntime) -> Result<(), Fail> {
     Ok(())
 }
 
+// Bytes at a place are answered as is wanted.
+fn assert_set(
+    rt: &impl Abort,
+    alloc: Global,
+    hostile: &mut Hostile,
+    (in_header, place, bytes): (bool, usize, &[u8]),
+    answer: usize,
+) -> Result<(), Fail> {
+    let found = hostile.answer(alloc, in_header, place, bytes)?;
+    let wanted = wanted_answer(answer).ok_or("no answer")?;
+    assert_eq!(rt; found.as_str(), wanted, "{bytes:?} at {place}");
+    Ok(())
+}
+
 #[test]
 fn every_offset_and_length(rt: HostRuntime) -> Result<(), Fail> {
     let mut hostile = Hostile::new(rt.alloc())?;
     for (in_header, place, bytes, answer) in &NUMBERS {
-        let found = hostile.answer(rt.alloc(), *in_header, *place, bytes)?;
-        let wanted = ANSWERS.get(*answer).ok_or("no answer")?;
-        assert_eq!(rt; found.as_str(), *wanted, "{bytes:?} at {place}");
+        let set = (*in_header, *place, *bytes);
+        assert_set(&rt, rt.alloc(), &mut hostile, set, *answer)?;
     }
     Ok(())
 }

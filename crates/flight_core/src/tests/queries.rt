@@ -1,10 +1,13 @@
 //! Queries over a table `t`.
 
-use super::words::{answer_told, fetch_of, put_of, rows_told};
-use super::{REPLACES, put};
-use crate::{Reply, run};
+use super::put;
+use super::words::{
+    Says, assert_answer, assert_answers, assert_rows, fetch_of, last_reply, put_of, rows_told,
+};
+use crate::Reply;
 use scan_base::Fault;
 use std::alloc::Global;
+use std::process::Abort;
 use std::test::Fail;
 
 // One nullable column `a`, whose rows are 1, 2, null and 2.
@@ -12,10 +15,23 @@ const FOUR: &str = "schema_Int64 validity_Int64_0 validity_Int64_7";
 
 // What a query over a range of the rows of a put is answered.
 fn answer(alloc: Global, names: &str, range: (u32, u32), query: &str) -> Result<Reply, Fail> {
-    let mut events = Vec::new(alloc);
-    events.push(put_of(alloc, &[], names)?)?;
-    events.push(fetch_of(alloc, 1, range, query)?)?;
-    Ok(run(alloc, &events)?.pop().ok_or("no reply")?)
+    last_reply(
+        alloc,
+        put_of(alloc, &[], names)?,
+        fetch_of(alloc, 1, range, query)?,
+    )
+}
+
+// The rows of that answer are those that are wanted.
+fn assert_query(
+    rt: &impl Abort,
+    alloc: Global,
+    names: &str,
+    (range, query): ((u32, u32), &str),
+    wanted: &str,
+) -> Result<(), Fail> {
+    let reply = answer(alloc, names, range, query)?;
+    Ok(assert_rows(rt, alloc, &reply, wanted, query)?)
 }
 
 // The rows that a query over all four is answered.
@@ -46,9 +62,7 @@ fn ranges(rt: HostRuntime) -> Result<(), Fail> {
         ((2, 2), "SELECT a FROM t", ""),
     ];
     for (range, query, wanted) in table {
-        let reply = answer(rt.alloc(), FOUR, range, query)?;
-        let told = rows_told(rt.alloc(), &reply)?;
-        assert_eq!(rt; told.as_str(), wanted, "{query}");
+        assert_query(&rt, rt.alloc(), FOUR, (range, query), wanted)?;
     }
     Ok(())
 }
@@ -88,10 +102,24 @@ fn rows(rt: HostRuntime) -> Result<(), Fail> {
         ),
     ];
     for (names, rows, query, wanted) in table {
-        let reply = answer(rt.alloc(), names, (0, rows), query)?;
-        let told = rows_told(rt.alloc(), &reply)?;
-        assert_eq!(rt; told.as_str(), wanted, "{query}");
+        assert_query(&rt, rt.alloc(), names, ((0, rows), query), wanted)?;
     }
+    Ok(())
+}
+
+// A query means nothing over a range of the four rows.
+fn assert_bad_ticket(
+    rt: &impl Abort,
+    alloc: Global,
+    range: (u32, u32),
+    query: &str,
+) -> Result<(), Fail> {
+    let reply = answer(alloc, FOUR, range, query)?;
+    assert_eq!(rt;
+        (reply.fault, reply.payloads.is_empty()),
+        (Some(Fault::BadTicket), true),
+        "{query}"
+    );
     Ok(())
 }
 
@@ -121,14 +149,15 @@ fn bad_tickets(rt: HostRuntime) -> Result<(), Fail> {
         ((0, 5), "SELECT a FROM t WHERE a = 1"),
     ];
     for (range, query) in table {
-        let reply = answer(rt.alloc(), FOUR, range, query)?;
-        assert_eq!(rt;
-            (reply.fault, reply.payloads.is_empty()),
-            (Some(Fault::BadTicket), true),
-            "{query}"
-        );
+        assert_bad_ticket(&rt, rt.alloc(), range, query)?;
     }
     Ok(())
+}
+
+// The columns and the row of a query over the first of the four rows.
+fn assert_named(rt: &impl Abort, alloc: Global, query: &str, wanted: &str) -> Result<(), Fail> {
+    let reply = answer(alloc, FOUR, (0, 1), query)?;
+    Ok(assert_answer(rt, alloc, &reply, wanted)?)
 }
 
 // An alias, and a column that stands twice.
@@ -146,9 +175,7 @@ fn names(rt: HostRuntime) -> Result<(), Fail> {
         ),
     ];
     for (query, wanted) in table {
-        let reply = answer(rt.alloc(), FOUR, (0, 1), query)?;
-        let told = answer_told(rt.alloc(), &reply)?;
-        assert_eq!(rt; told.as_str(), wanted);
+        assert_named(&rt, rt.alloc(), query, wanted)?;
     }
     Ok(())
 }
@@ -156,38 +183,23 @@ fn names(rt: HostRuntime) -> Result<(), Fail> {
 // A delimited name with a quote in it, words in small letters, and a comment.
 #[test]
 fn delimited_name(rt: HostRuntime) -> Result<(), Fail> {
-    let alloc = rt.alloc();
-    let mut events = Vec::new(alloc);
-    events.push(put(alloc, &[(167, 3), (172, b'"'), (173, b'b')])?)?;
-    events.push(fetch_of(alloc, 1, (0, 2), "select \"a\"\"b\" from t -- c")?)?;
-    let replies = run(alloc, &events)?;
-    let reply = replies.last().ok_or(Fault::BadTicket)?;
-    let told = answer_told(alloc, reply)?;
-    assert_eq!(rt; told.as_str(), "a\"b Integer(Int64) or null;\t1;2;");
-    Ok(())
+    let put = put(rt.alloc(), &[(167, 3), (172, b'"'), (173, b'b')])?;
+    let query = "select \"a\"\"b\" from t -- c";
+    let reply = last_reply(rt.alloc(), put, fetch_of(rt.alloc(), 1, (0, 2), query)?)?;
+    let wanted = "a\"b Integer(Int64) or null;\t1;2;";
+    Ok(assert_answer(&rt, rt.alloc(), &reply, wanted)?)
 }
 
 // A put with another name of the column replaces the table. Each version has its own name.
 #[test]
 fn versions(rt: HostRuntime) -> Result<(), Fail> {
-    let alloc = rt.alloc();
-    let [first, second] = REPLACES;
-    let mut events = Vec::new(alloc);
-    events.push(put(alloc, &[])?)?;
-    events.push(put(alloc, &[first, second, (171, b'b')])?)?;
-    for (version, query) in [
-        (1, "SELECT a FROM t"),
-        (1, "SELECT b FROM t"),
-        (2, "SELECT a FROM t"),
-        (2, "SELECT b FROM t"),
-    ] {
-        events.push(fetch_of(alloc, version, (0, 2), query)?)?;
-    }
-    let wanted = ["", "", "1;2;", "F17 BadTicket", "F17 BadTicket", "1;2;"];
-    let replies = run(alloc, &events)?;
-    assert_eq!(rt; replies.len(), wanted.len());
-    for (reply, wanted) in replies.iter().zip(wanted) {
-        assert_eq!(rt; rows_told(alloc, reply)?.as_str(), wanted);
-    }
-    Ok(())
+    let table: [(Says, &'static str); 6] = [
+        (Says::Batch(&[]), ""),
+        (Says::Batch(&[(80, 0x10), (81, 3), (171, b'b')]), ""),
+        (Says::Query(1, (0, 2), "SELECT a FROM t"), "1;2;"),
+        (Says::Query(1, (0, 2), "SELECT b FROM t"), "F17 BadTicket"),
+        (Says::Query(2, (0, 2), "SELECT a FROM t"), "F17 BadTicket"),
+        (Says::Query(2, (0, 2), "SELECT b FROM t"), "1;2;"),
+    ];
+    assert_answers(&rt, rt.alloc(), &table)
 }

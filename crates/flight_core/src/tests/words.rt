@@ -1,8 +1,8 @@
 //! Messages by their names, and what is answered in words.
 
 use super::messages::MESSAGES;
-use super::{FIRST, changed};
-use crate::{Event, Reply};
+use super::{FIRST, changed, fetch, put};
+use crate::{Event, Reply, run};
 use arrays::{Batch, Cells};
 use arrow_schema::Schema;
 use bytes::Bytes;
@@ -11,6 +11,7 @@ use flight_proto::{FlightData, put_statement_ticket};
 use ipc_batch::Reader;
 use scan_base::{Fault, ValueRef};
 use std::alloc::{AllocError, Global};
+use std::process::Abort;
 use std::test::Fail;
 
 // The number that a digit means.
@@ -37,23 +38,24 @@ fn push_bytes(bytes: &mut Vec<u8>, text: &str) -> Result<(), AllocError> {
     Ok(())
 }
 
-// The FlightData of a name, as a text.
-fn message(name: &str) -> Result<&'static str, Fail> {
-    for line in MESSAGES.split('\n') {
+// What stands behind a name, in a text of one name a line.
+fn behind_name(lines: &'static str, name: &str) -> Option<&'static str> {
+    for line in lines.split('\n') {
         if let Some((other, text)) = line.split_once('\t') {
             if other == name {
-                return Ok(text);
+                return Some(text);
             }
         }
     }
-    Err("no message of this name".into())
+    None
 }
 
 // The FlightData of a name, behind what stands in front of it.
 pub(super) fn payload(alloc: Global, front: &[u8], name: &str) -> Result<Vec<u8>, Fail> {
     let mut bytes = Vec::new(alloc);
     bytes.extend_from_slice(front)?;
-    push_bytes(&mut bytes, message(name)?)?;
+    let text = behind_name(MESSAGES, name).ok_or("no message of this name")?;
+    push_bytes(&mut bytes, text)?;
     Ok(bytes)
 }
 
@@ -191,4 +193,91 @@ pub(super) fn rows_in(told: &str) -> u32 {
         }
     }
     rows
+}
+
+// A text is the one that is wanted.
+pub(super) fn assert_text(rt: &impl Abort, found: &str, wanted: &str, note: &str) {
+    assert_eq!(rt; found, wanted, "{note}");
+}
+
+// The rows of a reply, or its fault, are those that are wanted.
+pub(super) fn assert_rows(
+    rt: &impl Abort,
+    alloc: Global,
+    reply: &Reply,
+    wanted: &str,
+    note: &str,
+) -> Result<(), Fault> {
+    let told = rows_told(alloc, reply)?;
+    assert_text(rt, told.as_str(), wanted, note);
+    Ok(())
+}
+
+// The columns and the rows of a reply are those that are wanted.
+pub(super) fn assert_answer(
+    rt: &impl Abort,
+    alloc: Global,
+    reply: &Reply,
+    wanted: &str,
+) -> Result<(), Fault> {
+    let told = answer_told(alloc, reply)?;
+    assert_text(rt, told.as_str(), wanted, "columns and rows");
+    Ok(())
+}
+
+// An event: a put of the batch, with changes of its first message; one of messages by their names, with changes of its
+// command; one of no message; a fetch, with changes of its ticket; and one of a query over a range of a version.
+#[derive(Clone, Copy)]
+pub(super) enum Says {
+    Batch(&'static [(usize, u8)]),
+    Named(&'static [(usize, u8)], &'static str),
+    Nothing,
+    Ticket(&'static [(usize, u8)]),
+    Query(u64, (u32, u32), &'static str),
+}
+
+fn event(alloc: Global, says: Says) -> Result<Event, Fail> {
+    match says {
+        Says::Batch(changes) => Ok(put(alloc, changes)?),
+        Says::Named(changes, names) => put_of(alloc, changes, names),
+        Says::Nothing => Ok(Event::Put(Vec::new(alloc))),
+        Says::Ticket(changes) => Ok(fetch(alloc, changes)?),
+        Says::Query(version, range, query) => Ok(fetch_of(alloc, version, range, query)?),
+    }
+}
+
+fn events(alloc: Global, table: &[(Says, &'static str)]) -> Result<Vec<Event>, Fail> {
+    let mut events = Vec::new(alloc);
+    for (says, _) in table {
+        events.push(event(alloc, *says)?)?;
+    }
+    Ok(events)
+}
+
+fn assert_replies(
+    rt: &impl Abort,
+    alloc: Global,
+    replies: &[Reply],
+    table: &[(Says, &'static str)],
+) -> Result<(), Fault> {
+    assert_eq!(rt; replies.len(), table.len());
+    for (reply, (_, wanted)) in replies.iter().zip(table) {
+        assert_rows(rt, alloc, reply, wanted, "one of several replies")?;
+    }
+    Ok(())
+}
+
+// Events, one behind the other, and what each is answered.
+pub(super) fn assert_answers(
+    rt: &impl Abort,
+    alloc: Global,
+    table: &[(Says, &'static str)],
+) -> Result<(), Fail> {
+    let replies = run(alloc, &events(alloc, table)?)?;
+    Ok(assert_replies(rt, alloc, &replies, table)?)
+}
+
+// The reply to a fetch behind a put.
+pub(super) fn last_reply(alloc: Global, put: Event, fetch: Event) -> Result<Reply, Fail> {
+    Ok(run(alloc, &[put, fetch])?.pop().ok_or("no reply")?)
 }
