@@ -3,7 +3,7 @@ use Rattle.scan_base.specs.declared.value.Value.{Value}
 use Rattle.arrays.specs.Written.{texts_joined}
 use Rattle.arrays.proofs.Rest.{rest_of, rest_more}
 use Rattle.arrays.proofs.Appended.{out_more, begins_more}
-use Rattle.arrays.proofs.column.Column.append_texts.Goals as goal
+use Rattle.arrays.proofs.column.Column.append_each_text.Goals as goal
 
 pub loop-place-preserved : goal.loop-place-preserved
 loop-place-preserved c =

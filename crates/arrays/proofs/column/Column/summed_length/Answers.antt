@@ -1,6 +1,6 @@
 use Rattle.std.proofs.Common.{ap, length, arith}
 use Rattle.arrays.proofs.Rest.{joined_more}
-use Rattle.arrays.proofs.column.Column.texts_length.Goals as goal
+use Rattle.arrays.proofs.column.Column.summed_length.Goals as goal
 
 pub returns-then-length : goal.returns-then-length
 returns-then-length c = λ short.

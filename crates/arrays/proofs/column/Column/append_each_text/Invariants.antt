@@ -2,7 +2,7 @@ use Rattle.std.proofs.Common.{◌≡◌, ◌++◌, length, take}
 use Rattle.arrays.proofs.Rest.{rest_of}
 use Rattle.arrays.specs.Column.{values_of}
 use Rattle.arrays.specs.Written.{texts_joined}
-use Rattle.arrays.proofs.column.Column.append_texts.Given as goal
+use Rattle.arrays.proofs.column.Column.append_each_text.Given as goal
 
 abbrev pub invariant-loop-place : goal.invariant-loop-place
 invariant-loop-place l = record {
