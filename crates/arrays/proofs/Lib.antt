@@ -1,6 +1,7 @@
 mod Elements
 mod Slots
 mod TextSlots
+mod Adjoining
 mod Entries
 mod Slices
 mod Rows

@@ -1,7 +1,7 @@
 //! Columns of texts.
 
-ghost use Rattle.std.specs.Prelude.{◌≡◌, ◌≤◌, ◌<◌, ◌+◌, ◌*◌, ◌||◌, [], IfOk, length};
-ghost use Rattle.std.specs.List.{list_all, range_with_len};
+ghost use Rattle.std.specs.Prelude.{◌≡◌, ◌≤◌, ◌<◌, ◌+◌, ◌-◌, ◌*◌, ◌^◌, ◌||◌, [], IfOk, length};
+ghost use Rattle.std.specs.List.{flat_map, list_all, range_with_len};
 ghost use Rattle.scan_base.specs.Reading.{Gives};
 ghost use Rattle.arrays.specs.Number.{element_at};
 ghost use Rattle.std.specs.Str.{is_utf8};
@@ -211,6 +211,35 @@ impl Texts {
         ensures { result.now ≡ (self.now).bytes }
     {
         self.bytes.as_slice()
+    }
+
+    // Where the texts of the slots `from` up to, not with, `to` begin and end in the data.
+    fn bounds(&self, from: usize, to: usize) -> (usize, usize)
+        requires some { from < to }
+        requires within { to ≤ (self.now).len }
+        ensures begin { result.0 ≡ element_at 4 (self.now).offsets from }
+        ensures end { result.1 ≡ element_at 4 (self.now).offsets to }
+        ensures ordered { result.0 ≤ result.1 }
+        ensures within { result.1 ≤ length (self.now).bytes }
+        ensures short { result.1 < 2 ^ 31 }
+    {
+        let offsets = self.offsets.as_slice();
+        let begin = uint32_at(offsets, from) as usize;
+        (begin, uint32_at(offsets, to) as usize)
+    }
+
+    // The texts of the slots `from` up to, not with, `to`, one behind another: so they stand in the data.
+    pub(crate) fn bytes_between(&self, from: usize, to: usize) -> &[u8]
+        requires ordered { from ≤ to }
+        requires within { to ≤ (self.now).len }
+        ensures bytes { result.now ≡ flat_map (text_at self.now) (range_with_len from (to - from)) }
+        ensures short { length result.now < 2 ^ 31 }
+    {
+        if from == to {
+            return &[];
+        }
+        let (begin, end) = self.bounds(from, to);
+        &self.bytes.as_slice()[begin..end]
     }
 
     /// The same slots once more, over the same buffers: nothing is copied.

@@ -1,6 +1,7 @@
 //! Writing columns: how many bytes each buffer has, and those bytes.
 
-ghost use Rattle.std.specs.Prelude.{◌≡◌, ◌≤◌, ◌<◌, ◌+◌, ◌*◌, ◌^◌, ◌++◌, ℕ, OnOk, SomeIff, length, take, drop};
+ghost use Rattle.std.specs.Prelude.{◌≡◌, ◌≤◌, ◌<◌, ◌+◌, ◌*◌, ◌^◌, ◌++◌, ℕ, IfSome, IsSome, OnOk};
+ghost use Rattle.std.specs.Prelude.{SomeIff, length, take, drop};
 ghost use Rattle.arrays.specs.Number.{byte_width};
 ghost use Rattle.arrays.specs.Column.{slot_of, values_of};
 ghost use Rattle.arrays.specs.Nulls.{valid_slots};
@@ -159,8 +160,33 @@ impl Column {
         }
     }
 
+    // The bytes of all texts, where they are seen to stand one behind another: no slot may be null.
+    fn adjoining_texts(&self) -> Option<&[u8]>
+        ensures bytes { IfSome result (λ bytes. bytes.now ≡ texts_joined (values_of self.now)) }
+        ensures short { IsSome result → HasShortTexts self.now }
+    {
+        let first = self.first();
+        let behind = first + self.len();
+        match self.layout() {
+            Layout::Texts(cells) if !cells.may_have_nulls() => {
+                Some(cells.bytes_between(first, behind))
+            }
+            _ => None,
+        }
+    }
+
     /// How many bytes all texts have, where an offset can name them.
     pub(crate) fn texts_length(&self) -> Option<usize>
+        ensures { SomeIff result (HasShortTexts self.now) (length (texts_joined (values_of self.now))) }
+    {
+        match self.adjoining_texts() {
+            Some(texts) => Some(texts.len()),
+            None => self.summed_length(),
+        }
+    }
+
+    // The same, text by text.
+    fn summed_length(&self) -> Option<usize>
         ensures { SomeIff result (HasShortTexts self.now) (length (texts_joined (values_of self.now))) }
     {
         let mut length = 0;
@@ -189,6 +215,18 @@ impl Column {
 
     // Writes the bytes of all texts.
     fn append_texts(&self, out: &mut Vec<u8>) -> Result<(), AllocError>
+        ensures ok { OnOk result
+            (out.new.items ≡ out.old.items ++ texts_joined (values_of self.now)) }
+        ensures begins { take (length out.old.items) out.new.items ≡ out.old.items }
+    {
+        match self.adjoining_texts() {
+            Some(texts) => out.extend_from_slice(texts),
+            None => self.append_each_text(out),
+        }
+    }
+
+    // The same, text by text.
+    fn append_each_text(&self, out: &mut Vec<u8>) -> Result<(), AllocError>
         ensures ok { OnOk result
             (out.new.items ≡ out.old.items ++ texts_joined (values_of self.now)) }
         ensures begins { take (length out.old.items) out.new.items ≡ out.old.items }

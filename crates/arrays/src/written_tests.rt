@@ -145,6 +145,33 @@ fn written_last_two_texts(rt: HostRuntime) -> Result<(), Fail> {
     assert_written(&rt, rt.alloc(), column, 1, &[&[0x02], &offsets, b"cd"])
 }
 
+// The texts `a`, of no byte and `bcd`, none of which may be null, between bytes that are none of theirs.
+fn plain_texts(alloc: Global) -> Result<Column, Fault> {
+    let offsets = buffer(alloc, &[1, 0, 0, 0, 2, 0, 0, 0, 2, 0, 0, 0, 5, 0, 0, 0])?;
+    let cells = Texts::new(None, offsets, buffer(alloc, b"-abcd-")?, 3)?;
+    Ok(Column::new(Layout::Texts(cells)))
+}
+
+// Their bytes alone are written.
+#[test]
+fn written_plain_texts(rt: HostRuntime) -> Result<(), Fail> {
+    let column = plain_texts(rt.alloc())?;
+    let offsets = [0, 0, 0, 0, 1, 0, 0, 0, 1, 0, 0, 0, 4, 0, 0, 0];
+    assert_written(&rt, rt.alloc(), column, 0, &[&[], &offsets, b"abcd"])
+}
+
+#[test]
+fn written_last_plain_text(rt: HostRuntime) -> Result<(), Fail> {
+    let column = part(&rt, plain_texts(rt.alloc())?, 2, 3)?;
+    assert_written(
+        &rt,
+        rt.alloc(),
+        column,
+        0,
+        &[&[], &[0, 0, 0, 0, 3, 0, 0, 0], b"bcd"],
+    )
+}
+
 // Indices to the text, the null and the text.
 fn indices(alloc: Global) -> Result<Column, Fault> {
     let values = buffer(alloc, &[0, 1, 0])?;

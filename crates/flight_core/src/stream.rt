@@ -17,7 +17,7 @@ use arrays::laws::batch_slices_keep_rows;
 use arrow_schema::{Schema, write_schema};
 use bytes::Bytes;
 use flight_proto::{put_flight_data, put_flight_data_head};
-use ipc_batch::{append_body, body_length, write_batch_header};
+use ipc_batch::MeasuredBatch;
 use scan_base::Fault;
 use scan_exec::Scan;
 use std::alloc::{AllocError, Global};
@@ -49,19 +49,19 @@ fn schema_payload(alloc: Global, schema: &Schema) -> Result<Bytes, AllocError>
     payload_of(payload)
 }
 
-// The payload of a batch whose body has `len` bytes. Its values are copied once.
-fn batch_payload(alloc: Global, batch: &Batch, len: usize) -> Result<Bytes, AllocError>
+// The payload of a batch. Its values are copied once.
+fn batch_payload(alloc: Global, batch: &MeasuredBatch<'_>) -> Result<Bytes, AllocError>
     requires few { length batch.now.columns ≤ most_columns }
-    requires long { len ≡ body_length batch.now }
-    requires short { len ≤ most_body_bytes }
+    requires short { body_length batch.now ≤ most_body_bytes }
     ensures said { IfOk result (λ payload. SaysBatchBehind payload batch.now) }
     ensures fits { IfOk result (λ payload. length payload ≤ most_payload_bytes) }
 {
-    let header = write_batch_header(alloc, batch)?;
+    let header = batch.write_header(alloc)?;
+    let len = batch.body_length();
     let room = header.len().saturating_add(len).saturating_add(32);
     let mut payload = Vec::with_capacity(alloc, room)?;
     put_flight_data_head(&mut payload, &header, len as u64)?;
-    append_body(&mut payload, batch)?;
+    batch.append_body(&mut payload)?;
     payload_of(payload)
 }
 
@@ -89,8 +89,10 @@ fn slice_payload(
     ensures long { IfOk result (λ found. found ≡ None → most_body_bytes < body_length (cut_batch batch.now from to)) }
 {
     let slice = batch.slice(alloc, from, to)?;
-    match body_length(&slice) {
-        Some(len) if len <= MOST_BODY_BYTES => Ok(Some(batch_payload(alloc, &slice, len)?)),
+    match MeasuredBatch::new(alloc, &slice)? {
+        Some(measured) if measured.body_length() <= MOST_BODY_BYTES => {
+            Ok(Some(batch_payload(alloc, &measured)?))
+        }
         _ => Ok(None),
     }
 }

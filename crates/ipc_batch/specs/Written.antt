@@ -118,6 +118,12 @@ parts_written batch = record {
 abbrev pub body_length : BatchAt → ℕ
 body_length batch = length (body_of (buffers_written batch.columns))
 
+-- what is measured of a batch: how many bytes each buffer has, and how many the body, which are few enough
+pub record IsMeasured (batch : BatchAt) (lengths : List ℕ) (bytes : ℕ) : Type 0 where
+  pub each_is : lengths ≡ map length (buffers_written batch.columns)
+  pub all_are : bytes ≡ body_length batch
+  pub small : bytes < 2 ^ 31
+
 -- a batch that can be written
 pub record FitsBatch (batch : BatchAt) : Type 0 where
   pub rows : batch.rows < 2 ^ 64

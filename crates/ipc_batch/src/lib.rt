@@ -4,14 +4,14 @@
 pub mod columns;
 mod dictionaries;
 pub mod laws;
+pub mod measured;
 pub mod parts;
 pub mod reader;
 pub mod writer;
 
+pub use crate::measured::MeasuredBatch;
 pub use crate::reader::Reader;
-pub use crate::writer::{
-    WrittenMessage, append_body, body_length, write_batch, write_batch_header, write_dictionary,
-};
+pub use crate::writer::{WrittenMessage, write_batch, write_dictionary};
 
 #[cfg(test)]
 mod cases;

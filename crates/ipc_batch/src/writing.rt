@@ -2,7 +2,7 @@
 
 ghost use Rattle.std.specs.Prelude.{◌≡◌, IfOk, length};
 
-use crate::{append_body, body_length, write_batch, write_batch_header};
+use crate::{MeasuredBatch, write_batch};
 use arrays::{Batch, Cells, Column, Integers, Layout, Texts};
 use arrow_schema::IntegerType;
 use bytes::Bytes;
@@ -47,15 +47,23 @@ fn batch_of(alloc: Global, column: Column) -> Result<Batch, Fail>
     Ok(Batch::new(columns, rows))
 }
 
+// A batch whose body has fewer than 2 to the 31 bytes.
+fn measured<'a>(alloc: Global, batch: &'a Batch) -> Result<MeasuredBatch<'a>, Fail>
+    ensures { IfOk result (λ measured. measured ≡ batch.now) }
+{
+    Ok(MeasuredBatch::new(alloc, batch)?.ok_or("too long")?)
+}
+
 // A batch of one column has this body.
 fn assert_body(rt: &impl Abort, alloc: Global, column: Column, wanted: &[u8]) -> Result<(), Fail> {
     let batch = batch_of(alloc, column)?;
     let message = write_batch(alloc, &batch)?;
     assert_eq!(rt; message.body.as_slice(), wanted);
     assert!(rt; !message.header.is_empty());
-    assert_eq!(rt; body_length(&batch), Some(wanted.len()));
+    let measured = measured(alloc, &batch)?;
+    assert_eq!(rt; measured.body_length(), wanted.len());
     let mut body = vec![in alloc; 9]?;
-    append_body(&mut body, &batch)?;
+    measured.append_body(&mut body)?;
     assert_eq!(rt; &body[1..], wanted);
     Ok(())
 }
@@ -72,10 +80,7 @@ fn bodies(rt: HostRuntime) -> Result<(), Fail> {
 fn headers(rt: HostRuntime) -> Result<(), Fail> {
     let alloc = rt.alloc();
     let batch = batch_of(alloc, numbers(alloc)?)?;
-    let Some(_) = body_length(&batch) else {
-        return Ok(());
-    };
-    let header = write_batch_header(alloc, &batch)?;
+    let header = measured(alloc, &batch)?.write_header(alloc)?;
     let message = write_batch(alloc, &batch)?;
     assert_eq!(rt; header.as_slice(), message.header.as_slice());
     Ok(())

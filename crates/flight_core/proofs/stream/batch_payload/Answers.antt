@@ -22,4 +22,4 @@ payload_of-requires c =
     let body = body_of (buffers_written batch.columns) in
     let header = c.in_ok-header.header.items in
     let whole : c.append_body.new.out.items ≡ data_head header (length body) ++ body = search rules in
-    batch_fits header body c.append_body.new.out.items whole c.in_ok-header.ensures.short (rw c.requires.long at c.requires.short)
+    batch_fits header body c.append_body.new.out.items whole c.in_ok-header.ensures.short c.requires.short

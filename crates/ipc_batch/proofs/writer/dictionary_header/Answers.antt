@@ -18,4 +18,4 @@ write_message-requires c =
 
 pub returns-clause-items : goal.returns-clause-items
 unfolding dictionary_part
-returns-clause-items c = on_ok c.write_message.result (λ header is. is ∙ rw (c.in_ok-block.ensures, c.in_ok-table.ensures.block, c.in_ok-table.ensures.body) refl) c.write_message.ensures.items
+returns-clause-items c = on_ok c.write_message.result (λ header is. is ∙ rw (c.in_ok-block.ensures, c.in_ok-table.ensures.block, c.body_length.ensures.length) refl) c.write_message.ensures.items

@@ -4,4 +4,4 @@ use Rattle.ipc_batch.proofs.writer.write_batch.Goals as goal
 
 pub returns-clause-body : goal.returns-clause-body
 returns-clause-body c =
-    rw (c.in_ok-append_body.ensures.ok, c.new-body.ensures.items) (whole_body (buffers_written c.args.batch.now.columns))
+    rw (c.in_ok-append_body.ensures.ok, c.new-body.ensures.items, c.in_ok-measured.ensures) (whole_body (buffers_written c.args.batch.now.columns))
