@@ -51,12 +51,12 @@ def table(name, remark, of, rows):
 
 
 def listed(name, remark, rows):
-    """A static string of many lines, whose parts have a tab between. A table of some 500 rows is more than the prover
-    takes in one declaration, and a string of 100,000 bytes costs it little."""
+    """A static string of many lines, however long, whose parts have a tab between. A table of some 500 rows is more
+    than the prover takes in one declaration, and a string of 100,000 bytes costs it little."""
     lines = ["\t".join(row) for row in rows]
     assert all(line.count("\t") == lines[0].count("\t") and "\n" not in line for line in lines), name
-    letters = (letter for line in lines for letter in [*map(in_text, line), "\\n"])
-    return f"// {remark}\npub(crate) static {name}: &str = {joined(letters)};\n"
+    rows = "\\n\\\n".join("".join(map(in_text, line)) for line in lines)
+    return f"// {remark}\npub(crate) static {name}: &str = \"{rows}\\n\";\n"
 
 
 def array(name, data):
