@@ -22,7 +22,7 @@ use Rattle.sql_parse.specs.Factored.{compared, nulled, ranged, among, tail, form
 use Rattle.sql_parse.specs.Steps.{at, token_at, name_at, column_at, minus_at, numbered, digits_at, number_at}
 use Rattle.sql_parse.specs.Steps.{operand_at, compare_at, negated_at, truth_at, compared_at, nulled_at, ranged_at}
 use Rattle.sql_parse.specs.Steps.{operands_at, among_at, tail_at, factor_at, ands_at, conj_at, ors_at, pred_at}
-use Rattle.sql_parse.specs.Steps.{inside_at, primary_at, test_at, negation_at}
+use Rattle.sql_parse.specs.Steps.{inside_at, form_at, primary_at, tested_at, test_at, negation_at}
 use Rattle.sql_parse.proofs.Whole.{one_more}
 
 pub seen_then : {A B : Type 0} (o : Outcome Mark A) (f : A → Reader Mark B) →
@@ -156,8 +156,8 @@ tail_same D a ts = simp (
   compared_same,
 )
 
-forms_same : (D : Nest) (ts : List Mark) → seen (reads D forms ts) ≡ (operand_at ts >>= λ a. tail_at a.0 a.1)
-unfolding forms
+forms_same : (D : Nest) (ts : List Mark) → seen (reads D forms ts) ≡ form_at ts
+unfolding forms form_at
 forms_same D ts = simp (flat, operand_same, tail_same)
 
 conj_same : (d : ℕ) (ts : List Mark) → seen (reads (Some (read factor d)) conj ts) ≡ conj_at d ts
@@ -195,7 +195,7 @@ unfolding primary primary_at at
 primary_same d ts = simp (flat, inside_same, forms_same)
 
 test_same : (d : ℕ) (ts : List Mark) → seen (reads (level d) test ts) ≡ test_at d ts
-unfolding test test_at token_at at
+unfolding test test_at tested_at token_at at
 test_same d ts = simp (flat, primary_same, negated_same, truth_same)
 
 negation_same : (d : ℕ) (ts : List Mark) →

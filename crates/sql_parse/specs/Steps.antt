@@ -192,20 +192,27 @@ inside_at d ts =
       c ← token_at (is_symbol symbol.RightParenthesis) p.1
       Ok (p.0, c.1))
 
+-- an operand and what follows it
+unfoldable pub form_at : List Mark → Answer Condition
+form_at ts = do
+  a ← operand_at ts
+  tail_at a.0 a.1
+
 unfoldable pub primary_at : ℕ → List Mark → Answer Condition
-primary_at d ts =
-    if at (is_symbol symbol.LeftParenthesis) ts then inside_at d ts else (do
-      a ← operand_at ts
-      tail_at a.0 a.1)
+primary_at d ts = if at (is_symbol symbol.LeftParenthesis) ts then inside_at d ts else form_at ts
+
+-- IS [NOT] and a truth value, behind p
+unfoldable pub tested_at : Condition → List Mark → Answer Condition
+tested_at p ts = do
+  i ← token_at (is_word word.Is) ts
+  n ← negated_at i.1
+  t ← truth_at n.1
+  Ok (truth_test n.0 t.0 p, t.1)
 
 unfoldable pub test_at : ℕ → List Mark → Answer Condition
 test_at d ts = do
   p ← primary_at d ts
-  if at (is_word word.Is) p.1 then (do
-    i ← token_at (is_word word.Is) p.1
-    n ← negated_at i.1
-    t ← truth_at n.1
-    Ok (truth_test n.0 t.0 p.0, t.1)) else Ok (p.0, p.1)
+  if at (is_word word.Is) p.1 then tested_at p.0 p.1 else Ok (p.0, p.1)
 
 -- NOT and a factor, where d more may be opened
 unfoldable pub negation_at : ℕ → List Mark → Answer Condition

@@ -1,6 +1,7 @@
 //! Predicates.
 
-ghost use Rattle.std.specs.Prelude.{◌≡◌, ◌<◌, ◌≤◌, IfOk, [], ◌∷◌};
+ghost use Rattle.std.specs.Prelude.{◌≡◌, ◌<◌, ◌≤◌, IfOk, Ok, [], ◌∷◌};
+ghost use Rattle.scan_base.specs.Predicate.{conjunction, disjunction};
 ghost use Rattle.scan_base.specs.View.{pred_of};
 ghost use Rattle.sql_parse.specs.Answers.{Gives};
 ghost use Rattle.sql_parse.specs.Calls.{unread, remaining};
@@ -182,6 +183,70 @@ fn behind_operand<'t>(
 
 // ---- From here on a predicate is in a box, since each parenthesis hands it on.
 
+// These four stand apart, so that what an open parenthesis keeps on the stack holds no predicate by value.
+
+// operand and what follows it
+#[tactic(auto, unfolding(crate::specs::Steps::form_at))]
+#[inline(never)]
+fn form<'t>(
+    alloc: Global,
+    tokens: Rest<'t>,
+) -> Result<(Box<Predicate<ColumnName>>, Rest<'t>), Refusal>
+    ensures exact { Gives (λ x. (pred_of x.0.value, unread x.1)) result (steps.form_at (unread tokens.entry)) }
+    ensures shorter { IfOk result (λ x. remaining x.1 < remaining tokens.entry) }
+{
+    let (left, rest) = operand(alloc, tokens)?;
+    let (predicate, rest) = behind_operand(alloc, left, rest)?;
+    Ok((Box::new(alloc, predicate)?, rest))
+}
+
+// IS [NOT] (TRUE | FALSE | UNKNOWN), behind a predicate
+#[tactic(auto, unfolding(crate::specs::Steps::tested_at))]
+#[inline(never)]
+fn truth_test<'t>(
+    alloc: Global,
+    predicate: Box<Predicate<ColumnName>>,
+    tokens: Rest<'t>,
+) -> Result<(Box<Predicate<ColumnName>>, Rest<'t>), Refusal>
+    ensures exact { Gives (λ x. (pred_of x.0.value, unread x.1)) result
+        (steps.tested_at (pred_of predicate.value) (unread tokens.entry)) }
+    ensures shorter { IfOk result (λ x. remaining x.1 < remaining tokens.entry) }
+{
+    let (_, rest) = tokens.take(Class::Word(Keyword::Is))?;
+    let (negated, rest) = negated(rest)?;
+    let (tested, rest) = truth_value(rest)?;
+    let predicate = Predicate::Is {
+        negated,
+        tested,
+        predicate,
+    };
+    Ok((Box::new(alloc, predicate)?, rest))
+}
+
+// left AND right
+#[inline(never)]
+fn both(
+    alloc: Global,
+    left: Box<Predicate<ColumnName>>,
+    right: Box<Predicate<ColumnName>>,
+) -> Result<Box<Predicate<ColumnName>>, Refusal>
+    ensures { Gives (λ x. pred_of x.value) result (Ok (conjunction (pred_of left.value) (pred_of right.value))) }
+{
+    Ok(Box::new(alloc, Predicate::And(left, right))?)
+}
+
+// left OR right
+#[inline(never)]
+fn either(
+    alloc: Global,
+    left: Box<Predicate<ColumnName>>,
+    right: Box<Predicate<ColumnName>>,
+) -> Result<Box<Predicate<ColumnName>>, Refusal>
+    ensures { Gives (λ x. pred_of x.value) result (Ok (disjunction (pred_of left.value) (pred_of right.value))) }
+{
+    Ok(Box::new(alloc, Predicate::Or(left, right))?)
+}
+
 // NOT factor
 #[tactic(auto, unfolding(crate::specs::Steps::negation_at))]
 #[cycle(nested)]
@@ -204,6 +269,7 @@ fn negation<'t>(
 // NOT factor | test, where `depth` parentheses and prefix NOTs more may be open
 #[tactic(auto, using(crate::proofs::Steps::factor_step))]
 #[cycle(nested)]
+#[inline(always)]
 fn factor<'t>(
     alloc: Global,
     depth: usize,
@@ -222,6 +288,7 @@ fn factor<'t>(
 // factor { AND factor }
 #[tactic(auto, using(crate::proofs::Steps::ands_step), unfolding(crate::specs::Steps::conj_at))]
 #[cycle(nested)]
+#[inline(always)]
 fn conjunction<'t>(
     alloc: Global,
     depth: usize,
@@ -234,7 +301,7 @@ fn conjunction<'t>(
     while rest.at(Class::Word(Keyword::And)) {
         let (_, after) = rest.take(Class::Word(Keyword::And))?;
         let (right, after) = factor(alloc, depth, after)?;
-        left = Box::new(alloc, Predicate::And(left, right))?;
+        left = both(alloc, left, right)?;
         rest = after;
     }
     Ok((left, rest))
@@ -243,6 +310,7 @@ fn conjunction<'t>(
 // conjunction { OR conjunction }
 #[tactic(auto, using(crate::proofs::Steps::ors_step), unfolding(crate::specs::Steps::pred_at))]
 #[cycle(nested)]
+#[inline(always)]
 pub(crate) fn predicate<'t>(
     alloc: Global,
     depth: usize,
@@ -255,7 +323,7 @@ pub(crate) fn predicate<'t>(
     while rest.at(Class::Word(Keyword::Or)) {
         let (_, after) = rest.take(Class::Word(Keyword::Or))?;
         let (right, after) = conjunction(alloc, depth, after)?;
-        left = Box::new(alloc, Predicate::Or(left, right))?;
+        left = either(alloc, left, right)?;
         rest = after;
     }
     Ok((left, rest))
@@ -264,6 +332,7 @@ pub(crate) fn predicate<'t>(
 // "(" predicate ")"
 #[tactic(auto, unfolding(crate::specs::Steps::inside_at))]
 #[cycle(nested)]
+#[inline(always)]
 fn parenthesized<'t>(
     alloc: Global,
     depth: usize,
@@ -284,6 +353,7 @@ fn parenthesized<'t>(
 // "(" predicate ")" | operand and what follows it
 #[tactic(auto, unfolding(crate::specs::Steps::primary_at))]
 #[cycle(nested)]
+#[inline(always)]
 fn primary<'t>(
     alloc: Global,
     depth: usize,
@@ -295,9 +365,7 @@ fn primary<'t>(
     if tokens.at(Class::Symbol(Symbol::LeftParenthesis)) {
         parenthesized(alloc, depth, tokens)
     } else {
-        let (left, rest) = operand(alloc, tokens)?;
-        let (predicate, rest) = behind_operand(alloc, left, rest)?;
-        Ok((Box::new(alloc, predicate)?, rest))
+        form(alloc, tokens)
     }
 }
 
@@ -314,15 +382,7 @@ fn test<'t>(
 {
     let (predicate, rest) = primary(alloc, depth, tokens)?;
     if rest.at(Class::Word(Keyword::Is)) {
-        let (_, rest) = rest.take(Class::Word(Keyword::Is))?;
-        let (negated, rest) = negated(rest)?;
-        let (tested, rest) = truth_value(rest)?;
-        let predicate = Predicate::Is {
-            negated,
-            tested,
-            predicate,
-        };
-        Ok((Box::new(alloc, predicate)?, rest))
+        truth_test(alloc, predicate, rest)
     } else {
         Ok((predicate, rest))
     }
