@@ -13,24 +13,25 @@ use Rattle.sql_parse.specs.declared.refusal.Refusal.{Refusal}
 use Rattle.sql_parse.specs.declared.refusal.Refusal.TheVariants as refusal
 use Rattle.sql_parse.specs.Answers.{seen, Gives}
 use Rattle.sql_parse.specs.ClauseSteps.{whole_at, ended}
-use Rattle.sql_parse.specs.Limits.{passes}
-use Rattle.sql_parse.specs.Parse.{IsSentence, IsShallow, Accepts, is_left_out_whole, fault_at, Refuses}
+use Rattle.sql_parse.specs.Limits.{passes, IsFirstPast}
+use Rattle.sql_parse.specs.Parse.{IsSentence, IsShallow, Accepts, is_left_out_whole, fault_at, fault_or, Refuses}
 use Rattle.sql_parse.specs.Productions.{query}
 use Rattle.sql_parse.specs.Factored.{factor}
 use Rattle.sql_query.specs.Sentence.{Sentence}
-use Rattle.sql_parse.specs.Told.{Told, checked, refused}
+use Rattle.sql_parse.specs.Told.{Told}
 use Rattle.sql_parse.specs.Parse.{Answered, Parsed}
 use Rattle.sql_text.specs.Reading.{tokens_in}
 use Rattle.sql_text.specs.Calls.{lexeme_of}
-use Rattle.std.specs.Prelude.{not, if◌then◌else◌}
-use Rattle.scan_base.specs.Reading.{◌>>=◌, demand}
-use Rattle.scan_base.specs.Reading as fault
+use Rattle.std.proofs.Common.{zero, suc, append_assoc}
+use Rattle.std.proofs.lemmas.List.{take-take, take-append-drop, length-take-le}
 use Rattle.sql_parse.specs.Tokens.{Mark, mark, mark_of, marks}
 use Rattle.sql_parse.proofs.ClauseReading.{query_same}
 use Rattle.sql_parse.proofs.Printed.{read_shallow, printed_shallow, read_sentence, printed_sentence}
 use Rattle.sql_parse.proofs.Printed.{sentence_of_shallow}
 use Rattle.sql_parse.proofs.Whole.{told}
 use Rattle.sql_parse.proofs.Limited.{limited}
+use Rattle.sql_parse.proofs.OneAnswer.{part_passes}
+use Rattle.sql_parse.proofs.Past.{marks_length}
 
 -- ---- of the grammar that is read, and of the one that is printed
 
@@ -106,21 +107,6 @@ too_deep ts end x = inl (
   refl,
 )
 
-pub whole_past : (ts : List Mark) (end : ℕ) (s : Sentence) → IsShallow ts s → passes ts ≡ true →
-    Refuses ts end LimitReached
-whole_past ts end s q p = inl (
-  record {
-    front = ts;
-    rest = [];
-    splits = sym (append-nil ts);
-    begins =
-        ([], s, subst (λ (z : List Mark). IsSentence z s) (sym (append-nil ts)) (sentence_of_shallow ts s q));
-    past =
-        inr p;
-  },
-  refl,
-)
-
 pub left_out : (ts : List Mark) (end : ℕ) (s : Sentence) → IsShallow ts s → passes ts ≡ false →
     is_left_out_whole s ≡ true → Refuses ts end NotInSubset
 left_out ts end s q p w = inr (inr (
@@ -170,71 +156,118 @@ cut_at xs left w =
     let at : length xs - left ≡ length w.2.front = omega (arith, c.2, w.1) in
     (w.0, w.2, le, rw at c.0, rw at c.1)
 
-pub front_past : (xs : List Token) (left end : ℕ) →
-    ((place : List Mark) × (length place ≡ left) × Offends IsShallow IsSentence (marks xs) place) →
-    passes (marks (take (length xs - left) xs)) ≡ true → Refuses (marks xs) end LimitReached
-front_past xs left end w p =
-    let c = cut_at xs left w in
-    inl (
-      record {
-        front = c.1.front;
-        rest = c.0;
-        splits = c.1.splits;
-        begins =
-            begins_by IsShallow IsSentence sentence_of_shallow c.1.front c.1.begins;
-        past =
-            inr (subst (λ (z : List Mark). passes z ≡ true) c.3 p);
-      },
-      refl,
-    )
+-- ---- tokens that pass no limit
 
-pub offends : (xs : List Token) (left end : ℕ) (fault : Fault) →
+pub offends_within : (xs : List Token) (left end : ℕ) (fault : Fault) → passes (marks xs) ≡ false →
     ((place : List Mark) × (length place ≡ left) × Offends IsShallow IsSentence (marks xs) place) →
-    passes (marks (take (length xs - left) xs)) ≡ false → fault ≡ fault_at end (marks (drop (length xs - left) xs)) →
-    Refuses (marks xs) end fault
-offends xs left end fault w p f =
+    fault ≡ fault_at end (marks (drop (length xs - left) xs)) → Refuses (marks xs) end fault
+offends_within xs left end fault none w f =
     let c = cut_at xs left w in
     inr (inl (
       c.0,
-      record { offends = c.1; counts = subst (λ (z : List Mark). passes z ≡ false) c.3 p },
+      record {
+        offends = c.1;
+        counts =
+            part_passes c.1.front c.0 (subst (λ (z : List Mark). passes z ≡ false) c.1.splits none);
+      },
       f
           ∙ ap (fault_at end) c.4,
     ))
 
--- ---- the answers, as the code comes to them
+-- ---- tokens of which the one at `at` is the first that passes a limit
 
-by_flags : {X : Type 0} (view : X → Sentence) (ts : List Mark) (end : ℕ) (s : Sentence) (r : Result X Fault) →
-    IsShallow ts s × ((other : Sentence) → IsSentence ts other → other ≡ s) → (p w : Bool) → passes ts ≡ p →
-    is_left_out_whole s ≡ w →
-    fault.Gives view r (demand (not p) LimitReached >>= λ _. (demand (not w) NotInSubset >>= λ _. Ok s)) →
-    Answered view ts end r
-by_flags view ts end s (Ok x) t true w ep ew g = cc
-by_flags view ts end s (Ok x) t false true ep ew g = cc
-by_flags view ts end s (Ok x) t false false ep ew g = let e : s ≡ view x =
-    cc in subst (Accepts ts) e (accepted ts s t ep ew)
-by_flags view ts end s (Err fault) t true w ep ew g = λ ne. let e : LimitReached ≡ fault =
-    cc in subst (Refuses ts end) e (whole_past ts end s t.0 ep)
-by_flags view ts end s (Err fault) t false true ep ew g = λ ne. let e : NotInSubset ≡ fault =
-    cc in subst (Refuses ts end) e (left_out ts end s t.0 ep ew)
-by_flags view ts end s (Err fault) t false false ep ew g = λ ne. cc
+abbrev front_of : ℕ → List Token → List Mark
+front_of at xs = marks (take (at + 1) xs)
 
-pub whole_answer : {X Y : Type 0} (view : X → Sentence) (ts : List Mark) (end : ℕ) (seen_as : Y → Sentence) (y : Y)
-    (r : Result X Fault) → Told seen_as ts (Ok y) → fault.Gives view r (checked ts (seen_as y)) →
-    Answered view ts end r
-whole_answer view ts end seen_as y r t g =
-    by_flags view ts end (seen_as y) r t (passes ts) (is_left_out_whole (seen_as y)) refl refl g
+abbrev behind : ℕ → List Token → List Mark
+behind at xs = marks (drop (at + 1) xs)
 
-pub refused_answer : {Y : Type 0} (seen_as : Y → Sentence) (xs : List Token) (left end : ℕ) (fault : Fault) →
-    Told seen_as (marks xs) (Err (refusal.Offends left)) →
-    fault ≡ refused (marks (take (length xs - left) xs)) (marks (drop (length xs - left) xs)) end →
+splits_at : (n : ℕ) (xs : List Token) → marks xs ≡ marks (take n xs) ++ marks (drop n xs)
+splits_at zero xs = refl
+splits_at (suc n) [] = refl
+splits_at (suc n) (x ∷ xs) = ap (λ (z : List Mark). mark x ∷ z) (splits_at n xs)
+
+marks_take : (n : ℕ) (xs : List Token) → take n (marks xs) ≡ marks (take n xs)
+marks_take zero xs = refl
+marks_take (suc n) [] = refl
+marks_take (suc n) (x ∷ xs) = ap (λ (z : List Mark). mark x ∷ z) (marks_take n xs)
+
+-- no token of a shorter front passes a limit
+shorter_front : (n at : ℕ) (ts : List Mark) → n ≤ at → passes (take at ts) ≡ false → passes (take n ts) ≡ false
+shorter_front n at ts le none = subst (λ (z : List Mark). passes z ≡ false) (take-take n at ts le)
+    (part_passes (take n (take at ts)) (drop n (take at ts))
+    (subst (λ (z : List Mark). passes z ≡ false) (sym (take-append-drop n (take at ts))) none))
+
+limit_past : (xs : List Token) (at end : ℕ) → IsFirstPast (Some at) (marks xs) → Begins IsSentence (front_of at xs) →
+    Refuses (marks xs) end LimitReached
+limit_past xs at end past b = inl (
+  record {
+    front = front_of at xs;
+    rest = behind at xs;
+    splits = splits_at (at + 1) xs;
+    begins = b;
+    past =
+        inr (subst (λ (z : List Mark). passes z ≡ true) (marks_take (at + 1) xs) past.2);
+  },
+  refl,
+)
+
+pub read_past : (xs : List Token) (at end : ℕ) (s : Sentence) → IsFirstPast (Some at) (marks xs) →
+    IsShallow (front_of at xs) s → Refuses (marks xs) end LimitReached
+read_past xs at end s past q = limit_past xs at end past (
+  [],
+  s,
+  subst (λ (z : List Mark). IsSentence z s) (sym (append-nil (front_of at xs)))
+      (sentence_of_shallow (front_of at xs) s q),
+)
+
+pub deep_past : (xs : List Token) (at end : ℕ) → Exceeds IsShallow IsSentence (front_of at xs) →
+    Refuses (marks xs) end LimitReached
+deep_past xs at end x = too_deep (marks xs) end (record {
+  front = x.front;
+  rest = x.rest ++ behind at xs;
+  splits =
+      splits_at (at + 1) xs
+      ∙ (ap (λ (z : List Mark). z ++ behind at xs) x.splits ∙ append_assoc x.front x.rest (behind at xs));
+  begins = x.begins;
+  passes = x.passes;
+})
+
+offended : (xs : List Token) (at end : ℕ) (fault : Fault) → IsFirstPast (Some at) (marks xs) → (place : List Mark) →
+    Offends IsShallow IsSentence (front_of at xs) place → fault ≡ fault_or LimitReached place →
     Refuses (marks xs) end fault
-refused_answer seen_as xs left end fault t g = go (passes (marks (take (length xs - left) xs))) refl g
-  where
-    go : (p : Bool) → passes (marks (take (length xs - left) xs)) ≡ p →
-        fault ≡ (if p then LimitReached else fault_at end (marks (drop (length xs - left) xs))) →
-        Refuses (marks xs) end fault
-    go true e f = subst (Refuses (marks xs) end) (sym f) (front_past xs left end t e)
-    go false e f = offends xs left end fault t e f
+offended xs at end fault past [] o f = subst (Refuses (marks xs) end) (sym f) (limit_past xs at end past
+    (begins_by IsShallow IsSentence sentence_of_shallow (front_of at xs)
+    (subst (Begins IsShallow) (sym (o.splits ∙ append-nil o.front)) o.begins)))
+offended xs at end fault past (t ∷ place) o f =
+    let whole : marks xs ≡ o.front ++ t ∷ (place ++ behind at xs) =
+    splits_at (at + 1) xs
+    ∙ (ap (λ (z : List Mark). z ++ behind at xs) o.splits ∙ append_assoc o.front (t ∷ place) (behind at xs)) in
+    let c = cut xs o.front (t ∷ (place ++ behind at xs)) whole in
+    let parts = (cut (take (at + 1) xs) o.front (t ∷ place) o.splits).2 in
+    let size = marks_length xs in
+    let inside = past.0 in
+    let room : at + 1 ≤ length xs = omega (arith, size, inside) in
+    let taken = length-take-le (at + 1) xs room in
+    let few : length o.front ≤ at = omega (arith, parts, taken) in
+    inr (inl (
+      t ∷ (place ++ behind at xs),
+      record {
+        offends = record { front = o.front; splits = whole; begins = o.begins; ends = o.ends };
+        counts =
+            subst (λ (z : List Mark). passes z ≡ false) (marks_take (length o.front) xs ∙ c.0)
+            (shorter_front (length o.front) at (marks xs) few past.1);
+      },
+      f,
+    ))
+
+pub offends_past : (xs : List Token) (at left end : ℕ) (fault : Fault) → IsFirstPast (Some at) (marks xs) →
+    ((place : List Mark) × (length place ≡ left) × Offends IsShallow IsSentence (front_of at xs) place) →
+    fault ≡ fault_or LimitReached (marks (drop (length (take (at + 1) xs) - left) (take (at + 1) xs))) →
+    Refuses (marks xs) end fault
+offends_past xs at left end fault past w f =
+    let c = cut_at (take (at + 1) xs) left w in
+    offended xs at end fault past c.0 c.1 (f ∙ ap (fault_or LimitReached) c.4)
 
 -- ---- of a text
 

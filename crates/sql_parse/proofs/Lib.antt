@@ -6,6 +6,7 @@ pub mod ClauseReading
 pub mod Printed
 pub mod Gathered
 pub mod Parts
+pub mod Past
 pub mod NameTokens
 pub mod ListTokens
 pub mod Limiting

@@ -60,7 +60,7 @@ part_passes_from tally (t ∷ a) b e =
     or_from (is_long_name t.0 t.1.1 || is_past tally) (passes_from (counted tally t.0) a) here
     (part_passes_from (counted tally t.0) a b there)
 
-part_passes : (a b : List Mark) → passes (a ++ b) ≡ false → passes a ≡ false
+pub part_passes : (a b : List Mark) → passes (a ++ b) ≡ false → passes a ≡ false
 unfolding passes
 part_passes a b e = part_passes_from (record { places = 0; items = 0; most = 64 }) a b e
 

@@ -1,5 +1,6 @@
 -- The limits of number and of names.
 use Rattle.std.specs.Prelude.{ℕ, ◌+◌, Bool, false, ◌&&◌, ◌||◌, if◌then◌else◌, nat_lt, List, [], ◌∷◌, length}
+use Rattle.std.specs.Prelude.{◌≡◌, ◌<◌, true, take, Option, Some, None}
 use Rattle.sql_text.specs.declared.word.Keyword.TheVariants as word
 use Rattle.sql_text.specs.declared.symbol.Symbol.TheVariants as symbol
 use Rattle.sql_text.specs.declared.token.TokenKind.{TokenKind}
@@ -34,3 +35,8 @@ passes_from tally (t ∷ ts) = (is_long_name t.0 t.1.1 || is_past tally) || pass
 -- that is one too many.
 unfoldable pub passes : List Mark → Bool
 passes ts = passes_from (record { places = 0; items = 0; most = 64 }) ts
+
+-- the token at `at` is the first that passes a limit, or none does
+abbrev pub IsFirstPast : Option ℕ → List Mark → Type 0
+IsFirstPast None ts = passes ts ≡ false
+IsFirstPast (Some at) ts = (at < length ts) × (passes (take at ts) ≡ false) × (passes (take (at + 1) ts) ≡ true)

@@ -64,10 +64,14 @@ pub record HasLeftOut (ts : List Mark) : Type 0 where
   pub within : IsWithinLimits sentence
   pub whole : is_left_out_whole sentence ≡ true
 
+-- the fault of the first token, which offends, or the other one where there is none
+abbrev pub fault_or : Fault → List Mark → Fault
+fault_or other [] = other
+fault_or other (t ∷ ts) = if is_left_out t.0 then NotInSubset else BadSql t.1.0
+
 -- the fault of an offending token, where the text ends at `end`
 abbrev pub fault_at : ℕ → List Mark → Fault
-fault_at end [] = BadSql end
-fault_at end (t ∷ ts) = if is_left_out t.0 then NotInSubset else BadSql t.1.0
+fault_at end ts = fault_or (BadSql end) ts
 
 abbrev pub Refuses : List Mark → ℕ → Fault → Type 0
 Refuses ts end fault =

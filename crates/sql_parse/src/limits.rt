@@ -2,6 +2,7 @@
 
 ghost use Rattle.std.specs.Prelude.{◌≡◌, ◌≤◌, false};
 ghost use Rattle.sql_parse.specs.Limits as limits;
+ghost use Rattle.sql_parse.specs.Limits.{IsFirstPast};
 ghost use Rattle.sql_parse.specs.Tokens.{marks};
 
 use sql_text::{Keyword, Symbol, Token, TokenKind};
@@ -83,21 +84,21 @@ fn is_long_name(token: Token<'_>) -> bool
     }
 }
 
-/// Whether one of the tokens, which begin a sentence, passes a limit. It takes no memory.
+/// Which token is the first that passes a limit, where the tokens up to it begin a sentence. It takes no memory.
 #[tactic(auto, unfolding(crate::specs::Limits::passes))]
-pub(crate) fn passes_limit(tokens: &[Token<'_>]) -> bool
-    ensures { result ≡ limits.passes (marks tokens.now) }
+pub(crate) fn first_past(tokens: &[Token<'_>]) -> Option<usize>
+    ensures { IsFirstPast result (marks tokens.now) }
 {
     let mut tally = Tally {
         places: 0,
         items: 0,
         most: MOST_ITEMS,
     };
-    for token in tokens {
+    for (index, token) in tokens.iter().enumerate() {
         if is_long_name(*token) || tally.is_past() {
-            return true;
+            return Some(index);
         }
         tally = tally.counted(token.kind);
     }
-    false
+    None
 }

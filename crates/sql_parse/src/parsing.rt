@@ -1,15 +1,15 @@
 //! Parsing a text.
 
-ghost use Rattle.std.specs.Prelude.{◌≡◌, IfOk};
-ghost use Rattle.scan_base.specs.Reading.{Gives};
-ghost use Rattle.sql_parse.specs.Told.{checked, refused};
-ghost use Rattle.sql_parse.specs.Parse.{Answered, Parsed, fault_at, is_left_out_whole};
+ghost use Rattle.std.specs.Prelude.{◌≡◌, ◌≢◌, false, Some, IfOk};
+ghost use Rattle.scan_base.specs.declared.fault.Fault.TheVariants.{OutOfMemory};
+ghost use Rattle.sql_parse.specs.Limits.{IsFirstPast, passes};
+ghost use Rattle.sql_parse.specs.Parse.{Answered, Parsed, Refuses, fault_or, is_left_out_whole};
 ghost use Rattle.sql_query.specs.Names.{HasNames};
 ghost use Rattle.sql_query.specs.Sentence.{sentence_of};
 ghost use Rattle.sql_parse.specs.Tokens.{marks};
 
 use crate::clauses::whole_query;
-use crate::limits::passes_limit;
+use crate::limits::first_past;
 use crate::refusal::Refusal;
 use crate::tokens::Rest;
 use scan_base::Fault;
@@ -28,12 +28,12 @@ fn is_left_out(query: &Query) -> bool
     (!query.joins.is_empty() && query.is_grouped()) || (is_all && !query.group_by.is_empty())
 }
 
-// The fault of the first of these tokens, which offends, where the text ends at `end`.
-fn fault_of(tokens: &[Token<'_>], end: u32) -> Fault
-    ensures { result ≡ fault_at end (marks tokens.now) }
+// The fault of the first of these tokens, which offends, or the other one where there is none.
+fn fault_or(other: Fault, tokens: &[Token<'_>]) -> Fault
+    ensures { result ≡ fault_or other (marks tokens.now) }
 {
     match tokens {
-        [] => Fault::BadSql { position: end },
+        [] => other,
         [first, ..] => {
             if first.kind.is_left_out() {
                 Fault::NotInSubset
@@ -46,27 +46,42 @@ fn fault_of(tokens: &[Token<'_>], end: u32) -> Fault
     }
 }
 
-// The query that the tokens are, where they pass no limit and it is not left out as a whole.
-fn checked(query: Query, tokens: &[Token<'_>]) -> Result<Query, Fault>
-    ensures { Gives sentence_of result (checked (marks tokens.now) (sentence_of query)) }
+// The query that the tokens are, which pass no limit, or the first fault, where the text ends at `end`.
+fn parse_within(alloc: Global, tokens: &[Token<'_>], end: u32) -> Result<Query, Fault>
+    requires { passes (marks tokens.now) ≡ false }
+    ensures { Answered sentence_of (marks tokens.now) end result }
 {
-    if passes_limit(tokens) {
-        return Err(Fault::LimitReached);
+    match whole_query(alloc, MOST_OPEN, Rest { tokens }) {
+        Ok(query) => {
+            if is_left_out(&query) {
+                Err(Fault::NotInSubset)
+            } else {
+                Ok(query)
+            }
+        }
+        Err(Refusal::Offends(left)) => {
+            let (_, place) = tokens.split_at(tokens.len() - left);
+            Err(fault_or(Fault::BadSql { position: end }, place))
+        }
+        Err(Refusal::TooDeep) => Err(Fault::LimitReached),
+        Err(Refusal::OutOfMemory) => Err(Fault::OutOfMemory),
     }
-    if is_left_out(&query) {
-        return Err(Fault::NotInSubset);
-    }
-    Ok(query)
 }
 
-// The fault where the first token of the place offends: the limit's, where one before it passes a limit.
-fn refused(front: &[Token<'_>], place: &[Token<'_>], end: u32) -> Fault
-    ensures { result ≡ refused (marks front.now) (marks place.now) end }
+// The first fault of the tokens, where the one at `past` is the first that passes a limit. None behind it is read.
+fn fault_past(alloc: Global, tokens: &[Token<'_>], past: usize, end: u32) -> Fault
+    requires { IsFirstPast (Some past) (marks tokens.now) }
+    ensures { result ≢ OutOfMemory → Refuses (marks tokens.now) end result }
 {
-    if passes_limit(front) {
-        Fault::LimitReached
-    } else {
-        fault_of(place, end)
+    let (front, _) = tokens.split_at(past + 1);
+    match whole_query(alloc, MOST_OPEN, Rest { tokens: front }) {
+        Ok(_) => Fault::LimitReached,
+        Err(Refusal::Offends(left)) => {
+            let (_, place) = front.split_at(front.len() - left);
+            fault_or(Fault::LimitReached, place)
+        }
+        Err(Refusal::TooDeep) => Fault::LimitReached,
+        Err(Refusal::OutOfMemory) => Fault::OutOfMemory,
     }
 }
 
@@ -74,14 +89,9 @@ fn refused(front: &[Token<'_>], place: &[Token<'_>], end: u32) -> Fault
 fn parse_tokens(alloc: Global, tokens: &[Token<'_>], end: u32) -> Result<Query, Fault>
     ensures { Answered sentence_of (marks tokens.now) end result }
 {
-    match whole_query(alloc, MOST_OPEN, Rest { tokens }) {
-        Ok(query) => checked(query, tokens),
-        Err(Refusal::Offends(left)) => {
-            let (front, place) = tokens.split_at(tokens.len() - left);
-            Err(refused(front, place, end))
-        }
-        Err(Refusal::TooDeep) => Err(Fault::LimitReached),
-        Err(Refusal::OutOfMemory) => Err(Fault::OutOfMemory),
+    match first_past(tokens) {
+        None => parse_within(alloc, tokens, end),
+        Some(past) => Err(fault_past(alloc, tokens, past, end)),
     }
 }
 

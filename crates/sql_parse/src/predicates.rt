@@ -47,8 +47,11 @@ fn truth_value<'t>(tokens: Rest<'t>) -> Result<(Truth, Rest<'t>), Refusal>
     }
 }
 
+// What may follow an operand: each stands apart, so that no reading makes room for what another needs.
+
 // compare operand, behind an operand
 #[tactic(auto, unfolding(crate::specs::Steps::compared_at))]
+#[inline(never)]
 fn compared<'t>(
     alloc: Global,
     left: Operand<ColumnName>,
@@ -69,6 +72,7 @@ fn compared<'t>(
 
 // IS [NOT] NULL, behind an operand
 #[tactic(auto, unfolding(crate::specs::Steps::nulled_at))]
+#[inline(never)]
 fn null_test<'t>(
     operand: Operand<ColumnName>,
     tokens: Rest<'t>,
@@ -84,6 +88,7 @@ fn null_test<'t>(
 
 // BETWEEN operand AND operand, behind an operand and NOT or none
 #[tactic(auto, unfolding(crate::specs::Steps::ranged_at))]
+#[inline(never)]
 fn between<'t>(
     alloc: Global,
     negated: bool,
@@ -131,6 +136,7 @@ fn operands<'t>(
 
 // IN "(" operand { "," operand } ")", behind an operand and NOT or none
 #[tactic(auto, unfolding(crate::specs::Steps::among_at))]
+#[inline(never)]
 fn membership<'t>(
     alloc: Global,
     negated: bool,
@@ -183,7 +189,7 @@ fn behind_operand<'t>(
 
 // ---- From here on a predicate is in a box, since each parenthesis hands it on.
 
-// These four stand apart, so that what an open parenthesis keeps on the stack holds no predicate by value.
+// The next four stand apart, so that what an open parenthesis keeps on the stack holds no predicate by value.
 
 // operand and what follows it
 #[tactic(auto, unfolding(crate::specs::Steps::form_at))]
