@@ -48,6 +48,8 @@ TEXTS = {
     "OR chain": filled(WHERE + "a = 1", " OR a = 1"),
     "OR chain, dense": filled(WHERE + "a=1", "OR a=1"),
     "OR chain of columns, dense": filled(WHERE + 'a="b"', 'OR a="b"'),
+    "OR chain of strings, dense": filled(WHERE + "a='s'", "OR a='s'"),
+    "OR chain of INs, dense": filled(WHERE + "a IN(1)", "OR a IN(1)"),
     "AND chain": filled(WHERE + "a = 1", " AND a = 1"),
     "BETWEEN chain": filled(WHERE + "a = 1", " AND a BETWEEN 1 AND 2"),
     "IN lists": lists(256),

@@ -47,6 +47,8 @@ fn truth_value<'t>(tokens: Rest<'t>) -> Result<(Truth, Rest<'t>), Refusal>
     }
 }
 
+// ---- From here on a predicate is in a box, since each parenthesis hands it on.
+
 // What may follow an operand: each stands apart, so that no reading makes room for what another needs.
 
 // compare operand, behind an operand
@@ -56,8 +58,8 @@ fn compared<'t>(
     alloc: Global,
     left: Operand<ColumnName>,
     tokens: Rest<'t>,
-) -> Result<(Predicate<ColumnName>, Rest<'t>), Refusal>
-    ensures exact { Gives (λ x. (pred_of x.0, unread x.1)) result (steps.compared_at left (unread tokens.entry)) }
+) -> Result<(Box<Predicate<ColumnName>>, Rest<'t>), Refusal>
+    ensures exact { Gives (λ x. (pred_of x.0.value, unread x.1)) result (steps.compared_at left (unread tokens.entry)) }
     ensures shorter { IfOk result (λ x. remaining x.1 < remaining tokens.entry) }
 {
     let (comparison, rest) = compare(tokens)?;
@@ -67,23 +69,25 @@ fn compared<'t>(
         left,
         right,
     };
-    Ok((predicate, rest))
+    Ok((Box::new(alloc, predicate)?, rest))
 }
 
 // IS [NOT] NULL, behind an operand
 #[tactic(auto, unfolding(crate::specs::Steps::nulled_at))]
 #[inline(never)]
 fn null_test<'t>(
+    alloc: Global,
     operand: Operand<ColumnName>,
     tokens: Rest<'t>,
-) -> Result<(Predicate<ColumnName>, Rest<'t>), Refusal>
-    ensures exact { Gives (λ x. (pred_of x.0, unread x.1)) result (steps.nulled_at operand (unread tokens.entry)) }
+) -> Result<(Box<Predicate<ColumnName>>, Rest<'t>), Refusal>
+    ensures exact { Gives (λ x. (pred_of x.0.value, unread x.1)) result (steps.nulled_at operand (unread tokens.entry)) }
     ensures shorter { IfOk result (λ x. remaining x.1 < remaining tokens.entry) }
 {
     let (_, rest) = tokens.take(Class::Word(Keyword::Is))?;
     let (negated, rest) = negated(rest)?;
     let (_, rest) = rest.take(Class::Word(Keyword::Null))?;
-    Ok((Predicate::IsNull { negated, operand }, rest))
+    let predicate = Predicate::IsNull { negated, operand };
+    Ok((Box::new(alloc, predicate)?, rest))
 }
 
 // BETWEEN operand AND operand, behind an operand and NOT or none
@@ -94,8 +98,8 @@ fn between<'t>(
     negated: bool,
     value: Operand<ColumnName>,
     tokens: Rest<'t>,
-) -> Result<(Predicate<ColumnName>, Rest<'t>), Refusal>
-    ensures exact { Gives (λ x. (pred_of x.0, unread x.1)) result
+) -> Result<(Box<Predicate<ColumnName>>, Rest<'t>), Refusal>
+    ensures exact { Gives (λ x. (pred_of x.0.value, unread x.1)) result
         (steps.ranged_at negated value (unread tokens.entry)) }
     ensures shorter { IfOk result (λ x. remaining x.1 < remaining tokens.entry) }
 {
@@ -109,7 +113,7 @@ fn between<'t>(
         low,
         high,
     };
-    Ok((predicate, rest))
+    Ok((Box::new(alloc, predicate)?, rest))
 }
 
 // { "," operand }, behind the first
@@ -142,8 +146,8 @@ fn membership<'t>(
     negated: bool,
     value: Operand<ColumnName>,
     tokens: Rest<'t>,
-) -> Result<(Predicate<ColumnName>, Rest<'t>), Refusal>
-    ensures exact { Gives (λ x. (pred_of x.0, unread x.1)) result (steps.among_at negated value (unread tokens.entry)) }
+) -> Result<(Box<Predicate<ColumnName>>, Rest<'t>), Refusal>
+    ensures exact { Gives (λ x. (pred_of x.0.value, unread x.1)) result (steps.among_at negated value (unread tokens.entry)) }
     ensures shorter { IfOk result (λ x. remaining x.1 < remaining tokens.entry) }
 {
     let (_, rest) = tokens.take(Class::Word(Keyword::In))?;
@@ -156,7 +160,7 @@ fn membership<'t>(
         operand: value,
         items,
     };
-    Ok((predicate, rest))
+    Ok((Box::new(alloc, predicate)?, rest))
 }
 
 // what follows an operand
@@ -165,12 +169,12 @@ fn behind_operand<'t>(
     alloc: Global,
     left: Operand<ColumnName>,
     tokens: Rest<'t>,
-) -> Result<(Predicate<ColumnName>, Rest<'t>), Refusal>
-    ensures exact { Gives (λ x. (pred_of x.0, unread x.1)) result (steps.tail_at left (unread tokens.entry)) }
+) -> Result<(Box<Predicate<ColumnName>>, Rest<'t>), Refusal>
+    ensures exact { Gives (λ x. (pred_of x.0.value, unread x.1)) result (steps.tail_at left (unread tokens.entry)) }
     ensures shorter { IfOk result (λ x. remaining x.1 < remaining tokens.entry) }
 {
     if tokens.at(Class::Word(Keyword::Is)) {
-        null_test(left, tokens)
+        null_test(alloc, left, tokens)
     } else if tokens.at(Class::Word(Keyword::Not)) {
         let (_, rest) = tokens.take(Class::Word(Keyword::Not))?;
         if rest.at(Class::Word(Keyword::Between)) {
@@ -187,8 +191,6 @@ fn behind_operand<'t>(
     }
 }
 
-// ---- From here on a predicate is in a box, since each parenthesis hands it on.
-
 // The next four stand apart, so that what an open parenthesis keeps on the stack holds no predicate by value.
 
 // operand and what follows it
@@ -202,8 +204,7 @@ fn form<'t>(
     ensures shorter { IfOk result (λ x. remaining x.1 < remaining tokens.entry) }
 {
     let (left, rest) = operand(alloc, tokens)?;
-    let (predicate, rest) = behind_operand(alloc, left, rest)?;
-    Ok((Box::new(alloc, predicate)?, rest))
+    behind_operand(alloc, left, rest)
 }
 
 // IS [NOT] (TRUE | FALSE | UNKNOWN), behind a predicate
