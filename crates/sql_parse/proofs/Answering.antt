@@ -78,7 +78,7 @@ at_end ts (Read s (u ∷ us)) t = (u ∷ us, refl, offends_by ts (u ∷ us) t)
 at_end ts (Stuck us) t = (us, refl, offends_by ts us t)
 at_end ts Over t = exceeds_by ts t
 
-whole_told : (ts : List Mark) → Told (λ s. s) ts (whole_at 64 ts)
+pub whole_told : (ts : List Mark) → Told (λ s. s) ts (whole_at 64 ts)
 unfolding whole_at
 whole_told ts = subst (λ a. Told (λ s. s) ts (ended a)) (query_same 64 ts)
     (at_end ts (reads (Some (read factor 64)) query ts) (told 64 ts))

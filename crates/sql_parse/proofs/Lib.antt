@@ -14,3 +14,4 @@ pub mod Limited
 pub mod Answering
 pub mod OneAnswer
 pub mod Named
+pub mod Rows
