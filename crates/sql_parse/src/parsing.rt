@@ -1,7 +1,8 @@
 //! Parsing a text.
 
-ghost use Rattle.std.specs.Prelude.{◌≡◌, ◌≢◌, false, Some, IfOk};
-ghost use Rattle.scan_base.specs.declared.fault.Fault.TheVariants.{OutOfMemory};
+ghost use Rattle.std.specs.Prelude.{◌≡◌, ◌≢◌, false, nat_le, length, Some, IfOk};
+ghost use Rattle.scan_base.specs.declared.fault.Fault.TheVariants.{OutOfMemory, LimitReached};
+ghost use Rattle.scan_base.specs.Reading.{RefusesFirst, demand};
 ghost use Rattle.sql_parse.specs.Limits.{IsFirstPast, passes};
 ghost use Rattle.sql_parse.specs.Parse.{Answered, Parsed, Refuses, fault_or, is_left_out_whole};
 ghost use Rattle.sql_query.specs.Names.{HasNames};
@@ -113,6 +114,7 @@ fn parse_tokens(alloc: Global, tokens: &[Token<'_>], end: u32) -> Result<Query, 
 pub fn parse(alloc: Global, sql: &str) -> Result<Query, Fault>
     ensures parsed { Parsed sentence_of sql.now result }
     ensures named { IfOk result (λ query. HasNames (sentence_of query)) }
+    ensures first { RefusesFirst result (demand (nat_le (length sql.now) 16384) LimitReached) }
 {
     let tokens = sql_text::tokens(alloc, sql)?;
     parse_tokens(alloc, &tokens, sql.len() as u32)

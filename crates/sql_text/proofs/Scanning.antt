@@ -7,7 +7,7 @@ use Rattle.std.proofs.lemmas.List.{length-drop}
 use Rattle.scan_base.specs.declared.fault.Fault.{Fault}
 use Rattle.scan_base.specs.declared.fault.Fault.TheVariants.{BadSql, LimitReached}
 use Rattle.scan_base.specs.Lists.{behind}
-use Rattle.scan_base.specs.Reading.{◌>>=◌}
+use Rattle.scan_base.specs.Reading.{◌>>=◌, RefusesFirst, demand}
 use Rattle.sql_text.specs.declared.front.Front.{Front}
 use Rattle.sql_text.specs.Standard.{Lexeme, token_here}
 use Rattle.sql_text.specs.Reading.{front_at, tokens_within, tokens_from, tokens_in}
@@ -84,6 +84,13 @@ unfolding tokens_in
 too_long text lt =
     let f : nat_le (length text) 16384 ≡ false = grind (arith, nat_tests) in
     rw f refl
+
+-- a text that is not too long is refused for nothing at first sight
+pub no_glance : {X : Type 0} (result : Result X Fault) (text : List ℕ) → length text ≤ 16384 →
+    RefusesFirst result (demand (nat_le (length text) 16384) LimitReached)
+no_glance result text le =
+    let f : nat_le (length text) 16384 ≡ true = grind (arith, nat_tests) in
+    rw f tt
 
 pub fits : (text : List ℕ) → length text ≤ 16384 → tokens_in text ≡ tokens_from 0 text
 unfolding tokens_in

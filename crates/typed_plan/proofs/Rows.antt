@@ -1,19 +1,22 @@
 -- Worked rows: the meaning of queries, why they are refused, and their result columns, worked out by hand.
-use Rattle.std.proofs.Common.{ℕ, ◌≡◌, refl, pos, negsuc, true, false, List, [], ◌∷◌, ◌++◌, codes, Some, None, ap, ◌∙◌}
+use Rattle.std.proofs.Common.{ℕ, zero, suc, ◌≡◌}
+use Rattle.std.proofs.Common.{refl, pos, negsuc, true, false, List, [], ◌∷◌, ◌++◌, codes, Some, None, ap, ◌∙◌}
 use Rattle.std.proofs.Common.{arith}
 use Rattle.std.specs.Fmt.{decimal}
 use Rattle.std.proofs.lemmas.Fmt.{decimal_digit}
 use Rattle.arrow_schema.specs.declared.data_type.DataType.{DataType}
-use Rattle.arrow_schema.specs.declared.data_type.DataType.TheVariants.{Integer, Utf8, Decimal128, Dictionary}
+use Rattle.arrow_schema.specs.declared.data_type.DataType.TheVariants.{Integer, Utf8, Bool as Flag, Decimal128}
+use Rattle.arrow_schema.specs.declared.data_type.DataType.TheVariants.{Dictionary}
 use Rattle.arrow_schema.specs.declared.data_type.IntegerType.TheVariants.{Int8, Int64, UInt64}
 use Rattle.arrow_schema.specs.declared.schema.Field.{Field}
 use Rattle.arrow_schema.specs.declared.schema.Schema.{Schema}
 use Rattle.scan_base.specs.declared.comparison.Comparison.TheVariants.{Less, Equal, Greater}
 use Rattle.scan_base.specs.declared.fault.Fault.TheVariants.{TableMissing, UnknownName, TypeClash, NotInSubset}
+use Rattle.scan_base.specs.declared.fault.Fault.TheVariants.{LimitReached}
 use Rattle.scan_base.specs.declared.predicate.Operand.TheVariants as operand
 use Rattle.scan_base.specs.declared.truth.Truth.TheVariants.{Unknown}
 use Rattle.scan_base.specs.declared.value.Value.{Value}
-use Rattle.scan_base.specs.declared.value.Value.TheVariants.{Null, Int, Text}
+use Rattle.scan_base.specs.declared.value.Value.TheVariants.{Null, Bool, Int, Text}
 use Rattle.scan_base.specs.Predicate.{Pred, conjunction, negation, truth_test, comparing, membership}
 use Rattle.sql_query.specs.declared.query.ColumnName.{ColumnName}
 use Rattle.sql_query.specs.declared.query.Expression.{Expression}
@@ -306,3 +309,227 @@ no_join = refl
 
 no_aggregate : fault_of totals [] ≡ Some NotInSubset
 no_aggregate = refl
+
+-- ---- groups: their keys, and the rows that have none
+
+-- SELECT a, i, COUNT(*) FROM t GROUP BY a, i: both columns are the key
+abbrev by_both : Sentence
+by_both = record (from_t
+    (select.List (item (Column a) ∷ item (Column (named (codes "i"))) ∷ item CountRows ∷ []))) {
+      group_by = a ∷ named (codes "i") ∷ [];
+    }
+
+two_keys : whole_meaning by_both
+    (table (codes "t") (field (codes "a") (Integer Int64) ∷ field (codes "i") (Integer Int64) ∷ [])
+    ((int 1 ∷ int 10 ∷ []) ∷ (int 1 ∷ int 20 ∷ []) ∷ (int 1 ∷ int 10 ∷ []) ∷ []))
+    ≡ (int 1 ∷ int 10 ∷ int 2 ∷ []) ∷ (int 1 ∷ int 20 ∷ int 1 ∷ []) ∷ []
+two_keys = refl
+
+of_flags : whole_meaning by_text (t_of Flag (Bool true ∷ Bool false ∷ Bool true ∷ Null ∷ Bool false ∷ Bool true ∷ []))
+    ≡ (Bool true ∷ int 3 ∷ []) ∷ (Bool false ∷ int 2 ∷ []) ∷ (Null ∷ int 1 ∷ []) ∷ []
+of_flags = refl
+
+-- GROUP BY over no rows gives no group
+no_group : whole_meaning by_text (t_of Utf8 []) ≡ []
+no_group = refl
+
+-- SELECT COUNT(*) FROM t GROUP BY z
+group_of_no_column : rules_fault (record (from_t (select.List (item CountRows ∷ []))) {
+  group_by = named (codes "z") ∷ [];
+}) three ≡ Some UnknownName
+group_of_no_column = refl
+
+count_of_no_column : rules_fault (from_t (select.List (item (Count (named (codes "z"))) ∷ []))) three ≡ Some UnknownName
+count_of_no_column = refl
+
+sum_of_no_column : rules_fault (from_t (select.List (item (Sum (named (codes "z"))) ∷ []))) three ≡ Some UnknownName
+sum_of_no_column = refl
+
+-- SELECT a, COUNT(*) FROM t: one group of all rows, which a is no key of
+beside_an_aggregate : rules_fault (from_t (select.List (item (Column a) ∷ item CountRows ∷ []))) three
+    ≡ Some NotInSubset
+beside_an_aggregate = refl
+
+keys_fit : rules_fault by_both pairs ≡ None
+keys_fit = refl
+
+-- ---- ON: its names, its classes, its sides, and the places that it sees
+
+-- SELECT * FROM t JOIN right ON left = right
+abbrev t_joining : Place → ColumnName → ColumnName → Sentence
+t_joining new left right = record (from_t select.All) { joins = join new left right ∷ [] }
+
+abbrev u_of : Name → ColumnName
+u_of = of_place (codes "u")
+
+abbrev w_of : Name → ColumnName
+w_of = of_place (codes "w")
+
+-- t(a) of numbers; w(s, n), a text and a number
+abbrev t_and_w : Database
+t_and_w = t_of (Integer Int64) []
+    ++ table (codes "w") (field (codes "s") Utf8 ∷ field (codes "n") (Integer Int64) ∷ []) []
+
+on_fits : rules_fault t_join_u t_and_u ≡ None
+on_fits = refl
+
+-- the new column may stand on either side
+on_turned : rules_fault (t_joining (place (codes "u")) (u_of (codes "a")) (t_of_name (codes "a"))) t_and_u ≡ None
+on_turned = refl
+
+on_no_left : rules_fault (t_joining (place (codes "u")) (t_of_name (codes "z")) (u_of (codes "a"))) t_and_u
+    ≡ Some UnknownName
+on_no_left = refl
+
+on_no_right : rules_fault (t_joining (place (codes "u")) (t_of_name (codes "a")) (u_of (codes "z"))) t_and_u
+    ≡ Some UnknownName
+on_no_right = refl
+
+on_number_and_text : rules_fault (t_joining (place (codes "w")) (t_of_name (codes "a")) (w_of (codes "s"))) t_and_w
+    ≡ Some TypeClash
+on_number_and_text = refl
+
+-- names and classes are looked at before the sides: t.a = t.z, and w.s = w.n
+on_name_before_sides : rules_fault
+    (t_joining (place (codes "u")) (t_of_name (codes "a")) (t_of_name (codes "z"))) t_and_u
+    ≡ Some UnknownName
+on_name_before_sides = refl
+
+on_class_before_sides : rules_fault (t_joining (place (codes "w")) (w_of (codes "s")) (w_of (codes "n"))) t_and_w
+    ≡ Some TypeClash
+on_class_before_sides = refl
+
+-- FROM t JOIN u ON left = right JOIN t AS x ON other = t.a
+abbrev three_places : ColumnName → ColumnName → ColumnName → Sentence
+three_places left right other = record (from_t select.All) {
+  joins =
+      join (place (codes "u")) left right
+      ∷ join (record { table = codes "t"; alias = Some (codes "x") }) other (t_of_name (codes "a")) ∷ [];
+}
+
+three_fit : rules_fault (three_places (t_of_name (codes "a")) (u_of (codes "a")) (x_of (codes "a"))) t_and_u ≡ None
+three_fit = refl
+
+-- the first ON does not see x
+on_sees_no_later_place : rules_fault
+    (three_places (t_of_name (codes "a")) (x_of (codes "a")) (x_of (codes "a"))) t_and_u
+    ≡ Some UnknownName
+on_sees_no_later_place = refl
+
+second_on : rules_fault (three_places (t_of_name (codes "a")) (u_of (codes "a")) (x_of (codes "z"))) t_and_u
+    ≡ Some UnknownName
+second_on = refl
+
+-- the second ON joins x, not u
+second_on_of_u : rules_fault (three_places (t_of_name (codes "a")) (u_of (codes "a")) (u_of (codes "a"))) t_and_u
+    ≡ Some NotInSubset
+second_on_of_u = refl
+
+-- ---- joined rows
+
+-- SELECT x.i, y.i FROM t AS x JOIN t AS y ON x.a = y.a AND x.i = y.i
+both_equal : whole_meaning (record self_join {
+  joins =
+      record {
+        place = record { table = codes "t"; alias = Some (codes "y") };
+        on =
+            record { left = x_of (codes "a"); right = y_of (codes "a") }
+            ∷ record { left = x_of (codes "i"); right = y_of (codes "i") } ∷ [];
+      } ∷ [];
+}) pairs ≡ (int 10 ∷ int 10 ∷ []) ∷ (int 20 ∷ int 20 ∷ []) ∷ []
+both_equal = refl
+
+-- SELECT x.i, y.i, z.i FROM t AS x JOIN t AS y ON x.a = y.a JOIN t AS z ON y.i = z.i: the first place outermost
+abbrev z_of : Name → ColumnName
+z_of = of_place (codes "z")
+
+nested : whole_meaning (record self_join {
+  select =
+      select.List (item (Column (x_of (codes "i"))) ∷ item (Column (y_of (codes "i")))
+      ∷ item (Column (z_of (codes "i"))) ∷ []);
+  joins =
+      join (record { table = codes "t"; alias = Some (codes "y") }) (x_of (codes "a")) (y_of (codes "a"))
+      ∷ join (record { table = codes "t"; alias = Some (codes "z") }) (y_of (codes "i")) (z_of (codes "i")) ∷ [];
+}) pairs
+    ≡ (int 10 ∷ int 10 ∷ int 10 ∷ []) ∷ (int 10 ∷ int 20 ∷ int 20 ∷ []) ∷ (int 20 ∷ int 10 ∷ int 10 ∷ [])
+    ∷ (int 20 ∷ int 20 ∷ int 20 ∷ []) ∷ []
+nested = refl
+
+-- SELECT u.a, COUNT(*) FROM t JOIN u ON t.a = u.a GROUP BY u.a: joined rows make groups
+joined_groups : whole_meaning (record t_join_u {
+  select = select.List (item (Column (u_of (codes "a"))) ∷ item CountRows ∷ []);
+  group_by = u_of (codes "a") ∷ [];
+}) t_and_u ≡ (int 1 ∷ int 4 ∷ []) ∷ []
+joined_groups = refl
+
+-- ---- which fault comes first
+
+-- every place's table and name before any ON: a third place that is absent, behind an ON of no column
+third_is_missing : rules_fault (record (from_t select.All) {
+  joins =
+      join (place (codes "u")) (t_of_name (codes "z")) (u_of (codes "a"))
+      ∷ join (place (codes "none")) (t_of_name (codes "a")) (of_place (codes "none") (codes "a")) ∷ [];
+}) t_and_u ≡ Some TableMissing
+third_is_missing = refl
+
+-- a place's table before its name: t JOIN none AS t
+table_before_name : rules_fault (t_joining (record { table = codes "none"; alias = Some (codes "t") })
+    (t_of_name (codes "a")) (t_of_name (codes "a"))) t_and_u ≡ Some TableMissing
+table_before_name = refl
+
+-- place after place: t JOIN t JOIN none
+place_after_place : rules_fault (record (from_t select.All) {
+  joins =
+      join (place (codes "t")) (t_of_name (codes "a")) (t_of_name (codes "a"))
+      ∷ join (place (codes "none")) (t_of_name (codes "a")) (of_place (codes "none") (codes "a")) ∷ [];
+}) t_and_u ≡ Some UnknownName
+place_after_place = refl
+
+-- ON before WHERE: ON t.a = w.s WHERE z = 1
+on_before_where : rules_fault
+    (record (t_joining (place (codes "w")) (t_of_name (codes "a")) (w_of (codes "s"))) {
+      filter =
+          Some (comparing Equal (operand.Column (named (codes "z"))) (operand.Literal (int 1)));
+    })
+    t_and_w ≡ Some TypeClash
+on_before_where = refl
+
+-- WHERE before GROUP BY: WHERE a = 'x' GROUP BY z
+where_before_group_by : rules_fault
+    (record by_text {
+      filter =
+          Some (comparing Equal (operand.Column a) (operand.Literal (text (codes "x"))));
+      group_by = named (codes "z") ∷ [];
+    })
+    three ≡ Some TypeClash
+where_before_group_by = refl
+
+-- GROUP BY before the list: SELECT SUM(a) of texts, GROUP BY z
+group_by_before_list : rules_fault (record (from_t (select.List (item (Sum a) ∷ []))) {
+  group_by = named (codes "z") ∷ [];
+}) (t_of Utf8 []) ≡ Some UnknownName
+group_by_before_list = refl
+
+-- ---- how many columns a result may have
+
+abbrev columns : ℕ → List Field
+columns zero = []
+columns (suc n) = field (n ∷ []) (Integer Int64) ∷ columns n
+
+abbrev items_of_a : ℕ → List SelectItem
+items_of_a zero = []
+items_of_a (suc n) = item (Column a) ∷ items_of_a n
+
+widest : rules_fault (from_t select.All) (table (codes "t") (columns 64) []) ≡ None
+widest = refl
+
+too_wide : rules_fault (from_t select.All) (table (codes "t") (columns 65) []) ≡ Some LimitReached
+too_wide = refl
+
+-- the names of the list before its length
+name_before_width : rules_fault (from_t (select.List (items_of_a 64 ++ item (Column (named (codes "z"))) ∷ []))) three
+    ≡ Some UnknownName
+name_before_width = refl
+
+too_many_items : rules_fault (from_t (select.List (items_of_a 65))) three ≡ Some LimitReached
+too_many_items = refl

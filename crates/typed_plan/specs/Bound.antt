@@ -10,6 +10,7 @@ use Rattle.scan_base.specs.declared.predicate.Operand.{Operand}
 use Rattle.scan_base.specs.declared.predicate.Operand.TheVariants.{Column, Literal}
 use Rattle.scan_base.specs.Predicate.{Pred, conjunction, disjunction, negation, truth_test, comparing, between}
 use Rattle.scan_base.specs.Predicate.{membership, null_test}
+use Rattle.scan_base.specs.Reading.{◌>>=◌, demand}
 use Rattle.sql_query.specs.declared.query.ColumnName.{ColumnName}
 use Rattle.sql_query.specs.declared.query.Place.{Place}
 use Rattle.sql_query.specs.declared.query.Equality.{Equality}
@@ -185,3 +186,9 @@ is_unbuilt query = not (length query.joins == 0) || is_grouped query
 -- why a query is refused; until joins and groups are built, these are left out before all else
 abbrev pub fault_of : Sentence → Database → Option Fault
 fault_of query database = must (not (is_unbuilt query)) NotInSubset then rules_fault query database
+
+-- what a query shows before any memory is taken: whether it is built, then whether its first table is there
+abbrev pub glance_of : Sentence → Database → Result (Unit {0}) Fault
+glance_of query database =
+    demand (not (is_unbuilt query)) NotInSubset
+    >>= λ _. demand (is_some (table_at database query.first.table)) TableMissing

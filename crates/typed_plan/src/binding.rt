@@ -2,11 +2,12 @@
 
 ghost use Rattle.std.specs.Prelude.{◌≡◌, IfOk, option_map};
 ghost use Rattle.arrow_schema.specs.Schema.{IsSchema};
+ghost use Rattle.scan_base.specs.Reading.{RefusesFirst};
 ghost use Rattle.scan_base.specs.View.{pred_of};
 ghost use Rattle.sql_query.specs.Sentence.{sentence_of};
 ghost use Rattle.table_versions.specs.Stored.{tables_of};
 ghost use Rattle.typed_plan.specs.Binding.{IsPlanOf};
-ghost use Rattle.typed_plan.specs.Bound.{filter_fault, fault_of};
+ghost use Rattle.typed_plan.specs.Bound.{filter_fault, fault_of, glance_of};
 ghost use Rattle.typed_plan.specs.Named.{HasNames};
 ghost use Rattle.typed_plan.specs.Outcome.{Binds};
 ghost use Rattle.typed_plan.specs.Plain.{plain_fault, place_scope, plain_plan, numbered_filter, where_kept};
@@ -40,6 +41,7 @@ pub fn bind(alloc: Global, query: &Query, catalog: &CatalogVersion) -> Result<Ty
     ensures bound { Binds (fault_of (sentence_of query.now) (tables_of catalog.now))
         (λ plan. IsPlanOf (sentence_of query.now) (tables_of catalog.now) (plan_of plan)) result }
     ensures named { HasNames query.now.select → IfOk result (λ plan. IsSchema plan.schema) }
+    ensures first { RefusesFirst result (glance_of (sentence_of query.now) (tables_of catalog.now)) }
 {
     if !query.joins.is_empty() || query.is_grouped() {
         return Err(Fault::NotInSubset);

@@ -4,15 +4,15 @@ use Rattle.std.proofs.lemmas.Str.{IsUtf8-drop}
 use Rattle.sql_text.specs.Reading.{front_at}
 use Rattle.sql_text.specs.Calls.{lexeme_of}
 use Rattle.sql_text.proofs.Boundaries.{front_cut}
-use Rattle.sql_text.proofs.Scanning.{loop_more, scan_stop, scan_end, too_long, fits, some_left, none_left}
+use Rattle.sql_text.proofs.Scanning.{loop_more, scan_stop, scan_end, too_long, no_glance, fits, some_left, none_left}
 use Rattle.sql_text.proofs.scan.read_tokens.Goals as goal
 
-pub returns-then-sql-gt-MOST_BYTES : goal.returns-then-sql-gt-MOST_BYTES
-returns-then-sql-gt-MOST_BYTES c = λ other. too_long c.args.sql.now c.if-sql-gt-MOST_BYTES.true
+pub returns-then-sql-gt-MOST_BYTES-clause-exact : goal.returns-then-sql-gt-MOST_BYTES-clause-exact
+returns-then-sql-gt-MOST_BYTES-clause-exact c = λ other. too_long c.args.sql.now c.if-sql-gt-MOST_BYTES.true
 
 -- no piece stands where the loop is
-pub returns-in_default : goal.returns-in_default
-returns-in_default c = λ other.
+pub returns-in_default-clause-exact : goal.returns-in_default-clause-exact
+returns-in_default-clause-exact c = λ other.
     let inv = c.loop-rest.invariant in
     fits c.args.sql.now inv.small ∙ sym inv.left
     ∙ scan_stop (map lexeme_of c.loop-rest.tokens.items) _ c.loop-rest.rest.now (some_left c.loop-rest.rest.now c.is_empty.result c.is_empty.ensures c.loop-rest-test.true) (sym c.front_of.ensures.front ∙ c.in_default.is)
@@ -48,8 +48,14 @@ loop-rest-preserved c =
       left = rw (← append-nil (map lexeme_of c.loop-rest.tokens.items)) (loop_more (map lexeme_of c.loop-rest.tokens.items) [] _ _ rest c.split_at.result.1.now front _ read parts.back (omega arith) (rw c.in_default-kind.is refl) inv.left);
     }
 
-pub returns : goal.returns
-returns c =
+pub returns-clause-exact : goal.returns-clause-exact
+returns-clause-exact c =
     let inv = c.loop-rest.invariant in
     fits c.args.sql.now inv.small ∙ sym inv.left
     ∙ scan_end (map lexeme_of c.loop-rest.tokens.items) _ c.loop-rest.rest.now (none_left c.loop-rest.rest.now c.is_empty.result c.is_empty.ensures c.loop-rest-test.false)
+
+pub returns-in_default-clause-first : goal.returns-in_default-clause-first
+returns-in_default-clause-first c = no_glance _ c.args.sql.now c.loop-rest.invariant.small
+
+pub returns-clause-first : goal.returns-clause-first
+returns-clause-first c = no_glance _ c.args.sql.now c.loop-rest.invariant.small

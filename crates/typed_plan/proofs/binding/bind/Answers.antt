@@ -26,3 +26,12 @@ returns-clause-bound c =
     ∙ ap plain (sym c.get.ensures ∙ ap option_copied c.in-Some.is) in
     bound query (tables_of c.args.catalog.now)
     (table_of c.in-Some.table.now) is_built there c.bind_place.result c.bind_place.ensures.bound
+
+pub returns-clause-first : goal.returns-clause-first
+returns-clause-first c =
+    let query = sentence_of c.args.query.now in
+    let is_built : is_unbuilt query ≡ false =
+    search (rules, c.is_empty.ensures, c.if-not-is_empty.false, c.is_grouped.ensures, c.if-is_grouped.false) in
+    let there = table_at-tables_of c.args.catalog.now query.first.table
+    ∙ ap plain (sym c.get.ensures ∙ ap option_copied c.in-Some.is) in
+    rw (is_built, there) tt
