@@ -1,3 +1,4 @@
+pub mod Limits
 pub mod Fault
 pub mod Reading
 pub mod Lists
