@@ -4,11 +4,12 @@ use Rattle.std.specs.List.{range_with_len}
 use Rattle.arrow_schema.specs.declared.data_type.IntegerType.TheVariants.{Int8, Int64}
 use Rattle.scan_base.specs.declared.value.Value.TheVariants.{Null, Bool, Int, Text}
 use Rattle.arrays.specs.Number.{element_at}
-use Rattle.arrays.specs.Integers.{IntegersAt, integers_slot}
-use Rattle.arrays.specs.Decimals.{decimals_slot}
-use Rattle.arrays.specs.Bools.{BoolsAt, bools_slot}
+use Rattle.arrays.specs.Integers.{IntegersAt}
+use Rattle.arrays.specs.Bools.{BoolsAt}
 use Rattle.arrays.specs.Texts.{TextsAt, texts_values, texts_stand}
-use Rattle.arrays.specs.Indices.{IndicesAt, indices_slot, index_stands}
+use Rattle.arrays.specs.Indices.{IndicesAt, index_stands}
+use Rattle.arrays.specs.declared.layout.Layout.TheVariants as layout
+use Rattle.arrays.specs.Layout.{layout_slot}
 
 -- offsets 0, 2, 2, 2 of `ab`, with validity `05`: 'ab', NULL, ''
 abbrev three_texts : TextsAt
@@ -32,11 +33,11 @@ past_the_data = refl
 abbrev four_bools : Bit → BoolsAt
 four_bools second = record { validity = Some (true ∷ false ∷ true ∷ true ∷ []); values = true ∷ second ∷ false ∷ true ∷ [] }
 
-bools : (second : Bit) → map (bools_slot (four_bools second)) (range_with_len 0 4) ≡ Bool true ∷ Null ∷ Bool false ∷ Bool true ∷ []
+bools : (second : Bit) → map (layout_slot (layout.Bools (four_bools second))) (range_with_len 0 4) ≡ Bool true ∷ Null ∷ Bool false ∷ Bool true ∷ []
 bools second = refl
 
 -- sixteen bytes `FF`: -1
-decimals : decimals_slot (record { validity = None; values = replicate 16 255; len = 1 }) 0 ≡ Int (negsuc 0)
+decimals : layout_slot (layout.Decimals (record { validity = None; values = replicate 16 255; len = 1 })) 0 ≡ Int (negsuc 0)
 unfolding element_at
 decimals = refl
 
@@ -44,11 +45,11 @@ decimals = refl
 abbrev two_numbers : Option (List Bit) → IntegersAt
 two_numbers validity = record { integer = Int64; validity = validity; values = 1 ∷ 0 ∷ 0 ∷ 0 ∷ 0 ∷ 0 ∷ 0 ∷ 0 ∷ 2 ∷ 0 ∷ 0 ∷ 0 ∷ 0 ∷ 0 ∷ 0 ∷ 0 ∷ []; len = 2 }
 
-numbers : map (integers_slot (two_numbers None)) (range_with_len 0 2) ≡ Int (pos 1) ∷ Int (pos 2) ∷ []
+numbers : map (layout_slot (layout.Integers (two_numbers None))) (range_with_len 0 2) ≡ Int (pos 1) ∷ Int (pos 2) ∷ []
 unfolding element_at
 numbers = refl
 
-a_null : map (integers_slot (two_numbers (Some (false ∷ true ∷ [])))) (range_with_len 0 2) ≡ Null ∷ Int (pos 2) ∷ []
+a_null : map (layout_slot (layout.Integers (two_numbers (Some (false ∷ true ∷ []))))) (range_with_len 0 2) ≡ Null ∷ Int (pos 2) ∷ []
 unfolding element_at
 a_null = refl
 
@@ -56,7 +57,7 @@ a_null = refl
 abbrev three_indices : IndicesAt
 three_indices = record { index = Int8; validity = Some (true ∷ true ∷ false ∷ []); values = 0 ∷ 1 ∷ 9 ∷ []; dictionary = Text (codes "x") ∷ Null ∷ []; len = 3 }
 
-indices : map (indices_slot three_indices) (range_with_len 0 3) ≡ Text (codes "x") ∷ Null ∷ Null ∷ []
+indices : map (layout_slot (layout.Indices three_indices)) (range_with_len 0 3) ≡ Text (codes "x") ∷ Null ∷ Null ∷ []
 unfolding element_at
 indices = refl
 

@@ -6,7 +6,8 @@ ghost use Rattle.std.specs.List.{list_any};
 ghost use Rattle.scan_base.specs.Value.{value_of};
 ghost use Rattle.arrays.specs.Validity.{is_null};
 ghost use Rattle.arrays.specs.Texts.{texts_values};
-ghost use Rattle.arrays.specs.Dictionary.{most_values, runs_values};
+ghost use Rattle.scan_base.specs.Limits.{most_values};
+ghost use Rattle.arrays.specs.inside.Runs.{runs_values};
 
 use crate::cells::Cells;
 use crate::texts::Texts;
@@ -29,7 +30,7 @@ impl Model for Run {
     ghost use Rattle.std.specs.Prelude.{List, map};
     ghost use Rattle.std.specs.Arc.{arc_value};
     ghost use Rattle.scan_base.specs.declared.value.Value.{Value as Cell};
-    ghost use Rattle.arrays.specs.Dictionary.{parts_values, IsRun};
+    ghost use Rattle.arrays.specs.inside.Runs.{parts_values, IsRun};
 
     ghost Value = { List Cell };
 
@@ -141,7 +142,7 @@ impl Model for Runs {
     ghost use Rattle.std.specs.Prelude.{List, map};
     ghost use Rattle.std.specs.Arc.{arc_value};
     ghost use Rattle.scan_base.specs.declared.value.Value.{Value as Cell};
-    ghost use Rattle.arrays.specs.Dictionary.{runs_values};
+    ghost use Rattle.arrays.specs.inside.Runs.{runs_values};
 
     ghost Value = { List Cell };
 

@@ -1,4 +1,4 @@
-use Rattle.std.proofs.Common.{◌≡◌, refl, arith}
+use Rattle.std.proofs.Common.{refl, arith}
 use Rattle.std.proofs.lemmas.List.Folds.{list_any-append}
 use Rattle.arrays.specs.Validity.{is_null}
 use Rattle.arrays.specs.Texts.{texts_slot, texts_values}
