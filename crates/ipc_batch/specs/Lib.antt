@@ -1,6 +1,7 @@
 pub mod Laws
 pub mod Parts
 pub mod Columns
+pub mod Holds
 pub mod Said
 pub mod Seen
 pub mod State
