@@ -1,6 +1,8 @@
 pub mod Entries
 pub mod Glances
 pub mod Lengths
+pub mod Held
+pub mod Brought
 pub mod Messages
 pub mod Negatives
 pub mod PartsAgain
