@@ -4,6 +4,7 @@
     python3 scripts/gate_cost.py --run LOG        runs the gate (.ci/run), its output into LOG
     python3 scripts/gate_cost.py --watch PID LOG  watches a gate that runs already: PID is the process of `rt ci`
     python3 scripts/gate_cost.py LOG              prints the table, in markdown
+    python3 scripts/gate_cost.py --write LOG      sets it into bench/README.md, in the place of the one that is there
 
 The gate's own output says which crates were proved, which edits were refused and which programs ran, but no time. So
 the first two also look at the gate's processes, three times a second, and write what each cost into LOG.times: a line
@@ -26,6 +27,7 @@ import time
 
 TOP = pathlib.Path(__file__).resolve().parent.parent
 KINDS = ("proof", "tests", "wrong bodies", "programs")
+BEGIN, END = "<!-- made by scripts/gate_cost.py -->", "<!-- end -->"
 PAUSE = 0.33
 TICKS = os.sysconf("SC_CLK_TCK")
 PAGE = os.sysconf("SC_PAGE_SIZE")
@@ -190,37 +192,40 @@ def order_of(names):
     return [name for name in listed if name in names] + sorted(set(names) - set(listed))
 
 
-def print_table(log):
+def table_of(log):
     """The table, in markdown."""
     counts, last = counts_of(pathlib.Path(log).read_text(errors="replace"))
     path = pathlib.Path(f"{log}.times")
     seconds, whole = times_of(path) if path.exists() else (collections.Counter(), None)
     names = order_of(set(counts) | {crate for crate, _ in seconds})
-    print("| Crate | " + " | ".join(KINDS) + " | all | functions | tests | edits |")
-    print("|---" + "|---:" * (len(KINDS) + 4) + "|")
+    lines = ["| Crate | " + " | ".join(KINDS) + " | all | functions | tests | edits |", "|---" + "|---:" * (len(KINDS) + 4) + "|"]
 
-    def row(title, of):
-        cells = [f"{of(kind):.0f}" if of(kind) else "" for kind in KINDS]
-        return f"| {title} | " + " | ".join(cells) + f" | {sum(of(kind) for kind in KINDS):.0f} |"
+    def row(title, among):
+        costs = {kind: sum(seconds[name, kind] for name in among) for kind in KINDS}
+        cells = [f"{costs[kind]:.0f}" if costs[kind] else "" for kind in KINDS] + [f"{sum(costs.values()):.0f}"]
+        cells += [str(sum(counts[name][what] for name in among) or "") for what in ("functions", "tests", "edits")]
+        return re.sub(r"\|  (?=\|)", "| ", f"| {title} | {' | '.join(cells)} |")
 
-    def counted(of):
-        return " " + " | ".join(str(of(what) or "") for what in ("functions", "tests", "edits")) + " |"
-
-    for name in names:
-        print(row(name, lambda kind: seconds[name, kind]) + counted(lambda what: counts[name][what]))
-    print(row("**all**", lambda kind: sum(seconds[name, kind] for name in names))
-          + counted(lambda what: sum(counts[name][what] for name in names)))
-    print()
+    lines += [row(name, [name]) for name in names] + [row("**all**", names), ""]
     if whole is None:
-        print("No times: the gate's output has none, and there is no file", f"{path}.")
+        lines.append(f"No times: the gate's output has none, and there is no file {path}.")
     else:
         total, wall, held = whole
-        rest = total - sum(seconds.values())
-        print(f"Processor seconds; {total / 60:.0f} processor minutes in {wall / 60:.0f} minutes, with at most "
-              f"{held / 1e9:.1f} GB held at once. {rest:.0f} seconds of them are the gate's own reading and layout checks, "
-              f"and what ended between two looks.")
+        lines.append(f"{total / 60:.0f} processor minutes in {wall / 60:.0f} minutes, with at most {held / 1e9:.1f} GB held at once. "
+                     f"{total - sum(seconds.values()):.0f} seconds of them are the gate's own reading and layout checks, and what "
+                     "ended between two looks.")
     weak = [f"{name} {counts[name]['only because']}" for name in names if counts[name]["only because"]]
-    print(f"The gate's last line: `{last}`." + (f" Refused only because an answer no longer fits: {', '.join(weak)}." if weak else ""))
+    lines.append(f"The gate's last line: `{last}`."
+                 + (f" Refused only because a written proof no longer fits: {', '.join(weak)}." if weak else ""))
+    return "\n".join(lines)
+
+
+def write_table(log):
+    """Sets the table into bench/README.md."""
+    page = TOP / "bench/README.md"
+    front, begin, rest = page.read_text().partition(BEGIN)
+    _, end, behind = rest.partition(END)
+    page.write_text(f"{front}{begin}\n\n{table_of(log)}\n\n{end}{behind}")
 
 
 def main(words):
@@ -228,8 +233,10 @@ def main(words):
         return run_gate(words[1])
     if len(words) == 3 and words[0] == "--watch" and words[1].isdigit():
         return watch_gate(int(words[1]), words[2])
+    if len(words) == 2 and words[0] == "--write":
+        return write_table(words[1])
     if len(words) == 1 and not words[0].startswith("-"):
-        return print_table(words[0])
+        return print(table_of(words[0]))
     print(__doc__, file=sys.stderr)
     return 2
 
