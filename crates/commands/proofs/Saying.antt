@@ -1,12 +1,9 @@
 -- A fault that is said in a line.
-use Rattle.std.proofs.Common.{ℕ, List, [], ◌∷◌, ◌++◌, Option, Result, Ok, Err, inl, inr, codes, refl}
+use Rattle.std.proofs.Common.{ℕ, List, [], ◌∷◌, ◌++◌, Option, Result, Ok, Err, inl, inr, codes}
 use Rattle.std.specs.Io.KnownBytes.{Appends}
-use Rattle.scan_base.specs.declared.fault.Fault.{Fault}
 use Rattle.grpc_frame.specs.Ends.{AppendsBeginning, CountsFailure, Writes}
 use Rattle.grpc_frame.proofs.Growing.{beginning_of_head, beginning_of_content, content_behind}
-use Rattle.flight_calls.specs.Owed.{Connection, Serves}
-use Rattle.flightscan.specs.Pipe.{fault_line, Said, Says, Pipes}
-use Rattle.flightscan.specs.declared.exit_status.ExitStatus.TheVariants.{FaultAtThisEnd}
+use Rattle.commands.specs.Pipe.{Said, Prints}
 
 -- the line's head, its text and its end
 
@@ -19,10 +16,7 @@ text_begun a b c text p q = beginning_of_content a b c (codes "fault: ") (text +
 pub line_said : {A E : Type 0} (r : Result A E) (a b c d : Option (List ℕ)) (text : List ℕ) → Appends a b (codes "fault: ") → Appends b c text → Writes r c d (10 ∷ []) → Writes r a d (codes "fault: " ++ text ++ 10 ∷ [])
 line_said r a b c d text p q w = content_behind r a b d (codes "fault: ") (text ++ 10 ∷ []) p (content_behind r b c d text (10 ∷ []) q w)
 
--- the whole line, or a beginning of it and a failure
-line_ended : {A E : Type 0} (r : Result A E) (old new : Said) (line : List ℕ) → Writes r old.bytes new.bytes line → CountsFailure r old.failures new.failures → Says line old new
-line_ended (Ok x) old new line w n = inl (w, n)
-line_ended (Err e) old new line w n = inr (w, n)
-
-pub piped_badly : {A E : Type 0} (r : Result A E) (fault : Fault) (old new : Connection) (a b : Said) → Serves (Err fault) old new → Writes r a.bytes b.bytes (fault_line fault) → CountsFailure r a.failures b.failures → Pipes FaultAtThisEnd old new a b
-piped_badly r fault old new a b served w n = inr (record { status_is = refl; fault = fault; served = served; says = line_ended r a b (fault_line fault) w n })
+-- the whole text, or a beginning of it and a failure
+pub printed : {A E : Type 0} (r : Result A E) (old new : Said) (text : List ℕ) → Writes r old.bytes new.bytes text → CountsFailure r old.failures new.failures → Prints text old new
+printed (Ok x) old new text w n = inl (w, n)
+printed (Err e) old new text w n = inr (w, n)
