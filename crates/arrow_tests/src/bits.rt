@@ -69,7 +69,12 @@ fn words(rt: HostRuntime) -> Result<(), Fail> {
 }
 
 // Each bit that two runs make, and how many bits of the first are 1.
-fn assert_joined(rt: &impl Abort, alloc: Global, offsets: (usize, usize), len: usize) -> Result<(), Fail>
+fn assert_joined(
+    rt: &impl Abort,
+    alloc: Global,
+    offsets: (usize, usize),
+    len: usize,
+) -> Result<(), Fail>
     requires first { offsets.0 < 8 }
     requires second { offsets.1 < 8 }
     requires long { len ≤ 130 }

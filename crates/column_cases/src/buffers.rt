@@ -4,17 +4,18 @@ ghost use Rattle.std.specs.Prelude.{◌<◌};
 
 use crate::case::number;
 use bytes::Bytes;
+use scan_base::Fault;
 use std::alloc::{AllocError, Global};
 
 /// A buffer: `.` of no byte, `0aff` of two, `0aff*3` of these three times, and `+5*3` of the numbers 0, 5 and 10 in
 /// four bytes each.
-pub(crate) fn buffer(alloc: Global, word: &str) -> Result<Bytes, AllocError> {
+pub(crate) fn buffer(alloc: Global, word: &str) -> Result<Bytes, Fault> {
     let (spelled, count) = word.split_once('*').unwrap_or((word, "1"));
     let bytes = match spelled.strip_prefix('+') {
-        Some(step) => multiples(alloc, number(step) as u32, number(count))?,
+        Some(step) => multiples(alloc, step.parse().unwrap_or(0), number(count))?,
         None => copies(alloc, spelled, number(count))?,
     };
-    Bytes::from_vec(bytes)
+    Ok(Bytes::from_vec(bytes)?)
 }
 
 // So many multiples of a number, from 0 on.

@@ -34,7 +34,7 @@ impl<'a> Case<'a> {
     }
 }
 
-/// The number that a word spells.
+/// The number that a word spells, and 0 where it spells none.
 pub(crate) fn number(word: &str) -> usize {
-    word.parse().unwrap_or(usize::MAX)
+    word.parse().unwrap_or(0)
 }

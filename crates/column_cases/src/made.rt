@@ -6,7 +6,7 @@ use arrays::{Bools, Decimals, Dictionary, Indices, Integers, Layout, Texts};
 use arrow_schema::IntegerType;
 use bytes::Bytes;
 use scan_base::Fault;
-use std::alloc::{AllocError, Global};
+use std::alloc::Global;
 use std::sync::Arc;
 
 /// The slots of a case.
@@ -22,7 +22,7 @@ pub(crate) fn layout(alloc: Global, case: &Case<'_>) -> Result<Layout, Fault> {
 }
 
 // A buffer that may be left out.
-fn optional(alloc: Global, word: &str) -> Result<Option<Bytes>, AllocError> {
+fn optional(alloc: Global, word: &str) -> Result<Option<Bytes>, Fault> {
     if word == "-" {
         return Ok(None);
     }
@@ -75,7 +75,7 @@ fn numbers(
     Ok(Layout::Indices(Indices::new(integer, validity, values, values_led_to, case.len)?))
 }
 
-// The dictionary of parts that are joined by `;`: no part has more than one letter.
+// The dictionary of parts that are joined by `;`.
 fn dictionary(alloc: Global, word: &str) -> Result<Arc<Dictionary>, Fault> {
     let mut all = Dictionary::new(alloc);
     for part in word.split(';') {
