@@ -23,7 +23,8 @@ use Rattle.arrays.specs.Validity.{is_valid}
 use Rattle.arrays.specs.Integers.{IntegersAt, integers_of}
 use Rattle.arrays.specs.Decimals.{DecimalsAt, decimals_of}
 use Rattle.arrays.specs.Bools.{BoolsAt, bools_of}
-use Rattle.arrays.specs.Texts.{texts_of, text_at, IsTextOrNull}
+use Rattle.scan_base.specs.Value.{IsTextOrNull}
+use Rattle.arrays.specs.Texts.{texts_of, text_at}
 use Rattle.arrays.specs.Indices.{IndicesAt}
 use Rattle.arrays.specs.Dictionary.{entry_at}
 use Rattle.arrays.specs.Layout.{layout_slot, layout_count}

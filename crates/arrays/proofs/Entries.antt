@@ -15,7 +15,8 @@ use Rattle.scan_base.specs.declared.value.Value.{Value}
 use Rattle.scan_base.specs.declared.value.Value.TheVariants.{Null}
 use Rattle.arrays.specs.Number.{byte_width}
 use Rattle.arrays.specs.Validity.{IsLong}
-use Rattle.arrays.specs.Texts.{TextsAt, texts_slot, texts_values, IsTextOrNull}
+use Rattle.scan_base.specs.Value.{IsTextOrNull}
+use Rattle.arrays.specs.Texts.{TextsAt, texts_slot, texts_values}
 use Rattle.arrays.specs.Dictionary.{entry_at}
 use Rattle.arrays.specs.inside.Runs.{parts_values}
 use Rattle.arrays.specs.Indices.{IndicesAt, index_stands, AreIndices}

@@ -9,8 +9,8 @@ use Rattle.std.proofs.lemmas.List.Elements.{All-append}
 use Rattle.std.proofs.lemmas.List.Folds.{list_any-append}
 use Rattle.std.proofs.lemmas.Grind.{flat_map-append}
 use Rattle.scan_base.specs.declared.value.Value.{Value}
-use Rattle.arrays.specs.Validity.{is_null}
-use Rattle.arrays.specs.Texts.{TextsAt, texts_slot, texts_values, IsTextOrNull, AreTexts}
+use Rattle.scan_base.specs.Value.{is_null, IsTextOrNull}
+use Rattle.arrays.specs.Texts.{TextsAt, texts_slot, texts_values, AreTexts}
 use Rattle.scan_base.specs.Limits.{most_values}
 use Rattle.arrays.specs.Dictionary.{extended_by, IsDictionary}
 use Rattle.arrays.specs.inside.Runs.{parts_values, runs_values, IsRun}

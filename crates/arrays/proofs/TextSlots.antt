@@ -6,7 +6,8 @@ use Rattle.std.proofs.lemmas.Str.{IsUtf8-from_is_utf8}
 use Rattle.std.proofs.lemmas.Bool.{eqb-true, leb-true, and_parts}
 use Rattle.scan_base.specs.declared.value.Value.TheVariants.{Null, Text}
 use Rattle.arrays.specs.Validity.{is_valid, IsLong}
-use Rattle.arrays.specs.Texts.{TextsAt, texts_slot, texts_values, IsTextOrNull, text_at, is_offset, text_stands, texts_stand, AreTexts}
+use Rattle.scan_base.specs.Value.{IsTextOrNull}
+use Rattle.arrays.specs.Texts.{TextsAt, texts_slot, texts_values, text_at, is_offset, text_stands, texts_stand, AreTexts}
 use Rattle.arrays.proofs.Slots.{one_holds, slots_at, all_slots}
 
 -- the text of a valid slot is UTF-8

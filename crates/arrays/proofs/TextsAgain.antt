@@ -12,8 +12,8 @@ use Rattle.bitmap.proofs.Masks.{little_drop}
 use Rattle.scan_base.specs.declared.value.Value.{Value}
 use Rattle.scan_base.specs.declared.value.Value.TheVariants as variant
 use Rattle.arrays.specs.Number.{element_at}
-use Rattle.arrays.specs.Validity.{is_null}
-use Rattle.arrays.specs.Texts.{TextsAt, text_at, is_offset, text_stands, texts_stand, IsTextOrNull}
+use Rattle.scan_base.specs.Value.{is_null, IsTextOrNull}
+use Rattle.arrays.specs.Texts.{TextsAt, text_at, is_offset, text_stands, texts_stand}
 use Rattle.arrays.specs.Column.{ColumnAt, slot_of, values_of}
 use Rattle.arrays.specs.Written.{text_bytes, offsets_from, texts_joined}
 use Rattle.arrays.proofs.Lengths.{length-offsets}

@@ -5,7 +5,8 @@ use Rattle.scan_base.specs.declared.fault.Fault.TheVariants.{LimitReached}
 use Rattle.scan_base.specs.declared.value.Value.{Value}
 use Rattle.scan_base.specs.Limits.{most_values}
 use Rattle.scan_base.specs.Reading.{◌>>=◌, demand}
-use Rattle.arrays.specs.Texts.{TextsAt, texts_values, IsTextOrNull}
+use Rattle.scan_base.specs.Value.{IsTextOrNull}
+use Rattle.arrays.specs.Texts.{TextsAt, texts_values}
 
 -- a dictionary counts its values, which are texts and nulls, and no more than there may be
 pub record IsDictionary (values : List Value) (count : ℕ) : Type 0 where

@@ -8,7 +8,7 @@ use Rattle.scan_base.specs.declared.value.Value.{Value}
 use Rattle.scan_base.specs.Reading.{◌>>=◌, demand}
 use Rattle.arrays.specs.Number.{byte_width, integer_at}
 use Rattle.arrays.specs.Validity.{is_valid, validity_of, IsLong}
-use Rattle.arrays.specs.Texts.{IsTextOrNull}
+use Rattle.scan_base.specs.Value.{IsTextOrNull}
 use Rattle.arrays.specs.Dictionary.{entry_at}
 
 -- packed indices of one type, which of them are valid, and the values of the dictionary into which they lead

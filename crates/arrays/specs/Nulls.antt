@@ -1,7 +1,7 @@
 -- Which slots of a column are null, and how many.
 use Rattle.std.specs.Prelude.{ℕ, not, List, Bool, length, map}
 use Rattle.std.specs.List.{filter}
-use Rattle.arrays.specs.Validity.{is_null}
+use Rattle.scan_base.specs.Value.{is_null}
 use Rattle.arrays.specs.Column.{ColumnAt, values_of}
 
 -- how many slots are null

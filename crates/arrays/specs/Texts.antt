@@ -5,7 +5,7 @@ use Rattle.std.specs.Str.{is_utf8}
 use Rattle.scan_base.specs.declared.fault.Fault.{Fault}
 use Rattle.scan_base.specs.declared.fault.Fault.TheVariants.{BadBatch}
 use Rattle.scan_base.specs.declared.value.Value.{Value}
-use Rattle.scan_base.specs.declared.value.Value.TheVariants.{Null, Bool as Flag, Int, Text}
+use Rattle.scan_base.specs.declared.value.Value.TheVariants.{Text}
 use Rattle.scan_base.specs.Reading.{◌>>=◌, demand}
 use Rattle.arrays.specs.Number.{element_at}
 use Rattle.arrays.specs.Validity.{is_valid, where_valid, validity_of, IsLong}
@@ -56,13 +56,6 @@ pub record AreTexts (cells : TextsAt) : Type 0 where
   pub validity : IsLong cells.validity cells.len
   pub offsets : 0 < cells.len → 4 * (cells.len + 1) ≤ length cells.offsets
   pub texts : (place : ℕ) → place < cells.len → text_stands cells place ≡ true
-
--- the value is a text, whose bytes are UTF-8, or it is null
-abbrev pub IsTextOrNull : Value → Type 0
-IsTextOrNull Null = Unit {0}
-IsTextOrNull (Flag flag) = ⊥
-IsTextOrNull (Int number) = ⊥
-IsTextOrNull (Text bytes) = is_utf8 bytes ≡ true
 
 -- the values of all slots, in order
 abbrev pub texts_values : TextsAt → List Value

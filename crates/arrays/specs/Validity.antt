@@ -16,10 +16,6 @@ is_valid (Some bits) place = get_or bits place false
 abbrev pub where_valid : Option (List Bool) → (ℕ → Value) → ℕ → Value
 where_valid validity value place = if is_valid validity place then value place else Null
 
-abbrev pub is_null : Value → Bool
-is_null Null = true
-is_null _ = false
-
 -- the bits of `len` slots at the front of a buffer, where there is one; it has room for them
 abbrev pub validity_of : Option (List ℕ) → ℕ → Result (Option (List Bool)) Fault
 validity_of None len = Ok None

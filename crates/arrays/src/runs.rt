@@ -3,8 +3,7 @@
 ghost use Rattle.std.specs.Prelude.{◌≡◌, ◌≤◌, ◌<◌, ◌+◌, ◌++◌, [], false, Some, length, map, slice_get, slice_index, option_map, IfOk};
 ghost use Rattle.std.specs.Arc.{arc_value};
 ghost use Rattle.std.specs.List.{list_any};
-ghost use Rattle.scan_base.specs.Value.{value_of};
-ghost use Rattle.arrays.specs.Validity.{is_null};
+ghost use Rattle.scan_base.specs.Value.{value_of, is_null};
 ghost use Rattle.arrays.specs.Texts.{texts_values};
 ghost use Rattle.scan_base.specs.Limits.{most_values};
 ghost use Rattle.arrays.specs.inside.Runs.{runs_values};

@@ -3,7 +3,7 @@ use Rattle.std.specs.Prelude.{◌≡◌, ◌<◌, ℕ, false, not, length, get_o
 use Rattle.scan_base.specs.declared.value.Value.{Value}
 use Rattle.arrays.specs.declared.nulls.Nulls.{Nulls}
 use Rattle.arrays.specs.declared.nulls.Nulls.TheVariants.{Nowhere, AtZeros, AtValues}
-use Rattle.arrays.specs.Validity.{is_null}
+use Rattle.scan_base.specs.Value.{is_null}
 
 -- where the nulls of `len` slots are: nowhere, or at the bits that are 0; or it takes the values to tell
 abbrev pub AreAt : Nulls → ℕ → (ℕ → Value) → Type 0

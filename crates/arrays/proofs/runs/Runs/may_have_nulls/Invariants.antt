@@ -1,7 +1,7 @@
 use Rattle.std.proofs.Common.{◌≡◌, false, map, take}
 use Rattle.std.specs.Arc.{arc_value}
 use Rattle.std.specs.List.{list_any}
-use Rattle.arrays.specs.Validity.{is_null}
+use Rattle.scan_base.specs.Value.{is_null}
 use Rattle.arrays.specs.inside.Runs.{runs_values}
 use Rattle.arrays.proofs.runs.Runs.may_have_nulls.Given as goal
 
