@@ -3,6 +3,7 @@ pub mod Glances
 pub mod Lengths
 pub mod Held
 pub mod Brought
+pub mod Learned
 pub mod Messages
 pub mod Negatives
 pub mod PartsAgain
