@@ -1,40 +1,34 @@
 -- What messages leave behind, and the rows that they bring, are what they say.
-use Rattle.std.proofs.Common.{◌≡◌, ◌≢◌, ◌≤◌, ◌⊎◌, inl, inr, ℕ, zero, suc, ◌+◌, ◌==◌, not, nat_le, Bool, true, false, List, [], ◌∷◌, ◌++◌, length, is_none, Option, Some, None, Result, Ok, Err, refl, arith, sym, ap, ◌∙◌, subst}
-use Rattle.std.specs.Prelude.{slice_get, option_map}
+use Rattle.std.proofs.Common.{◌≡◌, ◌≢◌, ◌≤◌, ℕ, ◌+◌, ◌==◌, not, nat_le, Bool, true, false, List, [], ◌++◌, length, Option, Some, None, Ok, refl, arith, sym, ap, ◌∙◌, subst}
+use Rattle.std.specs.Prelude.{option_map}
 use Rattle.std.specs.List.{list_any}
 use Rattle.std.proofs.Math.Path.{fun_ext}
 use Rattle.std.proofs.lemmas.Bool.{eq-eqb, eqb-true, leb-true, le-leb}
 use Rattle.std.proofs.lemmas.List.{length-append}
 use Rattle.std.proofs.lemmas.List.FromFn.{length-map-range_with_len}
-use Rattle.scan_base.specs.declared.fault.Fault.{Fault}
-use Rattle.scan_base.specs.declared.fault.Fault.TheVariants.{BadFlatbuffer, UnsupportedArrow, BadBatch, LimitReached}
+use Rattle.scan_base.specs.declared.fault.Fault.TheVariants.{BadBatch, LimitReached}
 use Rattle.scan_base.specs.declared.value.Value.{Value}
-use Rattle.scan_base.specs.Reading.{◌>>=◌, demand, wanted}
-use Rattle.flatbuf.specs.Layout.{TableAt, IsBytes, HasRoot, HasScalar, HasTable}
-use Rattle.flatbuf.specs.Place.{scalar_of, table_of}
+use Rattle.scan_base.specs.Reading.{demand}
+use Rattle.flatbuf.specs.Layout.{TableAt, IsBytes, HasTable}
+use Rattle.flatbuf.specs.Place.{scalar_of}
 use Rattle.arrow_schema.specs.declared.header.HeaderKind.{HeaderKind}
 use Rattle.arrow_schema.specs.declared.header.HeaderKind.TheVariants as kinds
-use Rattle.arrow_schema.specs.declared.data_type.DataType.TheVariants.{Utf8}
 use Rattle.arrow_schema.specs.declared.schema.Schema.{Schema}
 use Rattle.arrow_schema.specs.Header.{MessageAt, table_wanted, message_of, header_of, schema_in}
-use Rattle.arrow_schema.proofs.Said.{SaysHeader, bind_ok, demand_ok, says_scalar, reads_scalar, says_table, reads_table, wanted_table, bytes_table, header_told, header_read}
-use Rattle.arrays.specs.declared.layout.Layout.TheVariants.{Texts}
+use Rattle.arrow_schema.specs.Says.{SaysColumns}
+use Rattle.arrow_schema.proofs.Said.{bind_ok, demand_ok, says_scalar, reads_scalar, says_table, reads_table, wanted_table, bytes_table, header_told, header_read}
 use Rattle.arrays.specs.Texts.{TextsAt, texts_slot, texts_values}
 use Rattle.arrays.specs.Dictionary.{most_values, extended_by}
-use Rattle.arrays.specs.Column.{ColumnAt, whole}
 use Rattle.arrays.specs.Batch.{BatchAt}
 use Rattle.ipc_batch.specs.Parts.{PartsAt, DictionaryParts, body_claimed, parts_of, dictionary_parts}
 use Rattle.ipc_batch.specs.State.{Known, State, values_under, with_values}
 use Rattle.ipc_batch.specs.Columns.{columns_from, buffers_wanted, counts_agree, one_texts}
-use Rattle.ipc_batch.specs.Said.{Sent, News, schema_sent, batch_parts, batch_sent, leads_to, dictionary_sent, kept_of, known_after, first_schema, next_news, news_in, news_of}
-use Rattle.ipc_batch.specs.Brings.{SaysMessage, SaysRecordBatch, SaysDictionaryBatch, Context, BringsBatch, Sets, BringsDictionary, BringsSchema, Brings}
+use Rattle.ipc_batch.specs.Said.{Sent, News, schema_sent, batch_parts, batch_sent, leads_to, dictionary_sent, kept_of, known_after, first_schema, next_news, news_of}
+use Rattle.ipc_batch.specs.Brings.{SaysMessage, SaysDictionaryBatch, Context, context_of, BringsBatch, Sets, BringsDictionary, BringsSchema, Brings}
+use Rattle.ipc_batch.specs.Laws.{IsRead, ReadIsBrought}
 use Rattle.ipc_batch.proofs.Entries.{under_set, under_other}
-use Rattle.ipc_batch.proofs.Held.{IsOne, source_of, columns_told, columns_read, one_told, one_read}
-use Rattle.ipc_batch.proofs.Brought.{IsMessage, message_told, message_read, Claims, claims_told, claims_read, says_message, message_at, is_message, is_headed, IsParts, parts_told, parts_read}
-
--- what is known, with dictionaries by their ids
-abbrev pub context_of : Known → Context
-context_of known = record { schema = known.schema; dictionaries = values_under known.dictionaries }
+use Rattle.ipc_batch.proofs.Held.{columns_told, columns_read, one_told, one_read}
+use Rattle.ipc_batch.proofs.Brought.{IsMessage, message_told, message_read, claims_told, claims_read, says_message, message_at, is_message, is_headed, IsParts, parts_told, parts_read}
 
 -- ---- header and counts
 
@@ -119,6 +113,7 @@ sets_once before id values one other p q = fun_ext (λ n. by n (n == id) refl)
   where
     apart : (n : ℕ) → (n == id) ≡ false → n ≢ id
     apart n e same = let f = eq-eqb n id same in let no : ⊥ = cc in no
+
     by : (n : ℕ) (same : Bool) → (n == id) ≡ same → one n ≡ other n
     by n true e = let is = eqb-true n id e in ap one is ∙ p.0 ∙ sym q.0 ∙ ap other (sym is)
     by n false e = p.1 n (apart n e) ∙ sym (q.1 n (apart n e))
@@ -164,12 +159,15 @@ sent_told message body sent is e =
     let headed = says_table message.table 2 (Some a.0) is (wanted_table message.table 2 a.0 a.1) in
     let is2 = bytes_table message.table 2 a.0 is headed in
     let valued = says_table a.0 1 (Some c.0) is2 (wanted_table a.0 1 c.0 c.1) in
-    let is3 = bytes_table a.0 1 c.0 is2 valued in
-    (a.0, headed, subst (IsSent message.table a.0 body) {x = made} same (record {
-      values = c.0;
-      dictionary = record { identified = says_scalar 8 a.0 0 0 b.0 is2 b.1; valued = valued; delta = (d.0, says_scalar 1 a.0 2 0 d.0 is2 d.1, refl) };
-      parts = parts_told message c.0 body f.0 is is3 f.1;
-    }))
+    let is3 = bytes_table a.0 1 c.0 is2 valued in (
+      a.0,
+      headed,
+      subst (IsSent message.table a.0 body) {x = made} same (record {
+        values = c.0;
+        dictionary = record { identified = says_scalar 8 a.0 0 0 b.0 is2 b.1; valued = valued; delta = (d.0, says_scalar 1 a.0 2 0 d.0 is2 d.1, refl) };
+        parts = parts_told message c.0 body f.0 is is3 f.1;
+      }),
+    )
 
 sent_read : (message : MessageAt) (header : TableAt) (body : List ℕ) (sent : DictionaryParts) → IsBytes message.table.bytes → HasTable message.table 2 (Some header) → IsSent message.table header body sent →
     dictionary_parts message body ≡ Ok sent
@@ -254,3 +252,112 @@ dictionary_read known sent after is says =
       read = rw (read, says.wanted, counts_read 1 3 parts (ap length says.nodes) says.buffers, one, extended_read old says.cells says.room) refl;
       seen = rw (same, ← says.schema) refl;
     }
+
+-- ---- schemas
+
+schema_told : (sent : Sent) (message : MessageAt) (schema : Schema) → IsBytes sent.header → IsMessage sent.header message → message.kind ≡ kinds.Schema →
+    schema_sent message sent.body ≡ Ok schema → BringsSchema sent schema
+unfolding schema_sent
+schema_told sent message schema is said kind e =
+    let is2 = subst IsBytes (sym said.root.same) is in
+    let a = bind_ok (schema_in message) _ schema e in
+    let b = bind_ok (body_claimed message sent.body) _ schema a.2 in
+    let same : a.0 ≡ schema = let last = b.2 in cc in
+    let told = header_told message a.0 is2 a.1 in
+    let claims = claims_told message sent.body b.0 is2 b.1 in
+    record {
+      header = told.header;
+      message = subst (λ (k : HeaderKind). SaysMessage sent k told.header) kind (says_message sent message told.header said (record { headed = told.headed; claims = claims }));
+      columns = subst (SaysColumns told.header) same told.columns;
+    }
+
+schema_read : (sent : Sent) (schema : Schema) → IsBytes sent.header → (says : BringsSchema sent schema) →
+    schema_sent (message_at sent kinds.Schema says.header says.message) sent.body ≡ Ok schema
+unfolding schema_sent
+schema_read sent schema is says =
+    let message = message_at sent kinds.Schema says.header says.message in
+    let is2 = subst IsBytes (sym says.message.root.same) is in
+    let headed = is_headed sent kinds.Schema says.header says.message in
+    rw (
+      header_read message schema is2 (record { header = says.header; headed = says.message.headed; columns = says.columns }),
+      claims_read message sent.body is2 headed.claims,
+    ) refl
+
+-- ---- any message
+
+-- what a message says, with dictionaries by their ids
+abbrev brought : State → Sent → News → Type 0
+brought state sent news = Brings (option_map context_of state) sent (option_map context_of news.state) news.batch
+
+first_told : (kind : HeaderKind) (sent : Sent) (message : MessageAt) (schema : Schema) → IsBytes sent.header → IsMessage sent.header message → message.kind ≡ kind →
+    first_schema kind message sent.body ≡ Ok schema → BringsSchema sent schema
+first_told kinds.Schema sent message schema is said kind e = schema_told sent message schema is said kind e
+first_told kinds.DictionaryBatch sent message schema is said kind e = absurd (let no : ⊥ = cc in no)
+first_told kinds.RecordBatch sent message schema is said kind e = absurd (let no : ⊥ = cc in no)
+
+next_told : (kind : HeaderKind) (known : Known) (sent : Sent) (message : MessageAt) (news : News) → IsBytes sent.header → IsMessage sent.header message → message.kind ≡ kind →
+    next_news kind known message sent.body ≡ Ok news → brought (Some known) sent news
+next_told kinds.Schema known sent message news is said kind e = absurd (let no : ⊥ = cc in no)
+next_told kinds.DictionaryBatch known sent message news is said kind e =
+    let a = bind_ok (known_after known message sent.body) _ news e in
+    let made : News = record { state = Some a.0; batch = None } in
+    let same : made ≡ news = let last = a.2 in cc in
+    subst (brought (Some known) sent) {x = made} same (dictionary_told known sent message a.0 is said kind a.1)
+next_told kinds.RecordBatch known sent message news is said kind e =
+    let a = bind_ok (batch_sent known message sent.body) _ news e in
+    let made : News = record { state = Some known; batch = Some a.0 } in
+    let same : made ≡ news = let last = a.2 in cc in
+    subst (brought (Some known) sent) {x = made} same (batch_told known sent message a.0 is said kind a.1, refl)
+
+news_told : (state : State) (sent : Sent) (news : News) → IsBytes sent.header → news_of state sent ≡ Ok news → brought state sent news
+unfolding news_of
+news_told None sent news is e =
+    let m = bind_ok (message_of sent.header) _ news e in
+    let a = bind_ok (first_schema (m.0).kind m.0 sent.body) _ news m.2 in
+    let known : Known = record { schema = a.0; dictionaries = [] } in
+    let made : News = record { state = Some known; batch = None } in
+    let same : made ≡ news = let last = a.2 in cc in
+    subst (brought None sent) {x = made} same (first_told (m.0).kind sent m.0 a.0 is (message_told sent.header m.0 is m.1) refl a.1, (λ id. refl), refl)
+news_told (Some known) sent news is e =
+    let m = bind_ok (message_of sent.header) _ news e in
+    next_told (m.0).kind known sent m.0 news is (message_told sent.header m.0 is m.1) refl m.2
+
+news_read : (state : State) (sent : Sent) (after : Option Context) (batch : Option BatchAt) → IsBytes sent.header → Brings (option_map context_of state) sent after batch → IsRead state sent after batch
+unfolding news_of
+news_read None sent None batch is says = absurd says
+news_read None sent (Some after) batch is says =
+    let found : Known = record { schema = after.schema; dictionaries = [] } in
+    let says_it = says.0.message in
+    let message = message_at sent kinds.Schema says.0.header says_it in
+    let same : values_under [] ≡ after.dictionaries = fun_ext (λ id. sym (says.1 id)) in
+    record {
+      news = record { state = Some found; batch = None };
+      read = rw (message_read sent.header message is (is_message sent kinds.Schema says.0.header says_it), schema_read sent after.schema is says.0) refl;
+      leaves = rw same refl;
+      adds = sym says.2;
+    }
+news_read (Some known) sent None batch is says = absurd says
+news_read (Some known) sent (Some after) None is says =
+    let message = message_at sent kinds.DictionaryBatch says.header says.message in
+    let learns = dictionary_read known sent after is says in
+    record {
+      news = record { state = Some learns.found; batch = None };
+      read = rw (message_read sent.header message is (is_message sent kinds.DictionaryBatch says.header says.message), learns.read) refl;
+      leaves = ap Some learns.seen;
+      adds = refl;
+    }
+news_read (Some known) sent (Some after) (Some batch) is says =
+    let message = message_at sent kinds.RecordBatch says.0.header says.0.message in
+    record {
+      news = record { state = Some known; batch = Some batch };
+      read = rw (message_read sent.header message is (is_message sent kinds.RecordBatch says.0.header says.0.message), batch_read known sent batch is says.0) refl;
+      leaves = ap Some (sym says.1);
+      adds = refl;
+    }
+
+pub read_is_brought : ReadIsBrought
+read_is_brought state sent after batch is = (
+  λ found. subst (λ (b : Option BatchAt). Brings (option_map context_of state) sent after b) found.adds
+      (subst (λ (a : Option Context). Brings (option_map context_of state) sent a found.news.batch) found.leaves (news_told state sent found.news is found.read)),
+  λ says. news_read state sent after batch is says,
+)
