@@ -7,6 +7,7 @@ pub mod Learned
 pub mod Messages
 pub mod Negatives
 pub mod PartsAgain
+pub mod Rows
 pub mod Typed
 pub mod WriterLoops
 pub mod ColumnsAgain
