@@ -10,9 +10,12 @@ use Rattle.arrow_schema.specs.declared.schema.Schema.{Schema}
 use Rattle.arrow_schema.specs.Header.{MessageAt, body_length_of}
 use Rattle.arrays.specs.Dictionary.{most_values}
 use Rattle.arrays.specs.Batch.{BatchAt}
+use Rattle.arrays.specs.Column.{ColumnAt}
+use Rattle.ipc_batch.specs.declared.parts.FieldNode.{FieldNode}
 use Rattle.ipc_batch.specs.declared.parts.BufferPlace.{BufferPlace}
 use Rattle.ipc_batch.specs.Parts.{placed_in, body_claimed}
 use Rattle.ipc_batch.specs.Columns.{values_led_to}
+use Rattle.ipc_batch.specs.Holds.{Source, HoldsColumn}
 use Rattle.ipc_batch.specs.State.{Known, State}
 use Rattle.ipc_batch.specs.Said.{Sent, News, has_id, leads_to, news_of, glance_of, Rows, Follows, Says, AreWide}
 use Rattle.ipc_batch.specs.Brings.{Context, context_of, Brings}
@@ -48,12 +51,16 @@ GlancesComeFirst = (state : State) (sent : Sent) (fault : Fault) →
     glance_of state sent ≡ Err fault → news_of state sent ≡ Err fault
 
 -- A negative number reads as 2 ^ 63 or more. A buffer of such an offset or length lies outside every body that
--- there is, and so does a body of such a length.
+-- there is, and so does a body of such a length. A slot takes a bit at least, so that a body of fewer than 2 ^ 60
+-- bytes has no batch of so many rows, and no node of such a length.
 abbrev pub NegativesLieOutside : Type 0
 NegativesLieOutside = (body : List ℕ) → length body < 2 ^ 63 →
     ((place : BufferPlace) → (2 ^ 63 ≤ place.offset) ⊎ (2 ^ 63 ≤ place.length) → placed_in body place ≡ Err BadBatch)
     × ((message : MessageAt) (claimed : ℕ) → body_length_of message ≡ Ok claimed → 2 ^ 63 ≤ claimed →
     body_claimed message body ≡ Err BadBatch)
+    × ((source : Source) (data_type : DataType) (node : FieldNode) (own : ℕ → Option BufferPlace) (column : ColumnAt) →
+    source.body ≡ body → length body < 2 ^ 60 → HoldsColumn source data_type node own column →
+    (source.rows < 2 ^ 63) × (node.length < 2 ^ 63))
 
 -- a message is read, and leaves behind this, with dictionaries by their ids, and this batch or none
 pub record IsRead (state : State) (sent : Sent) (after : Option Context) (batch : Option BatchAt) : Type 0 where
