@@ -49,11 +49,11 @@ message_told bytes message is e =
     let last = f.2 in
     let same : made ≡ message = cc in
     let root = ((seen_finds (root_of bytes) (HasRoot bytes) (seen_root bytes)).value a.0).0 a.1 in
-    let is2 = subst IsBytes (sym root.same) is in
-    subst (IsMessage bytes) {x = made} same (record {
+    let is2 = subst IsBytes {y = (a.0).bytes} (sym root.same) is in
+    subst (IsMessage bytes) {x = made} {y = message} same (record {
       root = root;
       version = subst (λ (n : ℕ). HasScalar 2 a.0 0 0 n) (eqb-true b.0 4 (demand_ok (b.0 == 4) UnsupportedArrow c.0 c.1)) (says_scalar 2 a.0 0 0 b.0 is2 b.1);
-      kind = subst (λ (n : ℕ). HasScalar 1 a.0 1 0 n) (kind_told d.0 f.0 f.1) (says_scalar 1 a.0 1 0 d.0 is2 d.1);
+      kind = subst (λ (n : ℕ). HasScalar 1 a.0 1 0 n) {y = kind_number f.0} (kind_told d.0 f.0 f.1) (says_scalar 1 a.0 1 0 d.0 is2 d.1);
     })
 
 pub message_read : (bytes : List ℕ) (message : MessageAt) → IsBytes bytes → IsMessage bytes message → message_of bytes ≡ Ok message

@@ -3,9 +3,11 @@ pub mod Glances
 pub mod Lengths
 pub mod Held
 pub mod Brought
+pub mod Learned
 pub mod Messages
 pub mod Negatives
 pub mod PartsAgain
+pub mod Rows
 pub mod Typed
 pub mod WriterLoops
 pub mod ColumnsAgain

@@ -12,11 +12,11 @@ use Rattle.arrow_schema.specs.Message.{kind_number}
 use Rattle.arrow_schema.specs.Says.{HasFlag, SaysColumns}
 use Rattle.arrays.specs.declared.layout.Layout.TheVariants.{Texts}
 use Rattle.arrays.specs.Texts.{TextsAt, texts_values}
-use Rattle.arrays.specs.Dictionary.{most_values}
 use Rattle.arrays.specs.Column.{whole}
 use Rattle.arrays.specs.Batch.{BatchAt}
 use Rattle.ipc_batch.specs.declared.parts.FieldNode.{FieldNode}
 use Rattle.ipc_batch.specs.Parts.{PartsAt, nodes_in, places_in}
+use Rattle.ipc_batch.specs.State.{Known, values_under}
 use Rattle.ipc_batch.specs.Columns.{buffers_wanted}
 use Rattle.ipc_batch.specs.Holds.{HoldsColumn, HoldsColumns}
 use Rattle.ipc_batch.specs.Said.{Sent, leads_to, kept_of}
@@ -57,6 +57,9 @@ pub record SaysDictionaryBatch (table : TableAt) (id : ℕ) (values : TableAt) (
 pub record Context : Type 0 where
   pub schema : Schema
   pub dictionaries : ℕ → List Value
+
+abbrev pub context_of : Known → Context
+context_of known = record { schema = known.schema; dictionaries = values_under known.dictionaries }
 
 -- a record batch: a node for each field, as many buffers as their types have, and the columns that they hold
 pub record BringsBatch (context : Context) (sent : Sent) (batch : BatchAt) : Type 0 where
