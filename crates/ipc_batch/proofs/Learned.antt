@@ -18,7 +18,8 @@ use Rattle.arrow_schema.specs.Header.{MessageAt, table_wanted, message_of, heade
 use Rattle.arrow_schema.specs.Says.{SaysColumns}
 use Rattle.arrow_schema.proofs.Said.{bind_ok, demand_ok, says_scalar, reads_scalar, says_table, reads_table, wanted_table, bytes_table, header_told, header_read}
 use Rattle.arrays.specs.Texts.{TextsAt, texts_slot, texts_values}
-use Rattle.arrays.specs.Dictionary.{most_values, extended_by}
+use Rattle.scan_base.specs.Limits.{most_values}
+use Rattle.arrays.specs.Dictionary.{extended_by}
 use Rattle.arrays.specs.Batch.{BatchAt}
 use Rattle.ipc_batch.specs.Parts.{PartsAt, DictionaryParts, body_claimed, parts_of, dictionary_parts}
 use Rattle.ipc_batch.specs.State.{Known, State, values_under, with_values}

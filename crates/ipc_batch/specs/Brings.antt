@@ -3,6 +3,7 @@
 use Rattle.std.specs.Prelude.{◌≡◌, ◌≢◌, ◌≤◌, ℕ, Bool, true, List, [], ◌∷◌, ◌++◌, length, Option, Some, None, slice_get}
 use Rattle.std.specs.List.{list_any}
 use Rattle.scan_base.specs.declared.value.Value.{Value}
+use Rattle.scan_base.specs.Limits.{most_values}
 use Rattle.flatbuf.specs.Layout.{TableAt, HasRoot, HasScalar, HasTable, HasStructs}
 use Rattle.arrow_schema.specs.declared.header.HeaderKind.{HeaderKind}
 use Rattle.arrow_schema.specs.declared.header.HeaderKind.TheVariants as kinds

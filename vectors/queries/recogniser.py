@@ -1,23 +1,13 @@
-#!/usr/bin/env python3
-"""Writes queries.txt: for each query what the rules answer, a tab, and the query.
+"""Queries, and what the rules answer to each: `sentence`, or the fault's text.
 
-The answer is `sentence`, or the fault's text. The grammar below is the printed one. It is read as it
-stands and run by Earley's recogniser over the tokens of sql_text's lexer (a lexer of its own), so that
-the offending token is the first one with which no sentence of the grammar goes on. The limits are read
-off the recogniser's items. Nothing is shared with the crate, and no test needs this script.
-
-With the argument `--rattle` it prints them as a constant of Rattle: `src/vectors.rt`.
+The grammar below is the printed one. It is read as it stands and run by Earley's recogniser over the tokens of the
+lexer beside this file, so that the offending token is the first one with which no sentence of the grammar goes on. The
+limits are read off the recogniser's items. Nothing is shared with the crates.
 """
-import importlib.util
-import pathlib
 import random
 import re
-import sys
 
-HERE = pathlib.Path(__file__).parent
-SPEC = importlib.util.spec_from_file_location("lexer", HERE.parent.parent / "sql_text" / "vectors" / "make.py")
-lexer = importlib.util.module_from_spec(SPEC)
-SPEC.loader.exec_module(lexer)
+import lexer
 
 GRAMMAR = """
 query   = SELECT list FROM place {join} [WHERE pred] [GROUP BY column {"," column}] [";"]
@@ -422,40 +412,5 @@ def changed(count):
             yield query
 
 
-# ---- the same as a constant of Rattle
-
-REPEATED = re.compile(r"(.{1,40}?)\1{4,}")
-ANSWERS = {"sentence": "ok", "F12 LimitReached": "F12", "F16 NotInSubset": "F16"}
-HEAD = """//! The queries of `vectors/queries.txt`, each behind what the rules answer: `ok`, `F12`, `F16`, or the byte at which
-//! a token offends. `{64:NOT }` stands for 64 times `NOT `. `vectors/make.py --rattle` prints this file.
-
-pub(crate) static QUERIES: &str = r#"
-"""
-
-
-def shortened(query):
-    """The query, in which what is repeated is written once behind its number."""
-    return REPEATED.sub(lambda run: "{%d:%s}" % (len(run[0]) // len(run[1]), run[1]), query)
-
-
-def whole(text):
-    return re.sub(r"\{(\d+):([^}]*)\}", lambda run: run[2] * int(run[1]), text)
-
-
-def line_of(told, query):
-    assert not set("{}#") & set(query) and whole(shortened(query)) == query
-    return f"{ANSWERS.get(told, told.removeprefix('F13 BadSql at byte '))} {shortened(query)}"
-
-
-def main():
-    queries = list(dict.fromkeys(SENTENCES + OTHERS + list(limits()) + list(changed(400))))
-    rows = [(answer(query), query) for query in queries]
-    assert all("\t" not in query and "\n" not in query for query in queries)
-    if "--rattle" in sys.argv:
-        print(HEAD + "\n".join(line_of(told, query) for told, query in rows) + '"#;')
-    else:
-        (HERE / "queries.txt").write_text("".join(f"{told}\t{query}\n" for told, query in rows))
-
-
-if __name__ == "__main__":
-    main()
+def queries():
+    return list(dict.fromkeys(SENTENCES + OTHERS + list(limits()) + list(changed(400))))

@@ -1,9 +1,7 @@
-#!/usr/bin/env python3
-"""Writes ../src/vectors.rt: texts, and the tokens or the fault that the rules of tokens give for each.
+"""Texts, and the tokens or the fault that the rules of tokens give for each.
 
-This is a lexer of its own, by regular expressions; it shares nothing with the crate. No test needs it.
+This is a lexer of its own, by regular expressions; it shares nothing with the crates.
 """
-import pathlib
 import re
 
 GRAMMAR = """SELECT FROM WHERE INNER JOIN ON AND OR NOT IS NULL TRUE FALSE UNKNOWN IN BETWEEN GROUP BY AS
@@ -101,35 +99,22 @@ GROUPS = {
     ],
 }
 
-
-def literal(text):
-    out = ""
-    for char in text:
-        if char in '"\\':
-            out += "\\" + char
-        elif char == "\n":
-            out += "\\n"
-        elif char == "\r":
-            out += "\\r"
-        elif char == "\t":
-            out += "\\t"
-        elif " " <= char <= "~":
-            out += char
-        else:
-            out += "\\u{%x}" % ord(char)
-    return f'"{out}"'
+# Texts whose tokens are asked what they say.
+SPOKEN = [
+    "a1_B", "SELECT", '"a""b"', '""""', '"\'"', "''", "'it''s'", "''''''", "'\u00e9''\"'", "007", "0", "9" * 38, "<>",
+    "NULL date Order + - * / % ||", "SELECT count a \"null\" 'DATE' 1 = <> . ; ( ) ,",
+]
 
 
-def main():
-    lines = ["//! Texts, and the tokens or the fault of each. `vectors/make.py` writes this file.", ""]
-    lines += ["// A text; and what each of its tokens is, where it begins and how many bytes it has, or its fault.", ""]
-    for name, texts in GROUPS.items():
-        lines += [f"pub(crate) static {name}: [(&str, &str); {len(texts)}] = ["]
-        lines += [f"    ({literal(text)}, {literal(lex(text))})," for text in texts]
-        lines += ["];", ""]
-    target = pathlib.Path(__file__).parent.parent / "src" / "vectors.rt"
-    target.write_text("\n".join(lines))
-
-
-if __name__ == "__main__":
-    main()
+def spoken(query):
+    """What each token says, how many bytes that has, its number, and whether it is left out."""
+    text, told = query.encode(), ""
+    for entry in lex(query).split(";")[:-1]:
+        kind, start, size = entry.rsplit(" ", 2)
+        piece = text[int(start) : int(start) + int(size)].decode()
+        if kind in ("DelimitedName", "String"):
+            piece = piece[1:-1].replace(2 * piece[0], piece[0])
+        number = f"Some({int(piece)})" if kind == "Digits" else "None"
+        is_left_out = kind == "LeftOut" or piece.upper() in ("NULL", "DATE", *"+-*/%", "||") and kind[:7] in ("Keyword", "Symbol(")
+        told += f"{piece} {len(piece.encode())} {number} {str(is_left_out).lower()};"
+    return told
