@@ -7,7 +7,7 @@
 Made: the column "Stands on" of docs/ARCHITECTURE.md, from crates.txt; and the list of files in docs/SEMANTICS.md, from
 what scripts/trusted_base.py counts and what public contracts cite. Looked at, in each page: that the files and headings that links lead to are there;
 that a name in a link to a source file stands in that file; that files and wrong bodies named in backticks are there;
-and that README.md has at most 10,000 bytes.
+that code which is shown stands so in a source file; and that README.md has at most 10,000 bytes.
 """
 
 import collections
@@ -188,6 +188,13 @@ def look_at_names(page, text, amiss):
             amiss.append(f"{page.relative_to(TOP)}: no file {path}")
 
 
+def look_at_code(page, text, sources, amiss):
+    """Tells which contracts and definitions that a page shows stand in no source file so."""
+    for kind, shown in re.findall(r"```(rust|antt)\n(.*?)```", text, flags=re.S):
+        if not any(" ".join(shown.split()) in source for source in sources[kind]):
+            amiss.append(f"{page.relative_to(TOP)}: no source has what begins {shown.splitlines()[0]!r}")
+
+
 def pages():
     yield from sorted(TOP.glob("*.md"))
     for folder in ("docs", "bench", "vectors", "crates"):
@@ -204,8 +211,11 @@ def main(words):
             stale.append(f"{name} {'is stale' if '--check' in words else 'renewed'}")
             if "--check" not in words:
                 path.write_text(new)
+    sources = {kind: [" ".join(path.read_text().split()) for path in CRATES.glob(pattern)]
+               for kind, pattern in (("rust", "*/src/**/*.rt"), ("antt", "*/specs/**/*.antt"))}
     for page in pages():
         text = page.read_text()
+        look_at_code(page, text, sources, amiss)
         look_at_links(page, text, amiss)
         look_at_names(page, text, amiss)
     size = len((TOP / "README.md").read_bytes())
