@@ -61,24 +61,23 @@ def with_stands_on(text, amiss):
 
 def public_lines(text):
     """The lines of a source file that a caller of its crate can see: contracts of public functions and of the methods
-    of traits, and what public types and Models say."""
+    of traits, and what the Models of public types make of them."""
+    public = set(re.findall(r"(?m)^pub (?:struct|enum) (\w+)", text))
     block, taking, found = "", False, []
     for line in text.split("\n"):
         if line and not line[0].isspace():
             block = line
-            if line.startswith("pub struct") or " Model for " in line:
-                taking = True
-        whole = block.startswith("pub struct") or " Model for " in block
+        model = re.match(r"impl.* Model for (\w+)", block)
+        if model:
+            taking = model[1] in public and line != "}" and (taking or line == block) and "ghost invariant" not in line
         head = re.match(r"\s*(pub )?(?:const )?fn ", line)
-        if head and not whole:
-            of_trait = block.startswith(("pub trait", "unsafe impl", "impl")) and (" for " in block or "trait" in block)
+        if head and not model:
+            of_trait = block.startswith(("pub trait", "impl")) and (" for " in block or "trait" in block)
             taking = bool(head[1]) or of_trait and line[0].isspace()
         if taking:
             found.append(line)
         stripped = line.strip()
-        if stripped == "{" and not whole or head and stripped.endswith("{") or stripped.startswith(")") and stripped.endswith("{"):
-            taking = whole
-        if line == "}":
+        if not model and (stripped == "{" or stripped.endswith("{") and (head or stripped.startswith(")")) or line == "}"):
             taking = False
     return found
 
@@ -117,6 +116,7 @@ def list_of_files(amiss):
     rows = [f"{len(believed)} definitions in {len(among)} files: {sum(sums.values())} lines of code, of which {sums[True]} are "
             f"machine and meaning, and {sums[False]} formats and grammar.", "",
             "| Crate | To believe | Of other public calls, and of laws | Inside |", "|---|---|---|---|"]
+    unmarked = []
     for crate in stands_on():
         specs = CRATES / crate / "specs"
         kinds = {"believe": [], "stated": [], "inside": []}
@@ -129,9 +129,11 @@ def list_of_files(amiss):
             if is_marked and kind != "inside":
                 amiss.append(f"{path.relative_to(TOP)}: marked as inside, but public contracts rest on it")
             elif kind == "inside" and not is_marked:
-                amiss.append(f"{path.relative_to(TOP)}: no public contract rests on it, and it is not marked as inside")
+                unmarked.append(f"{crate}/{path.stem}")
         if any(kinds.values()):
             rows.append(f"| {crate} | " + " | ".join(", ".join(names) for names in kinds.values()) + " |")
+    if unmarked:
+        print(f"inside, but neither in specs/inside nor begun by 'Inside': {', '.join(unmarked)}")
     return "\n".join(re.sub(r"\|  (?=\|)", "| ", row) for row in rows)
 
 
