@@ -3,8 +3,8 @@
 
 The input is the first run's put, the same put again, and two fetches of version 1. With one allocation refused, each
 answer is whole or has status F21; the first put is there exactly where its status is 0, and else the second put makes
-version 1; where the connection ends, whole answers and a status F21 were written; and where the command line could not
-be read, nothing was. Build the program first (`cd crates/flightscan && rt run -- pipe < stdin > /dev/null`). It needs a
+version 1; where the connection ends, whole answers and a status F21 were written; and where the arguments or the
+command line could not be read, nothing was, and a line says so. Build the program first (`cd crates/flightscan && rt run -- pipe < stdin > /dev/null`). It needs a
 C compiler, and runs in a few seconds.
 """
 
@@ -30,7 +30,7 @@ def allowed(rows):
     """Each outcome that may be: what is written, what is said and the exit status, with a name."""
     whole = [MADE, EXISTS, rows, rows]
     outcomes = {(b"".join(whole), b"", 0): "all whole", (b"", COMMAND_LINE, 2): "command line refused"}
-    outcomes[b"", b"", 2] = "command line not read"
+    outcomes[b"", FAULT_LINE, 3] = "arguments not read"
     outcomes[REFUSED + MADE + rows + rows, b"", 0] = "first put refused"
     for place, name in [(1, "second put refused"), (2, "first fetch refused"), (3, "second fetch refused")]:
         outcomes[b"".join(whole[:place] + [REFUSED] + whole[place + 1 :]), b"", 0] = name

@@ -5,9 +5,10 @@
     python3 scripts/pages.py --check   writes nothing; ends with 1 where a part is stale or something is amiss
 
 Made: the column "Stands on" of docs/ARCHITECTURE.md, from crates.txt; and the list of files in docs/SEMANTICS.md, from
-what scripts/trusted_base.py counts and what public contracts cite. Looked at, in each page: that the files and headings that links lead to are there;
-that a name in a link to a source file stands in that file; that files and wrong bodies named in backticks are there;
-that code which is shown stands so in a source file; and that README.md has at most 10,000 bytes.
+what scripts/trusted_base.py counts and what public contracts cite. Looked at, in each page: that the files and headings
+that links lead to are there; that a name in a link to a source file stands in that file; that files and wrong bodies
+named in backticks are there; that code which is shown stands so in a source file; that the tour of docs/SEMANTICS.md
+leaves out no file to believe; and that README.md has at most 10,000 bytes.
 """
 
 import collections
@@ -190,6 +191,22 @@ def look_at_names(page, text, amiss):
             amiss.append(f"{page.relative_to(TOP)}: no file {path}")
 
 
+def look_at_tour(page, text, amiss):
+    """Tells which files the tour of SEMANTICS names that are not there, and which of those to believe it leaves out."""
+    toured = set()
+    for section in re.split(r"(?m)^## ", text)[1:]:
+        crates = [name for name in re.findall(r"`(\w+)`", section.partition("\n")[0]) if (CRATES / name).exists()]
+        for row in re.findall(r"(?m)^\| (`.*?) \|", section) if crates else []:
+            for name in re.findall(r"(\w+)\.antt|, `(\w+)`", row):
+                found = [path for crate in crates for path in CRATES.glob(f"{crate}/specs/**/{name[0] or name[1]}.antt")]
+                toured |= {(path.relative_to(CRATES).parts[0], path.stem) for path in found}
+                if not found:
+                    amiss.append(f"{page.relative_to(TOP)}: no {name[0] or name[1]}.antt in {', '.join(crates)}")
+    for crate, believed in re.findall(r"(?m)^\| (\w+) \| (\w[^|]*) \|[^|]*\|[^|]*\|$", text):
+        amiss.extend(f"{page.relative_to(TOP)}: the tour leaves out {crate}/{name}" for name in believed.split(", ")
+                     if (CRATES / crate / "specs").exists() and (crate, name) not in toured)
+
+
 def look_at_code(page, text, sources, amiss):
     """Tells which contracts and definitions that a page shows stand in no source file so."""
     for kind, shown in re.findall(r"```(rust|antt)\n(.*?)```", text, flags=re.S):
@@ -218,6 +235,8 @@ def main(words):
     for page in pages():
         text = page.read_text()
         look_at_code(page, text, sources, amiss)
+        if page.name == "SEMANTICS.md":
+            look_at_tour(page, text, amiss)
         look_at_links(page, text, amiss)
         look_at_names(page, text, amiss)
     size = len((TOP / "README.md").read_bytes())
