@@ -239,6 +239,10 @@ def main(words):
             look_at_tour(page, text, amiss)
         look_at_links(page, text, amiss)
         look_at_names(page, text, amiss)
+    listed = stands_on()
+    of_kit = {name for below in listed.values() for name in below} - set(listed)
+    amiss.extend(f"{page}: no word of the kit's {name}" for name in sorted(of_kit) for page in ("README.md", "docs/ARCHITECTURE.md")
+                 if not re.search(rf"(?<![\w]){name}(?![\w])", (TOP / page).read_text()))
     size = len((TOP / "README.md").read_bytes())
     if size > README_BYTES:
         amiss.append(f"README.md has {size} bytes, more than {README_BYTES}")
