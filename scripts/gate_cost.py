@@ -28,6 +28,7 @@ import time
 TOP = pathlib.Path(__file__).resolve().parent.parent
 KINDS = ("proof", "tests", "wrong bodies", "programs")
 BEGIN, END = "<!-- made by scripts/gate_cost.py -->", "<!-- end -->"
+WHOLE_MINUTES, PROOF_SECONDS, MOST_EDITS = 110, 270, 7
 PAUSE = 0.33
 TICKS = os.sysconf("SC_CLK_TCK")
 PAGE = os.sysconf("SC_PAGE_SIZE")
@@ -217,6 +218,10 @@ def table_of(log):
     weak = [f"{name} {counts[name]['only because']}" for name in names if counts[name]["only because"]]
     lines.append(f"The gate's last line: `{last}`."
                  + (f" Refused only because a written proof no longer fits: {', '.join(weak)}." if weak else ""))
+    over = [f"{name}'s proof" for name in names if seconds[name, "proof"] > PROOF_SECONDS]
+    over += [f"{counts[name]['edits']} edits of {name}" for name in names if counts[name]["edits"] > MOST_EDITS]
+    over += ["the whole"] if whole and whole[0] > 60 * WHOLE_MINUTES else []
+    lines += [f"Over the budget: {', '.join(over)}."] if over else []
     return "\n".join(lines)
 
 

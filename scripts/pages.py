@@ -5,9 +5,10 @@
     python3 scripts/pages.py --check   writes nothing; ends with 1 where a part is stale or something is amiss
 
 Made: the column "Stands on" of docs/ARCHITECTURE.md, from crates.txt; and the list of files in docs/SEMANTICS.md, from
-what scripts/trusted_base.py counts and what public contracts cite. Looked at, in each page: that the files and headings that links lead to are there;
-that a name in a link to a source file stands in that file; that files and wrong bodies named in backticks are there;
-and that README.md has at most 10,000 bytes.
+what scripts/trusted_base.py counts and what public contracts cite. Looked at, in each page: that the files and headings
+that links lead to are there; that a name in a link to a source file stands in that file; that files and wrong bodies
+named in backticks are there; that code which is shown stands so in a source file; that the tour of docs/SEMANTICS.md
+leaves out no file to believe; and that README.md has at most 10,000 bytes.
 """
 
 import collections
@@ -61,24 +62,23 @@ def with_stands_on(text, amiss):
 
 def public_lines(text):
     """The lines of a source file that a caller of its crate can see: contracts of public functions and of the methods
-    of traits, and what public types and Models say."""
+    of traits, and what the Models of public types make of them."""
+    public = set(re.findall(r"(?m)^pub (?:struct|enum) (\w+)", text))
     block, taking, found = "", False, []
     for line in text.split("\n"):
         if line and not line[0].isspace():
             block = line
-            if line.startswith("pub struct") or " Model for " in line:
-                taking = True
-        whole = block.startswith("pub struct") or " Model for " in block
+        model = re.match(r"impl.* Model for (\w+)", block)
+        if model:
+            taking = model[1] in public and line != "}" and (taking or line == block) and "ghost invariant" not in line
         head = re.match(r"\s*(pub )?(?:const )?fn ", line)
-        if head and not whole:
-            of_trait = block.startswith(("pub trait", "unsafe impl", "impl")) and (" for " in block or "trait" in block)
+        if head and not model:
+            of_trait = block.startswith(("pub trait", "impl")) and (" for " in block or "trait" in block)
             taking = bool(head[1]) or of_trait and line[0].isspace()
         if taking:
             found.append(line)
         stripped = line.strip()
-        if stripped == "{" and not whole or head and stripped.endswith("{") or stripped.startswith(")") and stripped.endswith("{"):
-            taking = whole
-        if line == "}":
+        if not model and (stripped == "{" or stripped.endswith("{") and (head or stripped.startswith(")")) or line == "}"):
             taking = False
     return found
 
@@ -117,6 +117,7 @@ def list_of_files(amiss):
     rows = [f"{len(believed)} definitions in {len(among)} files: {sum(sums.values())} lines of code, of which {sums[True]} are "
             f"machine and meaning, and {sums[False]} formats and grammar.", "",
             "| Crate | To believe | Of other public calls, and of laws | Inside |", "|---|---|---|---|"]
+    unmarked = []
     for crate in stands_on():
         specs = CRATES / crate / "specs"
         kinds = {"believe": [], "stated": [], "inside": []}
@@ -129,9 +130,11 @@ def list_of_files(amiss):
             if is_marked and kind != "inside":
                 amiss.append(f"{path.relative_to(TOP)}: marked as inside, but public contracts rest on it")
             elif kind == "inside" and not is_marked:
-                amiss.append(f"{path.relative_to(TOP)}: no public contract rests on it, and it is not marked as inside")
+                unmarked.append(f"{crate}/{path.stem}")
         if any(kinds.values()):
             rows.append(f"| {crate} | " + " | ".join(", ".join(names) for names in kinds.values()) + " |")
+    if unmarked:
+        print(f"inside, but neither in specs/inside nor begun by 'Inside': {', '.join(unmarked)}")
     return "\n".join(re.sub(r"\|  (?=\|)", "| ", row) for row in rows)
 
 
@@ -188,6 +191,29 @@ def look_at_names(page, text, amiss):
             amiss.append(f"{page.relative_to(TOP)}: no file {path}")
 
 
+def look_at_tour(page, text, amiss):
+    """Tells which files the tour of SEMANTICS names that are not there, and which of those to believe it leaves out."""
+    toured = set()
+    for section in re.split(r"(?m)^## ", text)[1:]:
+        crates = [name for name in re.findall(r"`(\w+)`", section.partition("\n")[0]) if (CRATES / name).exists()]
+        for row in re.findall(r"(?m)^\| (`.*?) \|", section) if crates else []:
+            for name in re.findall(r"(\w+)\.antt|, `(\w+)`", row):
+                found = [path for crate in crates for path in CRATES.glob(f"{crate}/specs/**/{name[0] or name[1]}.antt")]
+                toured |= {(path.relative_to(CRATES).parts[0], path.stem) for path in found}
+                if not found:
+                    amiss.append(f"{page.relative_to(TOP)}: no {name[0] or name[1]}.antt in {', '.join(crates)}")
+    for crate, believed in re.findall(r"(?m)^\| (\w+) \| (\w[^|]*) \|[^|]*\|[^|]*\|$", text):
+        amiss.extend(f"{page.relative_to(TOP)}: the tour leaves out {crate}/{name}" for name in believed.split(", ")
+                     if (CRATES / crate / "specs").exists() and (crate, name) not in toured)
+
+
+def look_at_code(page, text, sources, amiss):
+    """Tells which contracts and definitions that a page shows stand in no source file so."""
+    for kind, shown in re.findall(r"```(rust|antt)\n(.*?)```", text, flags=re.S):
+        if not any(" ".join(shown.split()) in source for source in sources[kind]):
+            amiss.append(f"{page.relative_to(TOP)}: no source has what begins {shown.splitlines()[0]!r}")
+
+
 def pages():
     yield from sorted(TOP.glob("*.md"))
     for folder in ("docs", "bench", "vectors", "crates"):
@@ -204,10 +230,19 @@ def main(words):
             stale.append(f"{name} {'is stale' if '--check' in words else 'renewed'}")
             if "--check" not in words:
                 path.write_text(new)
+    sources = {kind: [" ".join(path.read_text().split()) for path in CRATES.glob(pattern)]
+               for kind, pattern in (("rust", "*/src/**/*.rt"), ("antt", "*/specs/**/*.antt"))}
     for page in pages():
         text = page.read_text()
+        look_at_code(page, text, sources, amiss)
+        if page.name == "SEMANTICS.md":
+            look_at_tour(page, text, amiss)
         look_at_links(page, text, amiss)
         look_at_names(page, text, amiss)
+    listed = stands_on()
+    of_kit = {name for below in listed.values() for name in below} - set(listed)
+    amiss.extend(f"{page}: no word of the kit's {name}" for name in sorted(of_kit) for page in ("README.md", "docs/ARCHITECTURE.md")
+                 if not re.search(rf"(?<![\w]){name}(?![\w])", (TOP / page).read_text()))
     size = len((TOP / "README.md").read_bytes())
     if size > README_BYTES:
         amiss.append(f"README.md has {size} bytes, more than {README_BYTES}")
