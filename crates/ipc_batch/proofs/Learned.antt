@@ -25,7 +25,7 @@ use Rattle.ipc_batch.specs.State.{Known, State, values_under, with_values}
 use Rattle.ipc_batch.specs.Columns.{columns_from, buffers_wanted, counts_agree, one_texts}
 use Rattle.ipc_batch.specs.Said.{Sent, News, schema_sent, batch_parts, batch_sent, leads_to, dictionary_sent, kept_of, known_after, first_schema, next_news, news_of}
 use Rattle.ipc_batch.specs.Brings.{SaysMessage, SaysDictionaryBatch, Context, context_of, BringsBatch, Sets, BringsDictionary, BringsSchema, Brings}
-use Rattle.ipc_batch.specs.Laws.{IsRead, ReadIsBrought}
+use Rattle.ipc_batch.specs.Laws.{IsReadAs, ReadIsBrought}
 use Rattle.ipc_batch.proofs.Entries.{under_set, under_other}
 use Rattle.ipc_batch.proofs.Held.{columns_told, columns_read, one_told, one_read}
 use Rattle.ipc_batch.proofs.Brought.{IsMessage, message_told, message_read, claims_told, claims_read, says_message, message_at, is_message, is_headed, IsParts, parts_told, parts_read}
@@ -322,7 +322,7 @@ news_told (Some known) sent news is e =
     let m = bind_ok (message_of sent.header) _ news e in
     next_told (m.0).kind known sent m.0 news is (message_told sent.header m.0 is m.1) refl m.2
 
-news_read : (state : State) (sent : Sent) (after : Option Context) (batch : Option BatchAt) → IsBytes sent.header → Brings (option_map context_of state) sent after batch → IsRead state sent after batch
+news_read : (state : State) (sent : Sent) (after : Option Context) (batch : Option BatchAt) → IsBytes sent.header → Brings (option_map context_of state) sent after batch → IsReadAs state sent after batch
 unfolding news_of
 news_read None sent None batch is says = absurd says
 news_read None sent (Some after) batch is says =

@@ -15,7 +15,7 @@ use Rattle.ipc_batch.specs.declared.parts.FieldNode.{FieldNode}
 use Rattle.ipc_batch.specs.declared.parts.BufferPlace.{BufferPlace}
 use Rattle.ipc_batch.specs.Parts.{placed_in, body_claimed}
 use Rattle.ipc_batch.specs.Columns.{values_led_to}
-use Rattle.ipc_batch.specs.Holds.{Source, HoldsColumn}
+use Rattle.ipc_batch.specs.Holds.{BatchBody, HoldsColumn}
 use Rattle.ipc_batch.specs.State.{Known, State}
 use Rattle.ipc_batch.specs.Said.{Sent, News, has_id, leads_to, news_of, glance_of, Rows, Follows, Says, AreWide}
 use Rattle.ipc_batch.specs.Brings.{Context, context_of, Brings}
@@ -58,12 +58,12 @@ NegativesLieOutside = (body : List ℕ) → length body < 2 ^ 63 →
     ((place : BufferPlace) → (2 ^ 63 ≤ place.offset) ⊎ (2 ^ 63 ≤ place.length) → placed_in body place ≡ Err BadBatch)
     × ((message : MessageAt) (claimed : ℕ) → body_length_of message ≡ Ok claimed → 2 ^ 63 ≤ claimed →
     body_claimed message body ≡ Err BadBatch)
-    × ((source : Source) (data_type : DataType) (node : FieldNode) (own : ℕ → Option BufferPlace) (column : ColumnAt) →
+    × ((source : BatchBody) (data_type : DataType) (node : FieldNode) (own : ℕ → Option BufferPlace) (column : ColumnAt) →
     source.body ≡ body → length body < 2 ^ 60 → HoldsColumn source data_type node own column →
     (source.rows < 2 ^ 63) × (node.length < 2 ^ 63))
 
 -- a message is read, and leaves behind this, with dictionaries by their ids, and this batch or none
-pub record IsRead (state : State) (sent : Sent) (after : Option Context) (batch : Option BatchAt) : Type 0 where
+pub record IsReadAs (state : State) (sent : Sent) (after : Option Context) (batch : Option BatchAt) : Type 0 where
   pub news : News
   pub read : news_of state sent ≡ Ok news
   pub leaves : option_map context_of news.state ≡ after
@@ -72,7 +72,7 @@ pub record IsRead (state : State) (sent : Sent) (after : Option Context) (batch 
 -- what is read of a message is just what it brings
 abbrev pub ReadIsBrought : Type 0
 ReadIsBrought = (state : State) (sent : Sent) (after : Option Context) (batch : Option BatchAt) → IsBytes sent.header →
-    IsRead state sent after batch ↔ Brings (option_map context_of state) sent after batch
+    IsReadAs state sent after batch ↔ Brings (option_map context_of state) sent after batch
 
 -- What is known behind a dictionary: the same schema. The indices of its id lead into these values, and those of
 -- each other id to where they led.
