@@ -1,5 +1,5 @@
 -- Negative numbers lie outside every body.
-use Rattle.std.proofs.Common.{◌≡◌, ◌⊎◌, inl, inr, ℕ, ◌+◌, ◌*◌, ◌≤◌, ◌<◌, ◌^◌, ◌==◌, ◌||◌, ◌&&◌, nat_le, Bool, true, false, List, length, Option, Ok, Err, refl, arith, subst}
+use Rattle.std.proofs.Common.{◌≡◌, ◌⊎◌, inl, inr, ℕ, ◌+◌, ◌*◌, ◌≤◌, ◌<◌, ◌^◌, ◌==◌, ◌||◌, nat_le, Bool, true, false, List, length, Option, Ok, Err, refl, arith, subst}
 use Rattle.std.proofs.lemmas.Bool.{lt-leb, leb-true, eqb-true, and_parts}
 use Rattle.flatbuf.proofs.Standing.{stands_within}
 use Rattle.arrow_schema.specs.declared.data_type.IntegerType.{IntegerType}
@@ -19,12 +19,12 @@ use Rattle.arrays.specs.Texts.{TextsAt, lack_offsets, texts_stand, texts_of}
 use Rattle.arrays.specs.Buffers.{values_layout}
 use Rattle.arrays.specs.Column.{ColumnAt}
 use Rattle.scan_base.specs.declared.fault.Fault.TheVariants.{BadBatch}
-use Rattle.scan_base.specs.Reading.{◌>>=◌, demand}
+use Rattle.scan_base.specs.Reading.{demand}
 use Rattle.arrow_schema.specs.Header.{MessageAt, body_length_of}
 use Rattle.ipc_batch.specs.declared.parts.BufferPlace.{BufferPlace}
 use Rattle.ipc_batch.specs.Parts.{placed_in, body_claimed}
 use Rattle.ipc_batch.specs.declared.parts.FieldNode.{FieldNode}
-use Rattle.ipc_batch.specs.Holds.{BatchBody, led_into, HasBytes, HoldsTexts, HoldsValues, HoldsLayout, HoldsColumn}
+use Rattle.ipc_batch.specs.Holds.{BatchBody, led_into, HasBytes, HoldsValues, HoldsLayout, HoldsColumn}
 use Rattle.ipc_batch.specs.Laws.{NegativesLieOutside}
 
 outside : (body : List ℕ) → length body < 2 ^ 63 → (place : BufferPlace) → (2 ^ 63 ≤ place.offset) ⊎ (2 ^ 63 ≤ place.length) → length body < place.offset + place.length
