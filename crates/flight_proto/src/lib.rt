@@ -30,10 +30,3 @@ pub use crate::statement_ingest::{CommandStatementIngest, TableDefinitionOptions
 pub use crate::ticket::{
     Ticket, TicketStatementQuery, put_statement_ticket, read_statement_handle,
 };
-
-#[cfg(test)]
-mod tests;
-#[cfg(test)]
-mod vector_tests;
-#[cfg(test)]
-mod vectors;
