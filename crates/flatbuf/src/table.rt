@@ -193,6 +193,3 @@ impl<'a> Table<'a> {
         }
     }
 }
-
-#[cfg(test)]
-mod tests;
