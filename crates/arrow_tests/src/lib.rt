@@ -2,13 +2,10 @@
 #![tactic(auto)]
 
 #[cfg(test)]
-mod bits;
-
+mod batches;
 #[cfg(test)]
-mod schemas;
-
+mod bits;
 #[cfg(test)]
 mod columns;
-
 #[cfg(test)]
-mod batches;
+mod schemas;
