@@ -16,8 +16,8 @@ pub fn last_name(names: &str) -> (&str, &str) {
     names.rsplit_once(' ').unwrap_or(("", names))
 }
 
-/// What a reader answers to a header and a body.
-pub fn read(
+// What a reader answers to a header and a body.
+fn read(
     alloc: Global,
     reader: &mut Reader,
     header: &[u8],
@@ -28,104 +28,99 @@ pub fn read(
     Ok(reader.message(alloc, header, body))
 }
 
-/// What a reader answers to the message of a name.
-pub fn read_named(
+// The batch of the message of a name, where a reader gives one. A refused one is passed over.
+fn next_batch(
     alloc: Global,
     messages: &Messages,
     reader: &mut Reader,
     name: &str,
-) -> Result<Answer> {
+) -> Result<Option<Batch>> {
+    if name.is_empty() {
+        return Ok(None);
+    }
     let message = messages.get(name)?;
-    Ok(read(alloc, reader, &message.header, &message.body)?)
+    Ok(read(alloc, reader, &message.header, &message.body)?.unwrap_or(None))
 }
 
-/// The batches of messages, read one behind the other. A refused one is passed over.
-pub fn read_all(
+// Gives a reader messages, one behind the other.
+fn read_before(alloc: Global, messages: &Messages, reader: &mut Reader, names: &str) -> Result<()> {
+    for name in names.split(' ') {
+        next_batch(alloc, messages, reader, name)?;
+    }
+    Ok(())
+}
+
+/// What a reader said to the last of some messages.
+#[derive(Drop)]
+pub struct Heard {
+    reader: Reader,
+    is_first: bool,
+    answer: Answer,
+}
+
+/// What a reader says to a header and a body behind messages.
+pub fn hear(
     alloc: Global,
     messages: &Messages,
-    reader: &mut Reader,
-    names: &str,
-) -> Result<Vec<Batch>> {
-    let mut batches = Vec::new(alloc);
-    for name in names.split(' ') {
-        if !name.is_empty() {
-            if let Ok(Some(batch)) = read_named(alloc, messages, reader, name)? {
-                batches.push(batch)?;
-            }
+    before: &str,
+    header: &[u8],
+    body: &[u8],
+) -> Result<Heard> {
+    let mut reader = Reader::new();
+    read_before(alloc, messages, &mut reader, before)?;
+    let is_first = reader.schema().is_none();
+    let answer = read(alloc, &mut reader, header, body)?;
+    Ok(Heard {
+        reader,
+        is_first,
+        answer,
+    })
+}
+
+/// What a reader says to the last of some messages.
+pub fn hear_last(alloc: Global, messages: &Messages, names: &str) -> Result<Heard> {
+    let (before, name) = last_name(names);
+    let message = messages.get(name)?;
+    hear(alloc, messages, before, &message.header, &message.body)
+}
+
+impl Heard {
+    /// What was said, in words.
+    pub fn told(&self, alloc: Global) -> Result<String, AllocError> {
+        let schema = if self.is_first {
+            self.reader.schema()
+        } else {
+            None
+        };
+        told(alloc, &self.answer, schema)
+    }
+
+    /// The message that our own writer makes of the batch.
+    pub fn written(&self, alloc: Global) -> Result<WrittenMessage> {
+        match &self.answer {
+            Ok(Some(batch)) => written(alloc, batch),
+            _ => bail!("no batch"),
         }
     }
-    Ok(batches)
-}
 
-/// `case NAMES`: the answer to the last message.
-pub fn case(alloc: Global, messages: &Messages, names: &str) -> Result<String> {
-    let (before, name) = last_name(names);
-    let mut reader = Reader::new();
-    drop(read_all(alloc, messages, &mut reader, before)?);
-    let first = reader.schema().is_none();
-    let answer = read_named(alloc, messages, &mut reader, name)?;
-    let schema = if first { reader.schema() } else { None };
-    let told = told(alloc, &answer, schema)?;
-    Ok(format!(in alloc; "{name}: {told}\n")?)
-}
-
-/// `total NAMES`: the rows of all batches, once all messages were read.
-pub fn total(alloc: Global, messages: &Messages, names: &str) -> Result<String> {
-    let (_, name) = last_name(names);
-    let batches = read_all(alloc, messages, &mut Reader::new(), names)?;
-    let mut rows = String::new(alloc);
-    for batch in batches.as_slice() {
-        push_rows(alloc, &mut rows, batch)?;
-    }
-    Ok(format!(in alloc; "{name}, all rows: {rows}\n")?)
-}
-
-// A reader that learned this schema of our own writer.
-fn reader_of(alloc: Global, schema: &Schema) -> Result<Reader>
-    requires { IsSchema schema.now }
-{
-    let header = write_schema(alloc, schema)?;
-    let mut reader = Reader::new();
-    if let Err(fault) = read(alloc, &mut reader, &header, &[])? {
-        bail!("a schema that was written: {fault}");
-    }
-    Ok(reader)
-}
-
-/// The message that our own writer makes of a batch.
-pub fn written(alloc: Global, batch: &Batch) -> Result<WrittenMessage> {
-    if batch.columns().len() > MAX_COLUMNS {
-        bail!("a batch of many columns");
-    }
-    write_batch(alloc, batch)?.context("a long body")
-}
-
-// A batch, written by our own writer behind its schema and read once more.
-fn batch_again(alloc: Global, reader: &Reader, batch: &Batch) -> Result<Answer> {
-    let schema = reader.schema().context("no schema")?;
-    let answered = schema.answered(alloc)?;
-    let mut reader = reader_of(alloc, &answered)?;
-    let message = written(alloc, batch)?;
-    Ok(read(alloc, &mut reader, &message.header, &message.body)?)
-}
-
-/// `again NAMES`: what the last message says, a schema or a batch, written by our own writer and read once more.
-pub fn again(alloc: Global, messages: &Messages, names: &str) -> Result<String> {
-    let (before, name) = last_name(names);
-    let mut reader = Reader::new();
-    drop(read_all(alloc, messages, &mut reader, before)?);
-    let told = match read_named(alloc, messages, &mut reader, name)? {
-        Ok(Some(batch)) => told(alloc, &batch_again(alloc, &reader, &batch)?, None)?,
-        _ => {
-            let schema = reader.schema().context("no schema")?;
-            let again = reader_of(alloc, schema)?;
-            told(alloc, &Ok(None), again.schema())?
+    // What is said of the schema or the batch, once our own writer wrote it.
+    fn again(&self, alloc: Global) -> Result<Heard> {
+        let schema = self.reader.schema().context("no schema")?;
+        match &self.answer {
+            Ok(Some(batch)) => batch_again(alloc, schema, batch),
+            _ => Ok(schema_again(alloc, schema)?),
         }
-    };
-    Ok(format!(in alloc; "{name}, written again: {told}\n")?)
+    }
+
+    // Of each column of the batch the count and the digest.
+    fn counts(&self, alloc: Global) -> Result<String, AllocError> {
+        match &self.answer {
+            Ok(Some(batch)) => counts(alloc, batch),
+            _ => self.told(alloc),
+        }
+    }
 }
 
-// Of each column of a batch the count and the digest.
 fn counts(alloc: Global, batch: &Batch) -> Result<String, AllocError> {
     let mut told = String::new(alloc);
     for column in batch.columns() {
@@ -134,18 +129,84 @@ fn counts(alloc: Global, batch: &Batch) -> Result<String, AllocError> {
     Ok(told)
 }
 
-/// `count NAMES`: of each column of the last message's batch how many slots and nulls it has, and a digest, and the
-/// same of what our own writer writes of it.
-pub fn count(alloc: Global, messages: &Messages, names: &str) -> Result<String> {
-    let (before, name) = last_name(names);
+// The message that our own writer makes of a batch.
+fn written(alloc: Global, batch: &Batch) -> Result<WrittenMessage> {
+    if batch.columns().len() > MAX_COLUMNS {
+        bail!("a batch of many columns");
+    }
+    write_batch(alloc, batch)?.context("a long body")
+}
+
+// What a reader says to the schema of our own writer.
+fn schema_again(alloc: Global, schema: &Schema) -> Result<Heard, AllocError>
+    requires { IsSchema schema.now }
+{
+    let header = write_schema(alloc, schema)?;
     let mut reader = Reader::new();
-    drop(read_all(alloc, messages, &mut reader, before)?);
-    let Ok(Some(batch)) = read_named(alloc, messages, &mut reader, name)? else {
-        bail!("no batch: {name}");
-    };
-    let Ok(Some(again)) = batch_again(alloc, &reader, &batch)? else {
-        bail!("no batch that was written: {name}");
-    };
-    let (told, again) = (counts(alloc, &batch)?, counts(alloc, &again)?);
+    let answer = read(alloc, &mut reader, &header, &[])?;
+    Ok(Heard {
+        reader,
+        is_first: true,
+        answer,
+    })
+}
+
+// What a reader says to the batch of our own writer behind the columns as which a schema's are answered.
+fn batch_again(alloc: Global, schema: &Schema, batch: &Batch) -> Result<Heard>
+    requires { IsSchema schema.now }
+{
+    let message = written(alloc, batch)?;
+    let answered = schema.answered(alloc)?;
+    let mut heard = schema_again(alloc, &answered)?;
+    heard.answer = read(alloc, &mut heard.reader, &message.header, &message.body)?;
+    Ok(heard)
+}
+
+// A line: a name, what is said of it, and that.
+fn line(alloc: Global, name: &str, of: &str, told: &str) -> Result<String, AllocError> {
+    format!(in alloc; "{name}{of}: {told}\n")
+}
+
+/// `case NAMES`: the answer to the last message.
+pub fn case(alloc: Global, messages: &Messages, names: &str) -> Result<String> {
+    let told = hear_last(alloc, messages, names)?.told(alloc)?;
+    Ok(line(alloc, last_name(names).1, "", &told)?)
+}
+
+/// `again NAMES`: what the last message says, a schema or a batch, written by our own writer and read once more.
+pub fn again(alloc: Global, messages: &Messages, names: &str) -> Result<String> {
+    let again = hear_last(alloc, messages, names)?.again(alloc)?;
+    let told = again.told(alloc)?;
+    Ok(line(alloc, last_name(names).1, ", written again", &told)?)
+}
+
+/// `count NAMES`: of each column of the last message's batch how many slots and nulls it has, and a digest, and the
+/// same of what our own writer makes of it.
+pub fn count(alloc: Global, messages: &Messages, names: &str) -> Result<String> {
+    let heard = hear_last(alloc, messages, names)?;
+    let again = heard.again(alloc)?.counts(alloc)?;
+    let (name, told) = (last_name(names).1, heard.counts(alloc)?);
     Ok(format!(in alloc; "{name}: {told}\n{name}, written again: {again}\n")?)
+}
+
+// The batches of messages.
+fn batches(alloc: Global, messages: &Messages, names: &str) -> Result<Vec<Batch>> {
+    let mut reader = Reader::new();
+    let mut batches = Vec::new(alloc);
+    for name in names.split(' ') {
+        if let Some(batch) = next_batch(alloc, messages, &mut reader, name)? {
+            batches.push(batch)?;
+        }
+    }
+    Ok(batches)
+}
+
+/// `total NAMES`: the rows of all batches, once all messages were read.
+pub fn total(alloc: Global, messages: &Messages, names: &str) -> Result<String> {
+    let batches = batches(alloc, messages, names)?;
+    let mut rows = String::new(alloc);
+    for batch in batches.as_slice() {
+        push_rows(alloc, &mut rows, batch)?;
+    }
+    Ok(line(alloc, last_name(names).1, ", all rows", &rows)?)
 }

@@ -1,11 +1,9 @@
 //! Messages that are changed at one place.
 
-use crate::answers::told;
-use crate::cases::{last_name, read, read_all};
+use crate::cases::{hear, last_name};
 use crate::messages::{Message, Messages};
 use crate::pieces::{bytes_of, first_word};
 use anyhow::{Result, bail};
-use ipc_batch::Reader;
 use std::alloc::{AllocError, Global};
 
 // Which part of a message is changed.
@@ -54,15 +52,12 @@ impl<'a> Changed<'a> {
 
     // The answer where the part has these bytes.
     fn answer(&self, alloc: Global, bytes: &[u8]) -> Result<String> {
-        let mut reader = Reader::new();
-        drop(read_all(alloc, self.messages, &mut reader, self.before)?);
-        let first = reader.schema().is_none();
-        let answer = match self.part {
-            Part::Header => read(alloc, &mut reader, bytes, &self.message.body)?,
-            Part::Body => read(alloc, &mut reader, &self.message.header, bytes)?,
+        let (header, body) = match self.part {
+            Part::Header => (bytes, self.message.body.as_slice()),
+            Part::Body => (self.message.header.as_slice(), bytes),
         };
-        let schema = if first { reader.schema() } else { None };
-        Ok(told(alloc, &answer, schema)?)
+        let heard = hear(alloc, self.messages, self.before, header, body)?;
+        Ok(heard.told(alloc)?)
     }
 
     // The answer where these bytes stand from a place on.

@@ -1,12 +1,12 @@
 //! Messages of our own writer, byte for byte.
 
-use crate::cases::{last_name, read_all, read_named, written};
+use crate::cases::{hear_last, last_name};
 use crate::messages::Messages;
 use crate::pieces::{bytes_of, first_word};
-use anyhow::{Context, Result, bail};
+use anyhow::{Context, Result};
 use arrays::Texts;
 use bytes::Bytes;
-use ipc_batch::{Reader, WrittenMessage, write_dictionary};
+use ipc_batch::{WrittenMessage, write_dictionary};
 use std::alloc::{AllocError, Global};
 
 // A line of a name and the bytes of a message.
@@ -18,13 +18,8 @@ fn bytes_told(alloc: Global, name: &str, message: &WrittenMessage) -> Result<Str
 
 /// `written NAMES`: the bytes that our own writer makes of the last message's batch.
 pub fn batch_bytes(alloc: Global, messages: &Messages, names: &str) -> Result<String> {
-    let (before, name) = last_name(names);
-    let mut reader = Reader::new();
-    drop(read_all(alloc, messages, &mut reader, before)?);
-    let Ok(Some(batch)) = read_named(alloc, messages, &mut reader, name)? else {
-        bail!("no batch: {name}");
-    };
-    Ok(bytes_told(alloc, name, &written(alloc, &batch)?)?)
+    let message = hear_last(alloc, messages, names)?.written(alloc)?;
+    Ok(bytes_told(alloc, last_name(names).1, &message)?)
 }
 
 // `ROWS VALIDITY OFFSETS BYTES`: texts over these buffers.
