@@ -3,9 +3,9 @@
 
 The input is the first run's put, the same put again, and two fetches of version 1. With one allocation refused, each
 answer is whole or has status F21; the first put is there exactly where its status is 0, and else the second put makes
-version 1; where the connection ends, whole answers and a status F21 were written; and where the command line could not
-be read, nothing was. Build the program first (`cd crates/flightscan && rt run -- pipe < stdin > /dev/null`). It needs a
-C compiler, and runs in a few seconds.
+version 1; where the connection ends, whole answers and a status F21 were written; and where there was no memory for
+the command line, nothing was written, and F21 was printed. Build the program first (`cd crates/flightscan && rt run --
+pipe < stdin > /dev/null`). It needs a C compiler, and runs in a few seconds.
 """
 
 import collections
@@ -23,14 +23,12 @@ MADE = bytes.fromhex("02 00 00 00 00 04 0A 02 08 02 04 00 00 00")
 EXISTS = bytes.fromhex("04 06 00 0F") + b"F10 TableExists"
 REFUSED = bytes.fromhex("04 08 00 0F") + b"F21 OutOfMemory"
 FAULT_LINE = b"fault: F21 OutOfMemory\n"
-COMMAND_LINE = b"error: out of memory\n"
 
 
 def allowed(rows):
     """Each outcome that may be: what is written, what is said and the exit status, with a name."""
     whole = [MADE, EXISTS, rows, rows]
-    outcomes = {(b"".join(whole), b"", 0): "all whole", (b"", COMMAND_LINE, 2): "command line refused"}
-    outcomes[b"", b"", 2] = "command line not read"
+    outcomes = {(b"".join(whole), b"", 0): "all whole", (b"", FAULT_LINE, 3): "command line not read"}
     outcomes[REFUSED + MADE + rows + rows, b"", 0] = "first put refused"
     for place, name in [(1, "second put refused"), (2, "first fetch refused"), (3, "second fetch refused")]:
         outcomes[b"".join(whole[:place] + [REFUSED] + whole[place + 1 :]), b"", 0] = name

@@ -220,4 +220,5 @@ def main():
                 print(f"{item.crate}/{item.path.name}\t{item.name}\t{len(item.lines)}{'' if item.commented else chr(9) + 'no comment'}")
 
 
-main()
+if __name__ == "__main__":
+    main()

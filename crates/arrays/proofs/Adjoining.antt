@@ -7,7 +7,8 @@ use Rattle.scan_base.specs.declared.value.Value.{Value}
 use Rattle.scan_base.specs.declared.value.Value.TheVariants.{Null, Text}
 use Rattle.arrays.specs.declared.layout.Layout.TheVariants as layout
 use Rattle.arrays.specs.Number.{element_at}
-use Rattle.arrays.specs.Validity.{is_null, is_valid}
+use Rattle.scan_base.specs.Value.{is_null}
+use Rattle.arrays.specs.Validity.{is_valid}
 use Rattle.arrays.specs.Texts.{TextsAt, text_at, texts_slot, AreTexts}
 use Rattle.arrays.specs.Column.{ColumnAt, slot_of, values_of}
 use Rattle.arrays.specs.Written.{text_bytes, texts_joined}

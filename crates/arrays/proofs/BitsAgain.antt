@@ -13,7 +13,8 @@ use Rattle.bitmap.proofs.Masks.{length-bits_of, get_or-bits_of}
 use Rattle.scan_base.specs.declared.value.Value.{Value}
 use Rattle.scan_base.specs.declared.value.Value.TheVariants.{Null}
 use Rattle.scan_base.specs.declared.value.Value.TheVariants as value
-use Rattle.arrays.specs.Validity.{is_null, is_valid, where_valid, validity_of}
+use Rattle.scan_base.specs.Value.{is_null}
+use Rattle.arrays.specs.Validity.{is_valid, where_valid, validity_of}
 use Rattle.arrays.specs.Column.{ColumnAt, slot_of, values_of}
 use Rattle.arrays.specs.Nulls.{null_count, valid_slots}
 use Rattle.arrays.specs.Written.{packed_bits, validity_written, validity_read}

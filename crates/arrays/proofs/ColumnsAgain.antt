@@ -23,8 +23,9 @@ use Rattle.arrays.specs.Validity.{is_valid}
 use Rattle.arrays.specs.Integers.{IntegersAt, integers_of}
 use Rattle.arrays.specs.Decimals.{DecimalsAt, decimals_of}
 use Rattle.arrays.specs.Bools.{BoolsAt, bools_of}
-use Rattle.arrays.specs.Texts.{texts_of, text_at, lack_offsets, IsTextOrNull}
-use Rattle.arrays.specs.Indices.{IndicesAt, indices_slot}
+use Rattle.scan_base.specs.Value.{IsTextOrNull}
+use Rattle.arrays.specs.Texts.{texts_of, text_at}
+use Rattle.arrays.specs.Indices.{IndicesAt}
 use Rattle.arrays.specs.Dictionary.{entry_at}
 use Rattle.arrays.specs.Layout.{layout_slot, layout_count}
 use Rattle.arrays.specs.Column.{ColumnAt, IsColumn, slot_of, values_of, whole}
@@ -109,7 +110,7 @@ unfolding texts_layout texts_of
 texts_read_again column short texts =
     let read = texts_again column in (
       layout.Texts read,
-      rw (read_validity column, texts_stand_again column short texts (lack_offsets read)) refl,
+      rw (read_validity column, texts_stand_again column short texts) refl,
       values_again column (layout.Texts read) refl (λ j low. slot_again column (λ at. Text (text_at read at)) j low
           (λ some. ap Text (cut_again column j low short) ∙ text_value (slot_of column j) some (texts j low))),
       tt,
@@ -123,7 +124,7 @@ led_text values (pos index) texts = elim (cases_lt index (length values)) [
 ]
 led_text values (negsuc index) texts = tt
 
-pub index_is_text : (cells : IndicesAt) (place : ℕ) → All IsTextOrNull cells.dictionary → IsTextOrNull (indices_slot cells place)
+pub index_is_text : (cells : IndicesAt) (place : ℕ) → All IsTextOrNull cells.dictionary → IsTextOrNull (layout_slot (layout.Indices cells) place)
 index_is_text cells place texts = by (is_valid cells.validity place) (led_text cells.dictionary (integer_at cells.index cells.values place) texts)
   where
     by : (valid : Truth) → IsTextOrNull (unwrap_or (entry_at cells.dictionary (integer_at cells.index cells.values place)) Null) →

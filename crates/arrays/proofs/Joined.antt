@@ -1,6 +1,6 @@
 -- The values of runs of parts, and of a dictionary.
 use Rattle.std.proofs.Common.{◌≡◌, ◌<◌, ◌≤◌, ℕ, ◌+◌, ◌-◌, List, [], ◌∷◌, ◌++◌, length, drop, take, map, get_or, slice_index, Bool, false, inl, inr, Ok, refl, sym, ap, ◌∙◌, arith}
-use Rattle.std.specs.List.{flat_map, list_any}
+use Rattle.std.specs.List.{flat_map}
 use Rattle.std.proofs.Math.ListN.{get_or-append}
 use Rattle.std.proofs.Math.Seq.{take-append_seam}
 use Rattle.std.proofs.lemmas.Bool.{cases_lt, le-leb}
@@ -9,9 +9,11 @@ use Rattle.std.proofs.lemmas.List.Elements.{All-append}
 use Rattle.std.proofs.lemmas.List.Folds.{list_any-append}
 use Rattle.std.proofs.lemmas.Grind.{flat_map-append}
 use Rattle.scan_base.specs.declared.value.Value.{Value}
-use Rattle.arrays.specs.Validity.{is_null}
-use Rattle.arrays.specs.Texts.{TextsAt, texts_slot, texts_values, IsTextOrNull, AreTexts}
-use Rattle.arrays.specs.Dictionary.{parts_values, runs_values, most_values, extended_by, IsDictionary, IsRun}
+use Rattle.scan_base.specs.Value.{is_null, IsTextOrNull}
+use Rattle.arrays.specs.Texts.{TextsAt, texts_slot, texts_values, AreTexts}
+use Rattle.scan_base.specs.Limits.{most_values}
+use Rattle.arrays.specs.Dictionary.{extended_by, IsDictionary}
+use Rattle.arrays.specs.inside.Runs.{parts_values, runs_values, IsRun}
 use Rattle.arrays.proofs.Entries.{dropped, length-texts_values, parts_more, length-parts_more, length-through}
 use Rattle.arrays.proofs.NoNulls.{none_listed}
 use Rattle.arrays.proofs.TextSlots.{values_are_texts}

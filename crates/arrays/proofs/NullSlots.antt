@@ -7,7 +7,8 @@ use Rattle.std.proofs.lemmas.List.Sums.{length-filter, sum_by-cons}
 use Rattle.std.proofs.lemmas.Simd.{map-map}
 use Rattle.scan_base.specs.declared.value.Value.{Value}
 use Rattle.scan_base.specs.declared.value.Value.TheVariants.{Null}
-use Rattle.arrays.specs.Validity.{is_null, is_valid, where_valid}
+use Rattle.scan_base.specs.Value.{is_null}
+use Rattle.arrays.specs.Validity.{is_valid, where_valid}
 use Rattle.arrays.specs.Indices.{IndicesAt, entry_of, index_stands}
 use Rattle.arrays.specs.Column.{ColumnAt, slot_of, values_of}
 use Rattle.arrays.specs.Number.{integer_at}

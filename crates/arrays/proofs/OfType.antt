@@ -12,7 +12,7 @@ use Rattle.arrays.specs.declared.layout.Layout.{Layout}
 use Rattle.arrays.specs.declared.layout.Layout.TheVariants as layout
 use Rattle.arrays.specs.Number.{AreBytes, element_at, integer_at, decimal_at}
 use Rattle.arrays.specs.Validity.{is_valid, where_valid}
-use Rattle.arrays.specs.Texts.{IsTextOrNull}
+use Rattle.scan_base.specs.Value.{IsTextOrNull}
 use Rattle.arrays.specs.Column.{IsColumn, slot_of}
 use Rattle.arrays.specs.Typed.{IsOfType, IsInteger, IsValueOf, ValuesAreOfTheirType}
 use Rattle.arrays.proofs.Slots.{all_slots}

@@ -6,7 +6,8 @@ use Rattle.std.proofs.lemmas.Str.{IsUtf8-from_is_utf8}
 use Rattle.std.proofs.lemmas.Bool.{eqb-true, leb-true, and_parts}
 use Rattle.scan_base.specs.declared.value.Value.TheVariants.{Null, Text}
 use Rattle.arrays.specs.Validity.{is_valid, IsLong}
-use Rattle.arrays.specs.Texts.{TextsAt, texts_slot, texts_values, IsTextOrNull, text_at, is_offset, text_stands, texts_stand, lack_offsets, AreTexts}
+use Rattle.scan_base.specs.Value.{IsTextOrNull}
+use Rattle.arrays.specs.Texts.{TextsAt, texts_slot, texts_values, text_at, is_offset, text_stands, texts_stand, AreTexts}
 use Rattle.arrays.proofs.Slots.{one_holds, slots_at, all_slots}
 
 -- the text of a valid slot is UTF-8
@@ -21,25 +22,26 @@ text_is_utf8 cells place stands valid =
     by false e h = absurd (let no : ⊥ = cc in no)
 
 -- slots that were tested are texts
-pub tested_are_texts : (cells : TextsAt) → IsLong cells.validity cells.len → (lack_offsets cells || texts_stand cells) ≡ true → AreTexts cells
-tested_are_texts cells long tested = elim (one_holds (lack_offsets cells) (texts_stand cells) tested) [
-  | inl lacking ↦
-      let none = and_parts (cells.len == 0) (length cells.offsets == 0) lacking in
-      let empty = eqb-true cells.len 0 none.0 in
-      record { validity = long; offsets = λ some. absurd (omega (arith, empty)); texts = λ place lt. absurd (omega (arith, empty)) }
-  | inr stand ↦
-      let room = and_parts (nat_le (4 * (cells.len + 1)) (length cells.offsets)) (is_offset cells 0 && list_all (text_stands cells) (range_with_len 0 cells.len)) stand in
-      let all = and_parts (is_offset cells 0) (list_all (text_stands cells) (range_with_len 0 cells.len)) room.1 in
-      record {
-        validity = long;
-        offsets = λ some. leb-true (4 * (cells.len + 1)) (length cells.offsets) room.0;
-        texts = λ place lt. slots_at (text_stands cells) 0 cells.len place all.1 (omega arith) (omega arith);
-      }
-]
+pub tested_are_texts : (cells : TextsAt) → IsLong cells.validity cells.len → texts_stand cells ≡ true → AreTexts cells
+tested_are_texts cells long tested = elim (one_holds (cells.len == 0 && length cells.offsets == 0)
+    (nat_le (4 * (cells.len + 1)) (length cells.offsets) && (is_offset cells 0 && list_all (text_stands cells) (range_with_len 0 cells.len))) tested) [
+      | inl lacking ↦
+          let none = and_parts (cells.len == 0) (length cells.offsets == 0) lacking in
+          let empty = eqb-true cells.len 0 none.0 in
+          record { validity = long; offsets = λ some. absurd (omega (arith, empty)); texts = λ place lt. absurd (omega (arith, empty)) }
+      | inr stand ↦
+          let room = and_parts (nat_le (4 * (cells.len + 1)) (length cells.offsets)) (is_offset cells 0 && list_all (text_stands cells) (range_with_len 0 cells.len)) stand in
+          let all = and_parts (is_offset cells 0) (list_all (text_stands cells) (range_with_len 0 cells.len)) room.1 in
+          record {
+            validity = long;
+            offsets = λ some. leb-true (4 * (cells.len + 1)) (length cells.offsets) room.0;
+            texts = λ place lt. slots_at (text_stands cells) 0 cells.len place all.1 (omega arith) (omega arith);
+          }
+    ]
 
 -- the same of buffers that were read through slices
 pub read_are_texts : (validity : Option (List Bool)) (offsets bytes read_offsets read_bytes : List ℕ) (len : ℕ) → read_offsets ≡ offsets → read_bytes ≡ bytes → IsLong validity len →
-    (lack_offsets (record { validity = validity; offsets = read_offsets; bytes = read_bytes; len = len }) || texts_stand (record { validity = validity; offsets = read_offsets; bytes = read_bytes; len = len })) ≡ true →
+    texts_stand (record { validity = validity; offsets = read_offsets; bytes = read_bytes; len = len }) ≡ true →
     AreTexts (record { validity = validity; offsets = offsets; bytes = bytes; len = len })
 read_are_texts validity offsets bytes read_offsets read_bytes len same_offsets same_bytes long tested =
     rw (← same_offsets, ← same_bytes) (tested_are_texts (record { validity = validity; offsets = read_offsets; bytes = read_bytes; len = len }) long tested)

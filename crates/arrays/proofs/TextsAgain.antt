@@ -1,5 +1,5 @@
 -- Offsets and texts, read again.
-use Rattle.std.proofs.Common.{◌≡◌, ℕ, zero, suc, ◌+◌, ◌-◌, ◌*◌, ◌^◌, ◌<◌, ◌≤◌, Bool, true, false, not, ◌||◌, List, [], ◌∷◌, ◌++◌, length, get_or, take, refl, sym, ap, ◌∙◌, arith, append-nil}
+use Rattle.std.proofs.Common.{◌≡◌, ℕ, zero, suc, ◌+◌, ◌-◌, ◌*◌, ◌^◌, ◌<◌, ◌≤◌, ◌==◌, ◌&&◌, nat_le, Bool, true, false, not, ◌||◌, List, [], ◌∷◌, ◌++◌, length, get_or, take, refl, sym, ap, ◌∙◌, arith, append-nil}
 use Rattle.std.specs.List.{list_all, slice_range, range_with_len}
 use Rattle.std.specs.Str.{is_utf8}
 use Rattle.std.proofs.lemmas.Bool.{le-leb, lt-ltb}
@@ -12,8 +12,8 @@ use Rattle.bitmap.proofs.Masks.{little_drop}
 use Rattle.scan_base.specs.declared.value.Value.{Value}
 use Rattle.scan_base.specs.declared.value.Value.TheVariants as variant
 use Rattle.arrays.specs.Number.{element_at}
-use Rattle.arrays.specs.Validity.{is_null}
-use Rattle.arrays.specs.Texts.{TextsAt, text_at, is_offset, text_stands, texts_stand, IsTextOrNull}
+use Rattle.scan_base.specs.Value.{is_null, IsTextOrNull}
+use Rattle.arrays.specs.Texts.{TextsAt, text_at, is_offset, text_stands, texts_stand}
 use Rattle.arrays.specs.Column.{ColumnAt, slot_of, values_of}
 use Rattle.arrays.specs.Written.{text_bytes, offsets_from, texts_joined}
 use Rattle.arrays.proofs.Lengths.{length-offsets}
@@ -150,10 +150,12 @@ all_hold : (test : ℕ → Bool) (first len : ℕ) → ((j : ℕ) → first ≤ 
 all_hold test first zero each = refl
 all_hold test first (suc len) each = rw (each first (omega arith) (omega arith)) (all_hold test (first + 1) len (λ j low high. each j (omega arith) (omega arith)))
 
-pub texts_stand_again : (column : ColumnAt) → length (texts_joined (values_of column)) < 2 ^ 31 → ((j : ℕ) → j < column.len → IsTextOrNull (slot_of column j)) → (none : Bool) →
-    (none || texts_stand (texts_again column)) ≡ true
-texts_stand_again column short texts none =
+pub texts_stand_again : (column : ColumnAt) → length (texts_joined (values_of column)) < 2 ^ 31 → ((j : ℕ) → j < column.len → IsTextOrNull (slot_of column j)) →
+    texts_stand (texts_again column) ≡ true
+texts_stand_again column short texts =
     let count = length-map-range_with_len (slot_of column) 0 column.len in
     let room : 4 * (column.len + 1) ≤ length (offsets_from 0 (values_of column)) = omega (arith, length-offsets 0 (values_of column), count) in
-    or_last none (texts_stand (texts_again column))
+    let cells = texts_again column in
+    or_last (column.len == 0 && length cells.offsets == 0)
+    (nat_le (4 * (column.len + 1)) (length cells.offsets) && (is_offset cells 0 && list_all (text_stands cells) (range_with_len 0 column.len)))
     (rw (le-leb (4 * (column.len + 1)) (length (offsets_from 0 (values_of column))) room, offset_stands column 0 (omega arith) short, all_hold (text_stands (texts_again column)) 0 column.len (λ j low high. slot_stands column j (omega arith) short (texts j (omega arith)))) refl)

@@ -1,20 +1,15 @@
 -- Slots of packed truth values.
-use Rattle.std.specs.Prelude.{ℕ, ◌*◌, Bool as Truth, false, List, length, Option, get_or, nat_le, Result, Ok}
+use Rattle.std.specs.Prelude.{ℕ, ◌*◌, Bool as Truth, List, length, Option, nat_le, Result, Ok}
 use Rattle.bitmap.specs.Bits.{bits_of}
 use Rattle.scan_base.specs.declared.fault.Fault.{Fault}
 use Rattle.scan_base.specs.declared.fault.Fault.TheVariants.{BadBatch}
-use Rattle.scan_base.specs.declared.value.Value.{Value}
-use Rattle.scan_base.specs.declared.value.Value.TheVariants.{Bool}
 use Rattle.scan_base.specs.Reading.{◌>>=◌, demand}
-use Rattle.arrays.specs.Validity.{where_valid, validity_of, IsLong}
+use Rattle.arrays.specs.Validity.{validity_of, IsLong}
 
+-- truth values, and which slots are valid
 pub record BoolsAt : Type 0 where
   pub validity : Option (List Truth)
   pub values : List Truth
-
--- the value of the slot at a place
-abbrev pub bools_slot : BoolsAt → ℕ → Value
-bools_slot cells place = where_valid cells.validity (λ at. Bool (get_or cells.values at false)) place
 
 -- the slots of these buffers, which have room for them
 unfoldable pub bools_of : Option (List ℕ) → List ℕ → ℕ → Result BoolsAt Fault

@@ -21,14 +21,13 @@ buffer_count _ = 2
 
 -- Slots of a type whose values lie in one buffer. An index leads into these values of its dictionary.
 unfoldable pub values_layout : DataType → List Value → Option (List ℕ) → List ℕ → ℕ → Result Layout Fault
-values_layout (Integer integer) dictionary validity values len =
+values_layout (Integer integer) _ validity values len =
     integers_of integer validity values len >>= λ cells. Ok (layout.Integers cells)
-values_layout Bool dictionary validity values len = bools_of validity values len >>= λ cells. Ok (layout.Bools cells)
-values_layout Decimal128 dictionary validity values len =
-    decimals_of validity values len >>= λ cells. Ok (layout.Decimals cells)
+values_layout Bool _ validity values len = bools_of validity values len >>= λ cells. Ok (layout.Bools cells)
+values_layout Decimal128 _ validity values len = decimals_of validity values len >>= λ cells. Ok (layout.Decimals cells)
 values_layout (Dictionary encoding) dictionary validity values len =
     indices_of encoding.index validity values dictionary len >>= λ cells. Ok (layout.Indices cells)
-values_layout Utf8 dictionary validity values len = Err BadBatch
+values_layout Utf8 _ _ _ _ = Err BadBatch
 
 -- slots of texts
 unfoldable pub texts_layout : Option (List ℕ) → List ℕ → List ℕ → ℕ → Result Layout Fault

@@ -2,20 +2,15 @@
 use Rattle.std.specs.Prelude.{◌≤◌, ℕ, ◌*◌, Bool, List, length, Option, nat_le, Result, Ok}
 use Rattle.scan_base.specs.declared.fault.Fault.{Fault}
 use Rattle.scan_base.specs.declared.fault.Fault.TheVariants.{BadBatch}
-use Rattle.scan_base.specs.declared.value.Value.{Value}
-use Rattle.scan_base.specs.declared.value.Value.TheVariants.{Int}
 use Rattle.scan_base.specs.Reading.{◌>>=◌, demand}
-use Rattle.arrays.specs.Number.{decimal_at, AreBytes}
-use Rattle.arrays.specs.Validity.{where_valid, validity_of, IsLong}
+use Rattle.arrays.specs.Number.{AreBytes}
+use Rattle.arrays.specs.Validity.{validity_of, IsLong}
 
+-- packed numbers of sixteen bytes, and which slots are valid
 pub record DecimalsAt : Type 0 where
   pub validity : Option (List Bool)
   pub values : List ℕ
   pub len : ℕ
-
--- the value of the slot at a place
-abbrev pub decimals_slot : DecimalsAt → ℕ → Value
-decimals_slot cells place = where_valid cells.validity (λ at. Int (decimal_at cells.values at)) place
 
 -- the slots of these buffers, which have room for them
 unfoldable pub decimals_of : Option (List ℕ) → List ℕ → ℕ → Result DecimalsAt Fault

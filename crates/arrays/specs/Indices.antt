@@ -1,17 +1,17 @@
 -- Slots of indices into a dictionary.
-use Rattle.std.specs.Prelude.{◌≡◌, ◌≤◌, ◌<◌, ℕ, ◌*◌, ◌||◌, not, Bool, true, List, length, Option, is_some, unwrap_or, nat_le, All, Result, Ok}
+use Rattle.std.specs.Prelude.{◌≡◌, ◌≤◌, ◌<◌, ℕ, ◌*◌, ◌||◌, not, Bool, true, List, length, Option, is_some, nat_le, All, Result, Ok}
 use Rattle.std.specs.List.{list_all, range_with_len}
 use Rattle.arrow_schema.specs.declared.data_type.IntegerType.{IntegerType}
 use Rattle.scan_base.specs.declared.fault.Fault.{Fault}
 use Rattle.scan_base.specs.declared.fault.Fault.TheVariants.{BadBatch}
 use Rattle.scan_base.specs.declared.value.Value.{Value}
-use Rattle.scan_base.specs.declared.value.Value.TheVariants.{Null}
 use Rattle.scan_base.specs.Reading.{◌>>=◌, demand}
 use Rattle.arrays.specs.Number.{byte_width, integer_at}
-use Rattle.arrays.specs.Validity.{is_valid, where_valid, validity_of, IsLong}
-use Rattle.arrays.specs.Texts.{IsTextOrNull}
+use Rattle.arrays.specs.Validity.{is_valid, validity_of, IsLong}
+use Rattle.scan_base.specs.Value.{IsTextOrNull}
 use Rattle.arrays.specs.Dictionary.{entry_at}
 
+-- packed indices of one type, which of them are valid, and the values of the dictionary into which they lead
 pub record IndicesAt : Type 0 where
   pub index : IntegerType
   pub validity : Option (List Bool)
@@ -23,10 +23,6 @@ pub record IndicesAt : Type 0 where
 abbrev pub entry_of : IndicesAt → ℕ → Option Value
 entry_of cells place = entry_at cells.dictionary (integer_at cells.index cells.values place)
 
--- the value of the slot at a place: null where its index is null, and where the dictionary's value is
-abbrev pub indices_slot : IndicesAt → ℕ → Value
-indices_slot cells place = where_valid cells.validity (λ at. unwrap_or (entry_of cells at) Null) place
-
 -- a valid slot's index lies in the dictionary
 abbrev pub index_stands : IndicesAt → ℕ → Bool
 index_stands cells place = not (is_valid cells.validity place) || is_some (entry_of cells place)
@@ -36,9 +32,9 @@ unfoldable pub indices_of : IntegerType → Option (List ℕ) → List ℕ → L
 indices_of index validity values dictionary len = do
   bits ← validity_of validity len
   _ ← demand (nat_le (byte_width index * len) (length values)) BadBatch
-  _ ← demand (list_all (index_stands (record { index = index; validity = bits; values = values; dictionary = dictionary; len = len }))
-      (range_with_len 0 len)) BadBatch
-  Ok (record { index = index; validity = bits; values = values; dictionary = dictionary; len = len })
+  let cells : IndicesAt = record { index = index; validity = bits; values = values; dictionary = dictionary; len = len }
+  _ ← demand (list_all (index_stands cells) (range_with_len 0 len)) BadBatch
+  Ok cells
 
 -- the buffers have room for the slots, and each index stands; the dictionary has texts and nulls
 pub record AreIndices (cells : IndicesAt) : Type 0 where

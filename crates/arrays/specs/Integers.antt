@@ -3,21 +3,16 @@ use Rattle.std.specs.Prelude.{◌≤◌, ℕ, ◌*◌, Bool, List, length, Optio
 use Rattle.arrow_schema.specs.declared.data_type.IntegerType.{IntegerType}
 use Rattle.scan_base.specs.declared.fault.Fault.{Fault}
 use Rattle.scan_base.specs.declared.fault.Fault.TheVariants.{BadBatch}
-use Rattle.scan_base.specs.declared.value.Value.{Value}
-use Rattle.scan_base.specs.declared.value.Value.TheVariants.{Int}
 use Rattle.scan_base.specs.Reading.{◌>>=◌, demand}
-use Rattle.arrays.specs.Number.{byte_width, integer_at, AreBytes}
-use Rattle.arrays.specs.Validity.{where_valid, validity_of, IsLong}
+use Rattle.arrays.specs.Number.{byte_width, AreBytes}
+use Rattle.arrays.specs.Validity.{validity_of, IsLong}
 
+-- packed numbers of one type, and which slots are valid
 pub record IntegersAt : Type 0 where
   pub integer : IntegerType
   pub validity : Option (List Bool)
   pub values : List ℕ
   pub len : ℕ
-
--- the value of the slot at a place
-abbrev pub integers_slot : IntegersAt → ℕ → Value
-integers_slot cells place = where_valid cells.validity (λ at. Int (integer_at cells.integer cells.values at)) place
 
 -- the slots of these buffers, which have room for them
 unfoldable pub integers_of : IntegerType → Option (List ℕ) → List ℕ → ℕ → Result IntegersAt Fault

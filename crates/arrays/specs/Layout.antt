@@ -1,13 +1,16 @@
 -- The slots of a column of any layout.
-use Rattle.std.specs.Prelude.{ℕ, length}
+use Rattle.std.specs.Prelude.{ℕ, false, length, get_or, unwrap_or}
 use Rattle.scan_base.specs.declared.value.Value.{Value}
+use Rattle.scan_base.specs.declared.value.Value.TheVariants.{Null, Bool, Int}
 use Rattle.arrays.specs.declared.layout.Layout.{Layout}
 use Rattle.arrays.specs.declared.layout.Layout.TheVariants as layout
-use Rattle.arrays.specs.Integers.{integers_slot, AreIntegers}
-use Rattle.arrays.specs.Decimals.{decimals_slot, AreDecimals}
-use Rattle.arrays.specs.Bools.{bools_slot, AreBools}
+use Rattle.arrays.specs.Number.{integer_at, decimal_at}
+use Rattle.arrays.specs.Validity.{where_valid}
+use Rattle.arrays.specs.Integers.{AreIntegers}
+use Rattle.arrays.specs.Decimals.{AreDecimals}
+use Rattle.arrays.specs.Bools.{AreBools}
 use Rattle.arrays.specs.Texts.{texts_slot, AreTexts}
-use Rattle.arrays.specs.Indices.{indices_slot, AreIndices}
+use Rattle.arrays.specs.Indices.{entry_of, AreIndices}
 
 -- how many slots there are
 abbrev pub layout_count : Layout → ℕ
@@ -17,13 +20,13 @@ layout_count (layout.Bools cells) = length cells.values
 layout_count (layout.Texts cells) = cells.len
 layout_count (layout.Indices cells) = cells.len
 
--- the value of the slot at a place
+-- The value of the slot at a place: of an index what the dictionary has there, which may be null too.
 abbrev pub layout_slot : Layout → ℕ → Value
-layout_slot (layout.Integers cells) place = integers_slot cells place
-layout_slot (layout.Decimals cells) place = decimals_slot cells place
-layout_slot (layout.Bools cells) place = bools_slot cells place
+layout_slot (layout.Integers cells) place = where_valid cells.validity (λ at. Int (integer_at cells.integer cells.values at)) place
+layout_slot (layout.Decimals cells) place = where_valid cells.validity (λ at. Int (decimal_at cells.values at)) place
+layout_slot (layout.Bools cells) place = where_valid cells.validity (λ at. Bool (get_or cells.values at false)) place
 layout_slot (layout.Texts cells) place = texts_slot cells place
-layout_slot (layout.Indices cells) place = indices_slot cells place
+layout_slot (layout.Indices cells) place = where_valid cells.validity (λ at. unwrap_or (entry_of cells at) Null) place
 
 -- its buffers hold so many slots
 abbrev pub IsLayout : Layout → Type 0

@@ -13,3 +13,4 @@ pub mod Buffers
 pub mod Typed
 pub mod Nulls
 pub mod Written
+pub mod inside

@@ -1,18 +1,8 @@
--- Where the nulls of slots stand.
-use Rattle.std.specs.Prelude.{◌≡◌, ◌<◌, ℕ, false, not, List, Bool, length, get_or, map}
+-- Which slots of a column are null, and how many.
+use Rattle.std.specs.Prelude.{ℕ, not, List, Bool, length, map}
 use Rattle.std.specs.List.{filter}
-use Rattle.scan_base.specs.declared.value.Value.{Value}
-use Rattle.arrays.specs.declared.nulls.Nulls.{Nulls}
-use Rattle.arrays.specs.declared.nulls.Nulls.TheVariants.{Nowhere, AtZeros, AtValues}
-use Rattle.arrays.specs.Validity.{is_null}
+use Rattle.scan_base.specs.Value.{is_null}
 use Rattle.arrays.specs.Column.{ColumnAt, values_of}
-
--- where the nulls of `len` slots are: nowhere, or at the bits that are 0; or it takes the values to tell
-abbrev pub AreAt : Nulls → ℕ → (ℕ → Value) → Type 0
-AreAt Nowhere len slot = (place : ℕ) → place < len → is_null (slot place) ≡ false
-AreAt (AtZeros bits) len slot =
-    (length bits.now ≡ len) × ((place : ℕ) → place < len → is_null (slot place) ≡ not (get_or bits.now place false))
-AreAt AtValues len slot = Unit {0}
 
 -- how many slots are null
 abbrev pub null_count : ColumnAt → ℕ

@@ -7,6 +7,7 @@ use Rattle.scan_base.specs.declared.value.Value.{Value}
 use Rattle.scan_base.specs.declared.value.Value.TheVariants.{Null}
 use Rattle.scan_base.specs.Reading.{◌>>=◌, demand}
 
+-- whether the slot at a place is valid
 abbrev pub is_valid : Option (List Bool) → ℕ → Bool
 is_valid None place = true
 is_valid (Some bits) place = get_or bits place false
@@ -15,16 +16,10 @@ is_valid (Some bits) place = get_or bits place false
 abbrev pub where_valid : Option (List Bool) → (ℕ → Value) → ℕ → Value
 where_valid validity value place = if is_valid validity place then value place else Null
 
-abbrev pub is_null : Value → Bool
-is_null Null = true
-is_null _ = false
-
 -- the bits of `len` slots at the front of a buffer, where there is one; it has room for them
 abbrev pub validity_of : Option (List ℕ) → ℕ → Result (Option (List Bool)) Fault
 validity_of None len = Ok None
-validity_of (Some bytes) len = do
-  _ ← demand (nat_le len (8 * length bytes)) BadBatch
-  Ok (Some (bits_of bytes 0 len))
+validity_of (Some bytes) len = demand (nat_le len (8 * length bytes)) BadBatch >>= λ _. Ok (Some (bits_of bytes 0 len))
 
 -- the bits, where there are some, are those of so many slots
 abbrev pub IsLong : Option (List Bool) → ℕ → Type 0

@@ -83,11 +83,12 @@ impl Bools {
 
 impl Cells for Bools {
     ghost use Rattle.std.specs.Prelude.{length};
-    ghost use Rattle.arrays.specs.Bools.{bools_slot};
+    ghost use Rattle.arrays.specs.Layout.{layout_slot};
+    ghost use Rattle.arrays.specs.declared.layout.Layout.TheVariants.{Bools as BoolsLayout};
 
     ghost slot_count = { λ cells. length cells.values };
 
-    ghost slot = { bools_slot };
+    ghost slot = { λ cells. layout_slot (BoolsLayout cells) };
 
     fn len(&self) -> usize
         ensures count { result ≡ length (self.now).values }

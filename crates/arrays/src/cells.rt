@@ -2,8 +2,7 @@
 
 ghost use Rattle.std.specs.Prelude.{◌≡◌, ◌<◌, ℕ, false};
 ghost use Rattle.scan_base.specs.declared.value.Value.{Value};
-ghost use Rattle.scan_base.specs.Value.{value_of};
-ghost use Rattle.arrays.specs.Validity.{is_null};
+ghost use Rattle.scan_base.specs.Value.{value_of, is_null};
 
 use scan_base::ValueRef;
 

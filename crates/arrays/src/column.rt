@@ -2,7 +2,7 @@
 
 ghost use Rattle.std.specs.Prelude.{◌≡◌, ◌==◌, ◌≤◌, ◌<◌, ℕ, false, IfOk};
 ghost use Rattle.std.specs.List.{list_any};
-ghost use Rattle.arrays.specs.Validity.{is_null};
+ghost use Rattle.scan_base.specs.Value.{is_null};
 ghost use Rattle.arrays.specs.Column.{cut, whole, slot_of, values_of, IsColumn};
 
 use crate::cells::Cells;

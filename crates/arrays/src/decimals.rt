@@ -87,11 +87,12 @@ impl Decimals {
 }
 
 impl Cells for Decimals {
-    ghost use Rattle.arrays.specs.Decimals.{decimals_slot};
+    ghost use Rattle.arrays.specs.Layout.{layout_slot};
+    ghost use Rattle.arrays.specs.declared.layout.Layout.TheVariants.{Decimals as DecimalsLayout};
 
     ghost slot_count = { λ cells. cells.len };
 
-    ghost slot = { decimals_slot };
+    ghost slot = { λ cells. layout_slot (DecimalsLayout cells) };
 
     fn len(&self) -> usize
         ensures count { result ≡ (self.now).len }

@@ -2,10 +2,8 @@
 
 ghost use Rattle.std.specs.Prelude.{◌≡◌, ◌==◌, [], false, All, length, slice_get, option_map};
 ghost use Rattle.scan_base.specs.Reading.{GivesUnlessMemory};
-ghost use Rattle.scan_base.specs.Value.{value_of};
+ghost use Rattle.scan_base.specs.Value.{value_of, is_null, IsTextOrNull};
 ghost use Rattle.std.specs.List.{list_any};
-ghost use Rattle.arrays.specs.Validity.{is_null};
-ghost use Rattle.arrays.specs.Texts.{IsTextOrNull};
 ghost use Rattle.arrays.specs.Dictionary.{extended_by};
 
 use crate::cells::Cells;

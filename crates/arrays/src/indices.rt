@@ -203,11 +203,12 @@ impl Indices {
 }
 
 impl Cells for Indices {
-    ghost use Rattle.arrays.specs.Indices.{indices_slot};
+    ghost use Rattle.arrays.specs.Layout.{layout_slot};
+    ghost use Rattle.arrays.specs.declared.layout.Layout.TheVariants.{Indices as IndicesLayout};
 
     ghost slot_count = { λ cells. cells.len };
 
-    ghost slot = { indices_slot };
+    ghost slot = { λ cells. layout_slot (IndicesLayout cells) };
 
     fn len(&self) -> usize
         ensures count { result ≡ (self.now).len }

@@ -102,11 +102,12 @@ impl Integers {
 }
 
 impl Cells for Integers {
-    ghost use Rattle.arrays.specs.Integers.{integers_slot};
+    ghost use Rattle.arrays.specs.Layout.{layout_slot};
+    ghost use Rattle.arrays.specs.declared.layout.Layout.TheVariants.{Integers as IntegersLayout};
 
     ghost slot_count = { λ cells. cells.len };
 
-    ghost slot = { integers_slot };
+    ghost slot = { λ cells. layout_slot (IntegersLayout cells) };
 
     fn len(&self) -> usize
         ensures count { result ≡ (self.now).len }

@@ -29,10 +29,3 @@ pub use crate::indices::Indices;
 pub use crate::integers::Integers;
 pub use crate::layout::Layout;
 pub use crate::texts::Texts;
-
-#[cfg(test)]
-mod dictionary_tests;
-#[cfg(test)]
-mod tests;
-#[cfg(test)]
-mod written_tests;

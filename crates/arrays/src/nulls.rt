@@ -2,10 +2,12 @@
 
 ghost use Rattle.std.specs.Prelude.{◌≡◌, ◌<◌, ℕ, true, false};
 ghost use Rattle.scan_base.specs.declared.value.Value.{Value};
-ghost use Rattle.arrays.specs.Validity.{is_null, is_valid, where_valid, IsLong};
+ghost use Rattle.scan_base.specs.Value.{is_null};
+ghost use Rattle.arrays.specs.Validity.{is_valid, where_valid, IsLong};
 ghost use Rattle.arrays.specs.Layout.{layout_count, layout_slot};
 ghost use Rattle.arrays.specs.Column.{slot_of};
-ghost use Rattle.arrays.specs.Nulls.{AreAt, null_count};
+ghost use Rattle.arrays.specs.Nulls.{null_count};
+ghost use Rattle.arrays.specs.inside.Nulls.{AreAt};
 
 use crate::cells::Cells;
 use crate::column::Column;

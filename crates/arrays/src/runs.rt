@@ -3,10 +3,10 @@
 ghost use Rattle.std.specs.Prelude.{◌≡◌, ◌≤◌, ◌<◌, ◌+◌, ◌++◌, [], false, Some, length, map, slice_get, slice_index, option_map, IfOk};
 ghost use Rattle.std.specs.Arc.{arc_value};
 ghost use Rattle.std.specs.List.{list_any};
-ghost use Rattle.scan_base.specs.Value.{value_of};
-ghost use Rattle.arrays.specs.Validity.{is_null};
+ghost use Rattle.scan_base.specs.Value.{value_of, is_null};
 ghost use Rattle.arrays.specs.Texts.{texts_values};
-ghost use Rattle.arrays.specs.Dictionary.{most_values, runs_values};
+ghost use Rattle.scan_base.specs.Limits.{most_values};
+ghost use Rattle.arrays.specs.inside.Runs.{runs_values};
 
 use crate::cells::Cells;
 use crate::texts::Texts;
@@ -29,7 +29,7 @@ impl Model for Run {
     ghost use Rattle.std.specs.Prelude.{List, map};
     ghost use Rattle.std.specs.Arc.{arc_value};
     ghost use Rattle.scan_base.specs.declared.value.Value.{Value as Cell};
-    ghost use Rattle.arrays.specs.Dictionary.{parts_values, IsRun};
+    ghost use Rattle.arrays.specs.inside.Runs.{parts_values, IsRun};
 
     ghost Value = { List Cell };
 
@@ -141,7 +141,7 @@ impl Model for Runs {
     ghost use Rattle.std.specs.Prelude.{List, map};
     ghost use Rattle.std.specs.Arc.{arc_value};
     ghost use Rattle.scan_base.specs.declared.value.Value.{Value as Cell};
-    ghost use Rattle.arrays.specs.Dictionary.{runs_values};
+    ghost use Rattle.arrays.specs.inside.Runs.{runs_values};
 
     ghost Value = { List Cell };
 

@@ -6,7 +6,7 @@ ghost use Rattle.scan_base.specs.Reading.{Gives};
 ghost use Rattle.arrays.specs.Number.{element_at};
 ghost use Rattle.std.specs.Str.{is_utf8};
 ghost use Rattle.arrays.specs.Validity.{IsLong};
-ghost use Rattle.arrays.specs.Texts.{texts_of, text_at, is_offset, text_stands, texts_stand, lack_offsets, texts_values, AreTexts};
+ghost use Rattle.arrays.specs.Texts.{texts_of, text_at, is_offset, text_stands, texts_stand, texts_values, AreTexts};
 
 use crate::cells::Cells;
 use crate::numbers::uint32_at;
@@ -113,25 +113,17 @@ impl<'a> Parts<'a> {
     }
 
     // Whether there are enough offsets, and each text stands.
-    fn stand(&self) -> bool
-        requires { IsLong (self.now).validity (self.now).len }
-        ensures { result ≡ texts_stand self.now }
-    {
-        if self.offsets.len() / 4 <= self.len {
-            return false;
-        }
-        self.is_offset(0) && self.slots_stand()
-    }
-
-    // Whether the texts stand, or there is no slot and no offset either.
     fn are_texts(&self) -> bool
         requires { IsLong (self.now).validity (self.now).len }
-        ensures { result ≡ (lack_offsets self.now || texts_stand self.now) }
+        ensures { result ≡ texts_stand self.now }
     {
         if self.len == 0 && self.offsets.is_empty() {
             return true;
         }
-        self.stand()
+        if self.offsets.len() / 4 <= self.len {
+            return false;
+        }
+        self.is_offset(0) && self.slots_stand()
     }
 }
 

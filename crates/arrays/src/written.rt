@@ -175,8 +175,8 @@ impl Column {
         }
     }
 
-    /// How many bytes all texts have, where an offset can name them.
-    pub(crate) fn texts_length(&self) -> Option<usize>
+    /// How many bytes all texts have, where an offset can name each of them: fewer than 2 to the 31.
+    pub fn texts_length(&self) -> Option<usize>
         ensures { SomeIff result (HasShortTexts self.now) (length (texts_joined (values_of self.now))) }
     {
         match self.adjoining_texts() {

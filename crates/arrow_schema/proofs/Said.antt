@@ -40,32 +40,32 @@ pub demand_ok : (holds : Bool) (fault : Fault) (u : Unit {0}) → demand holds f
 demand_ok true fault u e = refl
 demand_ok false fault u e = absurd (let no : ⊥ = cc in no)
 
-wanted_ok : {A : Type 0} (found : Option A) (fault : Fault) (x : A) → wanted found fault ≡ Ok x → found ≡ Some x
+pub wanted_ok : {A : Type 0} (found : Option A) (fault : Fault) (x : A) → wanted found fault ≡ Ok x → found ≡ Some x
 wanted_ok (Some y) fault x e = cc
 wanted_ok None fault x e = absurd (let no : ⊥ = cc in no)
 
 -- the first number that a test finds
-chosen : {A : Type 0} (n k : ℕ) (x y : A) (rest : Result A Fault) → (if n == k then Ok x else rest) ≡ Ok y → ((n ≡ k) × (x ≡ y)) ⊎ (rest ≡ Ok y)
+pub chosen : {A : Type 0} (n k : ℕ) (x y : A) (rest : Result A Fault) → (if n == k then Ok x else rest) ≡ Ok y → ((n ≡ k) × (x ≡ y)) ⊎ (rest ≡ Ok y)
 chosen n k x y rest e = elim (eqb_tells n k) [
   | inl h ↦ let f = rw h.0 at e in inl (h.1, cc)
   | inr h ↦ inr (rw h.0 at e)
 ]
 
-refused : {A : Type 0} {P : Type 0} (fault : Fault) (y : A) → Err fault ≡ Ok y → P
+pub refused : {A : Type 0} {P : Type 0} (fault : Fault) (y : A) → Err fault ≡ Ok y → P
 refused fault y e = absurd (let no : ⊥ = cc in no)
 
 -- ---- what a slot has, and what is read of it
 
-says_scalar : (width : ℕ) (t : TableAt) (slot default n : ℕ) → IsBytes t.bytes → scalar_of width t slot default ≡ Ok n → HasScalar width t slot default n
+pub says_scalar : (width : ℕ) (t : TableAt) (slot default n : ℕ) → IsBytes t.bytes → scalar_of width t slot default ≡ Ok n → HasScalar width t slot default n
 says_scalar width t slot default n is e = ((seen_finds (scalar_of width t slot default) (HasScalar width t slot default) (seen_scalar width t slot default is)).value n).0 e
 
-reads_scalar : (width : ℕ) (t : TableAt) (slot default n : ℕ) → IsBytes t.bytes → HasScalar width t slot default n → scalar_of width t slot default ≡ Ok n
+pub reads_scalar : (width : ℕ) (t : TableAt) (slot default n : ℕ) → IsBytes t.bytes → HasScalar width t slot default n → scalar_of width t slot default ≡ Ok n
 reads_scalar width t slot default n is h = ((seen_finds (scalar_of width t slot default) (HasScalar width t slot default) (seen_scalar width t slot default is)).value n).1 h
 
-says_table : (t : TableAt) (slot : ℕ) (found : Option TableAt) → IsBytes t.bytes → table_of t slot ≡ Ok found → HasTable t slot found
+pub says_table : (t : TableAt) (slot : ℕ) (found : Option TableAt) → IsBytes t.bytes → table_of t slot ≡ Ok found → HasTable t slot found
 says_table t slot found is e = ((seen_finds (table_of t slot) (HasTable t slot) (seen_table t slot is)).value found).0 e
 
-reads_table : (t : TableAt) (slot : ℕ) (found : Option TableAt) → IsBytes t.bytes → HasTable t slot found → table_of t slot ≡ Ok found
+pub reads_table : (t : TableAt) (slot : ℕ) (found : Option TableAt) → IsBytes t.bytes → HasTable t slot found → table_of t slot ≡ Ok found
 reads_table t slot found is h = ((seen_finds (table_of t slot) (HasTable t slot) (seen_table t slot is)).value found).1 h
 
 says_vector : (t : TableAt) (slot : ℕ) (found : Option VectorAt) → IsBytes t.bytes → vector_of t slot ≡ Ok found → HasVector t slot found
@@ -101,7 +101,7 @@ vector_same bytes (Some at) found r = r.there.same
 pub bytes_vector : (t : TableAt) (slot : ℕ) (found : VectorAt) → IsBytes t.bytes → HasVector t slot (Some found) → IsBytes found.bytes
 bytes_vector t slot found is h = subst IsBytes (sym (vector_same t.bytes h.place found h.reached)) is
 
-wanted_table : (t : TableAt) (slot : ℕ) (found : TableAt) → table_wanted t slot ≡ Ok found → table_of t slot ≡ Ok (Some found)
+pub wanted_table : (t : TableAt) (slot : ℕ) (found : TableAt) → table_wanted t slot ≡ Ok found → table_of t slot ≡ Ok (Some found)
 unfolding table_wanted
 wanted_table t slot found e =
     let a = bind_ok (table_of t slot) _ found e in
@@ -516,12 +516,12 @@ not_true true e = absurd (let no : ⊥ = cc in no)
 not_true false e = refl
 
 -- what a Schema table says
-record SaysHeader (message : TableAt) (schema : Schema) : Type 0 where
-  header : TableAt
-  headed : HasTable message 2 (Some header)
-  columns : SaysColumns header schema
+pub record SaysHeader (message : TableAt) (schema : Schema) : Type 0 where
+  pub header : TableAt
+  pub headed : HasTable message 2 (Some header)
+  pub columns : SaysColumns header schema
 
-header_told : (message : MessageAt) (schema : Schema) → IsBytes message.table.bytes → schema_in message ≡ Ok schema → SaysHeader message.table schema
+pub header_told : (message : MessageAt) (schema : Schema) → IsBytes message.table.bytes → schema_in message ≡ Ok schema → SaysHeader message.table schema
 unfolding schema_in
 header_told message schema is e =
     let a = bind_ok (table_wanted message.table 2) _ schema e in
@@ -552,7 +552,7 @@ header_told message schema is e =
       });
     }
 
-header_read : (message : MessageAt) (schema : Schema) → IsBytes message.table.bytes → SaysHeader message.table schema → schema_in message ≡ Ok schema
+pub header_read : (message : MessageAt) (schema : Schema) → IsBytes message.table.bytes → SaysHeader message.table schema → schema_in message ≡ Ok schema
 unfolding schema_in table_wanted vector_wanted
 header_read message schema is says =
     let columns = says.columns in

@@ -1,9 +1,7 @@
 -- Packed bits, as Arrow's columnar format has them, as a list of truth values.
-use Rattle.std.specs.Prelude.{ℕ, ◌+◌, ◌*◌, ◌/◌, ◌%◌, ◌≤◌, ◌<◌, ◌^◌, ◌==◌, Bool, not, ◌&&◌, ◌||◌, List, length, map, slice_index}
+use Rattle.std.specs.Prelude.{ℕ, ◌+◌, ◌*◌, ◌/◌, ◌%◌, ◌≤◌, ◌<◌, ◌^◌, ◌==◌, Bool, List, length, map, slice_index}
 use Rattle.std.specs.Int.{bit_at}
 use Rattle.std.specs.List.{range_with_len}
-use Rattle.bitmap.specs.declared.words.Operation.{Operation}
-use Rattle.bitmap.specs.declared.words.Operation.TheVariants.{And, Or, AndNot}
 
 -- bit j of packed bits, the least significant of each byte first
 abbrev pub bit_of : List ℕ → ℕ → Bool
@@ -17,9 +15,3 @@ bits_of bytes first len = map (bit_of bytes) (range_with_len first len)
 pub record IsRoomy (bytes : List ℕ) (first len : ℕ) : Type 0 where
   pub within : first + len ≤ 8 * length bytes
   pub small : first + len < 2 ^ 64
-
--- what two bits make
-abbrev pub joined : Operation → Bool → Bool → Bool
-joined And a b = a && b
-joined Or a b = a || b
-joined AndNot a b = a && not b

@@ -3,7 +3,8 @@
 ghost use Rattle.std.specs.Prelude.{◌≡◌, ◌==◌, ◌≤◌, ◌<◌, ◌+◌, ◌-◌, ◌&&◌, ◌||◌, not, length};
 ghost use Rattle.std.specs.Prelude.{count_by, IfOk, false, get_or, take, drop};
 ghost use Rattle.std.specs.Simd.Lanes.{mask_l, zip2};
-ghost use Rattle.bitmap.specs.Bits.{bits_of, joined, IsRoomy};
+ghost use Rattle.bitmap.specs.Bits.{bits_of, IsRoomy};
+ghost use Rattle.bitmap.specs.inside.Joined.{joined};
 
 use crate::words::{Operation, bit, count_bits, join_bits, short_word, word};
 use bytes::{Bytes, BytesMut};

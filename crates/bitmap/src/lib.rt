@@ -6,6 +6,3 @@ pub mod bits;
 mod words;
 
 pub use crate::bits::Bits;
-
-#[cfg(test)]
-mod tests;

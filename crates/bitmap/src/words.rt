@@ -2,7 +2,8 @@
 
 ghost use Rattle.std.specs.Prelude.{◌≡◌, ◌≤◌, ◌<◌, ◌+◌, ◌*◌, ◌^◌, length, count_by, IfOk, List, Bool};
 ghost use Rattle.std.specs.Simd.Lanes.{mask_l, zip2};
-ghost use Rattle.bitmap.specs.Bits.{bit_of, bits_of, joined, IsRoomy};
+ghost use Rattle.bitmap.specs.Bits.{bit_of, bits_of, IsRoomy};
+ghost use Rattle.bitmap.specs.inside.Joined.{joined};
 
 use byteorder::{ByteOrder, LittleEndian};
 use std::alloc::{AllocError, Global};

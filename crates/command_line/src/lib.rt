@@ -35,6 +35,3 @@ pub fn options(alloc: Global, words: &[String]) -> Result<Task, Error>
     command(alloc)?.try_get_matches_from(words)?;
     Ok(Task::Pipe)
 }
-
-#[cfg(test)]
-mod tests;

@@ -1,1 +1,64 @@
-//! To come.
+//! Connections one after another over one catalog, and a writer whose flush fails.
+
+use crate::first_run::{PUT, PUT_ANSWER};
+use flight_calls::serve;
+use flight_core::Plain;
+use grpc_frame::{Counted, MemoryInput, MemoryOutput, Output};
+use scan_base::Fault;
+use std::io;
+use std::io::{ErrorKind, Write};
+use std::test::Fail;
+
+const TABLE_EXISTS: &[u8] = b"\x04\x06\x00\x0fF10 TableExists";
+
+#[test]
+fn two_connections(rt: HostRuntime) -> Result<(), Fail> {
+    let mut plain = Plain::new(rt.alloc())?;
+    for want in [PUT_ANSWER, TABLE_EXISTS] {
+        let mut reader = MemoryInput::new(PUT);
+        let mut writer = MemoryOutput::new(rt.alloc());
+        let ended = serve(rt.alloc(), &mut reader, &mut writer, &mut plain);
+        assert!(rt; ended.is_ok());
+        assert!(rt; writer.as_slice() == want);
+    }
+    Ok(())
+}
+
+// Takes what is written, and fails at one flush: so many go well before it.
+#[derive(Drop)]
+struct Unflushed {
+    flushes: u32,
+}
+
+impl Write for Unflushed {
+    fn write(&mut self, piece: &[u8]) -> io::Result<usize> {
+        Ok(piece.len())
+    }
+
+    fn flush(&mut self) -> io::Result<()> {
+        if self.flushes == 0 {
+            return Err(io::Error::from(ErrorKind::BrokenPipe));
+        }
+        self.flushes -= 1;
+        Ok(())
+    }
+}
+
+// The put's answer is three writes, each flushed: its message's head, the message and the status.
+#[test]
+fn a_flush_that_fails(rt: HostRuntime) -> Result<(), Fail> {
+    for flushes in 0..4u32 {
+        let mut plain = Plain::new(rt.alloc())?;
+        let mut writer = Counted::new(Unflushed { flushes });
+        let ended = serve(
+            rt.alloc(),
+            &mut MemoryInput::new(PUT),
+            &mut writer,
+            &mut plain,
+        );
+        let fails = flushes < 3;
+        assert!(rt; (ended == Err(Fault::Transport)) == fails);
+        assert!(rt; writer.failures() == u64::from(fails));
+    }
+    Ok(())
+}

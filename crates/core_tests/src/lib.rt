@@ -2,16 +2,14 @@
 #![tactic(auto)]
 
 #[cfg(test)]
-mod tables;
-
-#[cfg(test)]
-mod ranges;
-
-#[cfg(test)]
-mod steps;
-
-#[cfg(test)]
 mod calls;
-
+#[cfg(test)]
+mod first_run;
 #[cfg(test)]
 mod program;
+#[cfg(test)]
+mod ranges;
+#[cfg(test)]
+mod steps;
+#[cfg(test)]
+mod tables;

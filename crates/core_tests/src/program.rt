@@ -1,1 +1,441 @@
-//! To come.
+//! The program's commands over ends in memory: the first run, and what becomes of it where it is cut, broken or meets a
+//! failing end.
+
+ghost use Rattle.std.specs.Prelude.{◌<◌};
+
+use crate::first_run::{
+    BATCH_AT, FETCH, FETCH_END_AT, HANDLE_AT, MODE_AT, PUT, PUT_ANSWER, PUT_END_AT, ROWS,
+    is_joined, joined, part, rest,
+};
+use commands::arguments::refuse_arguments;
+use commands::pipe::pipe;
+use commands::run::run;
+use grpc_frame::{Input, MemoryInput, MemoryOutput, Output};
+use std::alloc::{AllocError, Global};
+use std::io::ErrorKind;
+use std::test::Fail;
+
+// The exit status, and what is written and printed.
+fn piped(alloc: Global, bytes: &[u8], most: usize) -> (u8, MemoryOutput, MemoryOutput)
+    requires { 0 < most }
+{
+    let mut reader = MemoryInput::new(bytes).in_pieces_of(most);
+    let mut writer = MemoryOutput::new(alloc);
+    let mut faults = MemoryOutput::new(alloc);
+    let status = pipe(alloc, &mut reader, &mut writer, &mut faults).number();
+    (status, writer, faults)
+}
+
+const PUT_PATH: &[u8] = b"\x01\x00\x2a/arrow.flight.protocol.FlightService/DoPut";
+
+const GET_PATH: &[u8] = b"\x01\x00\x2a/arrow.flight.protocol.FlightService/DoGet";
+
+const NO_PATH: &[u8] = b"\x01\x00\x02/x";
+
+// A message that is no list of fields, and one without a command or a header.
+const NO_FIELDS: &[u8] = b"\x02\x00\x00\x00\x00\x01\xff";
+
+const EMPTY: &[u8] = b"\x02\x00\x00\x00\x00\x00";
+
+const END: &[u8] = b"\x03";
+
+const BAD_FRAME: &[u8] = b"\x04\x03\x00\x0bF1 BadFrame";
+
+const UNKNOWN_METHOD: &[u8] = b"\x04\x0c\x00\x10F3 UnknownMethod";
+
+const BAD_PROTO: &[u8] = b"\x04\x03\x00\x0bF4 BadProto";
+
+const UNKNOWN_COMMAND: &[u8] = b"\x04\x0c\x00\x11F5 UnknownCommand";
+
+const BAD_BATCH: &[u8] = b"\x04\x03\x00\x0bF8 BadBatch";
+
+const DONE: &[u8] = b"\x04\x00\x00\x00";
+
+const NOTHING: &[u8] = b"";
+
+const BAD_FRAME_LINE: &[u8] = b"fault: F1 BadFrame\n";
+
+const TOO_LARGE_LINE: &[u8] = b"fault: F2 MessageTooLarge\n";
+
+const TRANSPORT_LINE: &[u8] = b"fault: F22 Transport\n";
+
+const MEMORY_LINE: &[u8] = b"fault: F21 OutOfMemory\n";
+
+const NO_TEXT_LINE: &[u8] = b"error: a word of the command line is not UTF-8\n";
+
+// What comes, the exit status, what is written and what is printed.
+type Case = (
+    &'static [&'static [u8]],
+    u8,
+    &'static [&'static [u8]],
+    &'static [u8],
+);
+
+// Faults of a call are its answer, the first one whatever comes behind it, and the connection goes on. Faulty records
+// end it, and what follows them is not looked at.
+static CASES: [Case; 16] = [
+    (&[], 0, &[], NOTHING),
+    (
+        &[PUT, PUT],
+        0,
+        &[PUT_ANSWER, b"\x04\x06\x00\x0fF10 TableExists"],
+        NOTHING,
+    ),
+    (
+        &[NO_PATH, END, PUT],
+        0,
+        &[UNKNOWN_METHOD, PUT_ANSWER],
+        NOTHING,
+    ),
+    (
+        &[NO_PATH, NO_FIELDS, EMPTY, END, PUT],
+        0,
+        &[UNKNOWN_METHOD, PUT_ANSWER],
+        NOTHING,
+    ),
+    (&[GET_PATH, END, PUT], 0, &[BAD_PROTO, PUT_ANSWER], NOTHING),
+    (
+        &[GET_PATH, EMPTY, EMPTY, END, PUT],
+        0,
+        &[BAD_PROTO, PUT_ANSWER],
+        NOTHING,
+    ),
+    (
+        &[GET_PATH, NO_FIELDS, EMPTY, EMPTY, END, PUT],
+        0,
+        &[BAD_PROTO, PUT_ANSWER],
+        NOTHING,
+    ),
+    (
+        &[PUT_PATH, NO_FIELDS, EMPTY, EMPTY, END, PUT],
+        0,
+        &[BAD_PROTO, PUT_ANSWER],
+        NOTHING,
+    ),
+    (
+        &[PUT_PATH, EMPTY, NO_FIELDS, NO_FIELDS, END, PUT],
+        0,
+        &[UNKNOWN_COMMAND, PUT_ANSWER],
+        NOTHING,
+    ),
+    (
+        &[PUT, b"\x05", PUT],
+        3,
+        &[PUT_ANSWER, BAD_FRAME],
+        BAD_FRAME_LINE,
+    ),
+    (
+        &[PUT, b"\x03", PUT],
+        3,
+        &[PUT_ANSWER, BAD_FRAME],
+        BAD_FRAME_LINE,
+    ),
+    (
+        &[PUT, PUT_PATH, b"\x02\x01", PUT],
+        3,
+        &[PUT_ANSWER, BAD_FRAME],
+        BAD_FRAME_LINE,
+    ),
+    (
+        &[PUT, PUT_PATH, b"\x01", PUT],
+        3,
+        &[PUT_ANSWER, BAD_FRAME],
+        BAD_FRAME_LINE,
+    ),
+    (
+        &[PUT, PUT_PATH, b"\x02\x00\x01\x00\x00\x01", PUT],
+        3,
+        &[PUT_ANSWER, b"\x04\x08\x00\x12F2 MessageTooLarge"],
+        TOO_LARGE_LINE,
+    ),
+    (&[PUT, PUT_PATH], 3, &[PUT_ANSWER], TRANSPORT_LINE),
+    (&[b"\x01"], 3, &[], TRANSPORT_LINE),
+];
+
+#[test]
+fn each_case(rt: HostRuntime) -> Result<(), Fail> {
+    for (input, status, written, printed) in &CASES {
+        let bytes = joined(rt.alloc(), input)?;
+        let (code, writer, faults) = piped(rt.alloc(), &bytes, 65_536);
+        assert!(rt; code == *status);
+        assert!(rt; is_joined(writer.as_slice(), written));
+        assert!(rt; faults.as_slice() == *printed);
+    }
+    Ok(())
+}
+
+// The same bytes come of the first run's input whole and byte by byte: the put's answer, and one that has the two rows.
+#[test]
+fn the_first_run(rt: HostRuntime) -> Result<(), Fail> {
+    let bytes = joined(rt.alloc(), &[PUT, FETCH])?;
+    let (status, whole, faults) = piped(rt.alloc(), &bytes, 65_536);
+    assert!(rt; status == 0);
+    assert!(rt; faults.as_slice() == NOTHING);
+    assert!(rt; whole.as_slice().starts_with(PUT_ANSWER));
+    assert!(rt; ends_with_rows(whole.as_slice()));
+    let (status, writer, faults) = piped(rt.alloc(), &bytes, 1);
+    assert!(rt; status == 0);
+    assert!(rt; faults.as_slice() == NOTHING);
+    assert!(rt; writer.as_slice() == whole.as_slice());
+    Ok(())
+}
+
+// Whether an answer ends with the two rows and status 0.
+fn ends_with_rows(bytes: &[u8]) -> bool {
+    let at = bytes.len().saturating_sub(20);
+    is_joined(rest(bytes, at), &[ROWS, DONE])
+}
+
+// The first k bytes: what is written up to the put's End and behind it, and the exit status.
+#[test]
+fn cut_input(rt: HostRuntime) -> Result<(), Fail> {
+    let bytes = joined(rt.alloc(), &[PUT, FETCH])?;
+    for k in 0..565usize {
+        let (status, writer, faults) = piped(rt.alloc(), part(&bytes, 0, k), 65_536);
+        let want = if k < 407 { NOTHING } else { PUT_ANSWER };
+        let is_whole = k == 0 || k == 407;
+        assert!(rt; writer.as_slice() == want);
+        assert!(rt; status == if is_whole { 0 } else { 3 });
+        assert!(rt; faults.as_slice() == if is_whole { NOTHING } else { TRANSPORT_LINE });
+    }
+    Ok(())
+}
+
+// A put, and a fetch with this handle, which has 32 bytes.
+fn with_handle(alloc: Global, handle: &[u8]) -> Result<MemoryOutput, AllocError> {
+    let bytes = joined(alloc, &[PUT, part(FETCH, 0, HANDLE_AT), handle, END])?;
+    let (_, writer, _) = piped(alloc, &bytes, 65_536);
+    Ok(writer)
+}
+
+// A handle of another kind, and one of version 9.
+#[test]
+fn faults_of_handles(rt: HostRuntime) -> Result<(), Fail> {
+    let handle = part(FETCH, HANDLE_AT, FETCH_END_AT);
+    let strange = joined(rt.alloc(), &[b"\x03", part(handle, 1, 32)])?;
+    let later = joined(
+        rt.alloc(),
+        &[part(handle, 0, 8), b"\x09", part(handle, 9, 32)],
+    )?;
+    let writer = with_handle(rt.alloc(), &strange)?;
+    assert!(rt;
+        is_joined(
+            writer.as_slice(),
+            &[PUT_ANSWER, b"\x04\x03\x00\x0dF17 BadTicket"]
+        )
+    );
+    let writer = with_handle(rt.alloc(), &later)?;
+    assert!(rt;
+        is_joined(
+            writer.as_slice(),
+            &[PUT_ANSWER, b"\x04\x05\x00\x12F18 VersionUnknown"]
+        )
+    );
+    Ok(())
+}
+
+// A batch whose body has 8 bytes of 16.
+const SHORT_BATCH_HEAD: &[u8] = b"\x02\x00\x00\x00\x00\x8e";
+
+const SHORT_BODY: &[u8] = b"\xc2\x3e\x08\x01\x00\x00\x00\x00\x00\x00\x00";
+
+// Rows 0 to 4 at version 2.
+const NEXT_HANDLE: &[u8] =
+    b"\x01\x00\x00\x00\x00\x00\x00\x00\x02\x00\x00\x00\x00\x00\x00\x00\x04SELECT * FROM t";
+
+// A put of two rows; an append of three batches, the third broken; an append of one batch; and a fetch of version 2.
+fn three_puts(alloc: Global) -> Result<Vec<u8>, AllocError> {
+    let head = part(PUT, 0, MODE_AT);
+    let schema = part(PUT, MODE_AT.saturating_add(2), BATCH_AT);
+    let append = joined(alloc, &[head, b"\x10\x02", schema])?;
+    let batch = part(PUT, BATCH_AT, PUT_END_AT);
+    let short = joined(alloc, &[SHORT_BATCH_HEAD, part(batch, 6, 137), SHORT_BODY])?;
+    let fetch = part(FETCH, 0, HANDLE_AT);
+    joined(
+        alloc,
+        &[
+            PUT,
+            &append,
+            batch,
+            batch,
+            &short,
+            END,
+            &append,
+            batch,
+            END,
+            fetch,
+            NEXT_HANDLE,
+            END,
+        ],
+    )
+}
+
+// A put whose third batch is broken leaves the table as before, and the next accepted put makes the next version.
+#[test]
+fn a_broken_third_batch(rt: HostRuntime) -> Result<(), Fail> {
+    let bytes = three_puts(rt.alloc())?;
+    let (status, writer, faults) = piped(rt.alloc(), &bytes, 65_536);
+    assert!(rt; status == 0);
+    assert!(rt; faults.as_slice() == NOTHING);
+    let answer = rest(writer.as_slice(), 43);
+    assert!(rt;
+        is_joined(
+            part(writer.as_slice(), 0, 43),
+            &[PUT_ANSWER, BAD_BATCH, PUT_ANSWER]
+        )
+    );
+    assert!(rt; ends_with_rows(answer));
+    assert!(rt; times_rows(answer) == times_rows_of_one_put(rt.alloc())?.saturating_add(1));
+    Ok(())
+}
+
+// How many times the two rows stand in bytes.
+fn times_rows(bytes: &[u8]) -> usize {
+    bytes.windows(16).filter(|piece| *piece == ROWS).count()
+}
+
+// The same of the answer to the first run's fetch, which has the rows once: its schema has their bytes too.
+fn times_rows_of_one_put(alloc: Global) -> Result<usize, AllocError> {
+    let bytes = joined(alloc, &[PUT, FETCH])?;
+    let (_, writer, _) = piped(alloc, &bytes, 65_536);
+    Ok(times_rows(writer.as_slice()))
+}
+
+// A faulty record is answered at once: the read behind it would fail.
+#[test]
+fn a_fault_before_a_failed_read(rt: HostRuntime) {
+    let mut reader = MemoryInput::new(b"\x05").failing_after(1);
+    let mut writer = MemoryOutput::new(rt.alloc());
+    let mut faults = MemoryOutput::new(rt.alloc());
+    let status = pipe(rt.alloc(), &mut reader, &mut writer, &mut faults).number();
+    assert!(rt; status == 3);
+    assert!(rt; reader.failures() == 0);
+    assert!(rt; writer.as_slice() == BAD_FRAME);
+    assert!(rt; faults.as_slice() == BAD_FRAME_LINE);
+}
+
+// Each read fails in turn: of the input's pieces of 250 bytes the second ends the put, and the third the fetch.
+#[test]
+fn each_read(rt: HostRuntime) -> Result<(), Fail> {
+    let bytes = joined(rt.alloc(), &[PUT, FETCH])?;
+    let (_, whole, _) = piped(rt.alloc(), &bytes, 250);
+    for calls in 0..5u64 {
+        let mut reader = MemoryInput::new(&bytes)
+            .in_pieces_of(250)
+            .failing_after(calls);
+        let mut writer = MemoryOutput::new(rt.alloc());
+        let mut faults = MemoryOutput::new(rt.alloc());
+        let status = pipe(rt.alloc(), &mut reader, &mut writer, &mut faults).number();
+        let want = match calls {
+            0 | 1 => NOTHING,
+            2 => PUT_ANSWER,
+            _ => whole.as_slice(),
+        };
+        assert!(rt; writer.as_slice() == want);
+        assert!(rt; status == if calls < 4 { 3 } else { 0 });
+        assert!(rt; faults.as_slice() == if calls < 4 { TRANSPORT_LINE } else { NOTHING });
+    }
+    Ok(())
+}
+
+// Each write fails in turn, half written. An answer is a head and a payload for each message, and a status.
+#[test]
+fn each_write(rt: HostRuntime) -> Result<(), Fail> {
+    let bytes = joined(rt.alloc(), &[PUT, FETCH])?;
+    let (_, whole, _) = piped(rt.alloc(), &bytes, 65_536);
+    for calls in 0..9u64 {
+        let mut reader = MemoryInput::new(&bytes);
+        let mut writer = MemoryOutput::new(rt.alloc()).failing_after(calls);
+        let mut faults = MemoryOutput::new(rt.alloc());
+        let status = pipe(rt.alloc(), &mut reader, &mut writer, &mut faults).number();
+        assert!(rt; whole.as_slice().starts_with(writer.as_slice()));
+        assert!(rt; (writer.as_slice() == whole.as_slice()) == (calls == 8));
+        assert!(rt; status == if calls < 8 { 3 } else { 0 });
+        assert!(rt; faults.as_slice() == if calls < 8 { TRANSPORT_LINE } else { NOTHING });
+    }
+    Ok(())
+}
+
+// Where the line of a fault cannot be printed, the exit status stays.
+#[test]
+fn a_fault_that_cannot_be_printed(rt: HostRuntime) {
+    for calls in 0..3u64 {
+        let mut reader = MemoryInput::new(b"\x05");
+        let mut writer = MemoryOutput::new(rt.alloc());
+        let mut faults = MemoryOutput::new(rt.alloc()).failing_after(calls);
+        let status = pipe(rt.alloc(), &mut reader, &mut writer, &mut faults).number();
+        assert!(rt; status == 3);
+        assert!(rt; writer.as_slice() == BAD_FRAME);
+        assert!(rt; BAD_FRAME_LINE.starts_with(faults.as_slice()));
+    }
+}
+
+// The first word is the program's name.
+fn words(alloc: Global, line: &[&str]) -> Result<Vec<String>, AllocError> {
+    let mut words = Vec::new(alloc);
+    words.push(String::from_str(alloc, "flightscan")?)?;
+    for word in line {
+        words.push(String::from_str(alloc, word)?)?;
+    }
+    Ok(words)
+}
+
+// Command lines that are refused, and the first words that are printed.
+static REFUSED: [(&'static [&'static str], &'static [u8]); 8] = [
+    (&[], b"error: "),
+    (&["pipes"], b"error: unrecognized subcommand 'pipes'"),
+    (
+        &["pipe", "more"],
+        b"error: unexpected argument 'more' found",
+    ),
+    (
+        &["pipe", "--parts", "0"],
+        b"error: unexpected argument '--parts' found",
+    ),
+    (&["--help"], b"Usage: flightscan"),
+    (&["help"], b"Usage: flightscan"),
+    (&["pipe", "--help"], b"Usage: flightscan pipe"),
+    (&["pipe", "-h"], b"Usage: flightscan pipe"),
+];
+
+// Each read and each write would fail, and be counted.
+#[test]
+fn refused_command_lines(rt: HostRuntime) -> Result<(), Fail> {
+    for (line, text) in &REFUSED {
+        let words = words(rt.alloc(), line)?;
+        let mut reader = MemoryInput::new(b"\x05").failing_after(0);
+        let mut writer = MemoryOutput::new(rt.alloc()).failing_after(0);
+        let mut faults = MemoryOutput::new(rt.alloc());
+        let status = run(rt.alloc(), &words, &mut reader, &mut writer, &mut faults).number();
+        assert!(rt; status == 2);
+        assert!(rt; reader.failures() == 0 && writer.failures() == 0);
+        assert!(rt; faults.as_slice().starts_with(text));
+    }
+    Ok(())
+}
+
+#[test]
+fn the_command_pipe(rt: HostRuntime) -> Result<(), Fail> {
+    let words = words(rt.alloc(), &["pipe"])?;
+    let mut reader = MemoryInput::new(PUT);
+    let mut writer = MemoryOutput::new(rt.alloc());
+    let mut faults = MemoryOutput::new(rt.alloc());
+    let status = run(rt.alloc(), &words, &mut reader, &mut writer, &mut faults).number();
+    assert!(rt; status == 0);
+    assert!(rt; writer.as_slice() == PUT_ANSWER);
+    assert!(rt; faults.as_slice() == NOTHING);
+    Ok(())
+}
+
+// The system's words that cannot be read: there was no memory for them, or one is not UTF-8.
+#[test]
+fn words_that_are_not_read(rt: HostRuntime) {
+    let mut faults = MemoryOutput::new(rt.alloc());
+    let status = refuse_arguments(ErrorKind::OutOfMemory, &mut faults).number();
+    assert!(rt; status == 3);
+    assert!(rt; faults.as_slice() == MEMORY_LINE);
+    let mut faults = MemoryOutput::new(rt.alloc());
+    let status = refuse_arguments(ErrorKind::InvalidData, &mut faults).number();
+    assert!(rt; status == 2);
+    assert!(rt; faults.as_slice() == NO_TEXT_LINE);
+}

@@ -1,9 +1,10 @@
 -- How far a server is: what came, and what it wrote for it.
-use Rattle.std.proofs.Common.{◌≡◌, ◌≢◌, ℕ, ◌+◌, List, [], ◌∷◌, ◌++◌, All, Result, Ok, Err, refl, sym, ap, subst, ◌∙◌, append_assoc, append-nil, inl, inr, arith}
+use Rattle.std.proofs.Common.{◌≡◌, ◌≢◌, ℕ, ◌+◌, List, [], ◌∷◌, ◌++◌, map, All, Option, Some, None, Result, Ok, Err, refl, sym, ap, subst, ◌∙◌, append_assoc, append-nil, inl, inr, arith}
 use Rattle.std.specs.List.{flat_map}
 use Rattle.std.specs.Io.KnownBytes.{Appends, Consumes, IsAtEnd}
 use Rattle.std.proofs.KnownBytes.{Consumes-nil, Consumes-trans, Appends-nil, Appends-trans}
 use Rattle.std.proofs.lemmas.Grind.{flat_map-append}
+use Rattle.std.proofs.lemmas.List.{map-append}
 use Rattle.std.proofs.lemmas.List.Elements.{All-append, All-cons, All-nil}
 use Rattle.scan_base.specs.declared.fault.Fault.{Fault}
 use Rattle.scan_base.specs.declared.fault.Fault.TheVariants.{OutOfMemory, Transport}
@@ -12,21 +13,37 @@ use Rattle.grpc_frame.specs.declared.place.Place.TheVariants.{BetweenCalls}
 use Rattle.grpc_frame.specs.Records.{spelling, IsRecord, Received, with_more, broken, Flaw, fault_of, wrong_kind, long_path, wrong_flag, long_message, bad_text}
 use Rattle.grpc_frame.specs.Ends.{AppendsBeginning}
 use Rattle.flight_core.specs.declared.event.Reply.{Reply}
+use Rattle.flight_core.specs.Payloads.{FitMessages}
 use Rattle.flight_core.specs.Machine.{Log}
 use Rattle.flight_calls.specs.declared.call.Arrival.TheVariants as arrival
 use Rattle.flight_calls.specs.declared.request.Request.{Request}
-use Rattle.flight_calls.specs.Calls.{Call, call_records, answer_records, asked_by, ReplyTo, Answers}
-use Rattle.flight_calls.specs.Owed.{calls_bytes, answer_bytes, answers_bytes, FitsMessages, Served, EndsIn, EndsInside, behind_calls, IsCause, last_status, Connection, Finished, CutShort, Refused, ReadFailed, AnswerFailed, StatusFailed, Serves, IsQuiet, CountsRead, CountsWrite}
+use Rattle.flight_calls.specs.Calls.{Call, call_records, asked_by, ReplyTo, Answers}
+use Rattle.flight_calls.specs.Owed.{calls_bytes, answer_bytes, EndsIn, EndsInside, behind_calls, IsCause, last_status, Connection, items_owed, Wrote, Why, Serves, Fails}
 use Rattle.flight_calls.specs.Ending.{RefusesBy}
 use Rattle.flight_calls.specs.Requests.{Holds}
 use Rattle.flight_calls.specs.Reading.{Stops, CallArrives}
+
+-- each payload fits a message
+abbrev FitsMessages : Reply → Type 0
+FitsMessages reply = FitMessages reply.payloads.items
+
+abbrev joined : List (List ℕ) → List ℕ
+joined items = flat_map (λ item. item) items
+
+-- what came is whole calls and then this rest, and the replies answer the calls, one each, from one log to the other
+pub record Served (log : Log) (came rest : List ℕ) (replies : List Reply) (new : Log) : Type 0 where
+  pub calls : List Call
+  pub whole : came ≡ calls_bytes calls ++ rest
+  pub fits : All IsRecord (flat_map call_records calls)
+  pub answers : Answers log calls replies new
+  pub sent : All FitsMessages replies
 
 pub record Progress (old now : Connection) (left : Received) : Type 0 where
   pub came : List ℕ
   pub consumed : Consumes old.input now.input came
   pub replies : List Reply
   pub served : Served old.log came left.bytes replies now.log
-  pub wrote : Appends old.output now.output (answers_bytes replies)
+  pub wrote : Appends old.output now.output (joined (map answer_bytes replies))
   pub between : left.place ≡ BetweenCalls
 
 pub started : (old : Connection) (left : Received) → left ≡ behind_calls [] → Progress old old left
@@ -76,11 +93,12 @@ served_more log mid new came rest rest' replies call reply s whole fits replied 
     bytes : calls_bytes (s.calls ++ call ∷ []) ≡ calls_bytes s.calls ++ flat_map spelling (call_records call)
     bytes = ap (flat_map spelling) records ∙ flat_map-append spelling (flat_map call_records s.calls) (call_records call)
 
--- the bytes of one answer more
-answers_last : (replies : List Reply) (reply : Reply) → answers_bytes (replies ++ reply ∷ []) ≡ answers_bytes replies ++ flat_map spelling (answer_records reply)
-answers_last replies reply =
-    ap (flat_map spelling) (flat_map-append answer_records replies (reply ∷ []) ∙ ap (λ l. flat_map answer_records replies ++ l) (append-nil (answer_records reply)))
-    ∙ flat_map-append spelling (flat_map answer_records replies) (answer_records reply)
+-- one answer more
+joined_more : (done : List (List ℕ)) (item : List ℕ) → joined (done ++ item ∷ []) ≡ joined done ++ item
+joined_more done item = flat_map-append (λ (i : List ℕ). i) done (item ∷ []) ∙ ap (λ l. joined done ++ l) (append-nil item)
+
+items_more : (replies : List Reply) (reply : Reply) → map answer_bytes (replies ++ reply ∷ []) ≡ map answer_bytes replies ++ answer_bytes reply ∷ []
+items_more replies reply = map-append answer_bytes replies (reply ∷ [])
 
 -- ---- a call is served
 
@@ -92,64 +110,76 @@ module _ (old mid : Connection) (left : Received) (p : Progress old mid left) wh
       received : List ℕ → Place → Received
       received bytes place = record { bytes = bytes; place = place }
 
-  -- a call came, and was answered
+  -- a call came, and a reply to it is due
+  call_replied : (new : Connection) (left' : Received) (request : Request) (reply : Reply) (q : (more : List ℕ) × Consumes mid.input new.input more × CallArrives (Ok (arrival.Whole request)) left left' more)
+      → ((call : Call) → Holds request call → ReplyTo (asked_by call) mid.log reply new.log) → FitsMessages reply
+      → Served old.log (p.came ++ q.0) left'.bytes (p.replies ++ reply ∷ []) new.log
+  call_replied new left' request reply q replied sent =
+      served_more old.log mid.log new.log (p.came ++ q.0) (left.bytes ++ q.0) left'.bytes p.replies q.2.0 reply (served_then old.log mid.log p.came left.bytes q.0 p.replies p.served) q.2.2.whole q.2.2.fits (replied q.2.0 q.2.1) sent
+
+  -- the record of a connection, by its parts
+  served_so : (result : Result (Unit {0}) Fault) (new : Connection) (came rest : List ℕ) (replies : List Reply) (last : Option Fault) (done begun : List (List ℕ)) → Consumes old.input new.input came
+      → Served old.log came rest replies new.log → items_owed replies last ≡ done ++ begun → Wrote old.output new.output done begun → Why result old new rest last begun → Serves result old new
+  served_so result new came rest replies last done begun consumed s owes wrote why = record {
+    calls = s.calls;
+    rest = rest;
+    fits = s.fits;
+    consumed = subst (λ (bytes : List ℕ). Consumes old.input new.input bytes) s.whole consumed;
+    replies = replies;
+    answers = s.answers;
+    sent = s.sent;
+    last = last;
+    done = done;
+    begun = begun;
+    owes = owes;
+    wrote = wrote;
+    why = why;
+  }
+
+  -- it was written
   pub call_served : (new : Connection) (left' : Received) (request : Request) (reply : Reply) → (more : List ℕ) × Consumes mid.input new.input more × CallArrives (Ok (arrival.Whole request)) left left' more
-      → ((call : Call) → Holds request call → ReplyTo (asked_by call) mid.log reply new.log) → FitsMessages reply → Appends mid.output new.output (flat_map spelling (answer_records reply)) → Progress old new left'
+      → ((call : Call) → Holds request call → ReplyTo (asked_by call) mid.log reply new.log) → FitsMessages reply → Appends mid.output new.output (answer_bytes reply) → Progress old new left'
   call_served new left' request reply q replied sent wrote = record {
     came = p.came ++ q.0;
     consumed = Consumes-trans old.input mid.input new.input p.came q.0 p.consumed q.1;
     replies = p.replies ++ reply ∷ [];
-    served = served_more old.log mid.log new.log (p.came ++ q.0) (left.bytes ++ q.0) left'.bytes p.replies q.2.0 reply (served_then old.log mid.log p.came left.bytes q.0 p.replies p.served) q.2.2.whole q.2.2.fits (replied q.2.0 q.2.1) sent;
-    wrote = rw (answers_last p.replies reply) (Appends-trans old.output mid.output new.output (answers_bytes p.replies) (flat_map spelling (answer_records reply)) p.wrote wrote);
+    served = call_replied new left' request reply q replied sent;
+    wrote = rw (items_more p.replies reply, joined_more (map answer_bytes p.replies) (answer_bytes reply))
+        (Appends-trans old.output mid.output new.output (joined (map answer_bytes p.replies)) (answer_bytes reply) p.wrote wrote);
     between = q.2.2.behind;
   }
 
-  -- its answer was begun
+  -- or begun
   pub answer_failed : (new : Connection) (left' : Received) (request : Request) (reply : Reply) → (more : List ℕ) × Consumes mid.input new.input more × CallArrives (Ok (arrival.Whole request)) left left' more
-      → ((call : Call) → Holds request call → ReplyTo (asked_by call) mid.log reply new.log) → FitsMessages reply → AppendsBeginning mid.output new.output (answer_bytes reply) → CountsWrite old new → AnswerFailed old new
-  answer_failed new left' request reply q replied sent begun counted = record {
-    came = p.came ++ q.0;
-    consumed = Consumes-trans old.input mid.input new.input p.came q.0 p.consumed q.1;
-    rest = left'.bytes;
-    replies = p.replies;
-    last = reply;
-    served = served_more old.log mid.log new.log (p.came ++ q.0) (left.bytes ++ q.0) left'.bytes p.replies q.2.0 reply (served_then old.log mid.log p.came left.bytes q.0 p.replies p.served) q.2.2.whole q.2.2.fits (replied q.2.0 q.2.1) sent;
-    before = mid.output;
-    wrote = p.wrote;
-    begun = begun;
-    counted = counted;
-  }
+      → ((call : Call) → Holds request call → ReplyTo (asked_by call) mid.log reply new.log) → FitsMessages reply → AppendsBeginning mid.output new.output (answer_bytes reply) → Fails 0 1 old new
+      → Serves (Err Transport) old new
+  answer_failed new left' request reply q replied sent begun counted = served_so (Err Transport) new (p.came ++ q.0) left'.bytes (p.replies ++ reply ∷ []) None
+      (map answer_bytes p.replies) (answer_bytes reply ∷ []) (Consumes-trans old.input mid.input new.input p.came q.0 p.consumed q.1)
+      (call_replied new left' request reply q replied sent) (items_more p.replies reply) (mid.output, p.wrote, begun) counted
+
+  -- nothing is done for what came behind the calls
+  pub ends : (result : Result (Unit {0}) Fault) (new : Connection) (more : List ℕ) (last : Option Fault) (done begun : List (List ℕ)) → Consumes mid.input new.input more → new.log ≡ mid.log
+      → items_owed p.replies last ≡ done ++ begun → Wrote old.output new.output done begun → Why result old new (left.bytes ++ more) last begun → Serves result old new
+  ends result new more last done begun consumed log owes wrote why =
+      served_so result new (p.came ++ more) (left.bytes ++ more) p.replies last done begun (Consumes-trans old.input mid.input new.input p.came more p.consumed consumed)
+      (rw log (served_then old.log mid.log p.came left.bytes more p.replies p.served)) owes wrote why
+
+  -- each reply was written, and no more
+  all_written : (result : Result (Unit {0}) Fault) (new : Connection) (more : List ℕ) → Consumes mid.input new.input more → new.log ≡ mid.log → new.output ≡ mid.output
+      → Why result old new (left.bytes ++ more) None [] → Serves result old new
+  all_written result new more consumed log output why =
+      ends result new more None (map answer_bytes p.replies) [] consumed log (sym (append-nil (map answer_bytes p.replies))) (rw output p.wrote) why
 
   -- the input ended
   pub input_ended : (new : Connection) (left' : Received) → (more : List ℕ) × Consumes mid.input new.input more × CallArrives (Ok arrival.Nothing) left left' more → IsAtEnd new.input
-      → new.output ≡ mid.output → new.log ≡ mid.log → IsQuiet old new → Finished old new
-  input_ended new left' q at_end output log quiet =
-      let nothing : left.bytes ++ q.0 ≡ [] = ap (λ (r : Received). r.bytes) q.2 in
-      let served = served_then old.log mid.log p.came left.bytes q.0 p.replies p.served in
-      record {
-        came = p.came ++ q.0;
-        consumed = Consumes-trans old.input mid.input new.input p.came q.0 p.consumed q.1;
-        at_end = at_end;
-        replies = p.replies;
-        served = rw (log, ← nothing) served;
-        wrote = rw output p.wrote;
-        quiet = quiet;
-      }
+      → new.output ≡ mid.output → new.log ≡ mid.log → Fails 0 0 old new → Serves (Ok tt) old new
+  input_ended new left' q at_end output log quiet = all_written (Ok tt) new q.0 q.1 log output (ap (λ (r : Received). r.bytes) q.2, at_end, quiet)
 
   -- the input ended inside a call
   pub call_cut_short : (new : Connection) (left' : Received) → (more : List ℕ) × Consumes mid.input new.input more × CallArrives (Ok arrival.CutShort) left left' more → IsAtEnd new.input
-      → new.output ≡ mid.output → new.log ≡ mid.log → IsQuiet old new → CutShort old new
-  call_cut_short new left' q at_end output log quiet = record {
-    came = p.came ++ q.0;
-    consumed = Consumes-trans old.input mid.input new.input p.came q.0 p.consumed q.1;
-    at_end = at_end;
-    rest = left.bytes ++ q.0;
-    open_call = rw (behind q.0) at q.2;
-    replies = p.replies;
-    served = rw log (served_then old.log mid.log p.came left.bytes q.0 p.replies p.served);
-    wrote = rw output p.wrote;
-    quiet = quiet;
-  }
+      → new.output ≡ mid.output → new.log ≡ mid.log → Fails 0 0 old new → Serves (Err Transport) old new
+  call_cut_short new left' q at_end output log quiet =
+      all_written (Err Transport) new q.0 q.1 log output (rw (behind q.0) at q.2.1, inl (q.2.0, at_end, quiet))
 
   -- why reading stopped
   cause : (fault : Fault) (more : List ℕ) → fault ≢ Transport → Stops fault (with_more left more) → IsCause fault (left.bytes ++ more)
@@ -157,36 +187,24 @@ module _ (old mid : Connection) (left : Received) (p : Progress old mid left) wh
   cause fault more other (inr (inl e)) = inl e
   cause fault more other (inr (inr ends)) = inr (rw (behind more) at ends)
 
-  -- a faulty record, or want of memory
+  -- its status was written
   pub connection_refused : (new : Connection) (left' : Received) (fault : Fault) → (more : List ℕ) × Consumes mid.input new.input more × CallArrives (Err fault) left left' more → fault ≢ Transport
-      → Appends mid.output new.output (last_status fault) → new.log ≡ mid.log → IsQuiet old new → Refused fault old new
-  connection_refused new left' fault q other wrote log quiet = record {
-    came = p.came ++ q.0;
-    consumed = Consumes-trans old.input mid.input new.input p.came q.0 p.consumed q.1;
-    rest = left.bytes ++ q.0;
-    cause = cause fault q.0 other q.2;
-    replies = p.replies;
-    served = rw log (served_then old.log mid.log p.came left.bytes q.0 p.replies p.served);
-    wrote = Appends-trans old.output mid.output new.output (answers_bytes p.replies) (last_status fault) p.wrote wrote;
-    quiet = quiet;
-  }
+      → Appends mid.output new.output (last_status fault) → new.log ≡ mid.log → Fails 0 0 old new → Serves (Err fault) old new
+  connection_refused new left' fault q other wrote log quiet =
+      let owed = map answer_bytes p.replies in
+      ends (Err fault) new q.0 (Some fault) (owed ++ last_status fault ∷ []) [] q.1 log (sym (append-nil (owed ++ last_status fault ∷ [])))
+      (rw (joined_more owed (last_status fault)) (Appends-trans old.output mid.output new.output (joined owed) (last_status fault) p.wrote wrote))
+      (by_fault fault (left.bytes ++ q.0) other (cause fault q.0 other q.2))
+    where
+      by_fault : (fault : Fault) (rest : List ℕ) → fault ≢ Transport → IsCause fault rest → Why (Err fault) old new rest (Some fault) []
+      by_fault Transport rest other is = absurd (other refl)
+      by_fault fault rest other is = (refl, other, is, quiet)
 
-  -- its status was begun
+  -- or begun
   pub status_failed : (new : Connection) (left' : Received) (fault : Fault) → (more : List ℕ) × Consumes mid.input new.input more × CallArrives (Err fault) left left' more → fault ≢ Transport
-      → AppendsBeginning mid.output new.output (last_status fault) → new.log ≡ mid.log → CountsWrite old new → StatusFailed old new
-  status_failed new left' fault q other begun log counted = record {
-    came = p.came ++ q.0;
-    consumed = Consumes-trans old.input mid.input new.input p.came q.0 p.consumed q.1;
-    rest = left.bytes ++ q.0;
-    fault = fault;
-    cause = cause fault q.0 other q.2;
-    replies = p.replies;
-    served = rw log (served_then old.log mid.log p.came left.bytes q.0 p.replies p.served);
-    before = mid.output;
-    wrote = p.wrote;
-    begun = begun;
-    counted = counted;
-  }
+      → AppendsBeginning mid.output new.output (last_status fault) → new.log ≡ mid.log → Fails 0 1 old new → Serves (Err Transport) old new
+  status_failed new left' fault q other begun log counted =
+      ends (Err Transport) new q.0 (Some fault) (map answer_bytes p.replies) (last_status fault ∷ []) q.1 log refl (mid.output, p.wrote, begun) (cause fault q.0 other q.2, counted)
 
   -- a call of which more has to come, where a read failed
   waits : (fault : Fault) (more : List ℕ) → fault ≡ Transport → Stops fault (with_more left more) → EndsInside (behind_calls (left.bytes ++ more))
@@ -206,17 +224,8 @@ module _ (old mid : Connection) (left : Received) (p : Progress old mid left) wh
 
   -- a read failed
   pub read_failed : (new : Connection) (left' : Received) (fault : Fault) → (more : List ℕ) × Consumes mid.input new.input more × CallArrives (Err fault) left left' more → fault ≡ Transport
-      → new.output ≡ mid.output → new.log ≡ mid.log → CountsRead old new → ReadFailed old new
-  read_failed new left' fault q is output log counted = record {
-    came = p.came ++ q.0;
-    consumed = Consumes-trans old.input mid.input new.input p.came q.0 p.consumed q.1;
-    rest = left.bytes ++ q.0;
-    inside = waits fault q.0 is q.2;
-    replies = p.replies;
-    served = rw log (served_then old.log mid.log p.came left.bytes q.0 p.replies p.served);
-    wrote = rw output p.wrote;
-    counted = counted;
-  }
+      → new.output ≡ mid.output → new.log ≡ mid.log → Fails 1 0 old new → Serves (Err Transport) old new
+  read_failed new left' fault q is output log counted = all_written (Err Transport) new q.0 q.1 log output (waits fault q.0 is q.2, inr counted)
 
   -- by a fault while a call was read
   pub ended_by : (new : Connection) (left' : Received) (fault : Fault) (result : Result (Unit {0}) Fault) (reads writes reads' writes' : ℕ) → (more : List ℕ) × Consumes mid.input new.input more × CallArrives (Err fault) left left' more
@@ -225,19 +234,15 @@ module _ (old mid : Connection) (left : Received) (p : Progress old mid left) wh
   ended_by new left' fault result reads writes reads' writes' q counted (inl stays) log before before' after after' =
       let one = counted.0 stays.transport in
       let none = stays.quiet in
-      rw stays.result_is (inr (inl (read_failed new left' fault q stays.transport stays.same log ((omega arith, omega arith)))))
+      rw stays.result_is (read_failed new left' fault q stays.transport stays.same log ((omega arith, omega arith)))
   ended_by new left' fault result reads writes reads' writes' q counted (inr (inl says)) log before before' after after' =
       let none = counted.1 says.other in
       let quiet = says.quiet in
-      rw says.result_is (by_fault fault says.other (connection_refused new left' fault q says.other says.wrote log ((omega arith, omega arith))))
-    where
-      by_fault : (fault : Fault) → fault ≢ Transport → Refused fault old new → Serves (Err fault) old new
-      by_fault Transport other refused = absurd (other refl)
-      by_fault fault other refused = refused
+      rw says.result_is (connection_refused new left' fault q says.other says.wrote log ((omega arith, omega arith)))
   ended_by new left' fault result reads writes reads' writes' q counted (inr (inr fails)) log before before' after after' =
       let none = counted.1 fails.other in
       let one = fails.counted in
-      rw fails.result_is (inr (inr (inr (status_failed new left' fault q fails.other fails.wrote log ((omega arith, omega arith))))))
+      rw fails.result_is (status_failed new left' fault q fails.other fails.wrote log ((omega arith, omega arith)))
 
 -- a connection that is refused before anything came
 pub refused_first : (old new : Connection) (fault : Fault) (result : Result (Unit {0}) Fault) (reads writes writes' : ℕ) → old.log ≡ [] → new.log ≡ [] → new.input ≡ old.input → fault ≡ OutOfMemory

@@ -1,18 +1,27 @@
 -- How a failed read is told.
-use Rattle.std.proofs.Common.{◌≡◌, ℕ, ◌+◌, Result, Ok, Err, refl, inl, inr, arith}
+use Rattle.std.proofs.Common.{◌≡◌, ℕ, ◌+◌, List, [], ◌∷◌, ◌++◌, map, Option, Some, None, Result, Ok, Err, refl, sym, ◌∙◌, append-nil, inl, inr, arith}
 use Rattle.scan_base.specs.declared.fault.Fault.{Fault}
 use Rattle.scan_base.specs.declared.fault.Fault.TheVariants.{Transport}
-use Rattle.flight_calls.specs.Owed.{Connection, ReadFailed, Serves}
+use Rattle.flight_core.specs.declared.event.Reply.{Reply}
+use Rattle.flight_calls.specs.Owed.{Connection, Serves, Why, Wrote, items_owed, answer_bytes}
+use Rattle.flight_calls.specs.Laws.{ReadFailed}
 
 -- it is counted, so nothing that counts none tells it
-not_both : (n m : ℕ) → m ≡ n + 1 → m ≡ n → ⊥
+not_both : (n m : ℕ) → m ≡ n + 1 → m ≡ n + 0 → ⊥
 not_both n m grown same = omega arith
 
-pub failed_reads : (result : Result (Unit {0}) Fault) (old new : Connection) → Serves result old new → new.failed_reads ≡ old.failed_reads + 1
-    → (result ≡ Err Transport) × ReadFailed old new
-failed_reads (Ok done) old new finished counted = absurd (not_both old.failed_reads new.failed_reads counted finished.quiet.0)
-failed_reads (Err Transport) old new (inl cut) counted = absurd (not_both old.failed_reads new.failed_reads counted cut.quiet.0)
-failed_reads (Err Transport) old new (inr (inl failed)) counted = (refl, failed)
-failed_reads (Err Transport) old new (inr (inr (inl failed))) counted = absurd (not_both old.failed_reads new.failed_reads counted failed.counted.0)
-failed_reads (Err Transport) old new (inr (inr (inr failed))) counted = absurd (not_both old.failed_reads new.failed_reads counted failed.counted.0)
-failed_reads (Err fault) old new refused counted = absurd (not_both old.failed_reads new.failed_reads counted refused.quiet.0)
+tells : (result : Result (Unit {0}) Fault) (old new : Connection) (rest : List ℕ) (replies : List Reply) (last : Option Fault) (done begun : List (List ℕ))
+    → items_owed replies last ≡ done ++ begun → Wrote old.output new.output done begun → Why result old new rest last begun → new.failed_reads ≡ old.failed_reads + 1
+    → ReadFailed result old new rest (map answer_bytes replies)
+tells (Ok done) old new rest replies None all [] owes wrote why counted = absurd (not_both old.failed_reads new.failed_reads counted why.2.0)
+tells (Err Transport) old new rest replies None all [] owes wrote (inside, inl cut) counted = absurd (not_both old.failed_reads new.failed_reads counted cut.2.0)
+tells (Err Transport) old new rest replies None all [] owes wrote (inside, inr failed) counted =
+    record { transport = refl; inside = inside; wrote = rw (owes ∙ append-nil all) wrote; counted = failed }
+tells (Err Transport) old new rest replies None all (item ∷ []) owes wrote why counted = absurd (not_both old.failed_reads new.failed_reads counted why.0)
+tells (Err Transport) old new rest replies (Some fault) all (item ∷ []) owes wrote why counted = absurd (not_both old.failed_reads new.failed_reads counted why.1.0)
+tells (Err fault) old new rest replies (Some last) all [] owes wrote why counted = absurd (not_both old.failed_reads new.failed_reads counted why.3.0)
+tells result old new rest replies last all begun owes wrote why counted = absurd why
+
+pub failed_reads : (result : Result (Unit {0}) Fault) (old new : Connection) (serves : Serves result old new)
+    → new.failed_reads ≡ old.failed_reads + 1 → ReadFailed result old new serves.rest (map answer_bytes serves.replies)
+failed_reads result old new s counted = tells result old new s.rest s.replies s.last s.done s.begun s.owes s.wrote s.why counted

@@ -6,7 +6,6 @@ use Rattle.scan_base.specs.declared.fault.Fault.TheVariants.{UnknownMethod, BadP
 use Rattle.scan_base.specs.Reading.{◌>>=◌, wanted}
 use Rattle.grpc_frame.specs.declared.record.Record.{Record}
 use Rattle.grpc_frame.specs.declared.record.Record.TheVariants.{Open, Message, End}
-use Rattle.grpc_frame.specs.Calls.{status_of}
 use Rattle.flight_core.specs.declared.event.Reply.{Reply}
 use Rattle.flight_core.specs.Payloads.{Payload}
 use Rattle.flight_core.specs.Machine.{Log, Asked, put, fetch, StepOn}
@@ -18,16 +17,13 @@ pub record Call : Type 0 where
   pub path : List ℕ
   pub messages : List Payload
 
--- the records of a call, and of an answer
-
+-- the records of a call
 abbrev pub call_records : Call → List Record
 call_records call = Open call.path ∷ (map Message call.messages ++ End ∷ [])
 
-abbrev pub answer_records : Reply → List Record
-answer_records reply = map Message reply.payloads.items ++ status_of reply.fault ∷ []
-
 -- ---- what a call asks
 
+-- the service's part of a path
 abbrev pub service : List ℕ
 service = codes "/arrow.flight.protocol.FlightService/"
 
@@ -47,9 +43,7 @@ asked_of method.DoGet _ = Err BadProto
 
 -- what a call asks, or the fault of its path or of the number of its messages
 abbrev pub asked_by : Call → Result Asked Fault
-asked_by call = do
-  found ← wanted (method_at call.path) UnknownMethod
-  asked_of found call.messages
+asked_by call = wanted (method_at call.path) UnknownMethod >>= λ found. asked_of found call.messages
 
 -- ---- what answers it
 

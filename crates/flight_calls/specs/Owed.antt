@@ -1,43 +1,19 @@
 -- What a server owes for the bytes that came, and what it did with a connection.
-use Rattle.std.specs.Prelude.{◌≡◌, ◌≢◌, ◌⊎◌, ℕ, ◌+◌, List, [], ◌∷◌, ◌++◌, All, Option, Some, Result, Ok, Err}
+use Rattle.std.specs.Prelude.{◌≡◌, ◌≢◌, ◌⊎◌, ℕ, ◌+◌, List, [], ◌∷◌, ◌++◌, map, All, Option, Some, None, Result, Ok, Err}
 use Rattle.std.specs.List.{flat_map}
 use Rattle.std.specs.Io.KnownBytes.{Appends, Consumes, IsAtEnd}
 use Rattle.scan_base.specs.declared.fault.Fault.{Fault}
 use Rattle.scan_base.specs.declared.fault.Fault.TheVariants.{OutOfMemory, Transport}
 use Rattle.grpc_frame.specs.declared.place.Place.TheVariants.{BetweenCalls}
 use Rattle.grpc_frame.specs.declared.record.Record.{Record}
-use Rattle.grpc_frame.specs.declared.record.Record.TheVariants.{End}
+use Rattle.grpc_frame.specs.declared.record.Record.TheVariants.{Message, End}
 use Rattle.grpc_frame.specs.Records.{spelling, IsRecord, Received, Ending, nothing_more, cut, broken, Splits}
 use Rattle.grpc_frame.specs.Calls.{status_of}
 use Rattle.grpc_frame.specs.Ends.{AppendsBeginning}
 use Rattle.flight_core.specs.declared.event.Reply.{Reply}
 use Rattle.flight_core.specs.Payloads.{FitMessages}
 use Rattle.flight_core.specs.Machine.{Log}
-use Rattle.flight_calls.specs.Calls.{Call, call_records, answer_records, Answers}
-
--- the bytes of calls, and of answers
-
-abbrev pub calls_bytes : List Call → List ℕ
-calls_bytes calls = flat_map spelling (flat_map call_records calls)
-
-abbrev pub answer_bytes : Reply → List ℕ
-answer_bytes reply = flat_map spelling (answer_records reply)
-
-abbrev pub answers_bytes : List Reply → List ℕ
-answers_bytes replies = flat_map spelling (flat_map answer_records replies)
-
--- each payload fits a Message
-abbrev pub FitsMessages : Reply → Type 0
-FitsMessages reply = FitMessages reply.payloads.items
-
--- What came is whole calls and then this rest, and the replies answer the calls, one each, from one log to
--- the other.
-pub record Served (log : Log) (came rest : List ℕ) (replies : List Reply) (new : Log) : Type 0 where
-  pub calls : List Call
-  pub whole : came ≡ calls_bytes calls ++ rest
-  pub fits : All IsRecord (flat_map call_records calls)
-  pub answers : Answers log calls replies new
-  pub sent : All FitsMessages replies
+use Rattle.flight_calls.specs.Calls.{Call, call_records, Answers}
 
 -- ---- what follows the whole calls
 
@@ -56,17 +32,34 @@ EndsInside left = EndsIn left cut ⊎ EndsIn left nothing_more
 abbrev pub behind_calls : List ℕ → Received
 behind_calls bytes = record { bytes = bytes; place = BetweenCalls }
 
--- a call that was begun, of which more has to come
-abbrev pub IsOpenCall : List ℕ → Type 0
-IsOpenCall rest = (rest ≢ []) × EndsInside (behind_calls rest)
-
 -- why a server ends a connection: memory was refused, or a faulty record stands behind the whole calls
 abbrev pub IsCause : Fault → List ℕ → Type 0
 IsCause fault rest = (fault ≡ OutOfMemory) ⊎ EndsIn (behind_calls rest) (broken fault)
 
--- the bytes of the status that says why
+-- ---- what is owed
+
+-- the bytes of calls
+abbrev pub calls_bytes : List Call → List ℕ
+calls_bytes calls = flat_map spelling (flat_map call_records calls)
+
+-- the bytes of an answer: its messages, and then its status
+abbrev pub answer_bytes : Reply → List ℕ
+answer_bytes reply = flat_map spelling (map Message reply.payloads.items ++ status_of reply.fault ∷ [])
+
+-- the bytes of the status that says why a connection ends
 abbrev pub last_status : Fault → List ℕ
 last_status fault = spelling (status_of (Some fault))
+
+-- what is owed for the replies, an item each, and then for the fault that ends the connection
+abbrev pub items_owed : List Reply → Option Fault → List (List ℕ)
+items_owed replies None = map answer_bytes replies
+items_owed replies (Some fault) = map answer_bytes replies ++ last_status fault ∷ []
+
+-- these items were written whole, and of the one that was begun a beginning
+abbrev pub Wrote : Option (List ℕ) → Option (List ℕ) → List (List ℕ) → List (List ℕ) → Type 0
+Wrote old new done [] = Appends old new (flat_map (λ item. item) done)
+Wrote old new done (item ∷ []) = (before : Option (List ℕ)) × Wrote old before done [] × AppendsBeginning before new item
+Wrote old new done _ = ⊥
 
 -- ---- what became of a connection
 
@@ -79,98 +72,40 @@ pub record Connection : Type 0 where
   pub failed_writes : ℕ
   pub log : Log
 
--- no read and no write failed
-abbrev pub IsQuiet : Connection → Connection → Type 0
-IsQuiet old new = (new.failed_reads ≡ old.failed_reads) × (new.failed_writes ≡ old.failed_writes)
+-- the connection with these, in that order
+abbrev pub connection_of : Option (List ℕ) → Option (List ℕ) → ℕ → ℕ → Log → Connection
+connection_of input output reads writes log =
+    record { input = input; output = output; failed_reads = reads; failed_writes = writes; log = log }
 
--- one read failed, and no write
-abbrev pub CountsRead : Connection → Connection → Type 0
-CountsRead old new = (new.failed_reads ≡ old.failed_reads + 1) × (new.failed_writes ≡ old.failed_writes)
+-- so many reads failed, and so many writes
+abbrev pub Fails : ℕ → ℕ → Connection → Connection → Type 0
+Fails reads writes old new =
+    (new.failed_reads ≡ old.failed_reads + reads) × (new.failed_writes ≡ old.failed_writes + writes)
 
--- one write failed, and no read
-abbrev pub CountsWrite : Connection → Connection → Type 0
-CountsWrite old new = (new.failed_reads ≡ old.failed_reads) × (new.failed_writes ≡ old.failed_writes + 1)
+-- Why a server ends behind the whole calls: by its result, what stands there, the fault that it says last, and the item
+-- that it only began.
+abbrev pub Why : Result (Unit {0}) Fault → Connection → Connection → List ℕ → Option Fault → List (List ℕ) → Type 0
+Why (Ok done) old new rest None [] = (rest ≡ []) × IsAtEnd new.input × Fails 0 0 old new
+Why (Err Transport) old new rest None [] = EndsInside (behind_calls rest)
+    × (((rest ≢ []) × IsAtEnd new.input × Fails 0 0 old new) ⊎ Fails 1 0 old new)
+Why (Err Transport) old new rest None (item ∷ []) = Fails 0 1 old new
+Why (Err Transport) old new rest (Some fault) (item ∷ []) = IsCause fault rest × Fails 0 1 old new
+Why (Err fault) old new rest (Some last) [] = (last ≡ fault) × (fault ≢ Transport) × IsCause fault rest × Fails 0 0 old new
+Why _ old new rest last begun = ⊥
 
--- all that the input had came; it is whole calls, and their answers were written
-pub record Finished (old new : Connection) : Type 0 where
-  pub came : List ℕ
-  pub consumed : Consumes old.input new.input came
-  pub at_end : IsAtEnd new.input
-  pub replies : List Reply
-  pub served : Served old.log came [] replies new.log
-  pub wrote : Appends old.output new.output (answers_bytes replies)
-  pub quiet : IsQuiet old new
-
--- the input ended inside a call: the calls before it are answered, and nothing is done for it
-pub record CutShort (old new : Connection) : Type 0 where
-  pub came : List ℕ
-  pub consumed : Consumes old.input new.input came
-  pub at_end : IsAtEnd new.input
+-- What became of a connection. What came is whole calls and then a rest; they have one reply each, from the log before
+-- to the log now; what is owed for them was written in order, all but an item that was only begun.
+pub record Serves (result : Result (Unit {0}) Fault) (old new : Connection) : Type 0 where
+  pub calls : List Call
   pub rest : List ℕ
-  pub open_call : IsOpenCall rest
+  pub fits : All IsRecord (flat_map call_records calls)
+  pub consumed : Consumes old.input new.input (calls_bytes calls ++ rest)
   pub replies : List Reply
-  pub served : Served old.log came rest replies new.log
-  pub wrote : Appends old.output new.output (answers_bytes replies)
-  pub quiet : IsQuiet old new
-
--- Calls that came are answered, and then a status says why the connection ends. Behind them stands the faulty record;
--- where memory was refused, nothing is said of what stands there.
-pub record Refused (fault : Fault) (old new : Connection) : Type 0 where
-  pub came : List ℕ
-  pub consumed : Consumes old.input new.input came
-  pub rest : List ℕ
-  pub cause : IsCause fault rest
-  pub replies : List Reply
-  pub served : Served old.log came rest replies new.log
-  pub wrote : Appends old.output new.output (answers_bytes replies ++ last_status fault)
-  pub quiet : IsQuiet old new
-
--- A read failed: all whole calls that came before are answered, and nothing is done for one of which more had to come.
-pub record ReadFailed (old new : Connection) : Type 0 where
-  pub came : List ℕ
-  pub consumed : Consumes old.input new.input came
-  pub rest : List ℕ
-  pub inside : EndsInside (behind_calls rest)
-  pub replies : List Reply
-  pub served : Served old.log came rest replies new.log
-  pub wrote : Appends old.output new.output (answers_bytes replies)
-  pub counted : CountsRead old new
-
--- A write of an answer failed: the answers before it are written, then a beginning of it, and its call was the last
--- one that was looked at.
-pub record AnswerFailed (old new : Connection) : Type 0 where
-  pub came : List ℕ
-  pub consumed : Consumes old.input new.input came
-  pub rest : List ℕ
-  pub replies : List Reply
-  pub last : Reply
-  pub served : Served old.log came rest (replies ++ last ∷ []) new.log
-  pub before : Option (List ℕ)
-  pub wrote : Appends old.output before (answers_bytes replies)
-  pub begun : AppendsBeginning before new.output (answer_bytes last)
-  pub counted : CountsWrite old new
-
--- A write of the status that says why the connection ends failed: what it stands behind is answered, and a beginning
--- of it is written.
-pub record StatusFailed (old new : Connection) : Type 0 where
-  pub came : List ℕ
-  pub consumed : Consumes old.input new.input came
-  pub rest : List ℕ
-  pub fault : Fault
-  pub cause : IsCause fault rest
-  pub replies : List Reply
-  pub served : Served old.log came rest replies new.log
-  pub before : Option (List ℕ)
-  pub wrote : Appends old.output before (answers_bytes replies)
-  pub begun : AppendsBeginning before new.output (last_status fault)
-  pub counted : CountsWrite old new
-
--- one read or write failed
-abbrev pub Failed : Connection → Connection → Type 0
-Failed old new = ReadFailed old new ⊎ (AnswerFailed old new ⊎ StatusFailed old new)
-
--- by what the server gave back
-abbrev pub Serves : Result (Unit {0}) Fault → Connection → Connection → Type 0
-Serves (Ok done) old new = Finished old new
-Serves (Err Transport) old new = CutShort old new ⊎ Failed old new
-Serves (Err fault) old new = Refused fault old new
+  pub answers : Answers old.log calls replies new.log
+  pub sent : All (λ reply. FitMessages reply.payloads.items) replies
+  pub last : Option Fault
+  pub done : List (List ℕ)
+  pub begun : List (List ℕ)
+  pub owes : items_owed replies last ≡ done ++ begun
+  pub wrote : Wrote old.output new.output done begun
+  pub why : Why result old new rest last begun

@@ -11,6 +11,3 @@ mod request;
 mod server;
 
 pub use crate::server::{serve, serve_alone};
-
-#[cfg(test)]
-mod tests;

@@ -1,9 +1,8 @@
 //! What a call asks, while its messages come.
 
 ghost use Rattle.std.specs.Prelude.{◌≡◌, ◌++◌, ◌∷◌, [], ℕ, List, Some};
-ghost use Rattle.flight_core.specs.Payloads.{Payload};
+ghost use Rattle.flight_core.specs.Payloads.{Payload, FitMessages};
 ghost use Rattle.flight_calls.specs.Calls.{Call, method_at, asked_by, ReplyTo};
-ghost use Rattle.flight_calls.specs.Owed.{FitsMessages};
 ghost use Rattle.flight_calls.specs.Requests.{Holds};
 
 use bytes::Bytes;
@@ -52,7 +51,7 @@ fn method_at(path: &[u8]) -> Option<Method>
 // A reply of this fault alone.
 fn refusal(alloc: Global, fault: Fault) -> Reply
     ensures payloads { result.payloads.items ≡ [] }
-    ensures short { FitsMessages result }
+    ensures short { FitMessages result.payloads.items }
     ensures fault { result.fault ≡ Some fault }
 {
     Reply {
@@ -92,7 +91,7 @@ impl Request {
     /// message.
     pub fn answer(self, alloc: Global, plain: &mut Plain) -> Reply
         ensures reply { (call : Call) → Holds self call → ReplyTo (asked_by call) plain.old result plain.new }
-        ensures short { FitsMessages result }
+        ensures short { FitMessages result.payloads.items }
     {
         match self {
             Request::Put(reader) => step_put(alloc, plain, reader.into_put()),

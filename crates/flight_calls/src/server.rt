@@ -2,7 +2,7 @@
 
 ghost use Rattle.std.specs.Prelude.{◌<◌, []};
 ghost use Rattle.flight_core.specs.Machine.{Log};
-ghost use Rattle.flight_calls.specs.Owed.{Serves};
+ghost use Rattle.flight_calls.specs.Owed.{Serves, connection_of};
 ghost use Rattle.flight_calls.specs.Ending.{RefusesBy};
 
 use crate::answer::write_answer;
@@ -35,20 +35,10 @@ pub fn serve<R: Input, W: Output>(
     requires reads { R.failures reader.old < 18446744073709551615 }
     requires writes { W.failures writer.old < 18446744073709551615 }
     ensures { Serves result
-        (record {
-          input = R.remaining reader.old;
-          output = W.contents writer.old;
-          failed_reads = R.failures reader.old;
-          failed_writes = W.failures writer.old;
-          log = plain.old;
-        })
-        (record {
-          input = R.remaining reader.new;
-          output = W.contents writer.new;
-          failed_reads = R.failures reader.new;
-          failed_writes = W.failures writer.new;
-          log = plain.new;
-        }) }
+        (connection_of (R.remaining reader.old) (W.contents writer.old)
+        (R.failures reader.old) (W.failures writer.old) plain.old)
+        (connection_of (R.remaining reader.new) (W.contents writer.new)
+        (R.failures reader.new) (W.failures writer.new) plain.new) }
 {
     let mut inbox = Inbox::of_server(alloc);
     loop {
@@ -78,20 +68,10 @@ pub fn serve_alone<R: Input, W: Output>(
     requires reads { R.failures reader.old < 18446744073709551615 }
     requires writes { W.failures writer.old < 18446744073709551615 }
     ensures { (log : Log) × Serves result
-        (record {
-          input = R.remaining reader.old;
-          output = W.contents writer.old;
-          failed_reads = R.failures reader.old;
-          failed_writes = W.failures writer.old;
-          log = [];
-        })
-        (record {
-          input = R.remaining reader.new;
-          output = W.contents writer.new;
-          failed_reads = R.failures reader.new;
-          failed_writes = W.failures writer.new;
-          log = log;
-        }) }
+        (connection_of (R.remaining reader.old) (W.contents writer.old)
+        (R.failures reader.old) (W.failures writer.old) [])
+        (connection_of (R.remaining reader.new) (W.contents writer.new)
+        (R.failures reader.new) (W.failures writer.new) log) }
 {
     match Plain::new(alloc) {
         Ok(mut plain) => serve(alloc, reader, writer, &mut plain),

@@ -7,16 +7,8 @@ use Rattle.scan_base.specs.Reading.{◌>>=◌, wanted}
 use Rattle.arrow_schema.specs.declared.schema.Schema.{Schema}
 use Rattle.flight_proto.specs.FlightData.{DataSaid, data_of}
 use Rattle.flight_proto.specs.Ingest.{IngestSaid, ingest_of}
-use Rattle.flight_proto.specs.declared.ingest.IfNotExist.TheVariants as said_absent
-use Rattle.flight_proto.specs.declared.ingest.IfExists.TheVariants as said_present
-use Rattle.flight_proto.specs.declared.ingest.IfNotExist.{IfNotExist as SaidAbsent}
-use Rattle.flight_proto.specs.declared.ingest.IfExists.{IfExists as SaidPresent}
 use Rattle.ipc_batch.specs.State.{State}
 use Rattle.ipc_batch.specs.Said.{News, Rows, news_of, rows_in}
-use Rattle.table_versions.specs.declared.options.IfNotExist.{IfNotExist}
-use Rattle.table_versions.specs.declared.options.IfNotExist.TheVariants as absent
-use Rattle.table_versions.specs.declared.options.IfExists.{IfExists}
-use Rattle.table_versions.specs.declared.options.IfExists.TheVariants as present
 use Rattle.table_versions.specs.Database.{Put}
 use Rattle.flight_core.specs.Payloads.{Payload, message_in}
 
@@ -43,24 +35,12 @@ told_by state (payload ∷ payloads) = do
   told ← told_by news.state payloads
   Ok (record { state = told.state; rows = rows_in news.batch ++ told.rows })
 
--- the options of a command are those of a put
-abbrev pub if_not_exist_put : SaidAbsent → IfNotExist
-if_not_exist_put said_absent.Unspecified = absent.Unspecified
-if_not_exist_put said_absent.Create = absent.Create
-if_not_exist_put said_absent.Fail = absent.Fail
-
-abbrev pub if_exists_put : SaidPresent → IfExists
-if_exists_put said_present.Unspecified = present.Unspecified
-if_exists_put said_present.Fail = present.Fail
-if_exists_put said_present.Append = present.Append
-if_exists_put said_present.Replace = present.Replace
-
 -- the put of a command and of what the payloads tell
 abbrev pub put_made : IngestSaid → Schema → Rows → Put
 put_made ingest schema rows = record {
   table = ingest.table;
-  if_not_exist = if_not_exist_put ingest.if_not_exist;
-  if_exists = if_exists_put ingest.if_exists;
+  if_not_exist = ingest.if_not_exist;
+  if_exists = ingest.if_exists;
   schema = schema;
   rows = rows;
 }

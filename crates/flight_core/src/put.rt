@@ -6,7 +6,7 @@ ghost use Rattle.scan_base.specs.Reading.{Gives, GivesUnlessMemory};
 ghost use Rattle.arrays.specs.Batch.{BatchAt};
 ghost use Rattle.table_versions.specs.Stored.{put_of};
 ghost use Rattle.flight_core.specs.Payloads.{Payload};
-ghost use Rattle.flight_core.specs.Puts.{if_not_exist_put, if_exists_put, news_in_payload, put_said};
+ghost use Rattle.flight_core.specs.Puts.{news_in_payload, put_said};
 ghost use Rattle.flight_core.specs.Stored.{MayBeStored, batches_in};
 ghost use Rattle.flight_core.specs.Arriving.{begun_by, after_payload, said_next, whole_put, put_from, HasRead};
 
@@ -14,32 +14,10 @@ use arrays::Batch;
 use bytes::Bytes;
 use flight_proto::{FlightData, Ingest, read_ingest};
 use ipc_batch::Reader;
-use scan_base::{Fault, Text};
+use scan_base::{Fault, IfExists, IfNotExist, Text};
 use std::alloc::Global;
 use std::marker::Model;
-use table_versions::{IfExists, IfNotExist, Put};
-
-// The options of a command as those of a put.
-fn if_not_exist(option: flight_proto::IfNotExist) -> IfNotExist
-    ensures { result ≡ if_not_exist_put option }
-{
-    match option {
-        flight_proto::IfNotExist::Unspecified => IfNotExist::Unspecified,
-        flight_proto::IfNotExist::Create => IfNotExist::Create,
-        flight_proto::IfNotExist::Fail => IfNotExist::Fail,
-    }
-}
-
-fn if_exists(option: flight_proto::IfExists) -> IfExists
-    ensures { result ≡ if_exists_put option }
-{
-    match option {
-        flight_proto::IfExists::Unspecified => IfExists::Unspecified,
-        flight_proto::IfExists::Fail => IfExists::Fail,
-        flight_proto::IfExists::Append => IfExists::Append,
-        flight_proto::IfExists::Replace => IfExists::Replace,
-    }
-}
+use table_versions::Put;
 
 // Reads a payload: a batch, or `None` where it has the schema, a dictionary or no message.
 #[tactic(auto, unfolding(crate::specs::Puts::news_in_payload))]
@@ -61,8 +39,8 @@ fn read_payload(alloc: Global, reader: &mut Reader, payload: &Bytes) -> Result<O
 #[derive(Drop)]
 struct Begun {
     table: Text,
-    if_not_exist: flight_proto::IfNotExist,
-    if_exists: flight_proto::IfExists,
+    if_not_exist: IfNotExist,
+    if_exists: IfExists,
     reader: Reader,
     batches: Vec<Batch>,
 }
@@ -136,8 +114,8 @@ fn whole_put(begun: Option<Begun>) -> Result<Put, Fault>
     };
     Ok(Put::new(
         begun.table,
-        if_not_exist(begun.if_not_exist),
-        if_exists(begun.if_exists),
+        begun.if_not_exist,
+        begun.if_exists,
         schema,
         begun.batches,
     ))

@@ -1,33 +1,24 @@
 -- The ingest that the first message of a put asks for, as far as it is supported.
-use Rattle.std.specs.Prelude.{ℕ, ◌==◌, ◌&&◌, Bool, not, List, length, Result, Ok, Err, unwrap_or, codes, bytes_eq, if◌then◌else◌}
+use Rattle.std.specs.Prelude.{ℕ, ◌==◌, ◌&&◌, Bool, not, List, [], ◌∷◌, length, slice_get, Result, Ok, unwrap_or, codes, bytes_eq}
 use Rattle.scan_base.specs.declared.fault.Fault.{Fault}
 use Rattle.scan_base.specs.declared.fault.Fault.TheVariants.{BadProto, UnknownCommand, NotInSubset}
-use Rattle.scan_base.specs.Reading.{◌>>=◌, demand}
+use Rattle.scan_base.specs.Reading.{◌>>=◌, demand, wanted}
 use Rattle.flight_proto.specs.FlightData.{stream_descriptor_of}
 use Rattle.flight_proto.specs.StatementIngest.{OptionsSaid, options_empty, StatementSaid, statement_of}
 use Rattle.flight_proto.specs.Command.{command_of}
-use Rattle.flight_proto.specs.declared.ingest.IfNotExist.{IfNotExist}
-use Rattle.flight_proto.specs.declared.ingest.IfNotExist.TheVariants as absent
-use Rattle.flight_proto.specs.declared.ingest.IfExists.{IfExists}
-use Rattle.flight_proto.specs.declared.ingest.IfExists.TheVariants as present
+use Rattle.scan_base.specs.declared.put_options.IfNotExist.{IfNotExist}
+use Rattle.scan_base.specs.declared.put_options.IfNotExist.TheVariants as absent
+use Rattle.scan_base.specs.declared.put_options.IfExists.{IfExists}
+use Rattle.scan_base.specs.declared.put_options.IfExists.TheVariants.{Unspecified, Fail, Append, Replace}
 use Rattle.flight_proto.specs.declared.ingest.Ingest.{Ingest}
 
 -- what to do where the table is absent, by its number
 abbrev pub if_not_exist_of : ℕ → Result IfNotExist Fault
-if_not_exist_of number =
-    if number == 0 then Ok absent.Unspecified
-    else (if number == 1 then Ok absent.Create
-    else (if number == 2 then Ok absent.Fail
-    else Err BadProto))
+if_not_exist_of number = wanted (slice_get (absent.Unspecified ∷ absent.Create ∷ absent.Fail ∷ []) number) BadProto
 
 -- what to do where the table is there, by its number
 abbrev pub if_exists_of : ℕ → Result IfExists Fault
-if_exists_of number =
-    if number == 0 then Ok present.Unspecified
-    else (if number == 1 then Ok present.Fail
-    else (if number == 2 then Ok present.Append
-    else (if number == 3 then Ok present.Replace
-    else Err BadProto)))
+if_exists_of number = wanted (slice_get (Unspecified ∷ Fail ∷ Append ∷ Replace ∷ []) number) BadProto
 
 -- what is left out is at its default
 abbrev pub is_in_subset : StatementSaid → Bool
@@ -37,6 +28,7 @@ is_in_subset statement =
     && not statement.temporary
     && length statement.transaction_id == 0
 
+-- what is asked of a put: the table's name, and what to do where it is absent and where it is there
 pub record IngestSaid : Type 0 where
   pub table : List ℕ
   pub if_not_exist : IfNotExist
@@ -55,6 +47,7 @@ ingest_in value = do
   _ ← demand (is_in_subset statement) NotInSubset
   Ok (record { table = statement.table; if_not_exist = if_not_exist; if_exists = if_exists })
 
+-- the full name of the command
 abbrev pub statement_ingest_name : List ℕ
 statement_ingest_name = codes "arrow.flight.protocol.sql.CommandStatementIngest"
 

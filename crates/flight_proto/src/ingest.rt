@@ -10,66 +10,38 @@ use crate::command::Command;
 use crate::flight_data::StreamDescriptor;
 use crate::message::Message;
 use crate::statement_ingest::{CommandStatementIngest, TableDefinitionOptions};
-use scan_base::Fault;
+use scan_base::{Fault, IfExists, IfNotExist};
 
-/// What to do where the table is absent.
-#[derive(Clone, Copy, Debug, PartialEq, Eq)]
-pub enum IfNotExist {
-    /// The command does not say.
-    Unspecified,
-    /// Make the table.
-    Create,
-    /// Refuse the put.
-    Fail,
-}
-
-impl IfNotExist {
-    /// The option of a number of the standard's list.
-    ///
-    /// # Errors
-    ///
-    /// `Fault::BadProto` where the number is above 2.
-    pub fn from_number(number: u32) -> Result<IfNotExist, Fault>
-        ensures { Gives (λ option. option) result (if_not_exist_of number) }
-    {
-        match number {
-            0 => Ok(IfNotExist::Unspecified),
-            1 => Ok(IfNotExist::Create),
-            2 => Ok(IfNotExist::Fail),
-            _ => Err(Fault::BadProto),
-        }
+/// What to do where the table is absent, by its number in the standard's list.
+///
+/// # Errors
+///
+/// `Fault::BadProto` where the number is above 2.
+pub fn read_if_not_exist(number: u32) -> Result<IfNotExist, Fault>
+    ensures { Gives (λ option. option) result (if_not_exist_of number) }
+{
+    match number {
+        0 => Ok(IfNotExist::Unspecified),
+        1 => Ok(IfNotExist::Create),
+        2 => Ok(IfNotExist::Fail),
+        _ => Err(Fault::BadProto),
     }
 }
 
-/// What to do where the table is there.
-#[derive(Clone, Copy, Debug, PartialEq, Eq)]
-pub enum IfExists {
-    /// The command does not say.
-    Unspecified,
-    /// Refuse the put.
-    Fail,
-    /// Add the rows behind those of the table.
-    Append,
-    /// Put a new table in its place.
-    Replace,
-}
-
-impl IfExists {
-    /// The option of a number of the standard's list.
-    ///
-    /// # Errors
-    ///
-    /// `Fault::BadProto` where the number is above 3.
-    pub fn from_number(number: u32) -> Result<IfExists, Fault>
-        ensures { Gives (λ option. option) result (if_exists_of number) }
-    {
-        match number {
-            0 => Ok(IfExists::Unspecified),
-            1 => Ok(IfExists::Fail),
-            2 => Ok(IfExists::Append),
-            3 => Ok(IfExists::Replace),
-            _ => Err(Fault::BadProto),
-        }
+/// What to do where the table is there, by its number in the standard's list.
+///
+/// # Errors
+///
+/// `Fault::BadProto` where the number is above 3.
+pub fn read_if_exists(number: u32) -> Result<IfExists, Fault>
+    ensures { Gives (λ option. option) result (if_exists_of number) }
+{
+    match number {
+        0 => Ok(IfExists::Unspecified),
+        1 => Ok(IfExists::Fail),
+        2 => Ok(IfExists::Append),
+        3 => Ok(IfExists::Replace),
+        _ => Err(Fault::BadProto),
     }
 }
 
@@ -103,8 +75,8 @@ fn read_statement(value: &[u8]) -> Result<Ingest<'_>, Fault>
     let options = statement
         .table_definition_options
         .unwrap_or(TableDefinitionOptions::empty());
-    let if_not_exist = IfNotExist::from_number(options.if_not_exist)?;
-    let if_exists = IfExists::from_number(options.if_exists)?;
+    let if_not_exist = read_if_not_exist(options.if_not_exist)?;
+    let if_exists = read_if_exists(options.if_exists)?;
     if !is_in_subset(&statement) {
         return Err(Fault::NotInSubset);
     }

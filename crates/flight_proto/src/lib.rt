@@ -23,13 +23,14 @@ pub use crate::any::Any;
 pub use crate::command::Command;
 pub use crate::flight_data::{FlightData, StreamDescriptor, put_flight_data, put_flight_data_head};
 pub use crate::flight_descriptor::FlightDescriptor;
-pub use crate::ingest::{IfExists, IfNotExist, Ingest, read_ingest};
+pub use crate::ingest::{Ingest, read_if_exists, read_if_not_exist, read_ingest};
 pub use crate::message::Message;
 pub use crate::put_result::{DoPutUpdateResult, PutResult, put_rows_put, read_rows_put};
 pub use crate::statement_ingest::{CommandStatementIngest, TableDefinitionOptions};
 pub use crate::ticket::{
     Ticket, TicketStatementQuery, put_statement_ticket, read_statement_handle,
 };
+pub use scan_base::{IfExists, IfNotExist};
 
 #[cfg(test)]
 mod tests;

@@ -340,8 +340,8 @@ fn numbers_of_options(rt: HostRuntime) {
     ];
     for (number, absent, present) in table {
         let read = (
-            IfNotExist::from_number(number),
-            IfExists::from_number(number),
+            crate::read_if_not_exist(number),
+            crate::read_if_exists(number),
         );
         assert_eq!(rt; read, (absent, present), "of {number}");
     }

@@ -1,28 +1,27 @@
 //! The program `flightscan`. Its one command so far is `pipe`.
 #![tactic(auto)]
 
-mod exit_status;
-mod pipe;
-mod run;
-
-use crate::exit_status::ExitStatus;
-use crate::run::run;
+use commands::arguments::refuse_arguments;
+use commands::run::run;
 use grpc_frame::Counted;
+use std::io::ErrorKind;
 use std::process::ExitCode;
 
 fn main(rt: HostRuntime) -> ExitCode {
     let alloc = rt.alloc();
-    let mut status = ExitStatus::BadCommandLine;
-    if let Ok(words) = std::env::args(&rt) {
-        if let Ok(words) = words.collect::<Vec<String>>(alloc) {
-            let mut reader = Counted::new(rt.stdin());
-            let mut writer = Counted::new(rt.stdout());
-            let mut faults = Counted::new(rt.stderr());
-            status = run(alloc, &words, &mut reader, &mut writer, &mut faults);
-        }
-    }
+    let mut faults = Counted::new(rt.stderr());
+    let status = match std::env::args(&rt) {
+        Ok(words) => match words.collect::<Vec<String>>(alloc) {
+            Ok(words) => run(
+                alloc,
+                &words,
+                &mut Counted::new(rt.stdin()),
+                &mut Counted::new(rt.stdout()),
+                &mut faults,
+            ),
+            Err(_) => refuse_arguments(ErrorKind::OutOfMemory, &mut faults),
+        },
+        Err(error) => refuse_arguments(error.kind(), &mut faults),
+    };
     ExitCode::from(status.number())
 }
-
-#[cfg(test)]
-mod tests;

@@ -25,7 +25,8 @@ use Rattle.arrow_schema.specs.Message.{message_bytes, MessageReads}
 use Rattle.arrow_schema.proofs.Messages.{messages_read}
 use Rattle.arrays.specs.declared.layout.Layout.TheVariants as layout
 use Rattle.arrays.specs.Texts.{TextsAt, texts_slot, texts_values}
-use Rattle.arrays.specs.Dictionary.{most_values, extended_by}
+use Rattle.scan_base.specs.Limits.{most_values}
+use Rattle.arrays.specs.Dictionary.{extended_by}
 use Rattle.arrays.specs.Column.{ColumnAt, slot_of, values_of, whole}
 use Rattle.arrays.specs.Batch.{BatchAt}
 use Rattle.arrays.specs.Written.{values_written}

@@ -1,18 +1,24 @@
 -- What holds of all messages.
-use Rattle.std.specs.Prelude.{◌≡◌, ◌↔◌, ◌≤◌, ◌<◌, ◌⊎◌, ◌^◌, ℕ, Bool, true, false, List, ◌∷◌, ◌++◌, length, Some, Ok, Err}
+use Rattle.std.specs.Prelude.{◌≡◌, ◌↔◌, ◌≤◌, ◌<◌, ◌⊎◌, ◌^◌, ℕ, Bool, true, false, List, ◌∷◌, ◌++◌, length, Option, Some, Ok, Err, option_map}
 use Rattle.std.specs.List.{list_any}
 use Rattle.scan_base.specs.declared.fault.Fault.{Fault}
 use Rattle.scan_base.specs.declared.fault.Fault.TheVariants.{BadBatch}
 use Rattle.scan_base.specs.declared.value.Value.{Value}
+use Rattle.flatbuf.specs.Layout.{IsBytes}
 use Rattle.arrow_schema.specs.declared.data_type.DataType.{DataType}
 use Rattle.arrow_schema.specs.declared.schema.Schema.{Schema}
 use Rattle.arrow_schema.specs.Header.{MessageAt, body_length_of}
-use Rattle.arrays.specs.Dictionary.{most_values}
+use Rattle.scan_base.specs.Limits.{most_values}
+use Rattle.arrays.specs.Batch.{BatchAt}
+use Rattle.arrays.specs.Column.{ColumnAt}
+use Rattle.ipc_batch.specs.declared.parts.FieldNode.{FieldNode}
 use Rattle.ipc_batch.specs.declared.parts.BufferPlace.{BufferPlace}
 use Rattle.ipc_batch.specs.Parts.{placed_in, body_claimed}
 use Rattle.ipc_batch.specs.Columns.{values_led_to}
+use Rattle.ipc_batch.specs.Holds.{Source, HoldsColumn}
 use Rattle.ipc_batch.specs.State.{Known, State}
-use Rattle.ipc_batch.specs.Said.{Sent, has_id, leads_to, news_of, glance_of, Rows, Follows, Says, AreWide}
+use Rattle.ipc_batch.specs.Said.{Sent, News, has_id, leads_to, news_of, glance_of, Rows, Follows, Says, AreWide}
+use Rattle.ipc_batch.specs.Brings.{Context, context_of, Brings}
 use Rattle.ipc_batch.specs.Written.{values_after, SaysDictionary}
 
 -- messages say at most one schema and one list of rows
@@ -45,12 +51,28 @@ GlancesComeFirst = (state : State) (sent : Sent) (fault : Fault) →
     glance_of state sent ≡ Err fault → news_of state sent ≡ Err fault
 
 -- A negative number reads as 2 ^ 63 or more. A buffer of such an offset or length lies outside every body that
--- there is, and so does a body of such a length.
+-- there is, and so does a body of such a length. A slot takes a bit at least, so that a body of fewer than 2 ^ 60
+-- bytes has no batch of so many rows, and no node of such a length.
 abbrev pub NegativesLieOutside : Type 0
 NegativesLieOutside = (body : List ℕ) → length body < 2 ^ 63 →
     ((place : BufferPlace) → (2 ^ 63 ≤ place.offset) ⊎ (2 ^ 63 ≤ place.length) → placed_in body place ≡ Err BadBatch)
     × ((message : MessageAt) (claimed : ℕ) → body_length_of message ≡ Ok claimed → 2 ^ 63 ≤ claimed →
     body_claimed message body ≡ Err BadBatch)
+    × ((source : Source) (data_type : DataType) (node : FieldNode) (own : ℕ → Option BufferPlace) (column : ColumnAt) →
+    source.body ≡ body → length body < 2 ^ 60 → HoldsColumn source data_type node own column →
+    (source.rows < 2 ^ 63) × (node.length < 2 ^ 63))
+
+-- a message is read, and leaves behind this, with dictionaries by their ids, and this batch or none
+pub record IsRead (state : State) (sent : Sent) (after : Option Context) (batch : Option BatchAt) : Type 0 where
+  pub news : News
+  pub read : news_of state sent ≡ Ok news
+  pub leaves : option_map context_of news.state ≡ after
+  pub adds : news.batch ≡ batch
+
+-- what is read of a message is just what it brings
+abbrev pub ReadIsBrought : Type 0
+ReadIsBrought = (state : State) (sent : Sent) (after : Option Context) (batch : Option BatchAt) → IsBytes sent.header →
+    IsRead state sent after batch ↔ Brings (option_map context_of state) sent after batch
 
 -- What is known behind a dictionary: the same schema. The indices of its id lead into these values, and those of
 -- each other id to where they led.

@@ -1,6 +1,8 @@
 pub mod Laws
 pub mod Parts
 pub mod Columns
+pub mod Holds
+pub mod Brings
 pub mod Said
 pub mod Seen
 pub mod State

@@ -18,7 +18,7 @@ use Rattle.scan_base.specs.Limits.{most_columns}
 use Rattle.arrow_schema.specs.Written.{flag}
 use Rattle.arrays.specs.declared.layout.Layout.TheVariants.{Texts}
 use Rattle.arrays.specs.Texts.{TextsAt}
-use Rattle.arrays.specs.Dictionary.{most_values}
+use Rattle.scan_base.specs.Limits.{most_values}
 use Rattle.arrays.specs.Column.{ColumnAt, IsColumn, whole}
 use Rattle.arrays.specs.Batch.{BatchAt, AreLong, rows_of}
 use Rattle.arrays.specs.Typed.{AreOfTypes}

@@ -1,8 +1,14 @@
 //! What holds of all messages. Each function here has an empty body: its contract is a law.
 
-ghost use Rattle.ipc_batch.specs.Laws.{SayOneThing, JoinRows, RowsFitSchema};
+ghost use Rattle.ipc_batch.specs.Laws.{ReadIsBrought, SayOneThing, JoinRows, RowsFitSchema};
 ghost use Rattle.ipc_batch.specs.Laws.{GlancesComeFirst, NegativesLieOutside, DictionariesReadBack};
 ghost use Rattle.ipc_batch.specs.Written.{PartsReadBack};
+
+/// What is read of a message, in the order in which it is read, is just what it brings: what `Message.fbs` and the
+/// columnar format, in their own words and in no order, have it say.
+pub fn read_is_brought()
+    ensures { ReadIsBrought }
+{}
 
 /// Messages say at most one schema and one list of rows.
 pub fn messages_say_one_thing()

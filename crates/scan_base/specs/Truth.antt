@@ -58,5 +58,4 @@ truth_from false = False
 -- whether WHERE and ON keep a row
 abbrev pub keeps : Truth → Bool
 keeps True = true
-keeps False = false
-keeps Unknown = false
+keeps _ = false

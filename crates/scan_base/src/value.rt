@@ -12,9 +12,9 @@ use std::alloc::{AllocError, Global};
 use std::cmp::Ordering;
 
 /// A value: a null, a truth value, a whole number (of every integer type and of decimals) or a text. The
-/// derived equality is that of values, where two nulls are equal, and the derived order is that of the
-/// variants as they stand here, for the keys of maps. SQL's comparisons are [`ValueRef::compare`].
-#[derive(Clone, Debug, Drop, PartialEq, Eq, PartialOrd, Ord, Hash)]
+/// derived equality is that of values, where two nulls are equal. SQL's comparisons are
+/// [`ValueRef::compare`].
+#[derive(Debug, Drop, PartialEq, Eq)]
 pub enum Value {
     Null,
     Bool(bool),
@@ -55,7 +55,7 @@ impl Value {
         self == other
     }
 
-    /// A copy of the value, as `clone` gives it.
+    /// A copy of the value.
     ///
     /// # Errors
     ///

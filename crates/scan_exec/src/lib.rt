@@ -9,6 +9,3 @@ pub mod scan;
 mod tree;
 
 pub use crate::scan::Scan;
-
-#[cfg(test)]
-mod tests;

@@ -11,10 +11,3 @@ mod refusal;
 mod tokens;
 
 pub use crate::parsing::parse;
-
-#[cfg(test)]
-mod cases;
-#[cfg(test)]
-mod tests;
-#[cfg(test)]
-mod vectors;

@@ -6,12 +6,8 @@ pub mod laws;
 mod number;
 mod scan;
 pub mod symbol;
-#[cfg(test)]
-mod tests;
 pub mod token;
 mod value;
-#[cfg(test)]
-mod vectors;
 pub mod word;
 
 pub use crate::scan::{MOST_BYTES, tokens};

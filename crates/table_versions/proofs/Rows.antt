@@ -8,10 +8,10 @@ use Rattle.arrow_schema.specs.declared.data_type.DataType.TheVariants.{Integer, 
 use Rattle.arrow_schema.specs.declared.data_type.IntegerType.TheVariants.{Int8, Int64, UInt8}
 use Rattle.arrow_schema.specs.declared.schema.Field.{Field}
 use Rattle.arrays.specs.Batch.{BatchAt}
-use Rattle.table_versions.specs.declared.options.IfExists.{IfExists}
-use Rattle.table_versions.specs.declared.options.IfExists.TheVariants.{Unspecified, Fail, Append, Replace}
-use Rattle.table_versions.specs.declared.options.IfNotExist.{IfNotExist}
-use Rattle.table_versions.specs.declared.options.IfNotExist.TheVariants as absent
+use Rattle.scan_base.specs.declared.put_options.IfExists.{IfExists}
+use Rattle.scan_base.specs.declared.put_options.IfExists.TheVariants.{Unspecified, Fail, Append, Replace}
+use Rattle.scan_base.specs.declared.put_options.IfNotExist.{IfNotExist}
+use Rattle.scan_base.specs.declared.put_options.IfNotExist.TheVariants as absent
 use Rattle.table_versions.specs.Table.{Name, Row, Table}
 use Rattle.table_versions.specs.Database.{Database, Put, after, database_of, version, IsLog, logged}
 use Rattle.table_versions.specs.Stored.{stored_after}

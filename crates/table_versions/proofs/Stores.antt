@@ -10,8 +10,8 @@ use Rattle.std.proofs.lemmas.List.{length-map}
 use Rattle.scan_base.specs.declared.fault.Fault.{Fault}
 use Rattle.scan_base.specs.Reading.{first_fault, unless, GivesUnlessMemory, RefusesFirst}
 use Rattle.arrays.specs.Batch.{BatchAt, rows_of}
-use Rattle.table_versions.specs.declared.options.IfExists.{IfExists}
-use Rattle.table_versions.specs.declared.options.IfExists.TheVariants.{Unspecified, Fail, Append, Replace}
+use Rattle.scan_base.specs.declared.put_options.IfExists.{IfExists}
+use Rattle.scan_base.specs.declared.put_options.IfExists.TheVariants.{Unspecified, Fail, Append, Replace}
 use Rattle.table_versions.specs.Table.{Name}
 use Rattle.table_versions.specs.Database.{Database, table_at, with_table, table_after, faults_at, put_faults, after}
 use Rattle.table_versions.specs.Stored.{TableAt, CatalogAt, PutAt, table_of, plain, tables_of, put_of, kept, stored_after, catalog_after}

@@ -11,9 +11,9 @@ use Rattle.scan_base.specs.declared.fault.Fault.TheVariants.{BadBatch, SchemaMis
 use Rattle.scan_base.specs.Lists.{repeats}
 use Rattle.scan_base.specs.Reading.{first_fault, unless}
 use Rattle.arrow_schema.specs.declared.schema.Field.{Field}
-use Rattle.arrays.specs.Validity.{is_null}
-use Rattle.table_versions.specs.declared.options.IfExists.{IfExists}
-use Rattle.table_versions.specs.declared.options.IfExists.TheVariants.{Unspecified, Fail, Append, Replace}
+use Rattle.scan_base.specs.Value.{is_null}
+use Rattle.scan_base.specs.declared.put_options.IfExists.{IfExists}
+use Rattle.scan_base.specs.declared.put_options.IfExists.TheVariants.{Unspecified, Fail, Append, Replace}
 use Rattle.table_versions.specs.Limits.{most_name_bytes, most_rows}
 use Rattle.table_versions.specs.Table.{Name, Row, Table, same_name, same_fields, has_bad_null, is_long_text}
 use Rattle.table_versions.specs.Database.{Database, Put, table_at, with_table, table_after, columns_of, differs, put_faults, after, accepted, after_all}

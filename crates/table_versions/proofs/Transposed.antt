@@ -5,7 +5,7 @@ use Rattle.std.proofs.lemmas.List.Elements.{recursion_from_All}
 use Rattle.arrow_schema.specs.declared.schema.Field.{Field}
 use Rattle.arrays.specs.Column.{ColumnAt, slot_of}
 use Rattle.arrays.specs.Batch.{BatchAt, AreLong, row_of, rows_of}
-use Rattle.arrays.specs.Validity.{is_null}
+use Rattle.scan_base.specs.Value.{is_null}
 use Rattle.table_versions.specs.Table.{has_bad_null, is_long_text}
 use Rattle.table_versions.specs.Columns.{has_bad_column, is_long_column}
 

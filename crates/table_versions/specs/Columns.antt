@@ -6,7 +6,7 @@ use Rattle.arrays.specs.declared.layout.Layout.{Layout}
 use Rattle.arrays.specs.declared.layout.Layout.TheVariants as layout
 use Rattle.arrays.specs.Batch.{BatchAt, AreLong}
 use Rattle.arrays.specs.Column.{ColumnAt, IsColumn, values_of}
-use Rattle.arrays.specs.Validity.{is_null}
+use Rattle.scan_base.specs.Value.{is_null}
 use Rattle.table_versions.specs.Table.{is_long_text}
 
 -- whether a column that takes no null has one

@@ -9,11 +9,11 @@ use Rattle.scan_base.specs.declared.fault.Fault.{Fault}
 use Rattle.scan_base.specs.declared.fault.Fault.TheVariants.{BadBatch, TableMissing, TableExists, SchemaMismatch, LimitReached}
 use Rattle.scan_base.specs.Reading.{first_fault, unless}
 use Rattle.scan_base.specs.Lists.{repeats}
-use Rattle.table_versions.specs.declared.options.IfExists.{IfExists}
-use Rattle.table_versions.specs.declared.options.IfExists.TheVariants.{Append}
-use Rattle.table_versions.specs.declared.options.IfNotExist.{IfNotExist}
+use Rattle.scan_base.specs.declared.put_options.IfExists.{IfExists}
+use Rattle.scan_base.specs.declared.put_options.IfExists.TheVariants.{Append}
+use Rattle.scan_base.specs.declared.put_options.IfNotExist.{IfNotExist}
 use Rattle.table_versions.specs.Limits.{most_name_bytes, most_rows, most_tables, most_commits}
-use Rattle.table_versions.specs.Options.{refuses_present, refuses_absent}
+use Rattle.scan_base.specs.PutOptions.{refuses_present, refuses_absent}
 use Rattle.table_versions.specs.Table.{Name, Row, Table, same_name, same_fields, has_bad_null, is_long_text}
 
 -- tables by name, in byte order of the names

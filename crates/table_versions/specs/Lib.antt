@@ -1,7 +1,6 @@
 pub mod Batches
 pub mod Limits
 pub mod Table
-pub mod Options
 pub mod Columns
 pub mod Database
 pub mod Stored

@@ -5,9 +5,9 @@ use Rattle.arrow_schema.specs.declared.schema.Schema.{Schema}
 use Rattle.arrays.specs.Batch.{BatchAt, rows_of}
 use Rattle.scan_base.specs.declared.fault.Fault.{Fault}
 use Rattle.scan_base.specs.Reading.{first_fault, unless}
-use Rattle.table_versions.specs.declared.options.IfExists.{IfExists}
-use Rattle.table_versions.specs.declared.options.IfExists.TheVariants.{Append}
-use Rattle.table_versions.specs.declared.options.IfNotExist.{IfNotExist}
+use Rattle.scan_base.specs.declared.put_options.IfExists.{IfExists}
+use Rattle.scan_base.specs.declared.put_options.IfExists.TheVariants.{Append}
+use Rattle.scan_base.specs.declared.put_options.IfNotExist.{IfNotExist}
 use Rattle.table_versions.specs.Table.{Name, Table}
 use Rattle.table_versions.specs.Database.{Database, Put, table_at, with_table, put_faults}
 

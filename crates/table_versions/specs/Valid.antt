@@ -5,7 +5,7 @@ use Rattle.scan_base.specs.Lists.{repeats}
 use Rattle.arrow_schema.specs.declared.schema.Field.{Field}
 use Rattle.arrow_schema.specs.Schema.{IsSchema}
 use Rattle.arrays.specs.Typed.{IsValueOf}
-use Rattle.arrays.specs.Validity.{is_null}
+use Rattle.scan_base.specs.Value.{is_null}
 use Rattle.table_versions.specs.Limits.{most_name_bytes, most_rows}
 use Rattle.table_versions.specs.Table.{Name, Row, Table, same_name, is_long_text}
 use Rattle.table_versions.specs.Database.{Database, Put, version}

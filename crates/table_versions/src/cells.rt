@@ -2,10 +2,9 @@
 
 ghost use Rattle.std.specs.Prelude.{◌≡◌, false, All};
 ghost use Rattle.std.specs.List.{list_any, flat_map};
-ghost use Rattle.scan_base.specs.Value.{value_of};
+ghost use Rattle.scan_base.specs.Value.{value_of, is_null};
 ghost use Rattle.arrays.specs.Batch.{rows_of};
 ghost use Rattle.arrays.specs.Column.{IsColumn, values_of};
-ghost use Rattle.arrays.specs.Validity.{is_null};
 ghost use Rattle.table_versions.specs.Table.{is_long_text, has_bad_null};
 ghost use Rattle.table_versions.specs.Columns.{has_bad_column, is_long_column, may_have_texts, Stands};
 

@@ -19,14 +19,13 @@ use crate::catalog::CatalogVersion;
 use crate::cells::{has_bad_null, has_long_row};
 use crate::fields::{has_repeat, same_fields};
 use crate::limits::{MAX_COMMITS, MAX_NAME_BYTES, MAX_ROWS, MAX_TABLES};
-use crate::options::IfExists;
 use crate::put::Put;
 use crate::snapshot::Snapshot;
 use crate::table::TableVersion;
 use arrays::Batch;
 use arrays::laws::values_are_of_their_type;
 use arrow_schema::Schema;
-use scan_base::{Fault, Text};
+use scan_base::{Fault, IfExists, Text};
 use std::alloc::{AllocError, Global};
 
 fn is_bad_name(name: &Text) -> bool

@@ -9,7 +9,6 @@ mod fields;
 mod handles;
 pub mod laws;
 pub mod limits;
-pub mod options;
 pub mod put;
 pub mod snapshot;
 pub mod table;
@@ -17,10 +16,10 @@ pub mod table;
 pub use crate::catalog::CatalogVersion;
 pub use crate::commit::apply;
 pub use crate::limits::{MAX_COMMITS, MAX_NAME_BYTES, MAX_ROWS, MAX_TABLES, MAX_TEXT_BYTES};
-pub use crate::options::{IfExists, IfNotExist};
 pub use crate::put::Put;
 pub use crate::snapshot::Snapshot;
 pub use crate::table::TableVersion;
+pub use scan_base::{IfExists, IfNotExist};
 
 #[cfg(test)]
 mod tests;

@@ -6,10 +6,9 @@ ghost use Rattle.arrays.specs.Batch.{BatchAt};
 ghost use Rattle.arrays.specs.Typed.{AreOfTypes};
 ghost use Rattle.table_versions.specs.Stored.{put_of};
 
-use crate::options::{IfExists, IfNotExist};
 use arrays::Batch;
 use arrow_schema::Schema;
-use scan_base::Text;
+use scan_base::{IfExists, IfNotExist, Text};
 use std::marker::Model;
 
 /// Batches for a table, and what to do where the table is absent and where it is there. The schema

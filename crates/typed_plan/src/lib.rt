@@ -15,6 +15,3 @@ pub use crate::binding::bind;
 pub use crate::class::Class;
 pub use crate::plan::{Columns, Output, Plan, TypedPlan};
 pub use crate::selection::MAX_COLUMNS;
-
-#[cfg(test)]
-mod tests;

@@ -1,6 +1,6 @@
 use Rattle.std.proofs.Common.{◌≡◌, map, take}
 use Rattle.std.specs.Arc.{arc_value}
-use Rattle.arrays.specs.Dictionary.{runs_values}
+use Rattle.arrays.specs.inside.Runs.{runs_values}
 use Rattle.arrays.proofs.runs.joined.Given as goal
 
 abbrev pub invariant-loop-run : goal.invariant-loop-run

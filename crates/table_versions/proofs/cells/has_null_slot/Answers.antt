@@ -1,6 +1,6 @@
 use Rattle.std.proofs.Common.{◌∙◌, sym, refl}
 use Rattle.arrays.specs.Column.{slot_of}
-use Rattle.arrays.specs.Validity.{is_null}
+use Rattle.scan_base.specs.Value.{is_null}
 use Rattle.table_versions.proofs.Transposed.{any_from}
 use Rattle.table_versions.proofs.cells.has_null_slot.Goals as goal
 

@@ -1,7 +1,7 @@
 use Rattle.std.proofs.Common.{◌≡◌, ◌-◌, map}
 use Rattle.std.specs.List.{list_any, range_with_len}
 use Rattle.arrays.specs.Column.{slot_of, values_of}
-use Rattle.arrays.specs.Validity.{is_null}
+use Rattle.scan_base.specs.Value.{is_null}
 use Rattle.table_versions.proofs.cells.has_null_slot.Given as goal
 
 abbrev pub invariant-loop-j : goal.invariant-loop-j

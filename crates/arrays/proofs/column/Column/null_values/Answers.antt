@@ -1,5 +1,5 @@
 use Rattle.std.proofs.Common.{◌≡◌, true, false, sym, ◌∙◌, arith}
-use Rattle.arrays.specs.Validity.{is_null}
+use Rattle.scan_base.specs.Value.{is_null}
 use Rattle.arrays.specs.Column.{slot_of}
 use Rattle.arrays.proofs.NullSlots.{count_null, count_other}
 use Rattle.arrays.proofs.column.Column.null_values.Goals.{then-has_null, else-has_null}

@@ -1,7 +1,7 @@
 use Rattle.std.proofs.Common.{◌≡◌, ◌+◌, ◌≤◌, length}
 use Rattle.arrays.proofs.Rest.{rest_of}
 use Rattle.std.specs.List.{filter}
-use Rattle.arrays.specs.Validity.{is_null}
+use Rattle.scan_base.specs.Value.{is_null}
 use Rattle.arrays.specs.Nulls.{null_count}
 use Rattle.arrays.proofs.column.Column.null_values.Given as goal
 

@@ -1,6 +1,6 @@
 use Rattle.std.proofs.Common.{◌≡◌, ◌+◌, ◌*◌, ◌-◌, ◌<◌, List, Bool, not, length, take, drop, min, cond, sym, ap, ◌∙◌, arith}
 use mir.Val.{bool_byte}
-use Rattle.arrays.specs.Validity.{is_null}
+use Rattle.scan_base.specs.Value.{is_null}
 use Rattle.arrays.specs.Column.{slot_of}
 use Rattle.std.proofs.lemmas.List.{drop_all, length-drop}
 use Rattle.bitmap.proofs.Masks.{mask_room, byte_cond, byte_small}

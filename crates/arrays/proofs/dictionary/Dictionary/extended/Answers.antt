@@ -2,7 +2,7 @@ use Rattle.std.proofs.Common.{◌≡◌, ◌≤◌, ◌+◌, ◌∙◌, ◌++◌
 use Rattle.std.proofs.lemmas.List.{append-nil, nil_from_length}
 use Rattle.scan_base.specs.declared.value.Value.{Value}
 use Rattle.arrays.specs.Texts.{TextsAt, texts_values}
-use Rattle.arrays.specs.Dictionary.{most_values}
+use Rattle.scan_base.specs.Limits.{most_values}
 use Rattle.arrays.proofs.Joined.{dictionary_more, extended_is}
 use Rattle.arrays.proofs.dictionary.Dictionary.extended.Goals as goal
 

@@ -1,6 +1,6 @@
-use Rattle.std.proofs.Common.{◌≡◌, refl, arith}
+use Rattle.std.proofs.Common.{refl, arith}
 use Rattle.std.proofs.lemmas.List.Folds.{list_any-append}
-use Rattle.arrays.specs.Validity.{is_null}
+use Rattle.scan_base.specs.Value.{is_null}
 use Rattle.arrays.specs.Texts.{texts_slot, texts_values}
 use Rattle.arrays.proofs.NoNulls.{none_listed}
 use Rattle.arrays.proofs.dictionary.Dictionary.may_have_nulls.Goals as goal

@@ -2,7 +2,7 @@ use Rattle.std.proofs.Common.{◌≡◌, false, refl, unwrap_or}
 use Rattle.std.specs.List.{list_any}
 use Rattle.scan_base.specs.declared.value.Value.TheVariants.{Null, Bool, Int, Text}
 use Rattle.arrays.specs.Number.{integer_at, decimal_at}
-use Rattle.arrays.specs.Validity.{is_null}
+use Rattle.scan_base.specs.Value.{is_null}
 use Rattle.arrays.specs.Texts.{text_at}
 use Rattle.arrays.specs.Indices.{entry_of}
 use Rattle.arrays.proofs.NullSlots.{led_valid}

@@ -2,7 +2,7 @@ use Rattle.std.proofs.Common.{◌≡◌, ◌∙◌, ◌+◌, List, length, map, 
 use Rattle.std.specs.Arc.{arc_value}
 use Rattle.std.proofs.lemmas.List.{length-append}
 use Rattle.arrays.specs.Texts.{TextsAt, texts_values}
-use Rattle.arrays.specs.Dictionary.{parts_values}
+use Rattle.arrays.specs.inside.Runs.{parts_values}
 use Rattle.arrays.proofs.Entries.{length-texts_values}
 use Rattle.arrays.proofs.Joined.{values_within}
 use Rattle.arrays.proofs.runs.Run.followed_by.Goals as goal

@@ -3,7 +3,7 @@ use Rattle.std.specs.Arc.{arc_value}
 use Rattle.std.proofs.lemmas.List.{get_or_default, get_or-map, length-map}
 use Rattle.scan_base.specs.declared.value.Value.{Value}
 use Rattle.arrays.specs.Texts.{TextsAt, texts_slot}
-use Rattle.arrays.specs.Dictionary.{parts_values}
+use Rattle.arrays.specs.inside.Runs.{parts_values}
 use Rattle.arrays.proofs.Entries.{in_parts}
 use Rattle.arrays.proofs.Joined.{in_last}
 use Rattle.arrays.proofs.runs.Run.value_at.Goals as goal

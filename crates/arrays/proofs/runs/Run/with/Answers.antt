@@ -1,7 +1,7 @@
-use Rattle.std.proofs.Common.{◌≡◌, ◌∙◌, ◌+◌, ◌++◌, ◌∷◌, ◌<◌, ◌≤◌, [], ℕ, List, Bool, false, true, length, map, ap, sym, refl, arith}
+use Rattle.std.proofs.Common.{◌≡◌, ◌∙◌, ◌+◌, ◌++◌, ◌∷◌, ◌<◌, ◌≤◌, [], ℕ, List, false, true, length, map, ap, sym, arith}
 use Rattle.std.specs.Arc.{arc_value}
 use Rattle.std.proofs.lemmas.List.{map-append}
-use Rattle.arrays.specs.Validity.{is_null}
+use Rattle.scan_base.specs.Value.{is_null}
 use Rattle.arrays.specs.Texts.{TextsAt, texts_slot}
 use Rattle.arrays.proofs.Joined.{run_more}
 use Rattle.arrays.proofs.runs.Run.with.Goals as goal

@@ -1,7 +1,7 @@
 use Rattle.std.proofs.Common.{◌≡◌, ◌∙◌, ◌+◌, ◌-◌, ◌<◌, ◌≤◌, ℕ, List, length, map, drop, slice_get, ap, sym, arith}
 use Rattle.std.specs.Arc.{arc_value}
 use Rattle.scan_base.specs.declared.value.Value.{Value}
-use Rattle.arrays.specs.Dictionary.{runs_values}
+use Rattle.arrays.specs.inside.Runs.{runs_values}
 use Rattle.arrays.proofs.Entries.{within_list, behind_list}
 use Rattle.arrays.proofs.Joined.{values_ahead}
 use Rattle.arrays.proofs.runs.Runs.get.Goals as goal

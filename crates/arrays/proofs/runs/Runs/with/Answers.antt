@@ -1,9 +1,9 @@
-use Rattle.std.proofs.Common.{◌≡◌, ◌∙◌, ◌++◌, ◌-◌, ◌≤◌, List, length, map, take, drop, ap, sym, arith}
+use Rattle.std.proofs.Common.{◌≡◌, ◌∙◌, ◌++◌, List, length, map, ap, arith}
 use Rattle.std.specs.Arc.{arc_value}
 use Rattle.std.proofs.lemmas.List.{take_rest}
 use Rattle.scan_base.specs.declared.value.Value.{Value}
 use Rattle.arrays.specs.Texts.{TextsAt, texts_values}
-use Rattle.arrays.specs.Dictionary.{runs_values}
+use Rattle.arrays.specs.inside.Runs.{runs_values}
 use Rattle.arrays.proofs.Joined.{values_left, runs_with}
 use Rattle.arrays.proofs.runs.Runs.with.Goals as goal
 

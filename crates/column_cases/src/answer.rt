@@ -1,0 +1,111 @@
+//! What is said of a case.
+
+ghost use Rattle.std.specs.Prelude.{◌<◌, length};
+ghost use Rattle.arrays.specs.Written.{buffers_written};
+
+use crate::case::Case;
+use crate::made::layout;
+use arrays::{Batch, Cells, Column};
+use scan_base::{Fault, ValueRef};
+use std::alloc::Global;
+use std::io;
+
+/// Says the slots and the buffers of a line's column, or why it is refused. Of many slots or bytes it says a sum.
+pub(crate) fn answer(rt: &impl Print, alloc: Global, line: &str) -> io::Result<()> {
+    match kept(alloc, line) {
+        Ok(batch) => tell_all(rt, alloc, batch.columns()),
+        Err(fault) => println!(rt; "{fault}"),
+    }
+}
+
+// The slots that a line keeps, as a batch of one column.
+fn kept(alloc: Global, line: &str) -> Result<Batch, Fault> {
+    let case = Case::read(line).ok_or(Fault::UnknownCommand)?;
+    let column = Column::new(layout(alloc, &case)?);
+    let rows = column.len();
+    if case.from > case.to || case.to > rows {
+        return Err(Fault::UnknownCommand);
+    }
+    let batch = Batch::new(vec![in alloc; column]?, rows);
+    Ok(batch.slice(alloc, case.from, case.to)?)
+}
+
+fn tell_all(rt: &impl Print, alloc: Global, columns: &[Column]) -> io::Result<()> {
+    for column in columns {
+        tell(rt, alloc, column)?;
+    }
+    Ok(())
+}
+
+fn tell(rt: &impl Print, alloc: Global, column: &Column) -> io::Result<()> {
+    print!(rt; "{} slots, {} null:", column.len(), column.null_count())?;
+    if column.len() <= 20 {
+        tell_slots(rt, column)?;
+    } else {
+        print!(rt; " sum {}", sum_of_slots(column))?;
+    }
+    for index in 0..column.buffer_count() {
+        tell_buffer(rt, alloc, column, index)?;
+    }
+    println!(rt)
+}
+
+// Each slot's value.
+fn tell_slots(rt: &impl Print, column: &Column) -> io::Result<()> {
+    for place in 0..column.len() {
+        match column.value_at(place) {
+            ValueRef::Null => print!(rt; " null")?,
+            ValueRef::Bool(flag) => print!(rt; " {flag}")?,
+            ValueRef::Int(number) => print!(rt; " {number}")?,
+            ValueRef::Text(text) => print!(rt; " '{text}'")?,
+        }
+    }
+    Ok(())
+}
+
+// A number that all slots' values make, in order: of a null, of 1 or 2, of 16 bytes, or of a text's bytes and an end.
+fn sum_of_slots(column: &Column) -> u32 {
+    let mut sum = 0;
+    for place in 0..column.len() {
+        sum = match column.value_at(place) {
+            ValueRef::Null => summed(sum, &[0]),
+            ValueRef::Bool(flag) => summed(sum, &[1 + u8::from(flag)]),
+            ValueRef::Int(number) => summed(sum, &number.to_le_bytes()),
+            ValueRef::Text(text) => summed(summed(sum, text.as_bytes()), &[255]),
+        };
+    }
+    sum
+}
+
+// A sum with bytes behind those that made it.
+fn summed(sum: u32, bytes: &[u8]) -> u32 {
+    let mut all = sum;
+    for byte in bytes {
+        all = all.wrapping_mul(31).wrapping_add(u32::from(*byte));
+    }
+    all
+}
+
+// How many bytes a buffer has where it is written, and those bytes.
+fn tell_buffer(rt: &impl Print, alloc: Global, column: &Column, index: usize) -> io::Result<()>
+    requires { index < length (buffers_written column.now) }
+{
+    let length = column.buffer_length(index);
+    if length.is_none() || column.texts_length().is_none() {
+        return print!(rt; " | too long");
+    }
+    let mut bytes = Vec::new(alloc);
+    column.append_buffer(index, &mut bytes)?;
+    tell_bytes(rt, length, bytes.as_slice())
+}
+
+fn tell_bytes(rt: &impl Print, length: Option<usize>, bytes: &[u8]) -> io::Result<()> {
+    print!(rt; " | {}: ", length.unwrap_or(0))?;
+    if bytes.len() > 64 {
+        return print!(rt; "sum {}", summed(0, bytes));
+    }
+    for byte in bytes {
+        print!(rt; "{byte:02x}")?;
+    }
+    Ok(())
+}

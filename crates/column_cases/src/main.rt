@@ -1,0 +1,17 @@
+//! Columns from the buffers of a line, cut and written back: an answer for each line.
+#![tactic(auto)]
+
+mod answer;
+mod buffers;
+mod case;
+mod made;
+
+use crate::answer::answer;
+use std::io;
+
+fn main(rt: HostRuntime) -> io::Result<()> {
+    for line in rt.lines(rt.alloc()) {
+        answer(&rt, rt.alloc(), line?.as_str())?;
+    }
+    Ok(())
+}

@@ -1,0 +1,37 @@
+//! `flightscan pipe`: one connection, from a reader to a writer.
+
+ghost use Rattle.std.specs.Prelude.{◌<◌, []};
+ghost use Rattle.flight_core.specs.Machine.{Log};
+ghost use Rattle.flight_calls.specs.Owed.{connection_of};
+ghost use Rattle.commands.specs.Pipe.{Pipes};
+
+use crate::ending::end_by_fault;
+use crate::exit_status::ExitStatus;
+use flight_calls::serve_alone;
+use grpc_frame::{Input, Output};
+use std::alloc::Global;
+
+/// Serves one connection, from the reader to the writer, on a catalog that is empty at first. It is done at the
+/// input's end. A fault of this end is printed on `faults` in a line, as far as that takes it.
+pub fn pipe<R: Input, W: Output, E: Output>(
+    alloc: Global,
+    reader: &mut R,
+    writer: &mut W,
+    faults: &mut E,
+) -> ExitStatus
+    requires reads { R.failures reader.old < 18446744073709551615 }
+    requires writes { W.failures writer.old < 18446744073709551615 }
+    requires prints { E.failures faults.old < 18446744073709551615 }
+    ensures { (log : Log) × Pipes result
+        (connection_of (R.remaining reader.old) (W.contents writer.old)
+        (R.failures reader.old) (W.failures writer.old) [])
+        (connection_of (R.remaining reader.new) (W.contents writer.new)
+        (R.failures reader.new) (W.failures writer.new) log)
+        (record { bytes = E.contents faults.old; failures = E.failures faults.old })
+        (record { bytes = E.contents faults.new; failures = E.failures faults.new }) }
+{
+    match serve_alone(alloc, reader, writer) {
+        Ok(()) => ExitStatus::Done,
+        Err(fault) => end_by_fault(faults, fault),
+    }
+}

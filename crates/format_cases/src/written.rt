@@ -1,0 +1,70 @@
+//! Messages that are read and written again.
+
+use crate::bytes_text::Hex;
+use bytes::Bytes;
+use flight_proto::{
+    Any, CommandStatementIngest, DoPutUpdateResult, FlightData, FlightDescriptor, Message,
+    PutResult, StreamDescriptor, Ticket, TicketStatementQuery, put_flight_data,
+    put_flight_data_head, put_rows_put, put_statement_ticket, read_rows_put, read_statement_handle,
+};
+use proto_wire::{Fields, put_field};
+use scan_base::Fault;
+use std::alloc::Global;
+
+/// The bytes that are written for what a message of this kind says.
+pub fn answer(alloc: Global, kind: &str, bytes: &[u8]) -> Result<String, Fault> {
+    let mut out = Vec::new(alloc);
+    write(&mut out, kind, bytes)?;
+    let out = Hex(&out);
+    Ok(format!(in alloc; "{out}")?)
+}
+
+fn write(out: &mut Vec<u8>, kind: &str, bytes: &[u8]) -> Result<(), Fault> {
+    match kind {
+        "write_fields" => fields(out, bytes)?,
+        "write_DoPutUpdateResult" => DoPutUpdateResult::read(bytes)?.put(out)?,
+        "write_rows_put" => put_rows_put(out, read_rows_put(bytes)?)?,
+        "write_PutResult" => PutResult::read(bytes)?.put(out)?,
+        "write_Ticket" => Ticket::read(bytes)?.put(out)?,
+        "write_TicketStatementQuery" => TicketStatementQuery::read(bytes)?.put(out)?,
+        "write_handle" => put_statement_ticket(out, read_statement_handle(bytes)?)?,
+        "write_Any" => Any::read(bytes)?.put(out)?,
+        "write_FlightDescriptor" => FlightDescriptor::read(bytes)?.put(out)?,
+        "write_CommandStatementIngest" => CommandStatementIngest::read(bytes)?.put(out)?,
+        "write_FlightData" => data(out, bytes)?,
+        "write_head" => head(out, bytes)?,
+        _ => return Err(Fault::UnknownMethod),
+    }
+    Ok(())
+}
+
+fn fields(out: &mut Vec<u8>, bytes: &[u8]) -> Result<(), Fault> {
+    let mut fields = Fields::new(bytes);
+    for _ in 0..bytes.len() {
+        let Some(field) = fields.next()? else {
+            break;
+        };
+        put_field(out, &field)?;
+    }
+    Ok(())
+}
+
+fn data(out: &mut Vec<u8>, bytes: &[u8]) -> Result<(), Fault> {
+    let stream = StreamDescriptor::read(bytes)?;
+    let message = Bytes::copy_from_slice(*out.allocator(), bytes)?;
+    let data = FlightData::read(&message)?;
+    let (header, body) = (data.data_header.as_slice(), data.data_body.as_slice());
+    put_flight_data(out, stream.descriptor.as_ref(), header, body)?;
+    Ok(())
+}
+
+fn head(out: &mut Vec<u8>, bytes: &[u8]) -> Result<(), Fault> {
+    let message = Bytes::copy_from_slice(*out.allocator(), bytes)?;
+    let data = FlightData::read(&message)?;
+    put_flight_data_head(
+        out,
+        data.data_header.as_slice(),
+        data.data_body.len() as u64,
+    )?;
+    Ok(())
+}

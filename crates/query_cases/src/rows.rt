@@ -1,0 +1,109 @@
+//! Queries, and the rows that they give.
+
+use arrays::{Batch, Cells};
+use scan_base::{Fault, ValueRef};
+use scan_exec::Scan;
+use sql_parse::parse;
+use std::alloc::{AllocError, Global};
+use table_versions::CatalogVersion;
+use typed_plan::bind;
+
+// What a scan gave: the cells of its rows, how many batches, and how many batches were opened.
+#[derive(Drop)]
+struct Given {
+    cells: String,
+    batches: usize,
+    opened: usize,
+}
+
+// Appends a cell.
+fn push_cell(alloc: Global, cells: &mut String, value: ValueRef<'_>) -> Result<(), AllocError> {
+    let told = match value {
+        ValueRef::Null => String::from_str(alloc, "null")?,
+        ValueRef::Bool(value) => format!(in alloc; "{value}")?,
+        ValueRef::Int(value) => format!(in alloc; "{value}")?,
+        ValueRef::Text(value) => format!(in alloc; "'{value}'")?,
+    };
+    cells.push_str(told.as_str())
+}
+
+// Appends the cells of a batch, with a comma behind each and a semicolon behind each row.
+fn push_rows(alloc: Global, cells: &mut String, batch: &Batch) -> Result<(), AllocError> {
+    for row in 0..batch.rows() {
+        for column in batch.columns() {
+            push_cell(alloc, cells, column.value_at(row))?;
+            cells.push(',')?;
+        }
+        cells.push(';')?;
+    }
+    Ok(())
+}
+
+// What a query gives of the table's rows `from` up to, not with, `to`.
+fn scanned(
+    alloc: Global,
+    catalog: &CatalogVersion,
+    sql: &str,
+    (from, to): (usize, usize),
+) -> Result<Given, Fault> {
+    let plan = bind(alloc, &parse(alloc, sql)?, catalog)?;
+    let mut scan = Scan::new(alloc, &plan, catalog, from, to)?;
+    let mut cells = String::new(alloc);
+    for batches in 0..usize::MAX {
+        let Some(batch) = scan.next(alloc)? else {
+            let opened = scan.opened();
+            return Ok(Given {
+                cells,
+                batches,
+                opened,
+            });
+        };
+        push_rows(alloc, &mut cells, &batch)?;
+    }
+    Err(Fault::ResultTooLarge)
+}
+
+/// The cells of all rows.
+pub fn all(alloc: Global, catalog: &CatalogVersion, sql: &str) -> Result<String, Fault> {
+    Ok(scanned(alloc, catalog, sql, (0, usize::MAX))?.cells)
+}
+
+/// How many rows there are.
+pub fn count(alloc: Global, catalog: &CatalogVersion, sql: &str) -> Result<String, Fault> {
+    let plan = bind(alloc, &parse(alloc, sql)?, catalog)?;
+    let mut scan = Scan::new(alloc, &plan, catalog, 0, usize::MAX)?;
+    let mut rows = 0_usize;
+    for _ in 0..usize::MAX {
+        let Some(batch) = scan.next(alloc)? else {
+            break;
+        };
+        rows = rows.saturating_add(batch.rows());
+    }
+    Ok(format!(in alloc; "{rows} rows")?)
+}
+
+/// The cells of a range of rows, which stands before the query as `4 6 `, how many batches were given, and how many
+/// were opened.
+pub fn of_range(alloc: Global, catalog: &CatalogVersion, case: &str) -> Result<String, Fault> {
+    let (from, case) = case.split_once(' ').unwrap_or((case, ""));
+    let (to, sql) = case.split_once(' ').unwrap_or((case, ""));
+    let (from, to) = (from.parse().unwrap_or(0), to.parse().unwrap_or(0));
+    let Given {
+        cells,
+        batches,
+        opened,
+    } = scanned(alloc, catalog, sql, (from, to))?;
+    Ok(format!(in alloc; "{cells} {batches} of {opened}")?)
+}
+
+/// The columns of the result.
+pub fn columns(alloc: Global, catalog: &CatalogVersion, sql: &str) -> Result<String, Fault> {
+    let plan = bind(alloc, &parse(alloc, sql)?, catalog)?;
+    let mut told = String::new(alloc);
+    for field in plan.schema().fields.as_slice() {
+        let (name, data_type, nullable) = (field.name.as_str(), field.data_type, field.nullable);
+        let field = format!(in alloc; "{name} {data_type:?} {nullable};")?;
+        told.push_str(field.as_str())?;
+    }
+    Ok(told)
+}

@@ -1,0 +1,154 @@
+#!/usr/bin/env python3
+"""The answers of crates/column_cases, by a second reader.
+
+    python3 scripts/column_answers.py < crates/column_cases/stdin > crates/column_cases/stdout
+
+A line has a type, a number of slots, validity bits, a buffer, what stands behind it, and the slots that are kept:
+from one up to, not with, another. Each slot's value is worked out here from Arrow's columnar format alone, with Python's own
+numbers and texts, and each buffer is written anew from those values. It shares nothing with the program.
+"""
+
+import sys
+
+WIDTHS = {"Int8": 1, "Int16": 2, "Int32": 4, "Int64": 8, "UInt8": 1, "UInt16": 2, "UInt32": 4, "UInt64": 8,
+          "Decimal128": 16}
+BAD = "F8 BadBatch"
+
+
+class Bad(Exception):
+    """The buffers are no column."""
+
+
+def buffer(word):
+    """`-` none, `.` of no byte, `0aff*3` bytes three times, `+5*3` the numbers 0, 5 and 10 in four bytes each."""
+    if word == "-":
+        return None
+    spelled, _, count = word.partition("*")
+    count = int(count or 1)
+    if spelled.startswith("+"):
+        return b"".join((int(spelled) * i).to_bytes(4, "little") for i in range(count))
+    return bytes.fromhex(spelled.replace(".", "")) * count
+
+
+def bits(data, count):
+    """So many bits, the lowest of each byte first."""
+    if 8 * len(data) < count:
+        raise Bad
+    return [data[i // 8] >> i % 8 & 1 == 1 for i in range(count)]
+
+
+def numbers(data, count, width, signed):
+    if len(data) < width * count:
+        raise Bad
+    return [int.from_bytes(data[width * i:width * i + width], "little", signed=signed) for i in range(count)]
+
+
+def texts(valid, offsets, data, count):
+    """The texts that offsets cut. No slots may lack offsets; a null's bytes need be no text."""
+    if count == 0 and not offsets:
+        return []
+    ends = numbers(offsets, count + 1, 4, True)
+    if ends[0] < 0 or any(a > b for a, b in zip(ends, ends[1:])) or ends[-1] > len(data):
+        raise Bad
+    try:
+        return [data[a:b].decode() if ok else None for a, b, ok in zip(ends, ends[1:], valid)]
+    except UnicodeDecodeError:
+        raise Bad from None
+
+
+def valid_slots(word, count):
+    data = buffer(word)
+    return [True] * count if data is None else bits(data, count)
+
+
+def dictionary(word):
+    values = []
+    for part in word.split(";"):
+        times, _, words = part.rpartition("#")
+        count, validity, offsets, data = words.split(":")
+        count = int(count)
+        values += texts(valid_slots(validity, count), buffer(offsets), buffer(data), count) * int(times or 1)
+    return values
+
+
+def slots_of(kind, count, validity, values, behind):
+    """The values of all slots: None for a null."""
+    valid = valid_slots(validity, count)
+    if kind == "Utf8":
+        return texts(valid, buffer(values), buffer(behind), count)
+    if kind == "Bool":
+        cells = bits(buffer(values), count)
+    else:
+        cells = numbers(buffer(values), count, WIDTHS[kind], not kind.startswith("U"))
+    if behind != "-":
+        led_to = dictionary(behind)
+        if any(ok and not 0 <= index < len(led_to) for ok, index in zip(valid, cells)):
+            raise Bad
+        return [led_to[index] if ok else None for ok, index in zip(valid, cells)]
+    return [cell if ok else None for ok, cell in zip(valid, cells)]
+
+
+def packed(flags):
+    return bytes(sum(1 << j for j, flag in enumerate(flags[i:i + 8]) if flag) for i in range(0, len(flags), 8))
+
+
+def written(kind, validity, values, behind, first, slots):
+    """The buffers of the kept slots. Under a null of fixed width stays what stood there."""
+    bitmap = packed([slot is not None for slot in slots]) if None in slots else b""
+    if kind == "Utf8" or behind != "-":
+        cells = [(slot or "").encode() for slot in slots]
+        ends = [0]
+        for cell in cells:
+            ends.append(ends[-1] + len(cell))
+        return [bitmap, b"".join(end.to_bytes(4, "little") for end in ends), b"".join(cells)]
+    data = buffer(values)
+    if kind == "Bool":
+        return [bitmap, packed(bits(data, first + len(slots))[first:])]
+    width = WIDTHS[kind]
+    return [bitmap, data[width * first:width * (first + len(slots))]]
+
+
+def summed(total, data):
+    for byte in data:
+        total = (31 * total + byte) % 2**32
+    return total
+
+
+def sum_of(slots):
+    total = 0
+    for slot in slots:
+        if slot is None:
+            total = summed(total, b"\0")
+        elif isinstance(slot, bool):
+            total = summed(total, bytes([1 + slot]))
+        elif isinstance(slot, int):
+            total = summed(total, slot.to_bytes(16, "little", signed=True))
+        else:
+            total = summed(total, slot.encode() + b"\xff")
+    return total
+
+
+def shown(slot):
+    if slot is None:
+        return "null"
+    if isinstance(slot, bool):
+        return "true" if slot else "false"
+    return str(slot) if isinstance(slot, int) else f"'{slot}'"
+
+
+def answer(line):
+    kind, count, validity, values, behind, first, to = line.split()
+    first, to = int(first), int(to)
+    try:
+        slots = slots_of(kind, int(count), validity, values, behind)[first:to]
+    except Bad:
+        return BAD
+    said = "".join(" " + shown(slot) for slot in slots) if len(slots) <= 20 else f" sum {sum_of(slots)}"
+    parts = [f"{len(slots)} slots, {slots.count(None)} null:{said}"]
+    for data in written(kind, validity, values, behind, first, slots):
+        parts.append(f"{len(data)}: " + (data.hex() if len(data) <= 64 else f"sum {summed(0, data)}"))
+    return " | ".join(parts)
+
+
+for line in sys.stdin:
+    print(answer(line))

@@ -1,0 +1,253 @@
+#!/usr/bin/env python3
+"""Renews what the pages take from the repository, and looks whether what they name is there.
+
+    python3 scripts/pages.py           writes the parts that are made, and tells what is amiss
+    python3 scripts/pages.py --check   writes nothing; ends with 1 where a part is stale or something is amiss
+
+Made: the column "Stands on" of docs/ARCHITECTURE.md, from crates.txt; and the list of files in docs/SEMANTICS.md, from
+what scripts/trusted_base.py counts and what public contracts cite. Looked at, in each page: that the files and headings
+that links lead to are there; that a name in a link to a source file stands in that file; that files and wrong bodies
+named in backticks are there; that code which is shown stands so in a source file; that the tour of docs/SEMANTICS.md
+leaves out no file to believe; and that README.md has at most 10,000 bytes.
+"""
+
+import collections
+import pathlib
+import re
+import sys
+
+sys.dont_write_bytecode = True
+
+import trusted_base  # noqa: E402
+
+TOP = pathlib.Path(__file__).resolve().parent.parent
+CRATES = TOP / "crates"
+README_BYTES = 10_000
+LINK = re.compile(r"\[([^\]]*)\]\(([^)\s]+)\)")
+NAMED_FILE = re.compile(r"`((?:crates/)?(\w+)/(specs|src|proofs|must-fail)/[\w/{}, .-]+)`")
+BEGIN, END = "<!-- made by scripts/pages.py -->", "<!-- end -->"
+
+
+def stands_on():
+    """What each crate of crates.txt stands on."""
+    found = {}
+    for line in (TOP / "crates.txt").read_text().splitlines():
+        if line.strip() and not line.startswith("#"):
+            name, _, below = line.partition(":")
+            found[name.split()[0]] = below.split()
+    return found
+
+
+def with_stands_on(text, amiss):
+    """ARCHITECTURE with its second column as crates.txt has it."""
+    below, lines, inside, seen = stands_on(), [], False, set()
+    for line in text.split("\n"):
+        cells = line.split("|")
+        if line.startswith("| Crate | Stands on |"):
+            inside = True
+        elif inside and not line.startswith("|"):
+            inside = False
+        elif inside and not line.startswith("|---"):
+            name = cells[1].strip().strip("`").split("]")[0].lstrip("[")
+            if name in below:
+                seen.add(name)
+                cells[2] = f" {', '.join(below[name])} " if below[name] else " "
+                line = "|".join(cells)
+            else:
+                amiss.append(f"docs/ARCHITECTURE.md: {name} is not in crates.txt")
+        lines.append(line)
+    amiss.extend(f"docs/ARCHITECTURE.md: no row for {name}" for name in below if name not in seen)
+    return "\n".join(lines)
+
+
+def public_lines(text):
+    """The lines of a source file that a caller of its crate can see: contracts of public functions and of the methods
+    of traits, and what the Models of public types make of them."""
+    public = set(re.findall(r"(?m)^pub (?:struct|enum) (\w+)", text))
+    block, taking, found = "", False, []
+    for line in text.split("\n"):
+        if line and not line[0].isspace():
+            block = line
+        model = re.match(r"impl.* Model for (\w+)", block)
+        if model:
+            taking = model[1] in public and line != "}" and (taking or line == block) and "ghost invariant" not in line
+        head = re.match(r"\s*(pub )?(?:const )?fn ", line)
+        if head and not model:
+            of_trait = block.startswith(("pub trait", "impl")) and (" for " in block or "trait" in block)
+            taking = bool(head[1]) or of_trait and line[0].isspace()
+        if taking:
+            found.append(line)
+        stripped = line.strip()
+        if not model and (stripped == "{" or stripped.endswith("{") and (head or stripped.startswith(")")) or line == "}"):
+            taking = False
+    return found
+
+
+def is_test(path):
+    return "tests" in path.parts or path.stem in ("tests", "vectors", "cases")
+
+
+def public_base(files):
+    """All definitions that a public contract of any crate rests on."""
+    start = set()
+    for path in CRATES.glob("*/src/**/*.rt"):
+        if not is_test(path):
+            text = path.read_text()
+            names, modules = trusted_base.imports_of(text)
+            crate = path.relative_to(CRATES).parts[0]
+            file = {"module": "", "names": names, "modules": modules, "found": {}, "crate": crate}
+            start |= trusted_base.cited(public_lines(text), file, files)
+    return trusted_base.closure(start, files)[0]
+
+
+def trusted(files):
+    """All definitions that the contract of `pipe` rests on."""
+    lines, file = trusted_base.contract_of(*trusted_base.find_pipe())
+    return trusted_base.closure(trusted_base.cited(lines, file, files), files)[0]
+
+
+def list_of_files(amiss):
+    """The files of each crate's specs: those to believe, those of other public calls and laws, and those inside."""
+    files = trusted_base.read_specs()
+    believed = trusted(files)
+    public = {item.path for item in public_base(files).values()}
+    among, sums = {item.path for item in believed.values()}, collections.Counter()
+    for item in believed.values():
+        sums[item.crate in trusted_base.MACHINE] += len(item.lines)
+    rows = [f"{len(believed)} definitions in {len(among)} files: {sum(sums.values())} lines of code, of which {sums[True]} are "
+            f"machine and meaning, and {sums[False]} formats and grammar.", "",
+            "| Crate | To believe | Of other public calls, and of laws | Inside |", "|---|---|---|---|"]
+    unmarked = []
+    for crate in stands_on():
+        specs = CRATES / crate / "specs"
+        kinds = {"believe": [], "stated": [], "inside": []}
+        for path in sorted(specs.rglob("*.antt")):
+            if not any(file["path"] == path and file["found"] for file in files.values()):
+                continue
+            kind = "believe" if path in among else "stated" if path in public else "inside"
+            kinds[kind].append(path.stem)
+            is_marked = path.relative_to(specs).parts[0] == "inside" or path.read_text().startswith("-- Inside")
+            if is_marked and kind != "inside":
+                amiss.append(f"{path.relative_to(TOP)}: marked as inside, but public contracts rest on it")
+            elif kind == "inside" and not is_marked:
+                unmarked.append(f"{crate}/{path.stem}")
+        if any(kinds.values()):
+            rows.append(f"| {crate} | " + " | ".join(", ".join(names) for names in kinds.values()) + " |")
+    if unmarked:
+        print(f"inside, but neither in specs/inside nor begun by 'Inside': {', '.join(unmarked)}")
+    return "\n".join(re.sub(r"\|  (?=\|)", "| ", row) for row in rows)
+
+
+def with_files(text, amiss):
+    """SEMANTICS with its list of files as the count has it."""
+    front, begin, rest = text.partition(BEGIN)
+    _, end, behind = rest.partition(END)
+    if not begin or not end:
+        amiss.append("docs/SEMANTICS.md: no place for the list of files")
+        return text
+    return f"{front}{begin}\n\n{list_of_files(amiss)}\n\n{end}{behind}"
+
+
+def slug(heading):
+    """The anchor of a heading."""
+    words = re.sub(r"[^\w\- ]", "", heading.strip().lower().replace("`", ""))
+    return words.replace(" ", "-")
+
+
+def headings(path):
+    text = re.sub(r"```.*?```", "", path.read_text(), flags=re.S)
+    return {slug(found) for found in re.findall(r"(?m)^#+ (.*)$", text)}
+
+
+def look_at_links(page, text, amiss):
+    """Tells which links of a page lead nowhere, or to a source that lacks the name in them."""
+    where = page.relative_to(TOP)
+    for label, target in LINK.findall(text):
+        if "://" in target:
+            continue
+        path, _, anchor = target.partition("#")
+        to = (page.parent / path).resolve() if path else page
+        if not to.exists():
+            amiss.append(f"{where}: no {target}")
+        elif anchor and anchor not in headings(to):
+            amiss.append(f"{where}: no heading {target}")
+        elif to.suffix in (".antt", ".rt"):
+            source = to.read_text()
+            for name in re.findall(r"`([^`]+)`", label):
+                if not re.search(rf"(?<!\w){re.escape(name.rpartition('::')[2])}(?!\w)", source):
+                    amiss.append(f"{where}: {name} does not stand in {target}")
+
+
+def look_at_names(page, text, amiss):
+    """Tells which files named in backticks are not there."""
+    for whole, crate, _ in NAMED_FILE.findall(text):
+        path = whole.removeprefix("crates/")
+        if not (CRATES / crate).exists():
+            amiss.append(f"{page.relative_to(TOP)}: no crate {crate}")
+        elif "/must-fail/" in path and "." not in path.rpartition("/")[2]:
+            if not (CRATES / f"{path}.edit").exists():
+                amiss.append(f"{page.relative_to(TOP)}: no wrong body {path}")
+        elif not any(char in path for char in "{,") and not (CRATES / path).exists():
+            amiss.append(f"{page.relative_to(TOP)}: no file {path}")
+
+
+def look_at_tour(page, text, amiss):
+    """Tells which files the tour of SEMANTICS names that are not there, and which of those to believe it leaves out."""
+    toured = set()
+    for section in re.split(r"(?m)^## ", text)[1:]:
+        crates = [name for name in re.findall(r"`(\w+)`", section.partition("\n")[0]) if (CRATES / name).exists()]
+        for row in re.findall(r"(?m)^\| (`.*?) \|", section) if crates else []:
+            for name in re.findall(r"(\w+)\.antt|, `(\w+)`", row):
+                found = [path for crate in crates for path in CRATES.glob(f"{crate}/specs/**/{name[0] or name[1]}.antt")]
+                toured |= {(path.relative_to(CRATES).parts[0], path.stem) for path in found}
+                if not found:
+                    amiss.append(f"{page.relative_to(TOP)}: no {name[0] or name[1]}.antt in {', '.join(crates)}")
+    for crate, believed in re.findall(r"(?m)^\| (\w+) \| (\w[^|]*) \|[^|]*\|[^|]*\|$", text):
+        amiss.extend(f"{page.relative_to(TOP)}: the tour leaves out {crate}/{name}" for name in believed.split(", ")
+                     if (CRATES / crate / "specs").exists() and (crate, name) not in toured)
+
+
+def look_at_code(page, text, sources, amiss):
+    """Tells which contracts and definitions that a page shows stand in no source file so."""
+    for kind, shown in re.findall(r"```(rust|antt)\n(.*?)```", text, flags=re.S):
+        if not any(" ".join(shown.split()) in source for source in sources[kind]):
+            amiss.append(f"{page.relative_to(TOP)}: no source has what begins {shown.splitlines()[0]!r}")
+
+
+def pages():
+    yield from sorted(TOP.glob("*.md"))
+    for folder in ("docs", "bench", "vectors", "crates"):
+        yield from sorted(path for path in (TOP / folder).rglob("*.md") if "/out/" not in str(path))
+
+
+def main(words):
+    amiss, stale = [], []
+    for name, renewed in (("docs/ARCHITECTURE.md", with_stands_on), ("docs/SEMANTICS.md", with_files)):
+        path = TOP / name
+        old = path.read_text()
+        new = renewed(old, amiss)
+        if new != old:
+            stale.append(f"{name} {'is stale' if '--check' in words else 'renewed'}")
+            if "--check" not in words:
+                path.write_text(new)
+    sources = {kind: [" ".join(path.read_text().split()) for path in CRATES.glob(pattern)]
+               for kind, pattern in (("rust", "*/src/**/*.rt"), ("antt", "*/specs/**/*.antt"))}
+    for page in pages():
+        text = page.read_text()
+        look_at_code(page, text, sources, amiss)
+        if page.name == "SEMANTICS.md":
+            look_at_tour(page, text, amiss)
+        look_at_links(page, text, amiss)
+        look_at_names(page, text, amiss)
+    listed = stands_on()
+    of_kit = {name for below in listed.values() for name in below} - set(listed)
+    amiss.extend(f"{page}: no word of the kit's {name}" for name in sorted(of_kit) for page in ("README.md", "docs/ARCHITECTURE.md")
+                 if not re.search(rf"(?<![\w]){name}(?![\w])", (TOP / page).read_text()))
+    size = len((TOP / "README.md").read_bytes())
+    if size > README_BYTES:
+        amiss.append(f"README.md has {size} bytes, more than {README_BYTES}")
+    print("\n".join(stale + amiss) or "nothing amiss")
+    return 1 if amiss or stale and "--check" in words else 0
+
+
+sys.exit(main(sys.argv[1:]))

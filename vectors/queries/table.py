@@ -1,0 +1,154 @@
+"""The tables of the cases: as puts of Arrow messages, whose headers arrow/layout.py lays out and which arrow/reader.py
+reads back.
+
+t      two nullable columns of Int64, a and b, in three batches of two rows
+types  a column of every type, in six rows
+large  a column of every type, in 70,000 rows, of which all but two are the same
+"""
+import itertools
+import json
+import pathlib
+import sys
+
+sys.dont_write_bytecode = True
+HERE = pathlib.Path(__file__).parent
+sys.path.append(str(HERE.parent / "arrow"))
+import layout
+from cases import BOOL, DECIMAL, INTS, UTF8, batch, dictionary, encoding, field, integer, offsets, schema
+from reader import Reader
+
+MOST = 10**38 - 1  # of a decimal of 38 digits
+WHOLE = [(("i" if signed else "u") + str(bits), integer(bits, signed)) for _, bits, signed, *_ in INTS]
+OTHERS = [("d", DECIMAL), ("s", UTF8), ("f", BOOL), ("g", BOOL), ("c", None)]
+
+# What each column of `types` holds. Under its null a column of whole numbers holds 1, as in a row that is not null.
+SIX = [("k", integer(8, True), [1, 2, 3, 4, 5, 6])]
+for name, bits, signed, least, most, *_ in INTS:
+    half = 2 ** (bits - 1)
+    rows = [least, None, most, -1, 1, 0] if signed else [0, None, most, half, 1, half - 1]
+    SIX.append((("i" if signed else "u") + str(bits), integer(bits, signed), rows))
+SIX += [
+    ("d", DECIMAL, [-MOST, None, MOST, -1, 1, 0]),
+    ("s", UTF8, ["", None, "\U00010000", "Z", "a", "a "]),
+    ("f", BOOL, [False, None, True, False, True, True]),
+    ("g", BOOL, [True, True, True, False, False, None]),
+    ("c", None, ["", None, "a", "Z", "a", None]),
+]
+# The dictionary of c, with a value that stands twice and one that is null, and the slots of c: the second is null,
+# and the last leads to a null.
+ENTRIES = ["a", "", None, "Z", "a"]
+SLOTS = [1, None, 0, 3, 4, 2]
+
+# The rows of `large`: the last is another one, and so is the one of number 65,536, whose cells are null but for k.
+ROWS, ODD = 70_000, 65_536
+LONG = "b" * 65_536  # the greatest length of a text
+
+
+def bits(flags):
+    return sum(flag << place for place, flag in enumerate(flags)).to_bytes((len(flags) + 7) // 8, "little")
+
+
+def validity(values):
+    return bits([value is not None for value in values]) if None in values else b""
+
+
+def numbers(width, values):
+    """Under a null stands a 1."""
+    return b"".join((1 if value is None else value).to_bytes(width, "little", signed=(value or 0) < 0) for value in values)
+
+
+def texts(values, under="a"):
+    """Under a null stands an 'a'."""
+    parts = [(under if value is None else value).encode() for value in values]
+    return [offsets(*itertools.accumulate(map(len, parts), initial=0)), b"".join(parts)]
+
+
+def column(of, values, slots, under="a"):
+    nulls = values.count(None), validity(values)
+    if of is None:
+        return slots.count(None), validity(slots), numbers(2, [0 if slot is None else slot for slot in slots])
+    if of is UTF8:
+        return *nulls, *texts(values, under)
+    if of is BOOL:
+        return *nulls, bits([value in (True, None) for value in values])
+    return *nulls, numbers(of[1].get("bitWidth", 128) // 8, values)
+
+
+def fields(columns):
+    for name, of, values in columns:
+        if of is None:
+            yield field(name, UTF8, dictionary=encoding(7, integer(16, False)))
+        else:
+            yield field(name, of, None in values)
+
+
+def two_columns():
+    """The three puts of t."""
+    i64 = integer(64, True)
+    for a, b in [([1, None], [10, 20]), ([3, 4], [None, 40]), ([5, 6], [50, 60])]:
+        columns = [("a", i64, a), ("b", i64, b)]
+        heads = schema(field("a", i64, True), field("b", i64, True)), b""
+        yield "t", columns, [heads, batch(2, *(column(i64, values, []) for _, _, values in columns))]
+
+
+def six_rows():
+    """The put of `types`."""
+    entries = dictionary(7, batch(len(ENTRIES), (ENTRIES.count(None), validity(ENTRIES), *texts(ENTRIES))))
+    rows = batch(6, *(column(of, values, SLOTS) for _, of, values in SIX))
+    return "types", SIX, [(schema(*fields(SIX)), b""), entries, rows]
+
+
+def like(first, odd, last):
+    values = [first] * ROWS
+    values[ODD], values[-1] = odd, last
+    return values
+
+
+def many_rows():
+    """The put of `large`."""
+    columns = [("k", integer(32, True), like(1, 3, 2))]
+    columns += [(name, of, like(1, None, 2)) for name, of in [*WHOLE, ("d", DECIMAL)]]
+    columns += [("s", UTF8, like("", None, LONG)), ("f", BOOL, like(False, None, True)), ("c", None, like("x", None, "y"))]
+    entries = dictionary(7, batch(2, (0, b"", *texts(["x", "y"]))))
+    slots = like(0, None, 1)
+    rows = batch(ROWS, *(column(of, values, slots, "") for _, of, values in columns))
+    return "large", columns, [(schema(*fields(columns)), b""), entries, rows]
+
+
+def hexed(data):
+    """Hexadecimal digits, in which what is repeated is written once behind its number."""
+    found, place = "", 0
+    while place < len(data):
+        width, count = max(((width, repeats(data, place, width)) for width in (1, 2, 4, 8, 16)), key=lambda one: one[0] * one[1])
+        if count > 8:
+            found += "{%d:%s}" % (count, data[place : place + width].hex())
+            place += width * count
+        else:
+            found += f"{data[place]:02x}"
+            place += 1
+    return found
+
+
+def repeats(data, place, width):
+    unit, end = data[place : place + width], place + width
+    if len(unit) < width:
+        return 0
+    while data.startswith(unit, end):
+        end += width
+    return (end - place) // width
+
+
+def put(name, columns, messages):
+    """The case of a put, behind what its messages say by another reader."""
+    reader, words = Reader(), []
+    for tree, body in messages:
+        header = layout.written("Message", tree, "packed")
+        answer = reader.message(header, body)
+        words.append(f"{hexed(header)}/{hexed(body)}")
+    wanted = [list(row) for row in zip(*(values for _, _, values in columns))]
+    assert answer == "rows " + json.dumps(wanted), answer
+    return " ".join(["put", name, *words])
+
+
+def puts():
+    return [put(*one) for one in [*two_columns(), six_rows(), many_rows()]]

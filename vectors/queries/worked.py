@@ -1,0 +1,466 @@
+"""Cases whose answers were worked out by hand: by the grammar and the limits, by the rules of binding, and by the
+three-valued logic of SQL-92.
+
+The rows of `types` (table.py), whose number is k:
+
+k  i8 to i64, d  u8 to u64  s        f      g      c
+1  the least     0          ''       FALSE  TRUE   ''
+2  null          null       null     null   TRUE   null
+3  the greatest  all bits   U+10000  TRUE   TRUE   'a'
+4  -1            top bit    'Z'      FALSE  FALSE  'Z'
+5  1             1          'a'      TRUE   FALSE  'a'
+6  0             the rest   'a '     TRUE   null   null
+
+The column c is a dictionary: its 'a' stands there twice, and in row 6 an index leads to a null.
+"""
+
+from table import ODD, ROWS
+
+MISSING, LIMIT, NAME, CLASH, LEFT_OUT = "F9 TableMissing", "F12 LimitReached", "F14 UnknownName", "F15 TypeClash", "F16 NotInSubset"
+
+# Worked rows of the documents.
+DOCUMENTS = r"""
+34 SELECT a FROM t WHERE a BETWEEN 1 2
+F16 SELECT a FROM t WHERE a + 1 = 2
+22 SELECT a FROM t WHERE 'x
+16 SELECT a FROM t;;
+29 SELECT a FROM t WHERE a = --1
+23 SELECT a FROM t WHERE a
+ok select "a""b" from t -- c
+ok SELECT a FROM t WHERE a IS NULL IS NOT TRUE
+F16 SELECT COUNT(*) FROM t JOIN u ON t.a = u.a
+F16 SELECT a FROM t ORDER BY a
+25 SELECT a FROM t WHERE a =
+9 SELECT a,, b FROM t
+"""
+
+# A lexical fault comes first, wherever the grammar is offended and whatever limit is passed.
+LEXICAL = r"""
+14 SELECT a FROM @
+12 SELECT FROM '
+5 FROM @ WHERE
+25 SELECT a FROM t ORDER BY ""
+26 SELECT a a a FROM t WHERE 'x
+30 SELECT a FROM t WHERE a + 1 = 100000000000000000000000000000000000000
+78 SELECT {65:n} FROM @
+282 SELECT a FROM t WHERE {65:NOT }'
+16383 SELECT a FROM t;;{16366: }@
+0 @{16383: }
+F12 @{16384: }
+"""
+
+# Of two faults of the grammar or the limits, that of the first token; of one token, the grammar's; and the two
+# refusals of whole sentences last.
+FIRST = r"""
+18 SELECT a FROM t x y ORDER BY a
+F16 SELECT a FROM t ORDER BY a,, b
+9 SELECT a,, b FROM t ORDER BY a
+F16 SELECT a FROM t ORDER BY {65:n}
+F12 SELECT {65:n} FROM t ORDER BY a
+18 SELECT a FROM t x {65:n}
+F12 SELECT a FROM t{4: JOIN t ON a = a} ORDER BY a
+F16 SELECT a FROM t{3: JOIN t ON a = a} JOIN ORDER
+199 SELECT a{63:, a}, FROM t
+F12 SELECT a{63:, a}, COUNT FROM t
+F12 SELECT a FROM t WHERE a IN (1{255:, 1}, -)
+796 SELECT a FROM t WHERE a IN (1{255:, 1}, )
+86 SELECT a FROM t WHERE {64:(})
+F12 SELECT a FROM t WHERE {65:(})
+22 SELECT a FROM t WHERE ) {65:(}
+43 SELECT COUNT(*) FROM t JOIN u ON t.a = u.a;;
+F12 SELECT COUNT(*) FROM t{4: JOIN t ON a = a}
+27 SELECT * FROM t GROUP BY a,
+F16 SELECT * FROM t GROUP BY a
+F12 SELECT * FROM t GROUP BY a{64:, a}
+"""
+
+# Each limit, at its edge and one past it.
+EDGES = r"""
+ok SELECT a FROM t{16369: }
+F12 SELECT a FROM t{16370: }
+ok SELECT a FROM {64:x}
+F12 SELECT a FROM {65:x}
+ok SELECT a FROM "{64:""}"
+F12 SELECT a FROM "{65:""}"
+ok SELECT a FROM "{32:é}"
+F12 SELECT a FROM "{32:é}x"
+F12 SELECT {65:x}.a FROM t
+F12 SELECT t.{65:x} FROM t
+F12 SELECT a {65:x} FROM t
+F12 SELECT a FROM t AS {65:x}
+F12 SELECT a FROM t JOIN t ON a = {65:x}
+F12 SELECT a FROM t WHERE a IN (1, {65:x})
+F12 SELECT a FROM t GROUP BY {65:x}
+ok SELECT a FROM t WHERE a = '{65:x}'
+ok SELECT a FROM t{3: JOIN t ON a = a}
+F12 SELECT a FROM t{4: JOIN t ON a = a}
+ok SELECT a{63:, a} FROM t
+F12 SELECT a{64:, a} FROM t
+ok SELECT a FROM t GROUP BY a{63:, a}
+F12 SELECT a FROM t GROUP BY a{64:, a}
+ok SELECT a FROM t WHERE a IN (1{255:, 1})
+F12 SELECT a FROM t WHERE a IN (1{256:, 1})
+ok SELECT a{63:, a} FROM t WHERE a IN (1{255:, 1}) OR b NOT IN (2{255:, 2}) GROUP BY a{63:, a}
+ok SELECT a FROM t WHERE {64:NOT }a = 1
+F12 SELECT a FROM t WHERE {65:NOT }a = 1
+ok SELECT a FROM t WHERE {64:(}a = 1{64:)}
+F12 SELECT a FROM t WHERE {65:(}a = 1{65:)}
+ok SELECT a FROM t WHERE {32:NOT (}a = 1{32:)}
+F12 SELECT a FROM t WHERE {32:NOT (}NOT a = 1{32:)}
+F12 SELECT a FROM t WHERE {32:NOT (}(a = 1){32:)}
+ok SELECT a FROM t WHERE {63:(}NOT a = 1{63:)}
+F12 SELECT a FROM t WHERE {64:(}NOT a = 1{64:)}
+ok SELECT a FROM t WHERE {65:NOT a = 1 AND }a = 1
+ok SELECT a FROM t WHERE {65:(a = 1) OR }a = 1
+ok SELECT a FROM t WHERE {64:(}a NOT IN (1){64:)}
+ok SELECT a FROM t WHERE {64:(}a NOT BETWEEN 1 AND 2{64:)}
+ok SELECT a FROM t WHERE {64:(}a IS NOT NULL{64:)}
+ok SELECT a FROM t WHERE {64:(}a = 1 IS NOT TRUE{64:)}
+F12 SELECT a FROM t WHERE {16362:(}
+"""
+
+# Predicates over `t`, and the values of a where each is true.
+PREDICATES = [
+    ("a BETWEEN 3 AND 5", [3, 4, 5]),
+    ("a IS NULL", [None]),
+    ("a NOT IN (1, b)", [4, 5, 6]),
+    ("a = 1 OR b = 40", [1, 4]),
+    ("NOT (a = 1 AND b = 40)", [1, None, 3, 4, 5, 6]),
+    ("(a = 3 AND b = 40) IS UNKNOWN", [3]),
+    ("a = 1 OR NOT b = 10 AND a > 4", [1, 5, 6]),
+    ("a IS NULL IS NOT TRUE", [1, 3, 4, 5, 6]),
+]
+
+# Predicates over `types`, and the rows where each is true: of a column `?` with a sign and its least and greatest number,
+# `[` and `]`.
+SIGNED = [
+    ("i8", "-128", "127"),
+    ("i16", "-32768", "32767"),
+    ("i32", "-2147483648", "2147483647"),
+    ("i64", "-9223372036854775808", "9223372036854775807"),
+    ("d", "-" + "9" * 38, "9" * 38),
+]
+
+OF_SIGNED = [
+    ("? = [", [1]),
+    ("? = ]", [3]),
+    ("? < 0", [1, 4]),
+    ("? <= 0", [1, 4, 6]),
+    ("? > 0", [3, 5]),
+    ("? >= 0", [3, 5, 6]),
+    ("? <> 1", [1, 3, 4, 6]),
+    ("? < [", []),
+    ("? > ]", []),
+    ("? >= ]", [3]),
+    ("[ < ?", [3, 4, 5, 6]),
+    ("NOT ? <= ]", []),
+    ("? BETWEEN -1 AND 1", [4, 5, 6]),
+    ("? NOT BETWEEN 0 AND ]", [1, 4]),
+    ("? BETWEEN 1 AND -1", []),
+    ("? NOT BETWEEN 1 AND -1", [1, 3, 4, 5, 6]),
+    ("? IN ([, 1)", [1, 5]),
+    ("? NOT IN ([, 1)", [3, 4, 6]),
+    ("? IS NULL", [2]),
+    ("? IS NOT NULL", [1, 3, 4, 5, 6]),
+    ("(? = 1) IS NOT TRUE", [1, 2, 3, 4, 6]),
+    ("(? = 1) IS NOT FALSE", [2, 5]),
+    ("(? = 1) IS UNKNOWN", [2]),
+    ("? = ?", [1, 3, 4, 5, 6]),
+    ("? <> ?", []),
+]
+
+# The same of a column without a sign, the number of its top bit, and its greatest number.
+UNSIGNED = [
+    ("u8", "128", "255"),
+    ("u16", "32768", "65535"),
+    ("u32", "2147483648", "4294967295"),
+    ("u64", "9223372036854775808", "18446744073709551615"),
+]
+
+OF_UNSIGNED = [
+    ("? = 0", [1]),
+    ("? = [", [4]),
+    ("? = ]", [3]),
+    ("? = -1", []),
+    ("? < 0", []),
+    ("? >= 0", [1, 3, 4, 5, 6]),
+    ("? < [", [1, 5, 6]),
+    ("? >= [", [3, 4]),
+    ("? > ]", []),
+    ("? <> [", [1, 3, 5, 6]),
+    ("? BETWEEN 1 AND [", [4, 5, 6]),
+    ("? NOT BETWEEN 1 AND [", [1, 3]),
+    ("? IN (0, ])", [1, 3]),
+    ("? NOT IN (1, ])", [1, 4, 6]),
+    ("? IS NULL", [2]),
+    ("(? > [) IS NOT TRUE", [1, 2, 4, 5, 6]),
+]
+
+# Numbers of two types, and numbers that no column of a type holds. All whole numbers are of one class.
+NUMBERS = [
+    ("i8 = i16", [4, 5, 6]),
+    ("i8 > i16", [1]),
+    ("i8 < i16", [3]),
+    ("i16 >= i32", [1, 4, 5, 6]),
+    ("i32 <> i64", [1, 3]),
+    ("i64 < u64", [1, 3, 4, 6]),
+    ("i8 <= u8", [1, 3, 4, 5, 6]),
+    ("u8 = u16", [1, 5]),
+    ("u16 < u32", [3, 4, 6]),
+    ("u32 > u64", []),
+    ("u64 > d", [1, 4, 6]),
+    ("d = i64", [4, 5, 6]),
+    ("d BETWEEN i8 AND u8", [4, 5, 6]),
+    ("u8 NOT IN (0, i8)", [3, 4, 6]),
+    ("k NOT IN (0, i8)", [1, 3, 4, 5, 6]),
+    ("k NOT IN (2, i8)", [1, 3, 4, 5, 6]),
+    ("k IN (2, i8)", [2]),
+    ("(k IN (0, i8)) IS UNKNOWN", [2]),
+    ("(k NOT IN (0, i8)) IS NOT TRUE", [2]),
+    ("i8 < 1000", [1, 3, 4, 5, 6]),
+    ("NOT (i8 < 1000)", []),
+    ("u64 < 18446744073709551616", [1, 3, 4, 5, 6]),
+    ("i64 > -9223372036854775809", [1, 3, 4, 5, 6]),
+    ("i8 = 99999999999999999999999999999999999999", []),
+    ("1 = 2", []),
+]
+
+# Texts are compared by their bytes, without spaces behind the shorter one.
+TEXTS = [
+    ("s = ''", [1]),
+    ("s = 'a'", [5]),
+    ("'a ' = s", [6]),
+    ("s = 'A'", []),
+    ("s <> 'a'", [1, 3, 4, 6]),
+    ("s < 'a'", [1, 4]),
+    ("s <= 'a'", [1, 4, 5]),
+    ("s > 'a'", [3, 6]),
+    ("s > '\uffff'", [3]),
+    ("s < '\uffff'", [1, 4, 5, 6]),
+    ("s = '𐀀'", [3]),
+    ("s BETWEEN 'Z' AND 'a'", [4, 5]),
+    ("s NOT BETWEEN 'Z' AND 'a'", [1, 3, 6]),
+    ("s IN ('a', 'Z')", [4, 5]),
+    ("s NOT IN ('a', 'Z')", [1, 3, 6]),
+    ("s IS NULL", [2]),
+    ("(s = 'a') IS NOT TRUE", [1, 2, 3, 4, 6]),
+    ("'a' = 'a '", []),
+    ("c = 'a'", [3, 5]),
+    ("c <> 'a'", [1, 4]),
+    ("c < 'a'", [1, 4]),
+    ("c >= 'Z'", [3, 4, 5]),
+    ("c BETWEEN '' AND 'Z'", [1, 4]),
+    ("c NOT IN ('a', 'x')", [1, 4]),
+    ("c IS NULL", [2, 6]),
+    ("c IS NOT NULL", [1, 3, 4, 5]),
+    ("(c = 'a') IS NOT TRUE", [1, 2, 4, 6]),
+    ("(c = 'a') IS UNKNOWN", [2, 6]),
+    ("c = s", [1, 4, 5]),
+    ("c < s", [3]),
+    ("NOT c = s", [3]),
+    ("s NOT IN (c, 'Z')", [3]),
+    ("(s IN (c, 'Z')) IS UNKNOWN", [2, 6]),
+]
+
+TRUTH_VALUES = [
+    ("f = TRUE", [3, 5, 6]),
+    ("FALSE = f", [1, 4]),
+    ("f <> FALSE", [3, 5, 6]),
+    ("f < TRUE", [1, 4]),
+    ("f <= FALSE", [1, 4]),
+    ("f > FALSE", [3, 5, 6]),
+    ("f BETWEEN FALSE AND TRUE", [1, 3, 4, 5, 6]),
+    ("f NOT BETWEEN TRUE AND TRUE", [1, 4]),
+    ("f IN (FALSE, g)", [1, 3, 4]),
+    ("f NOT IN (FALSE, g)", [5]),
+    ("(f IN (FALSE, g)) IS UNKNOWN", [2, 6]),
+    ("f IS NULL", [2]),
+    ("(f = TRUE) IS NOT TRUE", [1, 2, 4]),
+    ("(f = TRUE) IS NOT FALSE", [2, 3, 5, 6]),
+    ("f = g", [3, 4]),
+    ("f < g", [1]),
+    ("f > g", [5]),
+    ("f <> g", [1, 5]),
+    ("(f = g) IS UNKNOWN", [2, 6]),
+    ("TRUE = TRUE", [1, 2, 3, 4, 5, 6]),
+    ("FALSE > TRUE", []),
+    ("f = TRUE AND g = TRUE", [3]),
+    ("f = TRUE OR g = TRUE", [1, 2, 3, 5, 6]),
+    ("NOT (f = TRUE AND g = TRUE)", [1, 4, 5]),
+]
+
+# Two classes in one comparison, over `types`.
+CLASHES_OF_TYPES = [
+    "i8 = 'x'",
+    "'x' < u64",
+    "d BETWEEN 1 AND 'x'",
+    "d = f",
+    "i16 NOT IN (1, s)",
+    "s = 1",
+    "s IN ('a', 1)",
+    "s < f",
+    "s <> u8",
+    "c = i8",
+    "c BETWEEN 'a' AND TRUE",
+    "f = 's'",
+    "f IN (TRUE, 0)",
+    "g <> c",
+]
+
+# What stands further to the left is looked at first: of a comparison the two names and then the classes, of BETWEEN and
+# IN the operand and then name and class of each item. The table comes before WHERE, and WHERE before the list.
+UNKNOWN_NAMES = [
+    "SELECT z FROM t",
+    "SELECT A FROM t",
+    "SELECT a, z FROM t",
+    "SELECT t.a FROM t x",
+    "SELECT u.a FROM t",
+    "SELECT x.a FROM t x WHERE t.a = 1",
+    "SELECT z FROM t WHERE a = 1",
+    "SELECT a FROM t WHERE z = 'x'",
+    "SELECT a FROM t WHERE 'x' = z",
+    "SELECT a FROM t WHERE a = z",
+    "SELECT a FROM t WHERE z IS NULL",
+    "SELECT a FROM t WHERE z BETWEEN 'x' AND 1",
+    "SELECT a FROM t WHERE a BETWEEN z AND 'x'",
+    "SELECT a FROM t WHERE 'x' BETWEEN z AND 1",
+    "SELECT a FROM t WHERE a BETWEEN 1 AND z",
+    "SELECT a FROM t WHERE z IN ('x', 1)",
+    "SELECT a FROM t WHERE a IN (z, 'x')",
+    "SELECT a FROM t WHERE a IN (1, z, 'x')",
+    "SELECT a FROM t WHERE z = 1 AND a = 'x'",
+    "SELECT a FROM t WHERE z = 1 OR a = 'x'",
+    "SELECT a FROM t WHERE NOT z = 1 AND a = 'x'",
+    "SELECT a FROM t WHERE (z = 1) IS TRUE OR a = 'x'",
+    "SELECT a FROM t WHERE a = 1 AND (b = 1 OR z = 1) AND a = 'x'",
+    "SELECT a FROM t WHERE z IS NULL AND a = 'x'",
+    "SELECT a FROM t WHERE z NOT IN (1) AND a = 'x'",
+    "SELECT a FROM t WHERE z NOT BETWEEN 1 AND 2 AND a = 'x'",
+]
+
+CLASHES = [
+    "SELECT a FROM t WHERE a = 'x'",
+    "SELECT a FROM t WHERE 'x' < a",
+    "SELECT a FROM t WHERE b <> TRUE",
+    "SELECT a FROM t WHERE TRUE = 'x'",
+    "SELECT z FROM t WHERE a = 'x'",
+    "SELECT a FROM t WHERE a BETWEEN 'x' AND z",
+    "SELECT a FROM t WHERE 'x' BETWEEN a AND z",
+    "SELECT a FROM t WHERE a NOT BETWEEN TRUE AND z",
+    "SELECT a FROM t WHERE a BETWEEN 1 AND 'x'",
+    "SELECT a FROM t WHERE 1 BETWEEN a AND 'x'",
+    "SELECT a FROM t WHERE a IN ('x', z)",
+    "SELECT a FROM t WHERE a IN (1, 'x', z)",
+    "SELECT a FROM t WHERE 'x' NOT IN ('x', 's', b)",
+    "SELECT a FROM t WHERE a = 'x' AND z = 1",
+    "SELECT a FROM t WHERE a = 'x' OR z = 1",
+    "SELECT a FROM t WHERE NOT a = 'x' AND z = 1",
+    "SELECT a FROM t WHERE (a = 'x') IS UNKNOWN OR z = 1",
+    "SELECT a FROM t WHERE a = 1 AND (b = 1 OR a = 'x') AND z = 1",
+]
+
+# Until joins and groups are built these are left out, before all else.
+UNBUILT = [
+    "SELECT COUNT(*) FROM t",
+    "SELECT z, SUM(z) FROM u WHERE z = 'x'",
+    "SELECT a FROM t WHERE a = 'x' GROUP BY z",
+    "SELECT z FROM u GROUP BY a",
+    "SELECT z FROM u JOIN u ON z = z",
+]
+
+# The columns a and b of a range of the rows of `t`, how many batches are given, and of how many that are opened.
+RANGES = [
+    (0, 18446744073709551615, "SELECT b FROM t", [10, 20, None, 40, 50, 60], 3, 3),
+    (1, 4, "SELECT b FROM t", [20, None, 40], 2, 2),
+    (2, 4, "SELECT b FROM t", [None, 40], 1, 1),
+    (1, 5, "SELECT b FROM t", [20, None, 40, 50], 3, 3),
+    (3, 3, "SELECT b FROM t", [], 0, 0),
+    (4, 2, "SELECT b FROM t", [], 0, 0),
+    (5, 100, "SELECT b FROM t", [60], 1, 1),
+    (6, 100, "SELECT b FROM t", [], 0, 0),
+    (0, 6, "SELECT b, a, a FROM t WHERE a = 3", [(None, 3, 3)], 1, 3),
+    (1, 5, "SELECT a FROM t WHERE a >= 3", [3, 4, 5], 2, 3),
+    (0, 6, "SELECT a FROM t WHERE a <> 4", [1, 3, 5, 6], 3, 3),
+    (1, 4, "SELECT a FROM t WHERE a > 4", [], 0, 2),
+    (3, 5, "SELECT * FROM t WHERE b > 0", [(4, 40), (5, 50)], 2, 2),
+    # over the rows 1, null and 3, and over the row (3, null)
+    (0, 3, "SELECT a FROM t WHERE a NOT IN (1)", [3], 1, 2),
+    (0, 3, "SELECT a FROM t WHERE (a = 1) IS UNKNOWN", [None], 1, 2),
+    (2, 3, "SELECT a FROM t WHERE a NOT IN (1, b)", [], 0, 1),
+]
+
+# The columns of a result: names as they are written, the types of answers, and whether they may be null.
+COLUMNS = [
+    ("SELECT b AS c FROM t WHERE a > 5", "c Integer(Int64) true;"),
+    ('SELECT a AS "x""y", a "Ab", b Cd FROM t', 'x"y Integer(Int64) true;Ab Integer(Int64) true;Cd Integer(Int64) true;'),
+    (
+        "SELECT * FROM types",
+        "k Integer(Int8) false;i8 Integer(Int8) true;i16 Integer(Int16) true;i32 Integer(Int32) true;i64 Integer(Int64) true;"
+        "u8 Integer(UInt8) true;u16 Integer(UInt16) true;u32 Integer(UInt32) true;u64 Integer(UInt64) true;"
+        "d Decimal128 true;s Utf8 true;f Bool true;g Bool true;c Utf8 true;",
+    ),
+]
+
+# Of `large`: all rows but two are as the first, one has nulls, and the last is another one. Of each column the first
+# value, the last one, and a predicate that only the last one meets.
+LARGE = [(name, "1", "2", f"{name} > 1") for name in ["i8", "i16", "i32", "i64", "u8", "u16", "u32", "u64", "d"]]
+LARGE += [("s", "''", None, "s >= 'b'"), ("f", "FALSE", "TRUE", "f <> FALSE"), ("c", "'x'", "'y'", "c NOT IN ('x')")]
+
+
+def shown(row):
+    cells = row if isinstance(row, tuple) else (row,)
+    return "".join("null," if cell is None else f"{cell}," for cell in cells) + ";"
+
+
+def rows(query, wanted):
+    return f"rows {query}", "".join(map(shown, wanted))
+
+
+def filled(predicate, names):
+    return "".join(dict(zip("?[]", names)).get(letter, letter) for letter in predicate)
+
+
+def parsed():
+    faults = {"ok": "sentence", "F12": LIMIT, "F16": LEFT_OUT}
+    for line in (DOCUMENTS + LEXICAL + FIRST + EDGES).replace("\n\n", "\n").strip().splitlines():
+        answer, query = line.split(" ", 1)
+        yield f"parse {query}", faults.get(answer, f"F13 BadSql at byte {answer}")
+
+
+def refused():
+    yield "rows SELECT z FROM u WHERE z = 'x'", MISSING
+    yield "rows SELECT * FROM T", MISSING
+    yield from ((f"rows {query}", NAME) for query in UNKNOWN_NAMES)
+    yield from ((f"rows {query}", CLASH) for query in CLASHES)
+    yield from ((f"rows {query}", LEFT_OUT) for query in UNBUILT)
+    yield from ((f"rows SELECT k FROM types WHERE {predicate}", CLASH) for predicate in CLASHES_OF_TYPES)
+
+
+def large():
+    yield "count SELECT * FROM large", f"{ROWS} rows"
+    yield "count SELECT * FROM large WHERE k = 1", f"{ROWS - 2} rows"
+    yield f"range {ODD - 1} {ODD + 2} SELECT k, i8, u64, d, f, c FROM large", "1,1,1,1,false,'x',;3,null,null,null,null,null,;1,1,1,1,false,'x',; 1 of 1"
+    yield rows("SELECT k, i8, u64, d, f, c FROM large WHERE k = 2", [(2, 2, 2, 2, "true", "'y'")])
+    for name, first, last, only in LARGE:
+        where = "SELECT k FROM large WHERE "
+        yield f"count {where}{name} = {first}", f"{ROWS - 2} rows"
+        yield rows(f"{where}{name} IS NULL", [3])
+        yield rows(where + only, [2])
+        if last:
+            yield rows(f"{where}{name} = {last}", [2])
+
+
+def cases():
+    yield from parsed()
+    for predicate, wanted in PREDICATES:
+        yield rows(f"SELECT a FROM t WHERE {predicate}", wanted)
+    for first, last, query, wanted, given, opened in RANGES:
+        yield f"range {first} {last} {query}", "".join(map(shown, wanted)) + f" {given} of {opened}"
+    for names, predicates in [(SIGNED, OF_SIGNED), (UNSIGNED, OF_UNSIGNED)]:
+        for one in names:
+            yield from (rows("SELECT k FROM types WHERE " + filled(predicate, one), wanted) for predicate, wanted in predicates)
+    for predicate, wanted in NUMBERS + TEXTS + TRUTH_VALUES:
+        yield rows(f"SELECT k FROM types WHERE {predicate}", wanted)
+    yield from ((f"columns {query}", wanted) for query, wanted in COLUMNS)
+    yield from refused()
+    yield from large()
