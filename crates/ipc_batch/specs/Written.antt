@@ -10,7 +10,7 @@ use Rattle.flatbuf.specs.Place.{TableAt}
 use Rattle.arrow_schema.specs.declared.schema.Field.{Field}
 use Rattle.arrow_schema.specs.Answer.{answer_type}
 use Rattle.arrow_schema.specs.Header.{MessageAt, message_of, header_of, body_length_of}
-use Rattle.arrow_schema.specs.Limits.{most_columns}
+use Rattle.scan_base.specs.Limits.{most_columns}
 use Rattle.arrays.specs.declared.layout.Layout.TheVariants.{Texts}
 use Rattle.arrays.specs.Texts.{TextsAt}
 use Rattle.scan_base.specs.Limits.{most_values}

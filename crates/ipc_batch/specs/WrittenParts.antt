@@ -8,7 +8,7 @@ use Rattle.flatbuf.specs.Layout.{Stands}
 use Rattle.flatbuf.specs.Block.{Part, Number, Offset, little, padded, table_part, structs_part}
 use Rattle.flatbuf.specs.Written.{table_at}
 use Rattle.arrow_schema.specs.Header.{MessageAt, body_length_of}
-use Rattle.arrow_schema.specs.Limits.{most_columns}
+use Rattle.scan_base.specs.Limits.{most_columns}
 use Rattle.arrow_schema.specs.Written.{flag}
 use Rattle.ipc_batch.specs.declared.parts.FieldNode.{FieldNode}
 use Rattle.ipc_batch.specs.declared.parts.BufferPlace.{BufferPlace}
