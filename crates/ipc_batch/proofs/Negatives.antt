@@ -15,7 +15,7 @@ use Rattle.arrays.specs.Integers.{integers_of}
 use Rattle.arrays.specs.Decimals.{decimals_of}
 use Rattle.arrays.specs.Bools.{bools_of}
 use Rattle.arrays.specs.Indices.{indices_of}
-use Rattle.arrays.specs.Texts.{TextsAt, lack_offsets, texts_stand, texts_of}
+use Rattle.arrays.specs.Texts.{TextsAt, texts_stand, texts_of}
 use Rattle.arrays.specs.Buffers.{values_layout}
 use Rattle.arrays.specs.Column.{ColumnAt}
 use Rattle.scan_base.specs.declared.fault.Fault.TheVariants.{BadBatch}
@@ -84,8 +84,8 @@ unfolding texts_of
 texts_room bits offsets bytes rows cells e =
     let a = bind_ok (validity_of bits rows) _ cells e in
     let made : TextsAt = record { validity = a.0; offsets = offsets; bytes = bytes; len = rows } in
-    let b = bind_ok (demand (lack_offsets made || texts_stand made) BadBatch) _ cells a.2 in
-    elim (either_true (lack_offsets made) (texts_stand made) (demand_ok (lack_offsets made || texts_stand made) BadBatch b.0 b.1)) [
+    let b = bind_ok (demand (texts_stand made) BadBatch) _ cells a.2 in
+    elim (either_true (_) _ (demand_ok (texts_stand made) BadBatch b.0 b.1)) [
       | inl none ↦ (let z = eqb-true rows 0 (and_parts (rows == 0) (length offsets == 0) none).0 in omega arith)
       | inr stand ↦ (let r = leb-true (4 * (rows + 1)) (length offsets) (and_parts (nat_le (4 * (rows + 1)) (length offsets)) _ stand).0 in omega arith)
     ]
