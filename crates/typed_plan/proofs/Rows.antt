@@ -32,7 +32,8 @@ use Rattle.table_versions.specs.declared.options.IfExists.TheVariants as present
 use Rattle.table_versions.specs.declared.options.IfNotExist.TheVariants as absent
 use Rattle.table_versions.specs.Table.{Name, Row}
 use Rattle.table_versions.specs.Database.{Database, Put, version}
-use Rattle.typed_plan.specs.Meaning.{meaning, whole_meaning}
+use Rattle.typed_plan.specs.Meaning.{meaning}
+use Rattle.typed_plan.proofs.Whole.{whole_meaning}
 use Rattle.typed_plan.specs.Bound.{rules_fault, fault_of}
 use Rattle.typed_plan.specs.ResultSchema.{result_schema}
 
