@@ -1,6 +1,7 @@
 -- What reading the tokens to their end tells, by how the code says it.
 use Rattle.std.specs.Prelude.{◌≡◌, List, length, Result, Ok, Err}
-use Rattle.grammar.specs.Sentence.{Offends, Exceeds}
+use Rattle.grammar.specs.Sentence.{Offends}
+use Rattle.grammar.proofs.Telling.{Exceeds}
 use Rattle.sql_parse.specs.declared.refusal.Refusal.{Refusal}
 use Rattle.sql_parse.specs.declared.refusal.Refusal.TheVariants as refusal
 use Rattle.sql_query.specs.Sentence.{Sentence}
