@@ -198,6 +198,3 @@ impl<'a> Table<'a> {
         }
     }
 }
-
-#[cfg(test)]
-mod tests;

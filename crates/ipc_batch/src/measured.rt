@@ -33,7 +33,7 @@ pub struct MeasuredBatch<'a> {
 
 impl<'a> Model for MeasuredBatch<'a> {
     ghost use Rattle.arrays.specs.Batch.{BatchAt};
-    ghost use Rattle.ipc_batch.specs.Written.{IsMeasured};
+    ghost use Rattle.ipc_batch.specs.inside.Measured.{IsMeasured};
 
     ghost Value = { BatchAt };
 

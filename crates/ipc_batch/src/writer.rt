@@ -9,7 +9,7 @@ ghost use Rattle.arrow_schema.specs.Written.{flag};
 ghost use Rattle.arrays.specs.Texts.{texts_values};
 ghost use Rattle.ipc_batch.specs.Written.{body_of, buffers_written, parts_written, body_length};
 ghost use Rattle.ipc_batch.specs.Written.{dictionary_part, values_batch, FitsBatch};
-ghost use Rattle.ipc_batch.specs.Written.{SaysParts, SaysBatch, SaysDictionaryParts, SaysDictionary};
+ghost use Rattle.ipc_batch.specs.Written.{SaysParts, SaysBatch, SaysDictionaryParts, SaysValues};
 ghost use Rattle.ipc_batch.specs.Seen.{written_seen};
 
 use crate::measured::MeasuredBatch;
@@ -126,7 +126,7 @@ pub fn write_dictionary(
     ensures body { IfOk result (λ found. IfSome found (λ message. length message.body.items % 8 ≡ 0)) }
     ensures parts { IfOk result (λ found. IfSome found (λ message. SaysDictionaryParts (written_seen message) id
         (parts_written (values_batch values.now)) is_delta)) }
-    ensures values { IfOk result (λ found. IfSome found (λ message. SaysDictionary (written_seen message) id
+    ensures values { IfOk result (λ found. IfSome found (λ message. SaysValues (written_seen message) id
         (texts_values values.now) is_delta)) }
     ensures zeros { IfOk result (λ found. IfSome found (λ message. message.body.items
         ≡ body_of (buffers_written (values_batch values.now).columns))) }
