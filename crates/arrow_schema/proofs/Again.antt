@@ -1,5 +1,5 @@
 -- A schema that was written is read again.
-use Rattle.std.proofs.Common.{◌≡◌, ◌≢◌, ℕ, suc, ◌+◌, ◌-◌, ◌*◌, ◌^◌, ◌≤◌, ◌<◌, ◌==◌, not, Bool, true, false, List, [], ◌∷◌, ◌++◌, length, map, Option, Some, None, option_map, Result, Ok, Err, refl, arith, ap, ◌∙◌, append-nil}
+use Rattle.std.proofs.Common.{◌≡◌, ◌≢◌, ℕ, suc, ◌+◌, ◌-◌, ◌*◌, ◌^◌, ◌≤◌, ◌<◌, ◌==◌, not, Bool, true, false, List, [], ◌∷◌, ◌++◌, length, map, Option, Some, None, Result, Ok, Err, refl, arith, ap, ◌∙◌, append-nil}
 use Rattle.std.proofs.lemmas.List.{length-append, length-map}
 use Rattle.std.specs.List.{AllByRecursion, range_with_len}
 use Rattle.std.proofs.lemmas.List.Elements.{recursion_from_All}
@@ -31,7 +31,7 @@ use Rattle.arrow_schema.specs.Fields.{table_wanted, vector_wanted, name_of, inte
 use Rattle.arrow_schema.specs.Header.{MessageAt, message_of, field_at, fields_of, schema_in, is_schema, schema_message_of, schema_of}
 use Rattle.arrow_schema.specs.Schema.{IsName, IsType, IsField, IsSchema}
 use Rattle.arrow_schema.specs.Message.{message_part}
-use Rattle.arrow_schema.specs.Written.{given_if, encoding_of, flag, type_number, integer_part, type_part, dictionary_part, dictionary_given, field_slots, field_part, schema_part, schema_bytes, SchemasReadBack}
+use Rattle.arrow_schema.specs.Written.{flag, type_number, integer_part, type_part, dictionary_part, dictionary_given, field_slots, field_part, schema_part, schema_bytes, SchemasReadBack}
 use Rattle.arrow_schema.proofs.Messages.{messages_read, short_message}
 
 -- ---- numbers
@@ -416,18 +416,10 @@ fits_fields schema is =
     let a = short_vector schema.fields is.few (recursion_from_All IsField schema.fields is.fields) in
     omega arith
 
--- what a slot of a dictionary is given, if there is one
-pub given_again : (t : DataType) → given_if (option_map dictionary_part (encoding_of t)) ≡ dictionary_given t
-given_again (Integer integer) = refl
-given_again Utf8 = refl
-given_again Flags = refl
-given_again Decimal128 = refl
-given_again (Dictionary encoding) = refl
-
 pub fits_children : FitsTables []
 fits_children = let s = short_tables [] in omega arith
 
-pub ruleset writing = (fits_dictionary, fits_field, fits_fields, fits_schema, short_schema, given_again, fits_children)
+pub ruleset writing = (fits_dictionary, fits_field, fits_fields, fits_schema, short_schema, fits_children)
 
 -- the message of a schema
 pub short_bytes : (schema : Schema) → IsSchema schema → length (schema_bytes schema) ≤ 2 ^ 15
