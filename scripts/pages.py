@@ -39,7 +39,7 @@ def stands_on():
 
 
 def with_stands_on(text, amiss):
-    """ARCHITECTURE with its second column as crates.txt has it."""
+    """ARCHITECTURE with the links of its first column, and its second one as crates.txt has it."""
     below, lines, inside, seen = stands_on(), [], False, set()
     for line in text.split("\n"):
         cells = line.split("|")
@@ -51,6 +51,8 @@ def with_stands_on(text, amiss):
             name = cells[1].strip().strip("`").split("]")[0].lstrip("[")
             if name in below:
                 seen.add(name)
+                page = f"../crates/{name}/README.md"
+                cells[1] = f" [{name}]({page}) " if (CRATES / name / "README.md").exists() else f" {name} "
                 cells[2] = f" {', '.join(below[name])} " if below[name] else " "
                 line = "|".join(cells)
             else:
