@@ -196,7 +196,11 @@ def look_at_tour(page, text, amiss):
     toured = set()
     for section in re.split(r"(?m)^## ", text)[1:]:
         crates = [name for name in re.findall(r"`(\w+)`", section.partition("\n")[0]) if (CRATES / name).exists()]
-        for row in re.findall(r"(?m)^\| (`.*?) \|", section) if crates else []:
+        said = "".join(path.read_text() for crate in crates for folder in ("specs", "src")
+                       for path in CRATES.glob(f"{crate}/{folder}/**/*.*t*") if path.is_file())
+        for row, says in re.findall(r"(?m)^\| (`.*?) \| (.*?) \|", section) if crates else []:
+            amiss.extend(f"{page.relative_to(TOP)}: {name} does not stand in {', '.join(crates)}"
+                         for name in re.findall(r"`([A-Za-z_]\w*)[^`.]*`", says) if not re.search(rf"(?<!\w){name}(?!\w)", said))
             for name in re.findall(r"(\w+)\.antt|, `(\w+)`", row):
                 found = [path for crate in crates for path in CRATES.glob(f"{crate}/specs/**/{name[0] or name[1]}.antt")]
                 toured |= {(path.relative_to(CRATES).parts[0], path.stem) for path in found}

@@ -27,7 +27,7 @@ LONGEST_FILE = 150
 ITEM = re.compile(r"^(?:unfoldable |opaque )?(?:pub )?(abbrev|record|data|def)?\s*(?:pub )?(\S+)")
 HEADS = ("abbrev", "unfoldable", "opaque", "pub record", "pub data", "record", "data", "pub abbrev", "pub unfoldable")
 WORD = re.compile(r"[^\s(){}\[\],;.@\\]+")
-IMPORT = re.compile(r"^\s*(?:ghost )?use ([\w.]+?)(?:\.\{([^}]*)\}| as (\w+)|)\s*;?\s*$", re.S | re.M)
+IMPORT = re.compile(r"^\s*(?:unfoldable )?(?:pub |ghost )?use ([\w.]+?)(?:\.\{([^}]*)\}| as (\w+)|)\s*;?\s*$", re.S | re.M)
 
 
 class Definition:
@@ -75,7 +75,7 @@ def read_file(crate, path, module):
         if line.lstrip().startswith("--"):
             commented = commented or not line.startswith(" ")
             continue
-        if line.startswith(("use ", "pub mod", "mod ", "infix", "prefix", "postfix", "syntax")):
+        if line.startswith(("use ", "pub use ", "unfoldable pub use ", "pub mod", "mod ", "infix", "prefix", "postfix", "syntax")):
             continue
         if line.startswith(HEADS):
             current = Definition(crate, path, name_of(line), commented)
@@ -171,6 +171,8 @@ def closure(start, files):
                 owners = [found for found, item in file["found"].items()
                           if item.lines[0].startswith(("pub data", "data", "pub record", "record"))
                           and re.search(rf"(?<![\w]){re.escape(name)}\s*:", "\n".join(item.lines))]
+            if not owners and name in file["names"]:
+                todo.append(file["names"][name])
             if not owners:
                 continue
             name = owners[0]

@@ -697,7 +697,7 @@ for place, data, answer, note in [
         note=note)
 add("lying_batch_cut_135", NUMBERS, "F6", "schema_Int64", cut=135)
 
-# 12. What hostile.py changes, byte by byte: a dictionary column of 'x', NULL and 'yz', and a column of texts.
+# 12. What to_cases.py changes, byte by byte: a dictionary column of 'x', NULL and 'yz', and a column of texts.
 
 add("hostile_schema", schema(field("k", UTF8, dictionary=encoding(7, integer(8, True))), field("t", UTF8)),
     says(("k", "dictionary 7 Int8", True), ("t", "Utf8", True)))

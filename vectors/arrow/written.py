@@ -1,22 +1,50 @@
 #!/usr/bin/env python3
-"""Lays out, by the words of ipc_batch's and flatbuf's specs, what our writer writes of three dictionary messages, and
-has flatc read it: it says what flatc's own message of the same name says. Prints the headers as arrays of bytes, for
-src/vectors.rt of ipc_batch, whose tests compare them with the writer's. Needs flatc."""
+"""Lays out, by the words of ipc_batch's and flatbuf's specs, what our writer writes, for `to_cases.py`. Run by itself it
+has flatc read three of the dictionary headers: they say what flatc's own messages of these texts say. That needs flatc."""
 import pathlib
 import struct
 import sys
 import tempfile
 
 sys.dont_write_bytecode = True
-sys.path.append(str(pathlib.Path(__file__).parent.parent))
-from literals import array
-from make import HERE, told
 
-# The names, and of each its id, its delta flag, its rows and nulls, and the lengths of its buffers, by hand.
+# Dictionaries that are written: of each its id, its delta flag, its rows and nulls, and the lengths of its buffers; the
+# texts that are given, by their validity bits, offsets and bytes; and the body by hand. A byte that is no text's own is
+# not written, nor a bit past the length.
+LETTER = "- 0100000002000000 2D"  # one text, behind a byte that is none of its own
 DICTIONARIES = {
-    "dictionary_delta_b": (1, 1, 1, 0, (0, 8, 1)),
-    "dictionary_less_1": (2**64 - 1, 0, 1, 0, (0, 8, 1)),
-    "dictionary_x_null": (1, 0, 2, 1, (1, 12, 1)),
+    "written_a": ((1, 0, 1, 0, (0, 8, 1)), LETTER + "61", "0000000001000000 6100000000000000"),
+    "written_delta_b": ((1, 1, 1, 0, (0, 8, 1)), LETTER + "62", "0000000001000000 6200000000000000"),
+    "written_c": ((1, 0, 1, 0, (0, 8, 1)), LETTER + "63", "0000000001000000 6300000000000000"),
+    "written_greatest_id": ((2**64 - 1, 0, 1, 0, (0, 8, 1)), LETTER + "6D", "0000000001000000 6D00000000000000"),
+    # 'x' and a null, with bits past the length.
+    "written_x_null": ((1, 0, 2, 1, (1, 12, 1)), "FD 000000000100000001000000 78",
+                       "0100000000000000 000000000100000001000000 00000000 7800000000000000"),
+    # 'x', a null whose bytes are 'y', and 'zz', cut from a longer text.
+    "written_with_null": ((0, 0, 3, 1, (1, 16, 3)), "05 01000000020000000300000005000000 7778797A7A77",
+                          "0500000000000000 00000000010000000100000003000000 787A7A0000000000"),
+}
+# What flatc wrote of the same texts.
+COMPARED = {"written_delta_b": "dictionary_delta_b", "written_greatest_id": "dictionary_less_1",
+            "written_x_null": "dictionary_x_null"}
+# What is then read, by hand.
+CASES = [
+    ("schema_of_Int8 written_a written_delta_b indices_1_0", 'rows [["b"], ["a"]]'),
+    ("schema_of_Int8 written_a written_delta_b written_c indices_0", 'rows [["c"]]'),
+    ("schema_of_Int8 written_x_null indices_0_1_null", 'rows [["x"], [null], [null]]'),
+    ("schema_of_negative written_greatest_id indices_of_negative", 'rows [["m"]]'),
+]
+# Batches that are written: of each the rows, the null counts and the lengths of the buffers, and the body by hand.
+BATCHES = {
+    "schema_Int64 batch_Int64_two": ((2, (0,), (0, 16)), "0100000000000000 0200000000000000"),
+    "schema_Bool batch_Bool": ((4, (1,), (1, 1)), "0D00000000000000 0900000000000000"),
+    "schema_Utf8 batch_Utf8_within": ((2, (0,), (0, 12, 2)), "000000000200000002000000 00000000 6162000000000000"),
+    "schema_Utf8 batch_Utf8_null_bytes": ((3, (1,), (1, 16, 2)),
+                                          "0500000000000000 00000000010000000100000002000000 6162000000000000"),
+    # A dictionary of texts is answered as texts.
+    "schema_of_two dictionary_a dictionary_2 indices_two": (
+        (2, (0, 1), (0, 12, 2, 1, 12, 1)), "000000000100000002000000 00000000 6161000000000000"
+        "0200000000000000 000000000000000001000000 00000000 7100000000000000"),
 }
 
 
@@ -42,22 +70,37 @@ def structs(*pairs):
     return padded(struct.pack("<II", 0, len(pairs)) + b"".join(struct.pack("<QQ", *pair) for pair in pairs)), 4
 
 
-def header(id, delta, rows, nulls, lengths):
+def record_batch(rows, nulls, lengths):
+    """The RecordBatch table, and how long its body is."""
     places, end = [], 0
     for length in lengths:
         places.append((end, length))
         end += length + -length % 8
-    values = table(rows, structs((rows, nulls)), structs(*places))
-    message, root = table(4, 2, table(id, values, delta), end)
+    return table(rows, structs(*((rows, count) for count in nulls)), structs(*places)), end
+
+
+def buffer(kind, header, body_length):
+    message, root = table(4, kind, header, body_length)
     return struct.pack("<Q", 8 + root) + message
 
 
+def batch_header(rows, nulls, lengths):
+    values, end = record_batch(rows, nulls, lengths)
+    return buffer(3, values, end)
+
+
+def header(id, delta, rows, nulls, lengths):
+    values, end = record_batch(rows, (nulls,), lengths)
+    return buffer(2, table(id, values, delta), end)
+
+
 def main():
+    from make import HERE, told
+
     with tempfile.TemporaryDirectory() as folder:
-        for name, words in DICTIONARIES.items():
-            data = header(*words)
-            assert told(pathlib.Path(folder), data) == told(pathlib.Path(folder), (HERE / f"{name}.header").read_bytes()), name
-            print(array(f"written_{name}_header", data))
+        for name, other in COMPARED.items():
+            data = header(*DICTIONARIES[name][0])
+            assert told(pathlib.Path(folder), data) == told(pathlib.Path(folder), (HERE / f"{other}.header").read_bytes()), name
 
 
 if __name__ == "__main__":

@@ -1,11 +1,13 @@
 -- A schema that was written is read again.
-use Rattle.std.proofs.Common.{◌≡◌, ℕ, suc, ◌+◌, ◌-◌, ◌*◌, ◌^◌, ◌≤◌, ◌<◌, ◌==◌, not, Bool, true, false, List, [], ◌∷◌, ◌++◌, length, map, Option, Some, None, option_map, Ok, refl, arith, ap, ◌∙◌, append-nil}
+use Rattle.std.proofs.Common.{◌≡◌, ◌≢◌, ℕ, suc, ◌+◌, ◌-◌, ◌*◌, ◌^◌, ◌≤◌, ◌<◌, ◌==◌, not, Bool, true, false, List, [], ◌∷◌, ◌++◌, length, map, Option, Some, None, Result, Ok, Err, refl, arith, ap, ◌∙◌, append-nil}
 use Rattle.std.proofs.lemmas.List.{length-append, length-map}
 use Rattle.std.specs.List.{AllByRecursion, range_with_len}
 use Rattle.std.proofs.lemmas.List.Elements.{recursion_from_All}
 use Rattle.std.proofs.lemmas.Bool.{le-leb, lt-ltb}
+use Rattle.scan_base.specs.declared.fault.Fault.{Fault}
+use Rattle.scan_base.specs.Reading.{◌>>=◌}
 use Rattle.scan_base.specs.Lists.{each}
-use Rattle.flatbuf.specs.Place.{TableAt, VectorAt, scalar_of, table_of, text_of}
+use Rattle.flatbuf.specs.Place.{TableAt, VectorAt, field_of, scalar_at, scalar_of, table_of, text_of}
 use Rattle.flatbuf.specs.Layout.{Stands}
 use Rattle.flatbuf.specs.Block.{IsWhole, Given, Absent, Number, Offset, AreWhole, little, children, table_part, text_part, tables_part, buffer_of}
 use Rattle.flatbuf.proofs.Standing.{length-little}
@@ -25,10 +27,11 @@ use Rattle.arrow_schema.specs.declared.data_type.DictionaryEncoding.{DictionaryE
 use Rattle.arrow_schema.specs.declared.schema.Field.{Field}
 use Rattle.arrow_schema.specs.declared.schema.Schema.{Schema}
 use Rattle.arrow_schema.specs.DataType.{bit_width, is_signed}
-use Rattle.arrow_schema.specs.Header.{MessageAt, message_of, table_wanted, vector_wanted, name_of, integer_type, integer_of, decimal_of, type_kind, type_of, value_type_of, childless, dictionary_of, encoded, field_in, field_at, fields_of, schema_in, is_schema, schema_message_of, schema_of}
+use Rattle.arrow_schema.specs.Fields.{table_wanted, vector_wanted, name_of, integer_type, integer_of, decimal_of, type_kind, type_of, value_type_of, childless, dictionary_of, encoded, field_in}
+use Rattle.arrow_schema.specs.Header.{MessageAt, message_of, field_at, fields_of, schema_in, is_schema, schema_message_of, schema_of}
 use Rattle.arrow_schema.specs.Schema.{IsName, IsType, IsField, IsSchema}
 use Rattle.arrow_schema.specs.Message.{message_part}
-use Rattle.arrow_schema.specs.Written.{given_if, encoding_of, flag, type_number, integer_part, type_part, dictionary_part, dictionary_given, field_slots, field_part, schema_part, schema_bytes, SchemasReadBack}
+use Rattle.arrow_schema.specs.Written.{flag, type_number, integer_part, type_part, dictionary_part, dictionary_given, field_slots, field_part, schema_part, schema_bytes, SchemasReadBack}
 use Rattle.arrow_schema.proofs.Messages.{messages_read, short_message}
 
 -- ---- numbers
@@ -91,12 +94,26 @@ low_number Flags = omega arith
 low_number Decimal128 = omega arith
 low_number (Dictionary encoding) = omega arith
 
-pub stored_number : (t : DataType) → (type_number t == 256) ≡ false
-stored_number (Integer integer) = refl
-stored_number Utf8 = refl
-stored_number Flags = refl
-stored_number Decimal128 = refl
-stored_number (Dictionary encoding) = refl
+some_number : (t : DataType) → 1 ≤ type_number t
+some_number (Integer integer) = omega arith
+some_number Utf8 = omega arith
+some_number Flags = omega arith
+some_number Decimal128 = omega arith
+some_number (Dictionary encoding) = omega arith
+
+-- a number that is not the default was read of a field
+field_there : (width : ℕ) (bytes : List ℕ) (default n : ℕ) (read : Result (Option ℕ) Fault) → n ≢ default → (read >>= λ place. scalar_at width bytes default place) ≡ Ok n → (at : ℕ) × (read ≡ Ok (Some at))
+field_there width bytes default n (Err fault) ne e = absurd (let no : ⊥ = cc in no)
+field_there width bytes default n (Ok None) ne e = absurd (ne (let same : n ≡ default = cc in same))
+field_there width bytes default n (Ok (Some at)) ne e = (at, refl)
+
+-- so is the kind of a type
+pub kind_there : (t : DataType) (table : TableAt) → scalar_of 1 table 2 0 ≡ Ok (type_number t) → (at : ℕ) × (field_of table 2 ≡ Ok (Some at))
+unfolding scalar_of
+kind_there t table number =
+    let some = some_number t in
+    let ne : type_number t ≢ 0 = λ (same : type_number t ≡ 0). omega arith in
+    field_there 1 table.bytes 0 (type_number t) (field_of table 2) ne number
 
 -- ---- types
 
@@ -187,7 +204,7 @@ short_dictionary encoding =
     omega arith
 
 dictionary_again : (encoding : DictionaryEncoding) (bytes : List ℕ) (at : ℕ) → encoding.id < 2 ^ 64 → Stands (dictionary_part encoding).bytes bytes at →
-    dictionary_of Utf8 (table_at bytes at (dictionary_part encoding)) ≡ Ok (Dictionary encoding)
+    dictionary_of (table_at bytes at (dictionary_part encoding)) ≡ Ok (Dictionary encoding)
 unfolding dictionary_part dictionary_of
 dictionary_again encoding bytes at small s =
     let slots = dictionary_slots encoding in
@@ -276,10 +293,11 @@ childless_again table led =
     let s = short_tables [] in
     rw ((led_vector table 5 [] (omega arith) tt led).0) refl
 
-value_type_again : (table : TableAt) (t : DataType) → scalar_of 1 table 2 256 ≡ Ok (type_number t) → LeadsToBlock table 3 (type_part t) → value_type_of table ≡ Ok (values t)
+value_type_again : (table : TableAt) (t : DataType) → scalar_of 1 table 2 0 ≡ Ok (type_number t) → LeadsToBlock table 3 (type_part t) → value_type_of table ≡ Ok (values t)
 unfolding value_type_of table_wanted
 value_type_again table t number led =
-    rw (number, stored_number t, type_kind_again t, led_table table 3 (type_part t) led) (type_again t table.bytes led.place led.stands)
+    let there = kind_there t table number in
+    rw (there.1, number, type_kind_again t, led_table table 3 (type_part t) led) (type_again t table.bytes led.place led.stands)
 
 field_again : (field : Field) (bytes : List ℕ) (at : ℕ) → IsField field → Stands (field_part field).bytes bytes at →
     field_in (table_at bytes at (field_part field)) ≡ Ok field
@@ -295,7 +313,7 @@ field_again field bytes at is s =
     let low = low_flag field.nullable in
     let small = low_number t in
     let nullable : scalar_of 1 table 1 0 ≡ Ok (flag field.nullable) = reads 1 1 0 (omega arith) (omega arith) in
-    let number : scalar_of 1 table 2 256 ≡ Ok (type_number t) = reads 2 1 256 (omega arith) (omega arith) in
+    let number : scalar_of 1 table 2 0 ≡ Ok (type_number t) = reads 2 1 0 (omega arith) (omega arith) in
     let d = encodes table t is.typed (reads 4) in
     rw (name, nullable, value_type_again table t number (reads 3), childless_again table (reads 5), d.found, d.says, flag_again field.nullable) refl
 
@@ -398,18 +416,10 @@ fits_fields schema is =
     let a = short_vector schema.fields is.few (recursion_from_All IsField schema.fields is.fields) in
     omega arith
 
--- what a slot of a dictionary is given, if there is one
-pub given_again : (t : DataType) → given_if (option_map dictionary_part (encoding_of t)) ≡ dictionary_given t
-given_again (Integer integer) = refl
-given_again Utf8 = refl
-given_again Flags = refl
-given_again Decimal128 = refl
-given_again (Dictionary encoding) = refl
-
 pub fits_children : FitsTables []
 fits_children = let s = short_tables [] in omega arith
 
-pub ruleset writing = (fits_dictionary, fits_field, fits_fields, fits_schema, short_schema, given_again, fits_children)
+pub ruleset writing = (fits_dictionary, fits_field, fits_fields, fits_schema, short_schema, fits_children)
 
 -- the message of a schema
 pub short_bytes : (schema : Schema) → IsSchema schema → length (schema_bytes schema) ≤ 2 ^ 15

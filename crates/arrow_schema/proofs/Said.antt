@@ -9,7 +9,7 @@ use Rattle.scan_base.specs.declared.fault.Fault.TheVariants.{BadFlatbuffer, Unsu
 use Rattle.scan_base.specs.Reading.{◌>>=◌, demand, wanted}
 use Rattle.scan_base.specs.Lists.{each, repeats}
 use Rattle.flatbuf.specs.Layout.{TableAt, VectorAt, IsBytes, IsScalar, IsReached, IsTable, IsVector, HasRoot, HasScalar, HasTable, HasVector, HasText, HasElement}
-use Rattle.flatbuf.specs.Place.{root_of, scalar_of, table_of, vector_of, text_of, element_of}
+use Rattle.flatbuf.specs.Place.{root_of, field_of, scalar_of, table_of, vector_of, text_of, element_of}
 use Rattle.flatbuf.proofs.Readings.{seen_finds, seen_root, seen_scalar, seen_table, seen_vector, seen_text, seen_element}
 use Rattle.arrow_schema.specs.declared.header.HeaderKind.{HeaderKind}
 use Rattle.arrow_schema.specs.declared.header.HeaderKind.TheVariants as header
@@ -23,10 +23,11 @@ use Rattle.arrow_schema.specs.declared.data_type.DictionaryEncoding.{DictionaryE
 use Rattle.arrow_schema.specs.declared.schema.Field.{Field}
 use Rattle.arrow_schema.specs.declared.schema.Schema.{Schema}
 use Rattle.arrow_schema.specs.DataType.{bit_width, is_signed}
-use Rattle.arrow_schema.specs.Header.{MessageAt, table_wanted, vector_wanted, header_kind, message_of, is_name, name_of, integer_type, integer_of, decimal_of, type_kind, type_of, value_type_of, is_bare, childless, index_of, is_utf8_type, dictionary_of, encoded, field_in, field_at, fields_of, same_dictionary, is_schema, schema_message_of, schema_in, schema_of}
+use Rattle.arrow_schema.specs.Fields.{table_wanted, vector_wanted, name_of, integer_type, integer_of, decimal_of, type_kind, type_of, value_type_of, is_bare, childless, index_of, dictionary_of, encoded, field_in}
+use Rattle.arrow_schema.specs.Header.{MessageAt, header_kind, message_of, field_at, fields_of, same_dictionary, is_schema, schema_message_of, schema_in, schema_of}
 use Rattle.arrow_schema.specs.Says.{SaysInteger, SaysDecimal, SaysType, SaysIndex, SaysDictionary, SaysEncoding, SaysField, SaysFieldAt, SaysColumns, SaysSchema}
 use Rattle.arrow_schema.specs.Written.{type_number}
-use Rattle.arrow_schema.proofs.Again.{kind_of, type_kind_again, low_number, stored_number}
+use Rattle.arrow_schema.proofs.Again.{kind_of, type_kind_again, kind_there}
 
 -- ---- steps of a reading
 
@@ -99,14 +100,6 @@ vector_same bytes (Some at) found r = r.there.same
 
 pub bytes_vector : (t : TableAt) (slot : ℕ) (found : VectorAt) → IsBytes t.bytes → HasVector t slot (Some found) → IsBytes found.bytes
 bytes_vector t slot found is h = subst IsBytes (sym (vector_same t.bytes h.place found h.reached)) is
-
--- a number that is not the default is stored, whatever the default is
-kept_stored : (width : ℕ) (bytes : List ℕ) (place : Option ℕ) (d e n : ℕ) → n ≢ d → IsScalar width bytes d place n → IsScalar width bytes e place n
-kept_stored width bytes None d e n ne s = absurd (ne s)
-kept_stored width bytes (Some at) d e n ne s = s
-
-stored : (width : ℕ) (t : TableAt) (slot d e n : ℕ) → n ≢ d → HasScalar width t slot d n → HasScalar width t slot e n
-stored width t slot d e n ne h = record { place = h.place; field = h.field; scalar = kept_stored width t.bytes h.place d e n ne h.scalar }
 
 pub wanted_table : (t : TableAt) (slot : ℕ) (found : TableAt) → table_wanted t slot ≡ Ok found → table_of t slot ≡ Ok (Some found)
 unfolding table_wanted
@@ -229,13 +222,6 @@ type_read Flags table is says = refl
 type_read Decimal128 table is says = decimal_read table is says
 type_read (Dictionary encoding) table is says = absurd says
 
-some_number : (t : DataType) → 1 ≤ type_number t
-some_number (Integer integer) = omega arith
-some_number Utf8 = omega arith
-some_number Flags = omega arith
-some_number Decimal128 = omega arith
-some_number (Dictionary encoding) = omega arith
-
 -- the type of a field's values, by its kind and its table
 record SaysValues (field : TableAt) (t : DataType) : Type 0 where
   kind : HasScalar 1 field 2 0 (type_number t)
@@ -246,17 +232,16 @@ record SaysValues (field : TableAt) (t : DataType) : Type 0 where
 values_told : (field : TableAt) (t : DataType) → IsBytes field.bytes → value_type_of field ≡ Ok t → SaysValues field t
 unfolding value_type_of
 values_told field t is e =
-    let a = bind_ok (scalar_of 1 field 2 256) _ t e in
-    let b = bind_ok (demand (not (a.0 == 256)) BadFlatbuffer) _ t a.2 in
-    let c = bind_ok (type_kind a.0) _ t b.2 in
+    let p = bind_ok (field_of field 2) _ t e in
+    let w = bind_ok (wanted p.0 BadFlatbuffer) _ t p.2 in
+    let a = bind_ok (scalar_of 1 field 2 0) _ t w.2 in
+    let c = bind_ok (type_kind a.0) _ t a.2 in
     let d = bind_ok (table_wanted field 3) _ t c.2 in
     let typed = says_table field 3 (Some d.0) is (wanted_table field 3 d.0 d.1) in
     let told = type_told c.0 d.0 t (bytes_table field 3 d.0 is typed) d.2 in
     let number : a.0 ≡ type_number t = kind_is a.0 c.0 c.1 ∙ told.0 in
-    let low = low_number t in
-    let ne : a.0 ≢ 256 = λ (same : a.0 ≡ 256). omega arith in
     record {
-      kind = subst (λ (n : ℕ). HasScalar 1 field 2 0 n) number (stored 1 field 2 256 0 a.0 ne (says_scalar 1 field 2 256 a.0 is a.1));
+      kind = subst (λ (n : ℕ). HasScalar 1 field 2 0 n) number (says_scalar 1 field 2 0 a.0 is a.1);
       type = d.0;
       typed = typed;
       says = told.1;
@@ -265,10 +250,9 @@ values_told field t is e =
 values_read : (field : TableAt) (t : DataType) → IsBytes field.bytes → SaysValues field t → value_type_of field ≡ Ok t
 unfolding value_type_of table_wanted
 values_read field t is says =
-    let some = some_number t in
-    let ne : type_number t ≢ 0 = λ (same : type_number t ≡ 0). omega arith in
-    let number = reads_scalar 1 field 2 256 (type_number t) is (stored 1 field 2 0 256 (type_number t) ne says.kind) in
-    rw (number, stored_number t, type_kind_again t, reads_table field 3 (Some says.type) is says.typed)
+    let number = reads_scalar 1 field 2 0 (type_number t) is says.kind in
+    let there = kind_there t field number in
+    rw (there.1, number, type_kind_again t, reads_table field 3 (Some says.type) is says.typed)
     (type_read t says.type (bytes_table field 3 says.type is says.typed) says.says)
 
 -- ---- dictionaries
@@ -285,19 +269,11 @@ index_read (Some table) integer is says = integer_read table integer (is table r
 pub bytes_behind : (t : TableAt) (slot : ℕ) (found : Option TableAt) → IsBytes t.bytes → HasTable t slot found → (table : TableAt) → found ≡ Some table → IsBytes table.bytes
 bytes_behind t slot found is h table e = bytes_table t slot table is (subst (λ (f : Option TableAt). HasTable t slot f) e h)
 
-utf8_is : (t : DataType) → is_utf8_type t ≡ true → t ≡ Utf8
-utf8_is (Integer integer) e = absurd (let no : ⊥ = cc in no)
-utf8_is Utf8 e = refl
-utf8_is Flags e = absurd (let no : ⊥ = cc in no)
-utf8_is Decimal128 e = absurd (let no : ⊥ = cc in no)
-utf8_is (Dictionary encoding) e = absurd (let no : ⊥ = cc in no)
-
-dictionary_told : (values : DataType) (table : TableAt) (t : DataType) → IsBytes table.bytes → dictionary_of values table ≡ Ok t →
-    (values ≡ Utf8) × ((encoding : DictionaryEncoding) × (t ≡ Dictionary encoding) × SaysDictionary table encoding)
+dictionary_told : (table : TableAt) (t : DataType) → IsBytes table.bytes → dictionary_of table ≡ Ok t →
+    (encoding : DictionaryEncoding) × (t ≡ Dictionary encoding) × SaysDictionary table encoding
 unfolding dictionary_of
-dictionary_told values table t is e =
-    let a = bind_ok (demand (is_utf8_type values) UnsupportedArrow) _ t e in
-    let b = bind_ok (scalar_of 8 table 0 0) _ t a.2 in
+dictionary_told table t is e =
+    let b = bind_ok (scalar_of 8 table 0 0) _ t e in
     let c = bind_ok (table_of table 1) _ t b.2 in
     let d = bind_ok (index_of c.0) _ t c.2 in
     let f = bind_ok (scalar_of 2 table 3 0) _ t d.2 in
@@ -305,28 +281,29 @@ dictionary_told values table t is e =
     let encoding : DictionaryEncoding = record { id = b.0; index = d.0 } in
     let last = g.2 in
     let indexed = says_table table 1 c.0 is c.1 in (
-      utf8_is values (demand_ok (is_utf8_type values) UnsupportedArrow a.0 a.1),
-      (
-        encoding,
-        (let same : t ≡ Dictionary encoding = cc in same),
-        record {
-          id = says_scalar 8 table 0 0 b.0 is b.1;
-          index = c.0;
-          indexed = indexed;
-          typed = index_told c.0 d.0 (bytes_behind table 1 c.0 is indexed) d.1;
-          kind = subst (λ (n : ℕ). HasScalar 2 table 3 0 n) (eqb-true f.0 0 (demand_ok (f.0 == 0) UnsupportedArrow g.0 g.1)) (says_scalar 2 table 3 0 f.0 is f.1);
-        },
-      ),
+      encoding,
+      (let same : t ≡ Dictionary encoding = cc in same),
+      record {
+        id = says_scalar 8 table 0 0 b.0 is b.1;
+        index = c.0;
+        indexed = indexed;
+        typed = index_told c.0 d.0 (bytes_behind table 1 c.0 is indexed) d.1;
+        kind = subst (λ (n : ℕ). HasScalar 2 table 3 0 n) (eqb-true f.0 0 (demand_ok (f.0 == 0) UnsupportedArrow g.0 g.1)) (says_scalar 2 table 3 0 f.0 is f.1);
+      },
     )
 
-dictionary_read : (table : TableAt) (encoding : DictionaryEncoding) → IsBytes table.bytes → SaysDictionary table encoding → dictionary_of Utf8 table ≡ Ok (Dictionary encoding)
+dictionary_read : (table : TableAt) (encoding : DictionaryEncoding) → IsBytes table.bytes → SaysDictionary table encoding → dictionary_of table ≡ Ok (Dictionary encoding)
 unfolding dictionary_of
 dictionary_read table encoding is says =
     rw (reads_scalar 8 table 0 0 encoding.id is says.id, reads_table table 1 says.index is says.indexed, index_read says.index encoding.index (bytes_behind table 1 says.index is says.indexed) says.typed, reads_scalar 2 table 3 0 0 is says.kind) refl
 
 encoded_told : (values : DataType) (found : Option TableAt) (t : DataType) → ((table : TableAt) → found ≡ Some table → IsBytes table.bytes) → encoded values found ≡ Ok t → SaysEncoding values found t
 encoded_told values None t is e = let same : t ≡ values = cc in same
-encoded_told values (Some table) t is e = dictionary_told values table t (is table refl) e
+encoded_told (Integer integer) (Some table) t is e = refused UnsupportedArrow t e
+encoded_told Utf8 (Some table) t is e = (refl, dictionary_told table t (is table refl) e)
+encoded_told Flags (Some table) t is e = refused UnsupportedArrow t e
+encoded_told Decimal128 (Some table) t is e = refused UnsupportedArrow t e
+encoded_told (Dictionary encoding) (Some table) t is e = refused UnsupportedArrow t e
 
 encoded_read : (values : DataType) (found : Option TableAt) (t : DataType) → ((table : TableAt) → found ≡ Some table → IsBytes table.bytes) → SaysEncoding values found t → encoded values found ≡ Ok t
 encoded_read values None t is says = rw says refl
@@ -334,6 +311,9 @@ encoded_read values (Some table) t is says =
     rw (says.0, says.1.1) (dictionary_read table says.1.0 (is table refl) says.1.2)
 
 -- ---- fields
+
+abbrev is_name : List ℕ → Bool
+is_name name = nat_lt 0 (length name) && nat_le (length name) 64
 
 name_told : (field : TableAt) (name : List ℕ) → IsBytes field.bytes → name_of field ≡ Ok name → HasText field 0 (Some name) × ((1 ≤ length name) × (length name ≤ 64))
 unfolding name_of

@@ -3,24 +3,21 @@ use Rattle.std.specs.Prelude.{ℕ, Bool, true, false}
 use Rattle.arrow_schema.specs.declared.data_type.IntegerType.{IntegerType}
 use Rattle.arrow_schema.specs.declared.data_type.IntegerType.TheVariants.{Int8, Int16, Int32, Int64, UInt8, UInt16, UInt32, UInt64}
 
+-- whether the numbers have a sign, and how many bits a number has
+abbrev pub integer_form : IntegerType → Bool × ℕ
+integer_form Int8 = (true, 8)
+integer_form Int16 = (true, 16)
+integer_form Int32 = (true, 32)
+integer_form Int64 = (true, 64)
+integer_form UInt8 = (false, 8)
+integer_form UInt16 = (false, 16)
+integer_form UInt32 = (false, 32)
+integer_form UInt64 = (false, 64)
+
 -- how many bits a number has
 abbrev pub bit_width : IntegerType → ℕ
-bit_width Int8 = 8
-bit_width Int16 = 16
-bit_width Int32 = 32
-bit_width Int64 = 64
-bit_width UInt8 = 8
-bit_width UInt16 = 16
-bit_width UInt32 = 32
-bit_width UInt64 = 64
+bit_width integer = (integer_form integer).1
 
 -- whether the numbers have a sign
 abbrev pub is_signed : IntegerType → Bool
-is_signed Int8 = true
-is_signed Int16 = true
-is_signed Int32 = true
-is_signed Int64 = true
-is_signed UInt8 = false
-is_signed UInt16 = false
-is_signed UInt32 = false
-is_signed UInt64 = false
+is_signed integer = (integer_form integer).0

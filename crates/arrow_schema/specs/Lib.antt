@@ -1,7 +1,7 @@
 pub mod Answer
 pub mod DataType
+pub mod Fields
 pub mod Header
-pub mod Limits
 pub mod Message
 pub mod Says
 pub mod Schema

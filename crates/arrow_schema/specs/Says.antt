@@ -1,9 +1,9 @@
 -- What a buffer says of a schema, in the words of Arrow's `Message.fbs` and `Schema.fbs` and of the
 -- FlatBuffers format: the slots of each table, with no order of reading.
 use Rattle.std.specs.Prelude.{◌≡◌, ◌↔◌, ◌≤◌, ℕ, ◌==◌, not, Bool, false, List, length, Option, Some, None, Ok, IsTrue, slice_get}
+use Rattle.scan_base.specs.Limits.{most_columns, most_name_bytes}
 use Rattle.scan_base.specs.Lists.{repeats}
 use Rattle.flatbuf.specs.Layout.{TableAt, VectorAt, IsBytes, HasRoot, HasScalar, HasTable, HasVector, HasText, HasElement}
-use Rattle.arrow_schema.specs.Limits.{most_columns, most_name_bytes}
 use Rattle.arrow_schema.specs.declared.data_type.IntegerType.{IntegerType}
 use Rattle.arrow_schema.specs.declared.data_type.IntegerType.TheVariants.{Int32}
 use Rattle.arrow_schema.specs.declared.data_type.DataType.{DataType}
@@ -12,7 +12,8 @@ use Rattle.arrow_schema.specs.declared.data_type.DictionaryEncoding.{DictionaryE
 use Rattle.arrow_schema.specs.declared.schema.Field.{Field}
 use Rattle.arrow_schema.specs.declared.schema.Schema.{Schema}
 use Rattle.arrow_schema.specs.DataType.{bit_width, is_signed}
-use Rattle.arrow_schema.specs.Header.{is_bare, same_dictionary, schema_of}
+use Rattle.arrow_schema.specs.Fields.{is_bare}
+use Rattle.arrow_schema.specs.Header.{same_dictionary, schema_of}
 use Rattle.arrow_schema.specs.Schema.{IsSchema}
 use Rattle.arrow_schema.specs.Written.{type_number}
 

@@ -1,7 +1,7 @@
 -- What a schema may be.
 use Rattle.std.specs.Prelude.{◌≡◌, ℕ, ◌≤◌, ◌<◌, ◌^◌, false, List, length, All, IsUtf8}
+use Rattle.scan_base.specs.Limits.{most_columns, most_name_bytes}
 use Rattle.scan_base.specs.Lists.{repeats}
-use Rattle.arrow_schema.specs.Limits.{most_columns, most_name_bytes}
 use Rattle.arrow_schema.specs.declared.data_type.DataType.{DataType}
 use Rattle.arrow_schema.specs.declared.data_type.DataType.TheVariants.{Dictionary}
 use Rattle.arrow_schema.specs.declared.schema.Field.{Field}

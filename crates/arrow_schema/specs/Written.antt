@@ -1,5 +1,5 @@
 -- How the header of a schema is laid out where it is written, and a header in a stream.
-use Rattle.std.specs.Prelude.{◌≡◌, ℕ, Bool, true, false, List, [], ◌∷◌, ◌++◌, length, map, replicate, Option, Some, None, Ok}
+use Rattle.std.specs.Prelude.{◌≡◌, ℕ, Bool, true, false, List, [], ◌∷◌, ◌++◌, length, map, replicate, Option, Some, None, option_map, Ok}
 use Rattle.flatbuf.specs.Block.{Part, Given, Absent, Number, Offset, little, padded, table_part, text_part, tables_part}
 use Rattle.arrow_schema.specs.declared.header.HeaderKind.TheVariants as header
 use Rattle.arrow_schema.specs.declared.data_type.IntegerType.{IntegerType}
@@ -42,26 +42,19 @@ type_part (Dictionary encoding) = table_part []
 unfoldable pub dictionary_part : DictionaryEncoding → Part
 dictionary_part encoding = table_part (Number encoding.id ∷ Offset (integer_part encoding.index) ∷ [])
 
--- what the slot of a field's dictionary is given
-abbrev pub dictionary_given : DataType → Given
-dictionary_given (Integer integer) = Absent
-dictionary_given Utf8 = Absent
-dictionary_given Flags = Absent
-dictionary_given Decimal128 = Absent
-dictionary_given (Dictionary encoding) = Offset (dictionary_part encoding)
-
 -- the dictionary of a type, where it has one
 abbrev pub encoding_of : DataType → Option DictionaryEncoding
-encoding_of (Integer integer) = None
-encoding_of Utf8 = None
-encoding_of Flags = None
-encoding_of Decimal128 = None
 encoding_of (Dictionary encoding) = Some encoding
+encoding_of _ = None
 
 -- what a slot is given that may lead to a table
 abbrev pub given_if : Option Part → Given
 given_if None = Absent
 given_if (Some part) = Offset part
+
+-- what the slot of a field's dictionary is given
+abbrev pub dictionary_given : DataType → Given
+dictionary_given data_type = given_if (option_map dictionary_part (encoding_of data_type))
 
 -- a Field table: name, nullable, the type's kind, the type, the dictionary, and no children
 abbrev pub field_slots : Field → List Given

@@ -3,7 +3,8 @@
 ghost use Rattle.std.specs.Prelude.{◌≡◌};
 ghost use Rattle.scan_base.specs.Reading.{Gives};
 ghost use Rattle.arrow_schema.specs.Header.{message_of, header_kind, header_of};
-ghost use Rattle.arrow_schema.specs.Header.{body_length_of, table_wanted};
+ghost use Rattle.arrow_schema.specs.Header.{body_length_of};
+ghost use Rattle.arrow_schema.specs.Fields.{table_wanted};
 ghost use Rattle.arrow_schema.specs.Seen.{message_seen};
 ghost use Rattle.arrow_schema.specs.Message.{kind_number};
 
@@ -87,7 +88,7 @@ impl<'a> Message<'a> {
 }
 
 /// The table of a slot, which has to be there.
-#[tactic(auto, unfolding(crate::specs::Header::table_wanted))]
+#[tactic(auto, unfolding(crate::specs::Fields::table_wanted))]
 pub(crate) fn table_wanted<'a>(table: &Table<'a>, slot: u16) -> Result<Table<'a>, Fault>
     ensures { Gives (λ found. found) result (table_wanted table.now slot) }
 {

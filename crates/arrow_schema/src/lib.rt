@@ -14,10 +14,3 @@ pub use crate::header::{HeaderKind, Message, read_message};
 pub use crate::reading::read_schema;
 pub use crate::schema::{Field, MAX_COLUMNS, MAX_NAME_BYTES, Schema};
 pub use crate::writing::{encapsulate, write_message, write_schema};
-
-#[cfg(test)]
-mod outside;
-#[cfg(test)]
-mod tests;
-#[cfg(test)]
-mod vectors;

@@ -1,16 +1,15 @@
 //! Reading a schema from the header of a message: one function for each table.
 
 ghost use Rattle.std.specs.Prelude.{◌≡◌, ◌≤◌, ◌<◌, All, IfOk, length};
-ghost use Rattle.arrow_schema.specs.Limits.{most_columns};
 ghost use Rattle.std.specs.List.{list_any, range_with_len};
+ghost use Rattle.scan_base.specs.Limits.{most_columns};
 ghost use Rattle.scan_base.specs.Reading.{Gives, GivesUnlessMemory, RefusesFirst};
 ghost use Rattle.scan_base.specs.Lists.{each, repeats};
-ghost use Rattle.arrow_schema.specs.Header.{vector_wanted, name_of, integer_type, integer_of};
-ghost use Rattle.arrow_schema.specs.Header.{decimal_of, type_kind, type_of, value_type_of};
-ghost use Rattle.arrow_schema.specs.Header.{childless, index_of, dictionary_of, encoded, field_in, field_at};
-ghost use Rattle.arrow_schema.specs.Header.{fields_of, shares_dictionary, same_dictionary};
-ghost use Rattle.arrow_schema.specs.Header.{schema_in};
-ghost use Rattle.arrow_schema.specs.Header.{is_schema, schema_message_of, schema_of};
+ghost use Rattle.arrow_schema.specs.Fields.{vector_wanted, name_of, integer_type, integer_of};
+ghost use Rattle.arrow_schema.specs.Fields.{decimal_of, type_kind, type_of, value_type_of};
+ghost use Rattle.arrow_schema.specs.Fields.{childless, index_of, dictionary_of, encoded, field_in};
+ghost use Rattle.arrow_schema.specs.Header.{field_at, fields_of, shares_dictionary, same_dictionary};
+ghost use Rattle.arrow_schema.specs.Header.{is_schema, schema_message_of, schema_in, schema_of};
 ghost use Rattle.arrow_schema.specs.Schema.{IsName, IsType, IsField, IsSchema};
 ghost use Rattle.arrow_schema.specs.Seen.{message_seen};
 
@@ -35,7 +34,7 @@ enum TypeKind {
     Decimal,
 }
 
-#[tactic(auto, unfolding(crate::specs::Header::vector_wanted))]
+#[tactic(auto, unfolding(crate::specs::Fields::vector_wanted))]
 fn vector_wanted<'a>(table: &Table<'a>, slot: u16) -> Result<Vector<'a>, Fault>
     ensures { Gives (λ vector. vector) result (vector_wanted table.now slot) }
 {
@@ -43,7 +42,7 @@ fn vector_wanted<'a>(table: &Table<'a>, slot: u16) -> Result<Vector<'a>, Fault>
 }
 
 // A name of one byte or more, up to the limit.
-#[tactic(auto, unfolding(crate::specs::Header::name_of))]
+#[tactic(auto, unfolding(crate::specs::Fields::name_of))]
 fn name<'a>(field: &Table<'a>) -> Result<&'a str, Fault>
     ensures value { Gives (λ name. name.now) result (name_of field.now) }
     ensures valid { IfOk result (λ name. IsName name.now) }
@@ -71,7 +70,7 @@ fn integer_type(signed: bool, bits: u64) -> Result<IntegerType, Fault>
     }
 }
 
-#[tactic(auto, unfolding(crate::specs::Header::integer_of))]
+#[tactic(auto, unfolding(crate::specs::Fields::integer_of))]
 fn integer(table: &Table<'_>) -> Result<IntegerType, Fault>
     ensures { Gives (λ integer. integer) result (integer_of table.now) }
 {
@@ -80,7 +79,7 @@ fn integer(table: &Table<'_>) -> Result<IntegerType, Fault>
     integer_type(signed != 0, bits)
 }
 
-#[tactic(auto, unfolding(crate::specs::Header::decimal_of))]
+#[tactic(auto, unfolding(crate::specs::Fields::decimal_of))]
 fn decimal(table: &Table<'_>) -> Result<DataType, Fault>
     ensures value { Gives (λ decimal. decimal) result (decimal_of table.now) }
     ensures valid { IfOk result IsType }
@@ -106,7 +105,7 @@ fn type_kind(number: u64) -> Result<TypeKind, Fault>
     }
 }
 
-#[tactic(auto, unfolding(crate::specs::Header::type_of))]
+#[tactic(auto, unfolding(crate::specs::Fields::type_of))]
 fn type_from(kind: TypeKind, table: &Table<'_>) -> Result<DataType, Fault>
     ensures value { Gives (λ data_type. data_type) result (type_of kind table.now) }
     ensures valid { IfOk result IsType }
@@ -119,22 +118,21 @@ fn type_from(kind: TypeKind, table: &Table<'_>) -> Result<DataType, Fault>
     }
 }
 
-// The type of a field's values. No byte is 256: that is a kind that is not stored.
-#[tactic(auto, unfolding(crate::specs::Header::value_type_of))]
+// The type of a field's values, whose kind is stored.
+#[tactic(auto, unfolding(crate::specs::Fields::value_type_of))]
 fn value_type(field: &Table<'_>) -> Result<DataType, Fault>
     ensures value { Gives (λ data_type. data_type) result (value_type_of field.now) }
     ensures valid { IfOk result IsType }
 {
-    let number = field.scalar(2, Width::One, 256)?;
-    if number == 256 {
+    if field.field(2)?.is_none() {
         return Err(Fault::BadFlatbuffer);
     }
-    let kind = type_kind(number)?;
+    let kind = type_kind(field.scalar(2, Width::One, 0)?)?;
     let table = table_wanted(field, 3)?;
     type_from(kind, &table)
 }
 
-#[tactic(auto, unfolding(crate::specs::Header::childless))]
+#[tactic(auto, unfolding(crate::specs::Fields::childless))]
 fn childless(field: &Table<'_>) -> Result<(), Fault>
     ensures { Gives (λ _. tt) result (childless field.now) }
 {
@@ -153,15 +151,12 @@ fn index_type(found: &Option<Table<'_>>) -> Result<IntegerType, Fault>
     }
 }
 
-// A dictionary of these values, which have to be texts.
-#[tactic(auto, unfolding(crate::specs::Header::dictionary_of))]
-fn dictionary(values: DataType, table: &Table<'_>) -> Result<DataType, Fault>
-    ensures value { Gives (λ data_type. data_type) result (dictionary_of values table.now) }
+// A dictionary of texts.
+#[tactic(auto, unfolding(crate::specs::Fields::dictionary_of))]
+fn dictionary(table: &Table<'_>) -> Result<DataType, Fault>
+    ensures value { Gives (λ data_type. data_type) result (dictionary_of table.now) }
     ensures valid { IfOk result IsType }
 {
-    if !matches!(values, DataType::Utf8) {
-        return Err(Fault::UnsupportedArrow);
-    }
     let id = table.scalar(0, Width::Eight, 0)?;
     let found = table.table(1)?;
     let index = index_type(&found)?;
@@ -171,17 +166,19 @@ fn dictionary(values: DataType, table: &Table<'_>) -> Result<DataType, Fault>
     Ok(DataType::Dictionary(DictionaryEncoding { id, index }))
 }
 
+// The type of a column of these values, which are texts where it has a dictionary.
 fn encoded(values: DataType, encoding: &Option<Table<'_>>) -> Result<DataType, Fault>
     ensures value { Gives (λ data_type. data_type) result (encoded values encoding.now) }
     ensures valid { IsType values → IfOk result IsType }
 {
-    match encoding {
-        None => Ok(values),
-        Some(table) => dictionary(values, table),
+    match (values, encoding) {
+        (_, None) => Ok(values),
+        (DataType::Utf8, Some(table)) => dictionary(table),
+        (_, Some(_)) => Err(Fault::UnsupportedArrow),
     }
 }
 
-#[tactic(auto, unfolding(crate::specs::Header::field_in))]
+#[tactic(auto, unfolding(crate::specs::Fields::field_in))]
 fn field_from<'a>(field: &Table<'a>) -> Result<BorrowedField<'a>, Fault>
     ensures value { Gives (λ field. field) result (field_in field.now) }
     ensures valid { IfOk result IsField }
@@ -345,6 +342,3 @@ pub fn read_schema(alloc: Global, bytes: &[u8]) -> Result<Schema, Fault>
 {
     schema_message(bytes)?.schema(alloc)
 }
-
-#[cfg(test)]
-mod tests;

@@ -25,8 +25,10 @@ pub const PUT: &[u8] = b"\x01\x00*/arrow.flight.protocol.FlightService/DoPut\
     \x01\x00\x00\x00\x00\x00\x00\x00\x02\x00\x00\x00\x00\x00\x00\x00\
     \x03";
 
-/// Where in the put the option stands that makes the table, and where its batch begins and ends.
+/// Where in the put the option stands that makes the table, what follows it, and where its batch begins and ends.
 pub const MODE_AT: usize = 131;
+
+pub const AFTER_MODE: usize = 133;
 
 pub const BATCH_AT: usize = 250;
 

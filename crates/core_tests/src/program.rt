@@ -4,8 +4,8 @@
 ghost use Rattle.std.specs.Prelude.{◌<◌};
 
 use crate::first_run::{
-    BATCH_AT, FETCH, FETCH_END_AT, HANDLE_AT, MODE_AT, PUT, PUT_ANSWER, PUT_END_AT, ROWS,
-    is_joined, joined, part, rest,
+    AFTER_MODE, BATCH_AT, FETCH, FETCH_END_AT, HANDLE_AT, MODE_AT, PUT, PUT_ANSWER, PUT_END_AT,
+    ROWS, is_joined, joined, part, rest,
 };
 use commands::arguments::refuse_arguments;
 use commands::pipe::pipe;
@@ -203,7 +203,10 @@ fn cut_input(rt: HostRuntime) -> Result<(), Fail> {
 
 // A put, and a fetch with this handle, which has 32 bytes.
 fn with_handle(alloc: Global, handle: &[u8]) -> Result<MemoryOutput, AllocError> {
-    let bytes = joined(alloc, &[PUT, part(FETCH, 0, HANDLE_AT), handle, END])?;
+    let bytes = joined(
+        alloc,
+        &[PUT, part(FETCH, 0, HANDLE_AT), rest(handle, 0), END],
+    )?;
     let (_, writer, _) = piped(alloc, &bytes, 65_536);
     Ok(writer)
 }
@@ -243,37 +246,44 @@ const SHORT_BODY: &[u8] = b"\xc2\x3e\x08\x01\x00\x00\x00\x00\x00\x00\x00";
 const NEXT_HANDLE: &[u8] =
     b"\x01\x00\x00\x00\x00\x00\x00\x00\x02\x00\x00\x00\x00\x00\x00\x00\x04SELECT * FROM t";
 
-// A put of two rows; an append of three batches, the third broken; an append of one batch; and a fetch of version 2.
-fn three_puts(alloc: Global) -> Result<Vec<u8>, AllocError> {
-    let head = part(PUT, 0, MODE_AT);
-    let schema = part(PUT, MODE_AT.saturating_add(2), BATCH_AT);
-    let append = joined(alloc, &[head, b"\x10\x02", schema])?;
-    let batch = part(PUT, BATCH_AT, PUT_END_AT);
-    let short = joined(alloc, &[SHORT_BATCH_HEAD, part(batch, 6, 137), SHORT_BODY])?;
-    let fetch = part(FETCH, 0, HANDLE_AT);
+// The put's batch, alone.
+fn batch() -> &'static [u8] {
+    part(PUT, BATCH_AT, PUT_END_AT)
+}
+
+// A put that appends to `t`, up to its first batch.
+fn append_head(alloc: Global) -> Result<Vec<u8>, AllocError> {
     joined(
         alloc,
         &[
-            PUT,
-            &append,
-            batch,
-            batch,
-            &short,
-            END,
-            &append,
-            batch,
-            END,
-            fetch,
-            NEXT_HANDLE,
-            END,
+            part(PUT, 0, MODE_AT),
+            b"\x10\x02",
+            part(PUT, AFTER_MODE, BATCH_AT),
         ],
+    )
+}
+
+// An append of three batches, the third broken; and an append of one batch.
+fn two_appends(alloc: Global) -> Result<Vec<u8>, AllocError> {
+    let head = append_head(alloc)?;
+    let short = joined(
+        alloc,
+        &[SHORT_BATCH_HEAD, part(batch(), 6, 137), SHORT_BODY],
+    )?;
+    joined(
+        alloc,
+        &[&head, batch(), batch(), &short, END, &head, batch(), END],
     )
 }
 
 // A put whose third batch is broken leaves the table as before, and the next accepted put makes the next version.
 #[test]
 fn a_broken_third_batch(rt: HostRuntime) -> Result<(), Fail> {
-    let bytes = three_puts(rt.alloc())?;
+    let appends = two_appends(rt.alloc())?;
+    let bytes = joined(
+        rt.alloc(),
+        &[PUT, &appends, part(FETCH, 0, HANDLE_AT), NEXT_HANDLE, END],
+    )?;
     let (status, writer, faults) = piped(rt.alloc(), &bytes, 65_536);
     assert!(rt; status == 0);
     assert!(rt; faults.as_slice() == NOTHING);

@@ -13,6 +13,3 @@ pub use crate::build::{Block, Builder, Slot};
 pub use crate::table::{Buf, Table};
 pub use crate::vector::Vector;
 pub use crate::width::Width;
-
-#[cfg(test)]
-mod layouts;

@@ -77,9 +77,14 @@ impl<'a> Table<'a> {
         Ok(self.at + (0x1_0000_0000 - back) as usize)
     }
 
-    // Where the field of a slot lies, if it is there.
+    /// Where the field of a slot lies, if it is there.
+    ///
+    /// # Errors
+    ///
+    /// `Fault::BadFlatbuffer` if something that is read lies outside the buffer. Of the field itself nothing
+    /// is read.
     #[tactic(auto, unfolding(crate::specs::Place::field_of))]
-    fn field(&self, slot: u16) -> Result<Option<usize>, Fault>
+    pub fn field(&self, slot: u16) -> Result<Option<usize>, Fault>
         ensures value { Gives (λ place. place) result (field_of self.now slot) }
         ensures near { IfOk result
             (λ place. IfSome place (λ at. at ≤ length self.now.bytes + 2 ^ 16)) }
@@ -193,6 +198,3 @@ impl<'a> Table<'a> {
         }
     }
 }
-
-#[cfg(test)]
-mod tests;

@@ -57,5 +57,4 @@ abbrev pub Answers : Log → List Call → List Reply → Log → Type 0
 Answers old [] [] new = new ≡ old
 Answers old (call ∷ calls) (reply ∷ replies) new =
     (middle : Log) × ReplyTo (asked_by call) old reply middle × Answers middle calls replies new
-Answers old [] (reply ∷ replies) new = ⊥
-Answers old (call ∷ calls) [] new = ⊥
+Answers old _ _ new = ⊥

@@ -8,6 +8,7 @@ use Rattle.grpc_frame.specs.declared.place.Place.TheVariants.{BetweenCalls}
 use Rattle.grpc_frame.specs.declared.record.Record.{Record}
 use Rattle.grpc_frame.specs.declared.record.Record.TheVariants.{Message, End}
 use Rattle.grpc_frame.specs.Records.{spelling, IsRecord, Received, Ending, nothing_more, cut, broken, Splits}
+use Rattle.grpc_frame.specs.Arrivals.{WasSound}
 use Rattle.grpc_frame.specs.Calls.{status_of}
 use Rattle.grpc_frame.specs.Ends.{AppendsBeginning}
 use Rattle.flight_core.specs.declared.event.Reply.{Reply}
@@ -32,9 +33,11 @@ EndsInside left = EndsIn left cut ⊎ EndsIn left nothing_more
 abbrev pub behind_calls : List ℕ → Received
 behind_calls bytes = record { bytes = bytes; place = BetweenCalls }
 
--- why a server ends a connection: memory was refused, or a faulty record stands behind the whole calls
+-- Why a server ends a connection: a faulty record stands behind the whole calls; or memory was refused, and then none
+-- stood right behind them before the last piece came.
 abbrev pub IsCause : Fault → List ℕ → Type 0
-IsCause fault rest = (fault ≡ OutOfMemory) ⊎ EndsIn (behind_calls rest) (broken fault)
+IsCause fault rest =
+    ((fault ≡ OutOfMemory) × WasSound (behind_calls []) rest) ⊎ EndsIn (behind_calls rest) (broken fault)
 
 -- ---- what is owed
 

@@ -7,6 +7,7 @@ use Rattle.grpc_frame.specs.declared.place.Place.TheVariants.{BetweenCalls}
 use Rattle.grpc_frame.specs.declared.record.Record.{Record}
 use Rattle.grpc_frame.specs.declared.record.Record.TheVariants.{Message, End}
 use Rattle.grpc_frame.specs.Records.{spelling, IsRecord, Received, with_more, broken}
+use Rattle.grpc_frame.specs.Arrivals.{WasSound}
 use Rattle.flight_core.specs.Payloads.{Payload}
 use Rattle.flight_calls.specs.declared.call.Arrival.{Arrival}
 use Rattle.flight_calls.specs.declared.call.Arrival.TheVariants as arrival
@@ -21,10 +22,11 @@ pub record Fronts (records : List Record) (old new : Received) : Type 0 where
   pub fits : All IsRecord records
   pub behind : new.place ≡ BetweenCalls
 
--- why reading a call may stop: a read failed before the call's End had come, memory was refused, or a record of the
--- call is faulty
-abbrev pub Stops : Fault → Received → Type 0
-Stops fault left = ((fault ≡ Transport) × EndsInside left) ⊎ ((fault ≡ OutOfMemory) ⊎ EndsIn left (broken fault))
+-- why reading a call may stop: a read failed before the call's End had come, memory was refused, of which this holds, or
+-- a record of the call is faulty
+abbrev pub Stops : Fault → Received → Type 0 → Type 0
+Stops fault left holds =
+    ((fault ≡ Transport) × EndsInside left) ⊎ (((fault ≡ OutOfMemory) × holds) ⊎ EndsIn left (broken fault))
 
 -- The messages of a call to a path, up to its End, of which these bytes came behind what was there: a request holds
 -- what they ask. Nothing where the input ends before.
@@ -33,7 +35,7 @@ RequestArrives (Ok (Some request)) path old new came = (messages : List Payload)
     × Holds request (record { path = path; messages = messages })
     × Fronts (map Message messages ++ End ∷ []) (with_more old came) new
 RequestArrives (Ok None) path old new came = EndsInside (with_more old came)
-RequestArrives (Err fault) path old new came = Stops fault (with_more old came)
+RequestArrives (Err fault) path old new came = Stops fault (with_more old came) (Unit {0})
 
 -- A call, of which these bytes came behind what was there; or the input ended, behind a call or inside one.
 abbrev pub CallArrives : Result Arrival Fault → Received → Received → List ℕ → Type 0
@@ -41,7 +43,7 @@ CallArrives (Ok (arrival.Whole request)) old new came =
     (call : Call) × Holds request call × Fronts (call_records call) (with_more old came) new
 CallArrives (Ok arrival.Nothing) old new came = with_more old came ≡ record { bytes = []; place = BetweenCalls }
 CallArrives (Ok arrival.CutShort) old new came = ((with_more old came).bytes ≢ []) × EndsInside (with_more old came)
-CallArrives (Err fault) old new came = Stops fault (with_more old came)
+CallArrives (Err fault) old new came = Stops fault (with_more old came) (WasSound old came)
 
 -- this holds of a call that came
 abbrev pub FallsForCall : Arrival → Type 0 → Type 0

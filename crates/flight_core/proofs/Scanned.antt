@@ -9,7 +9,7 @@ use Rattle.arrow_schema.specs.declared.data_type.DataType.{DataType}
 use Rattle.arrow_schema.specs.declared.schema.Field.{Field}
 use Rattle.arrow_schema.specs.declared.schema.Schema.{Schema}
 use Rattle.arrow_schema.specs.Answer.{answer_type}
-use Rattle.arrow_schema.specs.Limits.{most_columns}
+use Rattle.scan_base.specs.Limits.{most_columns}
 use Rattle.arrow_schema.specs.Schema.{IsSchema}
 use Rattle.arrays.specs.Batch.{BatchAt, BatchSlicesKeepRows, rows_of, cut_batch}
 use Rattle.arrays.specs.Column.{ColumnAt}

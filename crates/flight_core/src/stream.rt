@@ -2,7 +2,7 @@
 
 ghost use Rattle.std.specs.Prelude.{◌≡◌, ◌≤◌, ◌<◌, length, false, None, IfOk, IfErr, IfSome, OnOk};
 ghost use Rattle.std.specs.List.{list_any};
-ghost use Rattle.arrow_schema.specs.Limits.{most_columns};
+ghost use Rattle.scan_base.specs.Limits.{most_columns};
 ghost use Rattle.arrow_schema.specs.Schema.{IsSchema};
 ghost use Rattle.arrays.specs.Batch.{cut_batch, rows_of};
 ghost use Rattle.ipc_batch.specs.Written.{body_length};

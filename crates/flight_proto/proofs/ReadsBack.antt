@@ -7,12 +7,13 @@ use Rattle.std.proofs.lemmas.Int.{to_z-of_z}
 use lib.Utf8.{encode}
 use Rattle.std.proofs.lemmas.Str.{is_utf8-from_IsUtf8}
 use Rattle.proto_wire.specs.Calls.{varint_entry, chunk_entry}
-use Rattle.flight_proto.specs.Message.{merged, chunk_with, enum_of, bool_of, set_fields, spelled}
+use Rattle.flight_proto.specs.Message.{enum_of, bool_of, set_fields}
 use Rattle.flight_proto.specs.Any.{type_url_of, AnySaid, any_empty, any_with, any_of, any_fields, any_bytes}
 use Rattle.flight_proto.specs.FlightDescriptor.{DescriptorSaid, descriptor_empty, descriptor_with, descriptor_of, descriptor_fields, descriptor_bytes}
 use Rattle.flight_proto.specs.FlightData.{DataSaid, data_empty, data_with, data_of, data_fields, data_bytes, stream_with, stream_descriptor_of}
-use Rattle.flight_proto.specs.PutResult.{update_with, update_of, update_fields, update_bytes, rows_put_of, rows_put_bytes}
+use Rattle.flight_proto.specs.PutResult.{update_with, update_of, update_bytes, rows_put_of, rows_put_bytes}
 use Rattle.flight_proto.specs.StatementIngest.{OptionsSaid, options_empty, options_with, options_of, options_fields, options_bytes, StatementSaid, statement_empty, statement_with, statement_of, statement_fields, statement_bytes, bool_number}
+use Rattle.flight_proto.specs.Wrapped.{wrapped_with, wrapped_of, wrapped_bytes}
 use Rattle.flight_proto.specs.Ticket.{ticket_query_name, handle_any, statement_handle_of, statement_ticket_bytes}
 use Rattle.flight_proto.specs.Laws.{FitsMemory, IsText, IsDescriptor, AreOptions}
 use Rattle.flight_proto.proofs.Says.{Says, says_back, says_nothing, says_chunk, says_varint, says_embedded}
@@ -27,12 +28,12 @@ short bytes fits = omega arith
 
 -- ---- messages of one chunk
 
-chunk_says : (bytes : List ℕ) → length bytes < 2 ^ 64 → Says (chunk_with 1) [] bytes (set_fields (chunk_entry 1 bytes ∷ [])) (20 + length bytes + 0)
+chunk_says : (bytes : List ℕ) → length bytes < 2 ^ 64 → Says wrapped_with [] bytes (set_fields (chunk_entry 1 bytes ∷ [])) (20 + length bytes + 0)
 chunk_says bytes fits =
-    says_chunk (chunk_with 1) [] bytes bytes 1 bytes [] 0 (omega arith, omega arith) fits refl (λ e. e) (says_nothing (chunk_with 1) bytes)
+    says_chunk wrapped_with [] bytes bytes 1 bytes [] 0 (omega arith, omega arith) fits refl (λ e. e) (says_nothing wrapped_with bytes)
 
-pub chunk_back : (bytes : List ℕ) → length bytes < 2 ^ 64 → merged (chunk_with 1) [] (spelled (set_fields (chunk_entry 1 bytes ∷ []))) ≡ Ok bytes
-chunk_back bytes fits = says_back (chunk_with 1) [] bytes _ _ (chunk_says bytes fits)
+pub chunk_back : (bytes : List ℕ) → length bytes < 2 ^ 64 → wrapped_of (wrapped_bytes bytes) ≡ Ok bytes
+chunk_back bytes fits = says_back wrapped_with [] bytes _ _ (chunk_says bytes fits)
 
 -- ---- Any
 
@@ -106,7 +107,7 @@ data_back descriptor carried h header body =
 count_back : (record_count : ℤ) → FitsSigned w64 record_count → cast_signed w64 (cast_unsigned w64 record_count) ≡ record_count
 count_back record_count fits = to_z-of_z w64 record_count fits
 
-update_says : (record_count : ℤ) → FitsSigned w64 record_count → Says update_with (pos 0) record_count (update_fields record_count) (20 + 0)
+update_says : (record_count : ℤ) → FitsSigned w64 record_count → Says update_with (pos 0) record_count (set_fields (varint_entry 1 (cast_unsigned w64 record_count) ∷ [])) (20 + 0)
 update_says record_count fits =
     says_varint update_with (pos 0) record_count record_count 1 (cast_unsigned w64 record_count) [] 0 (omega arith, omega arith) (search (rules, Fits-of_z fits)) (rw (count_back record_count fits) refl) (λ e. sym (count_back record_count fits) ∙ rw e refl)
     (says_nothing update_with record_count)

@@ -8,10 +8,12 @@ use Rattle.proto_wire.specs.Calls.{chunk_entry}
 use Rattle.flight_proto.specs.Message.{merged, text_of, set_fields, spelled}
 use Rattle.flight_proto.specs.declared.any.Any.{Any}
 
+-- what an Any says
 pub record AnySaid : Type 0 where
   pub type_url : List ℕ
   pub value : List ℕ
 
+-- the Any of no fields
 abbrev pub any_empty : AnySaid
 any_empty = record { type_url = []; value = [] }
 
@@ -27,10 +29,11 @@ any_with any number other = Ok any
 abbrev pub any_of : List ℕ → Result AnySaid Fault
 any_of bytes = merged any_with any_empty bytes
 
--- the bytes of an Any
+-- the fields of an Any
 abbrev pub any_fields : AnySaid → List Entry
 any_fields any = set_fields (chunk_entry 1 any.type_url ∷ chunk_entry 2 any.value ∷ [])
 
+-- the bytes of an Any
 abbrev pub any_bytes : AnySaid → List ℕ
 any_bytes any = spelled (any_fields any)
 

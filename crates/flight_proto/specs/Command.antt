@@ -2,6 +2,7 @@
 use Rattle.std.specs.Prelude.{ℕ, ◌==◌, nat_le, List, length, Option, Some, None, Result, Ok, Err}
 use Rattle.scan_base.specs.declared.fault.Fault.{Fault}
 use Rattle.scan_base.specs.declared.fault.Fault.TheVariants.{UnknownCommand, LimitReached}
+use Rattle.scan_base.specs.Limits.{most_command_bytes}
 use Rattle.scan_base.specs.Reading.{◌>>=◌, demand, wanted}
 use Rattle.flight_proto.specs.Any.{any_of, message_name}
 use Rattle.flight_proto.specs.FlightDescriptor.{DescriptorSaid}
@@ -18,7 +19,7 @@ unfoldable pub command_of : Option DescriptorSaid → Result CommandSaid Fault
 command_of None = Err UnknownCommand
 command_of (Some descriptor) = do
   _ ← demand (descriptor.descriptor_type == 2) UnknownCommand
-  _ ← demand (nat_le (length descriptor.cmd) 65536) LimitReached
+  _ ← demand (nat_le (length descriptor.cmd) most_command_bytes) LimitReached
   any ← any_of descriptor.cmd
   name ← wanted (message_name any.type_url) UnknownCommand
   Ok (record { name = name; value = any.value })

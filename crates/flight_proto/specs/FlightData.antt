@@ -28,10 +28,12 @@ stream_said stream = option_map descriptor_said stream.descriptor
 
 -- ---- what each message of a stream carries
 
+-- the header and the body
 pub record DataSaid : Type 0 where
   pub data_header : List ℕ
   pub data_body : List ℕ
 
+-- the message of no fields
 abbrev pub data_empty : DataSaid
 data_empty = record { data_header = []; data_body = [] }
 
@@ -47,20 +49,21 @@ data_with carried number other = Ok carried
 abbrev pub data_of : List ℕ → Result DataSaid Fault
 data_of bytes = merged data_with data_empty bytes
 
--- the bytes of a message of a stream
+-- the fields of a message of a stream
 abbrev pub data_fields : Option DescriptorSaid → DataSaid → List Entry
 data_fields descriptor carried =
     embedded_field 1 descriptor_bytes descriptor
     ++ set_fields (chunk_entry 2 carried.data_header ∷ chunk_entry 1000 carried.data_body ∷ [])
 
+-- the bytes of a message of a stream
 abbrev pub data_bytes : Option DescriptorSaid → DataSaid → List ℕ
 data_bytes descriptor carried = spelled (data_fields descriptor carried)
 
--- what is written before a body of so many bytes: the header's field, and the head of the body's, which is
--- left out where the body is empty
+-- the head of the field of a body of so many bytes, which is left out where the body is empty
 abbrev pub body_head : ℕ → List ℕ
 body_head len = if len == 0 then [] else chunk_head 1000 len
 
+-- what is written before a body of so many bytes: the header's field, and the head of the body's
 abbrev pub data_head : List ℕ → ℕ → List ℕ
 data_head data_header len = spelled (set_fields (chunk_entry 2 data_header ∷ [])) ++ body_head len
 

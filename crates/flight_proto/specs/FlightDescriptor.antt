@@ -7,10 +7,12 @@ use Rattle.proto_wire.specs.Calls.{varint_entry, chunk_entry}
 use Rattle.flight_proto.specs.Message.{merged, text_of, enum_of, set_fields, spelled}
 use Rattle.flight_proto.specs.declared.flight_descriptor.FlightDescriptor.{FlightDescriptor}
 
+-- what a descriptor says
 pub record DescriptorSaid : Type 0 where
   pub descriptor_type : ℕ
   pub cmd : List ℕ
 
+-- the descriptor of no fields
 abbrev pub descriptor_empty : DescriptorSaid
 descriptor_empty = record { descriptor_type = 0; cmd = [] }
 
@@ -29,11 +31,12 @@ descriptor_with descriptor number other = Ok descriptor
 abbrev pub descriptor_of : List ℕ → Result DescriptorSaid Fault
 descriptor_of bytes = merged descriptor_with descriptor_empty bytes
 
--- the bytes of a descriptor
+-- the fields of a descriptor
 abbrev pub descriptor_fields : DescriptorSaid → List Entry
 descriptor_fields descriptor =
     set_fields (varint_entry 1 descriptor.descriptor_type ∷ chunk_entry 2 descriptor.cmd ∷ [])
 
+-- the bytes of a descriptor
 abbrev pub descriptor_bytes : DescriptorSaid → List ℕ
 descriptor_bytes descriptor = spelled (descriptor_fields descriptor)
 

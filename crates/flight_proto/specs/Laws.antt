@@ -7,8 +7,9 @@ use Rattle.flight_proto.specs.Message.{merged}
 use Rattle.flight_proto.specs.Any.{AnySaid, slash, message_name, any_of, any_bytes}
 use Rattle.flight_proto.specs.FlightDescriptor.{DescriptorSaid, descriptor_of, descriptor_bytes}
 use Rattle.flight_proto.specs.FlightData.{DataSaid, data_of, stream_descriptor_of, data_bytes, data_head}
-use Rattle.flight_proto.specs.PutResult.{put_result_of, put_result_bytes, update_of, update_bytes, rows_put_of, rows_put_bytes}
-use Rattle.flight_proto.specs.Ticket.{ticket_of, ticket_bytes, ticket_query_of, ticket_query_bytes, statement_handle_of, statement_ticket_bytes}
+use Rattle.flight_proto.specs.PutResult.{update_of, update_bytes, rows_put_of, rows_put_bytes}
+use Rattle.flight_proto.specs.Ticket.{statement_handle_of, statement_ticket_bytes}
+use Rattle.flight_proto.specs.Wrapped.{wrapped_of, wrapped_bytes}
 use Rattle.flight_proto.specs.StatementIngest.{OptionsSaid, options_of, options_bytes, StatementSaid, statement_of, statement_bytes}
 
 -- ---- merging
@@ -39,16 +40,20 @@ NameIsLastPart =
 abbrev pub FitsMemory : List ℕ → Type 0
 FitsMemory bytes = length bytes < 2 ^ 63
 
+-- bytes that are a text
 abbrev pub IsText : List ℕ → Type 0
 IsText text = IsUtf8 text × FitsMemory text
 
+-- an Any
 abbrev pub AnyReadsBack : Type 0
 AnyReadsBack =
     (any : AnySaid) → IsText any.type_url → FitsMemory any.value → any_of (any_bytes any) ≡ Ok any
 
+-- a descriptor whose type is a number of 32 bits
 abbrev pub IsDescriptor : DescriptorSaid → Type 0
 IsDescriptor descriptor = (descriptor.descriptor_type < 2 ^ 32) × FitsMemory descriptor.cmd
 
+-- a descriptor
 abbrev pub DescriptorReadsBack : Type 0
 DescriptorReadsBack =
     (descriptor : DescriptorSaid) → IsDescriptor descriptor
@@ -68,40 +73,37 @@ BodiesFollowHeads =
     (carried : DataSaid)
     → data_bytes None carried ≡ data_head carried.data_header (length carried.data_body) ++ carried.data_body
 
-abbrev pub PutResultReadsBack : Type 0
-PutResultReadsBack =
-    (app_metadata : List ℕ) → FitsMemory app_metadata
-    → put_result_of (put_result_bytes app_metadata) ≡ Ok app_metadata
+-- a Ticket, a TicketStatementQuery and a PutResult
+abbrev pub WrappedReadsBack : Type 0
+WrappedReadsBack = (bytes : List ℕ) → FitsMemory bytes → wrapped_of (wrapped_bytes bytes) ≡ Ok bytes
 
+-- a DoPutUpdateResult
 abbrev pub UpdateReadsBack : Type 0
 UpdateReadsBack =
     (record_count : ℤ) → FitsSigned w64 record_count
     → update_of (update_bytes record_count) ≡ Ok record_count
 
+-- how many rows were put
 abbrev pub RowsPutReadBack : Type 0
 RowsPutReadBack =
     (rows : ℤ) → FitsSigned w64 rows → rows_put_of (rows_put_bytes rows) ≡ Ok rows
 
-abbrev pub TicketReadsBack : Type 0
-TicketReadsBack =
-    (ticket : List ℕ) → FitsMemory ticket → ticket_of (ticket_bytes ticket) ≡ Ok ticket
-
-abbrev pub TicketQueryReadsBack : Type 0
-TicketQueryReadsBack =
-    (handle : List ℕ) → FitsMemory handle → ticket_query_of (ticket_query_bytes handle) ≡ Ok handle
-
+-- the handle of a ticket
 abbrev pub StatementTicketReadsBack : Type 0
 StatementTicketReadsBack =
     (handle : List ℕ) → FitsMemory handle
     → statement_handle_of (statement_ticket_bytes handle) ≡ Ok handle
 
+-- options whose numbers are of 32 bits
 abbrev pub AreOptions : OptionsSaid → Type 0
 AreOptions options = (options.if_not_exist < 2 ^ 32) × (options.if_exists < 2 ^ 32)
 
+-- options
 abbrev pub OptionsReadBack : Type 0
 OptionsReadBack =
     (options : OptionsSaid) → AreOptions options → options_of (options_bytes options) ≡ Ok options
 
+-- a CommandStatementIngest
 abbrev pub StatementReadsBack : Type 0
 StatementReadsBack =
     (statement : StatementSaid)

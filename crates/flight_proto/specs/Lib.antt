@@ -1,4 +1,5 @@
 pub mod Message
+pub mod Wrapped
 pub mod Any
 pub mod FlightDescriptor
 pub mod Cut

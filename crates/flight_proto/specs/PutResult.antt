@@ -4,15 +4,12 @@ use Rattle.std.specs.Prelude.{ℕ, ◌==◌, ℤ, pos, List, [], ◌∷◌, Resu
 use Rattle.std.specs.Int.{w64, cast_unsigned}
 use Rattle.scan_base.specs.declared.fault.Fault.{Fault}
 use Rattle.scan_base.specs.Reading.{◌>>=◌}
-use Rattle.proto_wire.specs.Standard.{Content, Varint, Entry}
-use Rattle.proto_wire.specs.Calls.{varint_entry, chunk_entry}
-use Rattle.flight_proto.specs.Message.{merged, chunk_with, int64_of, set_fields, spelled}
+use Rattle.proto_wire.specs.Standard.{Content, Varint}
+use Rattle.proto_wire.specs.Calls.{varint_entry}
+use Rattle.flight_proto.specs.Message.{merged, int64_of, set_fields, spelled}
+use Rattle.flight_proto.specs.Wrapped.{wrapped_of, wrapped_bytes}
 use Rattle.flight_proto.specs.declared.put_result.PutResult.{PutResult}
 use Rattle.flight_proto.specs.declared.put_result.DoPutUpdateResult.{DoPutUpdateResult}
-
--- the metadata of a PutResult: bytes app_metadata = 1
-abbrev pub put_result_of : List ℕ → Result (List ℕ) Fault
-put_result_of bytes = merged (chunk_with 1) [] bytes
 
 -- the count of a DoPutUpdateResult with one field more: int64 record_count = 1
 abbrev pub update_with : ℤ → ℕ → Content → Result ℤ Fault
@@ -26,28 +23,22 @@ update_of bytes = merged update_with (pos 0) bytes
 
 -- how many rows were put, as a PutResult says it
 abbrev pub rows_put_of : List ℕ → Result ℤ Fault
-rows_put_of bytes = put_result_of bytes >>= update_of
+rows_put_of bytes = wrapped_of bytes >>= update_of
 
--- the bytes of both
-abbrev pub put_result_fields : List ℕ → List Entry
-put_result_fields app_metadata = set_fields (chunk_entry 1 app_metadata ∷ [])
-
-abbrev pub put_result_bytes : List ℕ → List ℕ
-put_result_bytes app_metadata = spelled (put_result_fields app_metadata)
-
-abbrev pub update_fields : ℤ → List Entry
-update_fields record_count = set_fields (varint_entry 1 (cast_unsigned w64 record_count) ∷ [])
-
+-- the DoPutUpdateResult of a count
 abbrev pub update_bytes : ℤ → List ℕ
-update_bytes record_count = spelled (update_fields record_count)
+update_bytes record_count = spelled (set_fields (varint_entry 1 (cast_unsigned w64 record_count) ∷ []))
 
 -- the PutResult that says how many rows were put
 abbrev pub rows_put_bytes : ℤ → List ℕ
-rows_put_bytes rows = put_result_bytes (update_bytes rows)
+rows_put_bytes rows = wrapped_bytes (update_bytes rows)
 
--- what the code holds
+-- ---- what the code holds
+
+-- the metadata of a PutResult
 abbrev pub put_result_said : PutResult → List ℕ
 put_result_said put_result = put_result.app_metadata.now
 
+-- the count of a DoPutUpdateResult
 abbrev pub update_said : DoPutUpdateResult → ℤ
 update_said update = update.record_count

@@ -10,10 +10,12 @@ use Rattle.flight_proto.specs.declared.statement_ingest.CommandStatementIngest.{
 
 -- ---- TableDefinitionOptions: what to do where the table is absent, and where it is there
 
+-- the two numbers
 pub record OptionsSaid : Type 0 where
   pub if_not_exist : ℕ
   pub if_exists : ℕ
 
+-- neither is said
 abbrev pub options_empty : OptionsSaid
 options_empty = record { if_not_exist = 0; if_exists = 0 }
 
@@ -29,11 +31,12 @@ options_with options number other = Ok options
 abbrev pub options_of : List ℕ → Result OptionsSaid Fault
 options_of bytes = merged options_with options_empty bytes
 
--- the bytes of options
+-- the fields of options
 abbrev pub options_fields : OptionsSaid → List Entry
 options_fields options =
     set_fields (varint_entry 1 options.if_not_exist ∷ varint_entry 2 options.if_exists ∷ [])
 
+-- the bytes of options
 abbrev pub options_bytes : OptionsSaid → List ℕ
 options_bytes options = spelled (options_fields options)
 
@@ -45,6 +48,7 @@ options_said options =
 -- ---- CommandStatementIngest, without the map `options` (1000), which is not read. An optional field
 -- ---- that is absent is as one that is empty.
 
+-- what a CommandStatementIngest says
 pub record StatementSaid : Type 0 where
   pub table_definition_options : Option OptionsSaid
   pub table : List ℕ
@@ -53,6 +57,7 @@ pub record StatementSaid : Type 0 where
   pub temporary : Bool
   pub transaction_id : List ℕ
 
+-- the command of no fields
 abbrev pub statement_empty : StatementSaid
 statement_empty = record {
   table_definition_options = None;
@@ -84,11 +89,12 @@ statement_with statement number other = Ok statement
 abbrev pub statement_of : List ℕ → Result StatementSaid Fault
 statement_of bytes = merged statement_with statement_empty bytes
 
--- the bytes of the command
+-- a bool is 1 or 0
 abbrev pub bool_number : Bool → ℕ
 bool_number true = 1
 bool_number false = 0
 
+-- the fields of the command
 abbrev pub statement_fields : StatementSaid → List Entry
 statement_fields statement =
     embedded_field 1 options_bytes statement.table_definition_options
@@ -99,6 +105,7 @@ statement_fields statement =
     ∷ chunk_entry 6 statement.transaction_id
     ∷ [])
 
+-- the bytes of the command
 abbrev pub statement_bytes : StatementSaid → List ℕ
 statement_bytes statement = spelled (statement_fields statement)
 

@@ -1,24 +1,15 @@
 -- What a fetch begins with: arrow.flight.protocol.Ticket, which holds an Any of
 -- arrow.flight.protocol.sql.TicketStatementQuery, which holds the handle of a statement.
-use Rattle.std.specs.Prelude.{List, [], ◌∷◌, ℕ, Result, Ok, Err, codes, bytes_eq}
+use Rattle.std.specs.Prelude.{List, ℕ, Result, Ok, Err, codes, bytes_eq}
 use Rattle.scan_base.specs.declared.fault.Fault.{Fault}
 use Rattle.scan_base.specs.declared.fault.Fault.TheVariants.{BadTicket}
 use Rattle.scan_base.specs.Reading.{◌>>=◌, demand, wanted}
-use Rattle.proto_wire.specs.Standard.{Entry}
-use Rattle.proto_wire.specs.Calls.{chunk_entry}
-use Rattle.flight_proto.specs.Message.{merged, chunk_with, set_fields, spelled}
+use Rattle.flight_proto.specs.Wrapped.{wrapped_of, wrapped_bytes}
 use Rattle.flight_proto.specs.Any.{AnySaid, any_of, any_bytes, message_name, type_url_of}
 use Rattle.flight_proto.specs.declared.ticket.Ticket.{Ticket}
 use Rattle.flight_proto.specs.declared.ticket.TicketStatementQuery.{TicketStatementQuery}
 
--- what a Ticket holds: bytes ticket = 1
-abbrev pub ticket_of : List ℕ → Result (List ℕ) Fault
-ticket_of bytes = merged (chunk_with 1) [] bytes
-
--- the handle of a TicketStatementQuery: bytes statement_handle = 1
-abbrev pub ticket_query_of : List ℕ → Result (List ℕ) Fault
-ticket_query_of bytes = merged (chunk_with 1) [] bytes
-
+-- the full name of what a ticket holds
 abbrev pub ticket_query_name : List ℕ
 ticket_query_name = codes "arrow.flight.protocol.sql.TicketStatementQuery"
 
@@ -28,7 +19,7 @@ handle_in ticket = do
   any ← any_of ticket
   name ← wanted (message_name any.type_url) BadTicket
   _ ← demand (bytes_eq name ticket_query_name) BadTicket
-  ticket_query_of any.value
+  wrapped_of any.value
 
 -- any fault inside a ticket is that the ticket is bad
 abbrev pub inside_ticket : {A : Type 0} → Result A Fault → Result A Fault
@@ -37,33 +28,23 @@ inside_ticket (Err fault) = Err BadTicket
 
 -- the handle in the message that begins a fetch
 abbrev pub statement_handle_of : List ℕ → Result (List ℕ) Fault
-statement_handle_of bytes = ticket_of bytes >>= λ ticket. inside_ticket (handle_in ticket)
-
--- the bytes of each
-abbrev pub ticket_fields : List ℕ → List Entry
-ticket_fields ticket = set_fields (chunk_entry 1 ticket ∷ [])
-
-abbrev pub ticket_bytes : List ℕ → List ℕ
-ticket_bytes ticket = spelled (ticket_fields ticket)
-
-abbrev pub ticket_query_fields : List ℕ → List Entry
-ticket_query_fields statement_handle = set_fields (chunk_entry 1 statement_handle ∷ [])
-
-abbrev pub ticket_query_bytes : List ℕ → List ℕ
-ticket_query_bytes statement_handle = spelled (ticket_query_fields statement_handle)
+statement_handle_of bytes = wrapped_of bytes >>= λ ticket. inside_ticket (handle_in ticket)
 
 -- the Any that a ticket of this handle holds
 abbrev pub handle_any : List ℕ → AnySaid
 handle_any handle =
-    record { type_url = type_url_of ticket_query_name; value = ticket_query_bytes handle }
+    record { type_url = type_url_of ticket_query_name; value = wrapped_bytes handle }
 
 -- the ticket of a handle
 abbrev pub statement_ticket_bytes : List ℕ → List ℕ
-statement_ticket_bytes handle = ticket_bytes (any_bytes (handle_any handle))
+statement_ticket_bytes handle = wrapped_bytes (any_bytes (handle_any handle))
 
--- what the code holds
+-- ---- what the code holds
+
+-- the bytes of a Ticket
 abbrev pub ticket_said : Ticket → List ℕ
 ticket_said ticket = ticket.ticket.now
 
+-- the handle of a TicketStatementQuery
 abbrev pub ticket_query_said : TicketStatementQuery → List ℕ
 ticket_query_said query = query.statement_handle.now

@@ -4,8 +4,7 @@
 ghost use Rattle.flight_proto.specs.Laws.{MergingJoins, NameIsLastPart};
 ghost use Rattle.flight_proto.specs.Laws.{AnyReadsBack, DescriptorReadsBack, DataReadsBack};
 ghost use Rattle.flight_proto.specs.Laws.{BodiesFollowHeads};
-ghost use Rattle.flight_proto.specs.Laws.{PutResultReadsBack, UpdateReadsBack, RowsPutReadBack};
-ghost use Rattle.flight_proto.specs.Laws.{TicketReadsBack, TicketQueryReadsBack};
+ghost use Rattle.flight_proto.specs.Laws.{WrappedReadsBack, UpdateReadsBack, RowsPutReadBack};
 ghost use Rattle.flight_proto.specs.Laws.{StatementTicketReadsBack};
 ghost use Rattle.flight_proto.specs.Laws.{OptionsReadBack, StatementReadsBack};
 
@@ -41,9 +40,9 @@ pub fn bodies_follow_heads()
     ensures { BodiesFollowHeads }
 {}
 
-/// A PutResult that is written reads back.
-pub fn put_result_reads_back()
-    ensures { PutResultReadsBack }
+/// A Ticket, a TicketStatementQuery or a PutResult that is written reads back.
+pub fn wrapped_reads_back()
+    ensures { WrappedReadsBack }
 {}
 
 /// A DoPutUpdateResult that is written reads back.
@@ -54,16 +53,6 @@ pub fn update_reads_back()
 /// The number of rows put that is written reads back.
 pub fn rows_put_read_back()
     ensures { RowsPutReadBack }
-{}
-
-/// A Ticket that is written reads back.
-pub fn ticket_reads_back()
-    ensures { TicketReadsBack }
-{}
-
-/// A TicketStatementQuery that is written reads back.
-pub fn ticket_query_reads_back()
-    ensures { TicketQueryReadsBack }
 {}
 
 /// The handle of a ticket that is written reads back.

@@ -31,10 +31,3 @@ pub use crate::ticket::{
     Ticket, TicketStatementQuery, put_statement_ticket, read_statement_handle,
 };
 pub use scan_base::{IfExists, IfNotExist};
-
-#[cfg(test)]
-mod tests;
-#[cfg(test)]
-mod vector_tests;
-#[cfg(test)]
-mod vectors;

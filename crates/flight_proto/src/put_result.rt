@@ -2,8 +2,8 @@
 //! `arrow.flight.protocol.sql.DoPutUpdateResult`.
 
 ghost use Rattle.std.specs.Prelude.{◌≡◌, ◌++◌, OnOk, OnErr};
-ghost use Rattle.scan_base.specs.Reading.{Gives};
-ghost use Rattle.flight_proto.specs.PutResult.{put_result_said, put_result_bytes};
+ghost use Rattle.flight_proto.specs.PutResult.{put_result_said};
+ghost use Rattle.flight_proto.specs.Wrapped.{wrapped_bytes};
 ghost use Rattle.flight_proto.specs.PutResult.{update_said, update_bytes, rows_put_of, rows_put_bytes};
 
 use crate::message::Message;
@@ -21,7 +21,7 @@ pub struct PutResult<'a> {
 
 impl<'a> Message<'a> for PutResult<'a> {
     ghost use Rattle.std.specs.Prelude.{ℕ, List, []};
-    ghost use Rattle.flight_proto.specs.Message.{chunk_with};
+    ghost use Rattle.flight_proto.specs.Wrapped.{wrapped_with};
     ghost use Rattle.flight_proto.specs.PutResult.{put_result_said};
 
     ghost Said = { List ℕ };
@@ -30,7 +30,7 @@ impl<'a> Message<'a> for PutResult<'a> {
 
     ghost nothing = { [] };
 
-    ghost with = { chunk_with 1 };
+    ghost with = { wrapped_with };
 
     fn empty() -> PutResult<'a> {
         PutResult { app_metadata: &[] }
@@ -52,7 +52,7 @@ impl<'a> PutResult<'a> {
     /// `AllocError` where memory is refused. Nothing has changed then.
     pub fn put(&self, out: &mut Vec<u8>) -> Result<(), AllocError>
         ensures ok { OnOk result (out.new.items
-            ≡ out.old.items ++ put_result_bytes (put_result_said self.now)) }
+            ≡ out.old.items ++ wrapped_bytes (put_result_said self.now)) }
         ensures err { OnErr result (out.new.items ≡ out.old.items) }
     {
         put_set_fields(out, &[Field::bytes(1, self.app_metadata)])
@@ -130,7 +130,7 @@ pub fn put_rows_put(out: &mut Vec<u8>, rows: i64) -> Result<(), AllocError>
 ///
 /// `Fault::BadProto` where the PutResult, or the DoPutUpdateResult in it, does not read.
 pub fn read_rows_put(bytes: &[u8]) -> Result<i64, Fault>
-    ensures { Gives (λ rows. rows) result (rows_put_of bytes.now) }
+    ensures { result ≡ rows_put_of bytes.now }
 {
     let put_result = PutResult::read(bytes)?;
     let update = DoPutUpdateResult::read(put_result.app_metadata)?;

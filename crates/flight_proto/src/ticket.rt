@@ -3,8 +3,8 @@
 
 ghost use Rattle.std.specs.Prelude.{◌≡◌, ◌++◌, OnOk, OnErr};
 ghost use Rattle.scan_base.specs.Reading.{Gives};
-ghost use Rattle.flight_proto.specs.Ticket.{ticket_said, ticket_bytes};
-ghost use Rattle.flight_proto.specs.Ticket.{ticket_query_said, ticket_query_bytes};
+ghost use Rattle.flight_proto.specs.Ticket.{ticket_said, ticket_query_said};
+ghost use Rattle.flight_proto.specs.Wrapped.{wrapped_bytes};
 ghost use Rattle.flight_proto.specs.Ticket.{handle_in, statement_handle_of, statement_ticket_bytes};
 
 use crate::any::Any;
@@ -23,7 +23,7 @@ pub struct Ticket<'a> {
 
 impl<'a> Message<'a> for Ticket<'a> {
     ghost use Rattle.std.specs.Prelude.{ℕ, List, []};
-    ghost use Rattle.flight_proto.specs.Message.{chunk_with};
+    ghost use Rattle.flight_proto.specs.Wrapped.{wrapped_with};
     ghost use Rattle.flight_proto.specs.Ticket.{ticket_said};
 
     ghost Said = { List ℕ };
@@ -32,7 +32,7 @@ impl<'a> Message<'a> for Ticket<'a> {
 
     ghost nothing = { [] };
 
-    ghost with = { chunk_with 1 };
+    ghost with = { wrapped_with };
 
     fn empty() -> Ticket<'a> {
         Ticket { ticket: &[] }
@@ -54,7 +54,7 @@ impl<'a> Ticket<'a> {
     /// `AllocError` where memory is refused. Nothing has changed then.
     pub fn put(&self, out: &mut Vec<u8>) -> Result<(), AllocError>
         ensures ok { OnOk result (out.new.items
-            ≡ out.old.items ++ ticket_bytes (ticket_said self.now)) }
+            ≡ out.old.items ++ wrapped_bytes (ticket_said self.now)) }
         ensures err { OnErr result (out.new.items ≡ out.old.items) }
     {
         put_set_fields(out, &[Field::bytes(1, self.ticket)])
@@ -70,7 +70,7 @@ pub struct TicketStatementQuery<'a> {
 
 impl<'a> Message<'a> for TicketStatementQuery<'a> {
     ghost use Rattle.std.specs.Prelude.{ℕ, List, []};
-    ghost use Rattle.flight_proto.specs.Message.{chunk_with};
+    ghost use Rattle.flight_proto.specs.Wrapped.{wrapped_with};
     ghost use Rattle.flight_proto.specs.Ticket.{ticket_query_said};
 
     ghost Said = { List ℕ };
@@ -79,7 +79,7 @@ impl<'a> Message<'a> for TicketStatementQuery<'a> {
 
     ghost nothing = { [] };
 
-    ghost with = { chunk_with 1 };
+    ghost with = { wrapped_with };
 
     fn empty() -> TicketStatementQuery<'a> {
         TicketStatementQuery {
@@ -103,7 +103,7 @@ impl<'a> TicketStatementQuery<'a> {
     /// `AllocError` where memory is refused. Nothing has changed then.
     pub fn put(&self, out: &mut Vec<u8>) -> Result<(), AllocError>
         ensures ok { OnOk result (out.new.items
-            ≡ out.old.items ++ ticket_query_bytes (ticket_query_said self.now)) }
+            ≡ out.old.items ++ wrapped_bytes (ticket_query_said self.now)) }
         ensures err { OnErr result (out.new.items ≡ out.old.items) }
     {
         put_set_fields(out, &[Field::bytes(1, self.statement_handle)])

@@ -2,16 +2,12 @@
 #![tactic(auto)]
 
 #[cfg(test)]
-mod values;
-
-#[cfg(test)]
-mod wire;
-
-#[cfg(test)]
 mod flat_buffers;
-
 #[cfg(test)]
 mod messages;
-
 #[cfg(test)]
 mod records;
+#[cfg(test)]
+mod values;
+#[cfg(test)]
+mod wire;

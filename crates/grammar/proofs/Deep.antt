@@ -2,7 +2,8 @@
 use Rattle.std.proofs.Common.{◌≡◌, ℕ, zero, suc, ◌+◌, ◌≤◌, Bool, true, false, cond, ◌⊎◌, inl, inr, List, [], ◌∷◌, length, Option, Some, None, refl, ap, arith}
 use Rattle.std.specs.Prelude.{is_some}
 use Rattle.grammar.specs.Rule.{Rule, one, empty, both, either, many, make, opened, again, Language, Repeats, Spells, Nowhere, Nested, Any}
-use Rattle.grammar.specs.Reading.{Outcome, Read, Stuck, Over, Reader, and_then, starts, begins, taken, followed, repeats, nested, entered, reads, read, is_flat}
+use Rattle.grammar.specs.Reading.{Outcome, Read, Stuck, Over, Reader, and_then, starts, begins, taken, followed, repeats, nested, entered, reads, read}
+use Rattle.grammar.proofs.Determined.{is_flat}
 use Rattle.grammar.proofs.Flags.{and-left, and-right}
 use Rattle.grammar.proofs.Laws.{Within}
 use Rattle.grammar.proofs.Rules.{wider}

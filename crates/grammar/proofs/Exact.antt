@@ -1,8 +1,9 @@
 -- Reading tells which sentence the tokens are, or which token offends, or which opener is one too many.
 use Rattle.std.proofs.Common.{◌≡◌, ℕ, zero, suc, ◌+◌, ◌≤◌, Bool, true, false, List, [], ◌∷◌, ◌++◌, Some, None, refl, sym, ◌∙◌, ap, subst, append_assoc, arith}
 use Rattle.grammar.specs.Rule.{Rule, Language, Spells, Nowhere, Nested, Any}
-use Rattle.grammar.specs.Reading.{Outcome, Read, Stuck, Over, nullable, starts, reads, read, well_made, is_guarded, covers, determined, wholly}
-use Rattle.grammar.specs.Sentence.{Tells}
+use Rattle.grammar.specs.Reading.{Outcome, Read, Stuck, Over, nullable, starts, reads, read}
+use Rattle.grammar.proofs.Determined.{well_made, is_guarded, covers, determined, wholly}
+use Rattle.grammar.proofs.Telling.{Tells}
 use Rattle.grammar.proofs.Laws.{Lawful, Fair, Speaks, Solid, Within, switch}
 use Rattle.grammar.proofs.Rules.{speaks, speaks_flat, solid_of, StartsWith, started, Covers, Disjoins}
 use Rattle.grammar.proofs.Lawfulness.{lawful}

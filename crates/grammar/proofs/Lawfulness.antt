@@ -2,7 +2,8 @@
 use Rattle.std.proofs.Common.{◌≡◌, Bool, true, false, cond, ◌&&◌, ◌||◌, not, ◌⊎◌, inl, inr, List, [], ◌∷◌, ◌++◌, Option, Some, None, refl, sym, ◌∙◌, ap, subst}
 use Rattle.std.specs.Prelude.{is_some}
 use Rattle.grammar.specs.Rule.{Rule, one, empty, both, either, many, make, opened, again, Language, Spells}
-use Rattle.grammar.specs.Reading.{Over, Reader, nullable, starts, begins, taken, followed, chosen, made, nested, entered, reads, well_made, is_guarded, is_deep}
+use Rattle.grammar.specs.Reading.{Over, Reader, nullable, starts, begins, taken, followed, chosen, made, nested, entered, reads}
+use Rattle.grammar.proofs.Determined.{well_made, is_guarded, is_deep}
 use Rattle.grammar.proofs.Flags.{and-left, and-right, not-true, or-and-left, or-and-right}
 use Rattle.grammar.proofs.Laws.{IsOver, Fair, Lawful, Within, Speaks, Solid, Both, Image, One, both_fair, switch, made_fair, empty_fair, one_fair, chosen_fair, many_fair, begins-first}
 use Rattle.grammar.proofs.Rules.{wider, speaks, speaks_flat, solid_of}

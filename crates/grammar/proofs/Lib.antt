@@ -6,3 +6,5 @@ pub mod Whole
 pub mod Deep
 pub mod Exact
 pub mod Keeping
+pub mod Determined
+pub mod Telling

@@ -2,7 +2,8 @@
 use Rattle.std.proofs.Common.{◌≡◌, Bool, true, false, cond, ◌&&◌, ◌||◌, not, ◌⊎◌, inl, inr, List, [], ◌∷◌, ◌++◌, refl, subst}
 use Rattle.std.specs.Prelude.{is_some}
 use Rattle.grammar.specs.Rule.{Rule, one, empty, both, either, many, make, opened, again, Language, Repeats, Spells, Nowhere}
-use Rattle.grammar.specs.Reading.{nullable, starts, well_made, is_guarded, is_deep, covers, disjoint, determined}
+use Rattle.grammar.specs.Reading.{nullable, starts}
+use Rattle.grammar.proofs.Determined.{well_made, is_guarded, is_deep, covers, disjoint, determined}
 use Rattle.grammar.proofs.Flags.{and-left, and-right, or-inl, or-inr, and-both, if_null, if_first, some_of}
 use Rattle.grammar.proofs.Laws.{Speaks, Solid, Within}
 

@@ -2,7 +2,8 @@
 use Rattle.std.proofs.Common.{◌≡◌, Bool, true, false, ◌&&◌, ◌||◌, not, ◌⊎◌, inl, inr, List, [], ◌∷◌, ◌++◌, Option, Some, None, refl, ◌∙◌, ap, append_assoc}
 use Rattle.std.specs.Prelude.{is_some}
 use Rattle.grammar.specs.Rule.{Rule, one, empty, both, either, many, make, opened, again, Language, Repeats, Spells, Nowhere}
-use Rattle.grammar.specs.Reading.{Read, Reader, nullable, starts, begins, taken, followed, chosen, repeated, nested, entered, reads, well_made, is_guarded, is_deep, disjoint, covers, determined, token}
+use Rattle.grammar.specs.Reading.{Read, Reader, nullable, starts, begins, taken, followed, chosen, repeated, nested, entered, reads, token}
+use Rattle.grammar.proofs.Determined.{well_made, is_guarded, is_deep, disjoint, covers, determined}
 use Rattle.grammar.proofs.Flags.{and-left, and-right, or-inl, or-inr, and-both, not-true, or-and-left, or-and-right}
 use Rattle.grammar.proofs.Laws.{Lawful, Within, Speaks, Solid, step}
 use Rattle.grammar.proofs.Rules.{nulls, solid_of, barred, StartsWith, started, Covers, Disjoins}

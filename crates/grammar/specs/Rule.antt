@@ -15,6 +15,7 @@ pub data Rule (K V P : Type 0) : Type 0 → Type 1 where
   -- the recursive nonterminal, and the kinds that its sentences begin with
   again : (K → Bool) → Rule K V P P
 
+-- which tokens say which value
 abbrev pub Language : Type 0 → Type 0 → Type 1
 Language T A = List T → A → Type 0
 
@@ -34,6 +35,7 @@ Spells D (make {A = A} f g) ts v = (x : A) × (v ≡ f x) × Spells D g ts x
 Spells {K} {V} D (opened p s g h) ts v = ((t : K × V) × (r : List (K × V)) × (ts ≡ t ∷ r) × (p t.0 ≡ true) × Spells D g r v) ⊎ Spells D h ts v
 Spells D (again first) ts v = D ts v
 
+-- no tokens say any
 abbrev pub Nowhere : {T A : Type 0} → Language T A
 Nowhere ts v = ⊥
 
@@ -42,5 +44,6 @@ abbrev pub Nested : {K V P : Type 0} → Rule K V P P → ℕ → Language (K ×
 Nested g zero = Spells Nowhere g
 Nested g (suc d) = Spells (Nested g d) g
 
+-- sentences of the recursive nonterminal, however many openers are open at once
 abbrev pub Any : {K V P : Type 0} → Rule K V P P → Language (K × V) P
 Any g ts v = (d : ℕ) × Nested g d ts v

@@ -43,7 +43,7 @@ no_lead left rest (broken fault) found ends leads =
     cc
 
 -- nothing, and a flaw
-no_break : (left : Received) (fault : Fault) → left.bytes ≡ [] → Breaks left fault → ⊥
+pub no_break : (left : Received) (fault : Fault) → left.bytes ≡ [] → Breaks left fault → ⊥
 no_break left fault none breaks = shown_some breaks.flaw breaks.rest (sym none ∙ breaks.whole)
 
 -- a stream ends in one way

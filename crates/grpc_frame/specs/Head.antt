@@ -1,6 +1,7 @@
 -- What the head of a record says, by the first bytes alone.
 use Rattle.std.specs.Prelude.{ℕ, ◌<◌, ◌≤◌, ◌==◌, nat_lt, List, length, take, drop, slice_index, Option, Some, None, Result, Ok, Err, if◌then◌else◌}
 use Rattle.std.specs.Int.{w16, w32, from_be_bytes}
+use Rattle.scan_base.specs.Limits.{most_path_bytes, most_message_bytes}
 use Rattle.scan_base.specs.declared.fault.Fault.{Fault}
 use Rattle.scan_base.specs.declared.fault.Fault.TheVariants.{BadFrame, MessageTooLarge}
 use Rattle.grpc_frame.specs.declared.place.Place.{Place}
@@ -22,14 +23,14 @@ len32_at at bytes = from_be_bytes w32 (take 4 (drop at bytes))
 
 -- a head is short, and so is what follows it
 abbrev pub HasBounds : Head → Type 0
-HasBounds head = (head.len ≤ 6) × (head.content_len ≤ 16777216)
+HasBounds head = (head.len ≤ 6) × (head.content_len ≤ most_message_bytes)
 
 -- each kind's head, or None where more of it has to come
 
 abbrev pub open_head : List ℕ → Result (Option Head) Fault
 open_head bytes =
     if nat_lt (length bytes) 3 then Ok None
-    else (if nat_lt 256 (len16_at 1 bytes) then Err BadFrame
+    else (if nat_lt most_path_bytes (len16_at 1 bytes) then Err BadFrame
     else Ok (Some (record { kind = kinds.Open; len = 3; content_len = len16_at 1 bytes })))
 
 abbrev pub message_head : List ℕ → Result (Option Head) Fault
@@ -37,7 +38,7 @@ message_head bytes =
     if nat_lt (length bytes) 2 then Ok None
     else (if slice_index bytes 1 == 0 then
     (if nat_lt (length bytes) 6 then Ok None
-    else (if nat_lt 16777216 (len32_at 2 bytes) then Err MessageTooLarge
+    else (if nat_lt most_message_bytes (len32_at 2 bytes) then Err MessageTooLarge
     else Ok (Some (record { kind = kinds.Message; len = 6; content_len = len32_at 2 bytes }))))
     else Err BadFrame)
 

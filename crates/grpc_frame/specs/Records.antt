@@ -3,6 +3,7 @@ use Rattle.std.specs.Prelude.{◌≡◌, ◌≢◌, ℕ, ◌≤◌, ◌<◌, ◌
 use Rattle.std.specs.Int.{w16, w32, to_be_bytes}
 use Rattle.std.specs.List.{flat_map}
 use Rattle.std.specs.Option.{option_and_then}
+use Rattle.scan_base.specs.Limits.{most_path_bytes, most_message_bytes}
 use Rattle.scan_base.specs.declared.fault.Fault.{Fault}
 use Rattle.scan_base.specs.declared.fault.Fault.TheVariants.{BadFrame, MessageTooLarge}
 use Rattle.grpc_frame.specs.declared.place.Place.{Place}
@@ -20,21 +21,19 @@ spelling (Status code text) = 4 ∷ code ∷ (to_be_bytes w16 (length text) ++ t
 
 -- a record that may be sent
 abbrev pub IsRecord : Record → Type 0
-IsRecord (Open path) = length path ≤ 256
-IsRecord (Message message) = length message ≤ 16777216
+IsRecord (Open path) = length path ≤ most_path_bytes
+IsRecord (Message message) = length message ≤ most_message_bytes
 IsRecord End = Unit {0}
 IsRecord (Status code text) = (code < 256) × (length text < 2 ^ 16) × IsUtf8 text
 
 -- the place behind a record, where the record may stand at this one
 abbrev pub place_after : Place → Record → Option Place
 place_after BetweenCalls (Open path) = Some InsideCall
-place_after BetweenCalls _ = None
 place_after InsideCall (Message message) = Some InsideCall
 place_after InsideCall End = Some BetweenCalls
-place_after InsideCall _ = None
 place_after InAnswer (Message message) = Some InAnswer
 place_after InAnswer (Status code text) = Some InAnswer
-place_after InAnswer _ = None
+place_after _ _ = None
 
 -- the place behind some records
 abbrev pub place_after_all : Place → List Record → Option Place
@@ -64,6 +63,8 @@ IsKindAt BetweenCalls kind = kind ≡ 1
 IsKindAt InsideCall kind = (kind ≡ 2) ⊎ (kind ≡ 3)
 IsKindAt InAnswer kind = (kind ≡ 2) ⊎ (kind ≡ 4)
 
+-- what may be wrong: a kind byte out of its place, a length above its limit, a flag that is not 0, a text that is no
+-- UTF-8
 pub data Flaw : Type 0 where
   wrong_kind : (kind : ℕ) → Flaw
   long_path : (len : ℕ) → Flaw
@@ -74,9 +75,9 @@ pub data Flaw : Type 0 where
 -- it is a flaw at this place
 abbrev pub IsFlaw : Place → Flaw → Type 0
 IsFlaw place (wrong_kind kind) = ¬ IsKindAt place kind
-IsFlaw place (long_path len) = IsKindAt place 1 × (256 < len) × (len < 2 ^ 16)
+IsFlaw place (long_path len) = IsKindAt place 1 × (most_path_bytes < len) × (len < 2 ^ 16)
 IsFlaw place (wrong_flag flag) = IsKindAt place 2 × (flag ≢ 0)
-IsFlaw place (long_message len) = IsKindAt place 2 × (16777216 < len) × (len < 2 ^ 32)
+IsFlaw place (long_message len) = IsKindAt place 2 × (most_message_bytes < len) × (len < 2 ^ 32)
 IsFlaw place (bad_text code text) = IsKindAt place 4 × (length text < 2 ^ 16) × (¬ IsUtf8 text)
 
 -- the bytes that show it: no more have to come
@@ -113,6 +114,7 @@ pub data Ending : Type 0 where
   cut : Ending
   broken : Fault → Ending
 
+-- what is left ends the stream so
 abbrev pub Ends : Received → Ending → Type 0
 Ends left nothing_more = left.bytes ≡ []
 Ends left cut = (left.bytes ≢ []) × IsCut left

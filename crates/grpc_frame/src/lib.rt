@@ -23,6 +23,3 @@ pub use crate::memory::{MemoryInput, MemoryOutput};
 pub use crate::place::Place;
 pub use crate::record::{MAX_MESSAGE_LEN, MAX_PATH_LEN, Record};
 pub use crate::write::{write_end, write_message, write_open, write_status};
-
-#[cfg(test)]
-mod tests;

@@ -1,6 +1,7 @@
 //! Writing records.
 
 ghost use Rattle.std.specs.Prelude.{◌≡◌, ◌++◌, ◌<◌, ◌≤◌, length};
+ghost use Rattle.scan_base.specs.Limits.{most_path_bytes, most_message_bytes};
 ghost use Rattle.grpc_frame.specs.declared.record.Record.TheVariants.{Open, Message, End};
 ghost use Rattle.grpc_frame.specs.Records.{spelling, IsRecord};
 ghost use Rattle.grpc_frame.specs.Calls.{status_of};
@@ -30,7 +31,7 @@ fn write_parts<W: Output>(out: &mut W, head: &[u8], content: &[u8]) -> Result<()
 /// written.
 pub fn write_open<W: Output>(out: &mut W, path: &[u8]) -> Result<(), Fault>
     requires failures { W.failures out.old < 18446744073709551615 }
-    requires short { length path.now ≤ 256 }
+    requires short { length path.now ≤ most_path_bytes }
     ensures bytes { Writes result
         (W.contents out.old) (W.contents out.new) (spelling (Open path.now)) }
     ensures counted { CountsFailure result (W.failures out.old) (W.failures out.new) }
@@ -48,7 +49,7 @@ pub fn write_open<W: Output>(out: &mut W, path: &[u8]) -> Result<(), Fault>
 /// written.
 pub fn write_message<W: Output>(out: &mut W, message: &[u8]) -> Result<(), Fault>
     requires failures { W.failures out.old < 18446744073709551615 }
-    requires short { length message.now ≤ 16777216 }
+    requires short { length message.now ≤ most_message_bytes }
     ensures bytes { Writes result
         (W.contents out.old) (W.contents out.new) (spelling (Message message.now)) }
     ensures counted { CountsFailure result (W.failures out.old) (W.failures out.new) }

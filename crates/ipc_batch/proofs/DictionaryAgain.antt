@@ -36,7 +36,7 @@ use Rattle.ipc_batch.specs.Parts.{DictionaryParts, dictionary_parts, buffer_at}
 use Rattle.ipc_batch.specs.Columns.{FrontAt, texts_at, front_of, values_led_to, one_texts, counts_agree}
 use Rattle.ipc_batch.specs.State.{Known, Dictionaries, values_under, with_values}
 use Rattle.ipc_batch.specs.Said.{Sent, News, leads_to, kept_of, has_id, dictionary_sent, known_after, news_of}
-use Rattle.ipc_batch.specs.Written.{WrittenParts, FitsBatch, FitParts, parts_part, dictionary_part, body_of, body_length, buffers_written, node_written, parts_written, values_batch, values_after, dictionary_news, SaysDictionaryParts, SaysDictionary}
+use Rattle.ipc_batch.specs.Written.{WrittenParts, FitsBatch, FitParts, parts_part, dictionary_part, body_of, body_length, buffers_written, node_written, parts_written, values_batch, values_after, dictionary_news, SaysDictionaryParts, SaysValues}
 use Rattle.ipc_batch.specs.Laws.{DictionariesReadBack}
 use Rattle.ipc_batch.proofs.Entries.{under_set, under_other}
 use Rattle.ipc_batch.proofs.Lengths.{fine, both}
@@ -180,7 +180,7 @@ extended_again old texts values same =
 
 -- the message of a dictionary says its values
 pub dictionary_said : (id : ℕ) (values : TextsAt) (is_delta : Bool) → id < 2 ^ 64 → FitsBatch (values_batch values) →
-    SaysDictionary (dictionary_written id (parts_written (values_batch values)) is_delta) id (texts_values values) is_delta
+    SaysValues (dictionary_written id (parts_written (values_batch values)) is_delta) id (texts_values values) is_delta
 unfolding news_of known_after values_written dictionary_news
 dictionary_said id values is_delta low fits known =
     let batch = values_batch values in
@@ -207,13 +207,13 @@ dictionary_said id values is_delta low fits known =
 -- what the bytes say that are made of a dictionary
 pub tells : (id : ℕ) (values : TextsAt) (is_delta : Bool) (batch : BatchAt) (header body : List ℕ) → id < 2 ^ 64 → batch ≡ values_batch values → FitsBatch batch →
     header ≡ message_bytes DictionaryBatch (dictionary_part id (parts_written batch) is_delta) (body_length batch) → body ≡ body_of (buffers_written batch.columns) →
-    SaysDictionaryParts (record { header = header; body = body }) id (parts_written (values_batch values)) is_delta × SaysDictionary (record { header = header; body = body }) id (texts_values values) is_delta
+    SaysDictionaryParts (record { header = header; body = body }) id (parts_written (values_batch values)) is_delta × SaysValues (record { header = header; body = body }) id (texts_values values) is_delta
 tells id values is_delta batch header body low same fits header_is body_is =
     let fits2 : FitsBatch (values_batch values) = subst FitsBatch same fits in
     let parts = parts_written (values_batch values) in
     let is : dictionary_written id parts is_delta ≡ record { header = header; body = body } = rw (header_is, body_is, same) refl in (
       subst (λ (x : Sent). SaysDictionaryParts x id parts is_delta) is (dictionary_parts_said id parts is_delta low (fit_parts (values_batch values) fits2)).0,
-      subst (λ (x : Sent). SaysDictionary x id (texts_values values) is_delta) is (dictionary_said id values is_delta low fits2),
+      subst (λ (x : Sent). SaysValues x id (texts_values values) is_delta) is (dictionary_said id values is_delta low fits2),
     )
 
 -- ---- what is known behind it

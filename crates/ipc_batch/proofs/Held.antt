@@ -22,8 +22,8 @@ use Rattle.ipc_batch.specs.declared.parts.FieldNode.{FieldNode}
 use Rattle.ipc_batch.specs.declared.parts.BufferPlace.{BufferPlace}
 use Rattle.ipc_batch.specs.Parts.{placed_in, buffer_at}
 use Rattle.ipc_batch.specs.State.{Dictionaries, values_under}
-use Rattle.ipc_batch.specs.Columns.{FrontAt, validity_at, led_into, texts_at, values_at, texts_front, values_front, front_of, columns_from, buffers_wanted, one_texts}
-use Rattle.ipc_batch.specs.Holds.{Source, HasBuffer, HasBytes, HasValidity, HoldsValues, HoldsLayout, HoldsColumn, own_buffer, HoldsColumns}
+use Rattle.ipc_batch.specs.Columns.{FrontAt, validity_at, texts_at, values_at, texts_front, values_front, front_of, columns_from, buffers_wanted, one_texts}
+use Rattle.ipc_batch.specs.Holds.{BatchBody, led_into, HasBuffer, HasBytes, HasValidity, HoldsValues, HoldsLayout, HoldsColumn, own_buffer, HoldsColumns}
 
 -- ---- buffers
 
@@ -87,11 +87,11 @@ validity_read body node place (Some bits) says = by (node.null_count == 0) refl
 -- ---- the column at the front
 
 -- what is read, as a source
-abbrev pub source_of : ℕ → List ℕ → Dictionaries → Source
+abbrev pub source_of : ℕ → List ℕ → Dictionaries → BatchBody
 source_of rows body dictionaries = record { rows = rows; body = body; dictionaries = values_under dictionaries }
 
 -- a column over the buffers at the front, and those behind it
-pub record AtFront (source : Source) (t : DataType) (node : FieldNode) (places : List BufferPlace) (front : FrontAt) : Type 0 where
+pub record AtFront (source : BatchBody) (t : DataType) (node : FieldNode) (places : List BufferPlace) (front : FrontAt) : Type 0 where
   pub column : HoldsColumn source t node (slice_get places) (whole front.layout)
   pub behind : front.behind ≡ drop (buffer_count t) places
 
@@ -247,11 +247,11 @@ own_next field fields places index = fun_ext (λ k.
     get_behind (buffer_count field.data_type) places (buffers_wanted (take index fields) + k) ∙ ap (slice_get places) e))
 
 -- each column is what its node and buffers hold
-abbrev AreHeld : Source → List Field → List FieldNode → List BufferPlace → List ColumnAt → Type 0
+abbrev AreHeld : BatchBody → List Field → List FieldNode → List BufferPlace → List ColumnAt → Type 0
 AreHeld source fields nodes places columns = (index : ℕ) (field : Field) (node : FieldNode) (column : ColumnAt) → slice_get fields index ≡ Some field →
     slice_get nodes index ≡ Some node → slice_get columns index ≡ Some column → HoldsColumn source field.data_type node (own_buffer fields places index) column
 
-held_more : (source : Source) (field : Field) (fields : List Field) (node : FieldNode) (nodes : List FieldNode) (places : List BufferPlace) (column : ColumnAt) (columns : List ColumnAt) →
+held_more : (source : BatchBody) (field : Field) (fields : List Field) (node : FieldNode) (nodes : List FieldNode) (places : List BufferPlace) (column : ColumnAt) (columns : List ColumnAt) →
     HoldsColumn source field.data_type node (slice_get places) column → AreHeld source fields nodes (drop (buffer_count field.data_type) places) columns →
     AreHeld source (field ∷ fields) (node ∷ nodes) places (column ∷ columns)
 held_more source field fields node nodes places column columns one rest zero f n c f_is n_is c_is =
@@ -299,7 +299,7 @@ columns_read (field ∷ fields) dictionaries rows body (node ∷ nodes) places (
     ) (ap (λ (c : ColumnAt). Ok (c ∷ columns)) (sym one.whole_is))
 
 -- the one column of texts that a dictionary has
-pub record IsOne (source : Source) (nodes : List FieldNode) (places : List BufferPlace) (cells : TextsAt) : Type 0 where
+pub record IsOne (source : BatchBody) (nodes : List FieldNode) (places : List BufferPlace) (cells : TextsAt) : Type 0 where
   pub node : FieldNode
   pub noded : nodes ≡ node ∷ []
   pub many : length places ≡ 3

@@ -1,7 +1,8 @@
 -- What messages leave behind, and the rows that they bring, are what they say.
-use Rattle.std.proofs.Common.{◌≡◌, ◌≢◌, ◌≤◌, ℕ, ◌+◌, ◌==◌, not, nat_le, Bool, true, false, List, [], ◌++◌, length, Option, Some, None, Ok, refl, arith, sym, ap, ◌∙◌, subst}
+use Rattle.std.proofs.Common.{◌∷◌, ◌≡◌, ◌≢◌, ◌≤◌, ℕ, ◌+◌, ◌==◌, not, nat_le, Bool, true, false, List, [], ◌++◌, length, Option, Some, None, Ok, refl, arith, sym, ap, ◌∙◌, subst}
 use Rattle.std.specs.Prelude.{option_map}
-use Rattle.std.specs.List.{list_any}
+use Rattle.std.specs.List.{list_any, AllByRecursion}
+use Rattle.std.proofs.lemmas.List.Elements.{recursion_from_All}
 use Rattle.std.proofs.Math.Path.{fun_ext}
 use Rattle.std.proofs.lemmas.Bool.{eq-eqb, eqb-true, leb-true, le-leb}
 use Rattle.std.proofs.lemmas.List.{length-append}
@@ -24,9 +25,10 @@ use Rattle.arrays.specs.Batch.{BatchAt}
 use Rattle.ipc_batch.specs.Parts.{PartsAt, DictionaryParts, body_claimed, parts_of, dictionary_parts}
 use Rattle.ipc_batch.specs.State.{Known, State, values_under, with_values}
 use Rattle.ipc_batch.specs.Columns.{columns_from, buffers_wanted, counts_agree, one_texts}
-use Rattle.ipc_batch.specs.Said.{Sent, News, schema_sent, batch_parts, batch_sent, leads_to, dictionary_sent, kept_of, known_after, first_schema, next_news, news_of}
+use Rattle.ipc_batch.specs.News.{Sent, News, schema_sent, batch_parts, batch_sent, leads_to, dictionary_sent, kept_of, known_after, first_schema, next_news, news_of}
+use Rattle.ipc_batch.specs.Said.{Rows, rows_in, Follows, Says}
 use Rattle.ipc_batch.specs.Brings.{SaysMessage, SaysDictionaryBatch, Context, context_of, BringsBatch, Sets, BringsDictionary, BringsSchema, Brings}
-use Rattle.ipc_batch.specs.Laws.{IsRead, ReadIsBrought}
+use Rattle.ipc_batch.specs.Laws.{IsReadAs, ReadIsBrought, BringRows, SaidIsBrought}
 use Rattle.ipc_batch.proofs.Entries.{under_set, under_other}
 use Rattle.ipc_batch.proofs.Held.{columns_told, columns_read, one_told, one_read}
 use Rattle.ipc_batch.proofs.Brought.{IsMessage, message_told, message_read, claims_told, claims_read, says_message, message_at, is_message, is_headed, IsParts, parts_told, parts_read}
@@ -323,7 +325,7 @@ news_told (Some known) sent news is e =
     let m = bind_ok (message_of sent.header) _ news e in
     next_told (m.0).kind known sent m.0 news is (message_told sent.header m.0 is m.1) refl m.2
 
-news_read : (state : State) (sent : Sent) (after : Option Context) (batch : Option BatchAt) → IsBytes sent.header → Brings (option_map context_of state) sent after batch → IsRead state sent after batch
+news_read : (state : State) (sent : Sent) (after : Option Context) (batch : Option BatchAt) → IsBytes sent.header → Brings (option_map context_of state) sent after batch → IsReadAs state sent after batch
 unfolding news_of
 news_read None sent None batch is says = absurd says
 news_read None sent (Some after) batch is says =
@@ -362,3 +364,45 @@ read_is_brought state sent after batch is = (
       (subst (λ (a : Option Context). Brings (option_map context_of state) sent a found.news.batch) found.leaves (news_told state sent found.news is found.read)),
   λ says. news_read state sent after batch is says,
 )
+
+-- ---- messages, one behind another
+
+abbrev HasBytes : Sent → Type 0
+HasBytes sent = IsBytes sent.header
+
+follows_told : (state : State) (messages : List Sent) (end : State) (rows : Rows) → AllByRecursion HasBytes messages → Follows state messages end rows →
+    BringRows (option_map context_of state) messages (option_map context_of end) rows
+follows_told state [] end rows all p = (ap (option_map context_of) p.0, p.1)
+follows_told state (sent ∷ more) end rows all p =
+    (option_map context_of p.0.state, p.0.batch, p.1, news_told state sent p.0 all.0 p.2, p.3, follows_told p.0.state more end p.1 all.1 p.4)
+
+-- messages that bring rows are read so, and leave behind what is known
+record AreRead (state : State) (messages : List Sent) (end : Option Context) (rows : Rows) : Type 0 where
+  last : State
+  same : option_map context_of last ≡ end
+  follows : Follows state messages last rows
+
+follows_read : (state : State) (messages : List Sent) (end : Option Context) (rows : Rows) → AllByRecursion HasBytes messages → BringRows (option_map context_of state) messages end rows → AreRead state messages end rows
+follows_read state [] end rows all p = record { last = state; same = sym p.0; follows = (refl, p.1) }
+follows_read state (sent ∷ more) end rows all p =
+    let found = news_read state sent p.0 p.1 all.0 p.3 in
+    let behind = subst (λ (context : Option Context). BringRows context more end p.2) (sym found.leaves) p.5 in
+    let rest = follows_read found.news.state more end p.2 all.1 behind in
+    let rows_is : rows ≡ rows_in found.news.batch ++ p.2 = p.4 ∙ ap (λ (b : Option BatchAt). rows_in b ++ p.2) (sym found.adds) in
+    record { last = rest.last; same = rest.same; follows = (found.news, p.2, found.read, rows_is, rest.follows) }
+
+says_read : (messages : List Sent) (end : Context) (schema : Schema) (rows : Rows) → end.schema ≡ schema → AreRead None messages (Some end) rows → Says messages schema rows
+says_read messages end schema rows same r = by r.last r.same r.follows
+  where
+    by : (last : State) → option_map context_of last ≡ Some end → Follows None messages last rows → Says messages schema rows
+    by None e follows = absurd (let no : ⊥ = cc in no)
+    by (Some known) e follows =
+        let context : context_of known ≡ end = cc in
+        (known, ap (λ (x : Context). x.schema) context ∙ same, follows)
+
+pub said_is_brought : SaidIsBrought
+said_is_brought messages schema rows all =
+    let each = recursion_from_All HasBytes messages all in (
+      λ p. (context_of p.0, p.1, follows_told None messages (Some p.0) rows each p.2),
+      λ q. says_read messages q.0 schema rows q.1 (follows_read None messages (Some q.0) rows each q.2),
+    )

@@ -18,8 +18,8 @@ use Rattle.arrays.specs.Typed.{AreOfTypes}
 use Rattle.ipc_batch.specs.Parts.{PartsAt, DictionaryParts}
 use Rattle.ipc_batch.specs.Columns.{columns_from, one_texts}
 use Rattle.ipc_batch.specs.State.{Known, State, values_under, with_values}
-use Rattle.ipc_batch.specs.Said.{Sent, News, first_schema, batch_parts, batch_sent, dictionary_sent, kept_of, known_after, next_news, news_in, news_of, Rows, rows_in, Follows, Tells, Extends, HasColumns, AreWide}
-use Rattle.ipc_batch.specs.Laws.{SayOneThing, JoinRows, RowsFitSchema}
+use Rattle.ipc_batch.specs.Said.{Sent, News, first_schema, batch_parts, batch_sent, dictionary_sent, kept_of, known_after, next_news, news_in, news_of, Rows, rows_in, Follows, Tells, HasColumns, AreWide}
+use Rattle.ipc_batch.specs.Laws.{TellingExtends, SayOneThing, JoinRows, RowsFitSchema}
 use Rattle.ipc_batch.proofs.Lengths.{fine, both}
 use Rattle.ipc_batch.proofs.Typed.{columns_typed, columns_many}
 
@@ -50,7 +50,7 @@ once a (x ∷ xs) b c r s p q =
     (rest.0, p.3 ∙ rw (e, f) (sym q.3))
 
 -- what a reader tells extends what was said
-pub extended : (result : Result (Option BatchAt) Fault) (old : State) (sent : Sent) (new : State) → Tells result old sent new → Extends result old sent new
+pub extended : TellingExtends
 extended (Ok batch) old sent new e = λ messages rows said.
     joined None messages (sent ∷ []) old new rows (rows_in batch) said
     (record { state = new; batch = batch }, [], e, sym (append-nil (rows_in batch)), (refl, refl))

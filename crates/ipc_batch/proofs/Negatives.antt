@@ -1,5 +1,5 @@
 -- Negative numbers lie outside every body.
-use Rattle.std.proofs.Common.{◌≡◌, ◌⊎◌, inl, inr, ℕ, ◌+◌, ◌*◌, ◌≤◌, ◌<◌, ◌^◌, ◌==◌, ◌||◌, ◌&&◌, nat_le, Bool, true, false, List, length, Option, Ok, Err, refl, arith, subst}
+use Rattle.std.proofs.Common.{◌≡◌, ◌⊎◌, inl, inr, ℕ, ◌+◌, ◌*◌, ◌≤◌, ◌<◌, ◌^◌, ◌==◌, ◌||◌, nat_le, Bool, true, false, List, length, Option, Ok, Err, refl, arith, subst}
 use Rattle.std.proofs.lemmas.Bool.{lt-leb, leb-true, eqb-true, and_parts}
 use Rattle.flatbuf.proofs.Standing.{stands_within}
 use Rattle.arrow_schema.specs.declared.data_type.IntegerType.{IntegerType}
@@ -15,17 +15,16 @@ use Rattle.arrays.specs.Integers.{integers_of}
 use Rattle.arrays.specs.Decimals.{decimals_of}
 use Rattle.arrays.specs.Bools.{bools_of}
 use Rattle.arrays.specs.Indices.{indices_of}
-use Rattle.arrays.specs.Texts.{TextsAt, lack_offsets, texts_stand, texts_of}
+use Rattle.arrays.specs.Texts.{TextsAt, texts_stand, texts_of}
 use Rattle.arrays.specs.Buffers.{values_layout}
 use Rattle.arrays.specs.Column.{ColumnAt}
 use Rattle.scan_base.specs.declared.fault.Fault.TheVariants.{BadBatch}
-use Rattle.scan_base.specs.Reading.{◌>>=◌, demand}
+use Rattle.scan_base.specs.Reading.{demand}
 use Rattle.arrow_schema.specs.Header.{MessageAt, body_length_of}
 use Rattle.ipc_batch.specs.declared.parts.BufferPlace.{BufferPlace}
 use Rattle.ipc_batch.specs.Parts.{placed_in, body_claimed}
 use Rattle.ipc_batch.specs.declared.parts.FieldNode.{FieldNode}
-use Rattle.ipc_batch.specs.Columns.{led_into}
-use Rattle.ipc_batch.specs.Holds.{Source, HasBytes, HoldsTexts, HoldsValues, HoldsLayout, HoldsColumn}
+use Rattle.ipc_batch.specs.Holds.{BatchBody, led_into, HasBytes, HoldsValues, HoldsLayout, HoldsColumn}
 use Rattle.ipc_batch.specs.Laws.{NegativesLieOutside}
 
 outside : (body : List ℕ) → length body < 2 ^ 63 → (place : BufferPlace) → (2 ^ 63 ≤ place.offset) ⊎ (2 ^ 63 ≤ place.length) → length body < place.offset + place.length
@@ -85,8 +84,8 @@ unfolding texts_of
 texts_room bits offsets bytes rows cells e =
     let a = bind_ok (validity_of bits rows) _ cells e in
     let made : TextsAt = record { validity = a.0; offsets = offsets; bytes = bytes; len = rows } in
-    let b = bind_ok (demand (lack_offsets made || texts_stand made) BadBatch) _ cells a.2 in
-    elim (either_true (lack_offsets made) (texts_stand made) (demand_ok (lack_offsets made || texts_stand made) BadBatch b.0 b.1)) [
+    let b = bind_ok (demand (texts_stand made) BadBatch) _ cells a.2 in
+    elim (either_true (_) _ (demand_ok (texts_stand made) BadBatch b.0 b.1)) [
       | inl none ↦ (let z = eqb-true rows 0 (and_parts (rows == 0) (length offsets == 0) none).0 in omega arith)
       | inr stand ↦ (let r = leb-true (4 * (rows + 1)) (length offsets) (and_parts (nat_le (4 * (rows + 1)) (length offsets)) _ stand).0 in omega arith)
     ]
@@ -95,13 +94,13 @@ texts_room bits offsets bytes rows cells e =
 length_within : (body : List ℕ) (found : Option BufferPlace) (bytes : List ℕ) → HasBytes body found bytes → length bytes ≤ length body
 length_within body found bytes h = let e = stands_within bytes body (h.0).offset h.2.stands in omega arith
 
-held_room : (source : Source) (t : DataType) (own : ℕ → Option BufferPlace) (bits : Option (List ℕ)) (layout : Layout) → HoldsValues source t own bits layout → source.rows ≤ 8 * length source.body
+held_room : (source : BatchBody) (t : DataType) (own : ℕ → Option BufferPlace) (bits : Option (List ℕ)) (layout : Layout) → HoldsValues source t own bits layout → source.rows ≤ 8 * length source.body
 held_room source t own bits layout h =
     let a = values_room t (led_into t source.dictionaries) bits h.packed source.rows layout h.slots in
     let b = length_within source.body (own 1) h.packed h.there in
     omega arith
 
-layout_room : (source : Source) (t : DataType) (own : ℕ → Option BufferPlace) (bits : Option (List ℕ)) (layout : Layout) → HoldsLayout source t own bits layout → source.rows ≤ 8 * length source.body
+layout_room : (source : BatchBody) (t : DataType) (own : ℕ → Option BufferPlace) (bits : Option (List ℕ)) (layout : Layout) → HoldsLayout source t own bits layout → source.rows ≤ 8 * length source.body
 layout_room source Utf8 own bits layout h =
     let texts = h.2 in
     let a = texts_room bits texts.offsets texts.bytes source.rows h.0 texts.slots in
@@ -112,7 +111,7 @@ layout_room source Flags own bits layout h = held_room source Flags own bits lay
 layout_room source Decimal128 own bits layout h = held_room source Decimal128 own bits layout h
 layout_room source (Dictionary encoding) own bits layout h = held_room source (Dictionary encoding) own bits layout h
 
-few_rows : (body : List ℕ) (source : Source) (t : DataType) (node : FieldNode) (own : ℕ → Option BufferPlace) (column : ColumnAt) →
+few_rows : (body : List ℕ) (source : BatchBody) (t : DataType) (node : FieldNode) (own : ℕ → Option BufferPlace) (column : ColumnAt) →
     source.body ≡ body → length body < 2 ^ 60 → HoldsColumn source t node own column → (source.rows < 2 ^ 63) × (node.length < 2 ^ 63)
 few_rows body source t node own column same small h =
     let room = layout_room source t own h.bits h.layout h.behind in

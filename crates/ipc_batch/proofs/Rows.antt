@@ -8,7 +8,8 @@ use Rattle.scan_base.specs.declared.value.Value.{Value}
 use Rattle.scan_base.specs.declared.value.Value.TheVariants.{Text}
 use Rattle.scan_base.specs.Reading.{◌>>=◌}
 use Rattle.flatbuf.specs.Place.{scalar_of, field_of, vtable_of, table_of, vector_of, element_of, items_at, structs_of, text_of}
-use Rattle.arrow_schema.specs.Header.{table_wanted, vector_wanted, message_of, name_of, integer_of, type_of, value_type_of, childless, dictionary_of, field_in, field_at, fields_of, schema_in}
+use Rattle.arrow_schema.specs.Fields.{table_wanted, vector_wanted, name_of, integer_of, type_of, value_type_of, childless, dictionary_of, field_in}
+use Rattle.arrow_schema.specs.Header.{message_of, field_at, fields_of, schema_in}
 use Rattle.arrays.specs.Number.{element_at}
 use Rattle.arrays.specs.Texts.{texts_of}
 use Rattle.arrays.specs.Indices.{indices_of}

@@ -59,6 +59,7 @@ pub record Context : Type 0 where
   pub schema : Schema
   pub dictionaries : ℕ → List Value
 
+-- what is known of messages so far
 abbrev pub context_of : Known → Context
 context_of known = record { schema = known.schema; dictionaries = values_under known.dictionaries }
 

@@ -30,13 +30,10 @@ validity_at body node place =
     if node.null_count == 0 then (placed_in body place >>= λ _. Ok None)
     else (buffer_at body place >>= λ bits. Ok (Some bits))
 
--- the values that a column's indices lead into, where each dictionary has its values by its id
-abbrev pub led_into : DataType → (ℕ → List Value) → List Value
-led_into (Dictionary encoding) values = values encoding.id
-led_into _ values = []
-
+-- the values that a column's indices lead into
 abbrev pub values_led_to : DataType → Dictionaries → List Value
-values_led_to data_type dictionaries = led_into data_type (values_under dictionaries)
+values_led_to (Dictionary encoding) dictionaries = values_under dictionaries encoding.id
+values_led_to _ dictionaries = []
 
 -- the texts whose validity bits, offsets and bytes lie in these buffers
 unfoldable pub texts_at : ℕ → List ℕ → FieldNode → BufferPlace → BufferPlace → BufferPlace → Result TextsAt Fault

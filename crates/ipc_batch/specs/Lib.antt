@@ -1,9 +1,12 @@
-pub mod Laws
+pub mod State
 pub mod Parts
 pub mod Columns
+pub mod News
+pub mod Said
 pub mod Holds
 pub mod Brings
-pub mod Said
-pub mod Seen
-pub mod State
+pub mod WrittenParts
 pub mod Written
+pub mod Laws
+pub mod Seen
+pub mod inside

@@ -22,10 +22,11 @@ pub record PartsAt : Type 0 where
 unfoldable pub word_at : List ℕ → ℕ → ℕ
 word_at bytes at = little_from at 8 bytes
 
--- each node and each buffer's place is two numbers of eight bytes; a negative one reads as 2 ^ 63 or more
+-- node j of packed structs, each of two numbers of eight bytes; a negative one reads as 2 ^ 63 or more
 abbrev pub node_at : List ℕ → ℕ → FieldNode
 node_at structs j = record { length = word_at structs (16 * j); null_count = word_at structs (16 * j + 8) }
 
+-- place j of packed structs, the same way
 abbrev pub place_at : List ℕ → ℕ → BufferPlace
 place_at structs j = record { offset = word_at structs (16 * j); length = word_at structs (16 * j + 8) }
 
@@ -33,9 +34,11 @@ place_at structs j = record { offset = word_at structs (16 * j); length = word_a
 abbrev pub struct_count : List ℕ → ℕ
 struct_count structs = length structs / 16
 
+-- the nodes that packed structs are
 abbrev pub nodes_in : List ℕ → List FieldNode
 nodes_in structs = map (node_at structs) (range_with_len 0 (struct_count structs))
 
+-- the places that packed structs are
 abbrev pub places_in : List ℕ → List BufferPlace
 places_in structs = map (place_at structs) (range_with_len 0 (struct_count structs))
 

@@ -1,21 +1,16 @@
--- How record batches and dictionaries are written: the body that the buffers make, and the tables that say where
--- they lie.
-use Rattle.std.specs.Prelude.{◌≡◌, ℕ, ◌+◌, ◌*◌, ◌^◌, ◌%◌, ◌≤◌, ◌<◌, Bool, List, [], ◌∷◌, ◌++◌, length, map, All, Some, None, nat_le, Result, Ok}
+-- How record batches and dictionaries are written, and what their messages then say. `WrittenParts` has the tables
+-- and the body.
+use Rattle.std.specs.Prelude.{◌≡◌, ℕ, ◌^◌, ◌≤◌, ◌<◌, Bool, List, [], ◌∷◌, ◌++◌, length, map, All, Some, None, nat_le, Result, Ok}
 use Rattle.std.specs.List.{flat_map, list_any}
 use Rattle.scan_base.specs.declared.fault.Fault.{Fault}
 use Rattle.scan_base.specs.declared.fault.Fault.TheVariants.{BadBatch, LimitReached}
 use Rattle.scan_base.specs.declared.value.Value.{Value}
 use Rattle.scan_base.specs.Reading.{◌>>=◌, demand}
-use Rattle.scan_base.specs.Lists.{each}
 use Rattle.flatbuf.specs.Place.{TableAt}
-use Rattle.flatbuf.specs.Layout.{Stands}
-use Rattle.flatbuf.specs.Block.{Part, Number, Offset, little, padded, table_part, structs_part}
-use Rattle.flatbuf.specs.Written.{table_at}
 use Rattle.arrow_schema.specs.declared.schema.Field.{Field}
 use Rattle.arrow_schema.specs.Answer.{answer_type}
 use Rattle.arrow_schema.specs.Header.{MessageAt, message_of, header_of, body_length_of}
-use Rattle.arrow_schema.specs.Limits.{most_columns}
-use Rattle.arrow_schema.specs.Written.{flag}
+use Rattle.scan_base.specs.Limits.{most_columns}
 use Rattle.arrays.specs.declared.layout.Layout.TheVariants.{Texts}
 use Rattle.arrays.specs.Texts.{TextsAt}
 use Rattle.scan_base.specs.Limits.{most_values}
@@ -25,76 +20,11 @@ use Rattle.arrays.specs.Typed.{AreOfTypes}
 use Rattle.arrays.specs.Nulls.{null_count}
 use Rattle.arrays.specs.Written.{buffers_written as column_written}
 use Rattle.ipc_batch.specs.declared.parts.FieldNode.{FieldNode}
-use Rattle.ipc_batch.specs.declared.parts.BufferPlace.{BufferPlace}
-use Rattle.ipc_batch.specs.Parts.{parts_of, dictionary_parts, buffer_at}
+use Rattle.ipc_batch.specs.Parts.{dictionary_parts}
 use Rattle.ipc_batch.specs.State.{Known, Dictionaries, values_under, with_values}
 use Rattle.ipc_batch.specs.Said.{Sent, News, leads_to, kept_of, news_of}
-
--- ---- parts, of any types
-
--- the rows, a node for each column, and the bytes of each buffer
-pub record WrittenParts : Type 0 where
-  pub rows : ℕ
-  pub nodes : List FieldNode
-  pub buffers : List (List ℕ)
-
--- each is a struct of two numbers of eight bytes
-abbrev pub node_bytes : FieldNode → List ℕ
-node_bytes node = little 8 node.length ++ little 8 node.null_count
-
-abbrev pub place_bytes : BufferPlace → List ℕ
-place_bytes place = little 8 place.offset ++ little 8 place.length
-
--- the body: the buffers one behind another, each with zeros behind it up to a multiple of 8
-abbrev pub body_of : List (List ℕ) → List ℕ
-body_of buffers = flat_map padded buffers
-
--- where they lie in it, the first of them at a place
-abbrev pub places_from : ℕ → List (List ℕ) → List BufferPlace
-places_from at [] = []
-places_from at (buffer ∷ more) =
-    record { offset = at; length = length buffer } ∷ places_from (at + length (padded buffer)) more
-
--- the RecordBatch table
-unfoldable pub parts_part : WrittenParts → Part
-parts_part parts = table_part (Number parts.rows
-    ∷ Offset (structs_part 16 (flat_map node_bytes parts.nodes))
-    ∷ Offset (structs_part 16 (flat_map place_bytes (places_from 0 parts.buffers))) ∷ [])
-
--- the numbers of a node fit its eight bytes
-pub record FitsNode (node : FieldNode) : Type 0 where
-  pub long : node.length < 2 ^ 64
-  pub counted : node.null_count < 2 ^ 64
-
--- the buffers of that many columns, each of at most three
-abbrev pub most_buffers : ℕ
-most_buffers = 3 * most_columns
-
--- the DictionaryBatch table: an id, the RecordBatch table of the values, and whether they stand behind the old
--- ones
-unfoldable pub dictionary_part : ℕ → WrittenParts → Bool → Part
-dictionary_part id parts is_delta = table_part (Number id ∷ Offset (parts_part parts) ∷ Number (flag is_delta) ∷ [])
-
--- parts that can be written
-pub record FitParts (parts : WrittenParts) : Type 0 where
-  pub rows : parts.rows < 2 ^ 64
-  pub nodes : All FitsNode parts.nodes
-  pub few_nodes : length parts.nodes ≤ most_columns
-  pub few_buffers : length parts.buffers ≤ most_buffers
-  pub small : length (body_of parts.buffers) < 2 ^ 64
-
--- what a table says of parts in this body: the same rows and nodes, and places where these buffers lie
-pub record SaysSame (message : MessageAt) (table : TableAt) (body : List ℕ) (parts : WrittenParts) : Type 0 where
-  pub places : List BufferPlace
-  pub said : parts_of message table body ≡ Ok (record { rows = parts.rows; nodes = parts.nodes; places = places })
-  pub buffers : each (buffer_at body) places ≡ Ok parts.buffers
-  pub aligned : All (λ place. place.offset % 8 ≡ 0) places
-
--- Wherever the table stands in a message of that body's length, the parts are read again.
-abbrev pub PartsReadBack : Type 0
-PartsReadBack = (parts : WrittenParts) (message : MessageAt) (bytes : List ℕ) (place : ℕ) → FitParts parts →
-    Stands (parts_part parts).bytes bytes place → body_length_of message ≡ Ok (length (body_of parts.buffers)) →
-    SaysSame message (table_at bytes place (parts_part parts)) (body_of parts.buffers) parts
+pub use Rattle.ipc_batch.specs.WrittenParts.{WrittenParts, node_bytes, place_bytes, body_of, places_from, FitsNode, most_buffers, FitParts, SaysSame, PartsReadBack}
+unfoldable pub use Rattle.ipc_batch.specs.WrittenParts.{parts_part, dictionary_part}
 
 -- ---- columns
 
@@ -117,12 +47,6 @@ parts_written batch = record {
 -- how many bytes the body of a batch has
 abbrev pub body_length : BatchAt → ℕ
 body_length batch = length (body_of (buffers_written batch.columns))
-
--- what is measured of a batch: how many bytes each buffer has, and how many the body, which are few enough
-pub record IsMeasured (batch : BatchAt) (lengths : List ℕ) (bytes : ℕ) : Type 0 where
-  pub each_is : lengths ≡ map length (buffers_written batch.columns)
-  pub all_are : bytes ≡ body_length batch
-  pub small : bytes < 2 ^ 31
 
 -- a batch that can be written
 pub record FitsBatch (batch : BatchAt) : Type 0 where
@@ -188,6 +112,6 @@ dictionary_news known id values is_delta = do
   })
 
 -- behind any schema a message says these values of a dictionary
-abbrev pub SaysDictionary : Sent → ℕ → List Value → Bool → Type 0
-SaysDictionary sent id values is_delta =
+abbrev pub SaysValues : Sent → ℕ → List Value → Bool → Type 0
+SaysValues sent id values is_delta =
     (known : Known) → news_of (Some known) sent ≡ dictionary_news known id values is_delta

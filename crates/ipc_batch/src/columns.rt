@@ -8,7 +8,7 @@ ghost use Rattle.arrays.specs.Buffers.{buffer_count, values_layout};
 ghost use Rattle.ipc_batch.specs.Columns.{validity_at, texts_at, values_at, values_led_to};
 ghost use Rattle.ipc_batch.specs.Columns.{texts_front, values_front, front_of};
 ghost use Rattle.ipc_batch.specs.Columns.{columns_from, buffers_wanted, counts_agree, one_texts};
-ghost use Rattle.ipc_batch.specs.Seen.{parts_seen, front_seen};
+ghost use Rattle.ipc_batch.specs.inside.Seen.{parts_seen, front_seen};
 
 use crate::dictionaries::Dictionaries;
 use crate::parts::{BufferPlace, FieldNode, Parts, buffer, check_place};

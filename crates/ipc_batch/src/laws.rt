@@ -1,6 +1,7 @@
 //! What holds of all messages. Each function here has an empty body: its contract is a law.
 
-ghost use Rattle.ipc_batch.specs.Laws.{ReadIsBrought, SayOneThing, JoinRows, RowsFitSchema};
+ghost use Rattle.ipc_batch.specs.Laws.{ReadIsBrought, SaidIsBrought, TellingExtends};
+ghost use Rattle.ipc_batch.specs.Laws.{SayOneThing, JoinRows, RowsFitSchema};
 ghost use Rattle.ipc_batch.specs.Laws.{GlancesComeFirst, NegativesLieOutside, DictionariesReadBack};
 ghost use Rattle.ipc_batch.specs.Written.{PartsReadBack};
 
@@ -8,6 +9,16 @@ ghost use Rattle.ipc_batch.specs.Written.{PartsReadBack};
 /// columnar format, in their own words and in no order, have it say.
 pub fn read_is_brought()
     ensures { ReadIsBrought }
+{}
+
+/// What messages say, one behind another, is just what they bring.
+pub fn said_is_brought()
+    ensures { SaidIsBrought }
+{}
+
+/// What a reader answers extends what messages said before.
+pub fn telling_extends()
+    ensures { TellingExtends }
 {}
 
 /// Messages say at most one schema and one list of rows.

@@ -12,18 +12,3 @@ pub mod writer;
 pub use crate::measured::MeasuredBatch;
 pub use crate::reader::Reader;
 pub use crate::writer::{WrittenMessage, write_batch, write_dictionary};
-
-#[cfg(test)]
-mod cases;
-#[cfg(test)]
-mod dictionary_writing;
-#[cfg(test)]
-mod lies;
-#[cfg(test)]
-mod tests;
-#[cfg(test)]
-mod vector_tests;
-#[cfg(test)]
-mod vectors;
-#[cfg(test)]
-mod writing;

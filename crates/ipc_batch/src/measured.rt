@@ -5,7 +5,7 @@ ghost use Rattle.std.specs.Prelude.{IfOk, IsSome, OnOk, OnErr, SomeIff};
 ghost use Rattle.std.specs.List.{flat_map};
 ghost use Rattle.flatbuf.specs.Block.{Number, Offset, little, padding, padded, table_part};
 ghost use Rattle.flatbuf.specs.Block.{structs_part};
-ghost use Rattle.arrow_schema.specs.Limits.{most_columns};
+ghost use Rattle.scan_base.specs.Limits.{most_columns};
 ghost use Rattle.arrays.specs.Column.{IsColumn};
 ghost use Rattle.arrays.specs.Written.{buffer_of, buffers_written as column_written};
 ghost use Rattle.ipc_batch.specs.Written.{node_bytes, place_bytes, body_of, places_from, parts_part};
@@ -33,7 +33,7 @@ pub struct MeasuredBatch<'a> {
 
 impl<'a> Model for MeasuredBatch<'a> {
     ghost use Rattle.arrays.specs.Batch.{BatchAt};
-    ghost use Rattle.ipc_batch.specs.Written.{IsMeasured};
+    ghost use Rattle.ipc_batch.specs.inside.Measured.{IsMeasured};
 
     ghost Value = { BatchAt };
 

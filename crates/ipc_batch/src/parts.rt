@@ -6,7 +6,7 @@ ghost use Rattle.arrow_schema.specs.Seen.{message_seen};
 ghost use Rattle.ipc_batch.specs.Parts.{word_at, node_at, place_at, nodes_in, places_in};
 ghost use Rattle.ipc_batch.specs.Parts.{structs_wanted, placed_in, buffer_at, body_claimed};
 ghost use Rattle.ipc_batch.specs.Parts.{parts_of, dictionary_parts};
-ghost use Rattle.ipc_batch.specs.Seen.{parts_seen, dictionary_seen};
+ghost use Rattle.ipc_batch.specs.inside.Seen.{parts_seen, dictionary_seen};
 
 use arrow_schema::Message;
 use byteorder::{ByteOrder, LittleEndian};

@@ -10,8 +10,8 @@ ghost use Rattle.arrow_schema.specs.Schema.{IsSchema};
 ghost use Rattle.arrow_schema.specs.Seen.{message_seen};
 ghost use Rattle.ipc_batch.specs.Said.{first_schema, batch_parts, batch_sent, has_id, leads_to, dictionary_sent};
 ghost use Rattle.ipc_batch.specs.Said.{known_after, next_news, next_glance, glance_of};
-ghost use Rattle.ipc_batch.specs.Said.{Answers, Tells, Extends, HasColumns};
-ghost use Rattle.ipc_batch.specs.Seen.{parts_seen, dictionary_seen};
+ghost use Rattle.ipc_batch.specs.Said.{Answers, Tells, HasColumns};
+ghost use Rattle.ipc_batch.specs.inside.Seen.{parts_seen, dictionary_seen};
 
 use crate::columns::{Source, check_counts, check_text_counts, read_columns, read_texts};
 use crate::dictionaries::Dictionaries;
@@ -116,7 +116,6 @@ impl Reader {
         body: Bytes,
     ) -> Result<Option<Batch>, Fault>
         ensures exact { Tells result self.old (record { header = header; body = body }) self.new }
-        ensures extends { Extends result self.old (record { header = header; body = body }) self.new }
         ensures columns { IfOk result (λ batch. HasColumns batch self.new) }
         ensures first { RefusesFirst result
             (glance_of self.old (record { header = header; body = body })) }

@@ -1,15 +1,15 @@
 //! The messages of record batches and dictionaries.
 
-ghost use Rattle.std.specs.Prelude.{◌≡◌, ◌≤◌, ◌<◌, ◌%◌, ◌^◌, [], ◌∷◌, length, IfOk, OnOk};
+ghost use Rattle.std.specs.Prelude.{◌≡◌, ◌↔◌, ◌≤◌, ◌<◌, ◌%◌, ◌^◌, [], ◌∷◌, length, IfOk, IfSome, IsSome, OnOk};
 ghost use Rattle.flatbuf.specs.Block.{Number, Offset, table_part};
 ghost use Rattle.arrow_schema.specs.declared.header.HeaderKind.TheVariants.{DictionaryBatch};
-ghost use Rattle.arrow_schema.specs.Limits.{most_columns};
+ghost use Rattle.scan_base.specs.Limits.{most_columns};
 ghost use Rattle.arrow_schema.specs.Message.{message_bytes};
 ghost use Rattle.arrow_schema.specs.Written.{flag};
 ghost use Rattle.arrays.specs.Texts.{texts_values};
 ghost use Rattle.ipc_batch.specs.Written.{body_of, buffers_written, parts_written, body_length};
 ghost use Rattle.ipc_batch.specs.Written.{dictionary_part, values_batch, FitsBatch};
-ghost use Rattle.ipc_batch.specs.Written.{SaysParts, SaysBatch, SaysDictionaryParts, SaysDictionary};
+ghost use Rattle.ipc_batch.specs.Written.{SaysParts, SaysBatch, SaysDictionaryParts, SaysValues};
 ghost use Rattle.ipc_batch.specs.Seen.{written_seen};
 
 use crate::measured::MeasuredBatch;
@@ -25,31 +25,32 @@ pub struct WrittenMessage {
     pub body: Vec<u8>,
 }
 
-// A batch that is measured. A body of 2 to the 31 bytes or more is refused.
-fn measure<'a>(alloc: Global, batch: &'a Batch) -> Result<MeasuredBatch<'a>, AllocError>
-    ensures { IfOk result (λ measured. measured ≡ batch.now) }
-{
-    MeasuredBatch::new(alloc, batch)?.ok_or(AllocError)
-}
-
 /// The message of a record batch. Each buffer begins at a multiple of 8 in the body, with zeros between,
 /// the header claims all of the body, and both have a multiple of 8 bytes. Validity bits are written where a
-/// slot is null, and a slice of a batch is written as its own rows alone. It fails with [`AllocError`] where
-/// memory is refused, as for a body of 2 to the 31 bytes or more, and with no other error.
-pub fn write_batch(alloc: Global, batch: &Batch) -> Result<WrittenMessage, AllocError>
+/// slot is null, and a slice of a batch is written as its own rows alone. `None` where the body would have 2 to
+/// the 31 bytes or more.
+///
+/// # Errors
+///
+/// `AllocError` where memory is refused.
+pub fn write_batch(alloc: Global, batch: &Batch) -> Result<Option<WrittenMessage>, AllocError>
     requires few { length batch.now.columns ≤ most_columns }
-    ensures header { IfOk result (λ message. length message.header.items % 8 ≡ 0) }
-    ensures body { IfOk result (λ message. length message.body.items % 8 ≡ 0) }
-    ensures parts { IfOk result (λ message. SaysParts (written_seen message) (parts_written batch.now)) }
-    ensures rows { IfOk result (λ message. SaysBatch (written_seen message) batch.now) }
-    ensures zeros { IfOk result (λ message. message.body.items
-        ≡ body_of (buffers_written batch.now.columns)) }
+    ensures found { IfOk result (λ found. IsSome found ↔ (body_length batch.now < 2 ^ 31)) }
+    ensures header { IfOk result (λ found. IfSome found (λ message. length message.header.items % 8 ≡ 0)) }
+    ensures body { IfOk result (λ found. IfSome found (λ message. length message.body.items % 8 ≡ 0)) }
+    ensures parts { IfOk result (λ found. IfSome found (λ message.
+        SaysParts (written_seen message) (parts_written batch.now))) }
+    ensures rows { IfOk result (λ found. IfSome found (λ message. SaysBatch (written_seen message) batch.now)) }
+    ensures zeros { IfOk result (λ found. IfSome found (λ message. message.body.items
+        ≡ body_of (buffers_written batch.now.columns))) }
 {
-    let measured = measure(alloc, batch)?;
+    let Some(measured) = MeasuredBatch::new(alloc, batch)? else {
+        return Ok(None);
+    };
     let header = measured.write_header(alloc)?;
     let mut body = Vec::new(alloc);
     measured.append_body(&mut body)?;
-    Ok(WrittenMessage { header, body })
+    Ok(Some(WrittenMessage { header, body }))
 }
 
 // ---- dictionaries
@@ -108,28 +109,34 @@ fn dictionary_header(
 /// The message of a dictionary's values, which are set or, where they are a delta, stand behind the old
 /// ones. The values may be null, and their buffers are written as those of a batch of one column: each
 /// begins at a multiple of 8 in the body, with zeros between, and the offsets begin at 0. The header claims
-/// all of the body, and both have a multiple of 8 bytes. It fails with [`AllocError`] where memory is
-/// refused, as for a body of 2 to the 31 bytes or more, and with no other error.
+/// all of the body, and both have a multiple of 8 bytes. `None` where the body would have 2 to the 31 bytes or
+/// more.
+///
+/// # Errors
+///
+/// `AllocError` where memory is refused.
 pub fn write_dictionary(
     alloc: Global,
     id: u64,
     values: &Texts,
     is_delta: bool,
-) -> Result<WrittenMessage, AllocError>
-    ensures header { IfOk result (λ message. length message.header.items % 8 ≡ 0) }
-    ensures body { IfOk result (λ message. length message.body.items % 8 ≡ 0) }
-    ensures parts { IfOk result (λ message. SaysDictionaryParts (written_seen message) id
-        (parts_written (values_batch values.now)) is_delta) }
-    ensures values { IfOk result (λ message. SaysDictionary (written_seen message) id
-        (texts_values values.now) is_delta) }
-    ensures zeros { IfOk result (λ message. message.body.items
-        ≡ body_of (buffers_written (values_batch values.now).columns)) }
-    ensures short { OnOk result (body_length (values_batch values.now) < 2 ^ 31) }
+) -> Result<Option<WrittenMessage>, AllocError>
+    ensures found { IfOk result (λ found. IsSome found ↔ (body_length (values_batch values.now) < 2 ^ 31)) }
+    ensures header { IfOk result (λ found. IfSome found (λ message. length message.header.items % 8 ≡ 0)) }
+    ensures body { IfOk result (λ found. IfSome found (λ message. length message.body.items % 8 ≡ 0)) }
+    ensures parts { IfOk result (λ found. IfSome found (λ message. SaysDictionaryParts (written_seen message) id
+        (parts_written (values_batch values.now)) is_delta)) }
+    ensures values { IfOk result (λ found. IfSome found (λ message. SaysValues (written_seen message) id
+        (texts_values values.now) is_delta)) }
+    ensures zeros { IfOk result (λ found. IfSome found (λ message. message.body.items
+        ≡ body_of (buffers_written (values_batch values.now).columns))) }
 {
     let batch = values_batch(alloc, values)?;
-    let measured = measure(alloc, &batch)?;
+    let Some(measured) = MeasuredBatch::new(alloc, &batch)? else {
+        return Ok(None);
+    };
     let header = dictionary_header(alloc, id, &measured, is_delta)?;
     let mut body = Vec::new(alloc);
     measured.append_body(&mut body)?;
-    Ok(WrittenMessage { header, body })
+    Ok(Some(WrittenMessage { header, body }))
 }

@@ -7,7 +7,7 @@ use Rattle.std.proofs.lemmas.List.{length-append, length-take-le, take-append-dr
 use Rattle.scan_base.specs.declared.fault.Fault.TheVariants.{BadProto}
 use Rattle.scan_base.specs.Reading.{◌>>=◌, demand}
 use Rattle.proto_wire.specs.Standard.{Content, Varint, Fixed64, Chunk, Fixed32, Entry, IsFieldNumber, IsGroups, wire_type, Holds, StandsInFront}
-use Rattle.proto_wire.specs.Reading.{varint_at, bytes_at, varint_content, fixed64_content, chunk_content, fixed32_content, payload_at, is_field_number, field_at}
+use Rattle.proto_wire.specs.Reading.{varint_at, bytes_at, content_by, payload_at, is_field_number, field_at}
 use Rattle.proto_wire.proofs.Then.{same_front, then_ok, demanded, if_ok, split}
 use Rattle.proto_wire.proofs.Groups.{Front, varint_stands, varint_again}
 
@@ -30,27 +30,27 @@ pub record Read (wire : ℕ) (content : Content) (bytes rest : List ℕ) : Type 
   pub wire_is : wire ≡ wire_type content
   pub front : Front (Holds content) bytes rest
 
-varint_payload : (wire : ℕ) (bytes : List ℕ) (content : Content) (rest : List ℕ) → wire ≡ 0 → varint_content bytes ≡ Ok (content, rest) → Read wire content bytes rest
+varint_payload : (wire : ℕ) (bytes : List ℕ) (content : Content) (rest : List ℕ) → wire ≡ 0 → content_by Varint (varint_at bytes) ≡ Ok (content, rest) → Read wire content bytes rest
 varint_payload wire bytes content rest at e =
     then_ok (varint_at bytes) (λ (value : ℕ × List ℕ). Ok (Varint value.0, value.1)) (content, rest) e (λ value found made.
     let p = same_front (Varint value.0) content value.1 rest made in
     rw (← p.0, ← p.1) (record { wire_is = at; front = varint_stands bytes value.0 value.1 found }))
 
-fixed64_payload : (wire : ℕ) (bytes : List ℕ) (content : Content) (rest : List ℕ) → wire ≡ 1 → fixed64_content bytes ≡ Ok (content, rest) → Read wire content bytes rest
+fixed64_payload : (wire : ℕ) (bytes : List ℕ) (content : Content) (rest : List ℕ) → wire ≡ 1 → content_by (λ fixed. Fixed64 (from_le_bytes w64 fixed)) (bytes_at 8 bytes) ≡ Ok (content, rest) → Read wire content bytes rest
 fixed64_payload wire bytes content rest at e =
     then_ok (bytes_at 8 bytes) (λ (fixed : List ℕ × List ℕ). Ok (Fixed64 (from_le_bytes w64 fixed.0), fixed.1)) (content, rest) e (λ fixed found made.
     let p = same_front (Fixed64 (from_le_bytes w64 fixed.0)) content fixed.1 rest made in
     let s = bytes_stand 8 bytes fixed.0 fixed.1 found in
     rw (← p.0, ← p.1) (record { wire_is = at; front = record { front = fixed.0; whole = s.0; holds = (s.1, refl) } }))
 
-fixed32_payload : (wire : ℕ) (bytes : List ℕ) (content : Content) (rest : List ℕ) → wire ≡ 5 → fixed32_content bytes ≡ Ok (content, rest) → Read wire content bytes rest
+fixed32_payload : (wire : ℕ) (bytes : List ℕ) (content : Content) (rest : List ℕ) → wire ≡ 5 → content_by (λ fixed. Fixed32 (from_le_bytes w32 fixed)) (bytes_at 4 bytes) ≡ Ok (content, rest) → Read wire content bytes rest
 fixed32_payload wire bytes content rest at e =
     then_ok (bytes_at 4 bytes) (λ (fixed : List ℕ × List ℕ). Ok (Fixed32 (from_le_bytes w32 fixed.0), fixed.1)) (content, rest) e (λ fixed found made.
     let p = same_front (Fixed32 (from_le_bytes w32 fixed.0)) content fixed.1 rest made in
     let s = bytes_stand 4 bytes fixed.0 fixed.1 found in
     rw (← p.0, ← p.1) (record { wire_is = at; front = record { front = fixed.0; whole = s.0; holds = (s.1, refl) } }))
 
-chunk_payload : (wire : ℕ) (bytes : List ℕ) (content : Content) (rest : List ℕ) → wire ≡ 2 → chunk_content bytes ≡ Ok (content, rest) → Read wire content bytes rest
+chunk_payload : (wire : ℕ) (bytes : List ℕ) (content : Content) (rest : List ℕ) → wire ≡ 2 → (varint_at bytes >>= λ len. content_by Chunk (bytes_at len.0 len.1)) ≡ Ok (content, rest) → Read wire content bytes rest
 chunk_payload wire bytes content rest at e =
     then_ok (varint_at bytes) (λ (len : ℕ × List ℕ). bytes_at len.0 len.1 >>= λ (chunk : List ℕ × List ℕ). Ok (Chunk chunk.0, chunk.1)) (content, rest) e (λ len len_found after.
     then_ok (bytes_at len.0 len.1) (λ (chunk : List ℕ × List ℕ). Ok (Chunk chunk.0, chunk.1)) (content, rest) after (λ chunk found made.

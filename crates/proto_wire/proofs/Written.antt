@@ -1,18 +1,17 @@
 -- What is written for fields are those fields in the standard's words.
 use Rattle.std.proofs.Common.{◌≡◌, ℕ, zero, suc, ◌+◌, ◌-◌, ◌*◌, ◌/◌, ◌%◌, ◌^◌, ◌<◌, ◌≤◌, List, [], ◌∷◌, ◌++◌, length, take, drop, set, Ok, refl, sym, ap, ◌∙◌, append_assoc, append-nil, arith, rules, inl, inr}
-use Rattle.std.specs.Prelude.{All, flat_map, map, OnOk, Result, Err, slice_index_or}
+use Rattle.std.specs.Prelude.{All, flat_map, map, slice_index_or}
 use Rattle.std.proofs.lemmas.Bool.{cases_lt, lt-ltb, le-ltb}
 use Rattle.std.proofs.lemmas.Nat.{div_below, from_le_bytes-to_le_bytes_4, from_le_bytes-to_le_bytes_8}
 use Rattle.std.proofs.Math.Nat.{pow-suc}
 use Rattle.std.proofs.lemmas.List.{take_more_set, take_at, take-take, drop_at, length-append, map_more}
 use Rattle.std.proofs.lemmas.Grind.{flat_map-append}
-use Rattle.std.proofs.lemmas.List.Elements.{All-push}
 use Rattle.proto_wire.specs.Standard.{Content, Varint, Fixed64, Chunk, Fixed32, Entry, IsFieldNumber, IsVarint, Holds, IsField, IsFields, wire_type}
 use Rattle.proto_wire.specs.Reading.{varint_at}
 use Rattle.proto_wire.specs.Writing.{groups_of, varint, body, spelling, chunk_head, Fits, IsWritable}
 use Rattle.proto_wire.specs.Laws.{ChunksFollowHeads}
 use Rattle.proto_wire.specs.declared.field.Field.{Field}
-use Rattle.proto_wire.specs.Calls.{GainsField, HaveFieldNumbers, entry_of, message_of, chunk_entry}
+use Rattle.proto_wire.specs.Calls.{HaveFieldNumbers, entry_of, message_of, chunk_entry}
 use Rattle.proto_wire.proofs.Groups.{Says, varint_again}
 
 -- ---- the groups of a number
@@ -111,7 +110,7 @@ spelling_is entry h =
 
 -- ---- a field more at the end
 
-pub gains : (old spelled : List ℕ) (entry : Entry) → IsField spelled entry → GainsField old (old ++ spelled) entry
+pub gains : (old spelled : List ℕ) (entry : Entry) → IsField spelled entry → (entries : List Entry) → IsFields old entries → IsFields (old ++ spelled) (entries ++ entry ∷ [])
 gains old spelled entry f [] h = rw h (spelled, [], sym (append-nil spelled), f, refl)
 gains old spelled entry f (first ∷ others) h =
     (h.0, h.1 ++ spelled, rw h.2 (append_assoc h.0 h.1 spelled), h.3, gains h.1 spelled entry f others h.4)
@@ -130,20 +129,16 @@ kept_before old part mid new first kept =
 
 -- ---- what the calls leave
 
-pub field_gains : {T E : Type 0} (written : Result T E) (old new : List ℕ) (entry : Entry) → OnOk written (new ≡ old ++ spelling entry) → OnOk written (IsWritable entry) → OnOk written (GainsField old new entry)
-field_gains (Ok x) old new entry e h = rw e (gains old (spelling entry) entry (spelling_is entry h))
-field_gains (Err x) old new entry e h = tt
-
 pub has_number : (fields : List Field) (index : ℕ) (field : Field) → index < length fields → HaveFieldNumbers fields → IsFieldNumber (slice_index_or fields index field).number
 has_number [] index field lt h = absurd (omega arith)
 has_number (first ∷ fields) zero field lt h = h.0
 has_number (first ∷ fields) (suc index) field lt h = has_number fields index field (omega arith) h.1
 
 -- one field more of a list is written
-pub written_more : (start old new : List ℕ) (fields : List Field) (index : ℕ) (field : Field) → index < length fields → (old ≡ start ++ message_of (take index fields)) × All IsWritable (map entry_of (take index fields)) → new ≡ old ++ spelling (entry_of (slice_index_or fields index field)) → IsWritable (entry_of (slice_index_or fields index field)) → (new ≡ start ++ message_of (take (index + 1) fields)) × All IsWritable (map entry_of (take (index + 1) fields))
-written_more start old new fields index field lt before e h =
+pub written_more : (start old new : List ℕ) (fields : List Field) (index : ℕ) (field : Field) → index < length fields → old ≡ start ++ message_of (take index fields) → new ≡ old ++ spelling (entry_of (slice_index_or fields index field)) → new ≡ start ++ message_of (take (index + 1) fields)
+written_more start old new fields index field lt before e =
     let one : map entry_of (take (index + 1) fields) ≡ map entry_of (take index fields) ++ entry_of (slice_index_or fields index field) ∷ [] = map_more entry_of fields index field lt in
-    (rw (one, flat_map-append spelling (map entry_of (take index fields)) (entry_of (slice_index_or fields index field) ∷ []), append-nil (spelling (entry_of (slice_index_or fields index field))), ← append_assoc start (message_of (take index fields)) (spelling (entry_of (slice_index_or fields index field))), ← before.0) e, rw one (All-push IsWritable (map entry_of (take index fields)) (entry_of (slice_index_or fields index field)) before.1 h))
+    rw (one, flat_map-append spelling (map entry_of (take index fields)) (entry_of (slice_index_or fields index field) ∷ []), append-nil (spelling (entry_of (slice_index_or fields index field))), ← append_assoc start (message_of (take index fields)) (spelling (entry_of (slice_index_or fields index field))), ← before) e
 
 -- the fields of a message, its tag and its length, turned
 pub message_written : (number : ℕ) (old chunk filled tagged whole turned : List ℕ) (start len n : ℕ) → filled ≡ old ++ chunk → tagged ≡ filled ++ varint (8 * number + 2) → whole ≡ tagged ++ varint len → start ≡ length old → len ≡ length chunk → n ≡ length whole → turned ≡ take start whole ++ (drop (start + len) whole ++ take len (drop start whole)) → take n (turned ++ drop (length turned) whole) ≡ old ++ spelling (chunk_entry number chunk)

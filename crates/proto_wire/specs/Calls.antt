@@ -1,23 +1,25 @@
 -- What the calls of the reader and of the writers give.
-use Rattle.std.specs.Prelude.{◌≡◌, ◌≢◌, ◌<◌, ◌++◌, ℕ, List, [], ◌∷◌, length, map, flat_map, Option, Some, None, Result, Ok, Err}
+use Rattle.std.specs.Prelude.{◌≡◌, ◌≢◌, ◌<◌, ℕ, List, [], ◌∷◌, length, map, flat_map, Option, Some, None, Result, Ok, Err}
 use Rattle.scan_base.specs.declared.fault.Fault.{Fault}
 use Rattle.scan_base.specs.declared.fault.Fault.TheVariants.{BadProto}
 use Rattle.scan_base.specs.Reading.{◌>>=◌}
 use Rattle.proto_wire.specs.declared.field.Field.{Field}
 use Rattle.proto_wire.specs.declared.field.Payload.{Payload}
 use Rattle.proto_wire.specs.declared.field.Payload.TheVariants as payloads
-use Rattle.proto_wire.specs.Standard.{Content, Varint, Fixed64, Chunk, Fixed32, Entry, IsFieldNumber, IsFields, StandsInFront}
+use Rattle.proto_wire.specs.Standard.{Content, Varint, Fixed64, Chunk, Fixed32, Entry, IsFieldNumber, StandsInFront}
 use Rattle.proto_wire.specs.Reading.{field_at, fields_of}
 use Rattle.proto_wire.specs.Writing.{spelling}
 
 -- ---- a field of the code, without where it lies in memory
 
+-- what a field holds
 abbrev pub content_of : Payload → Content
 content_of (payloads.Varint value) = Varint value
 content_of (payloads.Fixed64 value) = Fixed64 value
 content_of (payloads.Bytes bytes) = Chunk bytes.now
 content_of (payloads.Fixed32 value) = Fixed32 value
 
+-- the field
 abbrev pub entry_of : Field → Entry
 entry_of field = record { number = field.number; content = content_of field.payload }
 
@@ -51,11 +53,11 @@ abbrev pub HaveFieldNumbers : List Field → Type 0
 HaveFieldNumbers [] = Unit {0}
 HaveFieldNumbers (field ∷ fields) = IsFieldNumber field.number × HaveFieldNumbers fields
 
--- the field of these parts
-
+-- a field that holds a number as a varint
 abbrev pub varint_entry : ℕ → ℕ → Entry
 varint_entry number value = record { number = number; content = Varint value }
 
+-- a field that holds bytes
 abbrev pub chunk_entry : ℕ → List ℕ → Entry
 chunk_entry number chunk = record { number = number; content = Chunk chunk }
 
@@ -66,8 +68,3 @@ message_of fields = flat_map spelling (map entry_of fields)
 -- the field that embeds a message of these fields
 abbrev pub message_entry : ℕ → List Field → Entry
 message_entry number fields = chunk_entry number (message_of fields)
-
--- bytes that were fields are the same fields and one more
-abbrev pub GainsField : List ℕ → List ℕ → Entry → Type 0
-GainsField old new entry =
-    (entries : List Entry) → IsFields old entries → IsFields new (entries ++ entry ∷ [])

@@ -1,5 +1,5 @@
 -- What holds of all bytes and fields.
-use Rattle.std.specs.Prelude.{◌≡◌, ◌↔◌, ◌<◌, ◌^◌, ◌++◌, ℕ, List, length, All, Ok, flat_map}
+use Rattle.std.specs.Prelude.{◌≡◌, ◌↔◌, ◌<◌, ◌^◌, ◌++◌, ℕ, List, [], ◌∷◌, length, All, Ok, flat_map}
 use Rattle.proto_wire.specs.Standard.{Chunk, Entry, IsFields, StandsInFront}
 use Rattle.proto_wire.specs.Reading.{varint_at, field_at, fields_of}
 use Rattle.proto_wire.specs.Writing.{varint, spelling, chunk_head, IsWritable}
@@ -35,6 +35,12 @@ VarintReadsBack = (n : ℕ) (rest : List ℕ) → n < 2 ^ 64 → varint_at (vari
 abbrev pub SpellingKeepsStandard : Type 0
 SpellingKeepsStandard =
     (entries : List Entry) → All IsWritable entries → IsFields (flat_map spelling entries) entries
+
+-- bytes that are fields are, with a written field behind them, the same fields and one more
+abbrev pub FieldsAreGained : Type 0
+FieldsAreGained =
+    (bytes : List ℕ) (entries : List Entry) (entry : Entry)
+    → IsFields bytes entries → IsWritable entry → IsFields (bytes ++ spelling entry) (entries ++ entry ∷ [])
 
 -- a field of bytes is its head, and then the bytes
 abbrev pub ChunksFollowHeads : Type 0

@@ -23,29 +23,17 @@ abbrev pub bytes_at : ℕ → List ℕ → Result (List ℕ × List ℕ) Fault
 bytes_at count bytes =
     if nat_le count (length bytes) then Ok (take count bytes, drop count bytes) else Err BadProto
 
--- what a field holds, at the front, and what follows it, by its wire type
+-- what a field holds, made of what is read, and what follows it
+abbrev pub content_by : {A : Type 0} → (A → Content) → Result (A × List ℕ) Fault → Result (Content × List ℕ) Fault
+content_by make read = read >>= λ found. Ok (make found.0, found.1)
 
-abbrev pub varint_content : List ℕ → Result (Content × List ℕ) Fault
-varint_content bytes = varint_at bytes >>= λ value. Ok (Varint value.0, value.1)
-
-abbrev pub fixed64_content : List ℕ → Result (Content × List ℕ) Fault
-fixed64_content bytes = bytes_at 8 bytes >>= λ fixed. Ok (Fixed64 (from_le_bytes w64 fixed.0), fixed.1)
-
-abbrev pub chunk_content : List ℕ → Result (Content × List ℕ) Fault
-chunk_content bytes = do
-  len ← varint_at bytes
-  chunk ← bytes_at len.0 len.1
-  Ok (Chunk chunk.0, chunk.1)
-
-abbrev pub fixed32_content : List ℕ → Result (Content × List ℕ) Fault
-fixed32_content bytes = bytes_at 4 bytes >>= λ fixed. Ok (Fixed32 (from_le_bytes w32 fixed.0), fixed.1)
-
+-- what a field of this wire type holds, at the front, and what follows it
 unfoldable pub payload_at : ℕ → List ℕ → Result (Content × List ℕ) Fault
 payload_at wire bytes =
-    if wire == 0 then varint_content bytes
-    else (if wire == 1 then fixed64_content bytes
-    else (if wire == 2 then chunk_content bytes
-    else (if wire == 5 then fixed32_content bytes
+    if wire == 0 then content_by Varint (varint_at bytes)
+    else (if wire == 1 then content_by (λ fixed. Fixed64 (from_le_bytes w64 fixed)) (bytes_at 8 bytes)
+    else (if wire == 2 then (varint_at bytes >>= λ len. content_by Chunk (bytes_at len.0 len.1))
+    else (if wire == 5 then content_by (λ fixed. Fixed32 (from_le_bytes w32 fixed)) (bytes_at 4 bytes)
     else Err BadProto)))
 
 -- a field may have this number

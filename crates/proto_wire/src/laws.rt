@@ -4,7 +4,7 @@
 ghost use Rattle.proto_wire.specs.Laws.{ReadingKeepsStandard, FrontKeepsStandard};
 ghost use Rattle.proto_wire.specs.Laws.{AtMostOneFront, AtMostOneList};
 ghost use Rattle.proto_wire.specs.Laws.{VarintReadsBack, SpellingKeepsStandard};
-ghost use Rattle.proto_wire.specs.Laws.{ChunksFollowHeads};
+ghost use Rattle.proto_wire.specs.Laws.{FieldsAreGained, ChunksFollowHeads};
 
 /// Bytes read as a list of fields exactly where they are that list in the standard's words.
 pub fn reading_keeps_standard()
@@ -34,6 +34,11 @@ pub fn varint_reads_back()
 /// What is written for fields are those fields in the standard's words.
 pub fn spelling_keeps_standard()
     ensures { SpellingKeepsStandard }
+{}
+
+/// Bytes that are fields are, with a written field behind them, the same fields and one more.
+pub fn fields_are_gained()
+    ensures { FieldsAreGained }
 {}
 
 /// A field of bytes is its head, and then the bytes.

@@ -14,10 +14,3 @@ pub mod varint;
 pub use crate::field::{Field, MAX_FIELD_NUMBER, Payload};
 pub use crate::fields::Fields;
 pub use crate::put::{put_bytes, put_bytes_head, put_field, put_message, put_varint};
-
-#[cfg(test)]
-mod tests;
-#[cfg(test)]
-mod vector_tests;
-#[cfg(test)]
-mod vectors;

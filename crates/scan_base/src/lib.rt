@@ -24,6 +24,3 @@ pub use crate::text::Text;
 pub use crate::truth::Truth;
 pub use crate::utf8::read_text;
 pub use crate::value::{Row, Value, ValueRef};
-
-#[cfg(test)]
-mod tests;

@@ -1,24 +1,26 @@
 -- What reading tells is what parsing answers.
-use Rattle.std.proofs.Common.{◌≡◌, ◌≢◌, ℕ, ◌+◌, ◌-◌, ◌≤◌, Bool, true, false, inl, inr, List, [], ◌∷◌, ◌++◌, length}
+use Rattle.std.proofs.Common.{◌≡◌, ◌≢◌, ℕ, ◌+◌, ◌-◌, ◌≤◌, true, false, inl, inr, List, [], ◌∷◌, ◌++◌, length}
 use Rattle.std.proofs.Common.{take, drop, map, Some, Ok, Err, refl, sym, ◌∙◌, ap, subst, arith, Fits, w32, append-nil}
 use Rattle.std.specs.Prelude.{Result}
 use Rattle.scan_base.specs.declared.fault.Fault.{Fault}
-use Rattle.scan_base.specs.declared.fault.Fault.TheVariants.{LimitReached, NotInSubset}
+use Rattle.scan_base.specs.declared.fault.Fault.TheVariants.{BadSql, LimitReached, NotInSubset}
 use Rattle.sql_text.specs.declared.token.Token.{Token}
-use Rattle.grammar.specs.Reading.{Outcome, Read, Stuck, Over, reads, read, wholly}
+use Rattle.grammar.specs.Reading.{Outcome, Read, Stuck, Over, reads, read}
+use Rattle.grammar.proofs.Determined.{wholly}
 use Rattle.grammar.specs.Rule.{Language, Spells, Nested, Any}
-use Rattle.grammar.specs.Sentence.{Begins, Offends, Exceeds, Tells}
+use Rattle.grammar.specs.Sentence.{Begins, Offends}
+use Rattle.grammar.proofs.Telling.{Exceeds, Tells}
 use Rattle.grammar.proofs.Laws.{Within}
 use Rattle.sql_parse.specs.declared.refusal.Refusal.{Refusal}
 use Rattle.sql_parse.specs.declared.refusal.Refusal.TheVariants as refusal
 use Rattle.sql_parse.specs.Answers.{seen, Gives}
-use Rattle.sql_parse.specs.ClauseSteps.{whole_at, ended}
+use Rattle.sql_parse.specs.QuerySteps.{whole_at, ended}
 use Rattle.sql_parse.specs.Limits.{passes, IsFirstPast}
-use Rattle.sql_parse.specs.Parse.{IsSentence, IsShallow, Accepts, is_left_out_whole, fault_at, fault_or, Refuses}
-use Rattle.sql_parse.specs.Productions.{query}
+use Rattle.sql_parse.specs.Parse.{IsSentence, IsShallow, Accepts, is_left_out_whole, fault_or, Refuses}
+use Rattle.sql_parse.specs.Clauses.{query}
 use Rattle.sql_parse.specs.Factored.{factor}
 use Rattle.sql_query.specs.Sentence.{Sentence}
-use Rattle.sql_parse.specs.Told.{Told}
+use Rattle.sql_parse.proofs.Told.{Told}
 use Rattle.sql_parse.specs.Parse.{Answered, Parsed}
 use Rattle.sql_text.specs.Reading.{tokens_in}
 use Rattle.sql_text.specs.Calls.{lexeme_of}
@@ -29,7 +31,6 @@ use Rattle.sql_parse.proofs.ClauseReading.{query_same}
 use Rattle.sql_parse.proofs.Printed.{read_shallow, printed_shallow, read_sentence, printed_sentence}
 use Rattle.sql_parse.proofs.Printed.{sentence_of_shallow}
 use Rattle.sql_parse.proofs.Whole.{told}
-use Rattle.sql_parse.proofs.Limited.{limited}
 use Rattle.sql_parse.proofs.OneAnswer.{part_passes}
 use Rattle.sql_parse.proofs.Past.{marks_length}
 
@@ -113,7 +114,7 @@ left_out ts end s q p w = inr (inr (
   record {
     sentence = s;
     shallow = q;
-    within = (limited ts s (sentence_of_shallow ts s q)).0 p;
+    within = p;
     whole = w;
   },
   refl,
@@ -125,7 +126,7 @@ pub accepted : (ts : List Mark) (s : Sentence) → IsShallow ts s ×
 accepted ts s q p w = record {
   shallow = q.0;
   only = q.1;
-  within = (limited ts s (sentence_of_shallow ts s q.0)).0 p;
+  within = p;
   whole = w;
 }
 
@@ -160,7 +161,7 @@ cut_at xs left w =
 
 pub offends_within : (xs : List Token) (left end : ℕ) (fault : Fault) → passes (marks xs) ≡ false →
     ((place : List Mark) × (length place ≡ left) × Offends IsShallow IsSentence (marks xs) place) →
-    fault ≡ fault_at end (marks (drop (length xs - left) xs)) → Refuses (marks xs) end fault
+    fault ≡ fault_or (BadSql end) (marks (drop (length xs - left) xs)) → Refuses (marks xs) end fault
 offends_within xs left end fault none w f =
     let c = cut_at xs left w in
     inr (inl (
@@ -171,7 +172,7 @@ offends_within xs left end fault none w f =
             part_passes c.1.front c.0 (subst (λ (z : List Mark). passes z ≡ false) c.1.splits none);
       },
       f
-          ∙ ap (fault_at end) c.4,
+          ∙ ap (fault_or (BadSql end)) c.4,
     ))
 
 -- ---- tokens of which the one at `at` is the first that passes a limit

@@ -4,7 +4,8 @@ use Rattle.std.proofs.Common.{ap, sym, append-nil}
 use Rattle.sql_text.specs.declared.word.Keyword.TheVariants as word
 use Rattle.sql_text.specs.declared.symbol.Symbol.TheVariants as symbol
 use Rattle.grammar.specs.Rule.{many}
-use Rattle.grammar.specs.Reading.{reads, read, begins, starts, well_made, nullable, is_flat}
+use Rattle.grammar.specs.Reading.{reads, read, begins, starts, nullable}
+use Rattle.grammar.proofs.Determined.{well_made, is_flat}
 use Rattle.grammar.proofs.Deep.{flat_alike}
 use Rattle.sql_query.specs.declared.query.ColumnName.{ColumnName}
 use Rattle.sql_query.specs.declared.query.SelectItem.{SelectItem}
@@ -13,13 +14,17 @@ use Rattle.sql_query.specs.declared.query.Join.{Join}
 use Rattle.sql_text.specs.Words.{is_name}
 use Rattle.sql_parse.specs.Tokens.{Mark, is_word, is_symbol, same_word, same_symbol}
 use Rattle.sql_parse.specs.Answers.{seen, ◌>>=◌}
-use Rattle.sql_parse.specs.Productions.{Of, name, column, alias, selection, item, list, place, equal, join, group}
-use Rattle.sql_parse.specs.Productions.{filter, source, ending, query, maybe, a_word, a_symbol, ◌⊳◌}
+use Rattle.sql_parse.specs.Productions.{name, column}
+use Rattle.sql_parse.specs.Clauses.{alias, selection, item, list, place, equal, join, group}
+use Rattle.sql_parse.specs.Notation.{Of}
+use Rattle.sql_parse.specs.Clauses.{filter, source, ending, query}
+use Rattle.sql_parse.specs.Notation.{maybe, a_word, a_symbol, ◌⊳◌}
 use Rattle.sql_parse.specs.Factored.{factor}
 use Rattle.sql_parse.specs.Steps.{at, token_at, column_at}
 use Rattle.sql_parse.specs.ClauseSteps.{alias_at, counted_at, selection_at, item_at, items_at, list_at, place_at}
 use Rattle.sql_parse.specs.ClauseSteps.{equal_at, equals_at, joined_at, join_at, joins_at, source_at, columns_at}
-use Rattle.sql_parse.specs.ClauseSteps.{group_at, filter_at, ending_at, query_at}
+use Rattle.sql_parse.specs.ClauseSteps.{group_at}
+use Rattle.sql_parse.specs.QuerySteps.{filter_at, ending_at, query_at}
 use Rattle.sql_parse.proofs.Whole.{one_more}
 use Rattle.sql_parse.proofs.Steps.{Nest, flat, name_same, column_same, pred_same, nil_after}
 

@@ -1,11 +1,15 @@
 -- The grammar can be read with one token to look ahead at.
 use Rattle.std.proofs.Common.{◌≡◌, true, false, refl}
 use Rattle.sql_text.specs.Values.{number_of}
-use Rattle.grammar.specs.Reading.{well_made, is_guarded, nullable, starts, covers, determined}
-use Rattle.sql_parse.specs.Tokens.{kinds, same_word, same_symbol}
+use Rattle.grammar.specs.Reading.{nullable, starts}
+use Rattle.grammar.proofs.Determined.{well_made, is_guarded, covers, determined}
+use Rattle.sql_parse.specs.Tokens.{same_word, same_symbol}
+use Rattle.sql_parse.proofs.EveryKind.{kinds}
 use Rattle.sql_parse.specs.Productions.{name, column, minus, digits, number, string, operand, compare, negated}
-use Rattle.sql_parse.specs.Productions.{begins_factor, follows_factor, conj, pred, truth_value, alias, selection}
-use Rattle.sql_parse.specs.Productions.{item, list, place, equal, join, group, filter, source, ending, query}
+use Rattle.sql_parse.specs.Productions.{begins_factor, conj, pred, truth_value}
+use Rattle.sql_parse.specs.Clauses.{alias, selection}
+use Rattle.sql_parse.proofs.EveryKind.{follows_factor}
+use Rattle.sql_parse.specs.Clauses.{item, list, place, equal, join, group, filter, source, ending, query}
 use Rattle.sql_parse.specs.Factored.{compared, nulled, ranged, among, tail, forms, primary, test, factor}
 
 pub one_way : determined kinds begins_factor follows_factor factor follows_factor ≡ true

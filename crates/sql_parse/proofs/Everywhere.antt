@@ -10,7 +10,7 @@ use Rattle.sql_text.specs.declared.token.TokenKind.{TokenKind}
 use Rattle.sql_text.specs.declared.token.TokenKind.TheVariants as kind
 use Rattle.grammar.proofs.Flags.{and-left, and-right}
 use Rattle.grammar.proofs.Rules.{Covers, Disjoins}
-use Rattle.sql_parse.specs.Tokens.{kinds}
+use Rattle.sql_parse.proofs.EveryKind.{kinds}
 
 abbrev nth : List TokenKind → ℕ → Option TokenKind
 nth [] n = None

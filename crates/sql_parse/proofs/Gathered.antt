@@ -4,7 +4,8 @@ use Rattle.std.proofs.Common.{◌++◌, Option, Some, refl, sym, ◌∙◌, ap, 
 use Rattle.std.proofs.lemmas.List.Concat.{flat_map-append}
 use Rattle.grammar.specs.Rule.{Rule, one, empty, both, either, many, make, opened, again, Language, Repeats, Spells}
 use Rattle.grammar.specs.Rule.{Nowhere, Nested, Any}
-use Rattle.grammar.specs.Reading.{nullable, disjoint}
+use Rattle.grammar.specs.Reading.{nullable}
+use Rattle.grammar.proofs.Determined.{disjoint}
 use Rattle.grammar.proofs.Flags.{and-left, and-right}
 use Rattle.grammar.proofs.Laws.{Solid}
 use Rattle.grammar.proofs.Rules.{Disjoins, nulls, solid_of}

@@ -15,3 +15,5 @@ pub mod Answering
 pub mod OneAnswer
 pub mod Named
 pub mod Rows
+pub mod Told
+pub mod EveryKind

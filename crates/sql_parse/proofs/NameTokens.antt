@@ -29,12 +29,14 @@ use Rattle.sql_parse.specs.Within.{column_names, expression_names, item_names, s
 use Rattle.sql_parse.specs.Within.{equality_names, join_names, operand_names, condition_names, filter_names}
 use Rattle.sql_parse.specs.Within.{sentence_names}
 use Rattle.sql_parse.specs.Parse.{IsSentence}
-use Rattle.sql_parse.specs.Productions.{Condition, Of, a_word, a_symbol, word_for, symbol_for, ◌⊳◌, ◌⊲◌, maybe, listed}
+use Rattle.sql_parse.specs.Notation.{Condition, Of, a_word, a_symbol, word_for, symbol_for, ◌⊳◌, ◌⊲◌, maybe, listed}
 use Rattle.sql_parse.specs.Productions.{name, column_name, column, minus, digits, number, string, operand, compare}
 use Rattle.sql_parse.specs.Productions.{negated, pred, comparison_of, range_of, membership_of, null_test_of, simple}
-use Rattle.sql_parse.specs.Productions.{factor, alias, selection, item, list, place, equal, join, group, filter}
-use Rattle.sql_parse.specs.Productions.{source, ending, query}
-use Rattle.sql_parse.specs.Tokens.{Mark, kinds, value_of, same_word, same_symbol, is_word, name_token, word_token}
+use Rattle.sql_parse.specs.Productions.{factor}
+use Rattle.sql_parse.specs.Clauses.{alias, selection, item, list, place, equal, join, group, filter}
+use Rattle.sql_parse.specs.Clauses.{source, ending, query}
+use Rattle.sql_parse.specs.Tokens.{Mark, value_of, same_word, same_symbol, is_word, name_token, word_token}
+use Rattle.sql_parse.proofs.EveryKind.{kinds}
 use Rattle.sql_parse.proofs.Everywhere.{apart}
 use Rattle.sql_parse.proofs.Gathered.{Gathers, gathers_one, gathers_empty, gathers_both, gathers_either, gathers_many}
 use Rattle.sql_parse.proofs.Gathered.{gathers_make, gathers_any, avoids, gathers_nothing}

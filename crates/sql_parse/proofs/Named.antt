@@ -26,22 +26,22 @@ use Rattle.sql_query.specs.declared.query.Join.{Join}
 use Rattle.sql_query.specs.Sentence.{Sentence}
 use Rattle.sql_query.specs.Names.{IsName, IsColumnName, ExpressionHasNames, ItemHasNames, SelectHasNames}
 use Rattle.sql_query.specs.Names.{PlaceHasNames, EqualityHasNames, JoinHasNames, OperandHasNames, ConditionHasNames}
-use Rattle.sql_query.specs.Names.{HasNames}
+use Rattle.sql_query.specs.Names.{QueryHasNames}
 use Rattle.grammar.specs.Rule.{empty, both, either, many, make, Language, Spells, Any}
 use Rattle.grammar.proofs.Keeping.{Keeps, keeps_one, keeps_empty, keeps_both, keeps_either, keeps_many, keeps_make}
 use Rattle.grammar.proofs.Keeping.{keeps_opened, keeps_any}
 use Rattle.sql_parse.specs.declared.limits.Tally.{Tally}
 use Rattle.sql_parse.specs.Limits.{counted, is_past, is_long_name, passes_from, passes}
 use Rattle.sql_parse.specs.Parse.{IsSentence, Accepts, Answered}
-use Rattle.sql_parse.specs.Productions.{Condition, Of, a_word, a_symbol, symbol_for, ◌⊳◌, ◌⊲◌, maybe, listed, joined}
+use Rattle.sql_parse.specs.Notation.{Condition, Of, a_word, a_symbol, symbol_for, ◌⊳◌, ◌⊲◌, maybe, listed, joined}
 use Rattle.sql_parse.specs.Productions.{name, column_name, column, operand, compare, negated, inner, conj, pred}
 use Rattle.sql_parse.specs.Productions.{comparison_of, range_of, membership_of, null_test_of, simple, primary_of}
-use Rattle.sql_parse.specs.Productions.{tested, truth_value, test_of, factor, alias, selection, item, list, place}
-use Rattle.sql_parse.specs.Productions.{equal, join, group, filter, source, ending, query}
+use Rattle.sql_parse.specs.Productions.{tested, truth_value, test_of, factor}
+use Rattle.sql_parse.specs.Clauses.{alias, selection, item, list, place}
+use Rattle.sql_parse.specs.Clauses.{equal, join, group, filter, source, ending, query}
 use Rattle.sql_parse.specs.Tokens.{Mark, mark, marks, value_of, is_word, is_symbol, name_token, word_token}
 use Rattle.sql_parse.specs.Tokens.{symbol_token}
 use Rattle.sql_parse.proofs.Printed.{sentence_of_shallow}
-use Rattle.sql_parse.proofs.Limited.{limited}
 use Rattle.grammar.proofs.Flags.{or-left, or-right}
 
 -- a token that is a name says one
@@ -361,14 +361,14 @@ module _ (D : Language Mark Condition) where
         (All IsColumnName) has_filter
         (before group (maybe (a_symbol symbol.Semicolon)) (All IsColumnName) has_group)
 
-    has_query : Has query HasNames
+    has_query : Has query QueryHasNames
     unfolding query
     has_query =
         keeps_make Named D (λ (p : Select × ((Place × List Join) × (Option Condition × List ColumnName))).
         record { select = p.0; first = p.1.0.0; joins = p.1.0.1; filter = p.1.1.0; group_by = p.1.1.1 })
         (both (a_word word.Select ⊳ list) (both source ending))
         (λ p. SelectHasNames p.0 × ((PlaceHasNames p.1.0.0 × All JoinHasNames p.1.0.1) ×
-        (IfSome p.1.1.0 ConditionHasNames × All IsColumnName p.1.1.1))) HasNames
+        (IfSome p.1.1.0 ConditionHasNames × All IsColumnName p.1.1.1))) QueryHasNames
         (keeps_both Named D (a_word word.Select ⊳ list) (both source ending) SelectHasNames
         (λ p. (PlaceHasNames p.0.0 × All JoinHasNames p.0.1) ×
         (IfSome p.1.0 ConditionHasNames × All IsColumnName p.1.1))
@@ -377,7 +377,7 @@ module _ (D : Language Mark Condition) where
         (λ v. IfSome v.0 ConditionHasNames × All IsColumnName v.1) has_source has_ending))
         (λ p n. record { select = n.0; first = n.1.0.0; joins = n.1.0.1; filter = n.1.1.0; group_by = n.1.1.1 })
 
-names_of_tokens : (ts : List Mark) (s : Sentence) → IsSentence ts s → All Named ts → HasNames s
+names_of_tokens : (ts : List Mark) (s : Sentence) → IsSentence ts s → All Named ts → QueryHasNames s
 names_of_tokens = has_query (Any factor) (keeps_any Named factor ConditionHasNames has_factor)
 
 -- ---- the tokens of a text, where they pass no limit
@@ -409,16 +409,16 @@ all_named tally (token ∷ tokens) says short =
     (or-right (long || past) more short))
 
 accepted_names : (tokens : List Token) (s : Sentence) → All SaysText (map lexeme_of tokens) →
-    Accepts (marks tokens) s → HasNames s
+    Accepts (marks tokens) s → QueryHasNames s
 unfolding passes
 accepted_names tokens s says a =
     let sentence = sentence_of_shallow (marks tokens) s a.shallow in
     names_of_tokens (marks tokens) s sentence
     (all_named (record { places = 0; items = 0; most = 64 }) tokens says
-    ((limited (marks tokens) s sentence).1 a.within))
+    a.within)
 
 pub answered_names : {X : Type 0} (view : X → Sentence) (tokens : List Token) (end : ℕ) (result : Result X Fault) →
     All SaysText (map lexeme_of tokens) →
-    Answered view (marks tokens) end result → IfOk result (λ (x : X). HasNames (view x))
+    Answered view (marks tokens) end result → IfOk result (λ (x : X). QueryHasNames (view x))
 answered_names view tokens end (Ok x) says a = accepted_names tokens (view x) says a
 answered_names view tokens end (Err fault) says a = tt

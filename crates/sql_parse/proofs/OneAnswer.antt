@@ -3,6 +3,7 @@ use Rattle.std.proofs.Common.{◌≡◌, ℕ, true, false, ◌||◌, ◌⊎◌, 
 use Rattle.std.proofs.Common.{subst, append_assoc, append-nil}
 use Rattle.std.proofs.lemmas.Bool.{or_from}
 use Rattle.scan_base.specs.declared.fault.Fault.{Fault}
+use Rattle.scan_base.specs.declared.fault.Fault.TheVariants.{BadSql}
 use Rattle.grammar.specs.Rule.{Language}
 use Rattle.grammar.specs.Sentence.{Begins, NoneGoesOn}
 use Rattle.grammar.proofs.Exact.{one_value}
@@ -11,10 +12,13 @@ use Rattle.sql_parse.specs.declared.limits.Tally.{Tally}
 use Rattle.sql_parse.specs.Factored.{factor}
 use Rattle.sql_parse.specs.Limits.{counted, is_past, is_long_name, passes_from, passes}
 use Rattle.sql_parse.specs.Parse.{IsSentence, IsShallow, Accepts, PassesLimit, HasOffender, is_left_out_whole}
-use Rattle.sql_parse.specs.Parse.{fault_at, Refuses}
-use Rattle.sql_parse.specs.Productions.{begins_factor, follows_factor, query}
+use Rattle.sql_parse.specs.Parse.{fault_or, Refuses}
+use Rattle.sql_parse.specs.Productions.{begins_factor}
+use Rattle.sql_parse.specs.Clauses.{query}
+use Rattle.sql_parse.proofs.EveryKind.{follows_factor}
 use Rattle.sql_query.specs.Sentence.{Sentence}
-use Rattle.sql_parse.specs.Tokens.{Mark, kinds}
+use Rattle.sql_parse.specs.Tokens.{Mark}
+use Rattle.sql_parse.proofs.EveryKind.{kinds}
 use Rattle.sql_parse.proofs.Conditions.{one_way, made_well, guarded, filled, begins_so, query_made_well, query_one_way}
 use Rattle.sql_parse.proofs.Everywhere.{covered, apart}
 use Rattle.sql_parse.proofs.Printed.{read_sentence, sentence_of_shallow}
@@ -92,9 +96,8 @@ no_limit : (front : List Mark) → Begins IsShallow front → passes front ≡ f
 no_limit front b p (inl n) = n b
 no_limit front b p (inr q) = cc
 
-limit_or_whole : (ts : List Mark) (s : Sentence) → PassesLimit ts → IsShallow ts s → IsWithinLimits s → ⊥
-limit_or_whole ts s l q w =
-    let p = (limited ts s (sentence_of_shallow ts s q)).1 w in
+limit_or_whole : (ts : List Mark) (s : Sentence) → PassesLimit ts → IsShallow ts s → passes ts ≡ false → ⊥
+limit_or_whole ts s l q p =
     no_limit l.front (whole_begins IsShallow l.front l.rest s (subst (λ (z : List Mark). IsShallow z s) l.splits q))
     (part_passes l.front l.rest (subst (λ (z : List Mark). passes z ≡ false) l.splits p)) l.past
 
@@ -159,7 +162,7 @@ one_fault ts end first second (inl p) (inr (inl q)) = absurd (limit_or_offender 
 one_fault ts end first second (inl p) (inr (inr q)) = absurd (limit_or_whole ts q.0.sentence p.0 q.0.shallow q.0.within)
 one_fault ts end first second (inr (inl p)) (inl q) = absurd (limit_or_offender ts p.0 q.0 p.1)
 one_fault ts end first second (inr (inl p)) (inr (inl q)) =
-    p.2 ∙ (ap (fault_at end) (one_offender ts p.0 q.0 p.1 q.1) ∙ sym q.2)
+    p.2 ∙ (ap (fault_or (BadSql end)) (one_offender ts p.0 q.0 p.1 q.1) ∙ sym q.2)
 one_fault ts end first second (inr (inl p)) (inr (inr q)) =
     absurd (offender_or_whole ts p.0 q.0.sentence p.1 q.0.shallow)
 one_fault ts end first second (inr (inr p)) (inl q) = absurd (limit_or_whole ts p.0.sentence q.0 p.0.shallow p.0.within)

@@ -29,14 +29,15 @@ use Rattle.sql_query.specs.Sentence.{Sentence}
 use Rattle.sql_parse.specs.declared.refusal.Refusal.{Refusal}
 use Rattle.sql_parse.specs.declared.refusal.Refusal.TheVariants as refusal
 use Rattle.sql_parse.specs.Answers.{seen}
-use Rattle.sql_parse.specs.ClauseSteps.{whole_at, ended}
+use Rattle.sql_parse.specs.QuerySteps.{whole_at, ended}
 use Rattle.sql_parse.specs.Factored.{compared, nulled, ranged, among, tail, forms, primary, test, factor}
 use Rattle.sql_parse.specs.Limits.{counted, is_past, is_long_name, passes}
-use Rattle.sql_parse.specs.Parse.{IsSentence, IsShallow, is_left_out_whole, fault_at, Refuses, Answered, Parsed}
+use Rattle.sql_parse.specs.Parse.{IsSentence, IsShallow, is_left_out_whole, fault_or, Refuses, Answered, Parsed}
 use Rattle.sql_parse.specs.Productions.{name, column, minus, digits, number, string, operand, compare, negated, conj}
-use Rattle.sql_parse.specs.Productions.{pred, truth_value, alias, selection, item, list, place, equal, join, group}
-use Rattle.sql_parse.specs.Productions.{filter, source, ending, query}
-use Rattle.sql_parse.specs.Told.{Told}
+use Rattle.sql_parse.specs.Productions.{pred, truth_value}
+use Rattle.sql_parse.specs.Clauses.{alias, selection, item, list, place, equal, join, group}
+use Rattle.sql_parse.specs.Clauses.{filter, source, ending, query}
+use Rattle.sql_parse.proofs.Told.{Told}
 use Rattle.sql_parse.specs.Tokens.{Mark, mark_of, same_word, same_symbol}
 use Rattle.sql_parse.proofs.Answering.{whole_told, too_deep, left_out, accepted}
 use Rattle.sql_parse.proofs.ClauseReading.{query_same}
@@ -64,7 +65,7 @@ abbrev answered : ℕ → List Mark → Result Sentence Refusal → Result Sente
 answered end ts (Ok s) =
     if passes ts then Err LimitReached else (if is_left_out_whole s then Err NotInSubset else Ok s)
 answered end ts (Err (refusal.Offends left)) =
-    if passes (before left ts) then Err LimitReached else Err (fault_at end (behind left ts))
+    if passes (before left ts) then Err LimitReached else Err (fault_or (BadSql end) (behind left ts))
 answered end ts (Err refusal.TooDeep) = Err LimitReached
 answered end ts (Err refusal.OutOfMemory) = Err OutOfMemory
 
@@ -117,7 +118,7 @@ of_sentence ts end s t false false p w = accepted ts s t p w
 
 of_offender : (ts place : List Mark) (left end : ℕ) → length place ≡ left → Offends IsShallow IsSentence ts place →
     (limit : Bool) → passes (before left ts) ≡ limit →
-    Answered (λ s. s) ts end (if limit then Err LimitReached else Err (fault_at end (behind left ts)))
+    Answered (λ s. s) ts end (if limit then Err LimitReached else Err (fault_or (BadSql end) (behind left ts)))
 of_offender ts place left end few o true p =
     let c = cut_at left ts place o.front few o.splits in
     λ ne. past ts o.front place end o.splits o.begins (subst (λ (z : List Mark). passes z ≡ true) c.0 p)
@@ -126,7 +127,7 @@ of_offender ts place left end few o false p =
     λ ne. inr (inl (
       place,
       record { offends = o; counts = subst (λ (z : List Mark). passes z ≡ false) c.0 p },
-      ap (fault_at end) c.1,
+      ap (fault_or (BadSql end)) c.1,
     ))
 
 answers : (ts : List Mark) (end : ℕ) (r : Result Sentence Refusal) → Told (λ s. s) ts r →

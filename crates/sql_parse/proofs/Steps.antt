@@ -7,7 +7,8 @@ use Rattle.std.proofs.lemmas.Bool.{ne_eqb}
 use Rattle.sql_text.specs.declared.word.Keyword.TheVariants as word
 use Rattle.sql_text.specs.declared.symbol.Symbol.TheVariants as symbol
 use Rattle.grammar.specs.Reading.{Outcome, Read, Stuck, Over, Reader, and_then, kept, reads, read, entered, begins}
-use Rattle.grammar.specs.Reading.{starts, well_made}
+use Rattle.grammar.specs.Reading.{starts}
+use Rattle.grammar.proofs.Determined.{well_made}
 use Rattle.sql_text.specs.Words.{is_name}
 use Rattle.sql_parse.specs.Tokens.{Mark, is_word, is_symbol, same_word, same_symbol}
 use Rattle.sql_parse.specs.Answers.{Answer, seen, ◌>>=◌}
@@ -16,13 +17,16 @@ use Rattle.scan_base.specs.Predicate.{conjunction, disjunction, negation}
 use Rattle.grammar.specs.Rule.{many, make}
 use Rattle.grammar.proofs.Deep.{flat_alike}
 use Rattle.sql_query.specs.declared.query.ColumnName.{ColumnName}
-use Rattle.sql_parse.specs.Productions.{Condition, name, column, minus, digits, number, string, operand, compare}
-use Rattle.sql_parse.specs.Productions.{negated, truth_value, conj, pred, inner, a_word, a_symbol, ◌⊳◌, ◌⊲◌}
+use Rattle.sql_parse.specs.Productions.{name, column, minus, digits, number, string, operand, compare}
+use Rattle.sql_parse.specs.Notation.{Condition}
+use Rattle.sql_parse.specs.Productions.{negated, truth_value, conj, pred, inner}
+use Rattle.sql_parse.specs.Notation.{a_word, a_symbol, ◌⊳◌, ◌⊲◌}
 use Rattle.sql_parse.specs.Factored.{compared, nulled, ranged, among, tail, forms, primary, test, factor}
 use Rattle.sql_parse.specs.Steps.{at, token_at, name_at, column_at, minus_at, numbered, digits_at, number_at}
-use Rattle.sql_parse.specs.Steps.{operand_at, compare_at, negated_at, truth_at, compared_at, nulled_at, ranged_at}
-use Rattle.sql_parse.specs.Steps.{operands_at, among_at, tail_at, factor_at, ands_at, conj_at, ors_at, pred_at}
-use Rattle.sql_parse.specs.Steps.{inside_at, form_at, primary_at, tested_at, test_at, negation_at}
+use Rattle.sql_parse.specs.Steps.{operand_at, compare_at}
+use Rattle.sql_parse.specs.PredicateSteps.{negated_at, truth_at, compared_at, nulled_at, ranged_at}
+use Rattle.sql_parse.specs.PredicateSteps.{operands_at, among_at, tail_at, factor_at, ands_at, conj_at, ors_at, pred_at}
+use Rattle.sql_parse.specs.PredicateSteps.{inside_at, form_at, primary_at, tested_at, test_at, negation_at}
 use Rattle.sql_parse.proofs.Whole.{one_more}
 
 pub seen_then : {A B : Type 0} (o : Outcome Mark A) (f : A → Reader Mark B) →

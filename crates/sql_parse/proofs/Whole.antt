@@ -1,12 +1,17 @@
 -- What reading the grammar tells.
 use Rattle.std.proofs.Common.{◌≡◌, ℕ, true, false, cond, List, ◌∷◌, [], Some}
 use Rattle.grammar.specs.Rule.{Spells, Nested, Any, many}
-use Rattle.grammar.specs.Reading.{reads, read, Read, made, followed, begins, starts, wholly, well_made, nullable}
-use Rattle.grammar.specs.Sentence.{Tells}
+use Rattle.grammar.specs.Reading.{reads, read, Read, made, followed, begins, starts, nullable}
+use Rattle.grammar.proofs.Determined.{wholly, well_made}
+use Rattle.grammar.proofs.Telling.{Tells}
 use Rattle.grammar.proofs.Exact.{exact, law_of, solid_rule}
 use Rattle.grammar.proofs.Laws.{step}
-use Rattle.sql_parse.specs.Tokens.{Mark, kinds}
-use Rattle.sql_parse.specs.Productions.{Of, begins_factor, follows_factor, query}
+use Rattle.sql_parse.specs.Tokens.{Mark}
+use Rattle.sql_parse.proofs.EveryKind.{kinds}
+use Rattle.sql_parse.specs.Productions.{begins_factor}
+use Rattle.sql_parse.specs.Clauses.{query}
+use Rattle.sql_parse.specs.Notation.{Of}
+use Rattle.sql_parse.proofs.EveryKind.{follows_factor}
 use Rattle.sql_parse.specs.Factored.{factor}
 use Rattle.sql_parse.proofs.Everywhere.{covered, apart}
 use Rattle.sql_parse.proofs.Conditions.{one_way, made_well, guarded, filled, begins_so, query_made_well, query_one_way}

@@ -1,4 +1,4 @@
--- How the code says what is read: a value and the tokens behind it, or how many tokens are left at the one
+-- Inside: how the code says what is read: a value and the tokens behind it, or how many tokens are left at the one
 -- that offends.
 use Rattle.std.specs.Prelude.{◌≡◌, ◌≢◌, List, length, Result, Ok, Err}
 use Rattle.grammar.specs.Reading.{Outcome, Read, Stuck, Over}

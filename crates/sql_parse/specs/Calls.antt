@@ -1,4 +1,4 @@
--- The tokens that the code has still to read, and the classes that it asks for.
+-- Inside: the tokens that the code has still to read, and the classes that it asks for.
 use Rattle.std.specs.Prelude.{Bool, ℕ, List, length}
 use Rattle.sql_text.specs.declared.token.TokenKind.{TokenKind}
 use Rattle.sql_parse.specs.declared.tokens.Class.{Class}

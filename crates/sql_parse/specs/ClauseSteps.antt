@@ -1,5 +1,5 @@
--- The clauses of a query, step by step.
-use Rattle.std.specs.Prelude.{ℕ, if◌then◌else◌, List, [], ◌∷◌, ◌++◌, length, Option, Some, None, Result, Ok, Err}
+-- Inside: what the parser of clauses answers, step by step.
+use Rattle.std.specs.Prelude.{ℕ, if◌then◌else◌, List, [], ◌∷◌, ◌++◌, Option, Some, None, Ok}
 use Rattle.sql_text.specs.declared.word.Keyword.TheVariants as word
 use Rattle.sql_text.specs.declared.symbol.Symbol.TheVariants as symbol
 use Rattle.grammar.specs.Rule.{many}
@@ -13,14 +13,13 @@ use Rattle.sql_query.specs.declared.query.Select.TheVariants as select
 use Rattle.sql_query.specs.declared.query.Place.{Place}
 use Rattle.sql_query.specs.declared.query.Equality.{Equality}
 use Rattle.sql_query.specs.declared.query.Join.{Join}
-use Rattle.sql_parse.specs.declared.refusal.Refusal.{Refusal}
-use Rattle.sql_parse.specs.declared.refusal.Refusal.TheVariants as refusal
-use Rattle.sql_query.specs.Sentence.{Sentence}
 use Rattle.sql_text.specs.Words.{is_name}
 use Rattle.sql_parse.specs.Tokens.{Mark, is_word, is_symbol}
 use Rattle.sql_parse.specs.Answers.{Answer, seen, ◌>>=◌}
-use Rattle.sql_parse.specs.Productions.{Condition, a_word, a_symbol, ◌⊳◌, column, item, equal, join}
-use Rattle.sql_parse.specs.Steps.{at, token_at, name_at, column_at, pred_at}
+use Rattle.sql_parse.specs.Productions.{column}
+use Rattle.sql_parse.specs.Clauses.{item, equal, join}
+use Rattle.sql_parse.specs.Notation.{a_word, a_symbol, ◌⊳◌}
+use Rattle.sql_parse.specs.Steps.{at, token_at, name_at, column_at}
 
 -- [ [AS] name ]
 unfoldable pub alias_at : List Mark → Answer (Option (List ℕ))
@@ -131,39 +130,3 @@ group_at ts =
       b ← token_at (is_word word.By) t.1
       first ← column_at b.1
       columns_at (first.0 ∷ []) first.1) else Ok ([], ts)
-
--- WHERE, where d parentheses and prefix NOTs may be open
-unfoldable pub filter_at : ℕ → List Mark → Answer (Option Condition)
-filter_at d ts =
-    if at (is_word word.Where) ts then (do
-      t ← token_at (is_word word.Where) ts
-      p ← pred_at d t.1
-      Ok (Some p.0, p.1)) else Ok (None, ts)
-
-unfoldable pub ending_at : ℕ → List Mark → Answer (Option Condition × List ColumnName)
-ending_at d ts = do
-  f ← filter_at d ts
-  g ← group_at f.1
-  if at (is_symbol symbol.Semicolon) g.1 then (do
-    t ← token_at (is_symbol symbol.Semicolon) g.1
-    Ok ((f.0, g.0), t.1)) else Ok ((f.0, g.0), g.1)
-
-unfoldable pub query_at : ℕ → List Mark → Answer Sentence
-query_at d ts = do
-  t ← token_at (is_word word.Select) ts
-  l ← list_at t.1
-  s ← source_at l.1
-  e ← ending_at d s.1
-  Ok (record { select = l.0; first = s.0.0; joins = s.0.1; filter = e.0.0; group_by = e.0.1 }, e.1)
-
-abbrev pub finished : Sentence × List Mark → Result Sentence Refusal
-finished (s, []) = Ok s
-finished (s, t ∷ ts) = Err (refusal.Offends (length (t ∷ ts)))
-
-abbrev pub ended : Answer Sentence → Result Sentence Refusal
-ended (Ok x) = finished x
-ended (Err e) = Err e
-
--- the tokens, all of them
-unfoldable pub whole_at : ℕ → List Mark → Result Sentence Refusal
-whole_at d ts = ended (query_at d ts)

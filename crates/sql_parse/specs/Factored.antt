@@ -1,4 +1,4 @@
--- The grammar, where the forms of a predicate that begin with an operand share it, so that one token is enough
+-- Inside: the grammar, where the forms of a predicate that begin with an operand share it, so that one token is enough
 -- to choose by.
 use Rattle.std.specs.Prelude.{Bool, true, false}
 use Rattle.scan_base.specs.declared.predicate.Operand.{Operand}
@@ -7,7 +7,8 @@ use Rattle.sql_text.specs.declared.word.Keyword.TheVariants as word
 use Rattle.sql_text.specs.declared.symbol.Symbol.TheVariants as symbol
 use Rattle.grammar.specs.Rule.{both, either, make}
 use Rattle.sql_query.specs.declared.query.ColumnName.{ColumnName}
-use Rattle.sql_parse.specs.Productions.{Condition, Of, a_word, a_symbol, ◌⊳◌, ◌⊲◌, listed, operand, compare, negated}
+use Rattle.sql_parse.specs.Productions.{operand, compare, negated}
+use Rattle.sql_parse.specs.Notation.{Condition, Of, a_word, a_symbol, ◌⊳◌, ◌⊲◌, listed}
 use Rattle.sql_parse.specs.Productions.{primary_of, test_of, factor_of}
 
 abbrev pub Value : Type 0

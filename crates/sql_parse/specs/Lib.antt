@@ -1,12 +1,15 @@
 pub mod Tokens
 pub mod Productions
+pub mod Clauses
+pub mod Notation
 pub mod Factored
 pub mod Answers
 pub mod Calls
 pub mod Steps
+pub mod PredicateSteps
 pub mod ClauseSteps
+pub mod QuerySteps
 pub mod Limits
 pub mod Within
 pub mod Parse
-pub mod Told
 pub mod Laws

@@ -1,6 +1,7 @@
 -- The limits of number and of names.
 use Rattle.std.specs.Prelude.{ℕ, ◌+◌, Bool, false, ◌&&◌, ◌||◌, if◌then◌else◌, nat_lt, List, [], ◌∷◌, length}
 use Rattle.std.specs.Prelude.{◌≡◌, ◌<◌, true, take, Option, Some, None}
+use Rattle.scan_base.specs.Limits.{most_places, most_items, most_members, most_name_bytes}
 use Rattle.sql_text.specs.declared.word.Keyword.TheVariants as word
 use Rattle.sql_text.specs.declared.symbol.Symbol.TheVariants as symbol
 use Rattle.sql_text.specs.declared.token.TokenKind.{TokenKind}
@@ -15,26 +16,28 @@ use Rattle.sql_text.specs.Calls.{said}
 unfoldable pub counted : Tally → TokenKind → Tally
 counted tally kind =
     if is_word word.From kind || is_word word.Join kind then record tally { places = tally.places + 1 }
-    else (if is_word word.Select kind || is_word word.By kind then record tally { items = 1; most = 64 }
-    else (if is_word word.In kind then record tally { items = 1; most = 256 }
+    else (if is_word word.Select kind || is_word word.By kind then record tally { items = 1; most = most_items }
+    else (if is_word word.In kind then record tally { items = 1; most = most_members }
     else (if is_symbol symbol.Comma kind then record tally { items = tally.items + 1 }
     else tally)))
 
 -- the place or the item that was announced last is one too many
 unfoldable pub is_past : Tally → Bool
-is_past tally = nat_lt 4 tally.places || nat_lt tally.most tally.items
+is_past tally = nat_lt most_places tally.places || nat_lt tally.most tally.items
 
+-- a name of too many bytes
 unfoldable pub is_long_name : TokenKind → List ℕ → Bool
-is_long_name kind text = is_name kind && nat_lt 64 (length (said kind text))
+is_long_name kind text = is_name kind && nat_lt most_name_bytes (length (said kind text))
 
+-- whether one of the tokens passes a limit, where those before announced so much
 abbrev pub passes_from : Tally → List Mark → Bool
 passes_from tally [] = false
 passes_from tally (t ∷ ts) = (is_long_name t.0 t.1.1 || is_past tally) || passes_from (counted tally t.0) ts
 
--- Whether one of the tokens passes a limit: it is a name of more than 64 bytes, or stands in a place or an item
+-- Whether one of the tokens passes a limit: it is a name of too many bytes, or stands in a place or an item
 -- that is one too many.
 unfoldable pub passes : List Mark → Bool
-passes ts = passes_from (record { places = 0; items = 0; most = 64 }) ts
+passes ts = passes_from (record { places = 0; items = 0; most = most_items }) ts
 
 -- the token at `at` is the first that passes a limit, or none does
 abbrev pub IsFirstPast : Option ℕ → List Mark → Type 0

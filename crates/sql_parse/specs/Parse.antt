@@ -1,6 +1,7 @@
 -- What parsing answers.
 use Rattle.std.specs.Prelude.{◌≡◌, ◌≢◌, ℕ, ◌==◌, Bool, true, false, not, ◌&&◌, ◌||◌, ◌⊎◌, if◌then◌else◌, List, []}
 use Rattle.std.specs.Prelude.{◌∷◌, ◌++◌, map, length, Result, Ok, Err}
+use Rattle.scan_base.specs.Limits.{most_open}
 use Rattle.scan_base.specs.declared.fault.Fault.{Fault}
 use Rattle.scan_base.specs.declared.fault.Fault.TheVariants.{OutOfMemory, LimitReached, NotInSubset, BadSql}
 use Rattle.sql_text.specs.Standard.{Lexeme}
@@ -12,20 +13,21 @@ use Rattle.sql_query.specs.declared.query.Select.{Select}
 use Rattle.sql_query.specs.declared.query.Select.TheVariants as select
 use Rattle.sql_query.specs.Sentence.{Sentence, is_grouped}
 use Rattle.sql_parse.specs.Tokens.{Mark, mark_of}
-use Rattle.sql_parse.specs.Productions.{factor, query}
+use Rattle.sql_parse.specs.Productions.{factor}
+use Rattle.sql_parse.specs.Clauses.{query}
 use Rattle.sql_parse.specs.Limits.{passes}
-use Rattle.sql_parse.specs.Within.{IsWithinLimits}
 
 -- the tokens are a query, which says the sentence
 abbrev pub IsSentence : Language Mark Sentence
 IsSentence = Spells (Any factor) query
 
--- the same, where at most 64 predicate parentheses and prefix NOTs are open at once
+-- the same, where no more predicate parentheses and prefix NOTs are open at once than may be
 abbrev pub IsShallow : Language Mark Sentence
-IsShallow = Spells (Nested factor 64) query
+IsShallow = Spells (Nested factor most_open) query
 
 -- ---- what is left out, though it is a sentence
 
+-- `*`, and no list
 abbrev pub is_all : Select → Bool
 is_all select.All = true
 is_all _ = false
@@ -36,11 +38,11 @@ is_left_out_whole s = (not (length s.joins == 0) && is_grouped s) || (is_all s.s
 
 -- ---- the answer
 
+-- the tokens are this sentence and no other, pass no limit, and are not left out
 pub record Accepts (ts : List Mark) (s : Sentence) : Type 0 where
   pub shallow : IsShallow ts s
-  -- the tokens say no other sentence
   pub only : (other : Sentence) → IsSentence ts other → other ≡ s
-  pub within : IsWithinLimits s
+  pub within : passes ts ≡ false
   pub whole : is_left_out_whole s ≡ false
 
 -- Tokens from the first on begin a sentence, and pass a limit.
@@ -57,11 +59,11 @@ pub record HasOffender (ts place : List Mark) : Type 0 where
   pub offends : Offends IsShallow IsSentence ts place
   pub counts : passes offends.front ≡ false
 
--- The tokens are a sentence within the limits that is left out.
+-- The tokens are a sentence, pass no limit, and are left out.
 pub record HasLeftOut (ts : List Mark) : Type 0 where
   pub sentence : Sentence
   pub shallow : IsShallow ts sentence
-  pub within : IsWithinLimits sentence
+  pub within : passes ts ≡ false
   pub whole : is_left_out_whole sentence ≡ true
 
 -- the fault of the first token, which offends, or the other one where there is none
@@ -69,14 +71,11 @@ abbrev pub fault_or : Fault → List Mark → Fault
 fault_or other [] = other
 fault_or other (t ∷ ts) = if is_left_out t.0 then NotInSubset else BadSql t.1.0
 
--- the fault of an offending token, where the text ends at `end`
-abbrev pub fault_at : ℕ → List Mark → Fault
-fault_at end ts = fault_or (BadSql end) ts
-
+-- Why tokens that end at `end` are refused: they pass a limit, have an offender, or are left out as a whole.
 abbrev pub Refuses : List Mark → ℕ → Fault → Type 0
 Refuses ts end fault =
     (PassesLimit ts × (fault ≡ LimitReached))
-    ⊎ (((place : List Mark) × HasOffender ts place × (fault ≡ fault_at end place))
+    ⊎ (((place : List Mark) × HasOffender ts place × (fault ≡ fault_or (BadSql end) place))
     ⊎ (HasLeftOut ts × (fault ≡ NotInSubset)))
 
 -- what parsing the tokens of a text that ends at `end` gave, seen by `view`

@@ -1,7 +1,8 @@
--- The limits of number and of names, on the sentence.
+-- The limits of number and of names, on the sentence: a law says that these are those of its tokens.
 use Rattle.std.specs.Prelude.{ℕ, ◌+◌, ◌≤◌, List, [], ◌∷◌, ◌++◌, length, Option, Some, None, All}
 use Rattle.std.specs.List.{flat_map}
 use Rattle.std.specs.Option.{option_to_list}
+use Rattle.scan_base.specs.Limits.{most_places, most_items, most_members, most_name_bytes}
 use Rattle.scan_base.specs.declared.predicate.Operand.{Operand}
 use Rattle.scan_base.specs.declared.predicate.Operand.TheVariants as operand
 use Rattle.scan_base.specs.Predicate.{Pred, conjunction, disjunction, negation, truth_test, comparing, between}
@@ -84,11 +85,11 @@ abbrev pub filter_members : Option (Pred ColumnName) → List ℕ
 filter_members None = []
 filter_members (Some p) = members p
 
--- At most 4 places, 64 items in the list, 64 columns in GROUP BY and 256 items in each IN; and each name has at
--- most 64 bytes.
+-- There are at most so many places, items in the list, columns in GROUP BY and items in each IN, and each name has at
+-- most so many bytes.
 pub record IsWithinLimits (s : Sentence) : Type 0 where
-  pub places : length s.joins + 1 ≤ 4
-  pub items : select_items s.select ≤ 64
-  pub group_by : length s.group_by ≤ 64
-  pub members : All (λ count. count ≤ 256) (filter_members s.filter)
-  pub names : All (λ name. length name ≤ 64) (sentence_names s)
+  pub places : length s.joins + 1 ≤ most_places
+  pub items : select_items s.select ≤ most_items
+  pub group_by : length s.group_by ≤ most_items
+  pub members : All (λ count. count ≤ most_members) (filter_members s.filter)
+  pub names : All (λ name. length name ≤ most_name_bytes) (sentence_names s)

@@ -4,6 +4,7 @@ ghost use Rattle.std.specs.Prelude.{◌≡◌, ◌<◌, ◌≤◌, IfOk, option_
 ghost use Rattle.sql_parse.specs.Answers.{Gives};
 ghost use Rattle.sql_parse.specs.Calls.{unread, remaining};
 ghost use Rattle.sql_parse.specs.ClauseSteps as steps;
+ghost use Rattle.sql_parse.specs.QuerySteps as queries;
 ghost use Rattle.scan_base.specs.View.{pred_of};
 ghost use Rattle.sql_query.specs.Sentence.{Sentence, sentence_of};
 
@@ -259,14 +260,14 @@ fn group<'t>(alloc: Global, tokens: Rest<'t>) -> Result<(Items<ColumnName>, Rest
 }
 
 // [ WHERE predicate ], in which `depth` parentheses and prefix NOTs may be open
-#[tactic(auto, unfolding(crate::specs::ClauseSteps::filter_at))]
+#[tactic(auto, unfolding(crate::specs::QuerySteps::filter_at))]
 fn filter<'t>(
     alloc: Global,
     depth: usize,
     tokens: Rest<'t>,
 ) -> Result<(Option<Predicate<ColumnName>>, Rest<'t>), Refusal>
     ensures exact { Gives (λ x. (option_map pred_of x.0, unread x.1)) result
-        (steps.filter_at depth (unread tokens.entry)) }
+        (queries.filter_at depth (unread tokens.entry)) }
 {
     if tokens.at(Class::Word(Keyword::Where)) {
         let (_, rest) = tokens.take(Class::Word(Keyword::Where))?;
@@ -278,14 +279,14 @@ fn filter<'t>(
 }
 
 // [ WHERE predicate ] [ GROUP BY column { "," column } ] [ ";" ]
-#[tactic(auto, unfolding(crate::specs::ClauseSteps::ending_at))]
+#[tactic(auto, unfolding(crate::specs::QuerySteps::ending_at))]
 fn ending<'t>(
     alloc: Global,
     depth: usize,
     tokens: Rest<'t>,
 ) -> Result<((Option<Predicate<ColumnName>>, Items<ColumnName>), Rest<'t>), Refusal>
     ensures exact { Gives (λ x. ((option_map pred_of x.0.0, x.0.1), unread x.1)) result
-        (steps.ending_at depth (unread tokens.entry)) }
+        (queries.ending_at depth (unread tokens.entry)) }
 {
     let (filter, rest) = filter(alloc, depth, tokens)?;
     let (group_by, rest) = group(alloc, rest)?;
@@ -298,9 +299,9 @@ fn ending<'t>(
 }
 
 // SELECT list FROM place { join } [ WHERE .. ] [ GROUP BY .. ] [ ";" ]
-#[tactic(auto, unfolding(crate::specs::ClauseSteps::query_at))]
+#[tactic(auto, unfolding(crate::specs::QuerySteps::query_at))]
 fn query<'t>(alloc: Global, depth: usize, tokens: Rest<'t>) -> Result<(Query, Rest<'t>), Refusal>
-    ensures exact { Gives (λ x. (sentence_of x.0, unread x.1)) result (steps.query_at depth (unread tokens.entry)) }
+    ensures exact { Gives (λ x. (sentence_of x.0, unread x.1)) result (queries.query_at depth (unread tokens.entry)) }
 {
     let (_, rest) = tokens.take(Class::Word(Keyword::Select))?;
     let (select, rest) = list(alloc, rest)?;
@@ -318,7 +319,7 @@ fn query<'t>(alloc: Global, depth: usize, tokens: Rest<'t>) -> Result<(Query, Re
 
 // Whether no token is left. The first one that is left offends.
 fn end(tokens: Rest<'_>) -> Result<(), Refusal>
-    ensures exact { (s : Sentence) → Gives (λ _. s) result (steps.finished (s, unread tokens.entry)) }
+    ensures exact { (s : Sentence) → Gives (λ _. s) result (queries.finished (s, unread tokens.entry)) }
 {
     match tokens.tokens {
         [] => Ok(()),
@@ -327,9 +328,9 @@ fn end(tokens: Rest<'_>) -> Result<(), Refusal>
 }
 
 /// The query that the tokens, all of them, are, where `depth` parentheses and prefix NOTs may be open.
-#[tactic(auto, unfolding(crate::specs::ClauseSteps::whole_at))]
+#[tactic(auto, unfolding(crate::specs::QuerySteps::whole_at))]
 pub(crate) fn whole_query(alloc: Global, depth: usize, tokens: Rest<'_>) -> Result<Query, Refusal>
-    ensures exact { Gives sentence_of result (steps.whole_at depth (unread tokens.entry)) }
+    ensures exact { Gives sentence_of result (queries.whole_at depth (unread tokens.entry)) }
 {
     let (query, rest) = query(alloc, depth, tokens)?;
     end(rest)?;

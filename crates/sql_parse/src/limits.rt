@@ -20,7 +20,7 @@ const MOST_ITEMS: usize = 64;
 const MOST_MEMBERS: usize = 256;
 
 /// What the tokens so far announce.
-#[derive(Clone, Copy, Debug)]
+#[derive(Clone, Copy)]
 pub(crate) struct Tally {
     /// Places.
     places: usize,

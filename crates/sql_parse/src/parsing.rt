@@ -2,10 +2,11 @@
 
 ghost use Rattle.std.specs.Prelude.{◌≡◌, ◌≢◌, false, nat_le, length, Some, IfOk};
 ghost use Rattle.scan_base.specs.declared.fault.Fault.TheVariants.{OutOfMemory, LimitReached};
+ghost use Rattle.scan_base.specs.Limits.{most_query_bytes};
 ghost use Rattle.scan_base.specs.Reading.{RefusesFirst, demand};
 ghost use Rattle.sql_parse.specs.Limits.{IsFirstPast, passes};
 ghost use Rattle.sql_parse.specs.Parse.{Answered, Parsed, Refuses, fault_or, is_left_out_whole};
-ghost use Rattle.sql_query.specs.Names.{HasNames};
+ghost use Rattle.sql_query.specs.Names.{QueryHasNames};
 ghost use Rattle.sql_query.specs.Sentence.{sentence_of};
 ghost use Rattle.sql_parse.specs.Tokens.{marks};
 
@@ -113,8 +114,8 @@ fn parse_tokens(alloc: Global, tokens: &[Token<'_>], end: u32) -> Result<Query, 
 /// `Fault::OutOfMemory` where memory is refused.
 pub fn parse(alloc: Global, sql: &str) -> Result<Query, Fault>
     ensures parsed { Parsed sentence_of sql.now result }
-    ensures named { IfOk result (λ query. HasNames (sentence_of query)) }
-    ensures first { RefusesFirst result (demand (nat_le (length sql.now) 16384) LimitReached) }
+    ensures named { IfOk result (λ query. QueryHasNames (sentence_of query)) }
+    ensures first { RefusesFirst result (demand (nat_le (length sql.now) most_query_bytes) LimitReached) }
 {
     let tokens = sql_text::tokens(alloc, sql)?;
     parse_tokens(alloc, &tokens, sql.len() as u32)

@@ -5,7 +5,7 @@ ghost use Rattle.scan_base.specs.Predicate.{conjunction, disjunction};
 ghost use Rattle.scan_base.specs.View.{pred_of};
 ghost use Rattle.sql_parse.specs.Answers.{Gives};
 ghost use Rattle.sql_parse.specs.Calls.{unread, remaining};
-ghost use Rattle.sql_parse.specs.Steps as steps;
+ghost use Rattle.sql_parse.specs.PredicateSteps as predicates;
 
 use crate::operands::{compare, operand};
 use crate::refusal::Refusal;
@@ -16,9 +16,9 @@ use sql_text::{Keyword, Symbol};
 use std::alloc::Global;
 
 // [ NOT ]
-#[tactic(auto, unfolding(crate::specs::Steps::negated_at))]
+#[tactic(auto, unfolding(crate::specs::PredicateSteps::negated_at))]
 fn negated<'t>(tokens: Rest<'t>) -> Result<(bool, Rest<'t>), Refusal>
-    ensures exact { Gives (λ x. (x.0, unread x.1)) result (steps.negated_at (unread tokens.entry)) }
+    ensures exact { Gives (λ x. (x.0, unread x.1)) result (predicates.negated_at (unread tokens.entry)) }
     ensures shorter { IfOk result (λ x. remaining x.1 ≤ remaining tokens.entry) }
 {
     if tokens.at(Class::Word(Keyword::Not)) {
@@ -30,9 +30,9 @@ fn negated<'t>(tokens: Rest<'t>) -> Result<(bool, Rest<'t>), Refusal>
 }
 
 // TRUE | FALSE | UNKNOWN
-#[tactic(auto, unfolding(crate::specs::Steps::truth_at))]
+#[tactic(auto, unfolding(crate::specs::PredicateSteps::truth_at))]
 fn truth_value<'t>(tokens: Rest<'t>) -> Result<(Truth, Rest<'t>), Refusal>
-    ensures exact { Gives (λ x. (x.0, unread x.1)) result (steps.truth_at (unread tokens.entry)) }
+    ensures exact { Gives (λ x. (x.0, unread x.1)) result (predicates.truth_at (unread tokens.entry)) }
     ensures shorter { IfOk result (λ x. remaining x.1 < remaining tokens.entry) }
 {
     if tokens.at(Class::Word(Keyword::True)) {
@@ -52,14 +52,14 @@ fn truth_value<'t>(tokens: Rest<'t>) -> Result<(Truth, Rest<'t>), Refusal>
 // What may follow an operand: each stands apart, so that no reading makes room for what another needs.
 
 // compare operand, behind an operand
-#[tactic(auto, unfolding(crate::specs::Steps::compared_at))]
+#[tactic(auto, unfolding(crate::specs::PredicateSteps::compared_at))]
 #[inline(never)]
 fn compared<'t>(
     alloc: Global,
     left: Operand<ColumnName>,
     tokens: Rest<'t>,
 ) -> Result<(Box<Predicate<ColumnName>>, Rest<'t>), Refusal>
-    ensures exact { Gives (λ x. (pred_of x.0.value, unread x.1)) result (steps.compared_at left (unread tokens.entry)) }
+    ensures exact { Gives (λ x. (pred_of x.0.value, unread x.1)) result (predicates.compared_at left (unread tokens.entry)) }
     ensures shorter { IfOk result (λ x. remaining x.1 < remaining tokens.entry) }
 {
     let (comparison, rest) = compare(tokens)?;
@@ -73,14 +73,14 @@ fn compared<'t>(
 }
 
 // IS [NOT] NULL, behind an operand
-#[tactic(auto, unfolding(crate::specs::Steps::nulled_at))]
+#[tactic(auto, unfolding(crate::specs::PredicateSteps::nulled_at))]
 #[inline(never)]
 fn null_test<'t>(
     alloc: Global,
     operand: Operand<ColumnName>,
     tokens: Rest<'t>,
 ) -> Result<(Box<Predicate<ColumnName>>, Rest<'t>), Refusal>
-    ensures exact { Gives (λ x. (pred_of x.0.value, unread x.1)) result (steps.nulled_at operand (unread tokens.entry)) }
+    ensures exact { Gives (λ x. (pred_of x.0.value, unread x.1)) result (predicates.nulled_at operand (unread tokens.entry)) }
     ensures shorter { IfOk result (λ x. remaining x.1 < remaining tokens.entry) }
 {
     let (_, rest) = tokens.take(Class::Word(Keyword::Is))?;
@@ -91,7 +91,7 @@ fn null_test<'t>(
 }
 
 // BETWEEN operand AND operand, behind an operand and NOT or none
-#[tactic(auto, unfolding(crate::specs::Steps::ranged_at))]
+#[tactic(auto, unfolding(crate::specs::PredicateSteps::ranged_at))]
 #[inline(never)]
 fn between<'t>(
     alloc: Global,
@@ -100,7 +100,7 @@ fn between<'t>(
     tokens: Rest<'t>,
 ) -> Result<(Box<Predicate<ColumnName>>, Rest<'t>), Refusal>
     ensures exact { Gives (λ x. (pred_of x.0.value, unread x.1)) result
-        (steps.ranged_at negated value (unread tokens.entry)) }
+        (predicates.ranged_at negated value (unread tokens.entry)) }
     ensures shorter { IfOk result (λ x. remaining x.1 < remaining tokens.entry) }
 {
     let (_, rest) = tokens.take(Class::Word(Keyword::Between))?;
@@ -123,7 +123,7 @@ fn operands<'t>(
     first: Operand<ColumnName>,
     tokens: Rest<'t>,
 ) -> Result<(Items<Operand<ColumnName>>, Rest<'t>), Refusal>
-    ensures exact { Gives (λ x. (x.0, unread x.1)) result (steps.operands_at (first ∷ []) (unread tokens.entry)) }
+    ensures exact { Gives (λ x. (x.0, unread x.1)) result (predicates.operands_at (first ∷ []) (unread tokens.entry)) }
     ensures shorter { IfOk result (λ x. remaining x.1 ≤ remaining tokens.entry) }
 {
     let mut items = Items::new(alloc);
@@ -139,7 +139,7 @@ fn operands<'t>(
 }
 
 // IN "(" operand { "," operand } ")", behind an operand and NOT or none
-#[tactic(auto, unfolding(crate::specs::Steps::among_at))]
+#[tactic(auto, unfolding(crate::specs::PredicateSteps::among_at))]
 #[inline(never)]
 fn membership<'t>(
     alloc: Global,
@@ -147,7 +147,7 @@ fn membership<'t>(
     value: Operand<ColumnName>,
     tokens: Rest<'t>,
 ) -> Result<(Box<Predicate<ColumnName>>, Rest<'t>), Refusal>
-    ensures exact { Gives (λ x. (pred_of x.0.value, unread x.1)) result (steps.among_at negated value (unread tokens.entry)) }
+    ensures exact { Gives (λ x. (pred_of x.0.value, unread x.1)) result (predicates.among_at negated value (unread tokens.entry)) }
     ensures shorter { IfOk result (λ x. remaining x.1 < remaining tokens.entry) }
 {
     let (_, rest) = tokens.take(Class::Word(Keyword::In))?;
@@ -164,13 +164,13 @@ fn membership<'t>(
 }
 
 // what follows an operand
-#[tactic(auto, unfolding(crate::specs::Steps::tail_at))]
+#[tactic(auto, unfolding(crate::specs::PredicateSteps::tail_at))]
 fn behind_operand<'t>(
     alloc: Global,
     left: Operand<ColumnName>,
     tokens: Rest<'t>,
 ) -> Result<(Box<Predicate<ColumnName>>, Rest<'t>), Refusal>
-    ensures exact { Gives (λ x. (pred_of x.0.value, unread x.1)) result (steps.tail_at left (unread tokens.entry)) }
+    ensures exact { Gives (λ x. (pred_of x.0.value, unread x.1)) result (predicates.tail_at left (unread tokens.entry)) }
     ensures shorter { IfOk result (λ x. remaining x.1 < remaining tokens.entry) }
 {
     if tokens.at(Class::Word(Keyword::Is)) {
@@ -194,13 +194,13 @@ fn behind_operand<'t>(
 // The next four stand apart, so that what an open parenthesis keeps on the stack holds no predicate by value.
 
 // operand and what follows it
-#[tactic(auto, unfolding(crate::specs::Steps::form_at))]
+#[tactic(auto, unfolding(crate::specs::PredicateSteps::form_at))]
 #[inline(never)]
 fn form<'t>(
     alloc: Global,
     tokens: Rest<'t>,
 ) -> Result<(Box<Predicate<ColumnName>>, Rest<'t>), Refusal>
-    ensures exact { Gives (λ x. (pred_of x.0.value, unread x.1)) result (steps.form_at (unread tokens.entry)) }
+    ensures exact { Gives (λ x. (pred_of x.0.value, unread x.1)) result (predicates.form_at (unread tokens.entry)) }
     ensures shorter { IfOk result (λ x. remaining x.1 < remaining tokens.entry) }
 {
     let (left, rest) = operand(alloc, tokens)?;
@@ -208,7 +208,7 @@ fn form<'t>(
 }
 
 // IS [NOT] (TRUE | FALSE | UNKNOWN), behind a predicate
-#[tactic(auto, unfolding(crate::specs::Steps::tested_at))]
+#[tactic(auto, unfolding(crate::specs::PredicateSteps::tested_at))]
 #[inline(never)]
 fn truth_test<'t>(
     alloc: Global,
@@ -216,7 +216,7 @@ fn truth_test<'t>(
     tokens: Rest<'t>,
 ) -> Result<(Box<Predicate<ColumnName>>, Rest<'t>), Refusal>
     ensures exact { Gives (λ x. (pred_of x.0.value, unread x.1)) result
-        (steps.tested_at (pred_of predicate.value) (unread tokens.entry)) }
+        (predicates.tested_at (pred_of predicate.value) (unread tokens.entry)) }
     ensures shorter { IfOk result (λ x. remaining x.1 < remaining tokens.entry) }
 {
     let (_, rest) = tokens.take(Class::Word(Keyword::Is))?;
@@ -255,14 +255,14 @@ fn either(
 }
 
 // NOT factor
-#[tactic(auto, unfolding(crate::specs::Steps::negation_at))]
+#[tactic(auto, unfolding(crate::specs::PredicateSteps::negation_at))]
 #[cycle(nested)]
 fn negation<'t>(
     alloc: Global,
     depth: usize,
     tokens: Rest<'t>,
 ) -> Result<(Box<Predicate<ColumnName>>, Rest<'t>), Refusal>
-    ensures exact { Gives (λ x. (pred_of x.0.value, unread x.1)) result (steps.negation_at depth (unread tokens.entry)) }
+    ensures exact { Gives (λ x. (pred_of x.0.value, unread x.1)) result (predicates.negation_at depth (unread tokens.entry)) }
     ensures shorter { IfOk result (λ x. remaining x.1 < remaining tokens.entry) }
 {
     if depth == 0 {
@@ -282,7 +282,7 @@ fn factor<'t>(
     depth: usize,
     tokens: Rest<'t>,
 ) -> Result<(Box<Predicate<ColumnName>>, Rest<'t>), Refusal>
-    ensures exact { Gives (λ x. (pred_of x.0.value, unread x.1)) result (steps.factor_at depth (unread tokens.entry)) }
+    ensures exact { Gives (λ x. (pred_of x.0.value, unread x.1)) result (predicates.factor_at depth (unread tokens.entry)) }
     ensures shorter { IfOk result (λ x. remaining x.1 < remaining tokens.entry) }
 {
     if tokens.at(Class::Word(Keyword::Not)) {
@@ -293,7 +293,7 @@ fn factor<'t>(
 }
 
 // factor { AND factor }
-#[tactic(auto, using(crate::proofs::Steps::ands_step), unfolding(crate::specs::Steps::conj_at))]
+#[tactic(auto, using(crate::proofs::Steps::ands_step), unfolding(crate::specs::PredicateSteps::conj_at))]
 #[cycle(nested)]
 #[inline(always)]
 fn conjunction<'t>(
@@ -301,7 +301,7 @@ fn conjunction<'t>(
     depth: usize,
     tokens: Rest<'t>,
 ) -> Result<(Box<Predicate<ColumnName>>, Rest<'t>), Refusal>
-    ensures exact { Gives (λ x. (pred_of x.0.value, unread x.1)) result (steps.conj_at depth (unread tokens.entry)) }
+    ensures exact { Gives (λ x. (pred_of x.0.value, unread x.1)) result (predicates.conj_at depth (unread tokens.entry)) }
     ensures shorter { IfOk result (λ x. remaining x.1 < remaining tokens.entry) }
 {
     let (mut left, mut rest) = factor(alloc, depth, tokens)?;
@@ -315,7 +315,7 @@ fn conjunction<'t>(
 }
 
 // conjunction { OR conjunction }
-#[tactic(auto, using(crate::proofs::Steps::ors_step), unfolding(crate::specs::Steps::pred_at))]
+#[tactic(auto, using(crate::proofs::Steps::ors_step), unfolding(crate::specs::PredicateSteps::pred_at))]
 #[cycle(nested)]
 #[inline(always)]
 pub(crate) fn predicate<'t>(
@@ -323,7 +323,7 @@ pub(crate) fn predicate<'t>(
     depth: usize,
     tokens: Rest<'t>,
 ) -> Result<(Box<Predicate<ColumnName>>, Rest<'t>), Refusal>
-    ensures exact { Gives (λ x. (pred_of x.0.value, unread x.1)) result (steps.pred_at depth (unread tokens.entry)) }
+    ensures exact { Gives (λ x. (pred_of x.0.value, unread x.1)) result (predicates.pred_at depth (unread tokens.entry)) }
     ensures shorter { IfOk result (λ x. remaining x.1 < remaining tokens.entry) }
 {
     let (mut left, mut rest) = conjunction(alloc, depth, tokens)?;
@@ -337,7 +337,7 @@ pub(crate) fn predicate<'t>(
 }
 
 // "(" predicate ")"
-#[tactic(auto, unfolding(crate::specs::Steps::inside_at))]
+#[tactic(auto, unfolding(crate::specs::PredicateSteps::inside_at))]
 #[cycle(nested)]
 #[inline(always)]
 fn parenthesized<'t>(
@@ -345,7 +345,7 @@ fn parenthesized<'t>(
     depth: usize,
     tokens: Rest<'t>,
 ) -> Result<(Box<Predicate<ColumnName>>, Rest<'t>), Refusal>
-    ensures exact { Gives (λ x. (pred_of x.0.value, unread x.1)) result (steps.inside_at depth (unread tokens.entry)) }
+    ensures exact { Gives (λ x. (pred_of x.0.value, unread x.1)) result (predicates.inside_at depth (unread tokens.entry)) }
     ensures shorter { IfOk result (λ x. remaining x.1 < remaining tokens.entry) }
 {
     if depth == 0 {
@@ -358,7 +358,7 @@ fn parenthesized<'t>(
 }
 
 // "(" predicate ")" | operand and what follows it
-#[tactic(auto, unfolding(crate::specs::Steps::primary_at))]
+#[tactic(auto, unfolding(crate::specs::PredicateSteps::primary_at))]
 #[cycle(nested)]
 #[inline(always)]
 fn primary<'t>(
@@ -366,7 +366,7 @@ fn primary<'t>(
     depth: usize,
     tokens: Rest<'t>,
 ) -> Result<(Box<Predicate<ColumnName>>, Rest<'t>), Refusal>
-    ensures exact { Gives (λ x. (pred_of x.0.value, unread x.1)) result (steps.primary_at depth (unread tokens.entry)) }
+    ensures exact { Gives (λ x. (pred_of x.0.value, unread x.1)) result (predicates.primary_at depth (unread tokens.entry)) }
     ensures shorter { IfOk result (λ x. remaining x.1 < remaining tokens.entry) }
 {
     if tokens.at(Class::Symbol(Symbol::LeftParenthesis)) {
@@ -377,14 +377,14 @@ fn primary<'t>(
 }
 
 // primary [ IS [NOT] (TRUE | FALSE | UNKNOWN) ]
-#[tactic(auto, unfolding(crate::specs::Steps::test_at))]
+#[tactic(auto, unfolding(crate::specs::PredicateSteps::test_at))]
 #[cycle(nested)]
 fn test<'t>(
     alloc: Global,
     depth: usize,
     tokens: Rest<'t>,
 ) -> Result<(Box<Predicate<ColumnName>>, Rest<'t>), Refusal>
-    ensures exact { Gives (λ x. (pred_of x.0.value, unread x.1)) result (steps.test_at depth (unread tokens.entry)) }
+    ensures exact { Gives (λ x. (pred_of x.0.value, unread x.1)) result (predicates.test_at depth (unread tokens.entry)) }
     ensures shorter { IfOk result (λ x. remaining x.1 < remaining tokens.entry) }
 {
     let (predicate, rest) = primary(alloc, depth, tokens)?;

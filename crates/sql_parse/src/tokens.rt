@@ -10,7 +10,7 @@ use crate::refusal::Refusal;
 use sql_text::{Keyword, Symbol, Token, TokenKind};
 
 /// A class of tokens that a production asks for.
-#[derive(Clone, Copy, Debug)]
+#[derive(Clone, Copy)]
 pub(crate) enum Class {
     /// This word.
     Word(Keyword),
@@ -42,7 +42,7 @@ impl Class {
 }
 
 /// The tokens that are not read yet.
-#[derive(Clone, Copy, Debug)]
+#[derive(Clone, Copy)]
 pub(crate) struct Rest<'t> {
     /// The tokens, in order.
     pub(crate) tokens: &'t [Token<'t>],

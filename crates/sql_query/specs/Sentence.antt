@@ -20,6 +20,7 @@ pub record Sentence : Type 0 where
   pub filter : Option (Pred ColumnName)
   pub group_by : List ColumnName
 
+-- what a query of the code says
 abbrev pub sentence_of : Query → Sentence
 sentence_of query = record {
   select = query.select;
@@ -33,10 +34,12 @@ sentence_of query = record {
 abbrev pub place_name : Place → List ℕ
 place_name place = unwrap_or place.alias place.table
 
+-- a COUNT or a SUM
 abbrev pub is_aggregate : Expression → Bool
 is_aggregate (Column name) = false
 is_aggregate _ = true
 
+-- one of the items is an aggregate
 abbrev pub has_aggregate : Select → Bool
 has_aggregate select.All = false
 has_aggregate (select.List items) = list_any (λ item. is_aggregate item.expression) items

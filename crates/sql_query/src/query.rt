@@ -8,14 +8,14 @@ ghost use Rattle.sql_query.specs.Sentence.{sentence_of, is_aggregate, has_aggreg
 use scan_base::{Items, Predicate, Text};
 
 /// A column, by its name, or by the name of its place and its own.
-#[derive(Debug, Drop)]
+#[derive(Drop)]
 pub struct ColumnName {
     pub place: Option<Text>,
     pub name: Text,
 }
 
 /// What an item of the list gives: a column, or an aggregate of the rows of a group.
-#[derive(Debug, Drop)]
+#[derive(Drop)]
 pub enum Expression {
     Column(ColumnName),
     /// `COUNT(*)`
@@ -27,42 +27,42 @@ pub enum Expression {
 }
 
 /// An item of the list, and the name that it gives to its column.
-#[derive(Debug, Drop)]
+#[derive(Drop)]
 pub struct SelectItem {
     pub expression: Expression,
     pub alias: Option<Text>,
 }
 
 /// What a query selects: all columns of all places, or a list of items.
-#[derive(Debug, Drop)]
+#[derive(Drop)]
 pub enum Select {
     All,
     List(Items<SelectItem>),
 }
 
 /// A table, and the name that it goes by in the query.
-#[derive(Debug, Drop)]
+#[derive(Drop)]
 pub struct Place {
     pub table: Text,
     pub alias: Option<Text>,
 }
 
 /// `left = right`, in an ON.
-#[derive(Debug, Drop)]
+#[derive(Drop)]
 pub struct Equality {
     pub left: ColumnName,
     pub right: ColumnName,
 }
 
 /// A further place, and the equalities by which its rows are joined.
-#[derive(Debug, Drop)]
+#[derive(Drop)]
 pub struct Join {
     pub place: Place,
     pub on: Items<Equality>,
 }
 
 /// `SELECT .. FROM .. [JOIN ..] [WHERE ..] [GROUP BY ..]`
-#[derive(Debug, Drop)]
+#[derive(Drop)]
 pub struct Query {
     pub select: Select,
     pub first: Place,

@@ -12,7 +12,8 @@ use Rattle.std.proofs.lemmas.Str.{IsCharBoundary-end, IsCharBoundary-before_asci
 use Rattle.sql_text.specs.declared.front.Front.{Front}
 use Rattle.sql_text.specs.declared.symbol.Symbol.{Symbol}
 use Rattle.sql_text.specs.Values.{opened}
-use Rattle.sql_text.specs.Standard.{begins_word, continues_word, is_separator, continues_comment, symbols, symbol_in, Form, separator, comment, word, delimited_name, string, unclosed, digits, mark, Spells, StandsInFront, is_sound}
+use Rattle.sql_text.specs.Standard.{begins_word, continues_word, is_separator, continues_comment, Form, separator, comment, word, delimited_name, string, unclosed, digits, mark, Spells, StandsInFront, is_sound}
+use Rattle.sql_text.specs.Symbols.{symbols, symbol_in}
 use Rattle.sql_text.specs.Reading.{front_at}
 use Rattle.sql_text.proofs.Groups.{mark_short, some_byte}
 use Rattle.sql_text.proofs.Cuts.{word_ascii, digit_ascii}

@@ -7,7 +7,8 @@ use Rattle.std.proofs.Math.Bool.{and-false}
 use Rattle.std.proofs.lemmas.Bool.{eqb-true}
 use Rattle.std.proofs.lemmas.Bool.Decides.{nat_tests}
 use Rattle.sql_text.specs.declared.symbol.Symbol.{Symbol}
-use Rattle.sql_text.specs.Standard.{begins_word, is_separator, is_quote, symbols, symbol_in, Form, separator, comment, word, delimited_name, string, unclosed, digits, mark, Spells}
+use Rattle.sql_text.specs.Standard.{begins_word, is_separator, is_quote, Form, separator, comment, word, delimited_name, string, unclosed, digits, mark, Spells}
+use Rattle.sql_text.specs.Symbols.{symbols, symbol_in}
 
 pub data Group : Type 0 where
   words : Group

@@ -2,6 +2,7 @@
 use Rattle.std.specs.Prelude.{◌≡◌, ◌≤◌, ◌<◌, ◌+◌, ℕ, ℤ, true, IsUtf8, List, map, length, slice_range, Option, None}
 use Rattle.std.specs.Prelude.{Result, Ok, Err, Vec}
 use Rattle.std.specs.Global.{Global}
+use Rattle.scan_base.specs.Limits.{most_query_bytes}
 use Rattle.scan_base.specs.declared.fault.Fault.{Fault}
 use Rattle.scan_base.specs.declared.fault.Fault.TheVariants.{LimitReached, BadSql, OutOfMemory}
 use Rattle.std.specs.Str.{byte}
@@ -38,9 +39,9 @@ numeral other text = None
 -- what `tokens` answers, by the pieces of the text: they are these tokens, the text is too long, or there is
 -- the first fault
 abbrev pub KeepsPieces : Result (Vec Token Global) Fault → List ℕ → Type 0
-KeepsPieces (Ok tokens) text = (length text ≤ 16384) × AreTokens text (map lexeme_of tokens.items)
-KeepsPieces (Err LimitReached) text = 16384 < length text
-KeepsPieces (Err (BadSql position)) text = (length text ≤ 16384) × HasFaultAt text position
+KeepsPieces (Ok tokens) text = (length text ≤ most_query_bytes) × AreTokens text (map lexeme_of tokens.items)
+KeepsPieces (Err LimitReached) text = most_query_bytes < length text
+KeepsPieces (Err (BadSql position)) text = (length text ≤ most_query_bytes) × HasFaultAt text position
 KeepsPieces (Err OutOfMemory) text = Unit {0}
 KeepsPieces (Err other) text = ⊥
 

@@ -5,6 +5,7 @@ use Rattle.std.specs.List.{prefix_len}
 use Rattle.std.specs.Str.{byte}
 use Rattle.scan_base.specs.declared.fault.Fault.{Fault}
 use Rattle.scan_base.specs.declared.fault.Fault.TheVariants.{LimitReached, BadSql}
+use Rattle.scan_base.specs.Limits.{most_query_bytes}
 use Rattle.scan_base.specs.Reading.{◌>>=◌, demand, wanted}
 use Rattle.sql_text.specs.declared.front.Front.{Front}
 use Rattle.sql_text.specs.declared.symbol.Symbol.{Symbol}
@@ -12,13 +13,16 @@ use Rattle.sql_text.specs.declared.token.TokenKind.{TokenKind}
 use Rattle.sql_text.specs.declared.token.TokenKind.TheVariants as kind
 use Rattle.sql_text.specs.Words.{word_kind}
 use Rattle.sql_text.specs.Values.{is_small}
-use Rattle.sql_text.specs.Standard.{begins_word, continues_word, is_separator, continues_comment, symbols, symbol_in, Lexeme, token_here}
+use Rattle.sql_text.specs.Standard.{begins_word, continues_word, is_separator, continues_comment, Lexeme, token_here}
+use Rattle.sql_text.specs.Symbols.{symbols, symbol_in}
 
 -- ---- what stands at the front, sound
 
+-- what separates tokens, of so many bytes
 abbrev pub space : ℕ → Option Front
 space len = Some (record { kind = None; len = len })
 
+-- a token of so many bytes
 abbrev pub token : TokenKind → ℕ → Option Front
 token kind len = Some (record { kind = Some kind; len = len })
 
@@ -40,10 +44,12 @@ abbrev pub delimited_front : List ℕ → Option Front
 delimited_front bytes =
     option_and_then (λ (len : ℕ). if len == 1 then None else token kind.DelimitedName (1 + len)) (closed_at (byte "\"") 0 bytes)
 
+-- a word, the longest that stands there
 abbrev pub word_front : List ℕ → Option Front
 word_front bytes =
     let len = prefix_len continues_word bytes in token (word_kind (take len bytes)) len
 
+-- digits, the longest that stand there, where their value is small
 abbrev pub digits_front : List ℕ → Option Front
 digits_front bytes =
     let len = prefix_len is_ascii_digit bytes in
@@ -53,17 +59,19 @@ digits_front bytes =
 abbrev pub comment_front : List ℕ → Option Front
 comment_front bytes = space (2 + prefix_len continues_comment bytes)
 
--- the symbol that two bytes are, and that one byte is
-
+-- the symbol that two bytes are
 unfoldable pub pair : ℕ → ℕ → Option Symbol
 pair first second = symbol_in symbols (first ∷ second ∷ [])
 
+-- the symbol that one byte is
 unfoldable pub single : ℕ → Option Symbol
 single first = symbol_in symbols (first ∷ [])
 
+-- a symbol of one byte
 abbrev pub one_mark : ℕ → Option Front
 one_mark first = option_and_then (λ (mark : Symbol). token (kind.Symbol mark) 1) (single first)
 
+-- a symbol of two bytes, or else of the first
 abbrev pub two_marks : ℕ → Option Symbol → Option Front
 two_marks first (Some mark) = token (kind.Symbol mark) 2
 two_marks first None = one_mark first
@@ -102,6 +110,6 @@ tokens_within (suc most) start (b ∷ bytes) = do
 unfoldable pub tokens_from : ℕ → List ℕ → Result (List Lexeme) Fault
 tokens_from start bytes = tokens_within (length bytes) start bytes
 
--- the tokens of a query's text, which has at most 16,384 bytes
+-- the tokens of a query's text, which may have so many bytes
 unfoldable pub tokens_in : List ℕ → Result (List Lexeme) Fault
-tokens_in text = demand (nat_le (length text) 16384) LimitReached >>= λ _. tokens_from 0 text
+tokens_in text = demand (nat_le (length text) most_query_bytes) LimitReached >>= λ _. tokens_from 0 text

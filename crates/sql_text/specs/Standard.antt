@@ -1,21 +1,23 @@
 -- What the tokens of a query are, apart from any order of reading. A text is cut into pieces, each the
 -- longest that stands at its place; then the pieces that are neither separators nor comments are tokens.
-use Rattle.std.specs.Prelude.{if◌then◌else◌, ◌≡◌, ◌≢◌, ℕ, ◌+◌, ◌≤◌, ◌==◌, ◌||◌, Bool, true, false, not, IsTrue, Option, Some, None, List, [], ◌∷◌, ◌++◌, length, codes}
+use Rattle.std.specs.Prelude.{◌≡◌, ◌≢◌, ℕ, ◌+◌, ◌≤◌, ◌==◌, ◌||◌, Bool, true, false, not, IsTrue, Option, Some, None, List, [], ◌∷◌, ◌++◌, length, codes}
 use Rattle.std.specs.Char.{is_ascii_alphabetic, is_ascii_alphanumeric, is_ascii_digit}
 use Rattle.std.specs.List.{list_all}
 use Rattle.std.specs.Str.{byte, bytes_eq}
 use Rattle.sql_text.specs.declared.symbol.Symbol.{Symbol}
-use Rattle.sql_text.specs.declared.symbol.Symbol.TheVariants as symbol
 use Rattle.sql_text.specs.declared.token.TokenKind.{TokenKind}
 use Rattle.sql_text.specs.declared.token.TokenKind.TheVariants as kind
 use Rattle.sql_text.specs.Words.{word_kind}
 use Rattle.sql_text.specs.Values.{opened, quoted, is_small}
+use Rattle.sql_text.specs.Symbols.{symbols, symbol_in}
 
--- ---- bytes and symbols
+-- ---- bytes
 
+-- a letter or _
 abbrev pub begins_word : ℕ → Bool
 begins_word b = is_ascii_alphabetic b || (b == byte "_")
 
+-- a letter, a digit or _
 abbrev pub continues_word : ℕ → Bool
 continues_word b = is_ascii_alphanumeric b || (b == byte "_")
 
@@ -29,22 +31,6 @@ is_separator b = (b == 32) || ((b == 9) || ((b == 10) || (b == 13)))
 -- not LF, which ends a comment
 abbrev pub continues_comment : ℕ → Bool
 continues_comment b = not (b == 10)
-
--- how the symbols are written
-abbrev pub symbols : List (List ℕ × Symbol)
-symbols =
-    (codes "(", symbol.LeftParenthesis) ∷ (codes ")", symbol.RightParenthesis) ∷
-    (codes ",", symbol.Comma) ∷ (codes ".", symbol.Period) ∷ (codes ";", symbol.Semicolon) ∷
-    (codes "*", symbol.Asterisk) ∷ (codes "=", symbol.Equal) ∷ (codes "<>", symbol.NotEqual) ∷
-    (codes "!=", symbol.NotEqual) ∷ (codes "<", symbol.Less) ∷ (codes "<=", symbol.LessOrEqual) ∷
-    (codes ">", symbol.Greater) ∷ (codes ">=", symbol.GreaterOrEqual) ∷ (codes "+", symbol.Plus) ∷
-    (codes "-", symbol.Minus) ∷ (codes "/", symbol.Solidus) ∷ (codes "%", symbol.Percent) ∷
-    (codes "||", symbol.Concatenation) ∷ []
-
--- the symbol that is written so
-abbrev pub symbol_in : List (List ℕ × Symbol) → List ℕ → Option Symbol
-symbol_in [] bytes = None
-symbol_in (row ∷ rows) bytes = if bytes_eq bytes row.0 then Some row.1 else symbol_in rows bytes
 
 -- ---- pieces
 

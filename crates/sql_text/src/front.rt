@@ -15,7 +15,7 @@ use crate::token::TokenKind;
 use crate::word::word_kind;
 
 /// A sound piece at the front of a text.
-#[derive(Clone, Copy, Debug)]
+#[derive(Clone, Copy)]
 pub(crate) struct Front {
     /// Which token it is; none, where it separates tokens.
     pub(crate) kind: Option<TokenKind>,

@@ -2,6 +2,7 @@
 
 ghost use Rattle.std.specs.Prelude.{map, length, All, IfOk, nat_le};
 ghost use Rattle.scan_base.specs.declared.fault.Fault.TheVariants.{LimitReached};
+ghost use Rattle.scan_base.specs.Limits.{most_query_bytes};
 ghost use Rattle.scan_base.specs.Reading.{GivesUnlessMemory, RefusesFirst, demand};
 ghost use Rattle.sql_text.specs.Reading.{tokens_in};
 ghost use Rattle.sql_text.specs.Calls.{lexeme_of, KeepsPieces, IsAtPlace, SaysText};
@@ -26,14 +27,14 @@ pub fn tokens(alloc: Global, sql: &str) -> Result<Vec<Token<'_>>, Fault>
     ensures pieces { KeepsPieces result sql.now }
     ensures places { IfOk result (λ tokens. All (IsAtPlace sql.now) (map lexeme_of tokens.items)) }
     ensures names { IfOk result (λ tokens. All SaysText (map lexeme_of tokens.items)) }
-    ensures first { RefusesFirst result (demand (nat_le (length sql.now) 16384) LimitReached) }
+    ensures first { RefusesFirst result (demand (nat_le (length sql.now) most_query_bytes) LimitReached) }
 {
     read_tokens(alloc, sql)
 }
 
 fn read_tokens(alloc: Global, sql: &str) -> Result<Vec<Token<'_>>, Fault>
     ensures exact { GivesUnlessMemory (λ tokens. map lexeme_of tokens.items) result (tokens_in sql.now) }
-    ensures first { RefusesFirst result (demand (nat_le (length sql.now) 16384) LimitReached) }
+    ensures first { RefusesFirst result (demand (nat_le (length sql.now) most_query_bytes) LimitReached) }
 {
     if sql.len() > MOST_BYTES {
         return Err(Fault::LimitReached);

@@ -34,7 +34,7 @@ pub enum Keyword {
 }
 
 // A word and what it is.
-#[derive(Clone, Copy, Debug)]
+#[derive(Clone, Copy)]
 pub(crate) struct Meaning {
     word: &'static str,
     kind: TokenKind,

@@ -9,7 +9,7 @@ use Rattle.sql_query.specs.declared.query.ColumnName.{ColumnName}
 use Rattle.typed_plan.specs.declared.chain.Connective.{Connective}
 use Rattle.typed_plan.specs.declared.chain.Connective.TheVariants.{And, Or}
 use Rattle.typed_plan.specs.declared.class.Class.{Class}
-use Rattle.typed_plan.specs.Bound.{◌then◌, predicate_fault}
+use Rattle.typed_plan.specs.Faults.{◌then◌, predicate_fault}
 use Rattle.scan_base.specs.View.{pred_of}
 use Rattle.typed_plan.specs.declared.chain.Side.{Side}
 use Rattle.typed_plan.specs.Chain.{SideAt, side_of, connected, first_of, sides_of}

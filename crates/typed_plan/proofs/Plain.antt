@@ -16,11 +16,13 @@ use Rattle.sql_query.specs.declared.query.SelectItem.{SelectItem}
 use Rattle.sql_query.specs.Sentence.{Sentence, place_name, is_aggregate, has_aggregate, is_grouped}
 use Rattle.table_versions.specs.Table.{Table}
 use Rattle.table_versions.specs.Database.{Database, table_at}
-use Rattle.typed_plan.specs.Scope.{Scope, columns_in, column_of}
+use Rattle.typed_plan.specs.Scope.{Scope, columns_in, column_of, numbered}
 use Rattle.typed_plan.specs.Joined.{scope_after, fields_in}
-use Rattle.typed_plan.specs.Bound.{◌then◌, must, fault_in, list_fault, expression_fault, ungrouped_fault, width_fault}
-use Rattle.typed_plan.specs.Bound.{select_fault, filter_fault, names_fault, places_fault, joins_fault, rules_fault}
-use Rattle.typed_plan.specs.Bound.{fault_of, is_unbuilt, is_column}
+use Rattle.typed_plan.specs.Bound.{expression_fault, may_select, width_fault}
+use Rattle.typed_plan.specs.Faults.{◌then◌, must, found, first_in, fault_in}
+use Rattle.typed_plan.specs.Bound.{select_fault, places_fault, joins_fault, rules_fault}
+use Rattle.typed_plan.specs.Faults.{filter_fault}
+use Rattle.typed_plan.specs.Bound.{fault_of, is_unbuilt}
 use Rattle.typed_plan.specs.Plain.{column_fault, columns_fault, chosen_fault, plain_fault, place_scope}
 
 -- what is left of a query that is built
@@ -52,13 +54,18 @@ column_is : (query : Sentence) (scope : Scope) (expression : Expression) → is_
     expression_fault query scope expression ≡ column_fault scope expression
 column_is query scope (Column name) g e = named (column_of scope name)
   where
-    named : (meant : Result ℕ Fault) → ungrouped_fault query scope meant ≡ fault_in meant
+    named : (meant : Result ℕ Fault) →
+        found meant (λ number. must (may_select query scope number) NotInSubset) ≡ fault_in meant
     named (Ok number) = ap (λ grouped. must
-        (not grouped || list_any (λ other. is_column number (column_of scope other)) query.group_by) NotInSubset) g
+        (not grouped || list_any (λ other. number == numbered scope other) query.group_by) NotInSubset) g
     named (Err fault) = refl
 column_is query scope CountRows g e = cc
 column_is query scope (Count name) g e = cc
 column_is query scope (Sum name) g e = cc
+
+-- a list from the left
+abbrev list_fault : Sentence → Scope → List SelectItem → Option Fault
+list_fault query scope items = first_in (λ item. expression_fault query scope item.expression) items
 
 list_is : (query : Sentence) (scope : Scope) (items : List SelectItem) → is_grouped query ≡ false →
     list_any (λ item. is_aggregate item.expression) items ≡ false →
@@ -85,7 +92,7 @@ rules_over query database joins names there =
     then places_fault database (place_name query.first ∷ []) (map (λ join. join.place) joins))
     then joins_fault database start joins
     then filter_fault scope query.filter
-    then names_fault scope names
+    then first_in (λ name. fault_in (column_of scope name)) names
     then select_fault query scope query.select
 
 rules_are : (query : Sentence) (database : Database) →

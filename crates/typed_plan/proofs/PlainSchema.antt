@@ -26,7 +26,9 @@ use Rattle.sql_query.specs.declared.query.SelectItem.{SelectItem}
 use Rattle.sql_query.specs.Sentence.{Sentence, place_name}
 use Rattle.table_versions.specs.Table.{Name}
 use Rattle.typed_plan.specs.Scope.{Scope, ScopeColumn, columns_in, column_of, number_in}
-use Rattle.typed_plan.specs.Bound.{must, fault_in, filter_fault, width_fault, most_columns}
+use Rattle.typed_plan.specs.Bound.{width_fault}
+use Rattle.typed_plan.specs.Faults.{must, fault_in, filter_fault}
+use Rattle.scan_base.specs.Limits.{most_columns}
 use Rattle.typed_plan.specs.Named.{IsNameIfThere, HasNames}
 use Rattle.typed_plan.specs.Outcome.{Binds}
 use Rattle.typed_plan.specs.Plain.{column_fault, columns_fault, chosen_fault, plain_fault, place_scope}

@@ -29,8 +29,9 @@ use Rattle.typed_plan.specs.declared.plan.Columns.TheVariants.{All}
 use Rattle.typed_plan.specs.declared.plan.Output.TheVariants.{Project}
 use Rattle.typed_plan.specs.Scope.{Scope, ScopeColumn, columns_in, stands_for, numbers_of, the_only, column_of}
 use Rattle.typed_plan.specs.Scope.{numbered, number_in}
-use Rattle.typed_plan.specs.Bound.{◌then◌, fault_in, operand_class, compare_fault, items_fault, predicate_fault}
-use Rattle.typed_plan.specs.Bound.{class_at, class_of_column, class_of_name, filter_fault, width_fault}
+use Rattle.typed_plan.specs.Faults.{◌then◌, fault_in, operand_class, compare_fault, items_fault, predicate_fault}
+use Rattle.typed_plan.specs.Bound.{width_fault}
+use Rattle.typed_plan.specs.Faults.{class_at, class_of_column, class_of_name, filter_fault}
 use Rattle.typed_plan.specs.Numbered.{operand_map, predicate_map}
 use Rattle.typed_plan.specs.Plan.{Tree, scan}
 use Rattle.typed_plan.specs.Plain.{column_fault, columns_fault, chosen_fault, plain_fault, number_of_item, chosen}

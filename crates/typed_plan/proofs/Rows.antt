@@ -32,7 +32,8 @@ use Rattle.scan_base.specs.declared.put_options.IfExists.TheVariants as present
 use Rattle.scan_base.specs.declared.put_options.IfNotExist.TheVariants as absent
 use Rattle.table_versions.specs.Table.{Name, Row}
 use Rattle.table_versions.specs.Database.{Database, Put, version}
-use Rattle.typed_plan.specs.Meaning.{meaning, whole_meaning}
+use Rattle.typed_plan.specs.Meaning.{meaning}
+use Rattle.typed_plan.proofs.Whole.{whole_meaning}
 use Rattle.typed_plan.specs.Bound.{rules_fault, fault_of}
 use Rattle.typed_plan.specs.ResultSchema.{result_schema}
 

@@ -8,6 +8,7 @@ use Rattle.scan_base.specs.declared.value.Value.TheVariants as value
 use Rattle.typed_plan.specs.declared.class.Class.{Class}
 use Rattle.typed_plan.specs.declared.class.Class.TheVariants.{Number, Text, Truth}
 
+-- whether two classes are one
 abbrev pub same_class : Class → Class → Bool
 same_class Number Number = true
 same_class Text Text = true

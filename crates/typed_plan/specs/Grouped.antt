@@ -1,7 +1,7 @@
 -- Groups by first appearance, and aggregates.
 use Rattle.std.specs.Prelude.{Bool, true, false, not, ◌&&◌, ◌==◌, if◌then◌else◌, List, [], ◌∷◌, ◌++◌, length, map, ℤ}
 use Rattle.std.specs.Prelude.{pos, ◌+ℤ◌}
-use Rattle.std.specs.List.{filter}
+use Rattle.std.specs.List.{filter, fold}
 use Rattle.std.specs.Str.{bytes_eq}
 use Rattle.std.specs.Ordering.{int_eq}
 use Rattle.scan_base.specs.declared.value.Value.{Value}
@@ -19,6 +19,7 @@ same_value (Int a) (Int b) = int_eq a b
 same_value (Text a) (Text b) = bytes_eq a b
 same_value _ _ = false
 
+-- whether two keys are the same, value by value
 abbrev pub same_key : List Value → List Value → Bool
 same_key [] [] = true
 same_key (a ∷ as') (b ∷ bs) = same_value a b && same_key as' bs
@@ -36,24 +37,20 @@ with_row key row (group ∷ groups) =
     if same_key group.key key then record group { rows = group.rows ++ row ∷ [] } ∷ groups
     else group ∷ with_row key row groups
 
--- the groups after these rows, where `key_of` says each row's key
-abbrev pub walk : (Row → List Value) → List Group → List Row → List Group
-walk key_of groups [] = groups
-walk key_of groups (row ∷ rows) = walk key_of (with_row (key_of row) row groups) rows
-
--- without GROUP BY there is one group of all rows, also of none
+-- the groups of rows, one by one; without GROUP BY there is one group of all rows, also of none
 abbrev pub groups_of : Scope → List ColumnName → List Row → List Group
 groups_of scope [] rows = record { key = []; rows = rows } ∷ []
-groups_of scope (name ∷ names) rows = walk (λ row. map (cell_of scope row) (name ∷ names)) [] rows
+groups_of scope (name ∷ names) rows =
+    fold (λ groups row. with_row (map (cell_of scope row) (name ∷ names)) row groups) [] rows
 
 -- the values that are not null
 abbrev pub present : List Value → List Value
 present values = filter (λ value. not (is_null value)) values
 
-abbrev pub sum_from : ℤ → List Value → ℤ
-sum_from total [] = total
-sum_from total (Int number ∷ values) = sum_from (total +ℤ number) values
-sum_from total (_ ∷ values) = sum_from total values
+-- a total with a number more
+abbrev pub plus : ℤ → Value → ℤ
+plus total (Int number) = total +ℤ number
+plus total _ = total
 
 -- COUNT of a column's values
 abbrev pub count_of : List Value → Value
@@ -61,4 +58,4 @@ count_of values = Int (pos (length (present values)))
 
 -- SUM of a column's values: null where there is none
 abbrev pub sum_of : List Value → Value
-sum_of values = if length (present values) == 0 then Null else Int (sum_from (pos 0) values)
+sum_of values = if length (present values) == 0 then Null else Int (fold plus (pos 0) values)

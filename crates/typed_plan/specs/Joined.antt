@@ -15,18 +15,21 @@ use Rattle.table_versions.specs.Table.{Row, Table}
 use Rattle.table_versions.specs.Database.{Database, table_at}
 use Rattle.typed_plan.specs.Scope.{Scope, columns_in, cell_of}
 
+-- the columns of a table, where it is there
 abbrev pub fields_in : Option Table → List Field
 fields_in None = []
 fields_in (Some table) = table.schema.fields
 
+-- the rows of a table, where it is there
 abbrev pub rows_in : Option Table → List Row
 rows_in None = []
 rows_in (Some table) = table.rows
 
--- the columns and the rows of a place
+-- the columns of a place
 abbrev pub place_columns : Database → Place → Scope
 place_columns database place = columns_in (place_name place) (fields_in (table_at database place.table))
 
+-- the rows of a place
 abbrev pub place_rows : Database → Place → List Row
 place_rows database place = rows_in (table_at database place.table)
 

@@ -4,6 +4,7 @@ pub mod Joined
 pub mod Grouped
 pub mod Meaning
 pub mod Bound
+pub mod Faults
 pub mod ResultSchema
 pub mod Numbered
 pub mod Chain

@@ -10,7 +10,7 @@ use Rattle.sql_query.specs.Sentence.{Sentence, is_grouped}
 use Rattle.table_versions.specs.Table.{Row}
 use Rattle.table_versions.specs.Database.{Database}
 use Rattle.typed_plan.specs.Scope.{Scope, cell_of}
-use Rattle.typed_plan.specs.Joined.{scope_of, place_rows, kept}
+use Rattle.typed_plan.specs.Joined.{scope_of, kept}
 use Rattle.typed_plan.specs.Grouped.{Group, groups_of, count_of, sum_of}
 
 -- what an item gives of a row on its own; an aggregate makes groups
@@ -43,10 +43,6 @@ meaning query database a b =
     if is_grouped query
     then map (summed scope query.select) (groups_of scope query.group_by (kept query database a b))
     else map (selected scope query.select) (kept query database a b)
-
--- the rows of a query over its whole first place
-abbrev pub whole_meaning : Sentence → Database → List Row
-whole_meaning query database = meaning query database 0 (length (place_rows database query.first))
 
 -- Two neighboring ranges of a query that is not grouped give the rows of the range that they make up. So its
 -- endpoints may be fetched one by one.

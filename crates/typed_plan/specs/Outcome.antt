@@ -6,7 +6,7 @@ use Rattle.scan_base.specs.declared.predicate.Predicate.{Predicate}
 use Rattle.scan_base.specs.Predicate.{Pred}
 use Rattle.scan_base.specs.View.{pred_of}
 use Rattle.sql_query.specs.declared.query.ColumnName.{ColumnName}
-use Rattle.typed_plan.specs.Bound.{class_of_name, predicate_fault}
+use Rattle.typed_plan.specs.Faults.{class_of_name, predicate_fault}
 use Rattle.typed_plan.specs.Numbered.{predicate_map}
 use Rattle.typed_plan.specs.Scope.{Scope, numbered}
 

@@ -15,7 +15,8 @@ use Rattle.typed_plan.specs.declared.plan.Columns.{Columns}
 use Rattle.typed_plan.specs.declared.plan.Columns.TheVariants.{All, These}
 use Rattle.typed_plan.specs.declared.plan.Output.TheVariants.{Project}
 use Rattle.typed_plan.specs.Scope.{Scope, columns_in, column_of, numbered}
-use Rattle.typed_plan.specs.Bound.{◌then◌, fault_in, filter_fault, width_fault}
+use Rattle.typed_plan.specs.Bound.{width_fault}
+use Rattle.typed_plan.specs.Faults.{◌then◌, fault_in, filter_fault}
 use Rattle.typed_plan.specs.Numbered.{predicate_map}
 use Rattle.typed_plan.specs.Plan.{Tree, scan, filtered, PlanAt}
 use Rattle.typed_plan.specs.ResultSchema.{select_fields}

@@ -48,6 +48,7 @@ abbrev pub list_fields : Scope → ℕ → List SelectItem → List Field
 list_fields scope position [] = []
 list_fields scope position (item ∷ items) = item_field scope position item ∷ list_fields scope (position + 1) items
 
+-- the columns of what is selected
 abbrev pub select_fields : Scope → Select → List Field
 select_fields scope select.All = map (λ column. answer_field column.field) scope
 select_fields scope (select.List items) = list_fields scope 1 items

@@ -53,6 +53,7 @@ abbrev pub number_in : Result ℕ Fault → ℕ
 number_in (Ok number) = number
 number_in (Err fault) = 0
 
+-- the number of the column that a name means
 abbrev pub numbered : Scope → ColumnName → ℕ
 numbered scope name = number_in (column_of scope name)
 

@@ -17,7 +17,7 @@ use Rattle.typed_plan.specs.declared.plan.Columns.TheVariants.{All, These}
 use Rattle.typed_plan.specs.declared.plan.Output.{Output}
 use Rattle.typed_plan.specs.declared.plan.Output.TheVariants.{Project}
 use Rattle.typed_plan.specs.Class.{type_class}
-use Rattle.typed_plan.specs.Bound.{predicate_fault}
+use Rattle.typed_plan.specs.Faults.{predicate_fault}
 use Rattle.typed_plan.specs.Plan.{Tree, scan, filtered, PlanAt}
 
 abbrev pub types_of : List Field → List DataType

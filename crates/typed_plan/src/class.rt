@@ -7,7 +7,7 @@ use arrow_schema::DataType;
 use scan_base::Value;
 
 /// What a value is a value of. Only values of one class are compared.
-#[derive(Clone, Copy, Debug, PartialEq, Eq)]
+#[derive(Clone, Copy, PartialEq, Eq)]
 pub enum Class {
     /// Integers of every width, and decimals.
     Number,

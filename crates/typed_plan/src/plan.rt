@@ -9,7 +9,7 @@ use scan_base::{Items, Predicate, Text};
 use std::marker::Model;
 
 /// Which cells of a row are taken.
-#[derive(Debug, Drop)]
+#[derive(Drop)]
 pub enum Columns {
     /// The row as it is.
     All,
@@ -18,7 +18,7 @@ pub enum Columns {
 }
 
 /// What gives rows. A predicate's columns are numbers of the cells of a row of its input, from 0.
-#[derive(Debug, Drop)]
+#[derive(Drop)]
 pub enum Plan {
     /// Columns of the rows of a table, in the table's order, where these are the table's columns.
     Scan {
@@ -34,7 +34,7 @@ pub enum Plan {
 }
 
 /// What a result is made of.
-#[derive(Debug, Drop)]
+#[derive(Drop)]
 pub enum Output {
     /// Cells of each row.
     Project(Columns),
@@ -42,7 +42,7 @@ pub enum Output {
 
 /// A bound query: what gives its rows, and the columns of its result. It is well typed: each column is
 /// there, what is compared is of one class, and the result has the types that its schema says.
-#[derive(Debug, Drop)]
+#[derive(Drop)]
 pub struct TypedPlan {
     pub(crate) plan: Plan,
     pub(crate) output: Output,

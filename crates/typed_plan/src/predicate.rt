@@ -4,7 +4,7 @@ ghost use Rattle.std.specs.Prelude.{◌≡◌, Ok, map};
 ghost use Rattle.scan_base.specs.Predicate.{truth_test, comparing, between, membership, null_test};
 ghost use Rattle.scan_base.specs.View.{pred_of};
 ghost use Rattle.typed_plan.specs.Scope.{numbered};
-ghost use Rattle.typed_plan.specs.Bound.{class_of_name, operand_class, compare_fault, items_fault, fault_in};
+ghost use Rattle.typed_plan.specs.Faults.{class_of_name, operand_class, compare_fault, items_fault, fault_in};
 ghost use Rattle.typed_plan.specs.Numbered.{operand_map};
 ghost use Rattle.typed_plan.specs.Chain.{connected};
 ghost use Rattle.typed_plan.specs.Outcome.{Binds, BindsPredicate};

@@ -1,7 +1,8 @@
 //! What a query selects: the columns that are taken, and those of the result.
 
 ghost use Rattle.std.specs.Prelude.{◌≡◌, ℕ, IfOk, length, map};
-ghost use Rattle.typed_plan.specs.Bound.{fault_in, width_fault};
+ghost use Rattle.typed_plan.specs.Bound.{width_fault};
+ghost use Rattle.typed_plan.specs.Faults.{fault_in};
 ghost use Rattle.typed_plan.specs.Outcome.{Binds};
 ghost use Rattle.typed_plan.specs.Plain.{column_fault, columns_fault, chosen_fault, number_of_item, chosen};
 ghost use Rattle.typed_plan.specs.ResultSchema.{item_field, list_fields, select_fields};

@@ -1,4 +1,4 @@
-use Rattle.std.proofs.Common.{◌≡◌, ◌+◌}
+use Rattle.std.proofs.Common.{◌≡◌}
 use Rattle.grpc_frame.specs.Arrivals.{work_left}
 use Rattle.flight_calls.specs.Owed.{connection_of}
 use Rattle.flight_calls.proofs.Serving.{Progress}

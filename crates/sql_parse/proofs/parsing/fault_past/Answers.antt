@@ -1,10 +1,9 @@
-use Rattle.std.proofs.Common.{◌≡◌, ◌+◌, List, Ok, Err, take, subst, sym, ◌∙◌}
-use Rattle.sql_text.specs.declared.token.Token.{Token}
+use Rattle.std.proofs.Common.{◌≡◌, Ok, Err, subst, sym, ◌∙◌}
 use Rattle.sql_parse.specs.declared.refusal.Refusal.{Refusal}
 use Rattle.sql_parse.specs.declared.refusal.Refusal.TheVariants as refusal
 use Rattle.sql_parse.specs.Parse.{Refuses}
 use Rattle.sql_query.specs.Sentence.{sentence_of}
-use Rattle.sql_parse.specs.Told.{Told}
+use Rattle.sql_parse.proofs.Told.{Told}
 use Rattle.sql_parse.specs.Tokens.{marks}
 use Rattle.sql_parse.proofs.Answering.{told_by, cut_at, read_past, deep_past, offends_past}
 use Rattle.sql_parse.proofs.parsing.fault_past.Goals.{in-Err-Offends, in-Err-OutOfMemory, in-Err-TooDeep, in-Ok}

@@ -2,7 +2,7 @@ use Rattle.std.proofs.Common.{◌≡◌, Ok, Err, subst, sym, ◌∙◌}
 use Rattle.sql_parse.specs.declared.refusal.Refusal.{Refusal}
 use Rattle.sql_parse.specs.declared.refusal.Refusal.TheVariants as refusal
 use Rattle.sql_query.specs.Sentence.{sentence_of}
-use Rattle.sql_parse.specs.Told.{Told}
+use Rattle.sql_parse.proofs.Told.{Told}
 use Rattle.sql_parse.specs.Tokens.{marks}
 use Rattle.sql_parse.proofs.Answering.{told_by, cut_at, too_deep, left_out, accepted, offends_within}
 use Rattle.sql_parse.proofs.parsing.parse_within.Goals as goal

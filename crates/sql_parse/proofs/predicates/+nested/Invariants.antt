@@ -1,6 +1,6 @@
 use Rattle.std.proofs.Common.{◌≡◌, ◌+◌, ◌*◌, ◌<◌}
 use Rattle.scan_base.specs.View.{pred_of}
-use Rattle.sql_parse.specs.Steps as steps
+use Rattle.sql_parse.specs.PredicateSteps as predicates
 use Rattle.sql_parse.specs.Calls.{unread, remaining}
 use Rattle.sql_parse.proofs.predicates.+nested.Given as goal
 
@@ -27,7 +27,7 @@ decreases-predicate l = 8 * l.depth + 6
 
 abbrev pub invariant-conjunction-loop-alloc : goal.invariant-conjunction-loop-alloc
 invariant-conjunction-loop-alloc l = record {
-  left : steps.ands_at l.depth (pred_of l.left.value) (unread l.rest) ≡ steps.conj_at l.depth (unread l.tokens);
+  left : predicates.ands_at l.depth (pred_of l.left.value) (unread l.rest) ≡ predicates.conj_at l.depth (unread l.tokens);
   within : remaining l.rest < remaining l.tokens;
 }
 
@@ -36,7 +36,7 @@ decreases-conjunction-loop-alloc l = remaining l.rest
 
 abbrev pub invariant-predicate-loop-alloc : goal.invariant-predicate-loop-alloc
 invariant-predicate-loop-alloc l = record {
-  left : steps.ors_at l.depth (pred_of l.left.value) (unread l.rest) ≡ steps.pred_at l.depth (unread l.tokens);
+  left : predicates.ors_at l.depth (pred_of l.left.value) (unread l.rest) ≡ predicates.pred_at l.depth (unread l.tokens);
   within : remaining l.rest < remaining l.tokens;
 }
 

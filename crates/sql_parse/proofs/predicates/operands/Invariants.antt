@@ -1,11 +1,11 @@
 use Rattle.std.proofs.Common.{◌≡◌, ◌≤◌, [], ◌∷◌}
-use Rattle.sql_parse.specs.Steps as steps
+use Rattle.sql_parse.specs.PredicateSteps as predicates
 use Rattle.sql_parse.specs.Calls.{unread, remaining}
 use Rattle.sql_parse.proofs.predicates.operands.Given as goal
 
 abbrev pub invariant-loop-alloc : goal.invariant-loop-alloc
 invariant-loop-alloc l = record {
-  left : steps.operands_at l.items (unread l.rest) ≡ steps.operands_at (l.fn.first ∷ []) (unread l.tokens);
+  left : predicates.operands_at l.items (unread l.rest) ≡ predicates.operands_at (l.fn.first ∷ []) (unread l.tokens);
   within : remaining l.rest ≤ remaining l.tokens;
 }
 

@@ -2,7 +2,7 @@ use Rattle.std.proofs.Common.{◌≡◌, ◌+◌, ◌*◌, None, map, vec_len}
 use Rattle.scan_base.specs.Predicate.{Pred}
 use Rattle.scan_base.specs.View.{pred_of}
 use Rattle.sql_query.specs.declared.query.ColumnName.{ColumnName}
-use Rattle.typed_plan.specs.Bound.{class_of_name, predicate_fault}
+use Rattle.typed_plan.specs.Faults.{class_of_name, predicate_fault}
 use Rattle.typed_plan.specs.Chain.{connected, side_of}
 use Rattle.typed_plan.specs.Numbered.{predicate_map}
 use Rattle.typed_plan.specs.Scope.{numbered}

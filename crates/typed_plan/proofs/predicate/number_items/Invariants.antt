@@ -1,6 +1,6 @@
 use Rattle.std.proofs.Common.{◌≡◌, take, drop, map, Ok}
 use Rattle.typed_plan.specs.Scope.{numbered}
-use Rattle.typed_plan.specs.Bound.{class_of_name, items_fault}
+use Rattle.typed_plan.specs.Faults.{class_of_name, items_fault}
 use Rattle.typed_plan.specs.Numbered.{operand_map}
 use Rattle.typed_plan.proofs.predicate.number_items.Given as goal
 

@@ -1,8 +1,5 @@
-use Rattle.ipc_batch.proofs.Messages.{extended, told_columns}
+use Rattle.ipc_batch.proofs.Messages.{told_columns}
 use Rattle.ipc_batch.proofs.reader.Reader.message.Goals as goal
-
-pub returns-clause-extends : goal.returns-clause-extends
-returns-clause-extends c = extended _ _ _ _ c.read.ensures.exact
 
 pub returns-clause-columns : goal.returns-clause-columns
 returns-clause-columns c = told_columns _ _ _ _ c.read.ensures.exact
