@@ -39,7 +39,7 @@ def stands_on():
 
 
 def with_stands_on(text, amiss):
-    """ARCHITECTURE with its second column as crates.txt has it."""
+    """ARCHITECTURE with the links of its first column, and its second one as crates.txt has it."""
     below, lines, inside, seen = stands_on(), [], False, set()
     for line in text.split("\n"):
         cells = line.split("|")
@@ -51,6 +51,8 @@ def with_stands_on(text, amiss):
             name = cells[1].strip().strip("`").split("]")[0].lstrip("[")
             if name in below:
                 seen.add(name)
+                page = f"../crates/{name}/README.md"
+                cells[1] = f" [{name}]({page}) " if (CRATES / name / "README.md").exists() else f" {name} "
                 cells[2] = f" {', '.join(below[name])} " if below[name] else " "
                 line = "|".join(cells)
             else:
@@ -65,7 +67,7 @@ def public_lines(text):
     of traits, and what the Models of public types make of them."""
     public = set(re.findall(r"(?m)^pub (?:struct|enum) (\w+)", text))
     block, taking, found = "", False, []
-    for line in text.split("\n"):
+    for line in trusted_base.IMPORT.sub("", text).split("\n"):
         if line and not line[0].isspace():
             block = line
         model = re.match(r"impl.* Model for (\w+)", block)
@@ -117,24 +119,26 @@ def list_of_files(amiss):
     rows = [f"{len(believed)} definitions in {len(among)} files: {sum(sums.values())} lines of code, of which {sums[True]} are "
             f"machine and meaning, and {sums[False]} formats and grammar.", "",
             "| Crate | To believe | Of other public calls, and of laws | Inside |", "|---|---|---|---|"]
-    unmarked = []
+    notes = collections.defaultdict(list)
     for crate in stands_on():
         specs = CRATES / crate / "specs"
         kinds = {"believe": [], "stated": [], "inside": []}
         for path in sorted(specs.rglob("*.antt")):
             if not any(file["path"] == path and file["found"] for file in files.values()):
                 continue
-            kind = "believe" if path in among else "stated" if path in public else "inside"
-            kinds[kind].append(path.stem)
             is_marked = path.relative_to(specs).parts[0] == "inside" or path.read_text().startswith("-- Inside")
-            if is_marked and kind != "inside":
-                amiss.append(f"{path.relative_to(TOP)}: marked as inside, but public contracts rest on it")
+            kind = "believe" if path in among else "stated" if path in public and not is_marked else "inside"
+            kinds[kind].append(path.stem)
+            if is_marked and path in among:
+                amiss.append(f"{path.relative_to(TOP)}: marked as inside, but the contract of pipe rests on it")
+            elif is_marked and path in public:
+                notes["marked as inside, though a public function's contract rests on it"].append(f"{crate}/{path.stem}")
             elif kind == "inside" and not is_marked:
-                unmarked.append(f"{crate}/{path.stem}")
+                notes["inside, but neither in specs/inside nor begun by 'Inside'"].append(f"{crate}/{path.stem}")
         if any(kinds.values()):
             rows.append(f"| {crate} | " + " | ".join(", ".join(names) for names in kinds.values()) + " |")
-    if unmarked:
-        print(f"inside, but neither in specs/inside nor begun by 'Inside': {', '.join(unmarked)}")
+    for what, names in notes.items():
+        print(f"{what}: {', '.join(names)}")
     return "\n".join(re.sub(r"\|  (?=\|)", "| ", row) for row in rows)
 
 
