@@ -6,8 +6,8 @@ use Rattle.std.specs.Str.Pattern.{RFindsChar}
 use Rattle.std.proofs.lemmas.Bool.{eqb-true, eqb-false}
 use Rattle.std.proofs.lemmas.Str.{encode_ascii}
 use Rattle.std.proofs.lemmas.Str.Pattern.{NoCharPasses-char}
-use Rattle.flight_proto.specs.Any.{slash, message_name}
-use Rattle.flight_proto.specs.Laws.{LacksSlash}
+use Rattle.flight_proto.specs.Any.{message_name}
+use Rattle.flight_proto.specs.Laws.{slash, LacksSlash}
 
 no_name : (url : List ℕ) → LacksSlash url → message_name url ≡ None
 no_name [] lacks = refl

@@ -37,14 +37,10 @@ any_fields any = set_fields (chunk_entry 1 any.type_url ∷ chunk_entry 2 any.va
 abbrev pub any_bytes : AnySaid → List ℕ
 any_bytes any = spelled (any_fields any)
 
--- the byte of `/`
-abbrev pub slash : ℕ
-slash = 47
-
--- the full name of the message's type: what follows the last slash of the URL, where it has one
+-- the full name of the message's type: what follows the last slash (47) of the URL, where it has one
 abbrev pub message_name : List ℕ → Option (List ℕ)
 message_name [] = None
-message_name (b ∷ rest) = option_or (message_name rest) (if b == slash then Some rest else None)
+message_name (b ∷ rest) = option_or (message_name rest) (if b == 47 then Some rest else None)
 
 -- the URL of a message's type
 abbrev pub type_url_of : List ℕ → List ℕ

@@ -4,7 +4,7 @@ use Rattle.std.specs.Int.{w64}
 use Rattle.scan_base.specs.declared.fault.Fault.{Fault}
 use Rattle.proto_wire.specs.Standard.{Content}
 use Rattle.flight_proto.specs.Message.{merged}
-use Rattle.flight_proto.specs.Any.{AnySaid, slash, message_name, any_of, any_bytes}
+use Rattle.flight_proto.specs.Any.{AnySaid, message_name, any_of, any_bytes}
 use Rattle.flight_proto.specs.FlightDescriptor.{DescriptorSaid, descriptor_of, descriptor_bytes}
 use Rattle.flight_proto.specs.FlightData.{DataSaid, data_of, stream_descriptor_of, data_bytes, data_head}
 use Rattle.flight_proto.specs.PutResult.{update_of, update_bytes, rows_put_of, rows_put_bytes}
@@ -22,6 +22,10 @@ MergingJoins {A} with =
     → merged with message (first ++ second) ≡ merged with more second
 
 -- ---- the name of a message's type
+
+-- the byte of `/`
+abbrev pub slash : ℕ
+slash = 47
 
 -- no byte is a slash
 abbrev pub LacksSlash : List ℕ → Type 0
