@@ -1,1 +1,112 @@
-//! To come.
+//! Worked ranges, and handles byte by byte.
+
+use endpoint_split::{Handle, Range, read_handle, split, write_handle};
+use scan_base::Fault;
+use std::alloc::{AllocError, Global};
+
+// The handle of rows 0 up to 2 of a query at version 1.
+static QUERY: &[u8] =
+    b"\x01\x00\x00\x00\x00\x00\x00\x00\x01\x00\x00\x00\x00\x00\x00\x00\x02SELECT * FROM t";
+
+// The handle of the tables of version 0x0102030405060708.
+static TABLES: &[u8] = b"\x02\x01\x02\x03\x04\x05\x06\x07\x08";
+
+// How many rows, how many parts, and where the ranges end. Without a part it is one range all the same.
+static SPLITS: [(u64, u64, &[u64]); 5] = [
+    (5, 2, &[2, 5]),
+    (5, 0, &[5]),
+    (0, 4, &[0]),
+    (3, 8, &[1, 2, 3]),
+    (10, 3, &[3, 6, 10]),
+];
+
+// Bytes that are no handle.
+static REFUSED: [&[u8]; 8] = [
+    b"",
+    b"\x01",
+    b"\x02",
+    b"\x01\x00\x00\x00\x00\x00\x00\x00\x01\x00\x00\x00\x00\x00\x00\x00",
+    b"\x03\x00\x00\x00\x00\x00\x00\x00\x01",
+    b"\x02\x00\x00\x00\x00\x00\x00\x00",
+    b"\x02\x00\x00\x00\x00\x00\x00\x00\x01\x00",
+    b"\x01\x00\x00\x00\x00\x00\x00\x00\x01\x00\x00\x00\x00\x00\x00\x00\x02\xff",
+];
+
+// Whether the ranges lead from 0 over these ends.
+fn lead_over(ranges: &[Range], ends: &[u64]) -> bool {
+    let mut from = 0;
+    for (range, end) in ranges.iter().zip(ends) {
+        if range.from != from || range.to != *end {
+            return false;
+        }
+        from = *end;
+    }
+    ranges.len() == ends.len()
+}
+
+#[test]
+fn ranges_of_few_rows(rt: HostRuntime) {
+    for (rows, parts, ends) in &SPLITS {
+        if *rows <= 10 && *parts <= 8 {
+            assert!(rt; lead_over(split(*rows, *parts).as_slice(), ends));
+        }
+    }
+}
+
+// 16,777,216 rows in 64 ranges of 262,144.
+#[test]
+fn ranges_of_most_rows(rt: HostRuntime) {
+    let ranges = split(16_777_216, 64);
+    assert!(rt; ranges.as_slice().len() == 64);
+    let mut from = 0u64;
+    for range in ranges.as_slice() {
+        assert!(rt; range.from == from && range.to == from.wrapping_add(262_144));
+        from = range.to;
+    }
+}
+
+fn is_query(handle: &Handle<'_>) -> bool {
+    match handle {
+        Handle::Query {
+            version,
+            from,
+            to,
+            query,
+        } => *version == 1 && *from == 0 && *to == 2 && *query == "SELECT * FROM t",
+        Handle::Tables { .. } => false,
+    }
+}
+
+fn is_tables(handle: &Handle<'_>) -> bool {
+    match handle {
+        Handle::Query { .. } => false,
+        Handle::Tables { version } => *version == 0x0102_0304_0506_0708,
+    }
+}
+
+// Whether a handle is written as these bytes.
+fn is_written(alloc: Global, handle: &Handle<'_>, bytes: &[u8]) -> Result<bool, AllocError> {
+    let written = write_handle(alloc, handle)?;
+    Ok(written.as_slice() == bytes)
+}
+
+// A query's handle and a list's, read and written.
+#[test]
+fn handles(rt: HostRuntime) -> Result<(), Fault> {
+    let query = read_handle(QUERY)?;
+    let tables = read_handle(TABLES)?;
+    assert!(rt; is_query(&query) && is_tables(&tables));
+    let (query, tables) = (
+        is_written(rt.alloc(), &query, QUERY)?,
+        is_written(rt.alloc(), &tables, TABLES)?,
+    );
+    assert!(rt; query && tables);
+    Ok(())
+}
+
+#[test]
+fn refused_handles(rt: HostRuntime) {
+    for bytes in REFUSED {
+        assert!(rt; matches!(read_handle(bytes), Err(Fault::BadTicket)));
+    }
+}

@@ -4,10 +4,10 @@ use Rattle.std.proofs.lemmas.Bool.{le-leb}
 use Rattle.std.proofs.lemmas.Str.{is_utf8-from_IsUtf8}
 use Rattle.byteorder.specs.Endian.{big_bytes, big_number}
 use Rattle.byteorder.specs.Numbers.{big_number-reads_back}
-use Rattle.endpoint_split.specs.Handle.{Query, Tables, query_of, tables_of, HandleReadsBack}
+use Rattle.endpoint_split.specs.Handle.{Query, Tables, query_behind, tables_behind, HandleReadsBack}
 
 pub reads_back : HandleReadsBack
-unfolding query_of tables_of
+unfolding query_behind tables_behind
 reads_back (Query version from to query) h =
     let v = big_number-reads_back 8 version (big_bytes 4 from ++ (big_bytes 4 to ++ query)) h.0 in
     let f = big_number-reads_back 4 from (big_bytes 4 to ++ query) h.1 in

@@ -16,26 +16,24 @@ handle_bytes (Query version from to query) =
     1 ∷ (big_bytes 8 version ++ (big_bytes 4 from ++ (big_bytes 4 to ++ query)))
 handle_bytes (Tables version) = 2 ∷ big_bytes 8 version
 
--- behind the kind of a query
-unfoldable pub query_of : List ℕ → Result HandleAt Fault
-query_of bytes = do
+-- the handle of a query, behind its kind
+unfoldable pub query_behind : List ℕ → Result HandleAt Fault
+query_behind bytes = do
   _ ← demand (nat_le 16 (length bytes)) BadTicket
   query ← text_in (drop 16 bytes) BadTicket
   Ok (Query (big_number 8 bytes) (big_number 4 (drop 8 bytes)) (big_number 4 (drop 12 bytes)) query)
 
--- behind the kind of a list of tables
-unfoldable pub tables_of : List ℕ → Result HandleAt Fault
-tables_of bytes = do
+-- the handle of a list of tables, behind its kind
+unfoldable pub tables_behind : List ℕ → Result HandleAt Fault
+tables_behind bytes = do
   _ ← demand (length bytes == 8) BadTicket
   Ok (Tables (big_number 8 bytes))
 
-abbrev pub of_kind : ℕ → List ℕ → Result HandleAt Fault
-of_kind kind rest = if kind == 1 then query_of rest else (if kind == 2 then tables_of rest else Err BadTicket)
-
--- the handle that bytes are
+-- the handle that bytes are, by the kind that stands first
 abbrev pub handle_of : List ℕ → Result HandleAt Fault
 handle_of [] = Err BadTicket
-handle_of (kind ∷ rest) = of_kind kind rest
+handle_of (kind ∷ rest) =
+    if kind == 1 then query_behind rest else (if kind == 2 then tables_behind rest else Err BadTicket)
 
 -- a handle whose numbers fit their bytes, and whose query is a text
 abbrev pub IsHandle : HandleAt → Type 0

@@ -2,7 +2,7 @@
 
 ghost use Rattle.std.specs.Prelude.{◌≡◌, IfOk};
 ghost use Rattle.scan_base.specs.Reading.{Gives};
-ghost use Rattle.endpoint_split.specs.Handle.{handle_bytes, handle_of, Query, tables_of, query_of};
+ghost use Rattle.endpoint_split.specs.Handle.{handle_bytes, handle_of, Query, tables_behind, query_behind};
 ghost use Rattle.endpoint_split.specs.Seen.{handle_seen};
 
 use byteorder::{BigEndian, ByteOrder};
@@ -41,9 +41,9 @@ pub fn read_handle(bytes: &[u8]) -> Result<Handle<'_>, Fault>
     }
 }
 
-#[tactic(auto, unfolding(crate::specs::Handle::query_of))]
+#[tactic(auto, unfolding(crate::specs::Handle::query_behind))]
 fn read_query(bytes: &[u8]) -> Result<Handle<'_>, Fault>
-    ensures { Gives handle_seen result (query_of bytes.now) }
+    ensures { Gives handle_seen result (query_behind bytes.now) }
 {
     if bytes.len() < 16 {
         return Err(Fault::BadTicket);
@@ -60,9 +60,9 @@ fn read_query(bytes: &[u8]) -> Result<Handle<'_>, Fault>
     })
 }
 
-#[tactic(auto, unfolding(crate::specs::Handle::tables_of))]
+#[tactic(auto, unfolding(crate::specs::Handle::tables_behind))]
 fn read_tables(bytes: &[u8]) -> Result<Handle<'_>, Fault>
-    ensures { Gives handle_seen result (tables_of bytes.now) }
+    ensures { Gives handle_seen result (tables_behind bytes.now) }
 {
     if bytes.len() != 8 {
         return Err(Fault::BadTicket);

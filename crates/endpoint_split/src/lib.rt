@@ -6,7 +6,4 @@ pub mod laws;
 pub mod ranges;
 
 pub use crate::handle::{Handle, read_handle, write_handle};
-pub use crate::ranges::{MOST_PARTS, MOST_ROWS, Range, Ranges, split};
-
-#[cfg(test)]
-mod tests;
+pub use crate::ranges::{Range, Ranges, split};

@@ -1,16 +1,11 @@
 //! Ranges of rows, as even as they can be.
 
 ghost use Rattle.std.specs.Prelude.{◌≡◌, ◌≤◌, length};
+ghost use Rattle.scan_base.specs.Limits.{most_endpoints, most_rows};
 ghost use Rattle.endpoint_split.specs.Split.{ranges_of, IsPartition};
 
 use arrayvec::ArrayVec;
 use std::marker::Model;
-
-/// The greatest number of parts.
-pub const MOST_PARTS: u64 = 64;
-
-/// The greatest number of rows of a table.
-pub const MOST_ROWS: u64 = 16_777_216;
 
 /// Rows `from` up to, not with, `to`.
 #[derive(Clone, Copy, Debug, Default, PartialEq, Eq)]
@@ -45,11 +40,11 @@ impl Ranges {
 
 /// Cuts rows into as many ranges as there are parts, but no more than there are rows, and at least one:
 /// range i of p is `i * rows / p` to `(i + 1) * rows / p`, rounded down. So of 0 parts, as of 1, it is one
-/// range of all rows. It takes no memory.
+/// range of all rows. There are at most 64 parts, and at most 16,777,216 rows. It takes no memory.
 #[tactic(auto, unfolding(crate::specs::Split::ranges_of))]
 pub fn split(rows: u64, parts: u64) -> Ranges
-    requires rows { rows ≤ MOST_ROWS }
-    requires parts { parts ≤ MOST_PARTS }
+    requires rows { rows ≤ most_rows }
+    requires parts { parts ≤ most_endpoints }
     ensures exact { result ≡ ranges_of rows parts }
     ensures partition { IsPartition 0 rows result }
 {

@@ -1,15 +1,16 @@
 -- Payloads of a put, one after another.
-use Rattle.std.proofs.Common.{◌≡◌, ◌≢◌, List, [], ◌∷◌, ◌++◌, Option, Some, None, Result, Ok, Err, refl, ◌∙◌, append_assoc, append-nil}
+use Rattle.std.proofs.Common.{◌≡◌, ◌≢◌, List, [], ◌∷◌, ◌++◌, Option, Some, None, Result, Ok, Err, refl, sym, ap, ◌∙◌, append_assoc, append-nil}
 use Rattle.scan_base.specs.declared.fault.Fault.{Fault}
 use Rattle.scan_base.specs.declared.fault.Fault.TheVariants.{BadBatch, OutOfMemory}
-use Rattle.scan_base.specs.Reading.{◌>>=◌, wanted, Gives, GivesUnlessMemory}
+use Rattle.scan_base.specs.Reading.{◌>>=◌, wanted, Gives}
 use Rattle.flight_proto.specs.Ingest.{IngestSaid, ingest_of}
 use Rattle.ipc_batch.specs.State.{State}
 use Rattle.ipc_batch.specs.Said.{News, rows_in}
 use Rattle.table_versions.specs.Database.{Put}
 use Rattle.flight_core.specs.Payloads.{Payload}
-use Rattle.flight_core.specs.Puts.{Told, news_in_payload, told_by, put_said, put_made}
-use Rattle.flight_core.specs.Arriving.{BegunAt, said_so_far, HasRead, after_payload, said_next, whole_put}
+use Rattle.flight_core.specs.Refusals.{RefusedFor, GivesBehind}
+use Rattle.flight_core.specs.Puts.{Told, news_in_payload, told_by, command_in, put_said, put_made}
+use Rattle.flight_core.specs.Arriving.{BegunAt, said_so_far, HasRead, after_payload, glance_next, said_next, whole_put}
 
 -- what is told after one payload more
 abbrev told_after : Payload → Told → Result Told Fault
@@ -88,43 +89,110 @@ put_said-is (first ∷ payloads) = by (ingest_of first)
     by (Ok ingest) = then ingest (told_by None (first ∷ payloads))
     by (Err fault) = refl
 
+-- ---- refusals
+
+-- behind a glance that is not refused
+pub behind : {X Y : Type 0} (glance : Result X Fault) (read : Result Y Fault) (fault : Fault) → ((cause : Fault) → glance ≡ Err cause → ⊥)
+    → (fault ≢ OutOfMemory → read ≡ Err fault) → RefusedFor glance read fault
+behind (Ok seen) read fault good is = is
+behind (Err cause) read fault good is = absurd (good cause refl)
+
+-- what refuses one reading refuses another one
+pub refused_on : {X Y Z : Type 0} (glance : Result X Fault) (one : Result Y Fault) (other : Result Z Fault) (fault : Fault) → (one ≡ Err fault → other ≡ Err fault)
+    → RefusedFor glance one fault → RefusedFor glance other fault
+refused_on (Ok seen) one other fault step is = λ memory. step (is memory)
+refused_on (Err cause) one other fault step is = is
+
+-- a command that was read
+command_read : (first : Payload) (rest : List Payload) (begun : Option BegunAt) → said_so_far (first ∷ rest) ≡ Ok begun → (cause : Fault) → ingest_of first ≡ Err cause → ⊥
+unfolding said_so_far
+command_read first rest begun said cause e = let both = rw e at said in cc
+
+-- a reader without a fault holds what is said so far
+said_ok : (payloads : List Payload) (begun : Option BegunAt) → HasRead payloads (Ok begun) → said_so_far payloads ≡ Ok begun
+unfolding said_so_far
+said_ok [] begun has = sym has
+said_ok (first ∷ rest) begun has = has
+
+-- of no payloads there is nothing
+begun_none : (begun : Option BegunAt) → HasRead [] (Ok begun) → begun ≡ None
+begun_none begun has = cc
+
+-- ---- the next payload
+
+-- what refuses the next payload is its fault, want of memory apart
+next_refused : (begun : Option BegunAt) (payload : Payload) (fault : Fault) → RefusedFor (glance_next begun payload) (said_next begun payload) fault
+    → fault ≢ OutOfMemory → said_next begun payload ≡ Err fault
+next_refused (Some begun) payload fault is = is
+next_refused None payload fault is = by (ingest_of payload) is
+  where
+    by : (command : Result IngestSaid Fault) → RefusedFor (command >>= λ ingest. Ok (Some ingest)) ((command >>= λ ingest. Ok (record { ingest = ingest; told = record { state = None; rows = [] } })) >>= λ b. after_payload b payload) fault
+        → fault ≢ OutOfMemory → ((command >>= λ ingest. Ok (record { ingest = ingest; told = record { state = None; rows = [] } })) >>= λ b. after_payload b payload) ≡ Err fault
+    by (Err cause) p other = ap Err (sym p)
+    by (Ok ingest) p other = p other
+
+-- the glance at the first payload is its command
+first_refused : (payload : Payload) (fault : Fault) (read : Result (Option BegunAt) Fault) → read ≡ said_next None payload
+    → RefusedFor (glance_next None payload) (said_next None payload) fault → RefusedFor (ingest_of payload) read fault
+first_refused payload fault read same is = by (ingest_of payload) is
+  where
+    by : (command : Result IngestSaid Fault) → RefusedFor (command >>= λ ingest. Ok (Some ingest)) (said_next None payload) fault → RefusedFor command read fault
+    by (Err cause) p = p
+    by (Ok ingest) p = λ other. same ∙ p other
+
 -- ---- readers
 
 -- one payload more was read
 pub read_on : (payloads : List Payload) (payload : Payload) (begun new : Option BegunAt) (old : Result (Option BegunAt) Fault) → old ≡ Ok begun → said_next begun payload ≡ Ok new
     → HasRead payloads old → HasRead (payloads ++ payload ∷ []) (Ok new)
-read_on payloads payload begun new old is next has =
-    let before : said_so_far payloads ≡ Ok begun = rw is at has in
-    said_so_far-append payloads payload ∙ rw before next
+read_on payloads payload begun new old is next has = by payloads (said_so_far-append payloads payload ∙ rw before next)
+  where
+    before : said_so_far payloads ≡ Ok begun
+    before = said_ok payloads begun (rw is at has)
+
+    by : (payloads : List Payload) → said_so_far (payloads ++ payload ∷ []) ≡ Ok new → HasRead (payloads ++ payload ∷ []) (Ok new)
+    by [] e = e
+    by (first ∷ rest) e = e
 
 -- one payload more is faulty
 pub read_faulty : (payloads : List Payload) (payload : Payload) (begun : Option BegunAt) (fault : Fault) (old : Result (Option BegunAt) Fault) → old ≡ Ok begun
-    → (fault ≢ OutOfMemory → said_next begun payload ≡ Err fault) → HasRead payloads old → HasRead (payloads ++ payload ∷ []) (Err fault)
-read_faulty payloads payload begun fault old is next has = λ other.
-    let before : said_so_far payloads ≡ Ok begun = rw is at has in
-    said_so_far-append payloads payload ∙ rw before (next other)
+    → RefusedFor (glance_next begun payload) (said_next begun payload) fault → HasRead payloads old → HasRead (payloads ++ payload ∷ []) (Err fault)
+unfolding said_so_far
+read_faulty [] payload begun fault old is next has =
+    let none : begun ≡ None = begun_none begun (rw is at has) in
+    first_refused payload fault (said_so_far (payload ∷ [])) (said_so_far-append [] payload ∙ first) (rw none at next)
+  where
+    first : (said_so_far [] >>= λ begun. said_next begun payload) ≡ said_next None payload
+    first = refl
+read_faulty (first ∷ rest) payload begun fault old is next has =
+    let before : said_so_far (first ∷ rest) ≡ Ok begun = rw is at has in
+    behind (ingest_of first) (said_so_far (first ∷ (rest ++ payload ∷ []))) fault (command_read first rest begun before)
+    (λ other. said_so_far-append (first ∷ rest) payload ∙ rw before (next_refused begun payload fault next other))
 
 -- the first fault is kept
 pub read_past : (payloads : List Payload) (payload : Payload) (fault : Fault) (old : Result (Option BegunAt) Fault) → old ≡ Err fault → HasRead payloads old → HasRead (payloads ++ payload ∷ []) old
-read_past payloads payload fault old is has = rw is (λ other.
-    let before : said_so_far payloads ≡ Err fault = (rw is at has) other in
-    said_so_far-append payloads payload ∙ rw before refl)
-
--- what a call gives that takes no memory, it gives whether or not memory is wanted
-unless_memory : {X : Type 0} (view : X → Put) (result : Result X Fault) (read : Result Put Fault) → Gives view result read → GivesUnlessMemory view result read
-unless_memory view (Ok x) read gives = gives
-unless_memory view (Err fault) read gives = λ other. gives
+read_past [] payload fault old is has = absurd cc
+read_past (first ∷ rest) payload fault old is has = rw is
+    (refused_on (ingest_of first) (said_so_far (first ∷ rest)) (said_so_far (first ∷ (rest ++ payload ∷ []))) fault
+    (λ before. said_so_far-append (first ∷ rest) payload ∙ rw before refl) (rw is at has))
 
 -- nothing more comes
 pub read_whole : {X : Type 0} (view : X → Put) (result : Result X Fault) (payloads : List Payload) (begun : Option BegunAt) (reader : Result (Option BegunAt) Fault) → reader ≡ Ok begun
-    → Gives view result (whole_put begun) → HasRead payloads reader → GivesUnlessMemory view result (put_said payloads)
-read_whole view result payloads begun reader is gives has =
-    let before : said_so_far payloads ≡ Ok begun = rw is at has in
-    let same : put_said payloads ≡ whole_put begun = put_said-is payloads ∙ rw before refl in
-    rw same (unless_memory view result (whole_put begun) gives)
+    → Gives view result (whole_put begun) → HasRead payloads reader → GivesBehind (command_in payloads) view result (put_said payloads)
+read_whole view result payloads begun reader is gives has = by payloads result gives (rw is at has)
+  where
+    same : (payloads : List Payload) → HasRead payloads (Ok begun) → put_said payloads ≡ whole_put begun
+    same payloads has = put_said-is payloads ∙ rw (said_ok payloads begun has) refl
+
+    by : (payloads : List Payload) (result : Result _ Fault) → Gives view result (whole_put begun) → HasRead payloads (Ok begun) → GivesBehind (command_in payloads) view result (put_said payloads)
+    by payloads (Ok x) gives has = same payloads has ∙ gives
+    by [] (Err fault) gives has = let none : begun ≡ None = begun_none begun has in let both = rw none at gives in cc
+    by (first ∷ rest) (Err fault) gives has =
+        behind (ingest_of first) (put_said (first ∷ rest)) fault (command_read first rest begun has) (λ other. same (first ∷ rest) has ∙ gives)
 
 -- nothing more comes behind a fault
-pub read_refused : (payloads : List Payload) (fault : Fault) (reader : Result (Option BegunAt) Fault) → reader ≡ Err fault → HasRead payloads reader → fault ≢ OutOfMemory → put_said payloads ≡ Err fault
-read_refused payloads fault reader is has other =
-    let before : said_so_far payloads ≡ Err fault = (rw is at has) other in
-    put_said-is payloads ∙ rw before refl
+pub read_refused : (payloads : List Payload) (fault : Fault) (reader : Result (Option BegunAt) Fault) → reader ≡ Err fault → HasRead payloads reader
+    → RefusedFor (command_in payloads) (put_said payloads) fault
+read_refused [] fault reader is has = absurd cc
+read_refused (first ∷ rest) fault reader is has =
+    refused_on (ingest_of first) (said_so_far (first ∷ rest)) (put_said (first ∷ rest)) fault (λ before. put_said-is (first ∷ rest) ∙ rw before refl) (rw is at has)

@@ -1,14 +1,18 @@
 -- Replies put together.
-use Rattle.std.proofs.Common.{◌≡◌, ◌≤◌, ◌^◌, ◌-◌, ℕ, pos, min, List, [], ◌∷◌, ◌++◌, length, refl, ap, ◌∙◌, arith, None, Result, Ok, Err}
-use Rattle.std.specs.Prelude.{IsOk}
+use Rattle.std.proofs.Common.{◌≡◌, ◌≤◌, ◌^◌, ◌-◌, ℕ, pos, min, List, [], ◌∷◌, ◌++◌, length, refl, sym, ap, ◌∙◌, arith, ◌≢◌, Option, None, Some, Result, Ok, Err}
+use Rattle.std.specs.Prelude.{IsOk, IfErr, unwrap_or}
 use Rattle.scan_base.specs.declared.fault.Fault.{Fault}
+use Rattle.scan_base.specs.declared.fault.Fault.TheVariants.{OutOfMemory}
+use Rattle.scan_base.specs.Reading.{first_fault}
 use Rattle.flight_proto.specs.PutResult.{rows_put_bytes}
-use Rattle.table_versions.specs.Limits.{most_rows}
-use Rattle.table_versions.specs.Database.{Database, Put, after, database_of}
+use Rattle.scan_base.specs.Limits.{most_rows}
+use Rattle.table_versions.specs.Database.{Database, Put, put_faults, after, database_of}
 use Rattle.table_versions.proofs.Accepted.{accepted_puts_are_few}
 use Rattle.flight_core.specs.Payloads.{Payload}
-use Rattle.flight_core.specs.Puts.{put_said}
-use Rattle.flight_core.specs.Machine.{Log, PutStep}
+use Rattle.flight_core.specs.Refusals.{RefusedFor}
+use Rattle.flight_core.specs.Puts.{command_in, put_said}
+use Rattle.flight_core.specs.Machine.{Log, PutStep, database_put}
+use Rattle.flight_core.proofs.Arriving.{behind, refused_on}
 
 few_where_ok : (old : Database) (n : ℕ) (put : Put) (result : Result Database Fault) → after old n put ≡ result → IsOk result → length put.rows ≤ most_rows
 few_where_ok old n put (Ok new) e ok = accepted_puts_are_few old n put new e
@@ -20,3 +24,32 @@ accepted_reply log new payloads answers put rows said ok made counted is =
     let few = few_where_ok (database_of log) (length log) put (after (database_of log) (length log) put) refl ok in
     let all : min rows most_rows ≡ length put.rows = omega (arith, few, counted) in
     (put, said, ok, made, is ∙ ap (λ (n : ℕ). rows_put_bytes (pos n) ∷ []) all)
+
+-- ---- refused puts
+
+-- payloads that were read have a command
+pub command_good : (payloads : List Payload) (put : Put) → put_said payloads ≡ Ok put → (cause : Fault) → command_in payloads ≡ Err cause → ⊥
+unfolding put_said
+command_good payloads put said cause e = let both = rw e at said in cc
+
+-- a put whose payloads are refused
+pub unread_reply : (log : Log) (payloads : List Payload) (fault : Fault) → RefusedFor (command_in payloads) (put_said payloads) fault
+    → RefusedFor (command_in payloads) (database_put log payloads) fault
+unread_reply log payloads fault is = refused_on (command_in payloads) (put_said payloads) (database_put log payloads) fault (λ e. rw e refl) is
+
+-- a put that is read and is refused by its fault, or for want of memory
+pub refused_reply : (log : Log) (payloads : List Payload) (put : Put) (fault : Fault) → put_said payloads ≡ Ok put
+    → (fault ≢ OutOfMemory → after (database_of log) (length log) put ≡ Err fault) → RefusedFor (command_in payloads) (database_put log payloads) fault
+refused_reply log payloads put fault said is =
+    behind (command_in payloads) (database_put log payloads) fault (command_good payloads put said) (λ other. rw said (is other))
+
+-- the fault of a put that is refused, or memory
+pub due : (database : Database) (n : ℕ) (put : Put) (first : Option Fault) (fault : Fault) → first ≡ first_fault (put_faults database n put) → fault ≡ unwrap_or first OutOfMemory
+    → fault ≢ OutOfMemory → after database n put ≡ Err fault
+due database n put (Some f) fault e is other = rw (← e) (ap Err (sym is))
+due database n put None fault e is other = absurd (other is)
+
+pub due_exactly : (database : Database) (n : ℕ) (put : Put) (first : Option Fault) (fault : Fault) → first ≡ first_fault (put_faults database n put) → fault ≡ unwrap_or first OutOfMemory
+    → IfErr (after database n put) (λ cause. Some fault ≡ Some cause)
+due_exactly database n put (Some f) fault e is = rw (← e) (ap Some is)
+due_exactly database n put None fault e is = rw (← e) tt

@@ -1,5 +1,8 @@
 -- What holds of results and options.
-use Rattle.std.proofs.Common.{◌≡◌, Result, Ok, Err, Some, IfOk, subst, sym}
+use Rattle.std.proofs.Common.{◌≡◌, Result, Ok, Err, Some, IfOk, subst, sym, ap}
+use Rattle.std.specs.Prelude.{IsOk, IfErr}
+use Rattle.scan_base.specs.declared.fault.Fault.{Fault}
+use Rattle.scan_base.specs.Reading.{RefusesFirst}
 
 -- what holds of a value holds of a result that is that value, where it is one
 pub ok_is : {A E : Type 0} (result : Result A E) (x : A) (holds : A → Type 0) → IfOk result (λ y. y ≡ x) → holds x → IfOk result holds
@@ -9,3 +12,18 @@ ok_is (Err fault) x holds same is = tt
 -- values are the same where their options are
 pub same_some : {X : Type 0} {a b : X} → Some a ≡ Some b → a ≡ b
 same_some e = cc
+
+-- what comes first for one kind of value comes first for another
+pub first_for : (X Y : Type 0) {Z : Type 0} (fault : Fault) (read : Result Z Fault) → RefusesFirst {X = X} (Err fault) read → RefusesFirst {X = Y} (Err fault) read
+first_for X Y fault (Ok z) first = tt
+first_for X Y fault (Err cause) first = let same : fault ≡ cause = cc in ap Err same
+
+-- a fault that comes first
+pub first_is : (X : Type 0) {Z : Type 0} (fault : Fault) (read : Result Z Fault) → RefusesFirst {X = X} (Err fault) read → IfErr read (λ cause. Some fault ≡ Some cause)
+first_is X fault (Ok z) first = tt
+first_is X fault (Err cause) first = let same : fault ≡ cause = cc in ap Some same
+
+-- what is there has no fault
+pub none_refused : {Z : Type 0} (read : Result Z Fault) (holds : Fault → Type 0) → IsOk read → IfErr read holds
+none_refused (Ok z) holds ok = tt
+none_refused (Err cause) holds ok = let no = ok in cc

@@ -1,5 +1,6 @@
 -- What payloads say.
 use Rattle.std.proofs.Common.{◌≡◌, ◌==◌, Bool, true, false, List, [], ◌∷◌, ◌++◌, length, map, filter, Option, Some, None, Result, Ok, refl, sym, ap, ◌∙◌, subst}
+use Rattle.std.specs.Prelude.{if◌then◌else◌}
 use Rattle.scan_base.specs.declared.fault.Fault.{Fault}
 use Rattle.scan_base.specs.declared.fault.Fault.TheVariants.{BadBatch}
 use Rattle.scan_base.specs.Reading.{◌>>=◌, wanted}
@@ -9,16 +10,22 @@ use Rattle.flight_proto.specs.FlightData.{DataSaid, data_of}
 use Rattle.flight_proto.specs.Ingest.{IngestSaid, ingest_of}
 use Rattle.ipc_batch.specs.State.{Known, State}
 use Rattle.ipc_batch.specs.Laws.{SayOneThing}
-use Rattle.ipc_batch.specs.Said.{Sent, News, Rows, rows_in, Follows}
+use Rattle.ipc_batch.specs.Said.{Sent, News, Rows, Says, rows_in, news_of, Follows}
 use Rattle.ipc_batch.proofs.Lengths.{both}
 use Rattle.table_versions.specs.Database.{Put}
-use Rattle.flight_core.specs.Payloads.{Payload, carries_message, message_in, DataSay, PutSays}
-use Rattle.flight_core.specs.Puts.{Told, news_carried, news_in_payload, told_by, put_made, put_said}
+use Rattle.flight_core.specs.Payloads.{Payload, carries_message, message_in, PutSays}
+use Rattle.flight_core.specs.Puts.{Told, news_in_payload, told_by, put_made, put_said}
 use Rattle.flight_core.specs.Laws.{AnswersSayOneThing, SayPut, PutsAreSaid}
 
 -- the messages of FlightData
 abbrev messages_in : List DataSaid → List Sent
 messages_in all = map message_in (filter carries_message all)
+
+-- what a FlightData says, after those that left this behind
+abbrev news_carried : State → DataSaid → Result News Fault
+news_carried state carried =
+    if length carried.data_header == 0 then Ok (record { state = state; batch = None })
+    else news_of state (message_in carried)
 
 -- payloads are read, and their messages follow
 pub record Follow (state : State) (payloads : List Payload) (end : State) (rows : Rows) : Type 0 where
@@ -148,4 +155,4 @@ puts_are_said payloads put = (put_is_said payloads put, put_is_read payloads put
 pub answers_say_one_thing : SayOneThing → AnswersSayOneThing
 answers_say_one_thing law payloads one other rows others p q =
     let same : p.0 ≡ q.0 = let a = p.1 in let b = q.1 in cc in
-    law (map message_in q.0) one other rows others (subst (λ (all : List DataSaid). DataSay all one rows) same p.2) q.2
+    law (map message_in q.0) one other rows others (subst (λ (all : List DataSaid). Says (map message_in all) one rows) same p.2) q.2

@@ -1,7 +1,7 @@
 -- How many bytes a message of one row has.
-use Rattle.std.proofs.Common.{◌≡◌, ◌≤◌, ◌==◌, ℕ, zero, suc, ◌+◌, ◌-◌, ◌*◌, ◌/◌, ◌%◌, ◌^◌, ℤ, None, nat_lt, cond, Bool, true, false, ◌||◌, if◌then◌else◌, List, [], ◌∷◌, ◌++◌, length, map, take, drop, get_or, refl, ap, subst, ◌∙◌, arith, rules, length-append}
+use Rattle.std.proofs.Common.{◌≡◌, ◌≤◌, ◌==◌, ℕ, zero, suc, ◌+◌, ◌-◌, ◌*◌, ◌/◌, ◌%◌, ◌^◌, ℤ, None, nat_lt, cond, Bool, true, false, if◌then◌else◌, List, [], ◌∷◌, ◌++◌, length, map, take, drop, get_or, refl, ap, subst, ◌∙◌, arith, rules, length-append}
 use Rattle.std.specs.Int.{w64, cast_unsigned, div_ceil}
-use Rattle.std.specs.List.{list_any, flat_map, range_with_len, AllByRecursion}
+use Rattle.std.specs.List.{list_any, range_with_len, AllByRecursion}
 use Rattle.std.proofs.lemmas.List.{length-take, length-map}
 use Rattle.std.proofs.lemmas.List.FromFn.{length-map-range_with_len}
 use Rattle.scan_base.specs.declared.value.Value.{Value}
@@ -12,7 +12,7 @@ use Rattle.scan_base.specs.Limits.{most_columns}
 use Rattle.arrays.specs.declared.layout.Layout.{Layout}
 use Rattle.arrays.specs.declared.layout.Layout.TheVariants as layout
 use Rattle.arrays.specs.Batch.{BatchAt, BatchSlicesKeepRows, row_of, rows_of, cut_batch}
-use Rattle.arrays.specs.Column.{ColumnAt, slot_of, values_of, cut}
+use Rattle.arrays.specs.Column.{ColumnAt, slot_of, cut}
 use Rattle.arrays.specs.Nulls.{null_count, valid_slots}
 use Rattle.arrays.specs.Number.{byte_width}
 use Rattle.arrays.specs.Written.{packed_bits, validity_written, elements, text_bytes, texts_joined, offsets_from, written_by, values_written, buffers_written as column_written}
@@ -25,11 +25,11 @@ use Rattle.proto_wire.specs.Standard.{Entry}
 use Rattle.proto_wire.specs.Writing.{groups_of, varint, spelling, chunk_head}
 use Rattle.ipc_batch.specs.Written.{body_of, buffers_written, body_length, most_header_bytes}
 use Rattle.ipc_batch.proofs.WriterLoops.{buffer_more, length_more}
-use Rattle.table_versions.specs.Limits.{most_text_bytes}
+use Rattle.scan_base.specs.Limits.{most_message_bytes, most_text_bytes}
 use Rattle.table_versions.specs.Table.{is_long_text}
 use Rattle.table_versions.proofs.Storable.{first_false, second_false}
 use Rattle.scan_exec.proofs.Short.{none-take, none-drop}
-use Rattle.flight_core.specs.Payloads.{most_body_bytes, most_payload_bytes}
+use Rattle.flight_core.specs.Payloads.{most_body_bytes}
 
 -- a buffer before others takes its bytes and at most seven zeros
 buffer_first : (buffer : List ℕ) (more : List (List ℕ)) → length (body_of (buffer ∷ more)) ≤ length buffer + 7 + length (body_of more)
@@ -193,7 +193,7 @@ short_set (entry ∷ entries) = by (is_set entry.content) (short_set entries)
     by false rest = omega (arith, rest, length-append (spelling entry) (spelled entries))
 
 -- the payload of a short header alone
-pub schema_fits : (header payload : List ℕ) → payload ≡ data_bytes None (record { data_header = header; data_body = [] }) → length header ≤ 2 ^ 15 → length payload ≤ most_payload_bytes
+pub schema_fits : (header payload : List ℕ) → payload ≡ data_bytes None (record { data_header = header; data_body = [] }) → length header ≤ 2 ^ 15 → length payload ≤ most_message_bytes
 schema_fits header payload is short =
     let first = chunk_entry 2 header in
     let second = chunk_entry 1000 [] in
@@ -220,7 +220,7 @@ short_head len = by (len == 0)
 
 -- the payload of a batch: its header, its body, and the heads of both
 pub batch_fits : (header body payload : List ℕ) → payload ≡ data_head header (length body) ++ body → length header ≤ most_header_bytes → length body ≤ most_body_bytes
-    → length payload ≤ most_payload_bytes
+    → length payload ≤ most_message_bytes
 batch_fits header body payload is few short =
     let first = chunk_entry 2 header in
     let front = spelled (set_fields (first ∷ [])) in
@@ -239,7 +239,7 @@ batch_fits header body payload is few short =
     )
 
 -- the answer to a put
-pub answer_fits : (rows : ℤ) (payload : List ℕ) → payload ≡ rows_put_bytes rows → length payload ≤ most_payload_bytes
+pub answer_fits : (rows : ℤ) (payload : List ℕ) → payload ≡ rows_put_bytes rows → length payload ≤ most_message_bytes
 answer_fits rows payload is =
     let count = varint_entry 1 (cast_unsigned w64 rows) in
     let metadata = chunk_entry 1 (update_bytes rows) in

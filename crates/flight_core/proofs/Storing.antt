@@ -1,5 +1,5 @@
 -- What is read of payloads may be stored.
-use Rattle.std.proofs.Common.{◌≡◌, ℕ, List, [], ◌∷◌, ◌++◌, All, IfOk, Option, Some, None, Result, Ok, Err, refl, append-nil}
+use Rattle.std.proofs.Common.{◌≡◌, List, [], ◌∷◌, ◌++◌, All, IfOk, Option, Some, None, Result, Ok, Err, append-nil}
 use Rattle.std.specs.Option.{option_map}
 use Rattle.std.proofs.lemmas.List.Elements.{All-cons, All-head, All-nil, All-push, All-tail, All-weaker}
 use Rattle.scan_base.specs.declared.fault.Fault.{Fault}

@@ -27,7 +27,8 @@ use Rattle.ipc_batch.specs.Said.{Sent, News, Rows, schema_sent, news_of, Follows
 use Rattle.ipc_batch.specs.Written.{SaysBatch}
 use Rattle.ipc_batch.proofs.Lengths.{both}
 use Rattle.ipc_batch.proofs.Messages.{joined}
-use Rattle.flight_core.specs.Payloads.{Payload, message_in, PayloadsSay, Carries, SaysSchema, SaysBatchBehind, GoOn, FitMessages, most_payload_bytes}
+use Rattle.flight_core.specs.Payloads.{Payload, message_in, PayloadsSay, Carries, SaysSchema, SaysBatchBehind, GoOn, FitMessages}
+use Rattle.scan_base.specs.Limits.{most_message_bytes}
 
 -- ---- one payload
 
@@ -143,8 +144,8 @@ whole_columns columns from to old new more on fields schema rows typed types sai
 
 pub none_fit : FitMessages []
 unfolding FitMessages
-none_fit = All-nil (λ (payload : Payload). length payload ≤ most_payload_bytes)
+none_fit = All-nil (λ (payload : Payload). length payload ≤ most_message_bytes)
 
-pub one_fits : (payloads : List Payload) (payload : Payload) → FitMessages payloads → length payload ≤ most_payload_bytes → FitMessages (payloads ++ payload ∷ [])
+pub one_fits : (payloads : List Payload) (payload : Payload) → FitMessages payloads → length payload ≤ most_message_bytes → FitMessages (payloads ++ payload ∷ [])
 unfolding FitMessages
-one_fits payloads payload before fits = All-push (λ (payload : Payload). length payload ≤ most_payload_bytes) payloads payload before fits
+one_fits payloads payload before fits = All-push (λ (payload : Payload). length payload ≤ most_message_bytes) payloads payload before fits

@@ -9,14 +9,28 @@ use Rattle.table_versions.proofs.Databases.{logs_grow}
 use Rattle.flight_core.specs.Versions.{versions_from, versions_of}
 use Rattle.flight_core.proofs.Results.{same_some}
 
-versions_from-more : (old : Database) (n : ℕ) (log : List Put) (put : Put) → versions_from old n (log ++ put ∷ []) ≡ versions_from old n log ++ after_all old n (log ++ put ∷ []) ∷ []
-versions_from-more old n [] put = refl
-versions_from-more old n (p ∷ ps) put = ap (λ l. accepted old (after old n p) ∷ l) (versions_from-more (accepted old (after old n p)) (n + 1) ps put)
+-- how many puts come after one more
+one_more : (n m : ℕ) → (n + 1) + m ≡ n + suc m
+one_more n m = omega arith
 
-versions_from-at : (old : Database) (n : ℕ) (log : List Put) (k : ℕ) → k < length log → slice_get (versions_from old n log) k ≡ Some (after_all old n (take (suc k) log))
+none_before : (n : ℕ) → 0 + n ≡ n
+none_before n = omega arith
+
+versions_from-more : (old : Database) (n : ℕ) (log : List Put) (put : Put)
+    → versions_from old n (log ++ put ∷ []) ≡ versions_from old n log ++ (n + suc (length log), after_all old n (log ++ put ∷ [])) ∷ []
+versions_from-more old n [] put = refl
+versions_from-more old n (p ∷ ps) put =
+    let next = accepted old (after old n p) in
+    ap (λ l. (n + 1, next) ∷ l) (versions_from-more next (n + 1) ps put
+    ∙ ap (λ m. versions_from next (n + 1) ps ++ (m, after_all next (n + 1) (ps ++ put ∷ [])) ∷ []) (one_more n (suc (length ps))))
+
+versions_from-at : (old : Database) (n : ℕ) (log : List Put) (k : ℕ) → k < length log
+    → slice_get (versions_from old n log) k ≡ Some (n + suc k, after_all old n (take (suc k) log))
 versions_from-at old n [] k lt = absurd (omega arith)
 versions_from-at old n (p ∷ ps) zero lt = refl
-versions_from-at old n (p ∷ ps) (suc k) lt = versions_from-at (accepted old (after old n p)) (n + 1) ps k (omega arith)
+versions_from-at old n (p ∷ ps) (suc k) lt =
+    let next = accepted old (after old n p) in
+    versions_from-at next (n + 1) ps k (omega arith) ∙ ap (λ m. Some (m, after_all next (n + 1) (take (suc k) ps))) (one_more n (suc k))
 
 -- the database after one put more
 database_of-more : (log : List Put) (put : Put) (new : Database) → after (database_of log) (length log) put ≡ Ok new → database_of (log ++ put ∷ []) ≡ new
@@ -24,30 +38,31 @@ database_of-more log put new e =
     let grown = logs_grow log put new e in
     ap database_of (sym grown.0) ∙ grown.1
 
-versions_of-more : (log : List Put) (put : Put) → versions_of (log ++ put ∷ []) ≡ versions_of log ++ database_of (log ++ put ∷ []) ∷ []
+versions_of-more : (log : List Put) (put : Put) → versions_of (log ++ put ∷ []) ≡ versions_of log ++ (suc (length log), database_of (log ++ put ∷ [])) ∷ []
 unfolding versions_of
-versions_of-more log put = versions_from-more [] 0 log put
+versions_of-more log put =
+    versions_from-more [] 0 log put ∙ ap (λ m. versions_from [] 0 log ++ (m, database_of (log ++ put ∷ [])) ∷ []) (none_before (suc (length log)))
 
-versions_of-at : (log : List Put) (k : ℕ) → k < length log → slice_get (versions_of log) k ≡ Some (database_of (take (suc k) log))
+versions_of-at : (log : List Put) (k : ℕ) → k < length log → slice_get (versions_of log) k ≡ Some (suc k, database_of (take (suc k) log))
 unfolding versions_of
-versions_of-at log k lt = versions_from-at [] 0 log k lt
+versions_of-at log k lt = versions_from-at [] 0 log k lt ∙ ap (λ m. Some (m, database_of (take (suc k) log))) (none_before (suc k))
 
 -- ---- a list of entries, each seen as a version and as the put that made it
 
 -- entry n - 1 is version n
-pub entry_at : {X : Type 0} (view : X → Database) (put : X → Put) (xs : List X) (n : ℕ) (x : X) → map view xs ≡ versions_of (map put xs)
-    → 0 < n → n ≤ length xs → slice_get xs (n - 1) ≡ Some x → view x ≡ database_of (take n (map put xs))
+pub entry_at : {X : Type 0} (view : X → ℕ × Database) (put : X → Put) (xs : List X) (n : ℕ) (x : X) → map view xs ≡ versions_of (map put xs)
+    → 0 < n → n ≤ length xs → slice_get xs (n - 1) ≡ Some x → view x ≡ (n, database_of (take n (map put xs)))
 entry_at view put xs n x kept some within at =
     let k = n - 1 in
     let next : suc k ≡ n = omega arith in
     let lt : k < length (map put xs) = omega (arith, length-map {B = Put} xs put) in
     same_some (ap (option_map view) (sym at) ∙ sym (slice_get-map view xs k) ∙ ap (λ l. slice_get l k) kept ∙ versions_of-at (map put xs) k lt)
-    ∙ ap (λ m. database_of (take m (map put xs))) next
+    ∙ ap (λ m. (m, database_of (take m (map put xs)))) next
 
 -- one entry more
-pub kept_more : {X : Type 0} (view : X → Database) (put : X → Put) (xs : List X) (x : X) (new : Database) → map view xs ≡ versions_of (map put xs)
-    → after (database_of (map put xs)) (length (map put xs)) (put x) ≡ Ok new → view x ≡ new → map view (xs ++ x ∷ []) ≡ versions_of (map put (xs ++ x ∷ []))
+pub kept_more : {X : Type 0} (view : X → ℕ × Database) (put : X → Put) (xs : List X) (x : X) (new : Database) → map view xs ≡ versions_of (map put xs)
+    → after (database_of (map put xs)) (length (map put xs)) (put x) ≡ Ok new → view x ≡ (suc (length (map put xs)), new) → map view (xs ++ x ∷ []) ≡ versions_of (map put (xs ++ x ∷ []))
 kept_more view put xs x new kept made is =
     let log = map put xs in
-    map-append view xs (x ∷ []) ∙ ap (λ l. l ++ view x ∷ []) kept ∙ ap (λ d. versions_of log ++ d ∷ []) (is ∙ sym (database_of-more log (put x) new made))
+    map-append view xs (x ∷ []) ∙ ap (λ l. l ++ view x ∷ []) kept ∙ ap (λ v. versions_of log ++ v ∷ []) (is ∙ ap (λ d. (suc (length log), d)) (sym (database_of-more log (put x) new made)))
     ∙ sym (versions_of-more log (put x)) ∙ ap versions_of (sym (map-append put xs (x ∷ [])))

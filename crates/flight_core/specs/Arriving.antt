@@ -1,11 +1,12 @@
 -- What the payloads of a put say so far, while they come one after another.
-use Rattle.std.specs.Prelude.{List, [], ◌∷◌, ◌++◌, Option, Some, None, Result, Ok, Err}
+use Rattle.std.specs.Prelude.{◌≡◌, List, [], ◌∷◌, ◌++◌, Option, Some, None, Result, Ok, Err}
 use Rattle.scan_base.specs.declared.fault.Fault.{Fault}
 use Rattle.scan_base.specs.declared.fault.Fault.TheVariants.{UnknownCommand, BadBatch}
-use Rattle.scan_base.specs.Reading.{◌>>=◌, wanted, GivesUnlessMemory}
+use Rattle.scan_base.specs.Reading.{◌>>=◌, wanted}
 use Rattle.flight_proto.specs.Ingest.{IngestSaid, ingest_of}
 use Rattle.ipc_batch.specs.Said.{rows_in}
 use Rattle.table_versions.specs.Database.{Put}
+use Rattle.flight_core.specs.Refusals.{GivesBehind}
 use Rattle.flight_core.specs.Payloads.{Payload}
 use Rattle.flight_core.specs.Puts.{Told, news_in_payload, told_by, put_made}
 
@@ -22,9 +23,11 @@ said_so_far (first ∷ payloads) = do
   told ← told_by None (first ∷ payloads)
   Ok (Some (record { ingest = ingest; told = told }))
 
--- a reader to which these payloads came holds what they say so far, or that memory was refused
+-- a reader to which these payloads came holds what they say so far, or behind their command that memory was refused
 abbrev pub HasRead : List Payload → Result (Option BegunAt) Fault → Type 0
-HasRead payloads reader = GivesUnlessMemory (λ begun. begun) reader (said_so_far payloads)
+HasRead [] reader = reader ≡ Ok None
+HasRead (first ∷ payloads) reader =
+    GivesBehind (ingest_of first) (λ begun. begun) reader (said_so_far (first ∷ payloads))
 
 -- ---- one payload more
 
@@ -44,6 +47,11 @@ after_payload begun payload = do
 abbrev pub said_next : Option BegunAt → Payload → Result (Option BegunAt) Fault
 said_next None first = begun_by first >>= λ begun. after_payload begun first
 said_next (Some begun) payload = after_payload begun payload
+
+-- what is seen of one payload more before any memory is taken: of the first one its command
+abbrev pub glance_next : Option BegunAt → Payload → Result (Option IngestSaid) Fault
+glance_next None first = ingest_of first >>= λ ingest. Ok (Some ingest)
+glance_next (Some begun) payload = Ok None
 
 -- the put, where no payload follows
 abbrev pub whole_put : Option BegunAt → Result Put Fault

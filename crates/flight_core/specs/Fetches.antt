@@ -1,8 +1,9 @@
 -- What a fetch answers.
-use Rattle.std.specs.Prelude.{◌≡◌, ◌≢◌, ℕ, ◌≤◌, ◌<◌, List, [], length, Option, Some, None, Result, Ok, Err}
+use Rattle.std.specs.Prelude.{◌≡◌, ◌≢◌, ℕ, ◌≤◌, Bool, true, nat_le, List, [], length, Option, Some, None, Result, Ok, Err}
 use Rattle.scan_base.specs.declared.fault.Fault.{Fault}
 use Rattle.scan_base.specs.declared.fault.Fault.TheVariants.{BadTicket, VersionUnknown, OutOfMemory}
-use Rattle.scan_base.specs.Reading.{◌>>=◌}
+use Rattle.scan_base.specs.Reading.{◌>>=◌, demand}
+use Rattle.scan_base.specs.Limits.{most_query_bytes}
 use Rattle.endpoint_split.specs.Handle.{HandleAt, Query, Tables, handle_of}
 use Rattle.flight_proto.specs.Ticket.{statement_handle_of}
 use Rattle.sql_parse.specs.Parse.{Parsed}
@@ -39,6 +40,20 @@ pub record Meant (database : Database) (from to : ℕ) (text : List ℕ) (answer
   pub schema : answer.schema ≡ result_schema sentence database
   pub rows : answer.rows ≡ meaning sentence database from to
 
+-- whether a query's text is short enough to be read
+abbrev pub is_short : HandleAt → Bool
+is_short (Query number from to text) = nat_le (length text) most_query_bytes
+is_short (Tables number) = true
+
+-- What a fetch shows before any memory is taken, where so many puts were accepted: its handle, whose version was reached,
+-- and whose text is short enough. The first fault in this order.
+abbrev pub handle_shown : ℕ → Payload → Result HandleAt Fault
+handle_shown accepted ticket = do
+  handle ← handle_asked ticket
+  _ ← demand (nat_le (version_of handle) accepted) VersionUnknown
+  _ ← demand (is_short handle) BadTicket
+  Ok handle
+
 -- what a handle means
 abbrev pub HandleMeans : Database → HandleAt → Table → Type 0
 HandleMeans database (Query number from to text) answer = Meant database from to text answer
@@ -61,19 +76,11 @@ abbrev pub HandlesMeanOne : Type 0
 HandlesMeanOne = (database : Database) (handle : HandleAt) (one other : Table) →
     HandleMeans database handle one → HandleMeans database handle other → one ≡ other
 
--- refused by this fault, or for want of memory
-abbrev pub Refused : Fault → List Payload → Option Fault → Type 0
-Refused cause payloads None = ⊥
-Refused cause payloads (Some fault) = (payloads ≡ []) × (fault ≢ OutOfMemory → fault ≡ cause)
-
--- the answer to what a ticket holds: its own fault first, then a version that was never reached, and then the
--- answer at that version
+-- the answer to what a fetch shows: the fault that is seen there, or the answer at the handle's version
 abbrev pub FetchBy : List Put → Result HandleAt Fault → List Payload → Option Fault → Type 0
-FetchBy log (Err cause) payloads fault = Refused cause payloads fault
-FetchBy log (Ok handle) payloads fault =
-    (length log < version_of handle → Refused VersionUnknown payloads fault)
-    × (version_of handle ≤ length log → FetchAt (version log (version_of handle)) handle payloads fault)
+FetchBy log (Err cause) payloads fault = (payloads ≡ []) × (fault ≡ Some cause)
+FetchBy log (Ok handle) payloads fault = FetchAt (version log (version_of handle)) handle payloads fault
 
 -- the answer to a fetch at a log
 abbrev pub FetchIn : List Put → Payload → List Payload → Option Fault → Type 0
-FetchIn log ticket payloads fault = FetchBy log (handle_asked ticket) payloads fault
+FetchIn log ticket payloads fault = FetchBy log (handle_shown (length log) ticket) payloads fault

@@ -1,3 +1,4 @@
+pub mod Refusals
 pub mod Payloads
 pub mod Puts
 pub mod Arriving

@@ -1,7 +1,6 @@
 -- The core as a machine: one event, one step.
-use Rattle.std.specs.Prelude.{◌≡◌, ◌≢◌, pos, List, [], ◌∷◌, ◌++◌, length, All, Option, Some, None, Result, Ok, Err, IsOk}
+use Rattle.std.specs.Prelude.{◌≡◌, pos, List, [], ◌∷◌, ◌++◌, length, All, Option, Some, None, Result, Ok, IsOk}
 use Rattle.scan_base.specs.declared.fault.Fault.{Fault}
-use Rattle.scan_base.specs.declared.fault.Fault.TheVariants.{OutOfMemory}
 use Rattle.scan_base.specs.Reading.{◌>>=◌}
 use Rattle.flight_proto.specs.PutResult.{rows_put_bytes}
 use Rattle.table_versions.specs.Database.{Database, Put, after, database_of}
@@ -9,8 +8,9 @@ use Rattle.table_versions.specs.Valid.{IsPut}
 use Rattle.flight_core.specs.declared.event.Event.{Event}
 use Rattle.flight_core.specs.declared.event.Event.TheVariants as event
 use Rattle.flight_core.specs.declared.event.Reply.{Reply}
+use Rattle.flight_core.specs.Refusals.{RefusedFor}
 use Rattle.flight_core.specs.Payloads.{Payload}
-use Rattle.flight_core.specs.Puts.{put_said}
+use Rattle.flight_core.specs.Puts.{command_in, put_said}
 use Rattle.flight_core.specs.Fetches.{FetchIn}
 
 -- the accepted puts, in order
@@ -25,17 +25,15 @@ ArePuts log = All IsPut log
 abbrev pub database_put : Log → List Payload → Result Database Fault
 database_put log payloads = put_said payloads >>= λ put. after (database_of log) (length log) put
 
--- the message that answers an accepted put
-abbrev pub put_answer : Put → Payload
-put_answer put = rows_put_bytes (pos (length put.rows))
-
 -- A put: an accepted one stands at the end of the log, and is answered by how many rows it put. A refused one
--- changes nothing and has no payload.
+-- changes nothing and has no payload: its command is refused for its own fault, and what stands behind the command for
+-- the first fault, or because memory was refused.
 abbrev pub PutStep : Log → List Payload → List Payload → Option Fault → Log → Type 0
 PutStep log payloads answers None new = (put : Put) × (put_said payloads ≡ Ok put)
-    × IsOk (after (database_of log) (length log) put) × (new ≡ log ++ put ∷ []) × (answers ≡ put_answer put ∷ [])
+    × IsOk (after (database_of log) (length log) put) × (new ≡ log ++ put ∷ [])
+    × (answers ≡ rows_put_bytes (pos (length put.rows)) ∷ [])
 PutStep log payloads answers (Some fault) new = (new ≡ log) × (answers ≡ [])
-    × (fault ≢ OutOfMemory → database_put log payloads ≡ Err fault)
+    × RefusedFor (command_in payloads) (database_put log payloads) fault
 
 -- what is asked of the core: a put, with its payloads, or a fetch, with its ticket
 pub data Asked : Type 0 where

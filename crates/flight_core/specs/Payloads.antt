@@ -1,5 +1,6 @@
 -- What the payloads of a stream say: each is a FlightData, whose header and body are an Arrow IPC message.
 use Rattle.std.specs.Prelude.{◌≡◌, ◌≤◌, ℕ, ◌==◌, Bool, not, List, [], ◌++◌, length, map, filter, All, Some, None, Ok}
+use Rattle.scan_base.specs.Limits.{most_message_bytes}
 use Rattle.scan_base.specs.Lists.{each}
 use Rattle.arrow_schema.specs.declared.schema.Schema.{Schema}
 use Rattle.arrow_schema.specs.declared.schema.Field.{Field}
@@ -19,14 +20,10 @@ Payload = List ℕ
 abbrev pub message_in : DataSaid → Sent
 message_in carried = record { header = carried.data_header; body = carried.data_body }
 
--- the messages that FlightData carry say this schema and these rows
-abbrev pub DataSay : List DataSaid → Schema → Rows → Type 0
-DataSay all schema rows = Says (map message_in all) schema rows
-
 -- the payloads of an answer say this schema and these rows: each carries a message
 abbrev pub PayloadsSay : List Payload → Schema → Rows → Type 0
 PayloadsSay payloads schema rows =
-    (all : List DataSaid) × (each data_of payloads ≡ Ok all) × DataSay all schema rows
+    (all : List DataSaid) × (each data_of payloads ≡ Ok all) × Says (map message_in all) schema rows
 
 -- whether a FlightData carries a message: in a put, one with an empty header is skipped
 abbrev pub carries_message : DataSaid → Bool
@@ -35,13 +32,10 @@ carries_message carried = not (length carried.data_header == 0)
 -- the payloads of a put say this schema and these rows
 abbrev pub PutSays : List Payload → Schema → Rows → Type 0
 PutSays payloads schema rows =
-    (all : List DataSaid) × (each data_of payloads ≡ Ok all) × DataSay (filter carries_message all) schema rows
+    (all : List DataSaid) × (each data_of payloads ≡ Ok all)
+    × Says (map message_in (filter carries_message all)) schema rows
 
 -- ---- payloads that are written
-
--- as many bytes as a message of a call may have
-abbrev pub most_payload_bytes : ℕ
-most_payload_bytes = 16777216
 
 -- as many bytes as the body of a message has that is written
 abbrev pub most_body_bytes : ℕ
@@ -49,7 +43,7 @@ most_body_bytes = 8388608
 
 -- each payload fits a message of a call
 unfoldable pub FitMessages : List Payload → Type 0
-FitMessages payloads = All (λ payload. length payload ≤ most_payload_bytes) payloads
+FitMessages payloads = All (λ payload. length payload ≤ most_message_bytes) payloads
 
 -- a payload carries this message
 pub record Carries (payload : Payload) (message : Sent) : Type 0 where

@@ -1,4 +1,4 @@
--- What the plan of a query gives.
+-- Inside: what the plan of a query gives.
 use Rattle.std.specs.Prelude.{◌≡◌, ℕ, List, map}
 use Rattle.arrow_schema.specs.declared.data_type.DataType.{DataType}
 use Rattle.arrow_schema.specs.declared.schema.Schema.{Schema}

@@ -5,7 +5,7 @@ use Rattle.scan_base.specs.declared.fault.Fault.{Fault}
 use Rattle.scan_base.specs.declared.fault.Fault.TheVariants.{UnknownCommand, BadBatch}
 use Rattle.scan_base.specs.Reading.{◌>>=◌, wanted}
 use Rattle.arrow_schema.specs.declared.schema.Schema.{Schema}
-use Rattle.flight_proto.specs.FlightData.{DataSaid, data_of}
+use Rattle.flight_proto.specs.FlightData.{data_of}
 use Rattle.flight_proto.specs.Ingest.{IngestSaid, ingest_of}
 use Rattle.ipc_batch.specs.State.{State}
 use Rattle.ipc_batch.specs.Said.{News, Rows, news_of, rows_in}
@@ -17,15 +17,11 @@ pub record Told : Type 0 where
   pub state : State
   pub rows : Rows
 
--- what a FlightData says, after those that left this behind: one with an empty header is skipped
-abbrev pub news_carried : State → DataSaid → Result News Fault
-news_carried state carried =
+-- what a payload says, after those that left this behind: a FlightData with an empty header is skipped
+unfoldable pub news_in_payload : State → Payload → Result News Fault
+news_in_payload state payload = data_of payload >>= λ carried.
     if length carried.data_header == 0 then Ok (record { state = state; batch = None })
     else news_of state (message_in carried)
-
--- what a payload says, after those that left this behind
-unfoldable pub news_in_payload : State → Payload → Result News Fault
-news_in_payload state payload = data_of payload >>= news_carried state
 
 -- what payloads tell, after those that left this behind
 abbrev pub told_by : State → List Payload → Result Told Fault
@@ -45,11 +41,15 @@ put_made ingest schema rows = record {
   rows = rows;
 }
 
+-- the command of a put, which stands in its first payload
+abbrev pub command_in : List Payload → Result IngestSaid Fault
+command_in [] = Err UnknownCommand
+command_in (first ∷ payloads) = ingest_of first
+
 -- the put that payloads say
 unfoldable pub put_said : List Payload → Result Put Fault
-put_said [] = Err UnknownCommand
-put_said (first ∷ payloads) = do
-  ingest ← ingest_of first
-  told ← told_by None (first ∷ payloads)
+put_said payloads = do
+  ingest ← command_in payloads
+  told ← told_by None payloads
   known ← wanted told.state BadBatch
   Ok (put_made ingest known.schema told.rows)

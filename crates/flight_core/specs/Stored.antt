@@ -1,4 +1,4 @@
--- What of payloads may be stored.
+-- Inside: what of payloads may be stored.
 use Rattle.std.specs.Prelude.{All, List, [], ◌∷◌, Option, Some, None}
 use Rattle.arrays.specs.Batch.{BatchAt}
 use Rattle.ipc_batch.specs.State.{State}

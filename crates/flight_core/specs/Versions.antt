@@ -1,13 +1,19 @@
--- The versions of a log.
+-- Inside: the versions of a log, each with its number.
 use Rattle.std.specs.Prelude.{ℕ, ◌+◌, List, [], ◌∷◌}
 use Rattle.table_versions.specs.Database.{Database, Put, after, accepted}
+use Rattle.table_versions.specs.Stored.{VersionAt, tables_of}
 
--- the database after each of these puts, where n were accepted before them
-abbrev pub versions_from : Database → ℕ → List Put → List Database
+-- the database after each of these puts, and how many were accepted up to it, where n were before them
+abbrev pub versions_from : Database → ℕ → List Put → List (ℕ × Database)
 versions_from database n [] = []
 versions_from database n (put ∷ puts) =
-    accepted database (after database n put) ∷ versions_from (accepted database (after database n put)) (n + 1) puts
+    (n + 1, accepted database (after database n put))
+    ∷ versions_from (accepted database (after database n put)) (n + 1) puts
 
 -- versions 1 and up of a log
-unfoldable pub versions_of : List Put → List Database
+unfoldable pub versions_of : List Put → List (ℕ × Database)
 versions_of log = versions_from [] 0 log
+
+-- the number of a version, and its database
+abbrev pub numbered : VersionAt → ℕ × Database
+numbered version = (version.number, tables_of version.catalog)

@@ -1,14 +1,15 @@
 //! Answering a fetch at a version.
 
-ghost use Rattle.std.specs.Prelude.{◌≡◌, ◌≢◌, length, IfOk, IfErr};
-ghost use Rattle.scan_base.specs.declared.fault.Fault.TheVariants.{BadTicket, OutOfMemory};
-ghost use Rattle.scan_base.specs.Reading.{Gives};
+ghost use Rattle.std.specs.Prelude.{◌≡◌, ◌≢◌, length, nat_le, false, Some, IfOk, IfErr};
+ghost use Rattle.scan_base.specs.declared.fault.Fault.TheVariants.{BadTicket, LimitReached, OutOfMemory};
+ghost use Rattle.scan_base.specs.Reading.{Gives, RefusesFirst, demand};
+ghost use Rattle.scan_base.specs.Limits.{most_query_bytes};
 ghost use Rattle.endpoint_split.specs.Seen.{handle_seen};
 ghost use Rattle.table_versions.specs.Table.{Table};
 ghost use Rattle.table_versions.specs.Stored.{tables_of};
 ghost use Rattle.typed_plan.specs.Joined.{place_rows};
 ghost use Rattle.typed_plan.specs.View.{plan_of};
-ghost use Rattle.flight_core.specs.Fetches.{version_of, handle_asked, Meant, FetchAt};
+ghost use Rattle.flight_core.specs.Fetches.{version_of, is_short, handle_asked, Meant, FetchAt};
 ghost use Rattle.flight_core.specs.Planned.{GivesMeant};
 ghost use Rattle.flight_core.specs.Payloads.{PayloadsSay, FitMessages};
 
@@ -73,6 +74,7 @@ fn plan_query(
     ensures planned { IfOk result (λ plan. GivesMeant (tables_of catalog.now) from to text.now (plan_of plan)) }
     ensures refused { IfErr result (λ fault. fault ≢ OutOfMemory →
         (answer : Table) → Meant (tables_of catalog.now) from to text.now answer → ⊥) }
+    ensures first { RefusesFirst result (demand (nat_le (length text.now) most_query_bytes) LimitReached) }
 {
     let query = parse(alloc, text)?;
     let plan = bind(alloc, &query, catalog)?;
@@ -95,6 +97,7 @@ fn write_query(
     ensures fits { IfOk result (λ payloads. FitMessages payloads.items) }
     ensures refused { IfErr result (λ fault. fault ≢ OutOfMemory →
         (answer : Table) → Meant (tables_of catalog.now) from to text.now answer → ⊥) }
+    ensures first { RefusesFirst result (demand (nat_le (length text.now) most_query_bytes) LimitReached) }
 {
     let plan = plan_query(alloc, catalog, text, from, to)?;
     let mut scan = Scan::new(alloc, &plan, catalog, from, to)?;
@@ -120,10 +123,11 @@ fn fetch_fault(fault: Fault) -> Fault
 ///
 /// The reply's fault, and then no payload: F17 (`Fault::BadTicket`) where the query does not parse or is not bound
 /// at this version, and where the range is not within the rows of its first place; F21 (`Fault::OutOfMemory`)
-/// where memory is refused.
+/// where memory is refused, and not for a query of more than 16,384 bytes.
 pub fn answer_fetch(alloc: Global, snapshot: &Snapshot, handle: &Handle<'_>) -> Reply
     ensures answer { FetchAt (tables_of snapshot.now.catalog) (handle_seen handle.now)
         result.payloads.items result.fault }
+    ensures first { is_short (handle_seen handle.now) ≡ false → result.fault ≡ Some BadTicket }
     ensures fits { FitMessages result.payloads.items }
 {
     let Handle::Query {

@@ -17,6 +17,3 @@ pub use crate::fetch::{answer_fetch, read_ticket};
 pub use crate::machine::{run, step, step_put};
 pub use crate::plain::Plain;
 pub use crate::put::{PutReader, read_put};
-
-#[cfg(test)]
-mod tests;

@@ -1,16 +1,17 @@
 //! Steps and runs.
 
-ghost use Rattle.std.specs.Prelude.{◌≡◌, ◌≢◌, [], ◌∷◌, pos, min, length, List, IfOk, IfErr};
-ghost use Rattle.table_versions.specs.Limits.{most_rows};
+ghost use Rattle.std.specs.Prelude.{◌≡◌, ◌≢◌, [], ◌∷◌, Some, pos, min, length, List, IfOk, IfErr};
+ghost use Rattle.scan_base.specs.Limits.{most_rows};
 ghost use Rattle.table_versions.specs.Valid.{HasDatabases};
 ghost use Rattle.scan_base.specs.declared.fault.Fault.TheVariants.{OutOfMemory};
 ghost use Rattle.flight_proto.specs.PutResult.{rows_put_bytes};
-ghost use Rattle.flight_core.specs.Machine.{Log, ArePuts, PutStep, Step, Run, put_answer};
+ghost use Rattle.flight_core.specs.Machine.{Log, ArePuts, PutStep, Step, Run};
 ghost use Rattle.flight_core.specs.Fetches.{FetchIn};
-ghost use Rattle.scan_base.specs.Reading.{GivesUnlessMemory};
+ghost use Rattle.table_versions.specs.Database.{after, database_of};
+ghost use Rattle.flight_core.specs.Refusals.{GivesBehind};
 ghost use Rattle.table_versions.specs.Stored.{put_of};
 ghost use Rattle.flight_core.specs.Payloads.{Payload, FitMessages};
-ghost use Rattle.flight_core.specs.Puts.{put_said};
+ghost use Rattle.flight_core.specs.Puts.{command_in, put_said};
 
 use crate::event::{Event, Reply};
 use crate::fetch::{answer_fetch, read_ticket, version_of};
@@ -37,10 +38,15 @@ fn put_answer(alloc: Global, rows: usize) -> Result<Vec<Bytes>, AllocError>
 }
 
 /// Answers a put whose payloads were read, or its first fault. A put that is accepted stands at the end of the
-/// log, and a refused one changes nothing. The reply's fault is that one, or one of those of `Plain::put`.
+/// log, and a refused one changes nothing. The reply's fault is that one, or one of those of `Plain::put`: F21
+/// (`Fault::OutOfMemory`) only for a put that nothing else refuses.
 pub fn step_put(alloc: Global, plain: &mut Plain, read: Result<Put, Fault>) -> Reply
-    ensures step { (payloads : List Payload) → GivesUnlessMemory put_of read (put_said payloads)
+    ensures step { (payloads : List Payload)
+        → GivesBehind (command_in payloads) put_of read (put_said payloads)
         → PutStep plain.old payloads result.payloads.items result.fault plain.new }
+    ensures unread { IfErr read (λ fault. result.fault ≡ Some fault) }
+    ensures refused { IfOk read (λ put. IfErr (after (database_of plain.old) (length plain.old) (put_of put))
+        (λ fault. result.fault ≡ Some fault)) }
     ensures puts { ArePuts plain.old → ArePuts plain.new }
     ensures fits { FitMessages result.payloads.items }
 {
@@ -49,7 +55,8 @@ pub fn step_put(alloc: Global, plain: &mut Plain, read: Result<Put, Fault>) -> R
         Err(fault) => return Reply::refusal(alloc, fault),
     };
     let Ok(answer) = put_answer(alloc, put.rows()) else {
-        return Reply::refusal(alloc, Fault::OutOfMemory);
+        let fault = plain.refusal(&put).unwrap_or(Fault::OutOfMemory);
+        return Reply::refusal(alloc, fault);
     };
     match plain.put(alloc, put) {
         Ok(()) => Reply::whole(answer),
@@ -66,7 +73,7 @@ fn step_fetch(alloc: Global, plain: &Plain, ticket: &[u8]) -> Reply
         Err(fault) => return Reply::refusal(alloc, fault),
     };
     match plain.at(version_of(&handle)) {
-        Ok(snapshot) => answer_fetch(alloc, &snapshot, &handle),
+        Ok(snapshot) => answer_fetch(alloc, snapshot, &handle),
         Err(fault) => Reply::refusal(alloc, fault),
     }
 }

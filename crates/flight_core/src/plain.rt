@@ -1,9 +1,10 @@
 //! All versions in a list, without threads.
 
-ghost use Rattle.std.specs.Prelude.{◌≡◌, ◌≢◌, ◌≤◌, ◌<◌, ◌++◌, ◌∷◌, ◌⊎◌, [], length, IfOk, IfErr, IsOk, Ok, Err};
-ghost use Rattle.std.specs.Arc.{arc_value};
+ghost use Rattle.std.specs.Prelude.{◌≡◌, ◌≢◌, ◌≤◌, ◌<◌, ◌++◌, ◌∷◌, [], length, IfOk, IfErr, IsOk, Ok, Err};
+ghost use Rattle.scan_base.specs.Reading.{RefusesFirst, first_fault};
+ghost use Rattle.flight_core.specs.Versions.{numbered};
 ghost use Rattle.scan_base.specs.declared.fault.Fault.TheVariants.{OutOfMemory, VersionUnknown};
-ghost use Rattle.table_versions.specs.Database.{after, database_of, version};
+ghost use Rattle.table_versions.specs.Database.{after, put_faults, database_of, version};
 ghost use Rattle.table_versions.specs.Stored.{put_of, tables_of};
 ghost use Rattle.table_versions.specs.Valid.{IsPut};
 
@@ -12,35 +13,34 @@ use std::alloc::Global;
 use std::marker::Model;
 use std::snapshot;
 use std::sync::Arc;
-use table_versions::{CatalogVersion, Put, Snapshot, apply};
+use table_versions::{CatalogVersion, Put, Snapshot, apply, refusal};
 
 // A version, and the put that made it, which contracts alone see.
 #[derive(Drop)]
 struct Version {
-    catalog: Arc<CatalogVersion>,
+    made: Snapshot,
     put: snapshot::Snapshot<Put>,
 }
 
 /// All versions. Contracts see them as the log of accepted puts.
 #[derive(Drop)]
 pub struct Plain {
-    empty: Arc<CatalogVersion>,
+    empty: Snapshot,
     later: Vec<Version>,
 }
 
 impl Model for Plain {
     ghost use Rattle.std.specs.Prelude.{List, [], map, ◌≡◌};
-    ghost use Rattle.std.specs.Arc.{arc_value};
     ghost use Rattle.table_versions.specs.Database.{Put};
-    ghost use Rattle.table_versions.specs.Stored.{put_of, tables_of};
-    ghost use Rattle.flight_core.specs.Versions.{versions_of};
+    ghost use Rattle.table_versions.specs.Stored.{put_of};
+    ghost use Rattle.flight_core.specs.Versions.{versions_of, numbered};
 
     ghost Value = { List Put };
 
     ghost view = { λ p. map (λ version. put_of version.put.value) p.later.items };
 
-    ghost invariant = { λ p. (arc_value p.empty ≡ [])
-        × (map (λ version. tables_of (arc_value version.catalog)) p.later.items
+    ghost invariant = { λ p. (numbered p.empty ≡ (0, []))
+        × (map (λ version. numbered version.made) p.later.items
         ≡ versions_of (map (λ version. put_of version.put.value) p.later.items)) };
 }
 
@@ -55,63 +55,75 @@ impl Plain {
         ensures ok { IfOk result (λ plain. plain ≡ []) }
         ensures err { IfErr result (λ fault. fault ≡ OutOfMemory) }
     {
+        let catalog = Arc::new(alloc, CatalogVersion::empty(alloc))?;
         Ok(Plain {
-            empty: Arc::new(alloc, CatalogVersion::empty(alloc))?,
+            empty: Snapshot::new(0, catalog),
             later: Vec::new(alloc),
         })
     }
 
-    /// The newest version.
-    ///
-    /// # Errors
-    ///
-    /// F21 (`Fault::OutOfMemory`) where memory is refused.
-    pub fn current(&self) -> Result<Snapshot, Fault>
-        ensures number { IfOk result (λ snapshot. snapshot.number ≡ length self.now) }
-        ensures tables { IfOk result (λ snapshot. tables_of snapshot.catalog ≡ database_of self.now) }
-        ensures err { IfErr result (λ fault. fault ≡ OutOfMemory) }
+    // The version of a number that was reached.
+    fn version(&self, number: usize) -> &Snapshot
+        requires { number ≤ length self.now }
+        ensures { numbered result.now ≡ (number, version self.now number) }
     {
-        self.at(self.later.len() as u64)
+        if number == 0 {
+            return &self.empty;
+        }
+        &self.later[number - 1].made
     }
 
-    /// The version of a number: the one after so many puts.
+    /// The newest version. It takes no memory.
+    pub fn current(&self) -> &Snapshot
+        ensures number { result.now.number ≡ length self.now }
+        ensures tables { tables_of result.now.catalog ≡ database_of self.now }
+    {
+        self.version(self.later.len())
+    }
+
+    /// The version of a number: the one after so many puts. It takes no memory.
     ///
     /// # Errors
     ///
-    /// F18 (`Fault::VersionUnknown`) where fewer puts were accepted, and F21 (`Fault::OutOfMemory`) where
-    /// memory is refused.
-    pub fn at(&self, number: u64) -> Result<Snapshot, Fault>
+    /// F18 (`Fault::VersionUnknown`) where fewer puts were accepted, and no other.
+    pub fn at(&self, number: u64) -> Result<&Snapshot, Fault>
         ensures within { IfOk result (λ _. number ≤ length self.now) }
-        ensures number { IfOk result (λ snapshot. snapshot.number ≡ number) }
-        ensures tables { IfOk result (λ snapshot. tables_of snapshot.catalog ≡ version self.now number) }
-        ensures err { IfErr result (λ fault. (fault ≡ OutOfMemory)
-            ⊎ ((fault ≡ VersionUnknown) × (length self.now < number))) }
+        ensures number { IfOk result (λ snapshot. snapshot.now.number ≡ number) }
+        ensures tables { IfOk result (λ snapshot. tables_of snapshot.now.catalog ≡ version self.now number) }
+        ensures err { IfErr result (λ fault. (fault ≡ VersionUnknown) × (length self.now < number)) }
     {
         if number > self.later.len() as u64 {
             return Err(Fault::VersionUnknown);
         }
-        if number == 0 {
-            return Ok(Snapshot::new(0, self.empty.clone()?));
-        }
-        Ok(Snapshot::new(number, self.later[number as usize - 1].catalog.clone()?))
+        Ok(self.version(number as usize))
+    }
+
+    /// Why a put is refused, if it is. It takes no memory.
+    pub fn refusal(&self, put: &Put) -> Option<Fault>
+        ensures { result ≡ first_fault (put_faults (database_of self.now) (length self.now) (put_of put.now)) }
+    {
+        refusal(self.current(), put)
     }
 
     /// Makes the next version, with this put.
     ///
     /// # Errors
     ///
-    /// Those of [`apply`]. Nothing has changed then.
+    /// Those of [`apply`], and F21 (`Fault::OutOfMemory`) only for a put that none of them refuses. Nothing has changed
+    /// then.
     pub fn put(&mut self, alloc: Global, put: Put) -> Result<(), Fault>
         ensures ok { result ≡ Ok tt → (self.new ≡ self.old ++ put_of put ∷ [])
             × IsOk (after (database_of self.old) (length self.old) (put_of put)) }
         ensures typed { IfOk result (λ _. IsPut (put_of put)) }
         ensures err { IfErr result (λ fault. (self.new ≡ self.old)
             × (fault ≢ OutOfMemory → after (database_of self.old) (length self.old) (put_of put) ≡ Err fault)) }
+        ensures first { RefusesFirst result (after (database_of self.old) (length self.old) (put_of put)) }
     {
         let made_by = snapshot::Snapshot::of(&put);
-        let catalog = apply(alloc, &self.current()?, put)?;
+        let catalog = apply(alloc, self.current(), put)?;
+        let number = self.later.len() as u64 + 1;
         self.later.push(Version {
-            catalog: Arc::new(alloc, catalog)?,
+            made: Snapshot::new(number, Arc::new(alloc, catalog)?),
             put: made_by,
         })?;
         Ok(())

@@ -3,12 +3,14 @@
 ghost use Rattle.std.specs.Prelude.{◌≡◌, ◌++◌, ◌∷◌, [], Ok, Err, None, Some, IfOk, OnErr, List};
 ghost use Rattle.scan_base.specs.declared.fault.Fault.{Fault};
 ghost use Rattle.scan_base.specs.Reading.{Gives, GivesUnlessMemory};
+ghost use Rattle.flight_proto.specs.Ingest.{ingest_of};
 ghost use Rattle.arrays.specs.Batch.{BatchAt};
 ghost use Rattle.table_versions.specs.Stored.{put_of};
 ghost use Rattle.flight_core.specs.Payloads.{Payload};
-ghost use Rattle.flight_core.specs.Puts.{news_in_payload, put_said};
+ghost use Rattle.flight_core.specs.Puts.{command_in, news_in_payload, put_said};
+ghost use Rattle.flight_core.specs.Refusals.{GivesBehind};
 ghost use Rattle.flight_core.specs.Stored.{MayBeStored, batches_in};
-ghost use Rattle.flight_core.specs.Arriving.{begun_by, after_payload, said_next, whole_put, put_from, HasRead};
+ghost use Rattle.flight_core.specs.Arriving.{begun_by, after_payload, glance_next, said_next, whole_put, put_from, HasRead};
 
 use arrays::Batch;
 use bytes::Bytes;
@@ -64,7 +66,7 @@ impl Model for Begun {
 impl Begun {
     // A put with the command of its first payload. No message was read.
     fn new(alloc: Global, first: &Bytes) -> Result<Begun, Fault>
-        ensures { GivesUnlessMemory (λ begun. begun) result (begun_by first.now) }
+        ensures { GivesBehind (ingest_of first.now) (λ begun. begun) result (begun_by first.now) }
     {
         let ingest = read_ingest(first.as_slice())?;
         Ok(Begun {
@@ -89,7 +91,8 @@ impl Begun {
 
 // Reads the next payload of a put: the first one has its command.
 fn read_next(alloc: Global, begun: &mut Option<Begun>, payload: &Bytes) -> Result<(), Fault>
-    ensures { GivesUnlessMemory (λ _. begun.new) result (said_next begun.old payload.now) }
+    ensures { GivesBehind (glance_next begun.old payload.now) (λ _. begun.new) result
+        (said_next begun.old payload.now) }
 {
     match begun {
         Some(begun) => begun.push(alloc, payload),
@@ -169,7 +172,7 @@ impl PutReader {
     /// The first fault, as in [`read_put`]: F21 (`Fault::OutOfMemory`) only where it was refused before.
     pub fn into_put(self) -> Result<Put, Fault>
         ensures read { (payloads : List Payload) → HasRead payloads self
-            → GivesUnlessMemory put_of result (put_said payloads) }
+            → GivesBehind (command_in payloads) put_of result (put_said payloads) }
         ensures whole { Gives put_of result (put_from self) }
     {
         match self.begun {
@@ -191,9 +194,9 @@ impl PutReader {
 /// - The faults of `ipc_batch::Reader::message` (F6, F7, F8, F12) for a message. A payload with an empty
 ///   header has none.
 /// - F8 (`Fault::BadBatch`) where no schema came.
-/// - F21 (`Fault::OutOfMemory`) where memory is refused.
+/// - F21 (`Fault::OutOfMemory`) where memory is refused, and not where the command is refused.
 pub fn read_put(alloc: Global, payloads: &[Bytes]) -> Result<Put, Fault>
-    ensures { GivesUnlessMemory put_of result (put_said payloads.now) }
+    ensures { GivesBehind (command_in payloads.now) put_of result (put_said payloads.now) }
 {
     let mut reader = PutReader::new();
     for payload in payloads {

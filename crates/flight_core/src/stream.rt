@@ -9,7 +9,8 @@ ghost use Rattle.ipc_batch.specs.Written.{body_length};
 ghost use Rattle.table_versions.specs.Table.{is_long_text};
 ghost use Rattle.scan_base.specs.declared.fault.Fault.TheVariants.{OutOfMemory};
 ghost use Rattle.flight_core.specs.Payloads.{PayloadsSay, SaysSchema, SaysBatchBehind, GoOn, FitMessages};
-ghost use Rattle.flight_core.specs.Payloads.{most_payload_bytes, most_body_bytes};
+ghost use Rattle.scan_base.specs.Limits.{most_message_bytes};
+ghost use Rattle.flight_core.specs.Payloads.{most_body_bytes};
 ghost use Rattle.flight_core.specs.Planned.{HasAnswerTypes};
 
 use arrays::Batch;
@@ -30,9 +31,9 @@ const MOST_BODY_BYTES: usize = 8_388_608;
 
 /// These bytes as a payload, which a message of a call can hold.
 pub(crate) fn payload_of(bytes: Vec<u8>) -> Result<Bytes, AllocError>
-    requires { length bytes.items ≤ most_payload_bytes }
+    requires { length bytes.items ≤ most_message_bytes }
     ensures same { IfOk result (λ payload. payload ≡ bytes.items) }
-    ensures fits { IfOk result (λ payload. length payload ≤ most_payload_bytes) }
+    ensures fits { IfOk result (λ payload. length payload ≤ most_message_bytes) }
 {
     Ok(Bytes::from_vec(bytes)?)
 }
@@ -41,7 +42,7 @@ pub(crate) fn payload_of(bytes: Vec<u8>) -> Result<Bytes, AllocError>
 fn schema_payload(alloc: Global, schema: &Schema) -> Result<Bytes, AllocError>
     requires { IsSchema schema.now }
     ensures said { IfOk result (λ payload. SaysSchema payload schema.now) }
-    ensures fits { IfOk result (λ payload. length payload ≤ most_payload_bytes) }
+    ensures fits { IfOk result (λ payload. length payload ≤ most_message_bytes) }
 {
     let header = write_schema(alloc, schema)?;
     let mut payload = Vec::with_capacity(alloc, header.len().saturating_add(16))?;
@@ -54,7 +55,7 @@ fn batch_payload(alloc: Global, batch: &MeasuredBatch<'_>) -> Result<Bytes, Allo
     requires few { length batch.now.columns ≤ most_columns }
     requires short { body_length batch.now ≤ most_body_bytes }
     ensures said { IfOk result (λ payload. SaysBatchBehind payload batch.now) }
-    ensures fits { IfOk result (λ payload. length payload ≤ most_payload_bytes) }
+    ensures fits { IfOk result (λ payload. length payload ≤ most_message_bytes) }
 {
     let header = batch.write_header(alloc)?;
     let len = batch.body_length();
@@ -85,7 +86,7 @@ fn slice_payload(
     requires within { to ≤ batch.now.rows }
     ensures said { IfOk result (λ found. IfSome found (λ payload.
         SaysBatchBehind payload (cut_batch batch.now from to))) }
-    ensures fits { IfOk result (λ found. IfSome found (λ payload. length payload ≤ most_payload_bytes)) }
+    ensures fits { IfOk result (λ found. IfSome found (λ payload. length payload ≤ most_message_bytes)) }
     ensures long { IfOk result (λ found. found ≡ None → most_body_bytes < body_length (cut_batch batch.now from to)) }
 {
     let slice = batch.slice(alloc, from, to)?;

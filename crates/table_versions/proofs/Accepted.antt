@@ -5,7 +5,7 @@ use Rattle.scan_base.specs.declared.fault.Fault.TheVariants.{LimitReached}
 use Rattle.scan_base.specs.Reading.{first_fault, unless}
 use Rattle.scan_base.specs.declared.put_options.IfExists.{IfExists}
 use Rattle.scan_base.specs.declared.put_options.IfExists.TheVariants.{Unspecified, Fail, Append, Replace}
-use Rattle.table_versions.specs.Limits.{most_rows}
+use Rattle.scan_base.specs.Limits.{most_rows}
 use Rattle.table_versions.specs.Table.{Table}
 use Rattle.table_versions.specs.Database.{Put, table_at, with_table, table_after, put_faults}
 use Rattle.table_versions.specs.Laws.{AcceptedPutsAreFew}

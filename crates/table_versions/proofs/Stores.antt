@@ -102,10 +102,20 @@ pub gives_tables : (catalog : CatalogAt) (n : ℕ) (put : PutAt) (result : Resul
 gives_tables catalog n put (Ok new) h = after-tables_of catalog n put ∙ ap seen h
 gives_tables catalog n put (Err fault) h = λ real. after-tables_of catalog n put ∙ ap seen (h real)
 
+-- and so is what comes first
+pub refuses_rows : (catalog : CatalogAt) (n : ℕ) (put : PutAt) (result : Result CatalogAt Fault) →
+    RefusesFirst result (catalog_after catalog n put) → RefusesFirst result (after (tables_of catalog) n (put_of put))
+refuses_rows catalog n put result h =
+    subst (λ (read : Result Database Fault). RefusesFirst result read) (sym (after-tables_of catalog n put)) (by (catalog_after catalog n put) h)
+  where
+    by : (read : Result CatalogAt Fault) → RefusesFirst result read → RefusesFirst result (seen read)
+    by (Ok new) h = tt
+    by (Err fault) h = h
+
 -- a put is refused as its tests say
 module _ (catalog : CatalogAt) (n : ℕ) (put : PutAt) (there : Option TableAt) (tables : ℕ) (at : there ≡ table_at catalog put.table)
     (count : tables ≡ length catalog) where
-  faults : put_faults (tables_of catalog) n (put_of put) ≡ faults_at (plain there) tables n (put_of put)
+  pub faults : put_faults (tables_of catalog) n (put_of put) ≡ faults_at (plain there) tables n (put_of put)
   faults = put_faults-tables_of catalog n put
       ∙ ap (λ old. faults_at (plain old) (length catalog) n (put_of put)) (sym at)
       ∙ ap (λ number. faults_at (plain there) number n (put_of put)) (sym count)

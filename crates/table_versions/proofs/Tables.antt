@@ -14,7 +14,7 @@ use Rattle.arrow_schema.specs.declared.schema.Field.{Field}
 use Rattle.scan_base.specs.Value.{is_null}
 use Rattle.scan_base.specs.declared.put_options.IfExists.{IfExists}
 use Rattle.scan_base.specs.declared.put_options.IfExists.TheVariants.{Unspecified, Fail, Append, Replace}
-use Rattle.table_versions.specs.Limits.{most_name_bytes, most_rows}
+use Rattle.scan_base.specs.Limits.{most_name_bytes, most_rows}
 use Rattle.table_versions.specs.Table.{Name, Row, Table, same_name, same_fields, has_bad_null, is_long_text}
 use Rattle.table_versions.specs.Database.{Database, Put, table_at, with_table, table_after, columns_of, differs, put_faults, after, accepted, after_all}
 use Rattle.table_versions.specs.Valid.{IsRow, IsTable, IsName, IsDatabase, HasTypes, IsPut}

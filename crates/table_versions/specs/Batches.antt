@@ -1,4 +1,4 @@
--- How a list of batches is kept: full pages, and the last one, which is not full.
+-- Inside: how a list of batches is kept: full pages, and the last one, which is not full.
 use Rattle.std.specs.Prelude.{ℕ, ◌==◌, ◌<◌, Bool, IsTrue, List, ◌++◌, length}
 use Rattle.std.specs.List.{flat_map, list_all}
 use Rattle.arrays.specs.Batch.{BatchAt}

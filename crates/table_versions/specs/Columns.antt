@@ -1,4 +1,4 @@
--- The tests of rows, column by column.
+-- Inside: the tests of rows, column by column.
 use Rattle.std.specs.Prelude.{Bool, true, false, not, ◌&&◌, List, All}
 use Rattle.std.specs.List.{list_any, zip}
 use Rattle.arrow_schema.specs.declared.schema.Field.{Field}

@@ -12,7 +12,7 @@ use Rattle.scan_base.specs.Lists.{repeats}
 use Rattle.scan_base.specs.declared.put_options.IfExists.{IfExists}
 use Rattle.scan_base.specs.declared.put_options.IfExists.TheVariants.{Append}
 use Rattle.scan_base.specs.declared.put_options.IfNotExist.{IfNotExist}
-use Rattle.table_versions.specs.Limits.{most_name_bytes, most_rows, most_tables, most_commits}
+use Rattle.scan_base.specs.Limits.{most_name_bytes, most_rows, most_tables, most_commits}
 use Rattle.scan_base.specs.PutOptions.{refuses_present, refuses_absent}
 use Rattle.table_versions.specs.Table.{Name, Row, Table, same_name, same_fields, has_bad_null, is_long_text}
 

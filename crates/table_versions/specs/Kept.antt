@@ -1,4 +1,4 @@
--- What holds of every put, and of every stored table.
+-- Inside: what holds of every put, and of every stored table.
 use Rattle.std.specs.Prelude.{◌≡◌, ◌≤◌, ℕ, false, IsTrue, All, List, length}
 use Rattle.std.specs.List.{list_all, list_any}
 use Rattle.arrow_schema.specs.declared.schema.Field.{Field}
@@ -6,7 +6,7 @@ use Rattle.arrow_schema.specs.declared.schema.Schema.{Schema}
 use Rattle.arrow_schema.specs.Schema.{IsSchema}
 use Rattle.arrays.specs.Batch.{BatchAt}
 use Rattle.arrays.specs.Typed.{AreOfTypes}
-use Rattle.table_versions.specs.Limits.{most_rows}
+use Rattle.scan_base.specs.Limits.{most_rows}
 use Rattle.table_versions.specs.Table.{Row, has_bad_null, is_long_text}
 use Rattle.table_versions.specs.Stored.{TableAt, table_of, has_rows}
 

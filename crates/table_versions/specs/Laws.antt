@@ -2,7 +2,7 @@
 use Rattle.std.specs.Prelude.{◌≡◌, ◌≤◌, ℕ, if◌then◌else◌, List, [], ◌∷◌, ◌++◌, length, All, Some, Ok, Err}
 use Rattle.std.specs.Str.{bytes_eq}
 use Rattle.scan_base.specs.declared.fault.Fault.{Fault}
-use Rattle.table_versions.specs.Limits.{most_rows}
+use Rattle.scan_base.specs.Limits.{most_rows}
 use Rattle.table_versions.specs.Table.{Name, Table}
 use Rattle.table_versions.specs.Order.{IsInOrder}
 use Rattle.table_versions.specs.Database.{Database, Put, table_at, with_table, after, database_of, version, IsLog, logged}

@@ -1,5 +1,4 @@
 pub mod Batches
-pub mod Limits
 pub mod Table
 pub mod Columns
 pub mod Database

@@ -1,4 +1,4 @@
--- Where a table goes among the others.
+-- Inside: where a table goes among the others.
 use Rattle.std.specs.Prelude.{◌≡◌, ◌≤◌, ℕ, List, ◌∷◌, ◌++◌, length, take, drop}
 use Rattle.table_versions.specs.Table.{Name}
 use Rattle.table_versions.specs.Database.{with_table}

@@ -10,7 +10,7 @@ use Rattle.arrow_schema.specs.declared.schema.Field.{Field}
 use Rattle.arrow_schema.specs.declared.schema.Schema.{Schema}
 use Rattle.arrow_schema.specs.DataType.{bit_width, is_signed}
 use Rattle.scan_base.specs.Value.{is_null}
-use Rattle.table_versions.specs.Limits.{most_text_bytes}
+use Rattle.scan_base.specs.Limits.{most_text_bytes}
 
 -- the bytes of a table's name
 abbrev pub Name : Type 0

@@ -1,12 +1,12 @@
 -- What a table is, and a put of rows.
-use Rattle.std.specs.Prelude.{◌≡◌, ◌≤◌, ℕ, true, false, List, [], ◌∷◌, length, take, All}
+use Rattle.std.specs.Prelude.{◌≡◌, ◌≤◌, ℕ, true, false, List, [], ◌∷◌, length, All}
 use Rattle.scan_base.specs.declared.value.Value.{Value}
 use Rattle.scan_base.specs.Lists.{repeats}
 use Rattle.arrow_schema.specs.declared.schema.Field.{Field}
 use Rattle.arrow_schema.specs.Schema.{IsSchema}
 use Rattle.arrays.specs.Typed.{IsValueOf}
 use Rattle.scan_base.specs.Value.{is_null}
-use Rattle.table_versions.specs.Limits.{most_name_bytes, most_rows}
+use Rattle.scan_base.specs.Limits.{most_name_bytes, most_rows}
 use Rattle.table_versions.specs.Table.{Name, Row, Table, same_name, is_long_text}
 use Rattle.table_versions.specs.Database.{Database, Put, version}
 use Rattle.table_versions.specs.Order.{IsInOrder}

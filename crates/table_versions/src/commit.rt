@@ -8,8 +8,8 @@ ghost use Rattle.scan_base.specs.Reading.{GivesUnlessMemory, RefusesFirst, first
 ghost use Rattle.arrays.specs.Batch.{BatchAt, rows_of};
 ghost use Rattle.arrays.specs.Typed.{AreOfTypes};
 ghost use Rattle.table_versions.specs.Columns.{Stands};
-ghost use Rattle.table_versions.specs.Limits.{most_name_bytes, most_rows};
-ghost use Rattle.table_versions.specs.Database.{table_after, columns_of, differs, faults_at, after};
+ghost use Rattle.scan_base.specs.Limits.{most_name_bytes, most_rows};
+ghost use Rattle.table_versions.specs.Database.{table_after, columns_of, differs, faults_at, put_faults, after};
 ghost use Rattle.table_versions.specs.Stored.{tables_of, put_of, plain, kept};
 ghost use Rattle.table_versions.specs.Stored.{stored_after, catalog_after};
 ghost use Rattle.table_versions.specs.Kept.{IsStorable, AreSound};
@@ -76,7 +76,7 @@ fn overflows(old: Option<&TableVersion>, put: &Put) -> bool
 }
 
 // Why a put is refused, if it is, where this is the table of its name and there are so many tables.
-fn refusal(old: Option<&TableVersion>, tables: usize, number: u64, put: &Put) -> Option<Fault>
+fn refusal_at(old: Option<&TableVersion>, tables: usize, number: u64, put: &Put) -> Option<Fault>
     ensures first { result
         ≡ first_fault (faults_at (plain (option_copied old.entry)) tables number (put_of put.now)) }
     ensures stand { result ≡ None → All Stands put.now.batches }
@@ -103,6 +103,17 @@ fn refusal(old: Option<&TableVersion>, tables: usize, number: u64, put: &Put) ->
         return Some(Fault::LimitReached);
     }
     None
+}
+
+/// Why a put is refused, if it is, where the snapshot's number counts the puts that were accepted before: the first
+/// fault of [`apply`]. It takes no memory.
+pub fn refusal(snapshot: &Snapshot, put: &Put) -> Option<Fault>
+    ensures { result
+        ≡ first_fault (put_faults (tables_of snapshot.now.catalog) snapshot.now.number (put_of put.now)) }
+{
+    let catalog = snapshot.catalog();
+    let old = catalog.get(&put.table);
+    refusal_at(old, catalog.len(), snapshot.number(), put)
 }
 
 // The old table with the batches behind its own.
@@ -171,7 +182,7 @@ fn next_catalog(alloc: Global, snapshot: &Snapshot, put: Put) -> Result<CatalogV
     values_are_of_their_type();
     let catalog = snapshot.catalog();
     let old = catalog.get(&put.table);
-    if let Some(fault) = refusal(old, catalog.len(), snapshot.number(), &put) {
+    if let Some(fault) = refusal_at(old, catalog.len(), snapshot.number(), &put) {
         return Err(fault);
     }
     let (name, table) = made(alloc, old, put)?;
@@ -210,7 +221,7 @@ pub fn apply(alloc: Global, snapshot: &Snapshot, put: Put) -> Result<CatalogVers
     ensures rows { GivesUnlessMemory tables_of result
         (after (tables_of snapshot.now.catalog) snapshot.now.number (put_of put)) }
     ensures refused { RefusesFirst result
-        (catalog_after snapshot.now.catalog snapshot.now.number put) }
+        (after (tables_of snapshot.now.catalog) snapshot.now.number (put_of put)) }
     ensures typed { IfOk result (λ _. IsPut (put_of put)) }
 {
     next_catalog(alloc, snapshot, put)

@@ -14,12 +14,9 @@ pub mod snapshot;
 pub mod table;
 
 pub use crate::catalog::CatalogVersion;
-pub use crate::commit::apply;
+pub use crate::commit::{apply, refusal};
 pub use crate::limits::{MAX_COMMITS, MAX_NAME_BYTES, MAX_ROWS, MAX_TABLES, MAX_TEXT_BYTES};
 pub use crate::put::Put;
 pub use crate::snapshot::Snapshot;
 pub use crate::table::TableVersion;
 pub use scan_base::{IfExists, IfNotExist};
-
-#[cfg(test)]
-mod tests;

@@ -69,8 +69,8 @@ impl Put {
         }
     }
 
-    /// How many rows are put, or the greatest `usize` where they are more. An accepted put has at
-    /// most 16,777,216 ([`crate::laws::accepted_puts_are_few`]).
+    /// How many rows are put: the lesser of that number and 2^64 - 1. An accepted put has at most 16,777,216
+    /// ([`crate::laws::accepted_puts_are_few`]).
     pub fn rows(&self) -> usize
         ensures { result ≡ min (length (put_of self.now).rows) (2 ^ 64 - 1) }
     {

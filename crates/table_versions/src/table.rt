@@ -7,7 +7,7 @@ ghost use Rattle.std.specs.Arc.{arc_value};
 ghost use Rattle.arrow_schema.specs.Schema.{IsSchema};
 ghost use Rattle.arrays.specs.Batch.{BatchAt, rows_of};
 ghost use Rattle.arrays.specs.Typed.{AreOfTypes};
-ghost use Rattle.table_versions.specs.Limits.{most_rows};
+ghost use Rattle.scan_base.specs.Limits.{most_columns, most_rows};
 ghost use Rattle.table_versions.specs.Stored.{table_of, has_rows, kept};
 ghost use Rattle.table_versions.specs.Kept.{AreSound};
 
@@ -74,7 +74,7 @@ impl TableVersion {
         ensures filled { 0 < result.now.rows }
         ensures typed { AreOfTypes self.now.schema.fields result.now.columns }
         ensures wide { length result.now.columns ≡ length self.now.schema.fields }
-        ensures few { length result.now.columns ≤ 64 }
+        ensures few { length result.now.columns ≤ most_columns }
         ensures sound { AreSound self.now.schema.fields (rows_of result.now) }
     {
         self.batches.batch(index)

@@ -1,7 +1,7 @@
 use Rattle.std.proofs.Common.{◌<◌, ◌+◌, arith, length}
 use Rattle.std.specs.List.{flat_map}
 use Rattle.arrays.specs.Batch.{rows_of}
-use Rattle.table_versions.specs.Limits.{most_rows}
+use Rattle.scan_base.specs.Limits.{most_rows}
 use Rattle.table_versions.proofs.Rowing.{rows-from}
 use Rattle.table_versions.proofs.commit.has_too_many_rows.Goals as goal
 

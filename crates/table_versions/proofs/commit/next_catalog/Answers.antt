@@ -66,5 +66,5 @@ returns-in_err-with-clause-refused c =
 pub returns-clause-typed : goal.returns-clause-typed
 returns-clause-typed c =
     let storable : IsStorable c.args.put.schema c.args.put.batches = rw (← c.put.view_is) c.put.invariant in
-    let passes : c.refusal.result ≡ None = search rules in
-    put_typed c.values_are_of_their_type.ensures c.args.put storable (c.refusal.ensures.stand passes)
+    let passes : c.refusal_at.result ≡ None = search rules in
+    put_typed c.values_are_of_their_type.ensures c.args.put storable (c.refusal_at.ensures.stand passes)

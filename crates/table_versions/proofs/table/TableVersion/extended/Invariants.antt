@@ -2,7 +2,7 @@ use Rattle.std.proofs.Common.{◌≡◌, ◌≤◌, ◌++◌, length, All}
 use Rattle.std.specs.List.{flat_map}
 use Rattle.std.specs.Vec.Iter.{into_iter_items}
 use Rattle.arrays.specs.Batch.{rows_of}
-use Rattle.table_versions.specs.Limits.{most_rows}
+use Rattle.scan_base.specs.Limits.{most_rows}
 use Rattle.table_versions.specs.Stored.{kept}
 use Rattle.table_versions.specs.Kept.{AreSound}
 use Rattle.table_versions.proofs.Storable.{AreTyped}
