@@ -9,7 +9,7 @@ use Rattle.arrow_schema.specs.declared.data_type.DataType.TheVariants.{Integer, 
 use Rattle.arrow_schema.specs.declared.schema.Field.{Field}
 use Rattle.arrow_schema.specs.declared.schema.Schema.{Schema}
 use Rattle.arrow_schema.specs.DataType.{bit_width, is_signed}
-use Rattle.scan_base.specs.Value.{is_null}
+use Rattle.scan_base.specs.Value.{is_null, same_flag}
 use Rattle.scan_base.specs.Limits.{most_text_bytes}
 
 -- the bytes of a table's name
@@ -24,11 +24,6 @@ Row = List Value
 pub record Table : Type 0 where
   pub schema : Schema
   pub rows : List Row
-
--- whether two flags are the same
-abbrev pub same_flag : Bool → Bool → Bool
-same_flag true b = b
-same_flag false b = not b
 
 -- Whether two columns have values of one type. A dictionary's id and index type are not compared, and a
 -- dictionary of texts is another type than Utf8.
