@@ -1,6 +1,6 @@
 //! Bits at every bit offset of a byte, beside a plain loop over the bytes.
 
-ghost use Rattle.std.specs.Prelude.{◌≡◌, ◌≤◌, ◌<◌, ◌+◌, ◌*◌, length, IfOk};
+ghost use Rattle.std.specs.Prelude.{◌≡◌, ◌≤◌, ◌<◌, length, IfOk};
 
 use bitmap::Bits;
 use bytes::Bytes;
@@ -22,13 +22,21 @@ static OTHERS: [u8; 18] = [
     0x73, 0xff,
 ];
 
-// The bits of some bytes from a place in the first of them on.
-fn bits(alloc: Global, bytes: &[u8], first: usize, len: usize) -> Result<Bits, AllocError>
-    requires within { first + len ≤ 8 * length bytes.now }
-    requires small { first + len < 200 }
+// Validity `FB FD`, and a word between bits that are none of it.
+static VALIDITY: [u8; 18] = [0xfb, 0xfd, 0, 0, 0, 0, 0, 0, 0, 0, 0, 0, 0, 0, 0, 0, 0, 0];
+
+static WORD: [u8; 18] = [
+    0x80, 0, 0, 0, 0, 0, 0, 0x01, 0xff, 0, 0, 0, 0, 0, 0, 0, 0, 0,
+];
+
+// Bits from a place in the first byte on.
+fn bits(alloc: Global, bytes: &[u8; 18], first: usize, len: usize) -> Result<Bits, AllocError>
+    requires first { first < 8 }
+    requires long { len ≤ 130 }
     ensures { IfOk result (λ bits. length bits ≡ len) }
 {
-    Ok(Bits::new(Bytes::copy_from_slice(alloc, bytes)?, first, len))
+    let bytes = Bytes::copy_from_slice(alloc, bytes)?;
+    Ok(Bits::new(bytes, first, len))
 }
 
 // Bit `place` of the bytes, one halving at a time.
@@ -42,29 +50,27 @@ fn plain(bytes: &[u8; 18], place: usize) -> bool
     byte % 2 == 1
 }
 
-// Validity `FB 01` and `FB FD` of ten slots: nulls at 2 and 9.
+// Ten slots with nulls at 2 and 9, and the last eight of them.
 #[test]
 fn validity_of_ten_slots(rt: HostRuntime) -> Result<(), Fail> {
-    for second in [0x01, 0xfd] {
-        let validity = bits(rt.alloc(), &[0xfb, second], 0, 10)?;
-        assert!(rt; validity.count() == 8);
-        assert!(rt; !validity.get(2) && validity.get(8) && !validity.get(9));
-        let slice = validity.slice(2, 10)?;
-        assert!(rt; slice.count() == 6 && slice.short_word(0, 8) == 0x7e);
-        assert!(rt; !slice.get(0) && slice.get(1) && !slice.get(7));
-    }
+    let validity = bits(rt.alloc(), &VALIDITY, 0, 10)?;
+    assert!(rt; validity.count() == 8);
+    assert!(rt; validity.short_word(0, 10) == 0x1fb);
+    let slice = validity.slice(2, 10)?;
+    assert!(rt; slice.count() == 6);
+    assert!(rt; slice.short_word(0, 8) == 0x7e);
     Ok(())
 }
 
-// Words at every offset of a slice.
+// Words at two offsets of a slice, and fewer bits than a word.
 #[test]
 fn words(rt: HostRuntime) -> Result<(), Fail> {
-    let bits = bits(rt.alloc(), &[0x80, 0, 0, 0, 0, 0, 0, 0x01, 0xff], 7, 65)?;
-    assert!(rt; bits.word(0) == 0xfe02_0000_0000_0001 && bits.word(1) == 0xff01_0000_0000_0000);
-    assert!(rt; bits.share()?.word(0) == 0xfe02_0000_0000_0001);
-    let rest = bits.slice(48, 65)?;
-    assert!(rt; rest.short_word(0, 0) == 0 && rest.short_word(0, 4) == 2);
-    assert!(rt; rest.short_word(1, 16) == 0xff01);
+    let bits = bits(rt.alloc(), &WORD, 7, 65)?;
+    assert!(rt; bits.word(0) == 0xfe02_0000_0000_0001);
+    assert!(rt; bits.word(1) == 0xff01_0000_0000_0000);
+    let shared = bits.share()?;
+    assert!(rt; shared.word(0) == 0xfe02_0000_0000_0001);
+    assert!(rt; shared.short_word(49, 16) == 0xff01);
     Ok(())
 }
 
