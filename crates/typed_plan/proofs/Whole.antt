@@ -1,5 +1,5 @@
 -- Worked queries over whole tables.
-use Rattle.std.specs.Prelude.{List, [], length}
+use Rattle.std.specs.Prelude.{List, length}
 use Rattle.sql_query.specs.Sentence.{Sentence}
 use Rattle.table_versions.specs.Table.{Row}
 use Rattle.table_versions.specs.Database.{Database}

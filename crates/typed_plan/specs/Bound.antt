@@ -7,7 +7,6 @@ use Rattle.scan_base.specs.Limits.{most_columns}
 use Rattle.scan_base.specs.declared.fault.Fault.{Fault}
 use Rattle.scan_base.specs.declared.fault.Fault.TheVariants.{TableMissing, LimitReached, UnknownName, TypeClash}
 use Rattle.scan_base.specs.declared.fault.Fault.TheVariants.{NotInSubset}
-use Rattle.scan_base.specs.declared.predicate.Operand.TheVariants.{Column}
 use Rattle.scan_base.specs.Reading.{◌>>=◌, demand}
 use Rattle.sql_query.specs.declared.query.Place.{Place}
 use Rattle.sql_query.specs.declared.query.Equality.{Equality}

@@ -5,6 +5,7 @@ use Rattle.sql_query.specs.declared.query.Select.{Select}
 use Rattle.sql_query.specs.declared.query.Select.TheVariants.{All as AllColumns, List as Items}
 use Rattle.table_versions.specs.Table.{Name}
 
+-- a name, where there is one
 abbrev pub IsNameIfThere : Option Name → Type 0
 IsNameIfThere None = Unit {0}
 IsNameIfThere (Some name) = IsName name
