@@ -50,7 +50,7 @@ impl Runs {
 }
 
 /// The rows that payloads say: of equal ones behind each other how many they are, and one of them.
-pub fn runs(alloc: Global, payloads: &[Bytes]) -> Result<String, Fault> {
+pub fn rows_in_runs(alloc: Global, payloads: &[Bytes]) -> Result<String, Fault> {
     let mut reader = Reader::new();
     let mut runs = Runs {
         told: String::new(alloc),

@@ -2,7 +2,7 @@
 
 use crate::answers::{bits, bytes, cut, told};
 use crate::pieces::{Named, bytes_of};
-use crate::runs::runs;
+use crate::runs::rows_in_runs;
 use bytes::Bytes;
 use flight_core::{Event, Plain, Reply, step};
 use scan_base::Fault;
@@ -89,7 +89,7 @@ fn answer_of(alloc: Global, word: &str, reply: &Reply) -> Result<String, Fault> 
             "put" => bytes(alloc, &reply.payloads),
             "cut" => cut(alloc, &reply.payloads),
             "bits" => bits(alloc, &reply.payloads),
-            "runs" => runs(alloc, &reply.payloads),
+            "runs" => rows_in_runs(alloc, &reply.payloads),
             _ => told(alloc, &reply.payloads),
         },
     }
