@@ -52,13 +52,25 @@ fn two(alloc: Global, table: u8) -> Result<Put, Fault> {
 fn zeros(alloc: Global, rows: usize) -> Result<Bytes, AllocError> {
     let body = rows.saturating_mul(8).to_le_bytes();
     let count = rows.to_le_bytes();
-    let mut bytes = changed(alloc, &SECOND[..131], &[])?;
-    for place in 0..4 {
-        for (at, byte) in [(27, body[place]), (59, count[place]), (75, count[place])] {
-            bytes[at + place] = byte;
-        }
-        bytes[123 + place] = body[place];
-    }
+    let changes = [
+        (27, body[0]),
+        (28, body[1]),
+        (29, body[2]),
+        (30, body[3]),
+        (59, count[0]),
+        (60, count[1]),
+        (61, count[2]),
+        (62, count[3]),
+        (75, count[0]),
+        (76, count[1]),
+        (77, count[2]),
+        (78, count[3]),
+        (123, body[0]),
+        (124, body[1]),
+        (125, body[2]),
+        (126, body[3]),
+    ];
+    let mut bytes = changed(alloc, &SECOND[..131], &changes)?;
     bytes.extend_from_slice(&[0xc2, 0x3e])?;
     let mut left = rows.saturating_mul(8);
     for _ in 0..3 {
