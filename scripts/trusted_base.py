@@ -25,7 +25,7 @@ MACHINE = {"scan_base", "table_versions", "typed_plan", "sql_query", "endpoint_s
 LONGEST_FILE = 150
 
 ITEM = re.compile(r"^(?:unfoldable |opaque )?(?:pub )?(abbrev|record|data|def)?\s*(?:pub )?(\S+)")
-HEADS = ("abbrev", "unfoldable", "opaque", "pub record", "pub data", "record", "data", "pub abbrev", "pub unfoldable")
+HEADS = ("abbrev ", "unfoldable ", "opaque ", "pub record ", "pub data ", "record ", "data ", "pub abbrev ", "pub unfoldable ")
 WORD = re.compile(r"[^\s(){}\[\],;.@\\]+")
 IMPORT = re.compile(r"^\s*(?:unfoldable )?(?:pub |ghost )?use ([\w.]+?)(?:\.\{([^}]*)\}| as (\w+)|)\s*;?\s*$", re.S | re.M)
 
@@ -171,7 +171,7 @@ def closure(start, files):
             owners = [found for found in file["found"] if name in operator_parts(found)]
             if not owners:
                 owners = [found for found, item in file["found"].items()
-                          if item.lines[0].startswith(("pub data", "data", "pub record", "record"))
+                          if item.lines[0].startswith(("pub data ", "data ", "pub record ", "record "))
                           and re.search(rf"(?<![\w]){re.escape(name)}\s*:", "\n".join(item.lines))]
             if not owners and name in file["names"]:
                 todo.append(file["names"][name])
