@@ -23,9 +23,7 @@ if_exists_of number = wanted (slice_get (Unspecified ∷ Fail ∷ Append ∷ Rep
 -- what is left out is at its default
 abbrev pub is_in_subset : StatementSaid → Bool
 is_in_subset statement =
-    length statement.schema == 0
-    && length statement.catalog == 0
-    && not statement.temporary
+    length statement.schema == 0 && length statement.catalog == 0 && not statement.temporary
     && length statement.transaction_id == 0
 
 -- what is asked of a put: the table's name, and what to do where it is absent and where it is there

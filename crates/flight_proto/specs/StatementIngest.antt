@@ -59,14 +59,8 @@ pub record StatementSaid : Type 0 where
 
 -- the command of no fields
 abbrev pub statement_empty : StatementSaid
-statement_empty = record {
-  table_definition_options = None;
-  table = [];
-  schema = [];
-  catalog = [];
-  temporary = false;
-  transaction_id = [];
-}
+statement_empty =
+    record { table_definition_options = None; table = []; schema = []; catalog = []; temporary = false; transaction_id = [] }
 
 -- with one field more: TableDefinitionOptions table_definition_options = 1, string table = 2,
 -- optional string schema = 3, optional string catalog = 4, bool temporary = 5,

@@ -30,10 +30,7 @@ pub record News : Type 0 where
 
 -- the schema of a message
 unfoldable pub schema_sent : MessageAt → List ℕ → Result Schema Fault
-schema_sent message body = do
-  schema ← schema_in message
-  _ ← body_claimed message body
-  Ok schema
+schema_sent message body = schema_in message >>= λ schema. body_claimed message body >>= λ _. Ok schema
 
 -- the parts of a record batch: a node for each field, and the buffers of its type
 unfoldable pub batch_parts : Known → MessageAt → List ℕ → Result PartsAt Fault

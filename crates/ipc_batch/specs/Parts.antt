@@ -52,15 +52,11 @@ placed_in body place = demand (nat_le (place.offset + place.length) (length body
 
 -- the bytes of a buffer
 unfoldable pub buffer_at : List ℕ → BufferPlace → Result (List ℕ) Fault
-buffer_at body place = do
-  _ ← placed_in body place
-  Ok (take place.length (drop place.offset body))
+buffer_at body place = placed_in body place >>= λ _. Ok (take place.length (drop place.offset body))
 
 -- A message claims no longer body than it has. It may claim a shorter one, and that binds nothing else.
 unfoldable pub body_claimed : MessageAt → List ℕ → Result (Unit {0}) Fault
-body_claimed message body = do
-  claimed ← body_length_of message
-  demand (nat_le claimed (length body)) BadBatch
+body_claimed message body = body_length_of message >>= λ claimed. demand (nat_le claimed (length body)) BadBatch
 
 -- what a RecordBatch table of a message with this body says
 unfoldable pub parts_of : MessageAt → TableAt → List ℕ → Result PartsAt Fault
