@@ -1,4 +1,4 @@
--- Where a chunk lies in a message.
+-- Inside: where a chunk lies in a message.
 use Rattle.std.specs.Prelude.{◌≡◌, ◌++◌, ℕ, List, length}
 use Rattle.proto_wire.specs.Standard.{Content, Chunk}
 

@@ -1,4 +1,4 @@
--- Columns that are chosen by their numbers.
+-- Inside: columns that are chosen by their numbers.
 use Rattle.std.specs.Prelude.{ℕ, Bool, List, [], ◌∷◌, ◌++◌, map, nat_lt, Option, Some, None, slice_get, slice_index}
 use Rattle.std.specs.Prelude.{unwrap_or}
 use Rattle.std.specs.List.{list_all}

@@ -1,4 +1,4 @@
--- Where a cursor stands among the rows of a table, and how it goes on.
+-- Inside: where a cursor stands among the rows of a table, and how it goes on.
 use Rattle.std.specs.Prelude.{◌≡◌, ◌≤◌, ◌<◌, Bool, List, [], ◌++◌, length, Option, Some, None}
 use Rattle.std.specs.List.{filter}
 use Rattle.arrays.specs.Batch.{rows_of, cut_batch}

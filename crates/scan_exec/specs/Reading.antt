@@ -1,4 +1,4 @@
--- What holds while a plan reads a table.
+-- Inside: what holds while a plan reads a table.
 use Rattle.std.specs.Prelude.{◌≡◌, ◌<◌, ℕ, IsTrue, All, List, length, map}
 use Rattle.std.specs.List.{range_with_len}
 use Rattle.arrays.specs.Column.{ColumnAt}

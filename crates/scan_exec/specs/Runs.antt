@@ -1,4 +1,4 @@
--- Rows next to each other that a plan gives.
+-- Inside: rows next to each other that a plan gives.
 use Rattle.std.specs.Prelude.{◌≡◌, ◌≤◌, ℕ, Bool, []}
 use Rattle.std.specs.List.{filter}
 use Rattle.arrays.specs.Batch.{BatchAt, rows_of, cut_batch}

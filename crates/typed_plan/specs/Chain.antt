@@ -1,4 +1,4 @@
--- Chains of ANDs and ORs, from the left.
+-- Inside: chains of ANDs and ORs, from the left.
 use Rattle.std.specs.Prelude.{List, [], ◌∷◌}
 use Rattle.scan_base.specs.Predicate.{Pred, conjunction, disjunction}
 use Rattle.scan_base.specs.View.{pred_of}

@@ -7,8 +7,8 @@ use Rattle.std.specs.Ordering.{int_eq}
 use Rattle.scan_base.specs.declared.value.Value.{Value}
 use Rattle.scan_base.specs.declared.value.Value.TheVariants.{Null, Bool as Flag, Int, Text}
 use Rattle.sql_query.specs.declared.query.ColumnName.{ColumnName}
-use Rattle.scan_base.specs.Value.{is_null}
-use Rattle.table_versions.specs.Table.{Row, same_flag}
+use Rattle.scan_base.specs.Value.{is_null, same_flag}
+use Rattle.table_versions.specs.Table.{Row}
 use Rattle.typed_plan.specs.Scope.{Scope, cell_of}
 
 -- whether two values are the same in a key, where two nulls are

@@ -1,4 +1,4 @@
--- Until joins and groups are built: queries of one place, whose items are columns.
+-- Inside, until joins and groups are built: queries of one place, whose items are columns.
 use Rattle.std.specs.Prelude.{ℕ, List, [], ◌∷◌, length, map, Option, Some, None}
 use Rattle.arrow_schema.specs.declared.schema.Schema.{Schema}
 use Rattle.scan_base.specs.declared.fault.Fault.{Fault}
