@@ -2,12 +2,12 @@
 use Rattle.std.proofs.Common.{◌≡◌, List, ℕ, Some, None, Result, Ok, Err, refl, ap}
 use Rattle.scan_base.specs.declared.fault.Fault.{Fault}
 use Rattle.scan_base.specs.declared.fault.Fault.TheVariants.{BadBatch}
-use Rattle.scan_base.specs.Reading.{◌>>=◌, demand}
+use Rattle.scan_base.specs.Reading.{◌>>=◌}
 use Rattle.arrow_schema.specs.declared.header.HeaderKind.{HeaderKind}
 use Rattle.arrow_schema.specs.declared.header.HeaderKind.TheVariants as header
-use Rattle.arrow_schema.specs.Header.{MessageAt, message_of, is_schema}
+use Rattle.arrow_schema.specs.Header.{MessageAt, message_of, schema_in}
 use Rattle.ipc_batch.specs.State.{Known, State}
-use Rattle.ipc_batch.specs.Said.{first_schema, batch_parts, batch_sent, dictionary_sent, known_after, next_news, next_glance, news_in, glance_in, news_of, glance_of}
+use Rattle.ipc_batch.specs.Said.{first_schema, first_glance, schema_sent, batch_parts, batch_sent, dictionary_sent, known_after, next_news, next_glance, news_in, glance_in, news_of, glance_of}
 use Rattle.ipc_batch.specs.Laws.{GlancesComeFirst}
 
 -- a refusal, whatever would have been read
@@ -30,8 +30,9 @@ next_stops header.RecordBatch known message body fault e = rw (unread (batch_par
 next_stops header.DictionaryBatch known message body fault e = rw (unread (dictionary_sent known message body) fault e) refl
 next_stops header.Schema known message body fault e = same_fault BadBatch fault e
 
-first_stops : (kind : HeaderKind) (message : MessageAt) (body : List ℕ) (fault : Fault) → demand (is_schema kind) BadBatch ≡ Err fault → first_schema kind message body ≡ Err fault
-first_stops header.Schema message body fault e = cc
+first_stops : (kind : HeaderKind) (message : MessageAt) (body : List ℕ) (fault : Fault) → first_glance kind message ≡ Err fault → first_schema kind message body ≡ Err fault
+unfolding schema_sent
+first_stops header.Schema message body fault e = rw (unread (schema_in message) fault e) refl
 first_stops header.DictionaryBatch message body fault e = same_fault BadBatch fault e
 first_stops header.RecordBatch message body fault e = same_fault BadBatch fault e
 

@@ -11,7 +11,7 @@ use Rattle.arrow_schema.specs.declared.data_type.DataType.{DataType}
 use Rattle.arrow_schema.specs.declared.data_type.DataType.TheVariants.{Dictionary}
 use Rattle.arrow_schema.specs.declared.schema.Field.{Field}
 use Rattle.arrow_schema.specs.declared.schema.Schema.{Schema}
-use Rattle.arrow_schema.specs.Header.{MessageAt, message_of, header_of, is_schema, schema_in}
+use Rattle.arrow_schema.specs.Header.{MessageAt, message_of, header_of, schema_in}
 use Rattle.arrays.specs.Dictionary.{extended_by}
 use Rattle.arrays.specs.Batch.{BatchAt}
 use Rattle.ipc_batch.specs.Parts.{PartsAt, DictionaryParts, body_claimed, parts_of, dictionary_parts}
@@ -110,9 +110,14 @@ next_glance header.RecordBatch known message body = batch_parts known message bo
 next_glance header.DictionaryBatch known message body = dictionary_sent known message body >>= λ _. Ok tt
 next_glance header.Schema known message body = Err BadBatch
 
--- of a first message only its kind
+-- of a first message its kind, and all that its schema says
+abbrev pub first_glance : HeaderKind → MessageAt → Result (Unit {0}) Fault
+first_glance header.Schema message = schema_in message >>= λ _. Ok tt
+first_glance _ message = Err BadBatch
+
+-- the same of the message that comes next
 abbrev pub glance_in : State → MessageAt → List ℕ → Result (Unit {0}) Fault
-glance_in None message body = demand (is_schema message.kind) BadBatch
+glance_in None message body = first_glance message.kind message
 glance_in (Some known) message body = next_glance message.kind known message body
 
 -- what is refused of a message before anything grows

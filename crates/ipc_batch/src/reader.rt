@@ -5,10 +5,9 @@ ghost use Rattle.std.specs.Prelude.{IfOk, IfErr, IfSome, OnOk, OnErr};
 ghost use Rattle.std.specs.List.{list_any};
 ghost use Rattle.scan_base.specs.declared.fault.Fault.TheVariants.{OutOfMemory, BadBatch};
 ghost use Rattle.scan_base.specs.Reading.{Gives, GivesUnlessMemory, RefusesFirst, demand};
-ghost use Rattle.arrow_schema.specs.Header.{is_schema};
 ghost use Rattle.arrow_schema.specs.Schema.{IsSchema};
 ghost use Rattle.arrow_schema.specs.Seen.{message_seen};
-ghost use Rattle.ipc_batch.specs.Said.{first_schema, batch_parts, batch_sent, has_id, leads_to, dictionary_sent};
+ghost use Rattle.ipc_batch.specs.Said.{first_schema, first_glance, batch_parts, batch_sent, has_id, leads_to, dictionary_sent};
 ghost use Rattle.ipc_batch.specs.Said.{known_after, next_news, next_glance, glance_of};
 ghost use Rattle.ipc_batch.specs.Said.{Answers, Tells, HasColumns};
 ghost use Rattle.ipc_batch.specs.inside.Seen.{parts_seen, dictionary_seen};
@@ -147,7 +146,8 @@ fn begin(alloc: Global, message: &Message<'_>, body: &Bytes) -> Result<Stream, F
     ensures schema { GivesUnlessMemory (λ stream. stream.schema) result
         (first_schema (message_seen message.now).kind (message_seen message.now) body.now) }
     ensures dictionaries { IfOk result (λ stream. stream.dictionaries ≡ []) }
-    ensures first { RefusesFirst result (demand (is_schema (message_seen message.now).kind) BadBatch) }
+    ensures first { RefusesFirst result
+        (first_glance (message_seen message.now).kind (message_seen message.now)) }
 {
     if message.kind != HeaderKind::Schema {
         return Err(Fault::BadBatch);

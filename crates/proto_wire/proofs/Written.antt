@@ -11,6 +11,7 @@ use Rattle.proto_wire.specs.Reading.{varint_at}
 use Rattle.proto_wire.specs.Writing.{groups_of, varint, body, spelling, chunk_head, Fits, IsWritable}
 use Rattle.proto_wire.specs.Laws.{ChunksFollowHeads}
 use Rattle.proto_wire.specs.declared.field.Field.{Field}
+use Rattle.std.proofs.lemmas.List.Elements.{All-push}
 use Rattle.proto_wire.specs.Calls.{HaveFieldNumbers, entry_of, message_of, chunk_entry}
 use Rattle.proto_wire.proofs.Groups.{Says, varint_again}
 
@@ -135,10 +136,10 @@ has_number (first ∷ fields) zero field lt h = h.0
 has_number (first ∷ fields) (suc index) field lt h = has_number fields index field (omega arith) h.1
 
 -- one field more of a list is written
-pub written_more : (start old new : List ℕ) (fields : List Field) (index : ℕ) (field : Field) → index < length fields → old ≡ start ++ message_of (take index fields) → new ≡ old ++ spelling (entry_of (slice_index_or fields index field)) → new ≡ start ++ message_of (take (index + 1) fields)
-written_more start old new fields index field lt before e =
+pub written_more : (start old new : List ℕ) (fields : List Field) (index : ℕ) (field : Field) → index < length fields → (old ≡ start ++ message_of (take index fields)) × All IsWritable (map entry_of (take index fields)) → new ≡ old ++ spelling (entry_of (slice_index_or fields index field)) → IsWritable (entry_of (slice_index_or fields index field)) → (new ≡ start ++ message_of (take (index + 1) fields)) × All IsWritable (map entry_of (take (index + 1) fields))
+written_more start old new fields index field lt before e h =
     let one : map entry_of (take (index + 1) fields) ≡ map entry_of (take index fields) ++ entry_of (slice_index_or fields index field) ∷ [] = map_more entry_of fields index field lt in
-    rw (one, flat_map-append spelling (map entry_of (take index fields)) (entry_of (slice_index_or fields index field) ∷ []), append-nil (spelling (entry_of (slice_index_or fields index field))), ← append_assoc start (message_of (take index fields)) (spelling (entry_of (slice_index_or fields index field))), ← before) e
+    (rw (one, flat_map-append spelling (map entry_of (take index fields)) (entry_of (slice_index_or fields index field) ∷ []), append-nil (spelling (entry_of (slice_index_or fields index field))), ← append_assoc start (message_of (take index fields)) (spelling (entry_of (slice_index_or fields index field))), ← before.0) e, rw one (All-push IsWritable (map entry_of (take index fields)) (entry_of (slice_index_or fields index field)) before.1 h))
 
 -- the fields of a message, its tag and its length, turned
 pub message_written : (number : ℕ) (old chunk filled tagged whole turned : List ℕ) (start len n : ℕ) → filled ≡ old ++ chunk → tagged ≡ filled ++ varint (8 * number + 2) → whole ≡ tagged ++ varint len → start ≡ length old → len ≡ length chunk → n ≡ length whole → turned ≡ take start whole ++ (drop (start + len) whole ++ take len (drop start whole)) → take n (turned ++ drop (length turned) whole) ≡ old ++ spelling (chunk_entry number chunk)

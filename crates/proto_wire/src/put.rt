@@ -1,9 +1,9 @@
 //! Writing fields at the end of a message.
 
-ghost use Rattle.std.specs.Prelude.{◌≡◌, ◌+◌, ◌*◌, ◌<◌, ◌≤◌, ◌++◌, take, drop, length};
+ghost use Rattle.std.specs.Prelude.{◌≡◌, ◌+◌, ◌*◌, ◌<◌, ◌≤◌, ◌++◌, take, drop, length, map, All};
 ghost use Rattle.std.specs.Prelude.{OnOk, OnErr};
 ghost use Rattle.proto_wire.specs.Standard.{IsFieldNumber};
-ghost use Rattle.proto_wire.specs.Writing.{spelling, varint, chunk_head};
+ghost use Rattle.proto_wire.specs.Writing.{spelling, varint, chunk_head, IsWritable};
 ghost use Rattle.proto_wire.specs.Calls.{entry_of, varint_entry, chunk_entry, message_of};
 ghost use Rattle.proto_wire.specs.Calls.{message_entry, HaveFieldNumbers};
 
@@ -37,6 +37,7 @@ fn append_field(out: &mut Vec<u8>, field: &Field<'_>) -> Result<(), AllocError>
     requires { IsFieldNumber field.now.number }
     ensures ok { OnOk result (out.new.items ≡ out.old.items ++ spelling (entry_of field.now)) }
     ensures err { take (length out.old.items) out.new.items ≡ out.old.items }
+    ensures entry { OnOk result (IsWritable (entry_of field.now)) }
 {
     match field.payload {
         Payload::Varint(value) => {
@@ -66,6 +67,7 @@ fn append_field(out: &mut Vec<u8>, field: &Field<'_>) -> Result<(), AllocError>
 pub fn put_field(out: &mut Vec<u8>, field: &Field<'_>) -> Result<(), AllocError>
     requires { IsFieldNumber field.now.number }
     ensures ok { OnOk result (out.new.items ≡ out.old.items ++ spelling (entry_of field.now)) }
+    ensures entry { OnOk result (IsWritable (entry_of field.now)) }
     ensures err { OnErr result (out.new.items ≡ out.old.items) }
 {
     let start = out.len();
@@ -86,6 +88,7 @@ pub fn put_varint(out: &mut Vec<u8>, number: u32, value: u64) -> Result<(), Allo
     requires { IsFieldNumber number }
     ensures ok { OnOk result (out.new.items
         ≡ out.old.items ++ spelling (varint_entry number value)) }
+    ensures entry { OnOk result (IsWritable (varint_entry number value)) }
     ensures err { OnErr result (out.new.items ≡ out.old.items) }
 {
     put_field(out, &Field::varint(number, value))
@@ -100,6 +103,7 @@ pub fn put_bytes(out: &mut Vec<u8>, number: u32, content: &[u8]) -> Result<(), A
     requires { IsFieldNumber number }
     ensures ok { OnOk result (out.new.items
         ≡ out.old.items ++ spelling (chunk_entry number content.now)) }
+    ensures entry { OnOk result (IsWritable (chunk_entry number content.now)) }
     ensures err { OnErr result (out.new.items ≡ out.old.items) }
 {
     put_field(out, &Field::bytes(number, content))
@@ -110,6 +114,7 @@ fn append_fields(out: &mut Vec<u8>, fields: &[Field<'_>]) -> Result<(), AllocErr
     requires { HaveFieldNumbers fields.now }
     ensures ok { OnOk result (out.new.items ≡ out.old.items ++ message_of fields.now) }
     ensures err { take (length out.old.items) out.new.items ≡ out.old.items }
+    ensures entries { OnOk result (All IsWritable (map entry_of fields.now)) }
 {
     for field in fields {
         append_field(out, field)?;
@@ -134,6 +139,8 @@ fn append_message(out: &mut Vec<u8>, number: u32, fields: &[Field<'_>]) -> Resul
     ensures ok { OnOk result (out.new.items
         ≡ out.old.items ++ spelling (message_entry number fields.now)) }
     ensures err { take (length out.old.items) out.new.items ≡ out.old.items }
+    ensures entry { OnOk result (IsWritable (message_entry number fields.now)) }
+    ensures entries { OnOk result (All IsWritable (map entry_of fields.now)) }
 {
     let start = out.len();
     append_fields(out, fields)?;
@@ -154,6 +161,8 @@ pub fn put_message(out: &mut Vec<u8>, number: u32, fields: &[Field<'_>]) -> Resu
     requires fields { HaveFieldNumbers fields.now }
     ensures ok { OnOk result (out.new.items
         ≡ out.old.items ++ spelling (message_entry number fields.now)) }
+    ensures entry { OnOk result (IsWritable (message_entry number fields.now)) }
+    ensures entries { OnOk result (All IsWritable (map entry_of fields.now)) }
     ensures err { OnErr result (out.new.items ≡ out.old.items) }
 {
     let start = out.len();
