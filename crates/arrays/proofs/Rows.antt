@@ -89,10 +89,10 @@ extended = refl
 
 -- indices 2, 0, 4 and 2 into it, and a null one: 'ab', 'x', '', 'ab', NULL
 repeated : map (layout_slot (layout.Indices (record three_indices {
-      validity = Some (true ∷ true ∷ true ∷ true ∷ false ∷ []);
-      values = 2 ∷ 0 ∷ 4 ∷ 2 ∷ 255 ∷ [];
-      dictionary = Text (codes "x") ∷ Null ∷ Text (codes "ab") ∷ Null ∷ Text [] ∷ [];
-      len = 5;
-    }))) (range_with_len 0 5) ≡ Text (codes "ab") ∷ Text (codes "x") ∷ Text [] ∷ Text (codes "ab") ∷ Null ∷ []
+  validity = Some (true ∷ true ∷ true ∷ true ∷ false ∷ []);
+  values = 2 ∷ 0 ∷ 4 ∷ 2 ∷ 255 ∷ [];
+  dictionary = Text (codes "x") ∷ Null ∷ Text (codes "ab") ∷ Null ∷ Text [] ∷ [];
+  len = 5;
+}))) (range_with_len 0 5) ≡ Text (codes "ab") ∷ Text (codes "x") ∷ Text [] ∷ Text (codes "ab") ∷ Null ∷ []
 unfolding element_at
 repeated = refl

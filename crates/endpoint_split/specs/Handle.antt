@@ -25,9 +25,7 @@ query_behind bytes = do
 
 -- the handle of a list of tables, behind its kind
 unfoldable pub tables_behind : List ℕ → Result HandleAt Fault
-tables_behind bytes = do
-  _ ← demand (length bytes == 8) BadTicket
-  Ok (Tables (big_number 8 bytes))
+tables_behind bytes = demand (length bytes == 8) BadTicket >>= λ _. Ok (Tables (big_number 8 bytes))
 
 -- the handle that bytes are, by the kind that stands first
 abbrev pub handle_of : List ℕ → Result HandleAt Fault

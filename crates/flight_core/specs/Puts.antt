@@ -34,8 +34,11 @@ told_by state (payload ∷ payloads) = do
 -- the put of a command and of what the payloads tell
 abbrev pub put_made : IngestSaid → Schema → Rows → Put
 put_made ingest schema rows = record {
-  table = ingest.table; if_not_exist = ingest.if_not_exist; if_exists = ingest.if_exists;
-  schema = schema; rows = rows;
+  table = ingest.table;
+  if_not_exist = ingest.if_not_exist;
+  if_exists = ingest.if_exists;
+  schema = schema;
+  rows = rows;
 }
 
 -- the command of a put, which stands in its first payload
