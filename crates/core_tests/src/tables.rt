@@ -77,7 +77,7 @@ fn zeros(alloc: Global, rows: usize) -> Result<Bytes, AllocError> {
         bytes.push((left % 128) as u8 | 128)?;
         left /= 128;
     }
-    bytes.push(left as u8)?;
+    bytes.push((left % 128) as u8)?;
     bytes.resize(bytes.len().saturating_add(rows.saturating_mul(8)), 0)?;
     Ok(Bytes::from_vec(bytes)?)
 }
