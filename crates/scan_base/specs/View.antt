@@ -2,6 +2,7 @@
 use Rattle.scan_base.specs.declared.predicate.Predicate.{Predicate, And', Or', Not', Is', Compare, Between, In, IsNull}
 use Rattle.scan_base.specs.Predicate.{Pred, conjunction, disjunction, negation, truth_test, comparing, between, membership, null_test}
 
+-- a predicate of the code as plain data, without its boxes
 abbrev pub pred_of : {C : Type 0} → Predicate C → Pred C
 pred_of (And' _ p _ q) = conjunction (pred_of p) (pred_of q)
 pred_of (Or' _ p _ q) = disjunction (pred_of p) (pred_of q)

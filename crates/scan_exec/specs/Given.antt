@@ -19,6 +19,7 @@ abbrev pub tree_columns : Tree → Columns
 tree_columns (scan table schema columns) = columns
 tree_columns (filtered predicate tree) = tree_columns tree
 
+-- the numbers of the columns that a plan puts out
 abbrev pub output_columns : Output → Columns
 output_columns (Project columns) = columns
 

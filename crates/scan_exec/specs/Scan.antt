@@ -57,6 +57,7 @@ Gives before result after = going before.refused result
 abbrev pub plan_types : PlanAt → List DataType
 plan_types plan = types_taken (output_columns plan.output) (tree_types plan.tree)
 
+-- the batches of a table, and none where there is no table
 abbrev pub batches_of : Option TableAt → List BatchAt
 batches_of (Some table) = table.batches
 batches_of None = []

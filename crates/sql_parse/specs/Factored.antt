@@ -1,5 +1,5 @@
--- Inside: the grammar, where the forms of a predicate that begin with an operand share it, so that one token is enough
--- to choose by.
+-- The grammar, where the forms of a predicate that begin with an operand share it, so that one token is enough to choose
+-- by. A law says that it spells the same sentences; the standard's own words do without it.
 use Rattle.std.specs.Prelude.{Bool, true, false}
 use Rattle.scan_base.specs.declared.predicate.Operand.{Operand}
 use Rattle.scan_base.specs.Predicate.{comparing, between, membership, null_test}
@@ -11,9 +11,11 @@ use Rattle.sql_parse.specs.Productions.{operand, compare, negated}
 use Rattle.sql_parse.specs.Notation.{Condition, Of, a_word, a_symbol, ◌⊳◌, ◌⊲◌, listed}
 use Rattle.sql_parse.specs.Productions.{primary_of, test_of, factor_of}
 
+-- one side of a comparison
 abbrev pub Value : Type 0
 Value = Operand ColumnName
 
+-- behind an operand: a comparison, BETWEEN, IN, or IS NULL
 unfoldable pub compared : Of (Value → Condition)
 compared = make (λ p a. comparing p.0 a p.1) (both compare operand)
 
@@ -33,9 +35,11 @@ unfoldable pub tail : Of (Value → Condition)
 tail = either nulled (either (make (λ f. f true) (a_word word.Not ⊳ either ranged among))
     (either (make (λ f. f false) ranged) (either (make (λ f. f false) among) compared)))
 
+-- a predicate that begins with an operand
 unfoldable pub forms : Of Condition
 forms = make (λ p. p.1 p.0) (both operand tail)
 
+-- the levels above, over those
 unfoldable pub primary : Of Condition
 primary = primary_of forms
 

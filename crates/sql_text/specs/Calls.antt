@@ -28,6 +28,7 @@ said kind.DelimitedName text = unquoted (byte "\"") text
 said kind.String text = unquoted (byte "'") text
 said other text = text
 
+-- the same of a token
 abbrev pub value_of : Lexeme → List ℕ
 value_of token = said token.kind token.text
 

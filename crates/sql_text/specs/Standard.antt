@@ -21,6 +21,7 @@ begins_word b = is_ascii_alphabetic b || (b == byte "_")
 abbrev pub continues_word : ℕ → Bool
 continues_word b = is_ascii_alphanumeric b || (b == byte "_")
 
+-- a double quote, around a delimited name, or a single one, around a string
 abbrev pub is_quote : ℕ → Bool
 is_quote b = (b == byte "\"") || (b == byte "'")
 
@@ -59,6 +60,7 @@ Spells unclosed bytes =
 Spells digits bytes = (bytes ≢ []) × IsTrue (list_all is_ascii_digit bytes)
 Spells (mark s) bytes = symbol_in symbols bytes ≡ Some s
 
+-- a piece of a text: its form, and its bytes
 pub record Piece : Type 0 where
   pub form : Form
   pub text : List ℕ
@@ -96,6 +98,7 @@ kind_of unclosed text = None
 kind_of digits text = Some kind.Digits
 kind_of (mark s) text = Some (kind.Symbol s)
 
+-- the same of a piece
 abbrev pub sound : Piece → Bool
 sound piece = is_sound piece.form piece.text
 

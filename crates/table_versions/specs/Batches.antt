@@ -11,6 +11,7 @@ page_size = 256
 abbrev pub joined : List (List BatchAt) → List BatchAt → List BatchAt
 joined full last = flat_map (λ page. page) full ++ last
 
+-- whether a page has room for no batch more
 abbrev pub is_full : List BatchAt → Bool
 is_full page = length page == page_size
 

@@ -13,6 +13,7 @@ use Rattle.table_versions.specs.Table.{is_long_text}
 abbrev pub is_bad_column : Field × ColumnAt → Bool
 is_bad_column pair = not pair.0.nullable && list_any is_null (values_of pair.1)
 
+-- whether one of these columns has a null that its field does not take
 abbrev pub has_bad_column : List Field → List ColumnAt → Bool
 has_bad_column fields columns = list_any is_bad_column (zip fields columns)
 

@@ -1,4 +1,5 @@
--- Inside: what holds of every put, and of every stored table.
+-- What the code keeps of every put and of every stored table. A public call cites it to say that what it takes or gives
+-- is so; what a put means needs none of it.
 use Rattle.std.specs.Prelude.{◌≡◌, ◌≤◌, ℕ, false, IsTrue, All, List, length}
 use Rattle.std.specs.List.{list_all, list_any}
 use Rattle.arrow_schema.specs.declared.schema.Field.{Field}
