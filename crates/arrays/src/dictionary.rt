@@ -1,7 +1,7 @@
 //! Dictionaries of texts.
 
 ghost use Rattle.std.specs.Prelude.{◌≡◌, ◌==◌, [], false, All, length, slice_get, option_map};
-ghost use Rattle.scan_base.specs.Reading.{GivesUnlessMemory};
+ghost use Rattle.scan_base.specs.Reading.{GivesUnlessMemory, RefusesFirst};
 ghost use Rattle.scan_base.specs.Value.{value_of, is_null, IsTextOrNull};
 ghost use Rattle.std.specs.List.{list_any};
 ghost use Rattle.arrays.specs.Dictionary.{extended_by};
@@ -90,10 +90,11 @@ impl Dictionary {
     /// # Errors
     ///
     /// - F12 (`Fault::LimitReached`) where there would be more than 16,777,216 values.
-    /// - F21 (`Fault::OutOfMemory`) where memory is refused.
+    /// - F21 (`Fault::OutOfMemory`) where memory is refused, and never where there would be too many values.
     #[tactic(auto, unfolding(crate::specs::Dictionary::extended_by))]
     pub fn extended(&self, alloc: Global, part: Texts) -> Result<Dictionary, Fault>
-        ensures { GivesUnlessMemory (λ values. values) result (extended_by self.now part) }
+        ensures value { GivesUnlessMemory (λ values. values) result (extended_by self.now part) }
+        ensures refused { RefusesFirst result (extended_by self.now part) }
     {
         let more = part.len();
         if MOST_VALUES - self.len < more {

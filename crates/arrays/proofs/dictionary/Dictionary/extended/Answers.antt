@@ -22,8 +22,8 @@ invariant_of-result-2 c =
     rw (c.in_ok-first.ensures, c.in_ok-later.ensures, ← append_assoc first later (texts_values c.args.part), c.len-more.ensures.count)
     (dictionary_more (first ++ later) c.args.part c.self.inside.len c.self.invariant c.len-more.ensures.stands small)
 
-pub returns : goal.returns
-returns c =
+pub returns-clause-value : goal.returns-clause-value
+returns-clause-value c =
     let first = texts_values c.self.inside.first in
     let part = texts_values c.args.part in
     let small : length c.args.self.now + c.args.part.len ≤ most_values =
