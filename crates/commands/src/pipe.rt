@@ -1,7 +1,7 @@
 //! `flightscan pipe`: one connection, from a reader to a writer.
 
 ghost use Rattle.std.specs.Prelude.{◌<◌, []};
-ghost use Rattle.flight_core.specs.Machine.{Log};
+ghost use Rattle.flight_core.specs.Log.{Log};
 ghost use Rattle.flight_calls.specs.Owed.{connection_of};
 ghost use Rattle.commands.specs.Pipe.{Pipes};
 

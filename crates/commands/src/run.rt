@@ -3,7 +3,7 @@
 ghost use Rattle.std.specs.Prelude.{◌≡◌, ◌<◌, ℕ, List, [], map, string_bytes};
 ghost use Rattle.clap.specs.Words.{fault_of, kind_of};
 ghost use Rattle.command_line.specs.Line.{program};
-ghost use Rattle.flight_core.specs.Machine.{Log};
+ghost use Rattle.flight_core.specs.Log.{Log};
 ghost use Rattle.flight_calls.specs.Owed.{connection_of};
 ghost use Rattle.commands.specs.Pipe.{Prints};
 ghost use Rattle.commands.specs.Run.{Runs, RefusesFor};

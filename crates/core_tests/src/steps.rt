@@ -42,7 +42,10 @@ fn events(alloc: Global) -> Result<Vec<Event>, AllocError> {
     payloads.push(Bytes::from_static(SECOND))?;
     let mut events = Vec::with_capacity(alloc, 2)?;
     events.push(Event::Put(payloads))?;
-    events.push(Event::Fetch(Bytes::from_static(TICKET)))?;
+    events.push(Event::Fetch {
+        ticket: Bytes::from_static(TICKET),
+        workers: 1,
+    })?;
     Ok(events)
 }
 

@@ -14,9 +14,9 @@ use Rattle.grpc_frame.specs.Records.{spelling, IsRecord, Received, with_more, Br
 use Rattle.grpc_frame.specs.Arrivals.{WasSound}
 use Rattle.grpc_frame.specs.Ends.{AppendsBeginning}
 use Rattle.grpc_frame.proofs.Coming.{none_sound}
-use Rattle.flight_core.specs.declared.event.Reply.{Reply}
+use Rattle.flight_core.specs.Asked.{ReplyAt}
 use Rattle.flight_core.specs.Payloads.{FitMessages}
-use Rattle.flight_core.specs.Machine.{Log}
+use Rattle.flight_core.specs.Log.{Log}
 use Rattle.flight_calls.specs.declared.call.Arrival.TheVariants as arrival
 use Rattle.flight_calls.specs.declared.request.Request.{Request}
 use Rattle.flight_calls.specs.Calls.{Call, call_records, asked_by, ReplyTo, Answers}
@@ -26,14 +26,14 @@ use Rattle.flight_calls.specs.Requests.{Holds}
 use Rattle.flight_calls.specs.Reading.{Stops, CallArrives}
 
 -- each payload fits a message
-abbrev FitsMessages : Reply → Type 0
-FitsMessages reply = FitMessages reply.payloads.items
+abbrev FitsMessages : ReplyAt → Type 0
+FitsMessages reply = FitMessages reply.payloads
 
 abbrev joined : List (List ℕ) → List ℕ
 joined items = flat_map (λ item. item) items
 
 -- what came is whole calls and then this rest, and the replies answer the calls, one each, from one log to the other
-pub record Served (log : Log) (came rest : List ℕ) (replies : List Reply) (new : Log) : Type 0 where
+pub record Served (log : Log) (came rest : List ℕ) (replies : List ReplyAt) (new : Log) : Type 0 where
   pub calls : List Call
   pub whole : came ≡ calls_bytes calls ++ rest
   pub fits : All IsRecord (flat_map call_records calls)
@@ -43,7 +43,7 @@ pub record Served (log : Log) (came rest : List ℕ) (replies : List Reply) (new
 pub record Progress (old now : Connection) (left : Received) : Type 0 where
   pub came : List ℕ
   pub consumed : Consumes old.input now.input came
-  pub replies : List Reply
+  pub replies : List ReplyAt
   pub served : Served old.log came left.bytes replies now.log
   pub wrote : Appends old.output now.output (joined (map answer_bytes replies))
   pub between : left.place ≡ BetweenCalls
@@ -61,7 +61,7 @@ started old left e = rw e (record {
 -- ---- what was served
 
 -- more came, behind what is left
-served_then : (log new : Log) (came rest more : List ℕ) (replies : List Reply) → Served log came rest replies new → Served log (came ++ more) (rest ++ more) replies new
+served_then : (log new : Log) (came rest more : List ℕ) (replies : List ReplyAt) → Served log came rest replies new → Served log (came ++ more) (rest ++ more) replies new
 served_then log new came rest more replies s = record {
   calls = s.calls;
   whole = ap (λ (l : List ℕ). l ++ more) s.whole ∙ append_assoc (calls_bytes s.calls) rest more;
@@ -70,7 +70,7 @@ served_then log new came rest more replies s = record {
   sent = s.sent;
 }
 
-answers_more : (old mid new : Log) (calls : List Call) (replies : List Reply) (call : Call) (reply : Reply) → Answers old calls replies mid → ReplyTo (asked_by call) mid reply new
+answers_more : (old mid new : Log) (calls : List Call) (replies : List ReplyAt) (call : Call) (reply : ReplyAt) → Answers old calls replies mid → ReplyTo (asked_by call) mid reply new
     → Answers old (calls ++ call ∷ []) (replies ++ reply ∷ []) new
 answers_more old mid new [] [] call reply s r = (new, subst (λ (log : Log). ReplyTo (asked_by call) log reply new) s r, refl)
 answers_more old mid new [] (one ∷ replies) call reply s r = absurd s
@@ -78,7 +78,7 @@ answers_more old mid new (one ∷ calls) [] call reply s r = absurd s
 answers_more old mid new (one ∷ calls) (answer ∷ replies) call reply s r = (s.0, s.1, answers_more s.0 mid new calls replies call reply s.2 r)
 
 -- one call more, with its reply
-served_more : (log mid new : Log) (came rest rest' : List ℕ) (replies : List Reply) (call : Call) (reply : Reply) → Served log came rest replies mid
+served_more : (log mid new : Log) (came rest rest' : List ℕ) (replies : List ReplyAt) (call : Call) (reply : ReplyAt) → Served log came rest replies mid
     → rest ≡ flat_map spelling (call_records call) ++ rest' → All IsRecord (call_records call) → ReplyTo (asked_by call) mid reply new → FitsMessages reply
     → Served log came rest' (replies ++ reply ∷ []) new
 served_more log mid new came rest rest' replies call reply s whole fits replied sent = record {
@@ -99,7 +99,7 @@ served_more log mid new came rest rest' replies call reply s whole fits replied 
 joined_more : (done : List (List ℕ)) (item : List ℕ) → joined (done ++ item ∷ []) ≡ joined done ++ item
 joined_more done item = flat_map-append (λ (i : List ℕ). i) done (item ∷ []) ∙ ap (λ l. joined done ++ l) (append-nil item)
 
-items_more : (replies : List Reply) (reply : Reply) → map answer_bytes (replies ++ reply ∷ []) ≡ map answer_bytes replies ++ answer_bytes reply ∷ []
+items_more : (replies : List ReplyAt) (reply : ReplyAt) → map answer_bytes (replies ++ reply ∷ []) ≡ map answer_bytes replies ++ answer_bytes reply ∷ []
 items_more replies reply = map-append answer_bytes replies (reply ∷ [])
 
 -- ---- a call is served
@@ -113,14 +113,14 @@ module _ (old mid : Connection) (left : Received) (p : Progress old mid left) wh
       received bytes place = record { bytes = bytes; place = place }
 
   -- a call came, and a reply to it is due
-  call_replied : (new : Connection) (left' : Received) (request : Request) (reply : Reply) (q : (more : List ℕ) × Consumes mid.input new.input more × CallArrives (Ok (arrival.Whole request)) left left' more)
+  call_replied : (new : Connection) (left' : Received) (request : Request) (reply : ReplyAt) (q : (more : List ℕ) × Consumes mid.input new.input more × CallArrives (Ok (arrival.Whole request)) left left' more)
       → ((call : Call) → Holds request call → ReplyTo (asked_by call) mid.log reply new.log) → FitsMessages reply
       → Served old.log (p.came ++ q.0) left'.bytes (p.replies ++ reply ∷ []) new.log
   call_replied new left' request reply q replied sent =
       served_more old.log mid.log new.log (p.came ++ q.0) (left.bytes ++ q.0) left'.bytes p.replies q.2.0 reply (served_then old.log mid.log p.came left.bytes q.0 p.replies p.served) q.2.2.whole q.2.2.fits (replied q.2.0 q.2.1) sent
 
   -- the record of a connection, by its parts
-  served_so : (result : Result (Unit {0}) Fault) (new : Connection) (came rest : List ℕ) (replies : List Reply) (last : Option Fault) (done begun : List (List ℕ)) → Consumes old.input new.input came
+  served_so : (result : Result (Unit {0}) Fault) (new : Connection) (came rest : List ℕ) (replies : List ReplyAt) (last : Option Fault) (done begun : List (List ℕ)) → Consumes old.input new.input came
       → Served old.log came rest replies new.log → items_owed replies last ≡ done ++ begun → Wrote old.output new.output done begun → Why result old new rest last begun → Serves result old new
   served_so result new came rest replies last done begun consumed s owes wrote why = record {
     calls = s.calls;
@@ -139,7 +139,7 @@ module _ (old mid : Connection) (left : Received) (p : Progress old mid left) wh
   }
 
   -- it was written
-  pub call_served : (new : Connection) (left' : Received) (request : Request) (reply : Reply) → (more : List ℕ) × Consumes mid.input new.input more × CallArrives (Ok (arrival.Whole request)) left left' more
+  pub call_served : (new : Connection) (left' : Received) (request : Request) (reply : ReplyAt) → (more : List ℕ) × Consumes mid.input new.input more × CallArrives (Ok (arrival.Whole request)) left left' more
       → ((call : Call) → Holds request call → ReplyTo (asked_by call) mid.log reply new.log) → FitsMessages reply → Appends mid.output new.output (answer_bytes reply) → Progress old new left'
   call_served new left' request reply q replied sent wrote = record {
     came = p.came ++ q.0;
@@ -152,7 +152,7 @@ module _ (old mid : Connection) (left : Received) (p : Progress old mid left) wh
   }
 
   -- or begun
-  pub answer_failed : (new : Connection) (left' : Received) (request : Request) (reply : Reply) → (more : List ℕ) × Consumes mid.input new.input more × CallArrives (Ok (arrival.Whole request)) left left' more
+  pub answer_failed : (new : Connection) (left' : Received) (request : Request) (reply : ReplyAt) → (more : List ℕ) × Consumes mid.input new.input more × CallArrives (Ok (arrival.Whole request)) left left' more
       → ((call : Call) → Holds request call → ReplyTo (asked_by call) mid.log reply new.log) → FitsMessages reply → AppendsBeginning mid.output new.output (answer_bytes reply) → Fails 0 1 old new
       → Serves (Err Transport) old new
   answer_failed new left' request reply q replied sent begun counted = served_so (Err Transport) new (p.came ++ q.0) left'.bytes (p.replies ++ reply ∷ []) None

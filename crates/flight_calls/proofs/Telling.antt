@@ -2,7 +2,7 @@
 use Rattle.std.proofs.Common.{◌≡◌, ℕ, ◌+◌, List, [], ◌∷◌, ◌++◌, map, Option, Some, None, Result, Ok, Err, refl, ◌∙◌, append-nil, inl, inr, arith}
 use Rattle.scan_base.specs.declared.fault.Fault.{Fault}
 use Rattle.scan_base.specs.declared.fault.Fault.TheVariants.{Transport}
-use Rattle.flight_core.specs.declared.event.Reply.{Reply}
+use Rattle.flight_core.specs.Asked.{ReplyAt}
 use Rattle.flight_calls.specs.Owed.{Connection, Serves, Why, Wrote, items_owed, answer_bytes}
 use Rattle.flight_calls.specs.Laws.{ReadFailed}
 
@@ -10,7 +10,7 @@ use Rattle.flight_calls.specs.Laws.{ReadFailed}
 not_both : (n m : ℕ) → m ≡ n + 1 → m ≡ n + 0 → ⊥
 not_both n m grown same = omega arith
 
-tells : (result : Result (Unit {0}) Fault) (old new : Connection) (rest : List ℕ) (replies : List Reply) (last : Option Fault) (done begun : List (List ℕ))
+tells : (result : Result (Unit {0}) Fault) (old new : Connection) (rest : List ℕ) (replies : List ReplyAt) (last : Option Fault) (done begun : List (List ℕ))
     → items_owed replies last ≡ done ++ begun → Wrote old.output new.output done begun → Why result old new rest last begun → new.failed_reads ≡ old.failed_reads + 1
     → ReadFailed result old new rest (map answer_bytes replies)
 tells (Ok done) old new rest replies None all [] owes wrote why counted = absurd (not_both old.failed_reads new.failed_reads counted why.2.0)

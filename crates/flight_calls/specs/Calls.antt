@@ -6,9 +6,10 @@ use Rattle.scan_base.specs.declared.fault.Fault.TheVariants.{UnknownMethod, BadP
 use Rattle.scan_base.specs.Reading.{◌>>=◌, wanted}
 use Rattle.grpc_frame.specs.declared.record.Record.{Record}
 use Rattle.grpc_frame.specs.declared.record.Record.TheVariants.{Open, Message, End}
-use Rattle.flight_core.specs.declared.event.Reply.{Reply}
 use Rattle.flight_core.specs.Payloads.{Payload}
-use Rattle.flight_core.specs.Machine.{Log, Asked, put, fetch, StepOn}
+use Rattle.flight_core.specs.Asked.{Asked, put, fetch, ReplyAt, refusal}
+use Rattle.flight_core.specs.Log.{Log}
+use Rattle.flight_core.specs.Machine.{StepOn}
 use Rattle.flight_calls.specs.declared.request.Method.{Method}
 use Rattle.flight_calls.specs.declared.request.Method.TheVariants as method
 
@@ -35,10 +36,10 @@ method_at path =
     else (if bytes_eq path (service ++ codes "DoGet") then Some method.DoGet
     else None)
 
--- what the messages ask of a method: of a fetch there is one
+-- What the messages ask of a method: of a fetch there is one. Until scans run on several workers, it has one.
 abbrev pub asked_of : Method → List Payload → Result Asked Fault
 asked_of method.DoPut messages = Ok (put messages)
-asked_of method.DoGet (ticket ∷ []) = Ok (fetch ticket)
+asked_of method.DoGet (ticket ∷ []) = Ok (fetch ticket 1)
 asked_of method.DoGet _ = Err BadProto
 
 -- what a call asks, or the fault of its path or of the number of its messages
@@ -48,12 +49,12 @@ asked_by call = wanted (method_at call.path) UnknownMethod >>= λ found. asked_o
 -- ---- what answers it
 
 -- a step of the core on what is asked; or the fault, and the log stays
-abbrev pub ReplyTo : Result Asked Fault → Log → Reply → Log → Type 0
+abbrev pub ReplyTo : Result Asked Fault → Log → ReplyAt → Log → Type 0
 ReplyTo (Ok asked) log reply new = StepOn log asked reply new
-ReplyTo (Err fault) log reply new = (new ≡ log) × (reply.payloads.items ≡ []) × (reply.fault ≡ Some fault)
+ReplyTo (Err fault) log reply new = (new ≡ log) × (reply ≡ refusal fault)
 
 -- one reply a call, in order, each from the log that the one before left
-abbrev pub Answers : Log → List Call → List Reply → Log → Type 0
+abbrev pub Answers : Log → List Call → List ReplyAt → Log → Type 0
 Answers old [] [] new = new ≡ old
 Answers old (call ∷ calls) (reply ∷ replies) new =
     (middle : Log) × ReplyTo (asked_by call) old reply middle × Answers middle calls replies new

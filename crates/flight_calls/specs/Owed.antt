@@ -11,9 +11,9 @@ use Rattle.grpc_frame.specs.Records.{spelling, IsRecord, Received, Ending, nothi
 use Rattle.grpc_frame.specs.Arrivals.{WasSound}
 use Rattle.grpc_frame.specs.Calls.{status_of}
 use Rattle.grpc_frame.specs.Ends.{AppendsBeginning}
-use Rattle.flight_core.specs.declared.event.Reply.{Reply}
+use Rattle.flight_core.specs.Asked.{ReplyAt}
 use Rattle.flight_core.specs.Payloads.{FitMessages}
-use Rattle.flight_core.specs.Machine.{Log}
+use Rattle.flight_core.specs.Log.{Log}
 use Rattle.flight_calls.specs.Calls.{Call, call_records, Answers}
 
 -- ---- what follows the whole calls
@@ -46,15 +46,15 @@ abbrev pub calls_bytes : List Call → List ℕ
 calls_bytes calls = flat_map spelling (flat_map call_records calls)
 
 -- the bytes of an answer: its messages, and then its status
-abbrev pub answer_bytes : Reply → List ℕ
-answer_bytes reply = flat_map spelling (map Message reply.payloads.items ++ status_of reply.fault ∷ [])
+abbrev pub answer_bytes : ReplyAt → List ℕ
+answer_bytes reply = flat_map spelling (map Message reply.payloads ++ status_of reply.fault ∷ [])
 
 -- the bytes of the status that says why a connection ends
 abbrev pub last_status : Fault → List ℕ
 last_status fault = spelling (status_of (Some fault))
 
 -- what is owed for the replies, an item each, and then for the fault that ends the connection
-abbrev pub items_owed : List Reply → Option Fault → List (List ℕ)
+abbrev pub items_owed : List ReplyAt → Option Fault → List (List ℕ)
 items_owed replies None = map answer_bytes replies
 items_owed replies (Some fault) = map answer_bytes replies ++ last_status fault ∷ []
 
@@ -103,9 +103,9 @@ pub record Serves (result : Result (Unit {0}) Fault) (old new : Connection) : Ty
   pub rest : List ℕ
   pub fits : All IsRecord (flat_map call_records calls)
   pub consumed : Consumes old.input new.input (calls_bytes calls ++ rest)
-  pub replies : List Reply
+  pub replies : List ReplyAt
   pub answers : Answers old.log calls replies new.log
-  pub sent : All (λ reply. FitMessages reply.payloads.items) replies
+  pub sent : All (λ reply. FitMessages reply.payloads) replies
   pub last : Option Fault
   pub done : List (List ℕ)
   pub begun : List (List ℕ)

@@ -16,7 +16,7 @@ use scan_base::Fault;
 /// `Fault::Transport` where a write failed. It is counted, and a beginning of the answer is written.
 pub fn write_answer<W: Output>(writer: &mut W, reply: &Reply) -> Result<(), Fault>
     requires failures { W.failures writer.old < 18446744073709551615 }
-    requires short { FitMessages reply.now.payloads.items }
+    requires short { FitMessages reply.now.payloads }
     ensures bytes { Writes result (W.contents writer.old) (W.contents writer.new) (answer_bytes reply.now) }
     ensures counted { CountsFailure result (W.failures writer.old) (W.failures writer.new) }
     ensures kind { FailsByTransport result }

@@ -48,18 +48,6 @@ fn method_at(path: &[u8]) -> Option<Method>
     None
 }
 
-// A reply of this fault alone.
-fn refusal(alloc: Global, fault: Fault) -> Reply
-    ensures payloads { result.payloads.items ≡ [] }
-    ensures short { FitMessages result.payloads.items }
-    ensures fault { result.fault ≡ Some fault }
-{
-    Reply {
-        payloads: Vec::new(alloc),
-        fault: Some(fault),
-    }
-}
-
 impl Request {
     /// A call to this path, of which no message came. Another path than those that are built is F3.
     pub fn at(path: &[u8]) -> Request
@@ -91,13 +79,13 @@ impl Request {
     /// message.
     pub fn answer(self, alloc: Global, plain: &mut Plain) -> Reply
         ensures reply { (call : Call) → Holds self call → ReplyTo (asked_by call) plain.old result plain.new }
-        ensures short { FitMessages result.payloads.items }
+        ensures short { FitMessages result.payloads }
     {
         match self {
             Request::Put(reader) => step_put(alloc, plain, reader.into_put()),
-            Request::AwaitsTicket => refusal(alloc, Fault::BadProto),
-            Request::Fetch(ticket) => step(alloc, plain, &Event::Fetch(ticket)),
-            Request::Refused(fault) => refusal(alloc, fault),
+            Request::AwaitsTicket => Reply::refusal(alloc, Fault::BadProto),
+            Request::Fetch(ticket) => step(alloc, plain, &Event::Fetch { ticket, workers: 1 }),
+            Request::Refused(fault) => Reply::refusal(alloc, fault),
         }
     }
 }

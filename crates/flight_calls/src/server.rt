@@ -1,7 +1,7 @@
 //! Serving a connection.
 
 ghost use Rattle.std.specs.Prelude.{◌<◌, []};
-ghost use Rattle.flight_core.specs.Machine.{Log};
+ghost use Rattle.flight_core.specs.Log.{Log};
 ghost use Rattle.flight_calls.specs.Owed.{Serves, connection_of};
 ghost use Rattle.flight_calls.specs.Ending.{RefusesBy};
 

@@ -11,7 +11,8 @@ use Rattle.table_versions.proofs.Accepted.{accepted_puts_are_few}
 use Rattle.flight_core.specs.Payloads.{Payload}
 use Rattle.flight_core.specs.Refusals.{RefusedFor}
 use Rattle.flight_core.specs.Puts.{command_in, put_said}
-use Rattle.flight_core.specs.Machine.{Log, PutStep, database_put}
+use Rattle.flight_core.specs.Log.{Log}
+use Rattle.flight_core.specs.Machine.{PutStep, database_put}
 use Rattle.flight_core.proofs.Arriving.{behind, refused_on}
 
 few_where_ok : (old : Database) (n : ℕ) (put : Put) (result : Result Database Fault) → after old n put ≡ result → IsOk result → length put.rows ≤ most_rows

@@ -9,11 +9,12 @@ use Rattle.flight_proto.specs.Ticket.{statement_handle_of}
 use Rattle.sql_parse.specs.Parse.{Parsed}
 use Rattle.sql_query.specs.Sentence.{Sentence}
 use Rattle.table_versions.specs.Table.{Table}
-use Rattle.table_versions.specs.Database.{Database, Put, version}
+use Rattle.table_versions.specs.Database.{Database}
 use Rattle.typed_plan.specs.Bound.{fault_of}
 use Rattle.typed_plan.specs.Joined.{place_rows}
 use Rattle.typed_plan.specs.Meaning.{meaning}
 use Rattle.typed_plan.specs.ResultSchema.{result_schema}
+use Rattle.flight_core.specs.Log.{Log, puts_in, version}
 use Rattle.flight_core.specs.Narrow.{without_tables}
 use Rattle.flight_core.specs.Payloads.{Payload, PayloadsSay}
 
@@ -77,10 +78,10 @@ HandlesMeanOne = (database : Database) (handle : HandleAt) (one other : Table) �
     HandleMeans database handle one → HandleMeans database handle other → one ≡ other
 
 -- the answer to what a fetch shows: the fault that is seen there, or the answer at the handle's version
-abbrev pub FetchBy : List Put → Result HandleAt Fault → List Payload → Option Fault → Type 0
+abbrev pub FetchBy : Log → Result HandleAt Fault → List Payload → Option Fault → Type 0
 FetchBy log (Err cause) payloads fault = (payloads ≡ []) × (fault ≡ Some cause)
 FetchBy log (Ok handle) payloads fault = FetchAt (version log (version_of handle)) handle payloads fault
 
 -- the answer to a fetch at a log
-abbrev pub FetchIn : List Put → Payload → List Payload → Option Fault → Type 0
-FetchIn log ticket payloads fault = FetchBy log (handle_shown (length log) ticket) payloads fault
+abbrev pub FetchIn : Log → Payload → List Payload → Option Fault → Type 0
+FetchIn log ticket payloads fault = FetchBy log (handle_shown (puts_in log) ticket) payloads fault

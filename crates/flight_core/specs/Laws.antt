@@ -5,23 +5,27 @@ use Rattle.arrow_schema.specs.declared.schema.Schema.{Schema}
 use Rattle.flight_proto.specs.Ingest.{IngestSaid, ingest_of}
 use Rattle.ipc_batch.specs.Said.{Rows}
 use Rattle.table_versions.specs.Database.{Put}
-use Rattle.flight_core.specs.declared.event.Event.{Event}
-use Rattle.flight_core.specs.declared.event.Reply.{Reply}
 use Rattle.flight_core.specs.Payloads.{Payload, PayloadsSay, PutSays}
 use Rattle.flight_core.specs.Puts.{put_made, put_said}
-use Rattle.flight_core.specs.Machine.{Log, Run}
+use Rattle.flight_core.specs.Asked.{Asked, ReplyAt}
+use Rattle.flight_core.specs.Log.{Log}
+use Rattle.flight_core.specs.Machine.{Run}
 
 -- the list without the item at a place
 abbrev pub without : {X : Type 0} → ℕ → List X → List X
 without place xs = take place xs ++ drop (place + 1) xs
 
--- A refused event, and so a refused put, changes nothing: without it the other events are answered by the
--- other replies, and the log is the same.
+-- What was refused, and so a refused put, changes nothing: without it the rest is answered by the other replies, and
+-- the log is the same.
+abbrev pub RefusedLeaveNothing : List Asked → List ReplyAt → Log → Type 0
+RefusedLeaveNothing asked replies log = (place : ℕ) (one : Asked) (reply : ReplyAt) (fault : Fault)
+    → slice_get asked place ≡ Some one → slice_get replies place ≡ Some reply → reply.fault ≡ Some fault
+    → Run [] (without place asked) (without place replies) log
+
+-- this holds of each run
 abbrev pub RefusalsLeaveNothing : Type 0
-RefusalsLeaveNothing = (events : List Event) (replies : List Reply) (log : Log)
-    → (place : ℕ) (asked : Event) (reply : Reply) (fault : Fault)
-    → slice_get events place ≡ Some asked → slice_get replies place ≡ Some reply → reply.fault ≡ Some fault
-    → Run [] events replies log → Run [] (without place events) (without place replies) log
+RefusalsLeaveNothing = (asked : List Asked) (replies : List ReplyAt) (log : Log)
+    → Run [] asked replies log → RefusedLeaveNothing asked replies log
 
 -- the payloads of an answer say at most one schema and one list of rows
 abbrev pub AnswersSayOneThing : Type 0

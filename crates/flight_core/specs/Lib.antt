@@ -2,6 +2,9 @@ pub mod Refusals
 pub mod Payloads
 pub mod Puts
 pub mod Arriving
+pub mod Asked
+pub mod Event
+pub mod Log
 pub mod Narrow
 pub mod Fetches
 pub mod Planned

@@ -1,19 +1,21 @@
 //! What is asked of the core, and what it answers.
 
-ghost use Rattle.std.specs.Prelude.{◌≡◌, [], ◌∷◌, Some, None};
+ghost use Rattle.std.specs.Prelude.{◌≡◌};
+ghost use Rattle.flight_core.specs.Asked.{refusal, whole};
 ghost use Rattle.flight_core.specs.Payloads.{FitMessages};
 
 use bytes::Bytes;
 use scan_base::Fault;
 use std::alloc::Global;
+use std::marker::Model;
 
 /// What is asked of the core: the payloads of a call's messages.
 #[derive(Debug, Drop)]
 pub enum Event {
     /// DoPut: a FlightData each, the first with the command.
     Put(Vec<Bytes>),
-    /// DoGet: a Ticket.
-    Fetch(Bytes),
+    /// DoGet: a Ticket, and how many workers may scan for its answer, which is the same for any number.
+    Fetch { ticket: Bytes, workers: usize },
 }
 
 /// What the core answers: the payloads of the answer's messages, and a fault where its status is not 0.
@@ -23,12 +25,19 @@ pub struct Reply {
     pub fault: Option<Fault>,
 }
 
+impl Model for Reply {
+    ghost use Rattle.flight_core.specs.Asked.{ReplyAt};
+
+    ghost Value = { ReplyAt };
+
+    ghost view = { λ reply. record { payloads = reply.payloads.items; fault = reply.fault } };
+}
+
 impl Reply {
-    // A reply that refuses and has no payload.
-    pub(crate) fn refusal(alloc: Global, fault: Fault) -> Reply
-        ensures payloads { result.payloads.items ≡ [] }
-        ensures fits { FitMessages result.payloads.items }
-        ensures fault { result.fault ≡ Some fault }
+    /// A reply that refuses and has no payload. It takes no memory.
+    pub fn refusal(alloc: Global, fault: Fault) -> Reply
+        ensures reply { result ≡ refusal fault }
+        ensures fits { FitMessages result.payloads }
     {
         Reply {
             payloads: Vec::new(alloc),
@@ -38,8 +47,7 @@ impl Reply {
 
     // A reply of these payloads and status 0.
     pub(crate) fn whole(payloads: Vec<Bytes>) -> Reply
-        ensures payloads { result.payloads.items ≡ payloads.items }
-        ensures fault { result.fault ≡ None }
+        ensures { result ≡ whole payloads.items }
     {
         Reply {
             payloads,

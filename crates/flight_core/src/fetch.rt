@@ -126,9 +126,9 @@ fn fetch_fault(fault: Fault) -> Fault
 /// where memory is refused, and not for a query of more than 16,384 bytes.
 pub fn answer_fetch(alloc: Global, snapshot: &Snapshot, handle: &Handle<'_>) -> Reply
     ensures answer { FetchAt (tables_of snapshot.now.catalog) (handle_seen handle.now)
-        result.payloads.items result.fault }
+        result.payloads result.fault }
     ensures first { is_short (handle_seen handle.now) ≡ false → result.fault ≡ Some BadTicket }
-    ensures fits { FitMessages result.payloads.items }
+    ensures fits { FitMessages result.payloads }
 {
     let Handle::Query {
         from,

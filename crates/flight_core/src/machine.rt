@@ -1,13 +1,16 @@
 //! Steps and runs.
 
-ghost use Rattle.std.specs.Prelude.{◌≡◌, ◌≢◌, [], ◌∷◌, Some, pos, min, length, List, IfOk, IfErr};
+ghost use Rattle.std.specs.Prelude.{◌≡◌, ◌≢◌, [], ◌∷◌, Some, pos, min, map, List, IfOk, IfErr};
 ghost use Rattle.scan_base.specs.Limits.{most_rows};
 ghost use Rattle.table_versions.specs.Valid.{HasDatabases};
 ghost use Rattle.scan_base.specs.declared.fault.Fault.TheVariants.{OutOfMemory};
 ghost use Rattle.flight_proto.specs.PutResult.{rows_put_bytes};
-ghost use Rattle.flight_core.specs.Machine.{Log, ArePuts, PutStep, Step, Run};
+ghost use Rattle.flight_core.specs.Event.{asked_in};
+ghost use Rattle.flight_core.specs.Log.{Log, ArePuts, puts_in, database_of};
+ghost use Rattle.flight_core.specs.Laws.{RefusedLeaveNothing};
+ghost use Rattle.flight_core.specs.Machine.{PutStep, StepOn, Run};
 ghost use Rattle.flight_core.specs.Fetches.{FetchIn};
-ghost use Rattle.table_versions.specs.Database.{after, database_of};
+ghost use Rattle.table_versions.specs.Database.{after};
 ghost use Rattle.flight_core.specs.Refusals.{GivesBehind};
 ghost use Rattle.table_versions.specs.Stored.{put_of};
 ghost use Rattle.flight_core.specs.Payloads.{Payload, FitMessages};
@@ -43,12 +46,12 @@ fn put_answer(alloc: Global, rows: usize) -> Result<Vec<Bytes>, AllocError>
 pub fn step_put(alloc: Global, plain: &mut Plain, read: Result<Put, Fault>) -> Reply
     ensures step { (payloads : List Payload)
         → GivesBehind (command_in payloads) put_of read (put_said payloads)
-        → PutStep plain.old payloads result.payloads.items result.fault plain.new }
+        → PutStep plain.old payloads result.payloads result.fault plain.new }
     ensures unread { IfErr read (λ fault. result.fault ≡ Some fault) }
-    ensures refused { IfOk read (λ put. IfErr (after (database_of plain.old) (length plain.old) (put_of put))
+    ensures refused { IfOk read (λ put. IfErr (after (database_of plain.old) (puts_in plain.old) (put_of put))
         (λ fault. result.fault ≡ Some fault)) }
     ensures puts { ArePuts plain.old → ArePuts plain.new }
-    ensures fits { FitMessages result.payloads.items }
+    ensures fits { FitMessages result.payloads }
 {
     let put = match read {
         Ok(put) => put,
@@ -65,8 +68,8 @@ pub fn step_put(alloc: Global, plain: &mut Plain, read: Result<Put, Fault>) -> R
 }
 
 fn step_fetch(alloc: Global, plain: &Plain, ticket: &[u8]) -> Reply
-    ensures fetch { FetchIn plain.now ticket.now result.payloads.items result.fault }
-    ensures fits { FitMessages result.payloads.items }
+    ensures fetch { FetchIn plain.now ticket.now result.payloads result.fault }
+    ensures fits { FitMessages result.payloads }
 {
     let handle = match read_ticket(ticket) {
         Ok(handle) => handle,
@@ -82,24 +85,25 @@ fn step_fetch(alloc: Global, plain: &Plain, ticket: &[u8]) -> Reply
 /// The reply's fault is one of those of `read_put` and `Plain::put`, or of `read_ticket`, `Plain::at` and
 /// `answer_fetch`, in that order. Each payload has at most 16,777,216 bytes.
 pub fn step(alloc: Global, plain: &mut Plain, event: &Event) -> Reply
-    ensures step { Step plain.old event.now result plain.new }
+    ensures step { StepOn plain.old (asked_in event.now) result plain.new }
     ensures puts { ArePuts plain.old → ArePuts plain.new }
-    ensures fits { FitMessages result.payloads.items }
+    ensures fits { FitMessages result.payloads }
 {
     match event {
         Event::Put(payloads) => step_put(alloc, plain, read_put(alloc, payloads.as_slice())),
-        Event::Fetch(ticket) => step_fetch(alloc, plain, ticket.as_slice()),
+        Event::Fetch { ticket, .. } => step_fetch(alloc, plain, ticket.as_slice()),
     }
 }
 
 /// The replies to a list of events, from the empty log on: one for each. Every version of the log that they leave
-/// has tables alone.
+/// has tables alone. What is refused changes nothing.
 ///
 /// # Errors
 ///
 /// F21 (`Fault::OutOfMemory`) where memory is refused for the list itself, and no other.
 pub fn run(alloc: Global, events: &[Event]) -> Result<Vec<Reply>, Fault>
-    ensures ok { IfOk result (λ replies. (log : Log) × Run [] events.now replies.items log × HasDatabases log) }
+    ensures ok { IfOk result (λ replies. (log : Log) × Run [] (map asked_in events.now) replies.items log
+        × HasDatabases log × RefusedLeaveNothing (map asked_in events.now) replies.items log) }
     ensures err { IfErr result (λ fault. fault ≡ OutOfMemory) }
 {
     let mut plain = Plain::new(alloc)?;

@@ -1,10 +1,11 @@
 //! All versions in a list, without threads.
 
-ghost use Rattle.std.specs.Prelude.{◌≡◌, ◌≢◌, ◌≤◌, ◌<◌, ◌++◌, ◌∷◌, [], length, IfOk, IfErr, IsOk, Ok, Err};
+ghost use Rattle.std.specs.Prelude.{◌≡◌, ◌≢◌, ◌≤◌, ◌<◌, ◌++◌, ◌∷◌, [], IfOk, IfErr, IsOk, Ok, Err};
 ghost use Rattle.scan_base.specs.Reading.{RefusesFirst, first_fault};
 ghost use Rattle.flight_core.specs.Versions.{numbered};
 ghost use Rattle.scan_base.specs.declared.fault.Fault.TheVariants.{OutOfMemory, VersionUnknown};
-ghost use Rattle.table_versions.specs.Database.{after, put_faults, database_of, version};
+ghost use Rattle.flight_core.specs.Log.{puts_in, database_of, version};
+ghost use Rattle.table_versions.specs.Database.{after, put_faults};
 ghost use Rattle.table_versions.specs.Stored.{put_of, tables_of};
 ghost use Rattle.table_versions.specs.Valid.{IsPut};
 
@@ -64,7 +65,7 @@ impl Plain {
 
     // The version of a number that was reached.
     fn version(&self, number: usize) -> &Snapshot
-        requires { number ≤ length self.now }
+        requires { number ≤ puts_in self.now }
         ensures { numbered result.now ≡ (number, version self.now number) }
     {
         if number == 0 {
@@ -75,7 +76,7 @@ impl Plain {
 
     /// The newest version. It takes no memory.
     pub fn current(&self) -> &Snapshot
-        ensures number { result.now.number ≡ length self.now }
+        ensures number { result.now.number ≡ puts_in self.now }
         ensures tables { tables_of result.now.catalog ≡ database_of self.now }
     {
         self.version(self.later.len())
@@ -87,10 +88,10 @@ impl Plain {
     ///
     /// F18 (`Fault::VersionUnknown`) where fewer puts were accepted, and no other.
     pub fn at(&self, number: u64) -> Result<&Snapshot, Fault>
-        ensures within { IfOk result (λ _. number ≤ length self.now) }
+        ensures within { IfOk result (λ _. number ≤ puts_in self.now) }
         ensures number { IfOk result (λ snapshot. snapshot.now.number ≡ number) }
         ensures tables { IfOk result (λ snapshot. tables_of snapshot.now.catalog ≡ version self.now number) }
-        ensures err { IfErr result (λ fault. (fault ≡ VersionUnknown) × (length self.now < number)) }
+        ensures err { IfErr result (λ fault. (fault ≡ VersionUnknown) × (puts_in self.now < number)) }
     {
         if number > self.later.len() as u64 {
             return Err(Fault::VersionUnknown);
@@ -100,7 +101,7 @@ impl Plain {
 
     /// Why a put is refused, if it is. It takes no memory.
     pub fn refusal(&self, put: &Put) -> Option<Fault>
-        ensures { result ≡ first_fault (put_faults (database_of self.now) (length self.now) (put_of put.now)) }
+        ensures { result ≡ first_fault (put_faults (database_of self.now) (puts_in self.now) (put_of put.now)) }
     {
         refusal(self.current(), put)
     }
@@ -113,11 +114,11 @@ impl Plain {
     /// then.
     pub fn put(&mut self, alloc: Global, put: Put) -> Result<(), Fault>
         ensures ok { result ≡ Ok tt → (self.new ≡ self.old ++ put_of put ∷ [])
-            × IsOk (after (database_of self.old) (length self.old) (put_of put)) }
+            × IsOk (after (database_of self.old) (puts_in self.old) (put_of put)) }
         ensures typed { IfOk result (λ _. IsPut (put_of put)) }
         ensures err { IfErr result (λ fault. (self.new ≡ self.old)
-            × (fault ≢ OutOfMemory → after (database_of self.old) (length self.old) (put_of put) ≡ Err fault)) }
-        ensures first { RefusesFirst result (after (database_of self.old) (length self.old) (put_of put)) }
+            × (fault ≢ OutOfMemory → after (database_of self.old) (puts_in self.old) (put_of put) ≡ Err fault)) }
+        ensures first { RefusesFirst result (after (database_of self.old) (puts_in self.old) (put_of put)) }
     {
         let made_by = snapshot::Snapshot::of(&put);
         let catalog = apply(alloc, self.current(), put)?;

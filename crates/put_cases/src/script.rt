@@ -57,7 +57,10 @@ impl Script {
 
     // The reply to a fetch of this ticket.
     fn fetch(&mut self, alloc: Global, word: &str) -> Result<Reply, Fault> {
-        let event = Event::Fetch(self.payload(alloc, word)?);
+        let event = Event::Fetch {
+            ticket: self.payload(alloc, word)?,
+            workers: 1,
+        };
         Ok(step(alloc, &mut self.plain, &event))
     }
 

@@ -10,7 +10,7 @@ use Rattle.flight_core.proofs.machine.step_put.Goals as goal
 pub returns-in-Ok-put-clause-step : goal.returns-in-Ok-put-clause-step
 returns-in-Ok-put-clause-step c payloads gives =
     let made = c.put-2.ensures.ok (search rules) in
-    rw (c.whole.ensures.payloads, c.whole.ensures.fault)
+    rw c.whole.ensures
     (accepted_reply c.args.plain.now c.put-2.new.self payloads c.in-Ok-put_answer.answer.items (put_of c.in-Ok.put) c.rows.result
     (rw c.in-Ok.is at gives) made.1 made.0 c.rows.ensures c.in-Ok-put_answer.ensures.said)
 
@@ -24,7 +24,7 @@ returns-in-Ok-put-clause-puts c = λ puts.
 pub returns-in_default-clause-step : goal.returns-in_default-clause-step
 returns-in_default-clause-step c payloads gives =
     let log = c.args.plain.now in
-    rw (c.refusal-in_default-2.ensures.payloads, c.refusal-in_default-2.ensures.fault) (
+    rw c.refusal-in_default-2.ensures.reply (
       refl,
       refl,
       refused_reply log payloads (put_of c.in-Ok.put) c.unwrap_or-fault.result (rw c.in-Ok.is at gives)
@@ -34,13 +34,13 @@ returns-in_default-clause-step c payloads gives =
 pub returns-in-Err-put-clause-step : goal.returns-in-Err-put-clause-step
 returns-in-Err-put-clause-step c payloads gives =
     let refused = c.in-Err-put.ensures.err in
-    rw (c.refusal-in-Err-put.ensures.payloads, c.refusal-in-Err-put.ensures.fault)
+    rw c.refusal-in-Err-put.ensures.reply
     (refused.0, refl, refused_reply c.args.plain.now payloads (put_of c.in-Ok.put) c.in-Err-put.fault (rw c.in-Ok.is at gives) refused.1)
 
 pub returns-in-Err-put-clause-refused : goal.returns-in-Err-put-clause-refused
 returns-in-Err-put-clause-refused c =
     let log = c.args.plain.now in
-    rw (c.in-Ok.is, c.refusal-in-Err-put.ensures.fault) (first_is _ c.in-Err-put.fault (after (database_of log) (length log) (put_of c.in-Ok.put)) c.in-Err-put.ensures.first)
+    rw (c.in-Ok.is, c.refusal-in-Err-put.ensures.reply) (first_is _ c.in-Err-put.fault (after (database_of log) (length log) (put_of c.in-Ok.put)) c.in-Err-put.ensures.first)
 
 pub returns-in-Ok-put-clause-refused : goal.returns-in-Ok-put-clause-refused
 returns-in-Ok-put-clause-refused c =
