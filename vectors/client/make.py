@@ -100,7 +100,7 @@ join([TWO + " = 8 F20 ResultTooLarge"], "F20 ResultTooLarge")
 join([TWO + " = 3 F13 BadSql at byte 25"], "F13 BadSql at byte 25")
 join([TWO + " = 3 F20 ResultTooLarge"], "F1 BadFrame")
 join([TWO + " = 2 "], "F1 BadFrame")
-join(["= 0"], "F8 BadBatch")
+join([" = 0"], "F8 BadBatch")
 join([" = 5 F18 VersionUnknown"], "F18 VersionUnknown")
 join([TWO], "F22 Transport")
 join(["schema_Int64"], "F22 Transport")
@@ -120,7 +120,7 @@ join([TWO + DONE, "schema_UInt64" + DONE], "F11 SchemaMismatch")
 join([TWO + DONE, "schema_two" + DONE], "F11 SchemaMismatch")
 
 note("dictionaries: each batch keeps its own, and each stream has its own")
-K = "k Dictionary(DictionaryEncoding { id: 1, index: Int8, is_ordered: false }) or null; "
+K = "k Dictionary(DictionaryEncoding { id: 1, index: Int8 }) or null; "
 FRONT = "schema_of_Int8 dictionary_a indices_0"
 join([FRONT + " dictionary_delta_b indices_1_0 dictionary_c indices_0" + DONE], K + '"a",;"b",;"a",;"c",;')
 join([FRONT + DONE, "schema_of_Int8 dictionary_c indices_0" + DONE], K + '"a",;"c",;')
