@@ -5,7 +5,7 @@ mod batch_list;
 pub mod catalog;
 mod cells;
 pub mod commit;
-mod fields;
+pub mod fields;
 mod handles;
 pub mod laws;
 pub mod limits;
@@ -15,6 +15,7 @@ pub mod table;
 
 pub use crate::catalog::CatalogVersion;
 pub use crate::commit::{apply, refusal};
+pub use crate::fields::same_fields;
 pub use crate::limits::{MAX_COMMITS, MAX_NAME_BYTES, MAX_ROWS, MAX_TABLES, MAX_TEXT_BYTES};
 pub use crate::put::Put;
 pub use crate::snapshot::Snapshot;

@@ -1,0 +1,112 @@
+//! Cases, line by line.
+
+use crate::rows::told;
+use bytes::Bytes;
+use flight_client::{Stream, fault_of_status, join};
+use scan_base::Fault;
+use std::alloc::Global;
+
+// A payload by its name.
+#[derive(Drop)]
+struct Named {
+    name: String,
+    payload: Bytes,
+}
+
+/// The payloads that were named.
+#[derive(Drop)]
+pub struct Cases {
+    payloads: Vec<Named>,
+}
+
+// The parts before and behind the first delimiter, or all and nothing.
+fn halves<'a>(line: &'a str, delimiter: &str) -> (&'a str, &'a str) {
+    line.split_once(delimiter).unwrap_or((line, ""))
+}
+
+// The code and the text of a status.
+fn status(words: &str) -> (u8, &str) {
+    let (code, text) = halves(words, " ");
+    (code.parse::<u8>().unwrap_or(u8::MAX), text)
+}
+
+impl Cases {
+    /// No payload.
+    pub fn new(alloc: Global) -> Cases {
+        Cases {
+            payloads: Vec::new(alloc),
+        }
+    }
+
+    fn keep(&mut self, alloc: Global, line: &str) -> Result<(), Fault> {
+        let (name, digits) = halves(line, " ");
+        let Ok(bytes) = hex::decode(alloc, digits) else {
+            return Err(Fault::BadProto);
+        };
+        let name = String::from_str(alloc, name)?;
+        let payload = Bytes::from_vec(bytes)?;
+        self.payloads.push(Named { name, payload })?;
+        Ok(())
+    }
+
+    fn payload(&self, name: &str) -> Result<&Bytes, Fault> {
+        for named in self.payloads.as_slice() {
+            if named.name.as_str() == name {
+                return Ok(&named.payload);
+            }
+        }
+        Err(Fault::UnknownName)
+    }
+
+    // The stream of a case. The faults of refused payloads are told.
+    fn stream(&self, alloc: Global, case: &str, faults: &mut String) -> Result<Stream, Fault> {
+        let mut stream = Stream::new(alloc);
+        let (names, end) = halves(case, " = ");
+        for name in names.split(' ') {
+            if name.is_empty() {
+                continue;
+            }
+            if let Err(fault) = stream.message(alloc, self.payload(name)?) {
+                faults.push_str(fault.text().as_str())?;
+                faults.push_str(", ")?;
+            }
+        }
+        if !end.is_empty() {
+            let (code, text) = status(end);
+            stream.end(code, text);
+        }
+        Ok(stream)
+    }
+
+    fn joined(&self, alloc: Global, case: &str) -> Result<String, Fault> {
+        let mut answer = String::new(alloc);
+        let mut streams = Vec::new(alloc);
+        for part in case.split(" | ") {
+            if !part.is_empty() {
+                streams.push(self.stream(alloc, part, &mut answer)?)?;
+            }
+        }
+        match join(streams) {
+            Ok(rows) => answer.push_str(&told(alloc, &rows)?)?,
+            Err(fault) => answer.push_str(fault.text().as_str())?,
+        }
+        Ok(answer)
+    }
+
+    /// What a line is answered, if it is.
+    pub fn answer(&mut self, alloc: Global, line: &str) -> Result<Option<String>, Fault> {
+        let (word, case) = halves(line, " ");
+        match word {
+            "payload" => {
+                self.keep(alloc, case)?;
+                Ok(None)
+            }
+            "join" => Ok(Some(self.joined(alloc, case)?)),
+            "status" => {
+                let (code, text) = status(case);
+                Ok(Some(format!(in alloc; "{:?}", fault_of_status(code, text))?))
+            }
+            _ => Ok(Some(String::from_str(alloc, line)?)),
+        }
+    }
+}

@@ -1,0 +1,19 @@
+use Rattle.std.proofs.lemmas.Result.{err_from_is_err_and}
+use Rattle.flight_proto.specs.FlightData.{data_said}
+use Rattle.flight_client.proofs.Arrivals.{came_batch, came_none, stays}
+use Rattle.flight_client.proofs.stream.Stream.message.Goals as goal
+
+pub returns-in_err-push-clause-kept : goal.returns-in_err-push-clause-kept
+returns-in_err-push-clause-kept c =
+    let p = err_from_is_err_and c.from_residual-in_err-push.result c.from_residual-in_err-push.ensures.1 in
+    rw p.1 (stays c.args.self.now c.self.inside.reader c.message.new.self c.self.inside.batches.items c.push.new.self.items c.self.inside.end _ c.in-Some.batch c.self.view_is (rw c.in-Some.is at c.in_ok-batch.ensures.exact) c.in_err-push.ensures.items)
+
+pub returns-in_ok-push-clause-came : goal.returns-in_ok-push-clause-came
+returns-in_ok-push-clause-came c payloads came =
+    came_batch payloads c.args.payload.now c.args.self.now c.self.inside.reader c.message.new.self c.self.inside.batches.items c.push.new.self.items c.self.inside.end (data_said c.in_ok-data.data) c.in-Some.batch
+    c.self.view_is c.in_ok-data.ensures (rw c.in-Some.is at c.in_ok-batch.ensures.exact) c.in_ok-push.ensures.items came
+
+pub returns-in_default-clause-came : goal.returns-in_default-clause-came
+returns-in_default-clause-came c payloads came =
+    came_none payloads c.args.payload.now c.args.self.now c.self.inside.reader c.message.new.self c.self.inside.batches.items c.self.inside.end (data_said c.in_ok-data.data)
+    c.self.view_is c.in_ok-data.ensures (rw c.in_default.is at c.in_ok-batch.ensures.exact) came

@@ -1,0 +1,5 @@
+pub mod Status
+pub mod Stream
+pub mod Join
+pub mod Laws
+pub mod inside

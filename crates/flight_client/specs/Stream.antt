@@ -1,0 +1,52 @@
+-- A stream of an answer: what its payloads say, and how it ended.
+use Rattle.std.specs.Prelude.{◌≡◌, ℕ, List, [], ◌++◌, map, Option, Some, None, Result, Ok, Err}
+use Rattle.scan_base.specs.declared.fault.Fault.{Fault}
+use Rattle.scan_base.specs.declared.fault.Fault.TheVariants.{BadBatch, Transport}
+use Rattle.scan_base.specs.Reading.{◌>>=◌, wanted}
+use Rattle.scan_base.specs.Lists.{each}
+use Rattle.arrow_schema.specs.declared.schema.Schema.{Schema}
+use Rattle.flight_proto.specs.FlightData.{DataSaid, data_of}
+use Rattle.ipc_batch.specs.State.{State}
+use Rattle.ipc_batch.specs.Said.{Rows, rows_in, news_of, Follows}
+use Rattle.flight_core.specs.Payloads.{Payload, message_in}
+use Rattle.flight_client.specs.Status.{StatusSays}
+
+-- what payloads left behind: the schema, once it came, with its dictionaries, and the rows; and, once the status came, what
+-- that stands for
+pub record StreamAt : Type 0 where
+  pub state : State
+  pub rows : Rows
+  pub end : Option (Result (Unit {0}) Fault)
+
+-- a stream of which nothing came
+abbrev pub begun : StreamAt
+begun = record { state = None; rows = []; end = None }
+
+-- a stream after one payload more: a FlightData, and the message that it carries
+unfoldable pub after_payload : StreamAt → Payload → Result StreamAt Fault
+after_payload stream payload = do
+  carried ← data_of payload
+  news ← news_of stream.state (message_in carried)
+  Ok (record stream { state = news.state; rows = stream.rows ++ rows_in news.batch })
+
+-- These payloads came, one after another: each carries a message, and what they say is what the stream holds.
+abbrev pub Came : List Payload → StreamAt → Type 0
+Came payloads stream =
+    (all : List DataSaid) × (each data_of payloads ≡ Ok all) × Follows None (map message_in all) stream.state stream.rows
+
+-- the status came, of this code and this text
+abbrev pub Ends : StreamAt → ℕ → List ℕ → StreamAt → Type 0
+Ends old code text new =
+    (end : Result (Unit {0}) Fault) × StatusSays code text end × (new ≡ record old { end = Some end })
+
+-- what a stream ended with; one that was cut off before its status was not carried to its end
+abbrev pub ending : Option (Result (Unit {0}) Fault) → Result (Unit {0}) Fault
+ending (Some end) = end
+ending None = Err Transport
+
+-- the schema of a stream, or its fault: that of its status, or F8 where it ended without a schema
+abbrev pub schema_said : StreamAt → Result Schema Fault
+schema_said stream = do
+  _ ← ending stream.end
+  known ← wanted stream.state BadBatch
+  Ok known.schema

@@ -1,0 +1,13 @@
+//! The client's side of an answer: its streams, read payload by payload, and joined.
+#![tactic(auto)]
+
+pub mod joining;
+pub mod laws;
+pub mod rows;
+pub mod status;
+pub mod stream;
+
+pub use crate::joining::join;
+pub use crate::rows::Rows;
+pub use crate::status::fault_of_status;
+pub use crate::stream::Stream;

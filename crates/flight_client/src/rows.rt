@@ -1,0 +1,64 @@
+//! The rows of an answer.
+
+ghost use Rattle.std.specs.Prelude.{◌≡◌};
+ghost use Rattle.std.specs.List.{flat_map};
+ghost use Rattle.scan_base.specs.Reading.{GivesUnlessMemory};
+ghost use Rattle.arrays.specs.Batch.{rows_of};
+ghost use Rattle.flight_client.specs.inside.Gathered.{gathered_with};
+
+use crate::stream::Stream;
+use arrays::Batch;
+use arrow_schema::Schema;
+use scan_base::Fault;
+use std::marker::Model;
+
+/// The rows of an answer: a schema, and batches one behind another. A contract sees the table that they make.
+#[derive(Drop)]
+pub struct Rows {
+    schema: Schema,
+    batches: Vec<Batch>,
+}
+
+impl Model for Rows {
+    ghost use Rattle.std.specs.List.{flat_map};
+    ghost use Rattle.arrays.specs.Batch.{rows_of};
+    ghost use Rattle.table_versions.specs.Table.{Table};
+
+    ghost Value = { Table };
+
+    ghost view = { λ r. record { schema = r.schema; rows = flat_map rows_of r.batches.items } };
+}
+
+impl Rows {
+    /// The columns.
+    pub fn schema(&self) -> &Schema
+        ensures { result.now ≡ self.now.schema }
+    {
+        &self.schema
+    }
+
+    /// The batches: the rows of each, in order, are all rows.
+    pub fn batches(&self) -> &[Batch]
+        ensures { flat_map rows_of result.now ≡ self.now.rows }
+    {
+        self.batches.as_slice()
+    }
+
+    // The rows of streams before this one, and behind them its own. The first stream gives the schema. The batches
+    // are moved.
+    pub(crate) fn with(rows: Option<Rows>, stream: Stream) -> Result<Rows, Fault>
+        ensures { GivesUnlessMemory (λ rows. rows) result (gathered_with rows stream) }
+    {
+        let Stream {
+            reader,
+            mut batches,
+            ..
+        } = stream;
+        let Some(mut rows) = rows else {
+            let schema = reader.into_schema().ok_or(Fault::BadBatch)?;
+            return Ok(Rows { schema, batches });
+        };
+        rows.batches.append(&mut batches)?;
+        Ok(rows)
+    }
+}
