@@ -5,22 +5,29 @@ use flight_calls::serve;
 use flight_core::Plain;
 use grpc_frame::{Counted, MemoryInput, MemoryOutput, Output};
 use scan_base::Fault;
+use std::alloc::Global;
 use std::io;
 use std::io::{ErrorKind, Write};
 use std::test::Fail;
 
 const TABLE_EXISTS: &[u8] = b"\x04\x06\x00\x0fF10 TableExists";
 
+// What is written to a connection that puts the first run's rows, or none where it did not end well.
+fn put_alone(alloc: Global, plain: &mut Plain) -> MemoryOutput {
+    let mut writer = MemoryOutput::new(alloc);
+    match serve(alloc, &mut MemoryInput::new(PUT), &mut writer, plain) {
+        Ok(()) => writer,
+        Err(_) => MemoryOutput::new(alloc),
+    }
+}
+
 #[test]
 fn two_connections(rt: HostRuntime) -> Result<(), Fail> {
     let mut plain = Plain::new(rt.alloc())?;
-    for want in [PUT_ANSWER, TABLE_EXISTS] {
-        let mut reader = MemoryInput::new(PUT);
-        let mut writer = MemoryOutput::new(rt.alloc());
-        let ended = serve(rt.alloc(), &mut reader, &mut writer, &mut plain);
-        assert!(rt; ended.is_ok());
-        assert!(rt; writer.as_slice() == want);
-    }
+    let first = put_alone(rt.alloc(), &mut plain);
+    assert!(rt; first.as_slice() == PUT_ANSWER);
+    let second = put_alone(rt.alloc(), &mut plain);
+    assert!(rt; second.as_slice() == TABLE_EXISTS);
     Ok(())
 }
 

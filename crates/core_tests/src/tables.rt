@@ -1,6 +1,7 @@
 //! Limits that take many puts or much memory, and what a version shows of its tables. What refuses a put, with columns
 //! of every type, are rows of the program `put_cases`.
 
+use crate::first_run::{joined, part, rest};
 use crate::steps::{FIRST, SECOND};
 use bytes::Bytes;
 use flight_core::read_put;
@@ -13,24 +14,23 @@ use table_versions::laws::{
 };
 use table_versions::{CatalogVersion, MAX_ROWS, Put, Snapshot, apply, refusal};
 
-// Bytes with some of them changed.
-fn changed(alloc: Global, bytes: &[u8], changes: &[(usize, u8)]) -> Result<Vec<u8>, AllocError> {
-    let mut copy = Vec::with_capacity(alloc, bytes.len())?;
-    copy.extend_from_slice(bytes)?;
-    for (place, byte) in changes {
-        if let Some(slot) = copy.get_mut(*place) {
-            *slot = *byte;
-        }
-    }
-    Ok(copy)
-}
-
 // The first payload of a put into a table of a name of one byte: an append that may create it, or a replace.
 fn first(alloc: Global, table: u8, is_append: bool) -> Result<Bytes, AllocError> {
     let mode = if is_append { 2 } else { 3 };
-    let mut bytes = changed(alloc, &FIRST[..78], &[(1, 0x55), (5, 0x51), (77, 9)])?;
-    bytes.extend_from_slice(&[0x0a, 4, 8, 1, 0x10, mode, 0x12, 1, table])?;
-    bytes.extend_from_slice(&FIRST[85..])?;
+    let command = [0x0a, 4, 8, 1, 0x10, mode, 0x12, 1, table];
+    let bytes = joined(
+        alloc,
+        &[
+            part(FIRST, 0, 1),
+            b"\x55",
+            part(FIRST, 2, 5),
+            b"\x51",
+            part(FIRST, 6, 77),
+            b"\x09",
+            &command,
+            rest(FIRST, 85),
+        ],
+    )?;
     Ok(Bytes::from_vec(bytes)?)
 }
 
@@ -48,37 +48,37 @@ fn two(alloc: Global, table: u8) -> Result<Put, Fault> {
     )
 }
 
+// What stands before the body in a batch of so many rows and bytes: two numbers, their lowest byte first.
+fn before_body(alloc: Global, rows: &[u8], bytes: &[u8]) -> Result<Vec<u8>, AllocError> {
+    let (rows, bytes) = (part(rows, 0, 4), part(bytes, 0, 4));
+    joined(
+        alloc,
+        &[
+            part(SECOND, 0, 27),
+            bytes,
+            part(SECOND, 31, 59),
+            rows,
+            part(SECOND, 63, 75),
+            rows,
+            part(SECOND, 79, 123),
+            bytes,
+            part(SECOND, 127, 131),
+            b"\xc2\x3e",
+        ],
+    )
+}
+
 // The batch of so many rows, less than 2^24, all 0.
 fn zeros(alloc: Global, rows: usize) -> Result<Bytes, AllocError> {
-    let body = rows.saturating_mul(8).to_le_bytes();
-    let count = rows.to_le_bytes();
-    let changes = [
-        (27, body[0]),
-        (28, body[1]),
-        (29, body[2]),
-        (30, body[3]),
-        (59, count[0]),
-        (60, count[1]),
-        (61, count[2]),
-        (62, count[3]),
-        (75, count[0]),
-        (76, count[1]),
-        (77, count[2]),
-        (78, count[3]),
-        (123, body[0]),
-        (124, body[1]),
-        (125, body[2]),
-        (126, body[3]),
-    ];
-    let mut bytes = changed(alloc, &SECOND[..131], &changes)?;
-    bytes.extend_from_slice(&[0xc2, 0x3e])?;
-    let mut left = rows.saturating_mul(8);
+    let len = rows.saturating_mul(8);
+    let mut bytes = before_body(alloc, &rows.to_le_bytes(), &len.to_le_bytes())?;
+    let mut left = len;
     for _ in 0..3 {
         bytes.push((left % 128) as u8 | 128)?;
         left /= 128;
     }
     bytes.push((left % 128) as u8)?;
-    bytes.resize(bytes.len().saturating_add(rows.saturating_mul(8)), 0)?;
+    bytes.resize(bytes.len().saturating_add(len), 0)?;
     Ok(Bytes::from_vec(bytes)?)
 }
 
@@ -107,8 +107,10 @@ fn appended(alloc: Global, appends: u16) -> Result<Snapshot, Fault> {
 // How many batches and how many rows the table of a name has.
 fn counts(alloc: Global, snapshot: &Snapshot, name: &str) -> Result<(usize, usize), AllocError> {
     let name = Text::new(alloc, name)?;
-    let found = snapshot.catalog().get(&name);
-    Ok(found.map_or((0, 0), |table| (table.batch_count(), table.rows())))
+    match snapshot.catalog().get(&name) {
+        Some(table) => Ok((table.batch_count(), table.rows())),
+        None => Ok((0, 0)),
+    }
 }
 
 // Appends over several pages of batches, and then a table of a lower name before it.
@@ -142,20 +144,26 @@ fn fault_of(
     }
 }
 
+// The version of a table of the most rows.
+fn full_table(alloc: Global) -> Result<Snapshot, Fault> {
+    let all = put(alloc, first(alloc, b't', true)?, zeros(alloc, MAX_ROWS)?)?;
+    after(alloc, &bare(alloc, 0)?, all)
+}
+
+// Whether it is an append, how many rows are put to a full table, and the fault.
+static PUTS_TO_FULL: [(bool, usize, Option<Fault>); 4] = [
+    (true, 0, None),
+    (true, 1, Some(Fault::LimitReached)),
+    (false, 16_777_216, None),
+    (false, 16_777_217, Some(Fault::LimitReached)),
+];
+
 // 16,777,216 rows are taken and one more is not, put at once or appended.
 #[test]
 fn most_rows(rt: HostRuntime) -> Result<(), Fault> {
-    let alloc = rt.alloc();
-    let all = put(alloc, first(alloc, b't', true)?, zeros(alloc, MAX_ROWS)?)?;
-    let full = after(alloc, &bare(alloc, 0)?, all)?;
-    let past = Some(Fault::LimitReached);
-    for (is_append, rows, wanted) in [
-        (true, 0, None),
-        (true, 1, past),
-        (false, MAX_ROWS, None),
-        (false, MAX_ROWS + 1, past),
-    ] {
-        assert!(rt; fault_of(alloc, &full, is_append, rows)? == wanted);
+    let full = full_table(rt.alloc())?;
+    for (is_append, rows, wanted) in &PUTS_TO_FULL {
+        assert!(rt; fault_of(rt.alloc(), &full, *is_append, *rows)? == *wanted);
     }
     Ok(())
 }
