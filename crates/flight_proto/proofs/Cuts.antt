@@ -1,7 +1,7 @@
 -- Where the fields that are read lie in the message.
 use Rattle.std.proofs.Common.{◌≡◌, ℕ, List, ◌++◌, length, refl, sym, ap, ◌∙◌, append_assoc}
 use Rattle.proto_wire.specs.Standard.{Content, Varint, Fixed64, Chunk, Fixed32, Entry, StandsInFront}
-use Rattle.flight_proto.specs.Cut.{IfChunkEndsBefore}
+use Rattle.flight_proto.specs.Pieces.{IfChunkEndsBefore}
 
 -- the field in front of the message's end is as far from the message's end as what follows it is long
 pub ends_before : (entry : Entry) (message old new : List ℕ) → ((front : List ℕ) × (message ≡ front ++ old)) → StandsInFront entry old new → IfChunkEndsBefore entry.content message (length new)

@@ -2,8 +2,8 @@ pub mod Message
 pub mod Wrapped
 pub mod Any
 pub mod FlightDescriptor
-pub mod Cut
 pub mod FlightData
+pub mod Pieces
 pub mod PutResult
 pub mod Ticket
 pub mod StatementIngest

@@ -1,12 +1,12 @@
 //! `arrow.flight.protocol.FlightData`.
 
-ghost use Rattle.std.specs.Prelude.{◌≡◌, ◌++◌, length, take, option_map, option_copied, IfOk, OnOk, OnErr};
-ghost use Rattle.scan_base.specs.Reading.{GivesUnlessMemory};
+ghost use Rattle.std.specs.Prelude.{◌≡◌, ◌++◌, length, take, option_map, option_copied, ℕ, List, Ok, IfOk, OnOk, OnErr};
+ghost use Rattle.scan_base.specs.Reading.{Gives, GivesUnlessMemory, RefusesFirst};
 ghost use Rattle.proto_wire.specs.Calls.{content_of};
 ghost use Rattle.flight_proto.specs.Message.{embedded_field, spelled};
 ghost use Rattle.flight_proto.specs.FlightDescriptor.{descriptor_said, descriptor_bytes};
 ghost use Rattle.flight_proto.specs.FlightData.{data_with, data_of, data_said, data_bytes, data_head};
-ghost use Rattle.flight_proto.specs.Cut.{EndsBefore, IfChunkEndsBefore};
+ghost use Rattle.flight_proto.specs.Pieces.{EndsBefore, IfChunkEndsBefore, LieIn, pieces_said};
 
 use crate::flight_descriptor::FlightDescriptor;
 use crate::message::Message;
@@ -60,58 +60,90 @@ pub struct FlightData {
     pub data_body: Bytes,
 }
 
-// The cut of the message that this chunk of it is, by how many bytes follow the chunk.
-fn cut(message: &Bytes, chunk: &[u8], bytes_left: usize) -> Result<Bytes, AllocError>
-    requires { EndsBefore chunk.now message.now bytes_left }
-    ensures { IfOk result (λ cut. cut ≡ chunk.now) }
-{
-    let end = message.len() - bytes_left;
-    message.slice(end - chunk.len()..end)
+// A chunk of a message, and how many of the message's bytes follow it.
+#[derive(Clone, Copy)]
+struct Piece<'a> {
+    chunk: &'a [u8],
+    bytes_left: usize,
 }
 
-impl FlightData {
+impl<'a> Piece<'a> {
+    // The cut of the message that this piece of it is.
+    fn cut(self, message: &Bytes) -> Result<Bytes, AllocError>
+        requires { EndsBefore self.chunk.now message.now self.bytes_left }
+        ensures { IfOk result (λ cut. cut ≡ self.entry.chunk.now) }
+    {
+        let end = message.len() - self.bytes_left;
+        message.slice(end - self.chunk.len()..end)
+    }
+}
+
+// What a message of a stream carries, and where it lies in the message.
+#[derive(Clone, Copy)]
+struct Pieces<'a> {
+    data_header: Piece<'a>,
+    data_body: Piece<'a>,
+}
+
+impl<'a> Pieces<'a> {
     // With one field of the message more, which so many bytes follow.
-    fn with_field(
-        self,
-        message: &Bytes,
-        field: &Field<'_>,
-        bytes_left: usize,
-    ) -> Result<FlightData, Fault>
-        requires { IfChunkEndsBefore (content_of field.now.payload) message.now bytes_left }
-        ensures { GivesUnlessMemory data_said result
-            (data_with (data_said self) field.now.number (content_of field.now.payload)) }
+    fn with_field(self, field: &Field<'a>, bytes_left: usize) -> Pieces<'a>
+        ensures said { data_with (pieces_said self.entry) field.now.number (content_of field.now.payload)
+            ≡ Ok (pieces_said result) }
+        ensures within { (message : List ℕ) → LieIn self.entry message
+            → IfChunkEndsBefore (content_of field.now.payload) message bytes_left
+            → LieIn result message }
     {
         match (field.number, field.payload) {
-            (2, Payload::Bytes(header)) => Ok(FlightData {
-                data_header: cut(message, header, bytes_left)?,
+            (2, Payload::Bytes(chunk)) => Pieces {
+                data_header: Piece { chunk, bytes_left },
                 ..self
-            }),
-            (1000, Payload::Bytes(body)) => Ok(FlightData {
-                data_body: cut(message, body, bytes_left)?,
+            },
+            (1000, Payload::Bytes(chunk)) => Pieces {
+                data_body: Piece { chunk, bytes_left },
                 ..self
-            }),
-            _ => Ok(self),
+            },
+            _ => self,
         }
     }
 
+    // The pieces of a message. No memory is taken.
+    fn read(message: &'a [u8]) -> Result<Pieces<'a>, Fault>
+        ensures value { Gives pieces_said result (data_of message.now) }
+        ensures within { IfOk result (λ pieces. LieIn pieces message.now) }
+    {
+        let nothing = Piece {
+            chunk: &[],
+            bytes_left: 0,
+        };
+        let mut pieces = Pieces {
+            data_header: nothing,
+            data_body: nothing,
+        };
+        let mut fields = Fields::new(message);
+        while let Some(field) = fields.next()? {
+            pieces = pieces.with_field(&field, fields.bytes_left());
+        }
+        Ok(pieces)
+    }
+}
+
+impl FlightData {
     /// What a message of a stream carries. Its bytes are shared and not copied.
     ///
     /// # Errors
     ///
-    /// `Fault::BadProto` where the message is no list of fields, and `Fault::OutOfMemory` where a cut
-    /// of it is refused.
+    /// `Fault::BadProto` where the message is no list of fields, and `Fault::OutOfMemory` where it is one
+    /// and a cut of it is refused.
     pub fn read(message: &Bytes) -> Result<FlightData, Fault>
-        ensures { GivesUnlessMemory data_said result (data_of message.now) }
+        ensures value { GivesUnlessMemory data_said result (data_of message.now) }
+        ensures first { RefusesFirst result (data_of message.now) }
     {
-        let mut data = FlightData {
-            data_header: Bytes::new(),
-            data_body: Bytes::new(),
-        };
-        let mut fields = Fields::new(message.as_slice());
-        while let Some(field) = fields.next()? {
-            data = data.with_field(message, &field, fields.bytes_left())?;
-        }
-        Ok(data)
+        let pieces = Pieces::read(message.as_slice())?;
+        Ok(FlightData {
+            data_header: pieces.data_header.cut(message)?,
+            data_body: pieces.data_body.cut(message)?,
+        })
     }
 }
 
