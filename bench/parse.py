@@ -8,12 +8,15 @@ of the processor, in user mode, the best of five runs. Build the program first, 
 """
 
 import os
+import pathlib
 import subprocess
 import sys
 import tempfile
 
-from pipe import ROOT, chunk
-from first_run import END, PACKAGE, record_message, record_open
+sys.path.insert(0, str(pathlib.Path(__file__).resolve().parent.parent / "scripts"))
+
+from built import program  # noqa: E402
+from wire import call, query_handle, ticket  # noqa: E402
 
 BYTES = 16_384
 CALLS = 1_000
@@ -71,25 +74,21 @@ TEXTS = {
 
 def fetch(text):
     """One fetch of the text, of no rows, at version 0."""
-    handle = b"\x01" + bytes(16) + text.encode()
-    ticket = chunk(1, PACKAGE + b"TicketStatementQuery") + chunk(2, chunk(1, handle))
-    return record_open(b"DoGet") + record_message(chunk(1, ticket)) + END
+    return call(b"DoGet", [ticket(query_handle(0, 0, 0, text.encode()))])
 
 
-def user_seconds(program, source):
+def user_seconds(path, source):
     with open(source, "rb") as feed, open(os.devnull, "wb") as out:
-        child = subprocess.Popen([program, "pipe"], stdin=feed, stdout=out)
+        child = subprocess.Popen([path, "pipe"], stdin=feed, stdout=out)
         _, status, usage = os.wait4(child.pid, 0)
     code = os.waitstatus_to_exitcode(status)
     if code != 0:
-        sys.exit(f"{program} pipe ended with {code}")
+        sys.exit(f"{path} pipe ended with {code}")
     return usage.ru_utime
 
 
 def main():
-    program = sys.argv[1] if len(sys.argv) > 1 else str(ROOT / "crates/flightscan/out/flightscan")
-    if not os.path.exists(program):
-        sys.exit("build the program first: cd crates/flightscan && rt run -- pipe < stdin > /dev/null")
+    path = program(*sys.argv[1:2])
     print(f"{'text of 16,384 bytes':32}{'milliseconds':>13}")
     spent = {}
     with tempfile.TemporaryDirectory() as folder:
@@ -98,7 +97,7 @@ def main():
             source = os.path.join(folder, "fetches")
             with open(source, "wb") as out:
                 out.write(fetch(text) * CALLS)
-            spent[name] = min(user_seconds(program, source) for _ in range(RUNS)) / CALLS * 1_000
+            spent[name] = min(user_seconds(path, source) for _ in range(RUNS)) / CALLS * 1_000
             print(f"{name:32}{spent[name] - (spent['nothing'] if name != 'nothing' else 0):13.3f}", flush=True)
 
 

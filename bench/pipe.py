@@ -18,58 +18,18 @@ import time
 ROOT = pathlib.Path(__file__).resolve().parent.parent
 sys.path[:0] = [str(ROOT / "scripts"), str(ROOT / "vectors/arrow")]
 
-from first_run import END, PACKAGE, record_message, record_open  # noqa: E402
+from built import program  # noqa: E402
 from layout import written  # noqa: E402
+from trees import UTF8, batch, dictionary, encoding, field, integer, schema, texts  # noqa: E402
+from wire import END, call, chunk, descriptor, packed, query_handle, record_message, record_open, ticket  # noqa: E402
 
 BATCH_ROWS = 65_536
 RUNS = 5
 
 
-def varint(number):
-    groups = []
-    while number >= 128:
-        groups.append(number % 128 + 128)
-        number //= 128
-    return bytes(groups + [number])
-
-
-def chunk(number, content):
-    """A field of bytes."""
-    return varint(number * 8 + 2) + varint(len(content)) + content
-
-
-def message(kind, tree, length=0):
-    """The header of a message, laid out as a writer of FlatBuffers would."""
-    return written("Message", {
-        "version": "V5", "header_type": kind, "header": tree, "bodyLength": length}, "spread")
-
-
-def schema(type_kind, type_tree, **more):
-    field = {"name": "a", "nullable": True, "type_type": type_kind, "type": type_tree, **more}
-    return message("Schema", {"fields": [field]})
-
-
-def batch_tree(rows, nulls, buffers):
-    """The RecordBatch of one column, and the body that its buffers make."""
-    places, body = [], b""
-    for buffer in buffers:
-        places.append({"offset": len(body), "length": len(buffer)})
-        body += buffer + bytes(-len(buffer) % 8)
-    node = {"length": rows, "null_count": nulls}
-    return {"length": rows, "nodes": [node], "buffers": places}, body
-
-
-def batch(rows, nulls, buffers):
-    tree, body = batch_tree(rows, nulls, buffers)
-    return message("RecordBatch", tree, len(body)), body
-
-
-def text_buffers(texts):
-    """The offsets and the bytes of texts."""
-    offsets = [0]
-    for text in texts:
-        offsets.append(offsets[-1] + len(text))
-    return struct.pack(f"<{len(offsets)}i", *offsets), b"".join(texts)
+def message(tree, body=b""):
+    """A header, laid out as a writer of FlatBuffers would, and a body."""
+    return written("Message", tree, "spread"), body
 
 
 class Longs:
@@ -78,10 +38,10 @@ class Longs:
     name, rows = "Int64", 8_000_000
 
     def first(self):
-        yield schema("Int", {"bitWidth": 64, "is_signed": True}), b""
+        yield message(schema(field("a", integer(64, True))))
 
     def batch(self, first, last):
-        return batch(last - first, 0, [b"", struct.pack(f"<{last - first}q", *range(first, last))])
+        return message(*batch(last - first, (0, b"", struct.pack(f"<{last - first}q", *range(first, last)))))
 
 
 class Texts:
@@ -90,13 +50,13 @@ class Texts:
     name, rows = "Utf8", 2_000_000
 
     def first(self):
-        yield schema("Utf8", {}), b""
+        yield message(schema(field("a", UTF8)))
 
     def batch(self, first, last):
         count = last - first
-        texts = [b"" if row % 8 == 7 else b"text of row %08d" % row for row in range(first, last)]
+        parts = [b"" if row % 8 == 7 else b"text of row %08d" % row for row in range(first, last)]
         validity = b"\x7f" * (count // 8) + (b"\x7f" if count % 8 else b"")
-        return batch(count, count // 8, [validity, *text_buffers(texts)])
+        return message(*batch(count, (count // 8, validity, *texts(parts))))
 
 
 class Words:
@@ -106,13 +66,12 @@ class Words:
     words = [b"word %015d" % number for number in range(1_000)]
 
     def first(self):
-        yield schema("Utf8", {}, dictionary={"id": 7}), b""
-        tree, body = batch_tree(len(self.words), 0, [b"", *text_buffers(self.words)])
-        yield message("DictionaryBatch", {"id": 7, "data": tree}, len(body)), body
+        yield message(schema(field("a", UTF8, dictionary=encoding(7))))
+        yield message(*dictionary(7, batch(len(self.words), (0, b"", *texts(self.words)))))
 
     def batch(self, first, last):
         indices = [row % len(self.words) for row in range(first, last)]
-        return batch(last - first, 0, [b"", struct.pack(f"<{last - first}i", *indices)])
+        return message(*batch(last - first, (0, b"", struct.pack(f"<{last - first}i", *indices))))
 
 
 def messages(column):
@@ -124,9 +83,7 @@ def messages(column):
 
 def put(column):
     """The records of a put, piece by piece. The command stands in the first message."""
-    ingest = b"\x0a\x02\x08\x01\x12\x01t"
-    command = chunk(1, PACKAGE + b"CommandStatementIngest") + chunk(2, ingest)
-    front = chunk(1, b"\x08\x02" + chunk(2, command))
+    front = chunk(1, descriptor(packed(b"CommandStatementIngest", b"\x0a\x02\x08\x01\x12\x01t")))
     yield record_open(b"DoPut")
     for header, body in messages(column):
         yield record_message(front + chunk(2, header) + chunk(1000, body))
@@ -135,9 +92,7 @@ def put(column):
 
 
 def fetch(column):
-    handle = b"\x01" + struct.pack(">QII", 1, 0, column.rows) + b"SELECT * FROM t"
-    ticket = chunk(1, PACKAGE + b"TicketStatementQuery") + chunk(2, chunk(1, handle))
-    return record_open(b"DoGet") + record_message(chunk(1, ticket)) + END
+    return call(b"DoGet", [ticket(query_handle(1, 0, column.rows, b"SELECT * FROM t"))])
 
 
 def run(command, source):
@@ -187,12 +142,9 @@ def measure(program, column, folder):
 
 
 def main():
-    program = ROOT / "crates/flightscan/out/flightscan"
-    if not program.exists():
-        sys.exit("build the program first: cd crates/flightscan && rt run -- pipe < stdin > /dev/null")
     with tempfile.TemporaryDirectory() as folder:
         for column in (Longs(), Texts(), Words()):
-            measure(program, column, folder)
+            measure(program(), column, folder)
 
 
 if __name__ == "__main__":

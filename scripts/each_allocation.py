@@ -15,7 +15,8 @@ import subprocess
 import sys
 import tempfile
 
-ROOT = pathlib.Path(__file__).resolve().parent.parent
+from built import ROOT, program
+
 CRATE = ROOT / "crates/flightscan"
 PUT_LENGTH = 407
 
@@ -37,14 +38,14 @@ def allowed(rows):
     return outcomes
 
 
-def run(program, bytes_in, shim, number, counted):
+def run(path, bytes_in, shim, number, counted):
     preload = {"LD_PRELOAD": str(shim), "REFUSED": str(number), "COUNTED": str(counted)}
-    done = subprocess.run([program, "pipe"], input=bytes_in, capture_output=True, env=os.environ | preload)
+    done = subprocess.run([path, "pipe"], input=bytes_in, capture_output=True, env=os.environ | preload)
     return done.stdout, done.stderr, done.returncode
 
 
 def main():
-    program = sys.argv[1] if len(sys.argv) > 1 else str(CRATE / "out/flightscan")
+    path = program(*sys.argv[1:2])
     first_run = (CRATE / "stdin").read_bytes()
     put, fetch = first_run[:PUT_LENGTH], first_run[PUT_LENGTH:]
     answers = (CRATE / "stdout").read_bytes()
@@ -56,10 +57,10 @@ def main():
         source = ROOT / "scripts/refuse_allocation.c"
         subprocess.run(["cc", "-shared", "-fPIC", "-O1", "-o", shim, source, "-ldl"], check=True)
         counted = pathlib.Path(folder) / "counted"
-        run(program, put + put + fetch + fetch, shim, 0, counted)
+        run(path, put + put + fetch + fetch, shim, 0, counted)
         allocations = int(counted.read_text())
         for number in range(1, allocations + 1):
-            outcome = run(program, put + put + fetch + fetch, shim, number, counted)
+            outcome = run(path, put + put + fetch + fetch, shim, number, counted)
             if outcome not in outcomes:
                 sys.exit(f"allocation {number}: status {outcome[2]}, said {outcome[1]}, wrote {outcome[0].hex(' ')}")
             seen[outcomes[outcome]] += 1

@@ -4,7 +4,8 @@
 The parts are those of the appendix of docs/PROTOCOL.md. Each length that stands there is checked.
 """
 
-import pathlib
+from built import ROOT
+from wire import END, PACKAGE, record_message, record_open
 
 SCHEMA_HEADER = bytes.fromhex("""
 10 00 00 00 00 00 0A 00 0C 00 08 00 0A 00 04 00
@@ -29,26 +30,11 @@ BATCH_HEADER = bytes.fromhex("""
 
 BODY = bytes.fromhex("01 00 00 00 00 00 00 00 02 00 00 00 00 00 00 00")
 
-PACKAGE = b"type.googleapis.com/arrow.flight.protocol.sql."
-SERVICE = b"/arrow.flight.protocol.FlightService/"
-
 
 def of_length(part, length):
     """The part, whose length must be this."""
     assert len(part) == length, (part, len(part), length)
     return part
-
-
-def record_open(method):
-    path = SERVICE + method
-    return b"\x01" + len(path).to_bytes(2, "big") + path
-
-
-def record_message(message):
-    return b"\x02\x00" + len(message).to_bytes(4, "big") + message
-
-
-END = b"\x03"
 
 
 def first_run():
@@ -68,5 +54,4 @@ def first_run():
 
 
 if __name__ == "__main__":
-    root = pathlib.Path(__file__).resolve().parent.parent
-    (root / "crates/flightscan/stdin").write_bytes(of_length(first_run(), 565))
+    (ROOT / "crates/flightscan/stdin").write_bytes(of_length(first_run(), 565))

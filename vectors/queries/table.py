@@ -5,7 +5,6 @@ t      two nullable columns of Int64, a and b, in three batches of two rows
 types  a column of every type, in six rows
 large  a column of every type, in 70,000 rows, of which all but two are the same
 """
-import itertools
 import json
 import pathlib
 import sys
@@ -14,8 +13,9 @@ sys.dont_write_bytecode = True
 HERE = pathlib.Path(__file__).parent
 sys.path.append(str(HERE.parent / "arrow"))
 import layout
-from cases import BOOL, DECIMAL, INTS, UTF8, batch, dictionary, encoding, field, integer, offsets, schema
+from cases import INTS
 from reader import Reader
+from trees import BOOL, DECIMAL, UTF8, batch, bits, dictionary, encoding, field, integer, schema, texts, validity
 
 MOST = 10**38 - 1  # of a decimal of 38 digits
 WHOLE = [(("i" if signed else "u") + str(bits), integer(bits, signed)) for _, bits, signed, *_ in INTS]
@@ -23,10 +23,10 @@ OTHERS = [("d", DECIMAL), ("s", UTF8), ("f", BOOL), ("g", BOOL), ("c", None)]
 
 # What each column of `types` holds. Under its null a column of whole numbers holds 1, as in a row that is not null.
 SIX = [("k", integer(8, True), [1, 2, 3, 4, 5, 6])]
-for name, bits, signed, least, most, *_ in INTS:
-    half = 2 ** (bits - 1)
+for name, width, signed, least, most, *_ in INTS:
+    half = 2 ** (width - 1)
     rows = [least, None, most, -1, 1, 0] if signed else [0, None, most, half, 1, half - 1]
-    SIX.append((("i" if signed else "u") + str(bits), integer(bits, signed), rows))
+    SIX.append((("i" if signed else "u") + str(width), integer(width, signed), rows))
 SIX += [
     ("d", DECIMAL, [-MOST, None, MOST, -1, 1, 0]),
     ("s", UTF8, ["", None, "\U00010000", "Z", "a", "a "]),
@@ -44,23 +44,14 @@ ROWS, ODD = 70_000, 65_536
 LONG = "b" * 65_536  # the greatest length of a text
 
 
-def bits(flags):
-    return sum(flag << place for place, flag in enumerate(flags)).to_bytes((len(flags) + 7) // 8, "little")
-
-
-def validity(values):
-    return bits([value is not None for value in values]) if None in values else b""
-
-
 def numbers(width, values):
     """Under a null stands a 1."""
     return b"".join((1 if value is None else value).to_bytes(width, "little", signed=(value or 0) < 0) for value in values)
 
 
-def texts(values, under="a"):
+def texts_of(values, under="a"):
     """Under a null stands an 'a'."""
-    parts = [(under if value is None else value).encode() for value in values]
-    return [offsets(*itertools.accumulate(map(len, parts), initial=0)), b"".join(parts)]
+    return texts([(under if value is None else value).encode() for value in values])
 
 
 def column(of, values, slots, under="a"):
@@ -68,7 +59,7 @@ def column(of, values, slots, under="a"):
     if of is None:
         return slots.count(None), validity(slots), numbers(2, [0 if slot is None else slot for slot in slots])
     if of is UTF8:
-        return *nulls, *texts(values, under)
+        return *nulls, *texts_of(values, under)
     if of is BOOL:
         return *nulls, bits([value in (True, None) for value in values])
     return *nulls, numbers(of[1].get("bitWidth", 128) // 8, values)
@@ -93,7 +84,7 @@ def two_columns():
 
 def six_rows():
     """The put of `types`."""
-    entries = dictionary(7, batch(len(ENTRIES), (ENTRIES.count(None), validity(ENTRIES), *texts(ENTRIES))))
+    entries = dictionary(7, batch(len(ENTRIES), (ENTRIES.count(None), validity(ENTRIES), *texts_of(ENTRIES))))
     rows = batch(6, *(column(of, values, SLOTS) for _, of, values in SIX))
     return "types", SIX, [(schema(*fields(SIX)), b""), entries, rows]
 
@@ -109,7 +100,7 @@ def many_rows():
     columns = [("k", integer(32, True), like(1, 3, 2))]
     columns += [(name, of, like(1, None, 2)) for name, of in [*WHOLE, ("d", DECIMAL)]]
     columns += [("s", UTF8, like("", None, LONG)), ("f", BOOL, like(False, None, True)), ("c", None, like("x", None, "y"))]
-    entries = dictionary(7, batch(2, (0, b"", *texts(["x", "y"]))))
+    entries = dictionary(7, batch(2, (0, b"", *texts_of(["x", "y"]))))
     slots = like(0, None, 1)
     rows = batch(ROWS, *(column(of, values, slots, "") for _, of, values in columns))
     return "large", columns, [(schema(*fields(columns)), b""), entries, rows]

@@ -1,0 +1,329 @@
+#!/usr/bin/env python3
+"""Random interleavings of puts, flight infos and fetches through `flightscan pipe`, compared with a plain list model.
+
+    python3 scripts/interleavings.py [--count N] [--seed S] [--program PATH] [--without-infos]
+
+Each interleaving is the input of one `pipe`: puts (refused ones too), GetFlightInfo and GetSchema of queries and of the
+tables, and every endpoint of every info, fetched in any order and much later than its info. Compared are each put's
+answer; each info's fields, tickets and schema; each fetch's rows with those of its range; and, once the input is
+through, the joined rows of each info's endpoints with those of its query on the tables as they stood when it was given.
+
+The input is written before the program runs: what a ticket has to be is known from the rules, and an info's tickets
+are compared with those that are fetched, byte for byte. With --without-infos no info is asked for, and the tickets
+alone are fetched. It ends with 1 at the first difference, and says the seed and the calls. Seeds are S, S + 1, ..;
+of one seed the calls are always the same. Build the program first, as for bench/pipe.py.
+"""
+
+from __future__ import annotations
+
+import argparse
+import collections
+import pathlib
+import subprocess
+import sys
+import tempfile
+from dataclasses import dataclass
+from random import Random
+
+sys.dont_write_bytecode = True
+ROOT = pathlib.Path(__file__).resolve().parent.parent
+sys.path += [str(ROOT / "vectors" / folder) for folder in ("arrow", "flight", "queries")]
+
+import wire  # noqa: E402
+from built import program  # noqa: E402
+from random_calls import plain_model as model  # noqa: E402
+from random_calls.answers import Difference, FlightInfo, PutCount, Refusal, Rows, SchemaResult, Wanted  # noqa: E402
+from random_calls.answers import same  # noqa: E402
+from random_calls.plain_model import Column, Database, Query, Refused, Row  # noqa: E402
+from random_calls.puts import made_put  # noqa: E402
+from random_calls.queries import Asker, Speller, no_sentence  # noqa: E402
+from random_calls.refused import FETCHES, QUERY, TABLES, WITH_INFOS  # noqa: E402
+from reader import Fault  # noqa: E402
+
+SECONDS = 60  # that one interleaving may take
+LONGEST_TEXT = 16_384
+KINDS = {b"DoPut": "puts", b"GetFlightInfo": "infos", b"GetSchema": "schemas", b"DoGet": "fetches"}
+OTHER = "other calls"
+
+
+@dataclass
+class Call:
+    """A call in words and as bytes, and what has to be answered."""
+
+    kind: str
+    said: str
+    records: bytes
+    wanted: Wanted
+
+
+@dataclass
+class Question:
+    """What an info or a schema asks for: the tables, or a text, which says a query or has a fault."""
+
+    said: str
+    descriptor: bytes
+    text: bytes | None = None
+    query: Query | None = None
+    fault: str | None = None
+
+    def columns(self, database: Database) -> list[Column]:
+        """The columns of the answer, or the first fault."""
+        model.demand(self.fault is None, self.fault)
+        return list(model.answer_columns(self.query, database) if self.query else model.TABLE_COLUMNS)
+
+    def size(self, database: Database) -> int:
+        """How many rows are cut in ranges."""
+        return len(database[self.query.table].rows if self.query else database)
+
+    def ranges(self, database: Database, parts: int) -> list[tuple[int, int]]:
+        """The ranges of the endpoints. The tables have one endpoint."""
+        return model.split(self.size(database), parts if self.query else 1)
+
+    def rows(self, database: Database, first: int, end: int) -> list[Row]:
+        """The rows that a range means."""
+        if self.query is None:
+            return model.tables_of(database).rows[first:end]
+        return model.answer_rows(self.query, database, first, end)
+
+    def handle(self, version: int, first: int, end: int) -> bytes:
+        if self.text is None:
+            return wire.tables_handle(version)
+        return wire.query_handle(version, first, end, self.text)
+
+
+@dataclass
+class Info:
+    """An info that was given, with the tables as they then stood, and what its endpoints gave."""
+
+    number: int
+    question: Question
+    database: Database
+    ranges: list[tuple[int, int]]
+    handles: list[bytes]
+    streams: list[list[Row] | None]
+
+    def look_at_the_join(self) -> None:
+        """The streams, joined in the order of the endpoints, are the rows of the question."""
+        rows = self.question.rows(self.database, 0, self.question.size(self.database))
+        same(f"the joined rows of info {self.number}", rows, [row for stream in self.streams for row in stream])
+
+
+class Interleaving:
+    """The calls of one connection, made from a seed, with what each has to be answered."""
+
+    def __init__(self, seed: int, infos: bool):
+        self.random, self.asks, self.seed = Random(seed), infos, seed
+        self.parts = self.random.choice([1, 2, 3, 7, 63, 64, self.random.randint(1, 64)])
+        self.versions: list[Database] = [{}]
+        self.calls: list[Call] = []
+        self.infos: list[Info] = []
+        self.waiting: list[tuple[Info, int]] = []  # endpoints that are still to be fetched
+        for _ in range(self.random.randint(0, 3)):
+            self.put()
+        steps = [*[self.put] * 4, *[self.ask] * 2, self.schema, self.stray, self.refused]
+        steps += [self.fetch] * self.random.choice([0, 3, 10])
+        for _ in range(self.random.choice([3, 10, 20, 40])):
+            self.random.choice(steps)()
+        while self.waiting:
+            self.fetch()
+
+    def add(self, method: bytes, said: str, messages: list[bytes], wanted: Wanted) -> None:
+        self.calls.append(Call(KINDS.get(method, OTHER), said, wire.call(method, messages), wanted))
+
+    def put(self) -> None:
+        """A put, which makes the next version; or its fault, and no version."""
+        made = made_put(self.random, self.versions[-1])
+        try:
+            model.demand(made.fault is None, made.fault)
+            self.versions.append(model.after(self.versions[-1], made.put))
+            wanted = PutCount(len(made.put.table.rows))
+        except Refused as refused:
+            wanted = Refusal(refused.fault)
+        self.add(b"DoPut", made.said, made.messages, wanted)
+
+    # ---- infos and schemas
+
+    def question(self) -> Question:
+        """A query over the tables of now or before, a text that does not parse, or the tables."""
+        chance, newest = self.random.random(), self.versions[-1]
+        if chance < 0.1 and self.asks:
+            no_schemas = wire.scalar(5, 0) if self.random.random() < 0.2 else b""
+            return Question("the tables", self.descriptor(TABLES, no_schemas))
+        query, fault = None, None
+        if chance < 0.96:
+            query = Asker(self.random, newest if chance < 0.9 else self.random.choice(self.versions)).query()
+            text = Speller(self.random).query(query)
+        else:
+            text, fault = no_sentence(self.random, newest)
+        if len(text.encode()) > LONGEST_TEXT:
+            fault = "F12"
+        return Question(repr(text), self.descriptor(QUERY, wire.chunk(1, text.encode())), text.encode(), query, fault)
+
+    def descriptor(self, name: bytes, command: bytes) -> bytes:
+        """A descriptor of a command, written in one of the ways that mean it."""
+        prefix = self.random.choice([wire.PACKAGE, wire.PACKAGE, b"/arrow.flight.protocol.sql.", b"a/b" + wire.PACKAGE])
+        fields = [wire.scalar(1, 2), wire.chunk(2, wire.chunk(1, prefix + name) + wire.chunk(2, command))]
+        if self.random.random() < 0.3:
+            fields += [wire.scalar(1, 2), wire.chunk(9, b"unknown"), wire.chunk(3, b"path")]
+            self.random.shuffle(fields)
+        return b"".join(fields)
+
+    def ask(self) -> None:
+        """An info, whose endpoints then wait to be fetched; or its fault."""
+        question, database, version = self.question(), self.versions[-1], len(self.versions) - 1
+        said = f"info {len(self.infos) + 1} of {question.said}"
+        try:
+            columns, ranges = question.columns(database), question.ranges(database, self.parts)
+            handles = [question.handle(version, first, end) for first, end in ranges]
+            info = Info(len(self.infos) + 1, question, database, ranges, handles, [None] * len(ranges))
+            self.infos.append(info)
+            self.waiting += [(info, endpoint) for endpoint in range(len(ranges))]
+            wanted = FlightInfo(columns, question.descriptor, handles)
+        except Refused as refused:
+            wanted = Refusal(refused.fault)
+        if self.asks:
+            self.add(b"GetFlightInfo", said, [question.descriptor], wanted)
+
+    def schema(self) -> None:
+        """A schema, or its fault."""
+        question = self.question()
+        try:
+            wanted = SchemaResult(question.columns(self.versions[-1]))
+        except Refused as refused:
+            wanted = Refusal(refused.fault)
+        if self.asks:
+            self.add(b"GetSchema", f"schema of {question.said}", [question.descriptor], wanted)
+
+    # ---- fetches
+
+    def fetch(self) -> None:
+        """One of the endpoints that wait; some are fetched again later."""
+        if self.waiting:
+            place = self.random.randrange(len(self.waiting))
+            info, endpoint = self.waiting[place] if self.random.random() < 0.1 else self.waiting.pop(place)
+            columns, (first, end) = info.question.columns(info.database), info.ranges[endpoint]
+            wanted = Rows(columns, info.question.rows(info.database, first, end), info.streams, endpoint)
+            said = f"fetch of info {info.number}, endpoint {endpoint}: rows {first} to {end}"
+            self.add(b"DoGet", said, [wire.ticket(info.handles[endpoint])], wanted)
+
+    def stray(self) -> None:
+        """A fetch by a ticket that no info gave: of any version and range."""
+        question, version = self.question(), self.random.randrange(len(self.versions) + 1)
+        first = end = 0
+        try:
+            model.demand(version < len(self.versions), "F18")
+            database = self.versions[version]
+            columns, size = question.columns(database), question.size(database)
+            if question.query is None:
+                end = size
+            else:
+                first, end = self.random.randrange(size + 1), self.random.randrange(size + 2)
+            model.demand(first <= end <= size, "F17")
+            wanted = Rows(columns, question.rows(database, first, end), [None], 0)
+        except Refused as refused:
+            wanted = Refusal(refused.fault if refused.fault == "F18" else "F17")
+        said = f"fetch of version {version}, rows {first} to {end} of {question.said}"
+        self.add(b"DoGet", said, [wire.ticket(question.handle(version, first, end))], wanted)
+
+    def refused(self) -> None:
+        """A call that is refused whatever the tables are."""
+        call = self.random.choice(WITH_INFOS if self.asks else FETCHES)
+        self.add(call.method, f"{call.method.decode()} with {call.amiss}", call.messages, Refusal(call.fault))
+
+
+# ---- a run
+
+
+@dataclass
+class Outcome:
+    """What the program did, and the first difference with the number of its call, or none of them."""
+
+    status: int | None
+    said: bytes
+    written: bytes
+    difference: str | None = None
+    call: int | None = None
+
+
+def run(path: str, interleaving: Interleaving) -> Outcome:
+    """Gives one `pipe` the records of all calls, back to back."""
+    options = ["--parts", str(interleaving.parts)] if interleaving.asks else []
+    records = b"".join(call.records for call in interleaving.calls)
+    try:
+        done = subprocess.run([path, "pipe", *options], input=records, capture_output=True, timeout=SECONDS)
+    except subprocess.TimeoutExpired as late:
+        return Outcome(None, late.stderr or b"", late.stdout or b"")
+    return Outcome(done.returncode, done.stderr, done.stdout)
+
+
+def compare(interleaving: Interleaving, outcome: Outcome) -> None:
+    """Looks at each answer, at the joins and at how the program ended, and keeps the first difference."""
+    source = wire.Bytes(outcome.written)
+    try:
+        for outcome.call, call in enumerate(interleaving.calls, 1):
+            call.wanted.look(wire.answer(source))
+        outcome.call = None
+        same("the bytes behind the last answer", 0, len(source.data) - source.place)
+        for info in interleaving.infos:
+            info.look_at_the_join()
+        same("the exit status and standard error", (0, b""), (outcome.status, outcome.said))
+    except (Difference, wire.Unreadable) as found:
+        outcome.difference = str(found)
+    except (Fault, ValueError, IndexError) as found:
+        outcome.difference = f"an answer that does not read: {found!r}"
+
+
+def tell(interleaving: Interleaving, outcome: Outcome, switches: list[str]) -> None:
+    """Prints a difference behind the calls up to it, and how to run them again."""
+    seed, calls = interleaving.seed, interleaving.calls
+    for number, call in enumerate(calls[: outcome.call], 1):
+        print(f"{number:4} {call.said}")
+    where = f"call {outcome.call} of {len(calls)}" if outcome.call else f"the end of {len(calls)} calls"
+    lines = [line if len(line) < 2000 else line[:2000] + " .." for line in outcome.difference.splitlines()]
+    print(f"seed {seed}, a difference at {where}:", "\n".join(lines))
+    print(f"the program ended with {outcome.status} and said {outcome.said[:500]!r}")
+    kept = pathlib.Path(tempfile.gettempdir()) / f"interleaving_{seed}.bin"
+    kept.write_bytes(b"".join(call.records for call in calls))
+    print(f"its input, with --parts {interleaving.parts}, is in {kept}")
+    print(" ".join(["again: python3 scripts/interleavings.py --count 1 --seed", str(seed), *switches]))
+
+
+def count(interleaving: Interleaving, counts: collections.Counter) -> None:
+    """Adds an interleaving that went well to the counts."""
+    for call in interleaving.calls:
+        counts[call.kind] += 1
+        counts[call.kind, "refused"] += isinstance(call.wanted, Refusal)
+        counts["rows"] += len(call.wanted.rows) if isinstance(call.wanted, Rows) else 0
+    counts["joins"] += len(interleaving.infos)
+    counts["endpoints"] += sum(len(info.ranges) for info in interleaving.infos)
+
+
+def options() -> argparse.Namespace:
+    parser = argparse.ArgumentParser(description=__doc__, formatter_class=argparse.RawDescriptionHelpFormatter)
+    parser.add_argument("--count", type=int, default=2000, help="how many interleavings (2000)")
+    parser.add_argument("--seed", type=int, default=1, help="the seed of the first (1)")
+    parser.add_argument("--program", help="the built program (that of the repository)")
+    parser.add_argument("--without-infos", action="store_true", help="ask for no info: the script makes the tickets")
+    return parser.parse_args()
+
+
+def main() -> int:
+    words, counts = options(), collections.Counter()
+    path = program(words.program)
+    for seed in range(words.seed, words.seed + words.count):
+        interleaving = Interleaving(seed, not words.without_infos)
+        outcome = run(path, interleaving)
+        compare(interleaving, outcome)
+        if outcome.difference is not None:
+            tell(interleaving, outcome, ["--without-infos"] * words.without_infos)
+            return 1
+        count(interleaving, counts)
+    print(f"{words.count} interleavings, each through one pipe, and no difference")
+    for kind in [*KINDS.values(), OTHER]:
+        print(f"{counts[kind]:9} {kind}, of which {counts[kind, 'refused']} had to be refused")
+    print(f"{counts['rows']:9} rows; {counts['endpoints']} endpoints were joined to the rows of {counts['joins']} infos")
+    return 0
+
+
+if __name__ == "__main__":
+    sys.exit(main())

@@ -1,0 +1,127 @@
+"""What a call has to be answered, and the look whether it was: by second readers of records, messages and columns."""
+
+from __future__ import annotations
+
+from dataclasses import dataclass
+from itertools import zip_longest
+
+import wire
+from by_hand import FAULTS
+from random_calls.plain_model import Column, Row
+from reader import Reader
+
+NAMES = {f"F{number}": (name.split(" ")[0], code) for number, (name, code) in enumerate(FAULTS, 1)}
+
+
+class Difference(Exception):
+    """What was answered is not what was wanted."""
+
+
+def same(what: str, wanted: object, given: object) -> None:
+    """Of two lists that differ, the first place where they do is told."""
+    if wanted == given:
+        return
+    if isinstance(wanted, list) and isinstance(given, list):
+        pairs = enumerate(zip_longest(wanted, given))
+        place = next(number for number, (one, other) in pairs if one != other)
+        what = f"{what}, of which there are {len(given)} and have to be {len(wanted)}, at number {place}"
+        wanted, given = wanted[place : place + 1], given[place : place + 1]
+    raise Difference(f"{what}\n  wanted {wanted}\n  given  {given}")
+
+
+def only_message(answer: wire.Answer) -> bytes:
+    same("the status", (0, ""), (answer.code, answer.text))
+    same("the number of Messages", 1, len(answer.messages))
+    return answer.messages[0]
+
+
+def columns_of(reader: Reader) -> list[Column]:
+    """The columns of the schema that was read. No answer has a dictionary."""
+    fields = [(name, of if id is None else f"{of} into {id}", nullable) for name, of, nullable, id in reader.fields]
+    return [Column(*field) for field in fields]
+
+
+def look_at_the_schema(columns: list[Column], data: bytes) -> None:
+    """A schema in IPC form says these columns."""
+    reader = Reader()
+    reader.message(wire.schema_header(data), b"")
+    same("the schema", columns, columns_of(reader))
+
+
+@dataclass
+class Refusal:
+    """A fault, by its number or by its whole text."""
+
+    fault: str
+
+    def look(self, answer: wire.Answer) -> None:
+        name, code = NAMES[self.fault.split(" ")[0]]
+        text = self.fault if " " in self.fault else f"{self.fault} {name}"
+        same("the status", (code, text), (answer.code, answer.text))
+        same("the number of Messages", 0, len(answer.messages))
+
+
+@dataclass
+class PutCount:
+    """The PutResult of a put of so many rows."""
+
+    rows: int
+
+    def look(self, answer: wire.Answer) -> None:
+        count = wire.scalar(1, self.rows) if self.rows else b""
+        same("the PutResult", wire.chunk(1, count) if count else b"", only_message(answer))
+
+
+@dataclass
+class SchemaResult:
+    columns: list[Column]
+
+    def look(self, answer: wire.Answer) -> None:
+        look_at_the_schema(self.columns, wire.one_field(only_message(answer), 1))
+
+
+@dataclass
+class FlightInfo:
+    """An info of these columns with this descriptor, and one endpoint for each handle."""
+
+    columns: list[Column]
+    descriptor: bytes
+    handles: list[bytes]
+
+    def look(self, answer: wire.Answer) -> None:
+        parts = wire.fields(only_message(answer))
+        endpoints = [content for number, content in parts if number == 3]
+        tickets = [wire.one_field(endpoint, 1) for endpoint in endpoints]
+        handles = [wire.handle_of(ticket) for ticket in tickets]
+        same("the handles", [*map(wire.handle_parts, self.handles)], [*map(wire.handle_parts, handles)])
+        same("the tickets", [*map(wire.ticket, self.handles)], tickets)
+        same("the fields of the info", [1, 2, *[3] * len(endpoints), 4, 5, 6], [number for number, _ in parts])
+        same("the descriptor", self.descriptor, parts[1][1])
+        totals = [value for _, value in parts[-3:]]
+        same("total_records, total_bytes and ordered", [2**64 - 1, 2**64 - 1, 1], totals)
+        look_at_the_schema(self.columns, parts[0][1])
+
+
+@dataclass
+class Rows:
+    """A fetch's schema and rows. What was given is kept as this endpoint's stream."""
+
+    columns: list[Column]
+    rows: list[Row]
+    streams: list[list[Row] | None]
+    endpoint: int
+
+    def look(self, answer: wire.Answer) -> None:
+        same("the status", (0, ""), (answer.code, answer.text))
+        reader = Reader()
+        for message in answer.messages:
+            numbers, contents = zip(*wire.fields(message))
+            same("a FlightData of a header, with or without a body", True, numbers in ((2,), (2, 1000)))
+            reader.message(contents[0], b"".join(contents[1:]))
+        same("a schema is there", True, reader.fields is not None)
+        same("the schema", self.columns, columns_of(reader))
+        self.streams[self.endpoint] = [tuple(row) for row in reader.total]
+        same("the rows", self.rows, self.streams[self.endpoint])
+
+
+Wanted = Refusal | PutCount | SchemaResult | FlightInfo | Rows
