@@ -7,7 +7,7 @@ use Rattle.scan_base.specs.Reading.{◌>>=◌, wanted}
 use Rattle.grpc_frame.specs.declared.record.Record.{Record}
 use Rattle.grpc_frame.specs.declared.record.Record.TheVariants.{Open, Message, End}
 use Rattle.flight_core.specs.Payloads.{Payload}
-use Rattle.flight_core.specs.Asked.{Asked, put, fetch, ReplyAt, refusal}
+use Rattle.flight_core.specs.Asked.{Asked, put, fetch, ReplyAt}
 use Rattle.flight_core.specs.Log.{Log}
 use Rattle.flight_core.specs.Machine.{StepOn}
 use Rattle.flight_calls.specs.declared.request.Method.{Method}
@@ -51,7 +51,7 @@ asked_by call = wanted (method_at call.path) UnknownMethod >>= λ found. asked_o
 -- a step of the core on what is asked; or the fault, and the log stays
 abbrev pub ReplyTo : Result Asked Fault → Log → ReplyAt → Log → Type 0
 ReplyTo (Ok asked) log reply new = StepOn log asked reply new
-ReplyTo (Err fault) log reply new = (new ≡ log) × (reply ≡ refusal fault)
+ReplyTo (Err fault) log reply new = (new ≡ log) × (reply ≡ record { payloads = []; fault = Some fault })
 
 -- one reply a call, in order, each from the log that the one before left
 abbrev pub Answers : Log → List Call → List ReplyAt → Log → Type 0

@@ -60,17 +60,13 @@ abbrev pub HandleMeans : Database → HandleAt → Table → Type 0
 HandleMeans database (Query number from to text) answer = Meant database from to text answer
 HandleMeans database (Tables number) answer = ⊥
 
--- a handle means nothing
-abbrev pub MeansNothing : Database → HandleAt → Type 0
-MeansNothing database handle = (answer : Table) → HandleMeans database handle answer → ⊥
-
 -- The answer to a handle at its version: what it means, its rows cut into batches freely. A refused one has no
 -- payload; but for want of memory it is a bad ticket, which means nothing.
 abbrev pub FetchAt : Database → HandleAt → List Payload → Option Fault → Type 0
 FetchAt database handle payloads None =
     (answer : Table) × HandleMeans database handle answer × PayloadsSay payloads answer.schema answer.rows
 FetchAt database handle payloads (Some fault) =
-    (payloads ≡ []) × (fault ≢ OutOfMemory → (fault ≡ BadTicket) × MeansNothing database handle)
+    (payloads ≡ []) × (fault ≢ OutOfMemory → (fault ≡ BadTicket) × ((answer : Table) → ¬ HandleMeans database handle answer))
 
 -- a handle means at most one answer
 abbrev pub HandlesMeanOne : Type 0

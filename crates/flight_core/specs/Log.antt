@@ -1,10 +1,10 @@
--- The log: the accepted puts, in order. `database_of log` is the newest database, and `version log n` that of its
--- first n puts.
+-- The log. `database_of log` is the newest database, and `version log n` that of its first n puts.
 use Rattle.std.specs.Prelude.{ℕ, List, length, All}
 use Rattle.table_versions.specs.Database.{Put}
 use Rattle.table_versions.specs.Valid.{IsPut}
 pub use Rattle.table_versions.specs.Database.{database_of, version}
 
+-- the accepted puts, in order
 abbrev pub Log : Type 0
 Log = List Put
 

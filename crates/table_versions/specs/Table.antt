@@ -49,13 +49,9 @@ same_fields [] [] = true
 same_fields (old ∷ olds) (new ∷ news) = same_field old new && same_fields olds news
 same_fields _ _ = false
 
--- whether a cell is null in a column that takes no null
-abbrev pub is_bad_null : Field × Value → Bool
-is_bad_null cell = not cell.0.nullable && is_null cell.1
-
--- whether a row has such a cell
+-- whether a row has a cell that is null in a column that takes no null
 abbrev pub has_bad_null : List Field → Row → Bool
-has_bad_null fields row = list_any is_bad_null (zip fields row)
+has_bad_null fields row = list_any (λ (cell : Field × Value). not cell.0.nullable && is_null cell.1) (zip fields row)
 
 -- whether a value is a text that is too long
 abbrev pub is_long_text : Value → Bool
