@@ -15,7 +15,9 @@ import subprocess
 import sys
 import tempfile
 
-from built import ROOT, program
+sys.dont_write_bytecode = True
+
+from built import ROOT, program  # noqa: E402
 
 CRATE = ROOT / "crates/flightscan"
 PUT_LENGTH = 407

@@ -4,8 +4,12 @@
 The parts are those of the appendix of docs/PROTOCOL.md. Each length that stands there is checked.
 """
 
-from built import ROOT
-from wire import END, PACKAGE, record_message, record_open
+import sys
+
+sys.dont_write_bytecode = True
+
+from built import ROOT  # noqa: E402
+from wire import END, PACKAGE, record_message, record_open  # noqa: E402
 
 SCHEMA_HEADER = bytes.fromhex("""
 10 00 00 00 00 00 0A 00 0C 00 08 00 0A 00 04 00
