@@ -11,9 +11,9 @@ returns-in_err-push-clause-kept c =
 pub returns-in_ok-push-clause-came : goal.returns-in_ok-push-clause-came
 returns-in_ok-push-clause-came c payloads came =
     came_batch payloads c.args.payload.now c.args.self.now c.self.inside.reader c.message.new.self c.self.inside.batches.items c.push.new.self.items c.self.inside.end (data_said c.in_ok-data.data) c.in-Some.batch
-    c.self.view_is c.in_ok-data.ensures (rw c.in-Some.is at c.in_ok-batch.ensures.exact) c.in_ok-push.ensures.items came
+    c.self.view_is c.in_ok-data.ensures.value (rw c.in-Some.is at c.in_ok-batch.ensures.exact) c.in_ok-push.ensures.items came
 
 pub returns-in_default-clause-came : goal.returns-in_default-clause-came
 returns-in_default-clause-came c payloads came =
     came_none payloads c.args.payload.now c.args.self.now c.self.inside.reader c.message.new.self c.self.inside.batches.items c.self.inside.end (data_said c.in_ok-data.data)
-    c.self.view_is c.in_ok-data.ensures (rw c.in_default.is at c.in_ok-batch.ensures.exact) came
+    c.self.view_is c.in_ok-data.ensures.value (rw c.in_default.is at c.in_ok-batch.ensures.exact) came
