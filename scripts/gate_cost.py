@@ -11,9 +11,6 @@ the first two also look at the gate's processes, three times a second, and write
 for each, with its crate, its kind, its processor seconds, and when it began and ended. They change nothing of what the
 gate does. Without that file the table has the counts alone, and says so.
 
-A processor second is worth less on a machine whose cores are shared: so a fixed loop is timed before the gate and every
-few minutes beside it, and what the gate would have cost at the loop's own pace is told too.
-
 The kinds: `proof` (the crate from nothing), `tests` (the crate once more, with its test functions, and their run),
 `wrong bodies` (each edit of must-fail, and the crate once more over what they left), `programs` (compiling and running
 what a program's proof admitted).
@@ -33,7 +30,6 @@ KINDS = ("proof", "tests", "wrong bodies", "programs")
 BEGIN, END = "<!-- made by scripts/gate_cost.py -->", "<!-- end -->"
 WHOLE_MINUTES, PROOF_SECONDS, MOST_EDITS = 110, 270, 7
 PAUSE = 0.33
-BETWEEN_LOOPS = 120
 TICKS = os.sysconf("SC_CLK_TCK")
 PAGE = os.sysconf("SC_PAGE_SIZE")
 
@@ -87,25 +83,12 @@ def task_of(number):
     return None
 
 
-def loop_seconds():
-    """The processor seconds that a fixed loop takes now."""
-    began = time.process_time()
-    sum(i * i for i in range(2_000_000))
-    return time.process_time() - began
-
-
 class Watch:
     """What each task of the gate cost so far."""
 
-    def __init__(self, root, alone=0.0):
+    def __init__(self, root):
         self.root, self.began, self.tasks, self.most_held = root, time.time(), {}, 0
-        self.whole, self.alone, self.loops = 0.0, alone, []
-
-    def pause(self):
-        """Waits a little, and now and then times the loop."""
-        if time.time() - self.began > BETWEEN_LOOPS * (len(self.loops) + 1):
-            self.loops.append(loop_seconds())
-        time.sleep(PAUSE)
+        self.whole = 0.0
 
     def look(self):
         """Takes note of the processes that there are below the root. Returns whether the root is there."""
@@ -138,20 +121,18 @@ class Watch:
         """Writes what was seen, a line for each task, and the sums behind them."""
         lines = [f"{crate}\t{kind}\t{seconds:.2f}\t{first:.1f}\t{last:.1f}"
                  for (_, _, crate, kind), (first, last, seconds) in sorted(self.tasks.items(), key=lambda it: it[1][0])]
-        beside = sum(self.loops) / len(self.loops) if self.loops else 0.0
-        lines.append(f"all\t{whole:.2f}\t{time.time() - self.began:.1f}\t{self.most_held}\t{self.alone:.3f}\t{beside:.3f}")
+        lines.append(f"all\t{whole:.2f}\t{time.time() - self.began:.1f}\t{self.most_held}")
         path.write_text("\n".join(lines) + "\n")
 
 
 def run_gate(log):
     """Runs the gate and watches it. Returns its status."""
-    alone = min(loop_seconds() for _ in range(5))
     with open(log, "w") as out:
         gate = subprocess.Popen([str(TOP / ".ci/run")], cwd=TOP, stdin=subprocess.DEVNULL, stdout=out, stderr=out)
-        watch = Watch(gate.pid, alone)
+        watch = Watch(gate.pid)
         while gate.poll() is None:
             watch.look()
-            watch.pause()
+            time.sleep(PAUSE)
     used = resource.getrusage(resource.RUSAGE_CHILDREN)
     watch.write(pathlib.Path(f"{log}.times"), used.ru_utime + used.ru_stime)
     return gate.returncode
@@ -161,7 +142,7 @@ def watch_gate(number, log):
     """Watches a gate that runs already, until it ends."""
     watch = Watch(number)
     while watch.look():
-        watch.pause()
+        time.sleep(PAUSE)
     watch.write(pathlib.Path(f"{log}.times"), watch.whole)
     return 0
 
@@ -199,7 +180,7 @@ def times_of(path):
     for line in path.read_text().splitlines():
         fields = line.split("\t")
         if fields[0] == "all":
-            whole = [float(field) for field in fields[1:]]
+            whole = float(fields[1]), float(fields[2]), int(fields[3])
         else:
             seconds[fields[0], fields[1]] += float(fields[2])
     return seconds, whole
@@ -230,20 +211,16 @@ def table_of(log):
     if whole is None:
         lines.append(f"No times: the gate's output has none, and there is no file {path}.")
     else:
-        total, wall, held, alone, beside = whole
+        total, wall, held = whole
         lines.append(f"{total / 60:.0f} processor minutes in {wall / 60:.0f} minutes, with at most {held / 1e9:.1f} GB held at once. "
                      f"{total - sum(seconds.values()):.0f} seconds of them are the gate's own reading and layout checks, and what "
                      "ended between two looks.")
-        if alone and beside:
-            lines.append(f"The fixed loop took {alone:.2f} processor seconds before the gate, and {beside:.2f} beside it: at the first pace "
-                         f"the gate costs {total * alone / beside / 60:.0f} minutes.")
     weak = [f"{name} {counts[name]['only because']}" for name in names if counts[name]["only because"]]
     lines.append(f"The gate's last line: `{last}`."
                  + (f" Refused only because a written proof no longer fits: {', '.join(weak)}." if weak else ""))
-    pace = whole[3] / whole[4] if whole and whole[4] else 1.0
-    over = [f"{name}'s proof" for name in names if seconds[name, "proof"] * pace > PROOF_SECONDS]
+    over = [f"{name}'s proof" for name in names if seconds[name, "proof"] > PROOF_SECONDS]
     over += [f"{counts[name]['edits']} edits of {name}" for name in names if counts[name]["edits"] > MOST_EDITS]
-    over += ["the whole"] if whole and whole[0] * pace > 60 * WHOLE_MINUTES else []
+    over += ["the whole"] if whole and whole[0] > 60 * WHOLE_MINUTES else []
     lines += [f"Over the budget: {', '.join(over)}."] if over else []
     return "\n".join(lines)
 
