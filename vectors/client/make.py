@@ -1,10 +1,11 @@
 #!/usr/bin/env python3
-"""Writes stdin and stdout of crates/client_cases: streams of answers, and what they say once they are joined. The
-messages are flatc's, of arrow/, and the FlightData is laid out here, by hand. The answers are by hand too."""
+"""Writes stdin and stdout of crates/client_cases: infos, statuses, and streams of answers and what they say once they
+are joined. The infos are those of flight/, and the messages flatc's, of arrow/, in FlightData that is laid out here, by
+hand. The answers are by hand too."""
 import pathlib
 
 HERE = pathlib.Path(__file__).parent
-ARROW = HERE.parent / "arrow"
+ARROW, FLIGHT = HERE.parent / "arrow", HERE.parent / "flight"
 PROGRAM = HERE.parent.parent / "crates/client_cases"
 LINES, ANSWERS = [], []
 
@@ -53,6 +54,11 @@ def join(streams, answer):
 
 INT64, FULL, UTF8 = "a Integer(Int64) or null; ", "a Integer(Int64); ", "a Utf8 or null; "
 DONE = " = 0"
+
+note("infos: the tickets of their endpoints, in order")
+TICKETS = {"info": (FLIGHT / "ticket.bin").read_bytes().hex() + ",", "info_all": ",,", "info_two": "0a0161,,", "info_parts": "0a000a00,,"}
+for path in sorted(FLIGHT.glob("*info*.bin")):
+    ask(f"info {path.read_bytes().hex()}", TICKETS.get(path.stem, "F4 BadProto"))
 
 note("statuses")
 NAMES = """BadFrame 3, MessageTooLarge 8, UnknownMethod 12, BadProto 3, UnknownCommand 12, BadFlatbuffer 3, UnsupportedArrow 12,

@@ -23,6 +23,11 @@ def first(value, url=INGEST, kind=2):
     return chunk(1, b"\x08" + bytes([kind]) + chunk(2, packed(url, value)))
 
 
+def asked(name, value):
+    """What GetFlightInfo and GetSchema are sent: a descriptor round a command."""
+    return b"\x08\x02" + chunk(2, packed(SQL + name, value))
+
+
 def fetch(value, url=TICKET):
     """What begins a fetch: a Ticket round an Any."""
     return chunk(1, packed(url, value))
@@ -156,6 +161,27 @@ MESSAGES = [
     ("ingest", first(b"\x28\x01"), F16),
     ("ingest", first(b"\x28\x80\x80\x80\x80\x10"), F16),
     ("ingest", first(b"\x32\x01x"), F16),
+    # What a flight info is asked for.
+    ("wanted", asked("CommandStatementQuery", b"\x0a\x01a"), "rows a"),
+    ("wanted", b"\x08\x02" + chunk(2, packed("/" + SQL[20:] + "CommandGetTables", b"")), "tables"),
+    ("wanted", asked("CommandStatementQuery", b"\x0a\x01a\x12\x00"), "rows a"),
+    ("wanted", asked("CommandStatementQuery", b"\x0a\x01a\x12\x01\x00"), F16),
+    ("wanted", asked("CommandGetTables", b"\x08\x01\x28\x00"), "tables"),
+    ("wanted", asked("CommandGetTables", b"\x0a\x00"), F16),
+    ("wanted", asked("CommandGetTables", b"\x12\x00"), F16),
+    ("wanted", asked("CommandGetTables", b"\x1a\x00"), F16),
+    ("wanted", asked("CommandGetTables", b"\x22\x00"), F16),
+    ("wanted", asked("CommandGetTables", b"\x28\x02"), F16),
+    ("wanted", asked("CommandStatementIngest", b""), F5),
+    ("wanted", asked("commandStatementQuery", b""), F5),
+    ("wanted", asked("CommandStatementQuery", b"\x0a"), F4),
+    ("wanted", asked("CommandGetTables", b"\x12\x01\xff"), F4),
+    ("wanted", b"", F5),
+    ("wanted", b"\x08\x01", F5),
+    ("wanted", b"\x08", F4),
+    ("wanted", b"\x08\x02\x1a\x01\xff", F4),
+    ("wanted", b"\x08\x02" + chunk(2, b"\x0a"), F4),
+    ("wanted", b"\x08\x02" + chunk(2, packed("arrow.flight.protocol.sql.CommandGetTables", b"")), F5),
     # The handle in what begins a fetch.
     ("handle", fetch(b"\x0a\x02\x01\x02"), "0102"),
     ("handle", fetch(b"\x0a\x01a\x0a\x01b\x08\x01"), "62"),

@@ -140,7 +140,8 @@ add("ingest_every_field", "CommandStatementIngest",
     'table_definition_options { if_exists: TABLE_EXISTS_OPTION_REPLACE } table: "t" schema: "s" catalog: "c" temporary: true '
     'transaction_id: "\\377"', "but the map of options")
 command("query_transaction", "CommandStatementQuery", 'query: "" transaction_id: ""')
-command("tables_none", "CommandGetTables", "")
+TABLES = command("tables_none", "CommandGetTables", "")
+add("tables_descriptor", "FlightDescriptor", f"type: CMD cmd: {quoted(TABLES)}")
 command("tables_present", "CommandGetTables", 'catalog: "" db_schema_filter_pattern: "" table_name_filter_pattern: ""')
 command("tables_all", "CommandGetTables",
         'catalog: "c" db_schema_filter_pattern: "%" table_name_filter_pattern: "t_" table_types: "TABLE" table_types: "" '
@@ -154,6 +155,22 @@ add("info_empty", "FlightInfo", "")
 add("info_all", "FlightInfo", 'schema: "s" flight_descriptor { } endpoint { } endpoint { ticket { } location { uri: "grpc://h:1" } '
     'location { } expiration_time { seconds: -1 nanos: 5 } app_metadata: "m" } total_records: 1 total_bytes: 300 ordered: false '
     'app_metadata: "n"')
+add("info_two", "FlightInfo", f'schema: "s" flight_descriptor {{ {DESCRIPTOR} }} endpoint {{ ticket {{ ticket: "a" }} }} '
+    "endpoint { ticket { } } total_records: -1 total_bytes: -1 ordered: true", "two endpoints, the second of an empty ticket")
+add("info_none", "FlightInfo", 'flight_descriptor { } total_records: -1 total_bytes: -1 ordered: true', "no endpoint")
+add("endpoint", "FlightEndpoint", f"ticket {{ ticket: {quoted(ANY)} }}")
+add("endpoint_all", "FlightEndpoint", 'ticket { ticket: "t" } location { uri: "grpc://h:1" } location { } '
+    'expiration_time { seconds: 1 } app_metadata: "m"')
+add("endpoint_empty", "FlightEndpoint", "")
+add("location", "Location", 'uri: "grpc+tcp://h\\303\\266st:1"')
+add("location_empty", "Location", "")
+add("query_empty", "CommandStatementQuery", "")
+add("query_in_transaction", "CommandStatementQuery", 'query: "SELECT a FROM t" transaction_id: "\\001\\377"')
+add("tables_schema", "CommandGetTables", "include_schema: true")
+add("tables_types", "CommandGetTables", 'table_types: "TABLE"')
+add("action_empty", "Action", "")
+add("result_empty", "Result", "")
+add("schema_result_empty", "SchemaResult", "")
 add("schema_result", "SchemaResult", f"schema: {quoted(IPC_SCHEMA)}", "a schema in IPC form")
 add("action", "Action", 'type: "scan.expire" body: "\\000\\000\\000\\000\\000\\000\\000\\002"', "23 bytes")
 add("result", "Result", 'body: "\\000\\000\\000\\000\\000\\000\\000\\002"')
@@ -208,6 +225,39 @@ by_hand("bad_options_cut", INGEST, "12 01 74 C2 3E 02 08", "F4", "here the field
 by_hand("bad_text_unread", INGEST, "12 01 74 22 01 FF", "F4", "a catalog that is not UTF-8")
 by_hand("bad_text_pattern", GET, "12 01 C0", "F4", "a pattern that is not UTF-8")
 by_hand("bad_text_url", "Any", "0A 01 80", "F4", "not UTF-8")
+
+INFO, ENDPOINT = "FlightInfo", "FlightEndpoint"
+by_hand("info_parts", INFO, "12 02 08 02 1A 08 0A 02 0A 00 0A 02 0A 00 12 03 12 01 63 0A 01 61 20 01 20 02 30 02 30 00 1A 00",
+        'schema: "a" flight_descriptor { type: CMD cmd: "c" } endpoint { ticket { } } endpoint { } total_records: 2',
+        "a descriptor and a ticket in two parts each, last values")
+by_hand("info_other_wire_type", INFO, "08 01 10 01 18 01 22 01 61 2A 01 61 32 01 61", "", "each field with another wire type is skipped")
+by_hand("info_low_bits", INFO, "20 80 80 80 80 80 80 80 80 80 01 30 80 80 80 80 10", "total_records: -9223372036854775808 ordered: true",
+        "2^63 as an int64, and 2^32 as a bool")
+by_hand("endpoint_ticket_parts", ENDPOINT, "0A 03 0A 01 61 12 00 0A 03 0A 01 62", 'ticket { ticket: "b" } location { }',
+        "the last value of a ticket in two parts")
+for name, message, data, remark in [
+    ("info_endpoint", INFO, "1A 01 0A", "an endpoint that is cut off"),
+    ("info_ticket", INFO, "1A 03 0A 01 0A", "a ticket that is cut off"),
+    ("info_ticket_parts", INFO, "1A 06 0A 01 0A 0A 01 00", "a part of a ticket that is cut off"),
+    ("info_location", INFO, "1A 02 12 01", "a location that is cut off"),
+    ("info_uri", INFO, "1A 05 12 03 0A 01 FF", "a URI that is not UTF-8"),
+    ("info_uri_replaced", INFO, "1A 08 12 06 0A 01 FF 0A 01 61", "a URI that is not UTF-8, and a later one replaces it"),
+    ("info_time", INFO, "1A 03 1A 01 08", "a time that is cut off"),
+    ("info_descriptor", INFO, "12 01 08", "a descriptor that is cut off"),
+    ("info_path", INFO, "12 03 1A 01 FF", "a path that is not UTF-8"),
+    ("info_field", INFO, "08", "cut off"),
+    ("endpoint_time", ENDPOINT, "1A 01 80", "a time that is cut off"),
+    ("location_uri", "Location", "0A 01 C0", "not UTF-8"),
+    ("schema_result", "SchemaResult", "0A 02 61", "cut off"),
+    ("result", "Result", "0A", "cut off"),
+    ("action_type", "Action", "0A 01 FF 12 00", "not UTF-8"),
+    ("action", "Action", "12 01", "cut off"),
+    ("tables_catalog", GET, "0A 01 FF", "not UTF-8"),
+    ("tables_name", GET, "1A 01 FF", "not UTF-8"),
+    ("tables_type", GET, "22 01 FF 22 00", "a type that is not UTF-8, and another one"),
+    ("query", "CommandStatementQuery", "12 01", "cut off"),
+]:
+    by_hand(f"bad_{name}", message, data, "F4", remark)
 
 for old in HERE.glob("*.bin"):
     old.unlink()

@@ -1,8 +1,8 @@
 #!/usr/bin/env python3
 """Writes the cases that the program format_cases reads, and what it must answer: its stdin and its stdout.
 
-What a message says is read from index.txt, and of messages without a call from their bytes by the public encoding.
-The cases of by_hand.py stand before them."""
+What a message says is read from index.txt, and the bytes of what is embedded in an info from the message itself, by the
+public encoding. The cases of by_hand.py stand before them."""
 import pathlib
 import re
 import sys
@@ -104,12 +104,55 @@ def ingest(fields):
     return f"{fields['table'].decode()}, {absent}, {present}"
 
 
+def query(fields):
+    return f"{fields.get('query', b'').decode()}, {chunk('transaction_id')(fields)}"
+
+
+FILTERS = {"catalog", "db_schema_filter_pattern", "table_name_filter_pattern", "table_types"}
+
+
+def tables(fields):
+    """Whether any filter is there, and whether schemas are asked for."""
+    filtered = bool(FILTERS & fields.keys())
+    return f"{filtered}, {fields.get('include_schema', False)}".lower()
+
+
+def wanted(kind, fields):
+    """What a command asks for."""
+    if kind == "CommandGetTables":
+        return "tables" if tables(fields) == "false, false" else by_hand.F16
+    return by_hand.F16 if fields.get("transaction_id") else f"rows {fields.get('query', b'').decode()}"
+
+
+def action(fields):
+    return f"{fields.get('type', b'').decode()}, {chunk('body')(fields)}"
+
+
+def endpoint(data):
+    """The ticket and whether there is a location, of the bytes: protoc's text does not keep those of the ticket."""
+    return f"{shown(joined(data, 1))} {bool(chunks(data, 2))}".lower()
+
+
+def info(fields):
+    """The schema, the bytes of the descriptor, the endpoints and the three numbers behind them."""
+    data = fields[""]
+    words = [chunk("schema")(fields), shown(joined(data, 2)), *map(endpoint, chunks(data, 3))]
+    numbers = [fields.get(name, 0) for name in ("total_records", "total_bytes")]
+    return ", ".join(map(str, [*words, *numbers, str(fields.get("ordered", False)).lower()]))
+
+
 TYPED = {
+    "CommandStatementQuery": query, "CommandGetTables": tables, "Action": action, "SchemaResult": chunk("schema"),
+    "FlightInfo": info, "FlightEndpoint": lambda fields: endpoint(fields[""]), "Result": chunk("body"), "Location": lambda fields: fields.get("uri", b"").decode(),
     "DoPutUpdateResult": lambda fields: str(fields.get("record_count", 0)), "PutResult": chunk("app_metadata"), "Any": any_of,
     "FlightDescriptor": descriptor, "FlightData": data, "Ticket": chunk("ticket"),
     "TicketStatementQuery": chunk("statement_handle"), "CommandStatementIngest": statement,
 }
-NOT_KEPT = {"ingest_all", "ingest_present", "data_all"}  # they say more than what is kept of them
+NOT_KEPT = {"ingest_all", "ingest_present", "data_all", "query_transaction"}  # they say more than what is kept of them
+WRITTEN = {  # of these messages, those that we write: without filters, locations and counts
+    "CommandGetTables": {"tables_none", "tables_schema"}, "FlightEndpoint": {"endpoint"},
+    "FlightInfo": {"info", "info_two", "info_none"},
+}
 OUTSIDE = {"bad_enum_0": (3, 0), "bad_enum_1": (0, 4), "bad_enum_2": (2**32 - 1, 0)}  # numbers that are kept, and refused later
 
 
@@ -125,25 +168,20 @@ def varint(data, at):
             return value % 2**64, at
 
 
-def fields_of(data):
+def chunks(data, number):
+    """The bytes of each field of a number."""
     at, found = 0, []
     while at < len(data):
         tag, at = varint(data, at)
-        number, wire = tag >> 3, tag & 7
-        if wire == 0:
-            value, at = varint(data, at)
-            found.append(f"{number} varint {value}")
-        elif wire == 2:
-            size, at = varint(data, at)
-            assert at + size <= len(data)
-            found.append(f"{number} bytes {shown(data[at : at + size])}")
-            at += size
-        else:
-            size = {1: 8, 5: 4}[wire]
-            value = int.from_bytes(data[at : at + size], "little")
-            found.append(f"{number} fixed{8 * size} {value}")
-            at += size
-    return ", ".join([*found, "end"])
+        size, after = varint(data, at) if tag & 7 in (0, 2) else ({1: 8, 5: 4}[tag & 7], at)
+        at = after if tag & 7 == 0 else after + size
+        if tag == 8 * number + 2:
+            found.append(data[at - size : at])
+    return found
+
+
+def joined(data, number):
+    return b"".join(chunks(data, number))
 
 
 # The cases of each line of index.txt.
@@ -174,8 +212,6 @@ def cases_of(index, name, kind, answer):
     data = message(name)
     if kind == "records":
         return [by_hand.first_run(data)]
-    if kind not in TYPED:
-        return [] if answer == "F4" else [("fields", data, fields_of(data)), ("write_fields", data, shown(data))]
     fields = None if answer == "F4" else says(answer)
     written = index < BY_HAND and name not in NOT_KEPT
     if kind == "CommandStatementIngest":
@@ -183,15 +219,19 @@ def cases_of(index, name, kind, answer):
     elif kind == "FlightData" and fields is None:
         found = []  # what cannot be read is the descriptor, which is read apart
     else:
-        found = [(kind, data, by_hand.F4 if fields is None else TYPED[kind](fields))]
+        found = [(kind, data, by_hand.F4 if fields is None else TYPED[kind]({"": data, **fields}))]
     if kind == "FlightData":
         found += of_data(data, fields, written)
     if kind == "Ticket" and fields is not None:
         found.append(("handle", data, shown(message("ticket_statement")[2:])))
         found.append(("write_handle", data, shown(data)))
+    if kind in ("CommandStatementQuery", "CommandGetTables"):
+        found.append(("wanted", by_hand.asked(kind, data), by_hand.F4 if fields is None else wanted(kind, fields)))
+    if name in ("query_descriptor", "tables_descriptor"):
+        found.append(("write_wanted", data, shown(data)))
     if kind == "DoPutUpdateResult" and fields is None:
         found.append(("write_fields", data, by_hand.F4))
-    if written:
+    if written and name in WRITTEN.get(kind, {name}):
         found.append((f"write_{kind}", data, shown(data)))
     return found
 

@@ -311,9 +311,9 @@ def fetches():
                             ([(91, ord("T"))], "F17"), ([(105, ord("u"))], "F17"), ([(90, 0)], f"{A} ")]:
         fetch(dots(changed(whole, *changes)), answer)
     for bad, number in [(b"", "F17"), (b"\x01", "F17"), (handle(1, 0, 0, "")[:16], "F17"), (b"\x02" + bytes(7) + b"\x01\x00", "F17"),
-                        (b"\x02" + bytes(7) + b"\x01", "F17"), (handle(1, 0, 0, "")[:17] + b"\xff", "F17"),
-                        (handle(2 ** 64 - 1, 0, 2, "SELECT * FROM t"), "F18")]:
+                        (handle(1, 0, 0, "")[:17] + b"\xff", "F17"), (handle(2 ** 64 - 1, 0, 2, "SELECT * FROM t"), "F18")]:
         fetch(dots(ticket_of(bad)), number)
+    lists()
     note("queries over the rows 1, 2, null and 2")
     log((4, "create+schema_Int64 validity_Int64_0 validity_Int64_7"))
     for (begin, end), query, rows in [
@@ -336,6 +336,15 @@ def fetches():
         fetch(ticket(1, begin, end, query), "F17")
     long_queries()
     other_queries()
+
+
+def lists():
+    note("the list of tables, at each version")
+    log((0, "create+schema_Int64_full"), (0, f"{dots(command(b'a', OPTIONS['create']))}+schema_Int64_full"), (0, "replace+schema_Int64_full"))
+    columns = "catalog_name Utf8 or null;db_schema_name Utf8 or null;table_name Utf8;table_type Utf8; "
+    a, t = 'null,null,"a","TABLE";', 'null,null,"t","TABLE";'
+    for version, answer in enumerate([columns, columns + t, columns + a + t, columns + a + t, "F18"]):
+        fetch(dots(ticket_of(b"\x02" + version.to_bytes(8, "big"))), answer)
 
 
 def long_queries():

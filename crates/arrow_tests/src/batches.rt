@@ -96,21 +96,43 @@ fn batch(alloc: Global) -> Result<Batch, Fail>
     Ok(Batch::new(columns, rows))
 }
 
-// The body of the numbers: the validity bits and the values, eight bytes each.
-const NUMBERS: [u8; 16] = [1, 0, 0, 0, 0, 0, 0, 0, 5, 0, 9, 0, 0, 0, 0, 0];
+// What is written of a batch that is measured once.
+#[derive(Drop)]
+struct Written {
+    body_length: usize,
+    body: Vec<u8>,
+    header: Vec<u8>,
+}
+
+// The body stands behind a 9.
+fn write(alloc: Global, batch: &Batch) -> Result<Written, Fail>
+    requires { length batch.now.columns ≡ 1 }
+{
+    let measured = MeasuredBatch::new(alloc, batch)?.ok_or("too long")?;
+    let mut body = vec![in alloc; 9]?;
+    measured.append_body(&mut body)?;
+    Ok(Written {
+        body_length: measured.body_length(),
+        body,
+        header: measured.write_header(alloc)?,
+    })
+}
+
+// What a message is, and how many bytes of body it claims.
+fn claim(header: &[u8]) -> Result<(HeaderKind, u64), Fault> {
+    let message = read_message(header)?;
+    Ok((message.kind, message.body_length()?))
+}
+
+// The 9, and the body of the numbers: the validity bits and the values, eight bytes each.
+const BEHIND_NINE: [u8; 17] = [9, 1, 0, 0, 0, 0, 0, 0, 0, 5, 0, 9, 0, 0, 0, 0, 0];
 
 // The body stands behind what was there, and the header is that of the whole message.
 #[test]
 fn measured_once(rt: HostRuntime) -> Result<(), Fail> {
-    let batch = batch(rt.alloc())?;
-    let measured = MeasuredBatch::new(rt.alloc(), &batch)?.ok_or("too long")?;
-    assert!(rt; measured.body_length() == NUMBERS.len());
-    let mut body = vec![in rt.alloc(); 9]?;
-    measured.append_body(&mut body)?;
-    assert!(rt; &body[1..] == NUMBERS.as_slice());
-    let header = measured.write_header(rt.alloc())?;
-    let message = read_message(&header)?;
-    assert!(rt; message.kind == HeaderKind::RecordBatch);
-    assert!(rt; message.body_length() == Ok(16));
+    let written = write(rt.alloc(), &batch(rt.alloc())?)?;
+    assert!(rt; written.body_length == 16);
+    assert!(rt; written.body.as_slice() == BEHIND_NINE.as_slice());
+    assert!(rt; claim(&written.header)? == (HeaderKind::RecordBatch, 16));
     Ok(())
 }

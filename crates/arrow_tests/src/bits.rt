@@ -5,7 +5,6 @@ ghost use Rattle.std.specs.Prelude.{◌≡◌, ◌≤◌, ◌<◌, length, IfOk}
 use bitmap::Bits;
 use bytes::Bytes;
 use std::alloc::{AllocError, Global};
-use std::process::Abort;
 use std::test::Fail;
 
 /// Lengths below, at and above whole words.
@@ -74,41 +73,121 @@ fn words(rt: HostRuntime) -> Result<(), Fail> {
     Ok(())
 }
 
-// Each bit that two runs make, and how many bits of the first are 1.
-fn assert_joined(
-    rt: &impl Abort,
+// Whether a run has the bits of its bytes, and counts those of them that are 1.
+fn is_plain(run: &Bits, first: usize) -> bool
+    requires first { first < 8 }
+    requires long { length run.now ≤ 130 }
+{
+    let mut count = 0usize;
+    for place in 0..run.len() {
+        let bit = plain(&BYTES, first + place);
+        if run.get(place) != bit {
+            return false;
+        }
+        count = count.wrapping_add(usize::from(bit));
+    }
+    run.count() == count
+}
+
+// A run from any bit of a byte on.
+#[test]
+fn one_run(rt: HostRuntime) -> Result<(), Fail> {
+    for first in 0..8 {
+        for len in LENGTHS {
+            let run = bits(rt.alloc(), &BYTES, first, len)?;
+            assert!(rt; is_plain(&run, first));
+        }
+    }
+    Ok(())
+}
+
+// What is made of two runs.
+#[derive(Clone, Copy)]
+enum Operation {
+    And,
+    Or,
+    AndNot,
+}
+
+// What is made of two bits.
+fn joined_bit(operation: Operation, left: bool, right: bool) -> bool {
+    match operation {
+        Operation::And => left && right,
+        Operation::Or => left || right,
+        Operation::AndNot => left && !right,
+    }
+}
+
+// Whether each bit is what is made of the bits of two runs that begin at these offsets.
+fn is_joined(made: &Bits, operation: Operation, offsets: (usize, usize)) -> bool
+    requires first { offsets.0 < 8 }
+    requires second { offsets.1 < 8 }
+    requires long { length made.now ≤ 130 }
+{
+    for place in 0..made.len() {
+        let left = plain(&BYTES, offsets.0 + place);
+        let right = plain(&OTHERS, offsets.1 + place);
+        if made.get(place) != joined_bit(operation, left, right) {
+            return false;
+        }
+    }
+    true
+}
+
+// The bits that two runs of one length make.
+fn join(alloc: Global, operation: Operation, left: &Bits, right: &Bits) -> Result<Bits, AllocError>
+    requires { length left.now ≡ length right.now }
+    ensures { IfOk result (λ made. length made ≡ length left.now) }
+{
+    match operation {
+        Operation::And => left.and(alloc, right),
+        Operation::Or => left.or(alloc, right),
+        Operation::AndNot => left.and_not(alloc, right),
+    }
+}
+
+// Whether two runs make, bit by bit, what their bits make.
+fn joins(
     alloc: Global,
+    operation: Operation,
     offsets: (usize, usize),
     len: usize,
-) -> Result<(), Fail>
+) -> Result<bool, AllocError>
     requires first { offsets.0 < 8 }
     requires second { offsets.1 < 8 }
     requires long { len ≤ 130 }
 {
     let left = bits(alloc, &BYTES, offsets.0, len)?;
     let right = bits(alloc, &OTHERS, offsets.1, len)?;
-    let both = left.and(alloc, &right)?;
-    let either = left.or(alloc, &right)?;
-    let without = left.and_not(alloc, &right)?;
-    let mut count = 0usize;
-    for place in 0..len {
-        let a = plain(&BYTES, offsets.0 + place);
-        let b = plain(&OTHERS, offsets.1 + place);
-        assert!(rt; left.get(place) == a && both.get(place) == (a && b));
-        assert!(rt; either.get(place) == (a || b) && without.get(place) == (a && !b));
-        count = count.wrapping_add(usize::from(a));
+    let made = join(alloc, operation, &left, &right)?;
+    Ok(is_joined(&made, operation, offsets))
+}
+
+// The same at each length.
+fn joins_each(
+    alloc: Global,
+    operation: Operation,
+    offsets: (usize, usize),
+) -> Result<bool, AllocError>
+    requires first { offsets.0 < 8 }
+    requires second { offsets.1 < 8 }
+{
+    for len in LENGTHS {
+        if !joins(alloc, operation, offsets, len)? {
+            return Ok(false);
+        }
     }
-    assert!(rt; left.count() == count);
-    Ok(())
+    Ok(true)
 }
 
 // Two runs of bits at any two offsets.
 #[test]
-fn joined(rt: HostRuntime) -> Result<(), Fail> {
-    for offsets in 0..64 {
-        for len in LENGTHS {
-            assert_joined(&rt, rt.alloc(), (offsets / 8, offsets % 8), len)?;
-        }
+fn two_runs(rt: HostRuntime) -> Result<(), Fail> {
+    for pair in 0..64 {
+        let offsets = (pair / 8, pair % 8);
+        assert!(rt; joins_each(rt.alloc(), Operation::And, offsets)?);
+        assert!(rt; joins_each(rt.alloc(), Operation::Or, offsets)?);
+        assert!(rt; joins_each(rt.alloc(), Operation::AndNot, offsets)?);
     }
     Ok(())
 }

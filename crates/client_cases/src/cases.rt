@@ -1,8 +1,8 @@
 //! Cases, line by line.
 
-use crate::rows::told;
+use crate::rows::push_told;
 use bytes::Bytes;
-use flight_client::{Stream, fault_of_status, join};
+use flight_client::{Stream, fault_of_status, join, read_info};
 use scan_base::Fault;
 use std::alloc::Global;
 
@@ -28,6 +28,29 @@ fn halves<'a>(line: &'a str, delimiter: &str) -> (&'a str, &'a str) {
 fn status(words: &str) -> (u8, &str) {
     let (code, text) = halves(words, " ");
     (code.parse::<u8>().unwrap_or(u8::MAX), text)
+}
+
+// The tickets of an info, each with a comma behind.
+fn tickets(alloc: Global, digits: &str) -> Result<String, Fault> {
+    let Ok(message) = hex::decode(alloc, digits) else {
+        return Err(Fault::BadBatch);
+    };
+    let info = read_info(alloc, &message)?;
+    let mut told = String::new(alloc);
+    for endpoint in &info.endpoints {
+        let ticket = hex::encode(alloc, endpoint.ticket.as_slice())?;
+        told.push_str(&ticket)?;
+        told.push(',')?;
+    }
+    Ok(told)
+}
+
+// The text that was found, or that of the fault.
+fn told(alloc: Global, found: Result<String, Fault>) -> Result<String, Fault> {
+    match found {
+        Ok(text) => Ok(text),
+        Err(fault) => Ok(String::from_str(alloc, fault.text().as_str())?),
+    }
 }
 
 impl Cases {
@@ -87,7 +110,7 @@ impl Cases {
             }
         }
         match join(streams) {
-            Ok(rows) => answer.push_str(&told(alloc, &rows)?)?,
+            Ok(rows) => push_told(alloc, &mut answer, &rows)?,
             Err(fault) => answer.push_str(fault.text().as_str())?,
         }
         Ok(answer)
@@ -106,6 +129,7 @@ impl Cases {
                 let (code, text) = status(case);
                 Ok(Some(format!(in alloc; "{:?}", fault_of_status(code, text))?))
             }
+            "info" => Ok(Some(told(alloc, tickets(alloc, case))?)),
             _ => Ok(Some(String::from_str(alloc, line)?)),
         }
     }

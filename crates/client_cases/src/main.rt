@@ -2,8 +2,8 @@
 //!
 //! `payload NAME DIGITS` keeps a payload, and prints nothing. `join STREAM | STREAM ..` prints what the joined streams say,
 //! where a STREAM is `NAME NAME .. = CODE TEXT`, payloads and a status, or `NAME NAME ..`, payloads alone; before it, of
-//! each refused payload its fault. `status CODE TEXT` prints the fault that has that status. `vectors/client/make.py`
-//! writes the cases, and what has to be printed.
+//! each refused payload its fault. `status CODE TEXT` prints the fault that has that status, and `info DIGITS` the tickets
+//! of an info. `vectors/client/make.py` writes the cases, and what has to be printed.
 #![tactic(auto)]
 
 mod cases;

@@ -53,13 +53,12 @@ fn push_schema(alloc: Global, told: &mut String, schema: &Schema) -> Result<(), 
     Ok(())
 }
 
-/// The columns, a space, and the rows.
-pub fn told(alloc: Global, rows: &Rows) -> Result<String, AllocError> {
-    let mut told = String::new(alloc);
-    push_schema(alloc, &mut told, rows.schema())?;
+/// Adds the columns, a space, and the rows.
+pub fn push_told(alloc: Global, told: &mut String, rows: &Rows) -> Result<(), AllocError> {
+    push_schema(alloc, told, rows.schema())?;
     told.push(' ')?;
     for batch in rows.batches() {
-        push_batch(alloc, &mut told, batch)?;
+        push_batch(alloc, told, batch)?;
     }
-    Ok(told)
+    Ok(())
 }

@@ -4,6 +4,7 @@ use Rattle.std.specs.Io.KnownBytes.{Appends}
 use Rattle.scan_base.specs.declared.fault.Fault.{Fault}
 use Rattle.scan_base.specs.Fault.{text_of}
 use Rattle.grpc_frame.specs.Ends.{AppendsBeginning}
+use Rattle.flight_calls.specs.declared.setting.Options.{Options}
 use Rattle.flight_calls.specs.Owed.{Connection, Serves}
 use Rattle.commands.specs.declared.exit_status.ExitStatus.{ExitStatus}
 use Rattle.commands.specs.declared.exit_status.ExitStatus.TheVariants.{Done, BadCommandLine, FaultAtThisEnd}
@@ -25,7 +26,7 @@ Prints text old new =
 
 -- By how the program ends: the whole input was served, and nothing is printed; or the connection ended by a fault of
 -- this end, which is printed in a line.
-abbrev pub Pipes : ExitStatus → Connection → Connection → Said → Said → Type 0
-Pipes Done old new said said' = Serves (Ok tt) old new × (said' ≡ said)
-Pipes FaultAtThisEnd old new said said' = (fault : Fault) × Serves (Err fault) old new × Prints (fault_line fault) said said'
-Pipes BadCommandLine old new said said' = ⊥
+abbrev pub Pipes : Options → ExitStatus → Connection → Connection → Said → Said → Type 0
+Pipes options Done old new said said' = Serves options (Ok tt) old new × (said' ≡ said)
+Pipes options FaultAtThisEnd old new said said' = (fault : Fault) × Serves options (Err fault) old new × Prints (fault_line fault) said said'
+Pipes options BadCommandLine old new said said' = ⊥

@@ -7,7 +7,7 @@ ghost use Rattle.commands.specs.Pipe.{Pipes};
 
 use crate::ending::end_by_fault;
 use crate::exit_status::ExitStatus;
-use flight_calls::serve_alone;
+use flight_calls::{Options, serve_alone};
 use grpc_frame::{Input, Output};
 use std::alloc::Global;
 
@@ -18,11 +18,12 @@ pub fn pipe<R: Input, W: Output, E: Output>(
     reader: &mut R,
     writer: &mut W,
     faults: &mut E,
+    options: Options,
 ) -> ExitStatus
     requires reads { R.failures reader.old < 18446744073709551615 }
     requires writes { W.failures writer.old < 18446744073709551615 }
     requires prints { E.failures faults.old < 18446744073709551615 }
-    ensures { (log : Log) × Pipes result
+    ensures { (log : Log) × Pipes options result
         (connection_of (R.remaining reader.old) (W.contents writer.old)
         (R.failures reader.old) (W.failures writer.old) [])
         (connection_of (R.remaining reader.new) (W.contents writer.new)
@@ -30,7 +31,7 @@ pub fn pipe<R: Input, W: Output, E: Output>(
         (record { bytes = E.contents faults.old; failures = E.failures faults.old })
         (record { bytes = E.contents faults.new; failures = E.failures faults.new }) }
 {
-    match serve_alone(alloc, reader, writer) {
+    match serve_alone(alloc, reader, writer, options) {
         Ok(()) => ExitStatus::Done,
         Err(fault) => end_by_fault(faults, fault),
     }

@@ -2,7 +2,7 @@
 
 ghost use Rattle.std.specs.Prelude.{◌≡◌, ◌<◌, ℕ, List, [], map, string_bytes};
 ghost use Rattle.clap.specs.Words.{fault_of, kind_of};
-ghost use Rattle.command_line.specs.Line.{program};
+ghost use Rattle.command_line.specs.Line.{parts_text, program};
 ghost use Rattle.flight_core.specs.Log.{Log};
 ghost use Rattle.flight_calls.specs.Owed.{connection_of};
 ghost use Rattle.commands.specs.Pipe.{Prints};
@@ -13,14 +13,15 @@ use crate::exit_status::ExitStatus;
 use crate::pipe::pipe;
 use clap::Error;
 use clap::error::ErrorKind;
-use command_line::{Task, options};
+use command_line::Task;
+use flight_calls::Options;
 use grpc_frame::{Input, Output};
 use scan_base::Fault;
 use std::alloc::{AllocError, Global};
 
 /// Runs the program with these words, whose first is its name. Where they do not parse or ask for help, the text
 /// of clap's error is printed on `faults`, and where memory is refused for reading them the fault F21, as far as
-/// `faults` takes it; `reader` and `writer` stay as they are. Else it is `pipe`.
+/// `faults` takes it; `reader` and `writer` stay as they are. Else it is `pipe`, in the parts that `--parts` says.
 pub fn run<R: Input, W: Output, E: Output>(
     alloc: Global,
     words: &[String],
@@ -31,7 +32,8 @@ pub fn run<R: Input, W: Output, E: Output>(
     requires reads { R.failures reader.old < 18446744073709551615 }
     requires writes { W.failures writer.old < 18446744073709551615 }
     requires prints { E.failures faults.old < 18446744073709551615 }
-    ensures { (log : Log) × Runs (fault_of program (map string_bytes words.now)) result
+    ensures { (log : Log) × Runs (fault_of program (map string_bytes words.now))
+        (parts_text (map string_bytes words.now)) result
         ((reader.new ≡ reader.old) × (writer.new ≡ writer.old))
         (connection_of (R.remaining reader.old) (W.contents writer.old)
         (R.failures reader.old) (W.failures writer.old) [])
@@ -40,8 +42,11 @@ pub fn run<R: Input, W: Output, E: Output>(
         (record { bytes = E.contents faults.old; failures = E.failures faults.old })
         (record { bytes = E.contents faults.new; failures = E.failures faults.new }) }
 {
-    match options(alloc, words) {
-        Ok(Task::Pipe) => pipe(alloc, reader, writer, faults),
+    match command_line::options(alloc, words) {
+        Ok(Task::Pipe { parts }) => {
+            let options = Options { parts, workers: 1 };
+            pipe(alloc, reader, writer, faults, options)
+        }
         Err(error) => refuse(alloc, faults, &error),
     }
 }

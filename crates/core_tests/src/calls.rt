@@ -1,7 +1,7 @@
 //! Connections one after another over one catalog, and a writer whose flush fails.
 
 use crate::first_run::{PUT, PUT_ANSWER};
-use flight_calls::serve;
+use flight_calls::{Options, serve};
 use flight_core::Plain;
 use grpc_frame::{Counted, MemoryInput, MemoryOutput, Output};
 use scan_base::Fault;
@@ -10,12 +10,23 @@ use std::io;
 use std::io::{ErrorKind, Write};
 use std::test::Fail;
 
+const OPTIONS: Options = Options {
+    parts: 1,
+    workers: 1,
+};
+
 const TABLE_EXISTS: &[u8] = b"\x04\x06\x00\x0fF10 TableExists";
 
 // What is written to a connection that puts the first run's rows, or none where it did not end well.
 fn put_alone(alloc: Global, plain: &mut Plain) -> MemoryOutput {
     let mut writer = MemoryOutput::new(alloc);
-    match serve(alloc, &mut MemoryInput::new(PUT), &mut writer, plain) {
+    match serve(
+        alloc,
+        &mut MemoryInput::new(PUT),
+        &mut writer,
+        plain,
+        OPTIONS,
+    ) {
         Ok(()) => writer,
         Err(_) => MemoryOutput::new(alloc),
     }
@@ -62,6 +73,7 @@ fn a_flush_that_fails(rt: HostRuntime) -> Result<(), Fail> {
             &mut MemoryInput::new(PUT),
             &mut writer,
             &mut plain,
+            OPTIONS,
         );
         let fails = flushes < 3;
         assert!(rt; (ended == Err(Fault::Transport)) == fails);

@@ -10,10 +10,16 @@ use crate::first_run::{
 use commands::arguments::refuse_arguments;
 use commands::pipe::pipe;
 use commands::run::run;
+use flight_calls::Options;
 use grpc_frame::{Input, MemoryInput, MemoryOutput, Output};
 use std::alloc::{AllocError, Global};
 use std::io::ErrorKind;
 use std::test::Fail;
+
+const OPTIONS: Options = Options {
+    parts: 1,
+    workers: 1,
+};
 
 // The exit status, and what is written and printed.
 fn piped(alloc: Global, bytes: &[u8], most: usize) -> (u8, MemoryOutput, MemoryOutput)
@@ -22,7 +28,7 @@ fn piped(alloc: Global, bytes: &[u8], most: usize) -> (u8, MemoryOutput, MemoryO
     let mut reader = MemoryInput::new(bytes).in_pieces_of(most);
     let mut writer = MemoryOutput::new(alloc);
     let mut faults = MemoryOutput::new(alloc);
-    let status = pipe(alloc, &mut reader, &mut writer, &mut faults).number();
+    let status = pipe(alloc, &mut reader, &mut writer, &mut faults, OPTIONS).number();
     (status, writer, faults)
 }
 
@@ -317,7 +323,7 @@ fn a_fault_before_a_failed_read(rt: HostRuntime) {
     let mut reader = MemoryInput::new(b"\x05").failing_after(1);
     let mut writer = MemoryOutput::new(rt.alloc());
     let mut faults = MemoryOutput::new(rt.alloc());
-    let status = pipe(rt.alloc(), &mut reader, &mut writer, &mut faults).number();
+    let status = pipe(rt.alloc(), &mut reader, &mut writer, &mut faults, OPTIONS).number();
     assert!(rt; status == 3);
     assert!(rt; reader.failures() == 0);
     assert!(rt; writer.as_slice() == BAD_FRAME);
@@ -335,7 +341,7 @@ fn each_read(rt: HostRuntime) -> Result<(), Fail> {
             .failing_after(calls);
         let mut writer = MemoryOutput::new(rt.alloc());
         let mut faults = MemoryOutput::new(rt.alloc());
-        let status = pipe(rt.alloc(), &mut reader, &mut writer, &mut faults).number();
+        let status = pipe(rt.alloc(), &mut reader, &mut writer, &mut faults, OPTIONS).number();
         let want = match calls {
             0 | 1 => NOTHING,
             2 => PUT_ANSWER,
@@ -357,7 +363,7 @@ fn each_write(rt: HostRuntime) -> Result<(), Fail> {
         let mut reader = MemoryInput::new(&bytes);
         let mut writer = MemoryOutput::new(rt.alloc()).failing_after(calls);
         let mut faults = MemoryOutput::new(rt.alloc());
-        let status = pipe(rt.alloc(), &mut reader, &mut writer, &mut faults).number();
+        let status = pipe(rt.alloc(), &mut reader, &mut writer, &mut faults, OPTIONS).number();
         assert!(rt; whole.as_slice().starts_with(writer.as_slice()));
         assert!(rt; (writer.as_slice() == whole.as_slice()) == (calls == 8));
         assert!(rt; status == if calls < 8 { 3 } else { 0 });
@@ -373,7 +379,7 @@ fn a_fault_that_cannot_be_printed(rt: HostRuntime) {
         let mut reader = MemoryInput::new(b"\x05");
         let mut writer = MemoryOutput::new(rt.alloc());
         let mut faults = MemoryOutput::new(rt.alloc()).failing_after(calls);
-        let status = pipe(rt.alloc(), &mut reader, &mut writer, &mut faults).number();
+        let status = pipe(rt.alloc(), &mut reader, &mut writer, &mut faults, OPTIONS).number();
         assert!(rt; status == 3);
         assert!(rt; writer.as_slice() == BAD_FRAME);
         assert!(rt; BAD_FRAME_LINE.starts_with(faults.as_slice()));
@@ -391,7 +397,7 @@ fn words(alloc: Global, line: &[&str]) -> Result<Vec<String>, AllocError> {
 }
 
 // Command lines that are refused, and the first words that are printed.
-static REFUSED: [(&'static [&'static str], &'static [u8]); 8] = [
+static REFUSED: [(&'static [&'static str], &'static [u8]); 10] = [
     (&[], b"error: "),
     (&["pipes"], b"error: unrecognized subcommand 'pipes'"),
     (
@@ -400,7 +406,15 @@ static REFUSED: [(&'static [&'static str], &'static [u8]); 8] = [
     ),
     (
         &["pipe", "--parts", "0"],
-        b"error: unexpected argument '--parts' found",
+        b"error: invalid value '0' for '--parts <parts>': 0 is not in 1..=64",
+    ),
+    (
+        &["pipe", "--parts=65"],
+        b"error: invalid value '65' for '--parts <parts>': 65 is not in 1..=64",
+    ),
+    (
+        &["pipe", "--parts", "two"],
+        b"error: invalid value 'two' for '--parts <parts>'",
     ),
     (&["--help"], b"Usage: flightscan"),
     (&["help"], b"Usage: flightscan"),

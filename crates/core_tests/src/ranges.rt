@@ -1,5 +1,6 @@
 //! Worked ranges, and handles byte by byte.
 
+use endpoint_split::laws::{handle_reads_back, ranges_are_partition};
 use endpoint_split::{Handle, Range, read_handle, split, write_handle};
 use scan_base::Fault;
 use std::alloc::{AllocError, Global};
@@ -12,12 +13,13 @@ static QUERY: &[u8] =
 static TABLES: &[u8] = b"\x02\x01\x02\x03\x04\x05\x06\x07\x08";
 
 // How many rows, how many parts, and where the ranges end. Without a part it is one range all the same.
-static SPLITS: [(u64, u64, &[u64]); 5] = [
+static SPLITS: [(u32, u32, &[u32]); 6] = [
     (5, 2, &[2, 5]),
     (5, 0, &[5]),
     (0, 4, &[0]),
     (3, 8, &[1, 2, 3]),
     (10, 3, &[3, 6, 10]),
+    (2, 65, &[1, 2]),
 ];
 
 // Bytes that are no handle.
@@ -33,7 +35,7 @@ static REFUSED: [&[u8]; 8] = [
 ];
 
 // Whether the ranges lead from 0 over these ends.
-fn lead_over(ranges: &[Range], ends: &[u64]) -> bool {
+fn lead_over(ranges: &[Range], ends: &[u32]) -> bool {
     let mut from = 0;
     for (range, end) in ranges.iter().zip(ends) {
         if range.from != from || range.to != *end {
@@ -47,18 +49,16 @@ fn lead_over(ranges: &[Range], ends: &[u64]) -> bool {
 #[test]
 fn ranges_of_few_rows(rt: HostRuntime) {
     for (rows, parts, ends) in &SPLITS {
-        if *rows <= 10 && *parts <= 8 {
-            assert!(rt; lead_over(split(*rows, *parts).as_slice(), ends));
-        }
+        assert!(rt; lead_over(split(*rows, *parts).as_slice(), ends));
     }
 }
 
-// 16,777,216 rows in 64 ranges of 262,144.
+// 16,777,216 rows in 64 ranges of 262,144: no more parts than that.
 #[test]
 fn ranges_of_most_rows(rt: HostRuntime) {
-    let ranges = split(16_777_216, 64);
+    let ranges = split(16_777_216, 65);
     assert!(rt; ranges.as_slice().len() == 64);
-    let mut from = 0u64;
+    let mut from = 0u32;
     for range in ranges.as_slice() {
         assert!(rt; range.from == from && range.to == from.wrapping_add(262_144));
         from = range.to;
@@ -69,10 +69,9 @@ fn is_query(handle: &Handle<'_>) -> bool {
     match handle {
         Handle::Query {
             version,
-            from,
-            to,
+            range,
             query,
-        } => *version == 1 && *from == 0 && *to == 2 && *query == "SELECT * FROM t",
+        } => *version == 1 && *range == Range { from: 0, to: 2 } && *query == "SELECT * FROM t",
         Handle::Tables { .. } => false,
     }
 }
@@ -109,4 +108,11 @@ fn refused_handles(rt: HostRuntime) {
     for bytes in REFUSED {
         assert!(rt; matches!(read_handle(bytes), Err(Fault::BadTicket)));
     }
+}
+
+// The laws are functions, which give what they say.
+#[test]
+fn laws(_rt: HostRuntime) {
+    handle_reads_back();
+    ranges_are_partition();
 }

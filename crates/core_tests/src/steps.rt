@@ -2,7 +2,8 @@
 
 use bytes::Bytes;
 use flight_core::laws::{
-    answers_say_one_thing, handles_mean_one, puts_are_said, refusals_leave_nothing,
+    answers_say_one_thing, handles_mean_one, joined, puts_are_said, refusals_leave_nothing,
+    runs_meet_headline,
 };
 use flight_core::{Event, Reply, run};
 use scan_base::Fault;
@@ -76,6 +77,8 @@ fn first_run(rt: HostRuntime) -> Result<(), Fault> {
 fn laws(_rt: HostRuntime) {
     answers_say_one_thing();
     handles_mean_one();
+    joined();
     puts_are_said();
     refusals_leave_nothing();
+    runs_meet_headline();
 }

@@ -3,7 +3,7 @@ use Rattle.std.proofs.Common.{◌≡◌, ℕ, zero, suc, ◌+◌, ◌*◌, ◌/�
 use Rattle.std.proofs.lemmas.Nat.{le-div}
 use Rattle.std.proofs.Math.Nat.{zero-div, zero-mul, div-mul-le_self, mul-div_cancel_left}
 use Rattle.endpoint_split.specs.declared.ranges.Range.{Range}
-use Rattle.endpoint_split.specs.Split.{range_at, first_ranges, IsPartition}
+use Rattle.endpoint_split.specs.Split.{count_of, range_at, first_ranges, ranges_of, IsPartition, RangesArePartition}
 
 pub length-first_ranges : (rows p n : ℕ) → length (first_ranges rows p n) ≡ n
 length-first_ranges rows p zero = refl
@@ -25,3 +25,7 @@ is_partition rows p (suc n) some =
 -- all p of them end at the last row
 pub all_partition : (rows p : ℕ) → 0 < p → IsPartition 0 rows (first_ranges rows p p)
 all_partition rows p some = subst (λ n. IsPartition 0 n (first_ranges rows p p)) (mul-div_cancel_left rows some) (is_partition rows p p some)
+
+pub ranges_are_partition : RangesArePartition
+unfolding ranges_of
+ranges_are_partition rows parts = all_partition rows (count_of rows parts) (omega arith)

@@ -5,5 +5,5 @@ use Rattle.endpoint_split.specs.Handle.{HandleAt, Query, Tables}
 
 -- what a handle says, as it is held
 abbrev pub handle_seen : Handle → HandleAt
-handle_seen (handles.Query version from to query) = Query version from to query.now
+handle_seen (handles.Query version range query) = Query version range.from range.to query.now
 handle_seen (handles.Tables version) = Tables version

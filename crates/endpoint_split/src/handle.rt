@@ -5,6 +5,7 @@ ghost use Rattle.scan_base.specs.Reading.{Gives};
 ghost use Rattle.endpoint_split.specs.Handle.{handle_bytes, handle_of, Query, tables_behind, query_behind};
 ghost use Rattle.endpoint_split.specs.Seen.{handle_seen};
 
+use crate::ranges::Range;
 use byteorder::{BigEndian, ByteOrder};
 use scan_base::{Fault, read_text};
 use std::alloc::{AllocError, Global};
@@ -12,11 +13,10 @@ use std::alloc::{AllocError, Global};
 /// What a ticket carries: the catalog version that it is pinned to, and what is asked of it.
 #[derive(Clone, Copy, Debug)]
 pub enum Handle<'a> {
-    /// Rows `from` up to, not with, `to` of the first place of a query, by the query's text.
+    /// A range of the rows of the first place of a query, by the query's text.
     Query {
         version: u64,
-        from: u32,
-        to: u32,
+        range: Range,
         query: &'a str,
     },
     /// The list of tables.
@@ -54,8 +54,7 @@ fn read_query(bytes: &[u8]) -> Result<Handle<'_>, Fault>
     let to = BigEndian::read_u32(&bytes[12..]);
     Ok(Handle::Query {
         version,
-        from,
-        to,
+        range: Range { from, to },
         query,
     })
 }
@@ -79,10 +78,9 @@ pub fn write_handle(alloc: Global, handle: &Handle<'_>) -> Result<Vec<u8>, Alloc
     match handle {
         Handle::Query {
             version,
-            from,
-            to,
+            range,
             query,
-        } => write_query(alloc, *version, *from, *to, query),
+        } => write_query(alloc, *version, *range, query),
         Handle::Tables { version } => {
             let mut bytes = Vec::with_capacity(alloc, 9)?;
             bytes.push(2)?;
@@ -95,17 +93,16 @@ pub fn write_handle(alloc: Global, handle: &Handle<'_>) -> Result<Vec<u8>, Alloc
 fn write_query(
     alloc: Global,
     version: u64,
-    from: u32,
-    to: u32,
+    range: Range,
     query: &str,
 ) -> Result<Vec<u8>, AllocError>
-    ensures { IfOk result (λ bytes. bytes.items ≡ handle_bytes (Query version from to query.now)) }
+    ensures { IfOk result (λ bytes. bytes.items ≡ handle_bytes (Query version range.from range.to query.now)) }
 {
     let mut bytes = Vec::with_capacity(alloc, query.len() + 17)?;
     bytes.push(1)?;
     bytes.extend_from_slice(&version.to_be_bytes())?;
-    bytes.extend_from_slice(&from.to_be_bytes())?;
-    bytes.extend_from_slice(&to.to_be_bytes())?;
+    bytes.extend_from_slice(&range.from.to_be_bytes())?;
+    bytes.extend_from_slice(&range.to.to_be_bytes())?;
     bytes.extend_from_slice(query.as_bytes())?;
     Ok(bytes)
 }

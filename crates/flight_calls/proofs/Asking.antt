@@ -1,10 +1,44 @@
--- Calls that are refused whatever comes.
-use Rattle.std.proofs.Common.{◌≡◌, List, [], Err, append-nil}
+-- What messages ask.
+use Rattle.std.proofs.Common.{◌≡◌, ◌⊎◌, ◌<◌, ℕ, List, [], length, Some, Result, Err, refl, sym, subst, inl, inr, append-nil}
+use Rattle.std.proofs.lemmas.Bool.{lt-leb}
 use Rattle.scan_base.specs.declared.fault.Fault.{Fault}
+use Rattle.scan_base.specs.declared.fault.Fault.TheVariants.{LimitReached}
+use Rattle.scan_base.specs.Limits.{most_request_bytes}
+use Rattle.scan_base.specs.Reading.{◌>>=◌}
+use Rattle.flight_proto.specs.Wanted.{Wanted, wanted_in}
+use Rattle.flight_core.specs.Asked.{info, schema, refusal}
+use Rattle.flight_core.specs.Infos.{only_rows, short_enough, InfoAt, SchemaAt}
+use Rattle.flight_core.specs.Log.{Log, database_of, puts_in}
+use Rattle.flight_core.specs.Machine.{StepOn}
 use Rattle.flight_core.specs.Payloads.{Payload}
+use Rattle.flight_calls.specs.declared.setting.Options.{Options}
+use Rattle.flight_calls.specs.declared.request.Single.{Single}
+use Rattle.flight_calls.specs.declared.request.Single.TheVariants.{GetFlightInfo, GetSchema}
 use Rattle.flight_calls.specs.Calls.{Call, asked_by}
-use Rattle.flight_calls.specs.Requests.{with_messages}
+use Rattle.flight_calls.specs.Requests.{with_messages, IsRefused}
 
 -- where nothing more comes
-pub refused_now : (fault : Fault) (call : Call) → ((more : List Payload) → asked_by (with_messages call more) ≡ Err fault) → asked_by call ≡ Err fault
-refused_now fault call refused = rw (append-nil call.messages) at (refused [])
+pub refused_now : (fault : Fault) (call : Call) → ((options : Options) (more : List Payload) → asked_by options (with_messages call more) ≡ Err fault)
+    → (options : Options) → asked_by options call ≡ Err fault
+refused_now fault call refused options = rw (append-nil call.messages) at (refused options [])
+
+-- a message that is too long is not read
+too_long : (message : Payload) → most_request_bytes < length message → wanted_in message ≡ Err LimitReached
+unfolding wanted_in
+too_long message long = rw (lt-leb (length message) most_request_bytes long) refl
+
+info_too_long : (log : Log) (message : Payload) (parts : ℕ) → most_request_bytes < length message → StepOn log (info message parts) (refusal LimitReached) log
+info_too_long log message parts long = (
+  refl,
+  subst (λ (w : Result Wanted Fault). InfoAt (database_of log) (puts_in log) message parts (w >>= only_rows >>= short_enough) [] (Some LimitReached)) (sym (too_long message long)) (refl, refl),
+)
+
+schema_too_long : (log : Log) (message : Payload) → most_request_bytes < length message → StepOn log (schema message) (refusal LimitReached) log
+schema_too_long log message long = (
+  refl,
+  subst (λ (w : Result Wanted Fault). SchemaAt (database_of log) (w >>= short_enough) [] (Some LimitReached)) (sym (too_long message long)) (refl, refl),
+)
+
+pub command_too_long : (one : Single) (message : Payload) → (one ≡ GetFlightInfo) ⊎ (one ≡ GetSchema) → most_request_bytes < length message → IsRefused one message LimitReached
+command_too_long one message (inl is) long = rw (is, too_long message long) (λ options log. info_too_long log message options.parts long)
+command_too_long one message (inr is) long = rw is (λ options log. schema_too_long log message long)

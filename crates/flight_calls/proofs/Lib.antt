@@ -3,3 +3,4 @@ pub mod Taking
 pub mod Writing
 pub mod Serving
 pub mod Telling
+pub mod Running

@@ -2,16 +2,20 @@
 use Rattle.std.specs.Prelude.{◌≡◌, ℕ, List, [], ◌∷◌, ◌++◌, map, Option, Some, None, Result, Ok, Err, codes, if◌then◌else◌}
 use Rattle.std.specs.Str.{bytes_eq}
 use Rattle.scan_base.specs.declared.fault.Fault.{Fault}
-use Rattle.scan_base.specs.declared.fault.Fault.TheVariants.{UnknownMethod, BadProto}
+use Rattle.scan_base.specs.declared.fault.Fault.TheVariants.{UnknownMethod, BadProto, UnknownCommand}
 use Rattle.scan_base.specs.Reading.{◌>>=◌, wanted}
 use Rattle.grpc_frame.specs.declared.record.Record.{Record}
 use Rattle.grpc_frame.specs.declared.record.Record.TheVariants.{Open, Message, End}
+use Rattle.flight_proto.specs.Wanted as wants
 use Rattle.flight_core.specs.Payloads.{Payload}
-use Rattle.flight_core.specs.Asked.{Asked, put, fetch, ReplyAt}
+use Rattle.flight_core.specs.Asked.{Asked, put, info, tables, schema, fetch, ReplyAt, refusal}
 use Rattle.flight_core.specs.Log.{Log}
 use Rattle.flight_core.specs.Machine.{StepOn}
+use Rattle.flight_calls.specs.declared.setting.Options.{Options}
 use Rattle.flight_calls.specs.declared.request.Method.{Method}
 use Rattle.flight_calls.specs.declared.request.Method.TheVariants as method
+use Rattle.flight_calls.specs.declared.request.Single.{Single}
+use Rattle.flight_calls.specs.declared.request.Single.TheVariants as single
 
 -- a call: the path of its method, and its messages
 pub record Call : Type 0 where
@@ -28,34 +32,71 @@ call_records call = Open call.path ∷ (map Message call.messages ++ End ∷ [])
 abbrev pub service : List ℕ
 service = codes "/arrow.flight.protocol.FlightService/"
 
--- The method at a path. Until flight infos and actions are built, GetFlightInfo, GetSchema and DoAction are no
--- methods.
+-- the method at a path
 unfoldable pub method_at : List ℕ → Option Method
 method_at path =
     if bytes_eq path (service ++ codes "DoPut") then Some method.DoPut
-    else (if bytes_eq path (service ++ codes "DoGet") then Some method.DoGet
-    else None)
+    else (if bytes_eq path (service ++ codes "DoGet") then Some (method.Single single.DoGet)
+    else (if bytes_eq path (service ++ codes "GetFlightInfo") then Some (method.Single single.GetFlightInfo)
+    else (if bytes_eq path (service ++ codes "GetSchema") then Some (method.Single single.GetSchema)
+    else (if bytes_eq path (service ++ codes "DoAction") then Some (method.Single single.DoAction)
+    else None))))
 
--- What the messages ask of a method: of a fetch there is one. Until scans run on several workers, it has one.
-abbrev pub asked_of : Method → List Payload → Result Asked Fault
-asked_of method.DoPut messages = Ok (put messages)
-asked_of method.DoGet (ticket ∷ []) = Ok (fetch ticket 1)
-asked_of method.DoGet _ = Err BadProto
+-- an info is of the list of tables where its command wants that, and else of a query
+abbrev pub info_asked : Result wants.Wanted Fault → Payload → ℕ → Asked
+info_asked (Ok wants.tables) payload parts = tables payload parts
+info_asked _ payload parts = info payload parts
 
--- what a call asks, or the fault of its path or of the number of its messages
-abbrev pub asked_by : Call → Result Asked Fault
-asked_by call = wanted (method_at call.path) UnknownMethod >>= λ found. asked_of found call.messages
+-- what the one message of a call asks, where the server is set so; no action is known
+abbrev pub asked_with : Options → Single → Payload → Result Asked Fault
+asked_with options single.DoGet ticket = Ok (fetch ticket options.workers)
+asked_with options single.GetFlightInfo payload = Ok (info_asked (wants.wanted_in payload) payload options.parts)
+asked_with options single.GetSchema payload = Ok (schema payload)
+asked_with options single.DoAction action = Err UnknownCommand
+
+-- what the messages ask of a method: but for a put there is one, and of another number none is read
+abbrev pub asked_of : Options → Method → List Payload → Result Asked Fault
+asked_of options method.DoPut messages = Ok (put messages)
+asked_of options (method.Single one) (message ∷ []) = asked_with options one message
+asked_of options (method.Single one) _ = Err BadProto
+
+-- what a call asks, or the fault of its path, of the number of its messages or of its action
+abbrev pub asked_by : Options → Call → Result Asked Fault
+asked_by options call = wanted (method_at call.path) UnknownMethod >>= λ found. asked_of options found call.messages
 
 -- ---- what answers it
 
 -- a step of the core on what is asked; or the fault, and the log stays
 abbrev pub ReplyTo : Result Asked Fault → Log → ReplyAt → Log → Type 0
 ReplyTo (Ok asked) log reply new = StepOn log asked reply new
-ReplyTo (Err fault) log reply new = (new ≡ log) × (reply ≡ record { payloads = []; fault = Some fault })
+ReplyTo (Err fault) log reply new = (new ≡ log) × (reply ≡ refusal fault)
 
 -- one reply a call, in order, each from the log that the one before left
-abbrev pub Answers : Log → List Call → List ReplyAt → Log → Type 0
-Answers old [] [] new = new ≡ old
-Answers old (call ∷ calls) (reply ∷ replies) new =
-    (middle : Log) × ReplyTo (asked_by call) old reply middle × Answers middle calls replies new
-Answers old _ _ new = ⊥
+abbrev pub Answers : Options → Log → List Call → List ReplyAt → Log → Type 0
+Answers options old [] [] new = new ≡ old
+Answers options old (call ∷ calls) (reply ∷ replies) new =
+    (middle : Log) × ReplyTo (asked_by options call) old reply middle × Answers options middle calls replies new
+Answers options old _ _ new = ⊥
+
+-- ---- the calls that ask, of which the others are refused before they come to the core
+
+-- what is asked, with what is asked after it
+abbrev pub with_asked : Result Asked Fault → List Asked → List Asked
+with_asked (Ok asked) more = asked ∷ more
+with_asked (Err fault) more = more
+
+-- what the calls ask, in order
+abbrev pub asked_in_all : Options → List Call → List Asked
+asked_in_all options [] = []
+asked_in_all options (call ∷ calls) = with_asked (asked_by options call) (asked_in_all options calls)
+
+-- the reply to what is asked, with the replies after it
+abbrev pub with_reply : Result Asked Fault → ReplyAt → List ReplyAt → List ReplyAt
+with_reply (Ok asked) reply replies = reply ∷ replies
+with_reply (Err fault) reply replies = replies
+
+-- the replies to what the calls ask, in order
+abbrev pub replies_to_asked : Options → List Call → List ReplyAt → List ReplyAt
+replies_to_asked options (call ∷ calls) (reply ∷ replies) =
+    with_reply (asked_by options call) reply (replies_to_asked options calls replies)
+replies_to_asked options _ _ = []

@@ -14,6 +14,7 @@ use Rattle.grpc_frame.specs.Ends.{AppendsBeginning}
 use Rattle.flight_core.specs.Asked.{ReplyAt}
 use Rattle.flight_core.specs.Payloads.{FitMessages}
 use Rattle.flight_core.specs.Log.{Log}
+use Rattle.flight_calls.specs.declared.setting.Options.{Options}
 use Rattle.flight_calls.specs.Calls.{Call, call_records, Answers}
 
 -- ---- what follows the whole calls
@@ -96,15 +97,15 @@ Why (Err Transport) old new rest (Some fault) (item ∷ []) = IsCause fault rest
 Why (Err fault) old new rest (Some last) [] = (last ≡ fault) × (fault ≢ Transport) × IsCause fault rest × Fails 0 0 old new
 Why _ old new rest last begun = ⊥
 
--- What became of a connection. What came is whole calls and then a rest; they have one reply each, from the log before
+-- What became of a connection, where the server is set so. What came is whole calls and then a rest; they have one reply each, from the log before
 -- to the log now; what is owed for them was written in order, all but an item that was only begun.
-pub record Serves (result : Result (Unit {0}) Fault) (old new : Connection) : Type 0 where
+pub record Serves (options : Options) (result : Result (Unit {0}) Fault) (old new : Connection) : Type 0 where
   pub calls : List Call
   pub rest : List ℕ
   pub fits : All IsRecord (flat_map call_records calls)
   pub consumed : Consumes old.input new.input (calls_bytes calls ++ rest)
   pub replies : List ReplyAt
-  pub answers : Answers old.log calls replies new.log
+  pub answers : Answers options old.log calls replies new.log
   pub sent : All (λ reply. FitMessages reply.payloads) replies
   pub last : Option Fault
   pub done : List (List ℕ)

@@ -1,8 +1,23 @@
-//! Laws of connections. The functions do nothing: their contracts are the laws.
+//! Laws of connections. Each function here does nothing: its contract is a law.
 
-ghost use Rattle.flight_calls.specs.Laws.{FailedReadsAnswerAll};
+ghost use Rattle.flight_calls.specs.Laws.{FailedReadsAnswerAll, AnswersAreARun, ServedMeetsHeadline};
+
+use flight_core::laws::runs_meet_headline;
 
 /// Where a read failed, a server has answered each whole call that came before.
 pub fn failed_reads_answer_all()
     ensures { FailedReadsAnswerAll }
 {}
+
+/// The answers of a connection are a run of the core on what its calls ask.
+pub fn answers_are_a_run()
+    ensures { AnswersAreARun }
+{}
+
+/// What becomes of a connection that begins with the empty log meets the headline: so it holds of what `serve_alone`
+/// reads and writes.
+pub fn served_meets_headline()
+    ensures { ServedMeetsHeadline }
+{
+    runs_meet_headline();
+}

@@ -9,5 +9,7 @@ mod call;
 pub mod laws;
 mod request;
 mod server;
+mod setting;
 
 pub use crate::server::{serve, serve_alone};
+pub use crate::setting::Options;

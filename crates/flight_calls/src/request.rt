@@ -1,20 +1,38 @@
 //! What a call asks, while its messages come.
 
-ghost use Rattle.std.specs.Prelude.{◌≡◌, ◌++◌, ◌∷◌, [], ℕ, List, Some};
+ghost use Rattle.std.specs.Prelude.{◌≡◌, ◌++◌, ◌∷◌, [], ℕ, List, Some, IfSome};
+ghost use Rattle.scan_base.specs.Reading.{Gives};
+ghost use Rattle.flight_proto.specs.Wanted.{wanted_in};
+ghost use Rattle.flight_core.specs.Event.{asked_in};
 ghost use Rattle.flight_core.specs.Payloads.{Payload, FitMessages};
-ghost use Rattle.flight_calls.specs.Calls.{Call, method_at, asked_by, ReplyTo};
-ghost use Rattle.flight_calls.specs.Requests.{Holds};
+ghost use Rattle.flight_calls.specs.declared.request.Method.TheVariants as variant;
+ghost use Rattle.flight_calls.specs.Calls.{Call, method_at, info_asked, asked_with, asked_by, ReplyTo};
+ghost use Rattle.flight_calls.specs.Requests.{IsRefused, Holds};
 
+use crate::setting::Options;
 use bytes::Bytes;
 use flight_core::{Event, Plain, PutReader, Reply, step, step_put};
+use flight_proto::wanted::MAX_REQUEST_LEN;
+use flight_proto::{Wanted, read_wanted};
 use scan_base::Fault;
 use std::alloc::Global;
 
-/// The methods that are built.
+/// The methods that are built, by how many messages a call has.
 #[derive(Clone, Copy, Debug, PartialEq, Eq)]
 pub enum Method {
+    /// As many as come.
     DoPut,
+    /// One.
+    Single(Single),
+}
+
+/// The methods whose calls have one message.
+#[derive(Clone, Copy, Debug, PartialEq, Eq)]
+pub enum Single {
     DoGet,
+    GetFlightInfo,
+    GetSchema,
+    DoAction,
 }
 
 /// What is held of a call whose messages come: no more than its answer needs.
@@ -22,10 +40,12 @@ pub enum Method {
 pub enum Request {
     /// DoPut: what its messages say so far.
     Put(PutReader),
-    /// DoGet before its message.
-    AwaitsTicket,
-    /// DoGet with its one message.
-    Fetch(Bytes),
+    /// Another method before its message.
+    Awaits(Single),
+    /// Another method with its one message.
+    Asks(Single, Bytes),
+    /// Another method behind its one message, which is not held: if no other comes, it is answered by this fault.
+    Settled(Fault),
     /// A call that is answered by this fault, whatever comes.
     Refused(Fault),
 }
@@ -33,6 +53,12 @@ pub enum Request {
 const PUT_PATH: &[u8] = b"/arrow.flight.protocol.FlightService/DoPut";
 
 const GET_PATH: &[u8] = b"/arrow.flight.protocol.FlightService/DoGet";
+
+const INFO_PATH: &[u8] = b"/arrow.flight.protocol.FlightService/GetFlightInfo";
+
+const SCHEMA_PATH: &[u8] = b"/arrow.flight.protocol.FlightService/GetSchema";
+
+const ACTION_PATH: &[u8] = b"/arrow.flight.protocol.FlightService/DoAction";
 
 // The method at a path.
 #[tactic(auto, unfolding(crate::specs::Calls::method_at))]
@@ -43,9 +69,59 @@ fn method_at(path: &[u8]) -> Option<Method>
         return Some(Method::DoPut);
     }
     if path == GET_PATH {
-        return Some(Method::DoGet);
+        return Some(Method::Single(Single::DoGet));
+    }
+    if path == INFO_PATH {
+        return Some(Method::Single(Single::GetFlightInfo));
+    }
+    if path == SCHEMA_PATH {
+        return Some(Method::Single(Single::GetSchema));
+    }
+    if path == ACTION_PATH {
+        return Some(Method::Single(Single::DoAction));
     }
     None
+}
+
+// The fault by which a message is answered without being read, if it is.
+fn refusal_of(method: Single, message: &[u8]) -> Option<Fault>
+    ensures { IfSome result (λ fault. IsRefused method message.now fault) }
+{
+    match method {
+        Single::DoGet => None,
+        Single::GetFlightInfo | Single::GetSchema => {
+            if message.len() > MAX_REQUEST_LEN {
+                return Some(Fault::LimitReached);
+            }
+            None
+        }
+        Single::DoAction => Some(Fault::UnknownCommand),
+    }
+}
+
+// What an info is asked for. The command is read for its kind alone.
+fn info_event(payload: Bytes, parts: u32) -> Event
+    ensures { asked_in result ≡ info_asked (wanted_in payload) payload parts }
+{
+    match read_wanted(payload.as_slice()) {
+        Ok(Wanted::Tables) => Event::Tables { payload, parts },
+        Ok(Wanted::Rows(_)) | Err(_) => Event::Info { payload, parts },
+    }
+}
+
+// What the one message of a call asks. No action is known (F5).
+fn event_of(method: Single, message: Bytes, options: Options) -> Result<Event, Fault>
+    ensures { Gives asked_in result (asked_with options method message) }
+{
+    match method {
+        Single::DoGet => Ok(Event::Fetch {
+            ticket: message,
+            workers: options.workers,
+        }),
+        Single::GetFlightInfo => Ok(info_event(message, options.parts)),
+        Single::GetSchema => Ok(Event::Schema { payload: message }),
+        Single::DoAction => Err(Fault::UnknownCommand),
+    }
 }
 
 impl Request {
@@ -55,12 +131,23 @@ impl Request {
     {
         match method_at(path) {
             Some(Method::DoPut) => Request::Put(PutReader::new()),
-            Some(Method::DoGet) => Request::AwaitsTicket,
+            Some(Method::Single(method)) => Request::Awaits(method),
             None => Request::Refused(Fault::UnknownMethod),
         }
     }
 
-    /// Takes the next message. Of a put it is read, and a second one of a fetch is F4. Behind a fault it is
+    // A call of one message. The message is held where it has to be read.
+    fn with_message(method: Single, message: Bytes) -> Request
+        ensures { (path : List ℕ) → method_at path ≡ Some (variant.Single method)
+            → Holds result (record { path = path; messages = message ∷ [] }) }
+    {
+        match refusal_of(method, message.as_slice()) {
+            Some(fault) => Request::Settled(fault),
+            None => Request::Asks(method, message),
+        }
+    }
+
+    /// Takes the next message. Of a put it is read, and of another method a second one is F4. Behind a fault it is
     /// not looked at.
     pub fn push(&mut self, alloc: Global, message: Bytes)
         ensures { (path : List ℕ) (messages : List Payload)
@@ -69,22 +156,28 @@ impl Request {
     {
         match self {
             Request::Put(reader) => reader.push(alloc, &message),
-            Request::AwaitsTicket => *self = Request::Fetch(message),
-            Request::Fetch(_) => *self = Request::Refused(Fault::BadProto),
+            Request::Awaits(method) => *self = Request::with_message(*method, message),
+            Request::Asks(_, _) => *self = Request::Refused(Fault::BadProto),
+            Request::Settled(_) => *self = Request::Refused(Fault::BadProto),
             Request::Refused(_) => {}
         }
     }
 
-    /// The reply to the call, once its End came, and a step of the core where it is one: F4 where a fetch has no
-    /// message.
-    pub fn answer(self, alloc: Global, plain: &mut Plain) -> Reply
-        ensures reply { (call : Call) → Holds self call → ReplyTo (asked_by call) plain.old result plain.new }
+    /// The reply to the call, once its End came, and a step of the core where it is one: F4 where another method than
+    /// DoPut has no message, and F5 for any action.
+    pub fn answer(self, alloc: Global, plain: &mut Plain, options: Options) -> Reply
+        ensures reply { (call : Call) → Holds self call
+            → ReplyTo (asked_by options call) plain.old result plain.new }
         ensures short { FitMessages result.payloads }
     {
         match self {
             Request::Put(reader) => step_put(alloc, plain, reader.into_put()),
-            Request::AwaitsTicket => Reply::refusal(alloc, Fault::BadProto),
-            Request::Fetch(ticket) => step(alloc, plain, &Event::Fetch { ticket, workers: 1 }),
+            Request::Awaits(_) => Reply::refusal(alloc, Fault::BadProto),
+            Request::Asks(method, message) => match event_of(method, message, options) {
+                Ok(event) => step(alloc, plain, &event),
+                Err(fault) => Reply::refusal(alloc, fault),
+            },
+            Request::Settled(fault) => Reply::refusal(alloc, fault),
             Request::Refused(fault) => Reply::refusal(alloc, fault),
         }
     }

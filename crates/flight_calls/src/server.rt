@@ -7,6 +7,7 @@ ghost use Rattle.flight_calls.specs.Ending.{RefusesBy};
 
 use crate::answer::write_answer;
 use crate::call::{Arrival, read_call};
+use crate::setting::Options;
 use flight_core::Plain;
 use grpc_frame::{Inbox, Input, Output, write_status};
 use scan_base::Fault;
@@ -31,10 +32,11 @@ pub fn serve<R: Input, W: Output>(
     reader: &mut R,
     writer: &mut W,
     plain: &mut Plain,
+    options: Options,
 ) -> Result<(), Fault>
     requires reads { R.failures reader.old < 18446744073709551615 }
     requires writes { W.failures writer.old < 18446744073709551615 }
-    ensures { Serves result
+    ensures { Serves options result
         (connection_of (R.remaining reader.old) (W.contents writer.old)
         (R.failures reader.old) (W.failures writer.old) plain.old)
         (connection_of (R.remaining reader.new) (W.contents writer.new)
@@ -48,7 +50,7 @@ pub fn serve<R: Input, W: Output>(
             Ok(Arrival::CutShort) => return Err(Fault::Transport),
             Err(fault) => return refuse(writer, fault),
         };
-        let reply = request.answer(alloc, plain);
+        let reply = request.answer(alloc, plain, options);
         let Ok(()) = write_answer(writer, &reply) else {
             return Err(Fault::Transport);
         };
@@ -64,17 +66,18 @@ pub fn serve_alone<R: Input, W: Output>(
     alloc: Global,
     reader: &mut R,
     writer: &mut W,
+    options: Options,
 ) -> Result<(), Fault>
     requires reads { R.failures reader.old < 18446744073709551615 }
     requires writes { W.failures writer.old < 18446744073709551615 }
-    ensures { (log : Log) × Serves result
+    ensures { (log : Log) × Serves options result
         (connection_of (R.remaining reader.old) (W.contents writer.old)
         (R.failures reader.old) (W.failures writer.old) [])
         (connection_of (R.remaining reader.new) (W.contents writer.new)
         (R.failures reader.new) (W.failures writer.new) log) }
 {
     match Plain::new(alloc) {
-        Ok(mut plain) => serve(alloc, reader, writer, &mut plain),
+        Ok(mut plain) => serve(alloc, reader, writer, &mut plain, options),
         Err(fault) => refuse(writer, fault),
     }
 }

@@ -1,3 +1,4 @@
 pub mod Arrivals
 pub mod Statuses
 pub mod Together
+pub mod Worked

@@ -11,7 +11,7 @@ use Rattle.scan_base.specs.declared.fault.Fault.TheVariants.{BadBatch, SchemaMis
 use Rattle.scan_base.specs.Reading.{◌>>=◌, wanted}
 use Rattle.scan_base.specs.Lists.{each, behind}
 use Rattle.scan_base.specs.Value.{same_flag}
-use Rattle.scan_base.proofs.ReadingLaws.{behind_more, behind_stop}
+use Rattle.scan_base.proofs.ReadingLaws.{behind_more}
 use Rattle.arrow_schema.specs.declared.data_type.DataType.{DataType}
 use Rattle.arrow_schema.specs.declared.data_type.DataType.TheVariants.{Integer, Utf8, Bool, Decimal128, Dictionary}
 use Rattle.arrow_schema.specs.declared.schema.Field.{Field}
@@ -98,17 +98,6 @@ still_same same test now all is = rw (all, is) refl
 
 pub no_more_same : (same : Truth) (test now : Truth) → same ≡ false → now ≡ same → now ≡ (same && test)
 no_more_same same test now differs is = rw (is, differs) refl
-
-pub read_stop : (others rest : List StreamAt) (first : Schema) (same : Truth) (stream : StreamAt) (fault : Fault) → schema_said stream ≡ Err fault
-    → IsRead others (stream ∷ rest) first same → each schema_said others ≡ Err fault
-read_stop others rest first same stream fault said read = read.1 ∙ behind_stop schema_said read.0 stream rest fault said
-
--- the one schema, once all are read
-pub all_read : (first : StreamAt) (others : List StreamAt) (schema : Schema) (same : Truth) → schema_said first ≡ Ok schema → IsRead others [] schema same
-    → schema_of_all (first ∷ others) ≡ (if same then fine schema else Err SchemaMismatch)
-all_read first others schema same one read =
-    let all : each schema_said others ≡ Ok read.0 = read.1 ∙ ap (λ (l : List Schema). fine l) (append-nil read.0) in
-    rw (one, all, read.2) refl
 
 -- ---- the rows of streams
 

@@ -1,3 +1,4 @@
+pub mod Info
 pub mod Status
 pub mod Stream
 pub mod Join

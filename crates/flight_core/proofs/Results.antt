@@ -27,3 +27,8 @@ first_is X fault (Err cause) first = let same : fault ≡ cause = cc in ap Some 
 pub none_refused : {Z : Type 0} (read : Result Z Fault) (holds : Fault → Type 0) → IsOk read → IfErr read holds
 none_refused (Ok z) holds ok = tt
 none_refused (Err cause) holds ok = let no = ok in cc
+
+-- what follows of a value follows of a result
+pub ok_so : {A E : Type 0} (result : Result A E) (one other : A → Type 0) → ((x : A) → one x → other x) → IfOk result one → IfOk result other
+ok_so (Ok x) one other step is = step x is
+ok_so (Err fault) one other step is = tt

@@ -1,11 +1,11 @@
 -- Runs: cut, joined, and without a refused event.
-use Rattle.std.proofs.Common.{◌≡◌, ℕ, zero, suc, ◌+◌, ◌<◌, get_or, List, [], ◌∷◌, ◌++◌, length, map, take, drop, refl, sym, ap, subst, ◌∙◌, add-one, Option, None, Some}
+use Rattle.std.proofs.Common.{◌≡◌, ℕ, zero, suc, ◌+◌, ◌<◌, ◌≤◌, get_or, List, [], ◌∷◌, ◌++◌, length, map, take, drop, refl, sym, ap, subst, ◌∙◌, add-one, Option, None, Some}
 use Rattle.std.specs.List.{slice_get}
-use Rattle.std.proofs.lemmas.List.{take_more, map-append}
+use Rattle.std.proofs.lemmas.List.{take_more, take_all, map-append}
 use Rattle.scan_base.specs.declared.fault.Fault.{Fault}
 use Rattle.flight_core.specs.declared.event.Event.{Event}
 use Rattle.flight_core.specs.Payloads.{Payload}
-use Rattle.flight_core.specs.Asked.{Asked, put, fetch, ReplyAt}
+use Rattle.flight_core.specs.Asked.{Asked, put, info, tables, schema, fetch, ReplyAt}
 use Rattle.flight_core.specs.Event.{asked_in}
 use Rattle.flight_core.specs.Log.{Log}
 use Rattle.flight_core.specs.Machine.{PutStep, StepOn, Run}
@@ -27,15 +27,19 @@ run_more events replies mid new i e r lt is run step =
     let asked : map asked_in (take (i + 1) events) ≡ map asked_in (take i events) ++ asked_in e ∷ [] = ap (map asked_in) grown ∙ map-append asked_in (take i events) (e ∷ []) in
     rw asked (run_joins [] (map asked_in (take i events)) replies mid (asked_in e ∷ []) (r ∷ []) new run (new, step, refl))
 
--- the step at a place of a run
-record At (old : Log) (asked : List Asked) (replies : List ReplyAt) (new : Log) (place : ℕ) (one : Asked) (r : ReplyAt) : Type 0 where
-  log : Log
-  after : Log
-  before : Run old (take place asked) (take place replies) log
-  step : StepOn log one r after
-  behind : Run after (drop (suc place) asked) (drop (suc place) replies) new
+-- all events
+pub whole_run : (events : List Event) (replies : List ReplyAt) (log : Log) (i : ℕ) → length events ≤ i → Run [] (map asked_in (take i events)) replies log → Run [] (map asked_in events) replies log
+whole_run events replies log i end run = subst (λ (es : List Event). Run [] (map asked_in es) replies log) (take_all i events end) run
 
-run_at : (old : Log) (asked : List Asked) (replies : List ReplyAt) (new : Log) (place : ℕ) (one : Asked) (r : ReplyAt)
+-- the step at a place of a run
+pub record At (old : Log) (asked : List Asked) (replies : List ReplyAt) (new : Log) (place : ℕ) (one : Asked) (r : ReplyAt) : Type 0 where
+  pub log : Log
+  pub after : Log
+  pub before : Run old (take place asked) (take place replies) log
+  pub step : StepOn log one r after
+  pub behind : Run after (drop (suc place) asked) (drop (suc place) replies) new
+
+pub run_at : (old : Log) (asked : List Asked) (replies : List ReplyAt) (new : Log) (place : ℕ) (one : Asked) (r : ReplyAt)
     → Run old asked replies new → slice_get asked place ≡ Some one → slice_get replies place ≡ Some r → At old asked replies new place one r
 run_at old [] replies new place one r run a b = absurd cc
 run_at old (f ∷ fs) [] new place one r run a b = absurd run
@@ -56,6 +60,9 @@ put_refused log payloads answers (Some g) f after e s = s.0
 
 step_refused : (log : Log) (one : Asked) (r : ReplyAt) (f : Fault) (after : Log) → r.fault ≡ Some f → StepOn log one r after → after ≡ log
 step_refused log (put payloads) r f after e s = put_refused log payloads r.payloads r.fault f after e s
+step_refused log (info payload parts) r f after e s = s.0
+step_refused log (tables payload parts) r f after e s = s.0
+step_refused log (schema payload) r f after e s = s.0
 step_refused log (fetch ticket workers) r f after e s = s.0
 
 pub refusals_leave_nothing : RefusalsLeaveNothing

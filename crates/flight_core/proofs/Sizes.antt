@@ -167,7 +167,7 @@ unfolding varint
 short_varint n = short_groups 9 n
 
 -- a field of bytes has at most twenty more
-short_chunk : (number : ℕ) (chunk : List ℕ) → length (spelling (chunk_entry number chunk)) ≤ 20 + length chunk
+pub short_chunk : (number : ℕ) (chunk : List ℕ) → length (spelling (chunk_entry number chunk)) ≤ 20 + length chunk
 unfolding spelling
 short_chunk number chunk =
     omega (
@@ -178,13 +178,13 @@ short_chunk number chunk =
       length-append (varint (length chunk)) chunk,
     )
 
-short_number : (number value : ℕ) → length (spelling (varint_entry number value)) ≤ 20
+pub short_number : (number value : ℕ) → length (spelling (varint_entry number value)) ≤ 20
 unfolding spelling
 short_number number value =
     omega (arith, short_varint (8 * number + 0), short_varint value, length-append (varint (8 * number + 0)) (varint value))
 
 -- what is left out makes a message no longer
-short_set : (entries : List Entry) → length (spelled (set_fields entries)) ≤ length (spelled entries)
+pub short_set : (entries : List Entry) → length (spelled (set_fields entries)) ≤ length (spelled entries)
 short_set [] = omega arith
 short_set (entry ∷ entries) = by (is_set entry.content) (short_set entries)
   where

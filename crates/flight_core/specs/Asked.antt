@@ -3,9 +3,13 @@ use Rattle.std.specs.Prelude.{ℕ, List, [], Option, Some, None}
 use Rattle.scan_base.specs.declared.fault.Fault.{Fault}
 use Rattle.flight_core.specs.Payloads.{Payload}
 
--- what is asked: a put, with its payloads, or a fetch, with its ticket and a number of workers
+-- what is asked: a put; an info of a query or of the list of tables, in so many parts; a schema; or a fetch by so many
+-- workers
 pub data Asked : Type 0 where
   put : (payloads : List Payload) → Asked
+  info : (payload : Payload) (parts : ℕ) → Asked
+  tables : (payload : Payload) (parts : ℕ) → Asked
+  schema : (payload : Payload) → Asked
   fetch : (ticket : Payload) (workers : ℕ) → Asked
 
 -- what answers it: the payloads of its messages, and a fault where its status is not 0

@@ -1,45 +1,26 @@
 -- What a fetch answers.
-use Rattle.std.specs.Prelude.{◌≡◌, ◌≢◌, ℕ, ◌≤◌, Bool, true, nat_le, List, [], length, Option, Some, None, Result, Ok, Err}
+use Rattle.std.specs.Prelude.{◌≡◌, ◌≤◌, ◌<◌, ◌⊎◌, ℕ, Bool, true, nat_le, List, [], length, take, Option, Some, None, Result, Ok, Err}
 use Rattle.scan_base.specs.declared.fault.Fault.{Fault}
-use Rattle.scan_base.specs.declared.fault.Fault.TheVariants.{BadTicket, VersionUnknown, OutOfMemory}
+use Rattle.scan_base.specs.declared.fault.Fault.TheVariants.{BadTicket, VersionUnknown, ResultTooLarge, OutOfMemory}
 use Rattle.scan_base.specs.Reading.{◌>>=◌, demand}
-use Rattle.scan_base.specs.Limits.{most_query_bytes}
+use Rattle.scan_base.specs.Limits.{most_query_bytes, most_answer_rows}
 use Rattle.endpoint_split.specs.Handle.{HandleAt, Query, Tables, handle_of}
 use Rattle.flight_proto.specs.Ticket.{statement_handle_of}
-use Rattle.sql_parse.specs.Parse.{Parsed}
-use Rattle.sql_query.specs.Sentence.{Sentence}
 use Rattle.table_versions.specs.Table.{Table}
 use Rattle.table_versions.specs.Database.{Database}
-use Rattle.typed_plan.specs.Bound.{fault_of}
-use Rattle.typed_plan.specs.Joined.{place_rows}
-use Rattle.typed_plan.specs.Meaning.{meaning}
-use Rattle.typed_plan.specs.ResultSchema.{result_schema}
 use Rattle.flight_core.specs.Log.{Log, puts_in, version}
-use Rattle.flight_core.specs.Narrow.{without_tables}
+use Rattle.flight_core.specs.Meant.{Meant}
 use Rattle.flight_core.specs.Payloads.{Payload, PayloadsSay}
+use Rattle.flight_core.specs.Tables.{tables_listed}
 
 -- the handle in the Ticket that begins a fetch
 unfoldable pub handle_asked : Payload → Result HandleAt Fault
-handle_asked ticket = do
-  bytes ← statement_handle_of ticket
-  handle ← handle_of bytes
-  without_tables handle
+handle_asked ticket = statement_handle_of ticket >>= handle_of
 
 -- the version of the catalog to which a handle is pinned
 abbrev pub version_of : HandleAt → ℕ
 version_of (Query number from to query) = number
 version_of (Tables number) = number
-
--- What a query's text means over the rows `from` up to, not with, `to` of its first place: the rows of the sentence
--- that it says, whose names and types are bound without a fault.
-pub record Meant (database : Database) (from to : ℕ) (text : List ℕ) (answer : Table) : Type 0 where
-  pub sentence : Sentence
-  pub says : Parsed (λ s. s) text (Ok sentence)
-  pub bound : fault_of sentence database ≡ None
-  pub ordered : from ≤ to
-  pub within : to ≤ length (place_rows database sentence.first)
-  pub schema : answer.schema ≡ result_schema sentence database
-  pub rows : answer.rows ≡ meaning sentence database from to
 
 -- whether a query's text is short enough to be read
 abbrev pub is_short : HandleAt → Bool
@@ -58,15 +39,28 @@ handle_shown accepted ticket = do
 -- what a handle means
 abbrev pub HandleMeans : Database → HandleAt → Table → Type 0
 HandleMeans database (Query number from to text) answer = Meant database from to text answer
-HandleMeans database (Tables number) answer = ⊥
+HandleMeans database (Tables number) answer = answer ≡ tables_listed database
 
--- The answer to a handle at its version: what it means, its rows cut into batches freely. A refused one has no
--- payload; but for want of memory it is a bad ticket, which means nothing.
+-- a handle means nothing
+abbrev pub MeansNothing : Database → HandleAt → Type 0
+MeansNothing database handle = (answer : Table) → HandleMeans database handle answer → ⊥
+
+-- payloads say a beginning of an answer, of no more rows than one may have
+abbrev pub SayBeginning : List Payload → Table → Type 0
+SayBeginning payloads answer =
+    (n : ℕ) × (n ≤ most_answer_rows) × PayloadsSay payloads answer.schema (take n answer.rows)
+
+-- The answer to a handle at its version: what it means, its rows cut into batches freely. Of an answer of too many rows
+-- it is a beginning, and where memory is refused there may be one. A handle that means nothing is a bad ticket.
 abbrev pub FetchAt : Database → HandleAt → List Payload → Option Fault → Type 0
-FetchAt database handle payloads None =
-    (answer : Table) × HandleMeans database handle answer × PayloadsSay payloads answer.schema answer.rows
-FetchAt database handle payloads (Some fault) =
-    (payloads ≡ []) × (fault ≢ OutOfMemory → (fault ≡ BadTicket) × ((answer : Table) → ¬ HandleMeans database handle answer))
+FetchAt database handle payloads None = (answer : Table) × HandleMeans database handle answer
+    × (length answer.rows ≤ most_answer_rows) × PayloadsSay payloads answer.schema answer.rows
+FetchAt database handle payloads (Some ResultTooLarge) = (answer : Table) × HandleMeans database handle answer
+    × (most_answer_rows < length answer.rows) × SayBeginning payloads answer
+FetchAt database handle payloads (Some OutOfMemory) = (payloads ≡ [])
+    ⊎ ((answer : Table) × HandleMeans database handle answer × SayBeginning payloads answer)
+FetchAt database handle payloads (Some BadTicket) = (payloads ≡ []) × MeansNothing database handle
+FetchAt database handle payloads (Some _) = ⊥
 
 -- a handle means at most one answer
 abbrev pub HandlesMeanOne : Type 0

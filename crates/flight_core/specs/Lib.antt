@@ -5,10 +5,15 @@ pub mod Arriving
 pub mod Asked
 pub mod Event
 pub mod Log
-pub mod Narrow
+pub mod Tables
+pub mod Listed
+pub mod Meant
 pub mod Fetches
+pub mod Infos
+pub mod Described
 pub mod Planned
 pub mod Machine
+pub mod Headline
 pub mod Laws
 pub mod Versions
 pub mod Stored

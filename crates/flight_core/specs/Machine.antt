@@ -6,10 +6,11 @@ use Rattle.flight_proto.specs.PutResult.{rows_put_bytes}
 use Rattle.table_versions.specs.Database.{Database, Put, after}
 use Rattle.flight_core.specs.Refusals.{RefusedFor}
 use Rattle.flight_core.specs.Payloads.{Payload}
-use Rattle.flight_core.specs.Asked.{Asked, put, fetch, ReplyAt}
+use Rattle.flight_core.specs.Asked.{Asked, put, info, tables, schema, fetch, ReplyAt}
 use Rattle.flight_core.specs.Log.{Log, puts_in, database_of}
 use Rattle.flight_core.specs.Puts.{command_in, put_said}
 use Rattle.flight_core.specs.Fetches.{FetchIn}
+use Rattle.flight_core.specs.Infos.{rows_wanted, tables_wanted, schema_wanted, InfoAt, SchemaAt}
 
 -- the database after the put that payloads say, at a log, or the first fault
 abbrev pub database_put : Log → List Payload → Result Database Fault
@@ -28,6 +29,12 @@ PutStep log payloads answers (Some fault) new = (new ≡ log) × (answers ≡ []
 -- at this log what is asked may be answered by this reply, and then the log is the last one
 abbrev pub StepOn : Log → Asked → ReplyAt → Log → Type 0
 StepOn log (put payloads) reply new = PutStep log payloads reply.payloads reply.fault new
+StepOn log (info payload parts) reply new = (new ≡ log)
+    × InfoAt (database_of log) (puts_in log) payload parts (rows_wanted payload) reply.payloads reply.fault
+StepOn log (tables payload parts) reply new = (new ≡ log)
+    × InfoAt (database_of log) (puts_in log) payload parts (tables_wanted payload) reply.payloads reply.fault
+StepOn log (schema payload) reply new = (new ≡ log)
+    × SchemaAt (database_of log) (schema_wanted payload) reply.payloads reply.fault
 StepOn log (fetch ticket workers) reply new = (new ≡ log) × FetchIn log ticket reply.payloads reply.fault
 
 -- these replies answer what is asked, one step after another, from one log to the other

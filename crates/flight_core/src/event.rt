@@ -14,6 +14,12 @@ use std::marker::Model;
 pub enum Event {
     /// DoPut: a FlightData each, the first with the command.
     Put(Vec<Bytes>),
+    /// GetFlightInfo of a query: a FlightDescriptor, and in how many parts its rows may be fetched.
+    Info { payload: Bytes, parts: u32 },
+    /// GetFlightInfo of the list of tables: a FlightDescriptor. The list is fetched whole, whatever the parts.
+    Tables { payload: Bytes, parts: u32 },
+    /// GetSchema: a FlightDescriptor.
+    Schema { payload: Bytes },
     /// DoGet: a Ticket, and how many workers may scan for its answer, which is the same for any number.
     Fetch { ticket: Bytes, workers: usize },
 }

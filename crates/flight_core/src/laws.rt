@@ -1,6 +1,7 @@
 //! What holds of all payloads, and of all runs. Each function here has an empty body: its contract is a law.
 
 ghost use Rattle.flight_core.specs.Fetches.{HandlesMeanOne};
+ghost use Rattle.flight_core.specs.Headline.{Joined, RunsMeetHeadline};
 ghost use Rattle.flight_core.specs.Laws.{AnswersSayOneThing, PutsAreSaid, RefusalsLeaveNothing};
 
 use ipc_batch::laws::messages_say_one_thing;
@@ -26,4 +27,15 @@ pub fn refusals_leave_nothing()
 /// A handle means at most one answer at a database.
 pub fn handles_mean_one()
     ensures { HandlesMeanOne }
+{}
+
+/// For running threads: the streams of an info's handles, fetched at any seats that learnt of one log that is no
+/// shorter than the info's, are the rows that were wanted, at the info's log.
+pub fn joined()
+    ensures { Joined }
+{}
+
+/// What answers a run meets the headline.
+pub fn runs_meet_headline()
+    ensures { RunsMeetHeadline }
 {}

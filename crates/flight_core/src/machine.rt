@@ -7,6 +7,7 @@ ghost use Rattle.scan_base.specs.declared.fault.Fault.TheVariants.{OutOfMemory};
 ghost use Rattle.flight_proto.specs.PutResult.{rows_put_bytes};
 ghost use Rattle.flight_core.specs.Event.{asked_in};
 ghost use Rattle.flight_core.specs.Log.{Log, ArePuts, puts_in, database_of};
+ghost use Rattle.flight_core.specs.Headline.{Headline};
 ghost use Rattle.flight_core.specs.Laws.{RefusedLeaveNothing};
 ghost use Rattle.flight_core.specs.Machine.{PutStep, StepOn, Run};
 ghost use Rattle.flight_core.specs.Fetches.{FetchIn};
@@ -18,6 +19,7 @@ ghost use Rattle.flight_core.specs.Puts.{command_in, put_said};
 
 use crate::event::{Event, Reply};
 use crate::fetch::{answer_fetch, read_ticket, version_of};
+use crate::info::{answer_info, answer_schema, answer_tables};
 use crate::plain::Plain;
 use crate::put::read_put;
 use crate::stream::payload_of;
@@ -82,8 +84,9 @@ fn step_fetch(alloc: Global, plain: &Plain, ticket: &[u8]) -> Reply
 }
 
 /// Answers one event. A put that is accepted stands at the end of the log; any other event changes nothing.
-/// The reply's fault is one of those of `read_put` and `Plain::put`, or of `read_ticket`, `Plain::at` and
-/// `answer_fetch`, in that order. Each payload has at most 16,777,216 bytes.
+/// The reply's fault is one of those of `read_put` and `Plain::put`; of `answer_info`, `answer_tables` or
+/// `answer_schema`, at the newest version; or of `read_ticket`, `Plain::at` and `answer_fetch`, in that order. Each
+/// payload has at most 16,777,216 bytes.
 pub fn step(alloc: Global, plain: &mut Plain, event: &Event) -> Reply
     ensures step { StepOn plain.old (asked_in event.now) result plain.new }
     ensures puts { ArePuts plain.old → ArePuts plain.new }
@@ -91,12 +94,27 @@ pub fn step(alloc: Global, plain: &mut Plain, event: &Event) -> Reply
 {
     match event {
         Event::Put(payloads) => step_put(alloc, plain, read_put(alloc, payloads.as_slice())),
+        Event::Info { payload, parts } => answer_info(
+            alloc,
+            plain.current(),
+            payload.as_slice(),
+            *parts,
+        ),
+        Event::Tables { payload, parts } => answer_tables(
+            alloc,
+            plain.current(),
+            payload.as_slice(),
+            *parts,
+        ),
+        Event::Schema { payload } => answer_schema(alloc, plain.current(), payload.as_slice()),
         Event::Fetch { ticket, .. } => step_fetch(alloc, plain, ticket.as_slice()),
     }
 }
 
 /// The replies to a list of events, from the empty log on: one for each. Every version of the log that they leave
-/// has tables alone. What is refused changes nothing.
+/// has tables alone. What is refused changes nothing. If every endpoint of an info was fetched to its end, the rows
+/// that the fetches say, joined in the order of the endpoints, are those that the query means on the tables as they
+/// stood when the info was given.
 ///
 /// # Errors
 ///
@@ -104,6 +122,7 @@ pub fn step(alloc: Global, plain: &mut Plain, event: &Event) -> Reply
 pub fn run(alloc: Global, events: &[Event]) -> Result<Vec<Reply>, Fault>
     ensures ok { IfOk result (λ replies. (log : Log) × Run [] (map asked_in events.now) replies.items log
         × HasDatabases log × RefusedLeaveNothing (map asked_in events.now) replies.items log) }
+    ensures headline { IfOk result (λ replies. Headline (map asked_in events.now) replies.items) }
     ensures err { IfErr result (λ fault. fault ≡ OutOfMemory) }
 {
     let mut plain = Plain::new(alloc)?;

@@ -1,10 +1,12 @@
 //! Writing the rows that a scan gives as payloads.
 
-ghost use Rattle.std.specs.Prelude.{◌≡◌, ◌≤◌, ◌<◌, length, false, None, IfOk, IfErr, IfSome, OnOk};
+ghost use Rattle.std.specs.Prelude.{◌≡◌, ◌≤◌, ◌<◌, length, map, false, None, IfOk, IfErr, IfSome, OnOk};
 ghost use Rattle.std.specs.List.{list_any};
 ghost use Rattle.scan_base.specs.Limits.{most_columns};
+ghost use Rattle.arrow_schema.specs.Answer.{answer_type};
 ghost use Rattle.arrow_schema.specs.Schema.{IsSchema};
 ghost use Rattle.arrays.specs.Batch.{cut_batch, rows_of};
+ghost use Rattle.arrays.specs.Typed.{AreOfTypes};
 ghost use Rattle.ipc_batch.specs.Written.{body_length};
 ghost use Rattle.table_versions.specs.Table.{is_long_text};
 ghost use Rattle.scan_base.specs.declared.fault.Fault.TheVariants.{OutOfMemory};
@@ -130,6 +132,28 @@ fn push_rows(
         }
     }
     Ok(())
+}
+
+/// The payloads of a batch whose columns are answered as they are: its schema, and then its rows, as `write_scan` cuts
+/// those of a scan.
+pub(crate) fn write_batch(
+    alloc: Global,
+    schema: &Schema,
+    batch: &Batch,
+) -> Result<Vec<Bytes>, AllocError>
+    requires schema { IsSchema schema.now }
+    requires typed { AreOfTypes schema.now.fields batch.now.columns }
+    requires plain { map (λ field. field.data_type) schema.now.fields
+        ≡ map (λ field. answer_type field.data_type) schema.now.fields }
+    requires short { list_any (list_any is_long_text) (rows_of batch.now) ≡ false }
+    ensures said { IfOk result (λ payloads. PayloadsSay payloads.items schema.now (rows_of batch.now)) }
+    ensures fits { IfOk result (λ payloads. FitMessages payloads.items) }
+{
+    batch_slices_keep_rows();
+    let mut payloads = Vec::new(alloc);
+    payloads.push(schema_payload(alloc, schema)?)?;
+    push_rows(alloc, &mut payloads, batch, 0, batch.rows())?;
+    Ok(payloads)
 }
 
 /// The payloads of what a scan gives: a schema of the types as which its columns are answered, and then batches of

@@ -7,7 +7,7 @@ use Rattle.flight_proto.specs.Message.{is_set, set_fields, spelled}
 use Rattle.flight_proto.specs.FlightData.{body_head}
 use Rattle.flight_proto.specs.Laws.{BodiesFollowHeads}
 use Rattle.std.proofs.lemmas.List.Elements.{filter-append}
-use Rattle.flight_proto.proofs.Says.{unset_chunk}
+use Rattle.flight_proto.proofs.Kept.{unset_chunk}
 use Rattle.flight_proto.proofs.Writes.{spelled-append}
 
 -- the field of a body is its head and the body

@@ -1,14 +1,16 @@
 -- Two lists of fields, one behind the other, are one list of fields.
 use Rattle.std.proofs.Common.{◌≡◌, ℕ, List, [], ◌∷◌, ◌++◌, length, Result, Ok, Err, refl, sym, ap, ◌∙◌, append_assoc, arith}
+use Rattle.std.specs.Prelude.{flat_map}
 use Rattle.scan_base.specs.declared.fault.Fault.{Fault}
 use Rattle.scan_base.specs.Reading.{◌>>=◌}
-use Rattle.proto_wire.specs.Standard.{Content, Entry, IsField, IsFields, StandsInFront}
+use Rattle.proto_wire.specs.Standard.{Entry, IsField, IsFields, StandsInFront}
 use Rattle.proto_wire.specs.Reading.{fields_of}
 use Rattle.proto_wire.proofs.Then.{then_ok}
 use Rattle.proto_wire.proofs.Fronts.{front_shorter, at_most_one_front}
 use Rattle.proto_wire.proofs.Lists.{list_law}
-use Rattle.flight_proto.specs.Message.{with_all, merged}
-use Rattle.flight_proto.proofs.Folds.{fields_fault}
+use Rattle.flight_proto.specs.Lookup.{fields_of_parts}
+use Rattle.flight_proto.specs.Laws.{PartsJoin}
+use Rattle.flight_proto.proofs.Cursors.{fields_fault, no_fields}
 
 -- the list begins with the field in front
 first_of : (entry : Entry) (front rest : List ℕ) → IsField front entry → fields_of (front ++ rest) ≡ (fields_of rest >>= λ entries. Ok (entry ∷ entries))
@@ -44,21 +46,10 @@ joined (entry ∷ entries) first second h =
     same (Ok others) = refl
     same (Err fault) = refl
 
-then_both : {A : Type 0} (with : A → ℕ → Content → Result A Fault) → (read : Result A Fault) (entries others : List Entry) → ((more : A) → with_all with more (entries ++ others) ≡ (with_all with more entries >>= λ last. with_all with last others)) → (read >>= λ more. with_all with more (entries ++ others)) ≡ ((read >>= λ more. with_all with more entries) >>= λ last. with_all with last others)
-then_both with (Ok more) entries others h = h more
-then_both with (Err fault) entries others h = refl
-
--- with these fields more, and then with those
-with_all-append : {A : Type 0} (with : A → ℕ → Content → Result A Fault) → (message : A) (entries others : List Entry) → with_all with message (entries ++ others) ≡ (with_all with message entries >>= λ more. with_all with more others)
-with_all-append with message [] others = refl
-with_all-append with message (entry ∷ entries) others =
-    then_both with (with message entry.number entry.content) entries others (λ more. with_all-append with more entries others)
-
-pub merging_joins : {A : Type 0} (with : A → ℕ → Content → Result A Fault) → (message more : A) (first second : List ℕ) → merged with message first ≡ Ok more → merged with message (first ++ second) ≡ merged with more second
-merging_joins with message more first second e =
-    then_ok (fields_of first) (with_all with message) more e (λ entries found made.
-    rw (joined entries first second ((list_law first entries).0 found)) (by entries made (fields_of second)))
-  where
-    by : (entries : List Entry) → with_all with message entries ≡ Ok more → (read : Result (List Entry) Fault) → ((read >>= λ others. Ok (entries ++ others)) >>= with_all with message) ≡ (read >>= with_all with more)
-    by entries made (Ok others) = with_all-append with message entries others ∙ rw made refl
-    by entries made (Err fault) = refl
+pub parts_join : PartsJoin
+unfolding fields_of_parts
+parts_join [] fields e = no_fields ∙ e
+parts_join (part ∷ parts) fields e =
+    then_ok (fields_of part) _ fields e (λ first found made.
+    then_ok (fields_of_parts parts) _ fields made (λ others rest same.
+    joined first part (flat_map (λ part. part) parts) ((list_law part first).0 found) ∙ rw (parts_join parts others rest) same))

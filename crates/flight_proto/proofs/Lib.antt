@@ -1,8 +1,10 @@
-pub mod Folds
-pub mod Writes
-pub mod Cuts
-pub mod Names
+pub mod Cursors
+pub mod Lookups
 pub mod Joins
-pub mod Says
+pub mod Names
+pub mod Writes
+pub mod Kept
 pub mod ReadsBack
+pub mod InfoBack
+pub mod WantedBack
 pub mod Heads

@@ -3,9 +3,11 @@ use Rattle.std.specs.Prelude.{ℕ, ◌==◌, List, [], ◌∷◌, ◌++◌, Opti
 use Rattle.std.specs.Option.{option_or}
 use Rattle.scan_base.specs.declared.fault.Fault.{Fault}
 use Rattle.scan_base.specs.Reading.{◌>>=◌}
-use Rattle.proto_wire.specs.Standard.{Content, Chunk, Entry}
+use Rattle.proto_wire.specs.Standard.{Entry}
+use Rattle.proto_wire.specs.Reading.{fields_of}
 use Rattle.proto_wire.specs.Calls.{chunk_entry}
-use Rattle.flight_proto.specs.Message.{merged, text_of, set_fields, spelled}
+use Rattle.flight_proto.specs.Lookup.{last_text, last_bytes}
+use Rattle.flight_proto.specs.Message.{set_fields, spelled}
 use Rattle.flight_proto.specs.declared.any.Any.{Any}
 
 -- what an Any says
@@ -13,21 +15,15 @@ pub record AnySaid : Type 0 where
   pub type_url : List ℕ
   pub value : List ℕ
 
--- the Any of no fields
-abbrev pub any_empty : AnySaid
-any_empty = record { type_url = []; value = [] }
-
--- with one field more: string type_url = 1, bytes value = 2
-abbrev pub any_with : AnySaid → ℕ → Content → Result AnySaid Fault
-any_with any number (Chunk bytes) =
-    if number == 1 then (text_of bytes >>= λ text. Ok (record any { type_url = text }))
-    else (if number == 2 then Ok (record any { value = bytes })
-    else Ok any)
-any_with any number other = Ok any
+-- an Any by its fields: string type_url = 1, bytes value = 2
+abbrev pub any_in : List Entry → Result AnySaid Fault
+any_in fields = do
+  type_url ← last_text 1 fields
+  Ok (record { type_url = type_url; value = last_bytes 2 fields })
 
 -- the Any that the bytes are
 abbrev pub any_of : List ℕ → Result AnySaid Fault
-any_of bytes = merged any_with any_empty bytes
+any_of bytes = fields_of bytes >>= any_in
 
 -- the fields of an Any
 abbrev pub any_fields : AnySaid → List Entry

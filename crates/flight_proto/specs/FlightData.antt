@@ -1,26 +1,23 @@
 -- arrow.flight.protocol.FlightData: one message of a stream. The first one also has the descriptor of
 -- the stream. It is read apart, since a descriptor behind the first message is not read at all.
-use Rattle.std.specs.Prelude.{ℕ, ◌==◌, List, [], ◌∷◌, ◌++◌, Option, None, Result, Ok, option_map, if◌then◌else◌}
+use Rattle.std.specs.Prelude.{ℕ, ◌==◌, List, [], ◌∷◌, ◌++◌, Option, Result, Ok, option_map, if◌then◌else◌}
 use Rattle.scan_base.specs.declared.fault.Fault.{Fault}
-use Rattle.proto_wire.specs.Standard.{Content, Chunk, Entry}
+use Rattle.scan_base.specs.Reading.{◌>>=◌}
+use Rattle.proto_wire.specs.Standard.{Entry}
+use Rattle.proto_wire.specs.Reading.{fields_of}
 use Rattle.proto_wire.specs.Writing.{chunk_head}
 use Rattle.proto_wire.specs.Calls.{chunk_entry}
-use Rattle.flight_proto.specs.Message.{merged, embedded, set_fields, embedded_field, spelled}
-use Rattle.flight_proto.specs.FlightDescriptor.{DescriptorSaid, descriptor_empty, descriptor_with, descriptor_bytes, descriptor_said}
+use Rattle.flight_proto.specs.Lookup.{last_bytes, embedded_within}
+use Rattle.flight_proto.specs.Message.{set_fields, embedded_field, spelled}
+use Rattle.flight_proto.specs.FlightDescriptor.{DescriptorSaid, descriptor_in, descriptor_bytes, descriptor_said}
 use Rattle.flight_proto.specs.declared.flight_data.FlightData.{FlightData}
 use Rattle.flight_proto.specs.declared.flight_data.StreamDescriptor.{StreamDescriptor}
 
 -- ---- the descriptor of a stream
 
--- with one field more: FlightDescriptor flight_descriptor = 1
-abbrev pub stream_with : Option DescriptorSaid → ℕ → Content → Result (Option DescriptorSaid) Fault
-stream_with descriptor number (Chunk bytes) =
-    if number == 1 then embedded descriptor_with descriptor_empty descriptor bytes else Ok descriptor
-stream_with descriptor number other = Ok descriptor
-
--- the descriptor in the first message of a stream
+-- the descriptor in the first message of a stream: FlightDescriptor flight_descriptor = 1
 abbrev pub stream_descriptor_of : List ℕ → Result (Option DescriptorSaid) Fault
-stream_descriptor_of bytes = merged stream_with None bytes
+stream_descriptor_of bytes = embedded_within descriptor_in 1 bytes
 
 -- what the code holds
 abbrev pub stream_said : StreamDescriptor → Option DescriptorSaid
@@ -33,21 +30,11 @@ pub record DataSaid : Type 0 where
   pub data_header : List ℕ
   pub data_body : List ℕ
 
--- the message of no fields
-abbrev pub data_empty : DataSaid
-data_empty = record { data_header = []; data_body = [] }
-
--- with one field more: bytes data_header = 2, bytes data_body = 1000
-abbrev pub data_with : DataSaid → ℕ → Content → Result DataSaid Fault
-data_with carried number (Chunk bytes) =
-    if number == 2 then Ok (record carried { data_header = bytes })
-    else (if number == 1000 then Ok (record carried { data_body = bytes })
-    else Ok carried)
-data_with carried number other = Ok carried
-
--- what the bytes carry
+-- what the bytes carry: bytes data_header = 2, bytes data_body = 1000
 abbrev pub data_of : List ℕ → Result DataSaid Fault
-data_of bytes = merged data_with data_empty bytes
+data_of bytes = do
+  fields ← fields_of bytes
+  Ok (record { data_header = last_bytes 2 fields; data_body = last_bytes 1000 fields })
 
 -- the fields of a message of a stream
 abbrev pub data_fields : Option DescriptorSaid → DataSaid → List Entry

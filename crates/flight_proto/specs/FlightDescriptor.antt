@@ -1,10 +1,12 @@
 -- arrow.flight.protocol.FlightDescriptor: what a call or a stream is about.
-use Rattle.std.specs.Prelude.{ℕ, ◌==◌, List, [], ◌∷◌, Result, Ok, if◌then◌else◌}
+use Rattle.std.specs.Prelude.{ℕ, List, [], ◌∷◌, Result, Ok}
 use Rattle.scan_base.specs.declared.fault.Fault.{Fault}
 use Rattle.scan_base.specs.Reading.{◌>>=◌}
-use Rattle.proto_wire.specs.Standard.{Content, Varint, Chunk, Entry}
+use Rattle.proto_wire.specs.Standard.{Entry}
+use Rattle.proto_wire.specs.Reading.{fields_of}
 use Rattle.proto_wire.specs.Calls.{varint_entry, chunk_entry}
-use Rattle.flight_proto.specs.Message.{merged, text_of, enum_of, set_fields, spelled}
+use Rattle.flight_proto.specs.Lookup.{last_bytes, last_text, last_varint}
+use Rattle.flight_proto.specs.Message.{enum_of, set_fields, spelled}
 use Rattle.flight_proto.specs.declared.flight_descriptor.FlightDescriptor.{FlightDescriptor}
 
 -- what a descriptor says
@@ -12,24 +14,16 @@ pub record DescriptorSaid : Type 0 where
   pub descriptor_type : ℕ
   pub cmd : List ℕ
 
--- the descriptor of no fields
-abbrev pub descriptor_empty : DescriptorSaid
-descriptor_empty = record { descriptor_type = 0; cmd = [] }
-
--- with one field more: DescriptorType type = 1, bytes cmd = 2, repeated string path = 3, of which no
--- text is kept
-abbrev pub descriptor_with : DescriptorSaid → ℕ → Content → Result DescriptorSaid Fault
-descriptor_with descriptor number (Varint value) =
-    if number == 1 then Ok (record descriptor { descriptor_type = enum_of value }) else Ok descriptor
-descriptor_with descriptor number (Chunk bytes) =
-    if number == 2 then Ok (record descriptor { cmd = bytes })
-    else (if number == 3 then (text_of bytes >>= λ _. Ok descriptor)
-    else Ok descriptor)
-descriptor_with descriptor number other = Ok descriptor
+-- a descriptor by its fields: DescriptorType type = 1, bytes cmd = 2, repeated string path = 3, of which no text
+-- is kept
+abbrev pub descriptor_in : List Entry → Result DescriptorSaid Fault
+descriptor_in fields = do
+  _ ← last_text 3 fields
+  Ok (record { descriptor_type = enum_of (last_varint 1 fields); cmd = last_bytes 2 fields })
 
 -- the descriptor that the bytes are
 abbrev pub descriptor_of : List ℕ → Result DescriptorSaid Fault
-descriptor_of bytes = merged descriptor_with descriptor_empty bytes
+descriptor_of bytes = fields_of bytes >>= descriptor_in
 
 -- the fields of a descriptor
 abbrev pub descriptor_fields : DescriptorSaid → List Entry

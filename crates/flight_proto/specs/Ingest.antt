@@ -4,7 +4,7 @@ use Rattle.scan_base.specs.declared.fault.Fault.{Fault}
 use Rattle.scan_base.specs.declared.fault.Fault.TheVariants.{BadProto, UnknownCommand, NotInSubset}
 use Rattle.scan_base.specs.Reading.{◌>>=◌, demand, wanted}
 use Rattle.flight_proto.specs.FlightData.{stream_descriptor_of}
-use Rattle.flight_proto.specs.StatementIngest.{OptionsSaid, options_empty, StatementSaid, statement_of}
+use Rattle.flight_proto.specs.StatementIngest.{OptionsSaid, StatementSaid, statement_of}
 use Rattle.flight_proto.specs.Command.{command_of}
 use Rattle.scan_base.specs.declared.put_options.IfNotExist.{IfNotExist}
 use Rattle.scan_base.specs.declared.put_options.IfNotExist.TheVariants as absent
@@ -33,15 +33,15 @@ pub record IngestSaid : Type 0 where
   pub if_exists : IfExists
 
 -- absent options are as empty ones
-abbrev pub options_in : StatementSaid → OptionsSaid
-options_in statement = unwrap_or statement.table_definition_options options_empty
+abbrev pub options_said_in : StatementSaid → OptionsSaid
+options_said_in statement = unwrap_or statement.table_definition_options (record { if_not_exist = 0; if_exists = 0 })
 
 -- the ingest of a command, or the first fault
 unfoldable pub ingest_in : List ℕ → Result IngestSaid Fault
 ingest_in value = do
   statement ← statement_of value
-  if_not_exist ← if_not_exist_of (options_in statement).if_not_exist
-  if_exists ← if_exists_of (options_in statement).if_exists
+  if_not_exist ← if_not_exist_of (options_said_in statement).if_not_exist
+  if_exists ← if_exists_of (options_said_in statement).if_exists
   _ ← demand (is_in_subset statement) NotInSubset
   Ok (record { table = statement.table; if_not_exist = if_not_exist; if_exists = if_exists })
 

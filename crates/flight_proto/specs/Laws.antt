@@ -1,25 +1,28 @@
 -- What holds of all messages.
-use Rattle.std.specs.Prelude.{◌≡◌, ◌≢◌, ◌↔◌, ◌<◌, ◌^◌, ◌++◌, ◌∷◌, ℕ, ℤ, List, length, slice_index, Option, None, Some, Result, Ok, IsUtf8, FitsSigned, IfSome}
+use Rattle.std.specs.Prelude.{◌≡◌, ◌≢◌, ◌↔◌, ◌<◌, ◌≤◌, ◌^◌, ◌++◌, ◌∷◌, ℕ, ℤ, false, List, length, slice_index, flat_map, All, Option, None, Some, Result, Ok, IsUtf8, FitsSigned, IfSome}
 use Rattle.std.specs.Int.{w64}
 use Rattle.scan_base.specs.declared.fault.Fault.{Fault}
-use Rattle.proto_wire.specs.Standard.{Content}
-use Rattle.flight_proto.specs.Message.{merged}
-use Rattle.flight_proto.specs.Any.{AnySaid, message_name, any_of, any_bytes}
-use Rattle.flight_proto.specs.FlightDescriptor.{DescriptorSaid, descriptor_of, descriptor_bytes}
+use Rattle.scan_base.specs.Limits.{most_query_bytes}
+use Rattle.proto_wire.specs.Standard.{Entry}
+use Rattle.proto_wire.specs.Reading.{fields_of}
+use Rattle.proto_wire.specs.Writing.{IsWritable}
+use Rattle.flight_proto.specs.Lookup.{fields_of_parts}
+use Rattle.flight_proto.specs.Message.{spelled}
+use Rattle.flight_proto.specs.Any.{AnySaid, message_name}
+use Rattle.flight_proto.specs.FlightDescriptor.{DescriptorSaid, descriptor_of}
 use Rattle.flight_proto.specs.FlightData.{DataSaid, data_of, stream_descriptor_of, data_bytes, data_head}
-use Rattle.flight_proto.specs.PutResult.{update_of, update_bytes, rows_put_of, rows_put_bytes}
-use Rattle.flight_proto.specs.Ticket.{statement_handle_of, statement_ticket_bytes}
-use Rattle.flight_proto.specs.Wrapped.{wrapped_of, wrapped_bytes}
-use Rattle.flight_proto.specs.StatementIngest.{OptionsSaid, options_of, options_bytes, StatementSaid, statement_of, statement_bytes}
+use Rattle.flight_proto.specs.StatementIngest.{OptionsSaid, StatementSaid}
+use Rattle.flight_proto.specs.FlightInfo.{EndpointSaid, InfoSaid}
+use Rattle.flight_proto.specs.Wanted.{QuerySaid, TablesSaid, Wanted, rows_of, tables}
+use Rattle.flight_proto.specs.Action.{ActionSaid}
 
 -- ---- merging
 
--- reading a message from one payload and then from another is reading it from the two as one
-abbrev pub MergingJoins : {A : Type 0} → (A → ℕ → Content → Result A Fault) → Type 0
-MergingJoins {A} with =
-    (message more : A) (first second : List ℕ)
-    → merged with message first ≡ Ok more
-    → merged with message (first ++ second) ≡ merged with more second
+-- the parts of an embedded message read, one after the other, as they read joined
+abbrev pub PartsJoin : Type 0
+PartsJoin =
+    (parts : List (List ℕ)) (fields : List Entry)
+    → fields_of_parts parts ≡ Ok fields → fields_of (flat_map (λ part. part) parts) ≡ Ok fields
 
 -- ---- the name of a message's type
 
@@ -38,7 +41,15 @@ NameIsLastPart =
     → (message_name url ≡ Some name)
     ↔ ((front : List ℕ) × (url ≡ front ++ slash ∷ name) × LacksSlash name)
 
--- ---- what is written reads back, where it is within its range
+-- ---- what is written reads back
+
+-- the fields that are written are those that are read
+abbrev pub FieldsReadBack : Type 0
+FieldsReadBack = (fields : List Entry) → All IsWritable fields → fields_of (spelled fields) ≡ Ok fields
+
+-- a message that is within its range reads from its bytes as it was
+abbrev pub ReadsBack : {A : Type 0} → (A → Type 0) → (List ℕ → Result A Fault) → (A → List ℕ) → Type 0
+ReadsBack {A} IsSound message_of bytes_of = (message : A) → IsSound message → message_of (bytes_of message) ≡ Ok message
 
 -- bytes that memory has room for
 abbrev pub FitsMemory : List ℕ → Type 0
@@ -48,22 +59,64 @@ FitsMemory bytes = length bytes < 2 ^ 63
 abbrev pub IsText : List ℕ → Type 0
 IsText text = IsUtf8 text × FitsMemory text
 
+-- a count of 64 bits
+abbrev pub IsCount : ℤ → Type 0
+IsCount count = FitsSigned w64 count
+
 -- an Any
-abbrev pub AnyReadsBack : Type 0
-AnyReadsBack =
-    (any : AnySaid) → IsText any.type_url → FitsMemory any.value → any_of (any_bytes any) ≡ Ok any
+abbrev pub IsAny : AnySaid → Type 0
+IsAny any = IsText any.type_url × FitsMemory any.value
 
 -- a descriptor whose type is a number of 32 bits
 abbrev pub IsDescriptor : DescriptorSaid → Type 0
 IsDescriptor descriptor = (descriptor.descriptor_type < 2 ^ 32) × FitsMemory descriptor.cmd
 
--- a descriptor
-abbrev pub DescriptorReadsBack : Type 0
-DescriptorReadsBack =
-    (descriptor : DescriptorSaid) → IsDescriptor descriptor
-    → descriptor_of (descriptor_bytes descriptor) ≡ Ok descriptor
+-- options whose numbers are of 32 bits
+abbrev pub AreOptions : OptionsSaid → Type 0
+AreOptions options = (options.if_not_exist < 2 ^ 32) × (options.if_exists < 2 ^ 32)
 
--- both what a message of a stream carries and the descriptor of the stream
+-- a CommandStatementIngest
+abbrev pub IsStatement : StatementSaid → Type 0
+IsStatement statement =
+    IfSome statement.table_definition_options AreOptions
+    × IsText statement.table × IsText statement.schema × IsText statement.catalog
+    × FitsMemory statement.transaction_id
+
+-- a CommandStatementQuery
+abbrev pub IsQuery : QuerySaid → Type 0
+IsQuery said = IsText said.query × FitsMemory said.transaction_id
+
+-- a CommandGetTables without filters
+abbrev pub IsUnfiltered : TablesSaid → Type 0
+IsUnfiltered said = said.is_filtered ≡ false
+
+-- what is asked for: a query's text is within its limit
+abbrev pub IsWanted : Wanted → Type 0
+IsWanted (rows_of text) = IsText text × (length text ≤ most_query_bytes)
+IsWanted tables = Unit {0}
+
+-- an Action
+abbrev pub IsAction : ActionSaid → Type 0
+IsAction action = IsText action.action_type × FitsMemory action.body
+
+-- an endpoint without a location, whose ticket reads as a message
+pub record IsEndpoint (endpoint : EndpointSaid) : Type 0 where
+  pub fits : FitsMemory endpoint.ticket
+  pub fields : List Entry
+  pub reads : fields_of endpoint.ticket ≡ Ok fields
+  pub here : endpoint.has_location ≡ false
+
+-- an info without a location, whose descriptor reads as one
+pub record IsInfo (info : InfoSaid) : Type 0 where
+  pub schema : FitsMemory info.schema
+  pub fits : FitsMemory info.descriptor
+  pub descriptor : DescriptorSaid
+  pub reads : descriptor_of info.descriptor ≡ Ok descriptor
+  pub endpoints : All IsEndpoint info.endpoints
+  pub records : IsCount info.total_records
+  pub bytes : IsCount info.total_bytes
+
+-- of a FlightData, both what it carries and the descriptor of the stream read back
 abbrev pub DataReadsBack : Type 0
 DataReadsBack =
     (descriptor : Option DescriptorSaid) (carried : DataSaid)
@@ -76,42 +129,3 @@ abbrev pub BodiesFollowHeads : Type 0
 BodiesFollowHeads =
     (carried : DataSaid)
     → data_bytes None carried ≡ data_head carried.data_header (length carried.data_body) ++ carried.data_body
-
--- a Ticket, a TicketStatementQuery and a PutResult
-abbrev pub WrappedReadsBack : Type 0
-WrappedReadsBack = (bytes : List ℕ) → FitsMemory bytes → wrapped_of (wrapped_bytes bytes) ≡ Ok bytes
-
--- a DoPutUpdateResult
-abbrev pub UpdateReadsBack : Type 0
-UpdateReadsBack =
-    (record_count : ℤ) → FitsSigned w64 record_count
-    → update_of (update_bytes record_count) ≡ Ok record_count
-
--- how many rows were put
-abbrev pub RowsPutReadBack : Type 0
-RowsPutReadBack =
-    (rows : ℤ) → FitsSigned w64 rows → rows_put_of (rows_put_bytes rows) ≡ Ok rows
-
--- the handle of a ticket
-abbrev pub StatementTicketReadsBack : Type 0
-StatementTicketReadsBack =
-    (handle : List ℕ) → FitsMemory handle
-    → statement_handle_of (statement_ticket_bytes handle) ≡ Ok handle
-
--- options whose numbers are of 32 bits
-abbrev pub AreOptions : OptionsSaid → Type 0
-AreOptions options = (options.if_not_exist < 2 ^ 32) × (options.if_exists < 2 ^ 32)
-
--- options
-abbrev pub OptionsReadBack : Type 0
-OptionsReadBack =
-    (options : OptionsSaid) → AreOptions options → options_of (options_bytes options) ≡ Ok options
-
--- a CommandStatementIngest
-abbrev pub StatementReadsBack : Type 0
-StatementReadsBack =
-    (statement : StatementSaid)
-    → IfSome statement.table_definition_options AreOptions
-    → IsText statement.table → IsText statement.schema → IsText statement.catalog
-    → FitsMemory statement.transaction_id
-    → statement_of (statement_bytes statement) ≡ Ok statement

@@ -6,8 +6,6 @@ use Rattle.scan_base.specs.declared.fault.Fault.TheVariants.{BadTicket}
 use Rattle.scan_base.specs.Reading.{◌>>=◌, demand, wanted}
 use Rattle.flight_proto.specs.Wrapped.{wrapped_of, wrapped_bytes}
 use Rattle.flight_proto.specs.Any.{AnySaid, any_of, any_bytes, message_name, type_url_of}
-use Rattle.flight_proto.specs.declared.ticket.Ticket.{Ticket}
-use Rattle.flight_proto.specs.declared.ticket.TicketStatementQuery.{TicketStatementQuery}
 
 -- the full name of what a ticket holds
 abbrev pub ticket_query_name : List ℕ
@@ -38,13 +36,3 @@ handle_any handle =
 -- the ticket of a handle
 abbrev pub statement_ticket_bytes : List ℕ → List ℕ
 statement_ticket_bytes handle = wrapped_bytes (any_bytes (handle_any handle))
-
--- ---- what the code holds
-
--- the bytes of a Ticket
-abbrev pub ticket_said : Ticket → List ℕ
-ticket_said ticket = ticket.ticket.now
-
--- the handle of a TicketStatementQuery
-abbrev pub ticket_query_said : TicketStatementQuery → List ℕ
-ticket_query_said query = query.statement_handle.now

@@ -1,12 +1,12 @@
 //! `google.protobuf.Any`.
 
 ghost use Rattle.std.specs.Prelude.{◌≡◌, ◌++◌, option_map, OnOk, OnErr};
-ghost use Rattle.flight_proto.specs.Any.{any_said, any_bytes, message_name};
+ghost use Rattle.scan_base.specs.Reading.{Gives};
+ghost use Rattle.flight_proto.specs.Any.{any_of, any_said, any_bytes, message_name};
 
 use crate::message::Message;
-use crate::scalar::utf8;
-use crate::written::put_set_fields;
-use proto_wire::{Field, Payload};
+use crate::written::{Part, put_parts};
+use proto_wire::Field;
 use scan_base::Fault;
 use std::alloc::AllocError;
 
@@ -19,37 +19,22 @@ pub struct Any<'a> {
     pub value: &'a [u8],
 }
 
-impl<'a> Message<'a> for Any<'a> {
-    ghost use Rattle.flight_proto.specs.Any.{AnySaid, any_said, any_empty, any_with};
-
-    ghost Said = { AnySaid };
-
-    ghost said = { any_said };
-
-    ghost nothing = { any_empty };
-
-    ghost with = { any_with };
-
-    fn empty() -> Any<'a> {
-        Any {
-            type_url: "",
-            value: &[],
-        }
-    }
-
-    fn with_field(self, field: &Field<'a>) -> Result<Any<'a>, Fault> {
-        match (field.number, field.payload) {
-            (1, Payload::Bytes(bytes)) => Ok(Any {
-                type_url: utf8(bytes)?,
-                ..self
-            }),
-            (2, Payload::Bytes(value)) => Ok(Any { value, ..self }),
-            _ => Ok(self),
-        }
-    }
-}
-
 impl<'a> Any<'a> {
+    /// The Any that these bytes are.
+    ///
+    /// # Errors
+    ///
+    /// `Fault::BadProto` where they do not read.
+    pub fn read(bytes: &'a [u8]) -> Result<Any<'a>, Fault>
+        ensures { Gives any_said result (any_of bytes.now) }
+    {
+        let message = Message::read(bytes)?;
+        Ok(Any {
+            type_url: message.text(1)?,
+            value: message.bytes(2),
+        })
+    }
+
     /// The full name of the message's type: what follows the last `/` of the URL, where it has one.
     pub fn message_name(&self) -> Option<&'a str>
         ensures { option_map (λ name. name.now) result ≡ message_name self.now.type_url.now }
@@ -68,6 +53,7 @@ impl<'a> Any<'a> {
         ensures err { OnErr result (out.new.items ≡ out.old.items) }
     {
         let type_url = Field::bytes(1, self.type_url.as_bytes());
-        put_set_fields(out, &[type_url, Field::bytes(2, self.value)])
+        let value = Field::bytes(2, self.value);
+        put_parts(out, &[Part::Scalar(type_url), Part::Scalar(value)])
     }
 }

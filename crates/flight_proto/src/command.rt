@@ -7,7 +7,6 @@ ghost use Rattle.flight_proto.specs.Command.{command_said, command_of};
 
 use crate::any::Any;
 use crate::flight_descriptor::{DESCRIPTOR_CMD, FlightDescriptor};
-use crate::message::Message;
 use scan_base::Fault;
 
 /// The most bytes of a descriptor's `cmd`.

@@ -1,12 +1,13 @@
 //! `arrow.flight.protocol.FlightDescriptor`.
 
 ghost use Rattle.std.specs.Prelude.{◌≡◌, ◌++◌, OnOk, OnErr};
-ghost use Rattle.flight_proto.specs.FlightDescriptor.{descriptor_said, descriptor_bytes};
+ghost use Rattle.scan_base.specs.Reading.{Gives};
+ghost use Rattle.flight_proto.specs.FlightDescriptor.{descriptor_said, descriptor_in, descriptor_of};
+ghost use Rattle.flight_proto.specs.FlightDescriptor.{descriptor_bytes};
 
 use crate::message::Message;
-use crate::scalar::{enum_number, utf8};
-use crate::written::put_set_fields;
-use proto_wire::{Field, Payload};
+use crate::written::{Part, put_parts};
+use proto_wire::Field;
 use scan_base::Fault;
 use std::alloc::AllocError;
 
@@ -22,42 +23,30 @@ pub struct FlightDescriptor<'a> {
     pub cmd: &'a [u8],
 }
 
-impl<'a> Message<'a> for FlightDescriptor<'a> {
-    ghost use Rattle.flight_proto.specs.FlightDescriptor.{DescriptorSaid, descriptor_said};
-    ghost use Rattle.flight_proto.specs.FlightDescriptor.{descriptor_empty, descriptor_with};
-
-    ghost Said = { DescriptorSaid };
-
-    ghost said = { descriptor_said };
-
-    ghost nothing = { descriptor_empty };
-
-    ghost with = { descriptor_with };
-
-    fn empty() -> FlightDescriptor<'a> {
-        FlightDescriptor {
-            descriptor_type: 0,
-            cmd: &[],
-        }
-    }
-
-    fn with_field(self, field: &Field<'a>) -> Result<FlightDescriptor<'a>, Fault> {
-        match (field.number, field.payload) {
-            (1, Payload::Varint(value)) => Ok(FlightDescriptor {
-                descriptor_type: enum_number(value),
-                ..self
-            }),
-            (2, Payload::Bytes(cmd)) => Ok(FlightDescriptor { cmd, ..self }),
-            (3, Payload::Bytes(path)) => {
-                utf8(path)?;
-                Ok(self)
-            }
-            _ => Ok(self),
-        }
-    }
-}
-
 impl<'a> FlightDescriptor<'a> {
+    // The descriptor of these fields.
+    pub(crate) fn look_up(message: &Message<'a>) -> Result<FlightDescriptor<'a>, Fault>
+        ensures { Gives descriptor_said result (descriptor_in message.now) }
+    {
+        let _path = message.text(3)?;
+        Ok(FlightDescriptor {
+            descriptor_type: message.enumerator(1),
+            cmd: message.bytes(2),
+        })
+    }
+
+    /// The descriptor that these bytes are.
+    ///
+    /// # Errors
+    ///
+    /// `Fault::BadProto` where they do not read.
+    pub fn read(bytes: &'a [u8]) -> Result<FlightDescriptor<'a>, Fault>
+        ensures { Gives descriptor_said result (descriptor_of bytes.now) }
+    {
+        let message = Message::read(bytes)?;
+        FlightDescriptor::look_up(&message)
+    }
+
     /// Writes the descriptor at the end.
     ///
     /// # Errors
@@ -69,6 +58,7 @@ impl<'a> FlightDescriptor<'a> {
         ensures err { OnErr result (out.new.items ≡ out.old.items) }
     {
         let descriptor_type = Field::varint(1, u64::from(self.descriptor_type));
-        put_set_fields(out, &[descriptor_type, Field::bytes(2, self.cmd)])
+        let cmd = Field::bytes(2, self.cmd);
+        put_parts(out, &[Part::Scalar(descriptor_type), Part::Scalar(cmd)])
     }
 }

@@ -8,7 +8,6 @@ ghost use Rattle.flight_proto.specs.Ingest.{ingest_said, ingest_in, ingest_of};
 
 use crate::command::Command;
 use crate::flight_data::StreamDescriptor;
-use crate::message::Message;
 use crate::statement_ingest::{CommandStatementIngest, TableDefinitionOptions};
 use scan_base::{Fault, IfExists, IfNotExist};
 
@@ -74,7 +73,10 @@ fn read_statement(value: &[u8]) -> Result<Ingest<'_>, Fault>
     let statement = CommandStatementIngest::read(value)?;
     let options = statement
         .table_definition_options
-        .unwrap_or(TableDefinitionOptions::empty());
+        .unwrap_or(TableDefinitionOptions {
+            if_not_exist: 0,
+            if_exists: 0,
+        });
     let if_not_exist = read_if_not_exist(options.if_not_exist)?;
     let if_exists = read_if_exists(options.if_exists)?;
     if !is_in_subset(&statement) {

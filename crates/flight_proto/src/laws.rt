@@ -1,18 +1,24 @@
 //! Laws of the definitions that the contracts cite. The functions do nothing: their contracts are the
 //! laws.
 
-ghost use Rattle.flight_proto.specs.Laws.{MergingJoins, NameIsLastPart};
-ghost use Rattle.flight_proto.specs.Laws.{AnyReadsBack, DescriptorReadsBack, DataReadsBack};
-ghost use Rattle.flight_proto.specs.Laws.{BodiesFollowHeads};
-ghost use Rattle.flight_proto.specs.Laws.{WrappedReadsBack, UpdateReadsBack, RowsPutReadBack};
-ghost use Rattle.flight_proto.specs.Laws.{StatementTicketReadsBack};
-ghost use Rattle.flight_proto.specs.Laws.{OptionsReadBack, StatementReadsBack};
+ghost use Rattle.flight_proto.specs.Laws.{PartsJoin, NameIsLastPart, FieldsReadBack, ReadsBack};
+ghost use Rattle.flight_proto.specs.Laws.{FitsMemory, IsText, IsCount, IsAny, IsDescriptor, AreOptions, IsStatement};
+ghost use Rattle.flight_proto.specs.Laws.{IsQuery, IsUnfiltered, IsWanted, IsAction, IsEndpoint, IsInfo};
+ghost use Rattle.flight_proto.specs.Laws.{DataReadsBack, BodiesFollowHeads};
+ghost use Rattle.flight_proto.specs.Any.{any_of, any_bytes};
+ghost use Rattle.flight_proto.specs.FlightDescriptor.{descriptor_of, descriptor_bytes};
+ghost use Rattle.flight_proto.specs.Wrapped.{wrapped_of, wrapped_bytes};
+ghost use Rattle.flight_proto.specs.PutResult.{update_of, update_bytes, rows_put_of, rows_put_bytes};
+ghost use Rattle.flight_proto.specs.Ticket.{statement_handle_of, statement_ticket_bytes};
+ghost use Rattle.flight_proto.specs.StatementIngest.{options_of, options_bytes, statement_of, statement_bytes};
+ghost use Rattle.flight_proto.specs.Wanted.{query_of, query_bytes, tables_of, tables_bytes};
+ghost use Rattle.flight_proto.specs.Wanted.{wanted_in, wanted_bytes};
+ghost use Rattle.flight_proto.specs.Action.{action_of, action_bytes};
+ghost use Rattle.flight_proto.specs.FlightInfo.{location_of, endpoint_of, endpoint_bytes, info_of, info_bytes};
 
-use crate::message::Message;
-
-/// Reading a message from one payload and then from another is reading it from the two as one.
-pub fn merging_joins<'a, M: Message<'a>>()
-    ensures { MergingJoins M.with }
+/// The parts of an embedded message read, one after the other, as they read joined.
+pub fn parts_join()
+    ensures { PartsJoin }
 {}
 
 /// The name of a message's type stands behind a `/` of its URL, and no `/` stands in it.
@@ -20,52 +26,32 @@ pub fn name_is_last_part()
     ensures { NameIsLastPart }
 {}
 
-/// An Any that is written reads back.
-pub fn any_reads_back()
-    ensures { AnyReadsBack }
+/// The fields that are written are those that are read.
+pub fn fields_read_back()
+    ensures { FieldsReadBack }
 {}
 
-/// A FlightDescriptor that is written reads back.
-pub fn descriptor_reads_back()
-    ensures { DescriptorReadsBack }
-{}
-
-/// A FlightData that is written reads back, with its descriptor.
-pub fn data_reads_back()
-    ensures { DataReadsBack }
+/// A message that is within its range reads from its bytes as it was.
+pub fn messages_read_back()
+    ensures any { ReadsBack IsAny any_of any_bytes }
+    ensures descriptor { ReadsBack IsDescriptor descriptor_of descriptor_bytes }
+    ensures flight_data { DataReadsBack }
+    ensures wrapped { ReadsBack FitsMemory wrapped_of wrapped_bytes }
+    ensures update { ReadsBack IsCount update_of update_bytes }
+    ensures rows_put { ReadsBack IsCount rows_put_of rows_put_bytes }
+    ensures ticket { ReadsBack FitsMemory statement_handle_of statement_ticket_bytes }
+    ensures options { ReadsBack AreOptions options_of options_bytes }
+    ensures statement { ReadsBack IsStatement statement_of statement_bytes }
+    ensures query { ReadsBack IsQuery query_of query_bytes }
+    ensures tables { ReadsBack IsUnfiltered tables_of (λ said. tables_bytes said.include_schema) }
+    ensures wanted { ReadsBack IsWanted wanted_in wanted_bytes }
+    ensures action { ReadsBack IsAction action_of action_bytes }
+    ensures location { ReadsBack IsText location_of wrapped_bytes }
+    ensures endpoint { ReadsBack IsEndpoint endpoint_of (λ endpoint. endpoint_bytes endpoint.ticket) }
+    ensures info { ReadsBack IsInfo info_of info_bytes }
 {}
 
 /// A FlightData without a descriptor is its head, and then its body.
 pub fn bodies_follow_heads()
     ensures { BodiesFollowHeads }
-{}
-
-/// A Ticket, a TicketStatementQuery or a PutResult that is written reads back.
-pub fn wrapped_reads_back()
-    ensures { WrappedReadsBack }
-{}
-
-/// A DoPutUpdateResult that is written reads back.
-pub fn update_reads_back()
-    ensures { UpdateReadsBack }
-{}
-
-/// The number of rows put that is written reads back.
-pub fn rows_put_read_back()
-    ensures { RowsPutReadBack }
-{}
-
-/// The handle of a ticket that is written reads back.
-pub fn statement_ticket_reads_back()
-    ensures { StatementTicketReadsBack }
-{}
-
-/// TableDefinitionOptions that are written read back.
-pub fn options_read_back()
-    ensures { OptionsReadBack }
-{}
-
-/// A CommandStatementIngest that is written reads back.
-pub fn statement_reads_back()
-    ensures { StatementReadsBack }
 {}

@@ -1,14 +1,15 @@
 //! `arrow.flight.protocol.sql.CommandStatementIngest`.
 
-ghost use Rattle.std.specs.Prelude.{◌≡◌, ◌++◌, take, length, option_map, OnOk, OnErr};
+ghost use Rattle.std.specs.Prelude.{◌≡◌, ◌++◌, Ok, take, length, option_map, OnOk, OnErr};
+ghost use Rattle.scan_base.specs.Reading.{Gives};
 ghost use Rattle.flight_proto.specs.Message.{embedded_field, spelled};
-ghost use Rattle.flight_proto.specs.StatementIngest.{options_said, options_bytes};
-ghost use Rattle.flight_proto.specs.StatementIngest.{statement_said, statement_bytes};
+ghost use Rattle.flight_proto.specs.Lookup.{embedded_within};
+ghost use Rattle.flight_proto.specs.StatementIngest.{options_said, options_in, options_of, options_bytes};
+ghost use Rattle.flight_proto.specs.StatementIngest.{statement_said, statement_of, statement_bytes};
 
 use crate::message::Message;
-use crate::scalar::{enum_number, utf8};
-use crate::written::put_set_fields;
-use proto_wire::{Field, Payload, put_bytes};
+use crate::written::{Part, put_parts};
+use proto_wire::Field;
 use scan_base::Fault;
 use std::alloc::AllocError;
 
@@ -22,41 +23,41 @@ pub struct TableDefinitionOptions {
     pub if_exists: u32,
 }
 
-impl<'a> Message<'a> for TableDefinitionOptions {
-    ghost use Rattle.flight_proto.specs.StatementIngest.{OptionsSaid, options_said};
-    ghost use Rattle.flight_proto.specs.StatementIngest.{options_empty, options_with};
-
-    ghost Said = { OptionsSaid };
-
-    ghost said = { options_said };
-
-    ghost nothing = { options_empty };
-
-    ghost with = { options_with };
-
-    fn empty() -> TableDefinitionOptions {
-        TableDefinitionOptions {
-            if_not_exist: 0,
-            if_exists: 0,
-        }
-    }
-
-    fn with_field(self, field: &Field<'a>) -> Result<TableDefinitionOptions, Fault> {
-        match (field.number, field.payload) {
-            (1, Payload::Varint(value)) => Ok(TableDefinitionOptions {
-                if_not_exist: enum_number(value),
-                ..self
-            }),
-            (2, Payload::Varint(value)) => Ok(TableDefinitionOptions {
-                if_exists: enum_number(value),
-                ..self
-            }),
-            _ => Ok(self),
-        }
-    }
-}
-
 impl TableDefinitionOptions {
+    // The options of these fields.
+    fn look_up(message: &Message<'_>) -> TableDefinitionOptions
+        ensures { Ok (options_said result) ≡ options_in message.now }
+    {
+        TableDefinitionOptions {
+            if_not_exist: message.enumerator(1),
+            if_exists: message.enumerator(2),
+        }
+    }
+
+    /// The options that these bytes are.
+    ///
+    /// # Errors
+    ///
+    /// `Fault::BadProto` where they do not read.
+    pub fn read(bytes: &[u8]) -> Result<TableDefinitionOptions, Fault>
+        ensures { Gives options_said result (options_of bytes.now) }
+    {
+        let message = Message::read(bytes)?;
+        Ok(TableDefinitionOptions::look_up(&message))
+    }
+
+    // The options that are embedded in these bytes as field 1, where they are there.
+    fn read_embedded(bytes: &[u8]) -> Result<Option<TableDefinitionOptions>, Fault>
+        ensures { Gives (option_map options_said) result (embedded_within options_in 1 bytes.now) }
+    {
+        let message = Message::read(bytes)?;
+        if !message.has(1) {
+            return Ok(None);
+        }
+        let parts = Message::read_parts(bytes, 1)?;
+        Ok(Some(TableDefinitionOptions::look_up(&parts)))
+    }
+
     /// Writes the options at the end.
     ///
     /// # Errors
@@ -69,7 +70,7 @@ impl TableDefinitionOptions {
     {
         let if_not_exist = Field::varint(1, u64::from(self.if_not_exist));
         let if_exists = Field::varint(2, u64::from(self.if_exists));
-        put_set_fields(out, &[if_not_exist, if_exists])
+        put_parts(out, &[Part::Scalar(if_not_exist), Part::Scalar(if_exists)])
     }
 }
 
@@ -91,49 +92,6 @@ pub struct CommandStatementIngest<'a> {
     pub transaction_id: &'a [u8],
 }
 
-impl<'a> Message<'a> for CommandStatementIngest<'a> {
-    ghost use Rattle.flight_proto.specs.StatementIngest.{StatementSaid, statement_said};
-    ghost use Rattle.flight_proto.specs.StatementIngest.{statement_empty, statement_with};
-
-    ghost Said = { StatementSaid };
-
-    ghost said = { statement_said };
-
-    ghost nothing = { statement_empty };
-
-    ghost with = { statement_with };
-
-    fn empty() -> CommandStatementIngest<'a> {
-        CommandStatementIngest {
-            table_definition_options: None,
-            table: "",
-            schema: "",
-            catalog: "",
-            temporary: false,
-            transaction_id: &[],
-        }
-    }
-
-    fn with_field(self, field: &Field<'a>) -> Result<CommandStatementIngest<'a>, Fault> {
-        let mut statement = self;
-        match (field.number, field.payload) {
-            (1, Payload::Bytes(bytes)) => {
-                let before = statement.table_definition_options;
-                statement.table_definition_options = TableDefinitionOptions::read_embedded(
-                    before, bytes,
-                )?;
-            }
-            (2, Payload::Bytes(bytes)) => statement.table = utf8(bytes)?,
-            (3, Payload::Bytes(bytes)) => statement.schema = utf8(bytes)?,
-            (4, Payload::Bytes(bytes)) => statement.catalog = utf8(bytes)?,
-            (5, Payload::Varint(value)) => statement.temporary = value != 0,
-            (6, Payload::Bytes(bytes)) => statement.transaction_id = bytes,
-            _ => {}
-        }
-        Ok(statement)
-    }
-}
-
 // Writes options as the field of a message, where there are any. An `Err` changes nothing.
 fn put_options(out: &mut Vec<u8>, options: Option<TableDefinitionOptions>) -> Result<(), AllocError>
     ensures ok { OnOk result (out.new.items ≡ out.old.items
@@ -145,10 +103,29 @@ fn put_options(out: &mut Vec<u8>, options: Option<TableDefinitionOptions>) -> Re
     };
     let mut bytes = Vec::new(*out.allocator());
     options.put(&mut bytes)?;
-    put_bytes(out, 1, &bytes)
+    put_parts(out, &[Part::Embedded(1, Some(&bytes))])
 }
 
 impl<'a> CommandStatementIngest<'a> {
+    /// The command that these bytes are.
+    ///
+    /// # Errors
+    ///
+    /// `Fault::BadProto` where they do not read.
+    pub fn read(bytes: &'a [u8]) -> Result<CommandStatementIngest<'a>, Fault>
+        ensures { Gives statement_said result (statement_of bytes.now) }
+    {
+        let message = Message::read(bytes)?;
+        Ok(CommandStatementIngest {
+            table_definition_options: TableDefinitionOptions::read_embedded(bytes)?,
+            table: message.text(2)?,
+            schema: message.text(3)?,
+            catalog: message.text(4)?,
+            temporary: message.varint(5) != 0,
+            transaction_id: message.bytes(6),
+        })
+    }
+
     // Writes the command at the end, and may leave a piece where memory runs out.
     fn append(&self, out: &mut Vec<u8>) -> Result<(), AllocError>
         ensures ok { OnOk result (out.new.items
@@ -156,12 +133,16 @@ impl<'a> CommandStatementIngest<'a> {
         ensures err { take (length out.old.items) out.new.items ≡ out.old.items }
     {
         put_options(out, self.table_definition_options)?;
-        let table = Field::bytes(2, self.table.as_bytes());
-        let schema = Field::bytes(3, self.schema.as_bytes());
-        let catalog = Field::bytes(4, self.catalog.as_bytes());
-        let temporary = Field::varint(5, u64::from(self.temporary));
-        let transaction_id = Field::bytes(6, self.transaction_id);
-        put_set_fields(out, &[table, schema, catalog, temporary, transaction_id])
+        put_parts(
+            out,
+            &[
+                Part::Scalar(Field::bytes(2, self.table.as_bytes())),
+                Part::Scalar(Field::bytes(3, self.schema.as_bytes())),
+                Part::Scalar(Field::bytes(4, self.catalog.as_bytes())),
+                Part::Scalar(Field::varint(5, u64::from(self.temporary))),
+                Part::Scalar(Field::bytes(6, self.transaction_id)),
+            ],
+        )
     }
 
     /// Writes the command at the end.

@@ -1,6 +1,6 @@
 //! Reads cases, one a line: a kind and bytes in hex. Prints what the bytes are, one line a case.
 //!
-//! `vectors/flight/to_rattle.py` writes the cases and the answers, from what other tools and hands say of them.
+//! `vectors/flight/to_cases.py` writes the cases and the answers, from what other tools and hands say of them.
 #![tactic(auto)]
 
 mod bytes_text;

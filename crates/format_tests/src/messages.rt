@@ -1,8 +1,8 @@
 //! Messages in memory: a command's limit, and a message of some size, written and read.
 
 use bytes::Bytes;
-use flight_proto::laws::merging_joins;
-use flight_proto::{Any, Command, FlightData, FlightDescriptor, put_flight_data};
+use flight_proto::laws::parts_join;
+use flight_proto::{Command, FlightData, FlightDescriptor, put_flight_data};
 use scan_base::Fault;
 use std::test::Fail;
 
@@ -32,6 +32,6 @@ fn large_data(rt: HostRuntime) -> Result<(), Fail> {
     let data = FlightData::read(&message)?;
     assert!(rt; data.data_header.as_slice() == b"h".as_slice());
     assert!(rt; data.data_body.as_slice() == body.as_slice());
-    merging_joins::<Any>();
+    parts_join();
     Ok(())
 }

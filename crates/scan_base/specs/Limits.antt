@@ -37,6 +37,10 @@ most_path_bytes = 256
 abbrev pub most_message_bytes : ℕ
 most_message_bytes = 16777216
 
+-- bytes of a message that asks for a flight info or a schema
+abbrev pub most_request_bytes : ℕ
+most_request_bytes = 1048576
+
 -- bytes of the command in a descriptor
 abbrev pub most_command_bytes : ℕ
 most_command_bytes = 65536
@@ -64,3 +68,7 @@ most_open = 64
 -- endpoints of an info
 abbrev pub most_endpoints : ℕ
 most_endpoints = 64
+
+-- rows of an answer
+abbrev pub most_answer_rows : ℕ
+most_answer_rows = 67108864

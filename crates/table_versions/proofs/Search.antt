@@ -47,7 +47,7 @@ module _ {T : Type 0} where
   before_all low (x ∷ es) e (suc i) h g at = before_all low es e i (still low x es h g) g.1 at
 
   -- a name before all entries is not among them
-  absent : (name : Name) (es : List (Name × T)) → StandsBefore name es → IsInOrder es → table_at es name ≡ None
+  pub absent : (name : Name) (es : List (Name × T)) → StandsBefore name es → IsInOrder es → table_at es name ≡ None
   absent name [] h g = refl
   absent name (x ∷ es) h g = rw (other_back name x.0 h) (absent name es (still name x es h g) g.1)
 

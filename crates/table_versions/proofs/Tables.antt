@@ -56,8 +56,8 @@ are_rows fields (row ∷ rows) typed nulls texts =
 
 -- ---- entries
 
-module _ (P : (Name × Table) → Type 0) (name : Name) (table : Table) where
-  all_with_table : (entries : Database) → P (name, table) → All P entries → All P (with_table name table entries)
+module _ {T : Type 0} (P : (Name × T) → Type 0) (name : Name) (table : T) where
+  pub all_with_table : (entries : List (Name × T)) → P (name, table) → All P entries → All P (with_table name table entries)
   all_with_table [] new old = All-cons P (name, table) [] new old
   all_with_table (entry ∷ entries) new old =
       placed (bytes_eq entry.0 name) (is_lt (slice_cmp nat_cmp name entry.0)) (all_with_table entries new (All-tail P entry entries old))
@@ -137,7 +137,7 @@ table_is Unspecified there put old is columns nulls texts few = alone put is (fi
 table_is Fail there put old is columns nulls texts few = alone put is (first_false (repeats same_name put.schema.fields) false columns) nulls texts few
 table_is Replace there put old is columns nulls texts few = alone put is (first_false (repeats same_name put.schema.fields) false columns) nulls texts few
 
-name_is : (name : Name) → (length name == 0 || nat_lt most_name_bytes (length name)) ≡ false → IsName name
+pub name_is : (name : Name) → (length name == 0 || nat_lt most_name_bytes (length name)) ≡ false → IsName name
 name_is name h =
     let some = first_false (length name == 0) (nat_lt most_name_bytes (length name)) h in
     let few = second_false (length name == 0) (nat_lt most_name_bytes (length name)) h in

@@ -1,5 +1,5 @@
--- What the code keeps of every put and of every stored table. A public call cites it to say that what it takes or gives
--- is so; what a put means needs none of it.
+-- What the code keeps of every put, of every stored table and of every catalog. A public call cites it to say that what it
+-- takes or gives is so; what a put means needs none of it.
 use Rattle.std.specs.Prelude.{◌≡◌, ◌≤◌, ℕ, false, IsTrue, All, List, length}
 use Rattle.std.specs.List.{list_all, list_any}
 use Rattle.arrow_schema.specs.declared.schema.Field.{Field}
@@ -7,9 +7,11 @@ use Rattle.arrow_schema.specs.declared.schema.Schema.{Schema}
 use Rattle.arrow_schema.specs.Schema.{IsSchema}
 use Rattle.arrays.specs.Batch.{BatchAt}
 use Rattle.arrays.specs.Typed.{AreOfTypes}
-use Rattle.scan_base.specs.Limits.{most_rows}
-use Rattle.table_versions.specs.Table.{Row, has_bad_null, is_long_text}
-use Rattle.table_versions.specs.Stored.{TableAt, table_of, has_rows}
+use Rattle.scan_base.specs.Limits.{most_rows, most_tables}
+use Rattle.table_versions.specs.Table.{Name, Row, has_bad_null, is_long_text}
+use Rattle.table_versions.specs.Order.{IsInOrder}
+use Rattle.table_versions.specs.Stored.{TableAt, CatalogAt, table_of, has_rows}
+use Rattle.table_versions.specs.Valid.{IsName}
 
 -- the schema is one that can be written, and each batch has a column for each field, of its type
 pub record IsStorable (schema : Schema) (batches : List BatchAt) : Type 0 where
@@ -28,3 +30,9 @@ pub record IsKept (table : TableAt) (rows : ℕ) : Type 0 where
   pub sound : AreSound table.schema.fields (table_of table).rows
   pub counted : rows ≡ length (table_of table).rows
   pub few : rows ≤ most_rows
+
+-- the entries of a catalog stand in byte order of their names, each of which a table may have, and are not too many
+pub record IsCatalog (entries : CatalogAt) : Type 0 where
+  pub ordered : IsInOrder entries
+  pub named : All (λ (entry : Name × TableAt). IsName entry.0) entries
+  pub few : length entries ≤ most_tables

@@ -1,11 +1,13 @@
 //! A version of the catalog: tables by name.
 
-ghost use Rattle.std.specs.Prelude.{◌≡◌, ◌==◌, ◌<◌, [], Some, length, map, IfOk, slice_get};
+ghost use Rattle.std.specs.Prelude.{◌≡◌, ◌==◌, ◌≤◌, ◌<◌, [], Some, All, length, map, IfOk, slice_get};
 ghost use Rattle.std.specs.Option.{option_copied};
 ghost use Rattle.std.specs.Arc.{arc_value};
+ghost use Rattle.scan_base.specs.Limits.{most_tables};
 ghost use Rattle.table_versions.specs.Database.{table_at, with_table};
 ghost use Rattle.table_versions.specs.Order.{IsInOrder};
 ghost use Rattle.table_versions.specs.Place.{IsPlace};
+ghost use Rattle.table_versions.specs.Valid.{IsName};
 
 use crate::handles::spliced;
 use crate::table::TableVersion;
@@ -16,8 +18,8 @@ use std::marker::Model;
 use std::ops::Range;
 use std::sync::Arc;
 
-/// Tables by name, in byte order of the names. The next version shares the tables that stay as
-/// they are.
+/// Tables by name, in byte order of the names: at most 256. The next version shares the tables that
+/// stay as they are.
 #[derive(Drop)]
 pub struct CatalogVersion {
     tables: Vec<Arc<(Text, TableVersion)>>,
@@ -26,14 +28,14 @@ pub struct CatalogVersion {
 impl Model for CatalogVersion {
     ghost use Rattle.std.specs.Prelude.{List, ℕ, map};
     ghost use Rattle.std.specs.Arc.{arc_value};
-    ghost use Rattle.table_versions.specs.Order.{IsInOrder};
+    ghost use Rattle.table_versions.specs.Kept.{IsCatalog};
     ghost use Rattle.table_versions.specs.Stored.{TableAt};
 
     ghost Value = { List (List ℕ × TableAt) };
 
     ghost view = { λ catalog. map arc_value catalog.tables.items };
 
-    ghost invariant = { λ catalog. IsInOrder (map arc_value catalog.tables.items) };
+    ghost invariant = { λ catalog. IsCatalog (map arc_value catalog.tables.items) };
 }
 
 impl CatalogVersion {
@@ -46,10 +48,13 @@ impl CatalogVersion {
         }
     }
 
-    /// How many tables there are. Their names are in byte order, and each stands once.
+    /// How many tables there are: at most 256. Their names are in byte order, and each stands once. A name has
+    /// 1 to 64 bytes.
     pub fn len(&self) -> usize
         ensures count { result ≡ length self.now }
         ensures ordered { IsInOrder self.now }
+        ensures named { All (λ entry. IsName entry.0) self.now }
+        ensures few { length self.now ≤ most_tables }
     {
         self.tables.len()
     }
@@ -83,6 +88,8 @@ impl CatalogVersion {
         name: Text,
         table: TableVersion,
     ) -> Result<CatalogVersion, AllocError>
+        requires named { IsName name }
+        requires room { length (with_table name table self.now) ≤ most_tables }
         ensures { IfOk result (λ catalog. catalog ≡ with_table name table self.now) }
     {
         let old = self.tables.as_slice();

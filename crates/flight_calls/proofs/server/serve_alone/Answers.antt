@@ -3,4 +3,4 @@ use Rattle.flight_calls.proofs.Serving.{refused_first}
 use Rattle.flight_calls.proofs.server.serve_alone.Goals as goal
 
 pub returns-in-Err : goal.returns-in-Err
-returns-in-Err g c = ([], refused_first _ _ c.in-Err.fault _ _ _ _ refl refl refl (search rules) c.refuse.ensures refl refl refl refl)
+returns-in-Err g c = ([], refused_first _ _ _ c.in-Err.fault _ _ _ _ refl refl refl (search rules) c.refuse.ensures refl refl refl refl)

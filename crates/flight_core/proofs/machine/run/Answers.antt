@@ -1,10 +1,8 @@
-use Rattle.std.proofs.Common.{◌≤◌, List, [], length, map, subst, arith}
-use Rattle.std.proofs.lemmas.List.{take_all}
+use Rattle.std.proofs.Common.{map, arith}
 use Rattle.table_versions.proofs.Tables.{versions_are_databases}
-use Rattle.flight_core.specs.declared.event.Event.{Event}
 use Rattle.flight_core.specs.Event.{asked_in}
-use Rattle.flight_core.specs.Machine.{Run}
-use Rattle.flight_core.proofs.Runs.{run_more, refusals_leave_nothing}
+use Rattle.flight_core.proofs.Running.{runs_meet_headline}
+use Rattle.flight_core.proofs.Runs.{run_more, whole_run, refusals_leave_nothing}
 use Rattle.flight_core.proofs.machine.run.Goals as goal
 
 pub loop-event-preserved : goal.loop-event-preserved
@@ -15,9 +13,16 @@ loop-event-preserved c = record {
 
 pub returns-clause-ok : goal.returns-clause-ok
 returns-clause-ok c =
-    let events = c.args.events.now in
-    let log = c.loop-event.plain in
+    let asked = map asked_in c.args.events.now in
     let replies = c.loop-event.replies.items in
-    let end : length events ≤ c.loop-event.event-index = omega (arith, c.loop-event-test.false) in
-    let run : Run [] (map asked_in events) replies log = subst (λ (es : List Event). Run [] (map asked_in es) replies log) (take_all c.loop-event.event-index events end) c.loop-event.invariant.run in
-    (log, run, versions_are_databases log c.loop-event.invariant.puts, refusals_leave_nothing (map asked_in events) replies log run)
+    let log = c.loop-event.plain in
+    let run = whole_run c.args.events.now replies log c.loop-event.event-index (omega (arith, c.loop-event-test.false)) c.loop-event.invariant.run in
+    (log, run, versions_are_databases log c.loop-event.invariant.puts, refusals_leave_nothing asked replies log run)
+
+pub returns-clause-headline : goal.returns-clause-headline
+returns-clause-headline c =
+    let asked = map asked_in c.args.events.now in
+    let replies = c.loop-event.replies.items in
+    let log = c.loop-event.plain in
+    let run = whole_run c.args.events.now replies log c.loop-event.event-index (omega (arith, c.loop-event-test.false)) c.loop-event.invariant.run in
+    runs_meet_headline asked replies log run

@@ -1,9 +1,12 @@
-use Rattle.std.proofs.Common.{◌≡◌, ◌∙◌, Ok, length, rules, Some, None, sym, ap}
+use Rattle.std.proofs.Common.{◌≡◌, ◌≤◌, ◌∙◌, Ok, length, rules, Some, None, sym, ap}
 use Rattle.std.specs.Option.{option_copied}
 use Rattle.scan_base.specs.Reading.{first_fault}
 use Rattle.table_versions.specs.Database.{table_at, with_table, faults_at}
 use Rattle.table_versions.specs.Stored.{plain, put_of, stored_after, CatalogAt}
+use Rattle.scan_base.specs.Limits.{most_tables}
 use Rattle.table_versions.specs.Kept.{IsStorable}
+use Rattle.table_versions.specs.Order.{IsInOrder}
+use Rattle.table_versions.proofs.Counted.{named_after, room_after}
 use Rattle.table_versions.proofs.RowTypes.{put_typed}
 use Rattle.table_versions.proofs.Stores.{refused_by, refuses_by, passes_by}
 use Rattle.table_versions.proofs.commit.next_catalog.Goals as goal
@@ -68,3 +71,26 @@ returns-clause-typed c =
     let storable : IsStorable c.args.put.schema c.args.put.batches = rw (← c.put.view_is) c.put.invariant in
     let passes : c.refusal_at.result ≡ None = search rules in
     put_typed c.values_are_of_their_type.ensures c.args.put storable (c.refusal_at.ensures.stand passes)
+
+pub with-requires-clause-named : goal.with-requires-clause-named
+with-requires-clause-named c =
+    let catalog = c.args.snapshot.now.catalog in
+    let there = option_copied c.get-old.result in
+    let at : there ≡ table_at catalog c.args.put.table = search rules in
+    let count : c.len.result ≡ length catalog = c.len.ensures.count ∙ ap (λ (c : CatalogAt). length c) c.catalog-catalog.ensures in
+    let passes : None ≡ first_fault (faults_at (plain there) c.len.result c.args.snapshot.now.number (put_of c.args.put)) = search rules in
+    let named : c.in_ok-name.name ≡ c.args.put.table = search rules in
+    rw named (named_after catalog c.args.snapshot.now.number c.args.put there c.len.result at count passes)
+
+pub with-requires-clause-room : goal.with-requires-clause-room
+with-requires-clause-room c =
+    let catalog = c.args.snapshot.now.catalog in
+    let there = option_copied c.get-old.result in
+    let at : there ≡ table_at catalog c.args.put.table = search rules in
+    let count : c.len.result ≡ length catalog = c.len.ensures.count ∙ ap (λ (c : CatalogAt). length c) c.catalog-catalog.ensures in
+    let passes : None ≡ first_fault (faults_at (plain there) c.len.result c.args.snapshot.now.number (put_of c.args.put)) = search rules in
+    let ordered : IsInOrder catalog = rw c.catalog-catalog.ensures at c.len.ensures.ordered in
+    let few : length catalog ≤ most_tables = rw c.catalog-catalog.ensures at c.len.ensures.few in
+    let named : c.in_ok-name.name ≡ c.args.put.table = search rules in
+    let room = room_after catalog c.args.snapshot.now.number c.args.put there c.len.result at count passes c.in_ok-name.table ordered few in
+    rw (c.catalog-catalog.ensures, named) room

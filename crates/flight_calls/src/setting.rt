@@ -1,0 +1,10 @@
+//! How a server is set.
+
+/// How a server answers, where the calls leave it open.
+#[derive(Clone, Copy, Debug, PartialEq, Eq)]
+pub struct Options {
+    /// In how many parts the rows of a query may be fetched: more than 64 are as 64, and none is as one.
+    pub parts: u32,
+    /// How many workers may scan for the answer to a fetch, which is the same for any number.
+    pub workers: usize,
+}

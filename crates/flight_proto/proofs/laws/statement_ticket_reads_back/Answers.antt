@@ -1,5 +1,0 @@
-use Rattle.flight_proto.proofs.ReadsBack.{statement_ticket_back}
-use Rattle.flight_proto.proofs.laws.statement_ticket_reads_back.Goals as goal
-
-pub returns : goal.returns
-returns c = statement_ticket_back
