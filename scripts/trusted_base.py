@@ -20,8 +20,8 @@ TOP = pathlib.Path(__file__).resolve().parent.parent
 if not (TOP / "crates.txt").exists():
     TOP = pathlib.Path.cwd()
 
-MACHINE = {"scan_base", "table_versions", "typed_plan", "sql_query", "endpoint_split", "grpc_frame", "flight_core",
-           "flight_calls", "command_line", "commands", "flightscan"}
+MACHINE = {"scan_base", "table_versions", "typed_plan", "sql_query", "endpoint_split", "grpc_frame", "flight_info", "fetch_stream",
+           "flight_core", "flight_calls", "command_line", "commands", "flightscan"}
 LONGEST_FILE = 150
 
 ITEM = re.compile(r"^(?:unfoldable |opaque )?(?:pub )?(abbrev|record|data|def)?\s*(?:pub )?(\S+)")

@@ -14,7 +14,7 @@ use Rattle.arrays.specs.Column.{ColumnAt, slot_of, values_of}
 use Rattle.arrays.specs.Written.{text_bytes, texts_joined}
 
 -- a part, and the part behind it
-parts_joined : (xs : List ℕ) (a b c : ℕ) → a ≤ b → b ≤ c → slice_range xs a b ++ slice_range xs b c ≡ slice_range xs a c
+pub parts_joined : (xs : List ℕ) (a b c : ℕ) → a ≤ b → b ≤ c → slice_range xs a b ++ slice_range xs b c ≡ slice_range xs a c
 parts_joined xs a b c low high =
     let count : c - a ≡ (b - a) + (c - b) = omega arith in
     let whole : a + (b - a) ≡ b = omega arith in
@@ -22,14 +22,14 @@ parts_joined xs a b c low high =
     ∙ ap (λ (ys : List ℕ). slice_range xs a b ++ take (c - b) ys) (drop-drop (b - a) a xs ∙ ap (λ (n : ℕ). drop n xs) whole))
 
 -- a text does not end before it begins
-ordered : (cells : TextsAt) (place : ℕ) → AreTexts cells → place < cells.len → element_at 4 cells.offsets place ≤ element_at 4 cells.offsets (place + 1)
+pub ordered : (cells : TextsAt) (place : ℕ) → AreTexts cells → place < cells.len → element_at 4 cells.offsets place ≤ element_at 4 cells.offsets (place + 1)
 ordered cells place are low =
     let behind = and_parts _ _ (are.texts place low) in
     let rest = and_parts _ _ behind.1 in
     leb-true _ _ rest.0
 
 -- it ends within the data, and where an offset can name it
-ends : (cells : TextsAt) (place : ℕ) → AreTexts cells → place < cells.len →
+pub ends : (cells : TextsAt) (place : ℕ) → AreTexts cells → place < cells.len →
     (element_at 4 cells.offsets (place + 1) ≤ length cells.bytes) × (element_at 4 cells.offsets (place + 1) < 2 ^ 31)
 ends cells place are low =
     let behind = and_parts _ _ (are.texts place low) in
@@ -37,7 +37,7 @@ ends cells place are low =
     (leb-true _ _ is.0, ltb-true _ _ is.1)
 
 -- nor before an earlier one
-rising : (cells : TextsAt) (from n : ℕ) → AreTexts cells → from + n ≤ cells.len → element_at 4 cells.offsets from ≤ element_at 4 cells.offsets (from + n)
+pub rising : (cells : TextsAt) (from n : ℕ) → AreTexts cells → from + n ≤ cells.len → element_at 4 cells.offsets from ≤ element_at 4 cells.offsets (from + n)
 rising cells from zero are low = let e : from + 0 ≡ from = omega arith in rw e (omega arith)
 rising cells from (suc n) are low =
     let e : from + suc n ≡ from + 1 + n = omega arith in
@@ -79,7 +79,7 @@ text_of cells place some = by (is_valid cells.validity place) some
     by false e = absurd (let no : ⊥ = cc in no)
 
 -- the same of slots that are counted from an earlier one on
-shifted : (slot : ℕ → Value) (text : ℕ → List ℕ) (first at n : ℕ) → ((j : ℕ) → j < at + n → text_bytes (slot j) ≡ text (first + j)) →
+pub shifted : (slot : ℕ → Value) (text : ℕ → List ℕ) (first at n : ℕ) → ((j : ℕ) → j < at + n → text_bytes (slot j) ≡ text (first + j)) →
     texts_joined (map slot (range_with_len at n)) ≡ flat_map text (range_with_len (first + at) n)
 shifted slot text first at zero same = refl
 shifted slot text first at (suc n) same =

@@ -10,12 +10,14 @@ use Rattle.std.proofs.lemmas.List.Folds.{list_any-append}
 use Rattle.std.proofs.lemmas.Grind.{flat_map-append}
 use Rattle.scan_base.specs.declared.value.Value.{Value}
 use Rattle.scan_base.specs.Value.{is_null, IsTextOrNull}
-use Rattle.arrays.specs.Texts.{TextsAt, texts_slot, texts_values, AreTexts}
+use Rattle.arrays.specs.Texts.{TextsAt, text_at, texts_slot, texts_values, AreTexts}
 use Rattle.scan_base.specs.Limits.{most_values}
-use Rattle.arrays.specs.Dictionary.{extended_by, IsDictionary}
+use Rattle.arrays.specs.Dictionary.{extended_by}
+use Rattle.arrays.specs.inside.Dictionary.{IsDictionary}
 use Rattle.arrays.specs.inside.Runs.{parts_values, runs_values, IsRun}
 use Rattle.arrays.proofs.Entries.{dropped, length-texts_values, parts_more, length-parts_more, length-through}
 use Rattle.arrays.proofs.NoNulls.{none_listed}
+use Rattle.arrays.proofs.ShortTexts.{texts_short, longer_of}
 use Rattle.arrays.proofs.TextSlots.{values_are_texts}
 
 -- the values of items up to one, and with it
@@ -123,12 +125,13 @@ in_last parts starts count i index nulls part had low is few ends starts_at =
     ]
 
 -- one part more for a dictionary
-pub dictionary_more : (values : List Value) (part : TextsAt) (count : ℕ) → IsDictionary values count → AreTexts part → count + part.len ≤ most_values →
-    IsDictionary (values ++ texts_values part) (count + part.len)
-dictionary_more values part count had are small = record {
+pub dictionary_more : (values : List Value) (part : TextsAt) (count longest more all : ℕ) → IsDictionary values count longest → AreTexts part → count + part.len ≤ most_values →
+    ((place : ℕ) → place < part.len → length (text_at part place) ≤ more) → longest ≤ all → more ≤ all → IsDictionary (values ++ texts_values part) (count + part.len) all
+dictionary_more values part count longest more all had are small texts low high = record {
   counted = length-append values (texts_values part) ∙ omega (arith, had.counted, length-texts_values part);
   small = small;
   texts = All-append IsTextOrNull values (texts_values part) had.texts (values_are_texts part are);
+  short = longer_of values (texts_values part) longest more all low high had.short (texts_short part more texts);
 }
 
 -- within the limit the values are those of both

@@ -1,11 +1,15 @@
 mod Elements
 mod Slots
 mod TextSlots
-mod Adjoining
+pub mod TextCuts
+pub mod Adjoining
+mod AsCame
 mod Entries
+mod Placed
 mod Slices
 mod Rows
 mod NoNulls
+mod ShortTexts
 mod Joined
 pub mod Packed
 mod Rest
@@ -16,3 +20,5 @@ mod BitsAgain
 mod TextsAgain
 pub mod ColumnsAgain
 mod OfType
+mod Gathered
+mod GatheredTexts

@@ -39,3 +39,8 @@ pub all_slots : {X : Type 0} (P : X → Type 0) (slot : ℕ → X) (first len : 
 all_slots P slot first len each = λ k d low.
     let within : k < len = omega (arith, length-map-range_with_len slot first len) in
     rw (get_or-map-range_with_len slot first len k (first + k) d within (omega arith)) (each (first + k) (omega arith) (omega arith))
+
+-- a test that each slot passes
+pub all_pass : (stands : ℕ → Bool) (first len : ℕ) → ((place : ℕ) → first ≤ place → place < first + len → stands place ≡ true) → list_all stands (range_with_len first len) ≡ true
+all_pass stands first zero each = refl
+all_pass stands first (suc len) each = rw (each first (omega arith) (omega arith)) (all_pass stands (first + 1) len (λ place low high. each place (omega arith) (omega arith)))

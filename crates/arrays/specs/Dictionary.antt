@@ -1,18 +1,11 @@
 -- The values of a dictionary: those of one part after another.
-use Rattle.std.specs.Prelude.{◌≡◌, ◌≤◌, ℕ, ◌+◌, ℤ, pos, negsuc, List, ◌++◌, length, Option, None, slice_get, nat_le, All, Result, Ok}
+use Rattle.std.specs.Prelude.{◌+◌, ℤ, pos, negsuc, List, ◌++◌, length, Option, None, slice_get, nat_le, Result, Ok}
 use Rattle.scan_base.specs.declared.fault.Fault.{Fault}
 use Rattle.scan_base.specs.declared.fault.Fault.TheVariants.{LimitReached}
 use Rattle.scan_base.specs.declared.value.Value.{Value}
 use Rattle.scan_base.specs.Limits.{most_values}
 use Rattle.scan_base.specs.Reading.{◌>>=◌, demand}
-use Rattle.scan_base.specs.Value.{IsTextOrNull}
 use Rattle.arrays.specs.Texts.{TextsAt, texts_values}
-
--- a dictionary counts its values, which are texts and nulls, and no more than there may be
-pub record IsDictionary (values : List Value) (count : ℕ) : Type 0 where
-  pub counted : length values ≡ count
-  pub small : count ≤ most_values
-  pub texts : All IsTextOrNull values
 
 -- the values with those of one more part behind them
 unfoldable pub extended_by : List Value → TextsAt → Result (List Value) Fault

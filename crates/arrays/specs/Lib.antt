@@ -8,6 +8,7 @@ pub mod Dictionary
 pub mod Indices
 pub mod Layout
 pub mod Column
+pub mod Selection
 pub mod Batch
 pub mod Buffers
 pub mod Typed

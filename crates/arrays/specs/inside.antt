@@ -1,3 +1,7 @@
 -- What contracts of this crate's private functions alone cite.
+pub mod Dictionary
 pub mod Nulls
+pub mod Placed
 pub mod Runs
+pub mod Gathered
+pub mod TextCuts

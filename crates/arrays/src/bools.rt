@@ -2,6 +2,7 @@
 
 ghost use Rattle.std.specs.Prelude.{◌≡◌, IfOk, length};
 ghost use Rattle.scan_base.specs.Reading.{Gives};
+ghost use Rattle.arrays.specs.Validity.{IsLong};
 ghost use Rattle.arrays.specs.Bools.{bools_of, AreBools};
 
 use crate::cells::Cells;
@@ -50,6 +51,14 @@ impl Bools {
             validity,
             values: Bits::new(values, 0, len),
         })
+    }
+
+    // The slots of these values and validity bits.
+    pub(crate) fn from_parts(validity: Option<Bits>, values: Bits) -> Bools
+        requires { IsLong validity (length values) }
+        ensures { result ≡ record { validity = validity; values = values } }
+    {
+        Bools { validity, values }
     }
 
     /// The validity bits, where there are some: one for each slot.

@@ -1,11 +1,13 @@
 //! Columns of decimals of 38 digits with none behind the point.
 
-ghost use Rattle.std.specs.Prelude.{◌≡◌, IfOk};
+ghost use Rattle.std.specs.Prelude.{◌≡◌, ◌≤◌, ◌-◌, ◌*◌, IfOk, length};
+ghost use Rattle.arrays.specs.Written.{elements};
 ghost use Rattle.scan_base.specs.Reading.{Gives};
+ghost use Rattle.arrays.specs.Validity.{IsLong};
 ghost use Rattle.arrays.specs.Decimals.{decimals_of, AreDecimals};
 
 use crate::cells::Cells;
-use crate::numbers::{decimal_at, has_decimals};
+use crate::numbers::{are_bytes, decimal_at, has_decimals};
 use crate::validity::{is_valid, read_validity, share};
 use bitmap::Bits;
 use bytes::Bytes;
@@ -56,6 +58,20 @@ impl Decimals {
         })
     }
 
+    // The slots of buffers that have room for them.
+    pub(crate) fn from_parts(validity: Option<Bits>, values: Bytes, len: usize) -> Decimals
+        requires validity { IsLong validity len }
+        requires values { 16 * len ≤ length values }
+        ensures { result ≡ record { validity = validity; values = values; len = len } }
+    {
+        are_bytes(values.as_slice());
+        Decimals {
+            validity,
+            values,
+            len,
+        }
+    }
+
     /// The validity bits, where there are some: one for each slot.
     pub fn validity(&self) -> &Option<Bits>
         ensures { result.now ≡ (self.now).validity }
@@ -68,6 +84,18 @@ impl Decimals {
         ensures { result.now ≡ (self.now).values }
     {
         self.values.as_slice()
+    }
+
+    // The packed numbers of the slots `from` up to, not with, `to`: no byte is copied.
+    pub(crate) fn packed_between(&self, from: usize, to: usize) -> Result<Bytes, AllocError>
+        requires ordered { from ≤ to }
+        requires within { to ≤ (self.now).len }
+        ensures { IfOk result (λ cut. cut
+            ≡ elements (16) (self.now).values from (to - from)) }
+    {
+        let _packed = self.values.as_slice();
+        let cut = self.values.slice(16 * from..16 * to)?;
+        Ok(cut)
     }
 
     /// The same slots once more, over the same buffers: nothing is copied.

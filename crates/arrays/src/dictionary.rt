@@ -1,10 +1,11 @@
 //! Dictionaries of texts.
 
-ghost use Rattle.std.specs.Prelude.{◌≡◌, ◌==◌, [], false, All, length, slice_get, option_map};
+ghost use Rattle.std.specs.Prelude.{◌≡◌, ◌==◌, ◌≤◌, [], false, All, length, slice_get, option_map};
 ghost use Rattle.scan_base.specs.Reading.{GivesUnlessMemory, RefusesFirst};
 ghost use Rattle.scan_base.specs.Value.{value_of, is_null, IsTextOrNull};
 ghost use Rattle.std.specs.List.{list_any};
 ghost use Rattle.arrays.specs.Dictionary.{extended_by};
+ghost use Rattle.arrays.specs.Written.{text_bytes};
 
 use crate::cells::Cells;
 use crate::runs::Runs;
@@ -23,19 +24,20 @@ pub struct Dictionary {
     first: Texts,
     later: Runs,
     len: usize,
+    longest: usize,
 }
 
 impl Model for Dictionary {
     ghost use Rattle.std.specs.Prelude.{List, ◌++◌};
     ghost use Rattle.scan_base.specs.declared.value.Value.{Value as Cell};
     ghost use Rattle.arrays.specs.Texts.{texts_values};
-    ghost use Rattle.arrays.specs.Dictionary.{IsDictionary};
+    ghost use Rattle.arrays.specs.inside.Dictionary.{IsDictionary};
 
     ghost Value = { List Cell };
 
     ghost view = { λ d. texts_values d.first ++ d.later };
 
-    ghost invariant = { λ d. IsDictionary (texts_values d.first ++ d.later) d.len };
+    ghost invariant = { λ d. IsDictionary (texts_values d.first ++ d.later) d.len d.longest };
 }
 
 impl Dictionary {
@@ -47,6 +49,7 @@ impl Dictionary {
             first: Texts::none(),
             later: Runs::new(alloc),
             len: 0,
+            longest: 0,
         }
     }
 
@@ -84,6 +87,13 @@ impl Dictionary {
         self.first.may_have_nulls() || self.later.may_have_nulls()
     }
 
+    // A number of bytes that no text has more of. It looks at no value.
+    pub(crate) fn longest(&self) -> usize
+        ensures { All (λ value. length (text_bytes value) ≤ result) self.now }
+    {
+        self.longest
+    }
+
     /// The same values with those of one more part behind them. It takes memory for few handles, and copies
     /// no text.
     ///
@@ -101,15 +111,22 @@ impl Dictionary {
             return Err(Fault::LimitReached);
         }
         let len = self.len + more;
+        let longest = self.longest.max(part.longest_between(0, more));
         if self.len == 0 {
             return Ok(Dictionary {
                 first: part,
                 later: Runs::new(alloc),
                 len,
+                longest,
             });
         }
         let first = self.first.share()?;
         let later = self.later.with(alloc, part)?;
-        Ok(Dictionary { first, later, len })
+        Ok(Dictionary {
+            first,
+            later,
+            len,
+            longest,
+        })
     }
 }

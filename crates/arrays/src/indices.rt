@@ -12,6 +12,7 @@ ghost use Rattle.arrays.specs.Indices.{indices_of, index_stands, AreIndices};
 
 use crate::cells::Cells;
 use crate::dictionary::Dictionary;
+use crate::index_checks::are_placed;
 use crate::numbers::{has_elements, integer_at};
 use crate::validity::{is_valid, read_validity, share};
 use arrow_schema::IntegerType;
@@ -75,12 +76,17 @@ impl<'a> Parts<'a> {
             || has_entry(self.dictionary, integer_at(self.index, self.values, place))
     }
 
-    // Whether each valid slot's index does.
+    // Whether each valid slot's index does. They are looked at one by one only where not all indices, those of nulls
+    // too, do.
     fn slots_stand(&self) -> bool
         requires values { byte_width (self.now).index * (self.now).len ≤ length (self.now).values }
         requires validity { IsLong (self.now).validity (self.now).len }
         ensures { result ≡ list_all (index_stands self.now) (range_with_len 0 (self.now).len) }
     {
+        let count = self.dictionary.len();
+        if are_placed(self.index, self.values, self.len, count) {
+            return true;
+        }
         for place in 0..self.len {
             if !self.slot_stands(place) {
                 return false;
@@ -152,6 +158,37 @@ impl Indices {
             validity,
             values,
             dictionary,
+            len,
+        })
+    }
+
+    // Other indices into the same dictionary, which lie in it.
+    pub(crate) fn with_indices(
+        &self,
+        validity: Option<Bits>,
+        values: Bytes,
+        len: usize,
+    ) -> Result<Indices, AllocError>
+        requires { AreIndices (record {
+          index = (self.now).index;
+          validity = validity;
+          values = values;
+          dictionary = (self.now).dictionary;
+          len = len;
+        }) }
+        ensures { IfOk result (λ cells. cells ≡ record {
+          index = (self.now).index;
+          validity = validity;
+          values = values;
+          dictionary = (self.now).dictionary;
+          len = len;
+        }) }
+    {
+        Ok(Indices {
+            index: self.index,
+            validity,
+            values,
+            dictionary: Arc::try_clone(&self.dictionary)?,
             len,
         })
     }

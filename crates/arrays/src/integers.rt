@@ -1,12 +1,16 @@
 //! Columns of whole numbers of one fixed width.
 
-ghost use Rattle.std.specs.Prelude.{◌≡◌, IfOk};
+ghost use Rattle.std.specs.Prelude.{◌≡◌, ◌≤◌, ◌-◌, ◌*◌, IfOk, length};
+ghost use Rattle.arrays.specs.Written.{elements};
 ghost use Rattle.scan_base.specs.Reading.{Gives};
+ghost use Rattle.arrays.specs.Number.{byte_width};
+ghost use Rattle.arrays.specs.Validity.{IsLong};
 ghost use Rattle.arrays.specs.Integers.{integers_of, AreIntegers};
 
 use crate::cells::Cells;
-use crate::numbers::{has_elements, integer_at};
+use crate::numbers::{are_bytes, has_elements, integer_at};
 use crate::validity::{is_valid, read_validity, share};
+use crate::written::byte_width;
 use arrow_schema::IntegerType;
 use bitmap::Bits;
 use bytes::Bytes;
@@ -63,6 +67,26 @@ impl Integers {
         })
     }
 
+    // The slots of buffers that have room for them.
+    pub(crate) fn from_parts(
+        integer: IntegerType,
+        validity: Option<Bits>,
+        values: Bytes,
+        len: usize,
+    ) -> Integers
+        requires validity { IsLong validity len }
+        requires values { byte_width integer * len ≤ length values }
+        ensures { result ≡ record { integer = integer; validity = validity; values = values; len = len } }
+    {
+        are_bytes(values.as_slice());
+        Integers {
+            integer,
+            validity,
+            values,
+            len,
+        }
+    }
+
     /// The type of the numbers.
     pub fn integer_type(&self) -> IntegerType
         ensures { result ≡ (self.now).integer }
@@ -82,6 +106,19 @@ impl Integers {
         ensures { result.now ≡ (self.now).values }
     {
         self.values.as_slice()
+    }
+
+    // The packed numbers of the slots `from` up to, not with, `to`: no byte is copied.
+    pub(crate) fn packed_between(&self, from: usize, to: usize) -> Result<Bytes, AllocError>
+        requires ordered { from ≤ to }
+        requires within { to ≤ (self.now).len }
+        ensures { IfOk result (λ cut. cut
+            ≡ elements (byte_width (self.now).integer) (self.now).values from (to - from)) }
+    {
+        let width = byte_width(self.integer);
+        let _packed = self.values.as_slice();
+        let cut = self.values.slice(width * from..width * to)?;
+        Ok(cut)
     }
 
     /// The same slots once more, over the same buffers: nothing is copied.

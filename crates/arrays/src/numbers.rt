@@ -28,6 +28,13 @@ pub(crate) fn has_decimals(values: &[u8], len: usize) -> bool
     len <= values.len() / 16
 }
 
+/// What the type of bytes says of them.
+pub(crate) fn are_bytes(values: &[u8])
+    ensures { AreBytes values.now }
+{
+    let _ = values;
+}
+
 /// Element `place` of packed integers.
 pub(crate) fn integer_at(integer: IntegerType, values: &[u8], place: usize) -> i128
     requires { byte_width integer * (place + 1) ≤ length values.now }
@@ -81,14 +88,16 @@ fn int64_at(values: &[u8], place: usize) -> i64
     LittleEndian::read_i64(&values[8 * place..])
 }
 
-fn uint8_at(values: &[u8], place: usize) -> u8
+/// Element `place` of bytes.
+pub(crate) fn uint8_at(values: &[u8], place: usize) -> u8
     requires { place + 1 ≤ length values.now }
     ensures { result ≡ element_at 1 values.now place }
 {
     values[place]
 }
 
-fn uint16_at(values: &[u8], place: usize) -> u16
+/// Element `place` of packed numbers of 16 bits without a sign.
+pub(crate) fn uint16_at(values: &[u8], place: usize) -> u16
     requires { 2 * (place + 1) ≤ length values.now }
     ensures { result ≡ element_at 2 values.now place }
 {
@@ -103,7 +112,8 @@ pub(crate) fn uint32_at(values: &[u8], place: usize) -> u32
     LittleEndian::read_u32(&values[4 * place..])
 }
 
-fn uint64_at(values: &[u8], place: usize) -> u64
+/// Element `place` of packed numbers of 64 bits without a sign.
+pub(crate) fn uint64_at(values: &[u8], place: usize) -> u64
     requires { 8 * (place + 1) ≤ length values.now }
     ensures { result ≡ element_at 8 values.now place }
 {

@@ -1,19 +1,21 @@
 //! Columns of texts.
 
-ghost use Rattle.std.specs.Prelude.{◌≡◌, ◌≤◌, ◌<◌, ◌+◌, ◌-◌, ◌*◌, ◌^◌, ◌||◌, [], IfOk, length};
+ghost use Rattle.std.specs.Prelude.{◌≡◌, ◌==◌, ◌≤◌, ◌<◌, ◌+◌, ◌-◌, ◌*◌, ◌^◌, ◌||◌, [], IfOk, length, slice_range, true, ℕ};
 ghost use Rattle.std.specs.List.{flat_map, list_all, range_with_len};
 ghost use Rattle.scan_base.specs.Reading.{Gives};
-ghost use Rattle.arrays.specs.Number.{element_at};
+ghost use Rattle.arrays.specs.Number.{element_at, AreBytes};
 ghost use Rattle.std.specs.Str.{is_utf8};
 ghost use Rattle.arrays.specs.Validity.{IsLong};
-ghost use Rattle.arrays.specs.Texts.{texts_of, text_at, is_offset, text_stands, texts_stand, texts_values, AreTexts};
+ghost use Rattle.arrays.specs.Texts.{texts_of, text_at, is_offset, text_stands, texts_stand, texts_values, texts_slot, AreTexts};
+ghost use Rattle.arrays.specs.Written.{text_bytes};
 
 use crate::cells::Cells;
-use crate::numbers::uint32_at;
+use crate::numbers::{are_bytes, uint32_at};
+use crate::text_checks::{are_cut_from_text, is_utf8, longest_cut};
 use crate::validity::{is_valid, read_validity, share};
 use bitmap::Bits;
 use bytes::Bytes;
-use scan_base::{Fault, ValueRef, read_text};
+use scan_base::{Fault, ValueRef};
 use std::alloc::AllocError;
 use std::marker::Model;
 use std::str::from_utf8_unchecked;
@@ -98,12 +100,15 @@ impl<'a> Parts<'a> {
         !is_valid(self.validity, place) || is_utf8(self.text(place))
     }
 
-    // Whether each slot's text stands.
+    // Whether each slot's text stands. They are looked at one by one only where they are not cut from one text.
     fn slots_stand(&self) -> bool
         requires offsets { 4 * ((self.now).len + 1) ≤ length (self.now).offsets }
         requires validity { IsLong (self.now).validity (self.now).len }
         ensures { result ≡ list_all (text_stands self.now) (range_with_len 0 (self.now).len) }
     {
+        if are_cut_from_text(self.offsets, self.bytes, self.len) {
+            return true;
+        }
         for place in 0..self.len {
             if !self.slot_stands(place) {
                 return false;
@@ -124,16 +129,6 @@ impl<'a> Parts<'a> {
             return false;
         }
         self.is_offset(0) && self.slots_stand()
-    }
-}
-
-// Whether the bytes are UTF-8.
-fn is_utf8(bytes: &[u8]) -> bool
-    ensures { result ≡ is_utf8 bytes.now }
-{
-    match read_text(bytes, Fault::BadBatch) {
-        Ok(_) => true,
-        Err(_) => false,
     }
 }
 
@@ -172,6 +167,24 @@ impl Texts {
         })
     }
 
+    // The slots of buffers whose texts stand.
+    pub(crate) fn from_parts(
+        validity: Option<Bits>,
+        offsets: Bytes,
+        bytes: Bytes,
+        len: usize,
+    ) -> Texts
+        requires { AreTexts (record { validity = validity; offsets = offsets; bytes = bytes; len = len }) }
+        ensures { result ≡ record { validity = validity; offsets = offsets; bytes = bytes; len = len } }
+    {
+        Texts {
+            validity,
+            offsets,
+            bytes,
+            len,
+        }
+    }
+
     // No slots. It takes no memory.
     pub(crate) fn none() -> Texts
         ensures { texts_values result ≡ [] }
@@ -206,7 +219,7 @@ impl Texts {
     }
 
     // Where the texts of the slots `from` up to, not with, `to` begin and end in the data.
-    fn bounds(&self, from: usize, to: usize) -> (usize, usize)
+    pub(crate) fn bounds(&self, from: usize, to: usize) -> (usize, usize)
         requires some { from < to }
         requires within { to ≤ (self.now).len }
         ensures begin { result.0 ≡ element_at 4 (self.now).offsets from }
@@ -232,6 +245,79 @@ impl Texts {
         }
         let (begin, end) = self.bounds(from, to);
         &self.bytes.as_slice()[begin..end]
+    }
+
+    // Whether a slot is valid, or has no byte in the data: its text is what it cuts there.
+    fn cuts_its_text(&self, place: usize) -> bool
+        requires { place < (self.now).len }
+        ensures { result ≡ true → text_bytes (texts_slot self.now place) ≡ text_at self.now place }
+    {
+        let _count = self.len;
+        let (begin, end) = self.bounds(place, place + 1);
+        is_valid(&self.validity, place) || begin == end
+    }
+
+    // Whether no null among the slots `from` up to, not with, `to` has bytes in the data.
+    pub(crate) fn nulls_are_empty(&self, from: usize, to: usize) -> bool
+        requires ordered { from ≤ to }
+        requires within { to ≤ (self.now).len }
+        ensures { result ≡ true → (place : ℕ) → from ≤ place → place < to →
+            text_bytes (texts_slot self.now place) ≡ text_at self.now place }
+    {
+        let mut empty = true;
+        for place in from..to {
+            empty = empty & self.cuts_its_text(place);
+        }
+        empty
+    }
+
+    // Whether the text of a slot begins where the data does.
+    pub(crate) fn begins_at_zero(&self, place: usize) -> bool
+        requires { place < (self.now).len }
+        ensures { result ≡ (element_at 4 (self.now).offsets place == 0) }
+    {
+        let _count = self.len;
+        let (begin, _) = self.bounds(place, place + 1);
+        begin == 0
+    }
+
+    // The offsets of the slots `from` up to, not with, `to`, and the one behind the last: no byte is copied.
+    pub(crate) fn offsets_between(&self, from: usize, to: usize) -> Result<Bytes, AllocError>
+        requires some { from < to }
+        requires within { to ≤ (self.now).len }
+        ensures cut { IfOk result (λ bytes. bytes ≡ slice_range (self.now).offsets (4 * from) (4 * (to + 1))) }
+        ensures room { 4 * (to + 1) ≤ length (self.now).offsets }
+        ensures bytes { AreBytes (self.now).offsets }
+    {
+        are_bytes(self.offsets.as_slice());
+        self.offsets.slice(4 * from..4 * (to + 1))
+    }
+
+    // What the slots `from` up to, not with, `to` cut of the data: no byte is copied.
+    #[tactic(auto, using(crate::proofs::Adjoining::between))]
+    pub(crate) fn data_between(&self, from: usize, to: usize) -> Result<Bytes, AllocError>
+        requires ordered { from ≤ to }
+        requires within { to ≤ (self.now).len }
+        ensures { IfOk result (λ bytes. bytes ≡ flat_map (text_at self.now) (range_with_len from (to - from))) }
+    {
+        if from == to {
+            return Ok(Bytes::new());
+        }
+        let (begin, end) = self.bounds(from, to);
+        let data = self.bytes.slice(begin..end)?;
+        Ok(data)
+    }
+
+    // A number of bytes that no text of the slots `from` up to, not with, `to` has more of.
+    pub(crate) fn longest_between(&self, from: usize, to: usize) -> usize
+        requires { to ≤ (self.now).len }
+        ensures { (place : ℕ) → from ≤ place → place < to → length (text_at self.now place) ≤ result }
+    {
+        if from < to {
+            longest_cut(self.offsets.as_slice(), from, to) as usize
+        } else {
+            0
+        }
     }
 
     /// The same slots once more, over the same buffers: nothing is copied.

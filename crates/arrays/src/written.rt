@@ -239,7 +239,7 @@ impl Column {
 }
 
 // How many bytes a number has.
-fn byte_width(integer: IntegerType) -> usize
+pub(crate) fn byte_width(integer: IntegerType) -> usize
     ensures { result ≡ byte_width integer }
 {
     integer.bit_width() as usize / 8

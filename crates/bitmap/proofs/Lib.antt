@@ -1,2 +1,4 @@
 pub mod Masks
 mod Rows
+mod Places
+mod Packing

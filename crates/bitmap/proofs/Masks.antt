@@ -269,13 +269,13 @@ zip2-append f (a ∷ vs) bs [] ds len = absurd (omega arith)
 zip2-append f (a ∷ vs) bs (c ∷ cs) ds len = ap (λ r. f a c ∷ r) (zip2-append f vs bs cs ds (omega arith))
 
 -- bits of the front of a list of bytes
-front_bits : (xs ys : List ℕ) (n : ℕ) → n ≤ 8 * length xs → bits_of (xs ++ ys) 0 n ≡ bits_of xs 0 n
+pub front_bits : (xs ys : List ℕ) (n : ℕ) → n ≤ 8 * length xs → bits_of (xs ++ ys) 0 n ≡ bits_of xs 0 n
 front_bits xs ys n le = same_lists (bits_of (xs ++ ys) 0 n) (bits_of xs 0 n) (length-bits_of (xs ++ ys) 0 n ∙ sym (length-bits_of xs 0 n))
     (λ k d lt. let h : k < n = omega (arith, length-bits_of (xs ++ ys) 0 n) in
     get_or-bits_of (xs ++ ys) 0 n k d h ∙ ap (λ y. bit_at y ((0 + k) % 8) == 1) (get_or-append xs ys 0 ((0 + k) / 8) (omega arith)) ∙ sym (get_or-bits_of xs 0 n k d h))
 
 -- the bits of a word that was appended
-last_bits : (xs : List ℕ) (w n : ℕ) (ms : List Bool) → w < 2 ^ 64 → n ≤ 64 → length ms ≡ n → w ≡ mask_l ms → bits_of (xs ++ to_le_bytes w64 w) (8 * length xs) n ≡ ms
+pub last_bits : (xs : List ℕ) (w n : ℕ) (ms : List Bool) → w < 2 ^ 64 → n ≤ 64 → length ms ≡ n → w ≡ mask_l ms → bits_of (xs ++ to_le_bytes w64 w) (8 * length xs) n ≡ ms
 last_bits xs w n ms fits le len is = same_lists (bits_of (xs ++ to_le_bytes w64 w) (8 * length xs) n) ms (length-bits_of (xs ++ to_le_bytes w64 w) (8 * length xs) n ∙ sym len)
     (λ k d lt. let h : k < n = omega (arith, length-bits_of (xs ++ to_le_bytes w64 w) (8 * length xs) n) in
     get_or-bits_of (xs ++ to_le_bytes w64 w) (8 * length xs) n k d h ∙ written w k xs fits (omega arith)

@@ -1,12 +1,12 @@
 //! Bits of a shared buffer.
 
 ghost use Rattle.std.specs.Prelude.{◌≡◌, ◌==◌, ◌≤◌, ◌<◌, ◌+◌, ◌-◌, ◌&&◌, ◌||◌, not, length};
-ghost use Rattle.std.specs.Prelude.{count_by, IfOk, false, get_or, take, drop};
+ghost use Rattle.std.specs.Prelude.{count_by, IfOk, false, ℕ, get_or, map, take, drop};
 ghost use Rattle.std.specs.Simd.Lanes.{mask_l, zip2};
 ghost use Rattle.bitmap.specs.Bits.{bits_of, IsRoomy};
 ghost use Rattle.bitmap.specs.inside.Joined.{joined};
 
-use crate::words::{Operation, bit, count_bits, join_bits, short_word, word};
+use crate::words::{Operation, bit, count_bits, gather_bits, join_bits, short_word, word};
 use bytes::{Bytes, BytesMut};
 use std::alloc::{AllocError, Global};
 use std::marker::Model;
@@ -130,6 +130,27 @@ impl Bits {
             bytes: self.bytes.clone()?,
             first: self.first + from,
             len: to - from,
+        })
+    }
+
+    /// The bits at places, which are counted from `first` on, in a buffer of their own.
+    ///
+    /// # Errors
+    ///
+    /// `AllocError` where memory is refused.
+    pub fn gather(&self, alloc: Global, first: usize, places: &[u32]) -> Result<Bits, AllocError>
+        requires first { first ≤ length self.now }
+        requires within { (k : ℕ) → k < length places.now →
+            first + get_or places.now k 0 < length self.now }
+        ensures value { IfOk result
+            (λ bits. bits ≡ map (λ place. get_or self.now (first + place) false) places.now) }
+        ensures long { IfOk result (λ bits. length bits ≡ length places.now) }
+    {
+        let made = gather_bits(alloc, self.bytes.as_slice(), self.first + first, places)?;
+        Ok(Bits {
+            bytes: Bytes::from_vec(made)?,
+            first: 0,
+            len: places.len(),
         })
     }
 

@@ -3,6 +3,8 @@
 #![tactic(auto)]
 
 pub mod bits;
+pub mod builder;
 mod words;
 
 pub use crate::bits::Bits;
+pub use crate::builder::BitsBuilder;

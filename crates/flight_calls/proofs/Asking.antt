@@ -6,11 +6,12 @@ use Rattle.scan_base.specs.declared.fault.Fault.TheVariants.{LimitReached}
 use Rattle.scan_base.specs.Limits.{most_request_bytes}
 use Rattle.scan_base.specs.Reading.{◌>>=◌}
 use Rattle.flight_proto.specs.Wanted.{Wanted, wanted_in}
-use Rattle.flight_core.specs.Asked.{info, schema, refusal}
-use Rattle.flight_core.specs.Infos.{only_rows, short_enough, InfoAt, SchemaAt}
+use Rattle.flight_core.specs.Asked.{info, schema}
+use Rattle.flight_info.specs.Replies.{refusal}
+use Rattle.flight_info.specs.Infos.{only_rows, short_enough, InfoAt, SchemaAt}
 use Rattle.flight_core.specs.Log.{Log, database_of, puts_in}
 use Rattle.flight_core.specs.Machine.{StepOn}
-use Rattle.flight_core.specs.Payloads.{Payload}
+use Rattle.flight_info.specs.Payloads.{Payload}
 use Rattle.flight_calls.specs.declared.setting.Options.{Options}
 use Rattle.flight_calls.specs.declared.request.Single.{Single}
 use Rattle.flight_calls.specs.declared.request.Single.TheVariants.{GetFlightInfo, GetSchema}

@@ -1,7 +1,8 @@
 -- The answers of a connection as a run of the core.
 use Rattle.std.proofs.Common.{◌≡◌, List, [], ◌∷◌, Result, Ok, Err, subst}
 use Rattle.scan_base.specs.declared.fault.Fault.{Fault}
-use Rattle.flight_core.specs.Asked.{Asked, ReplyAt}
+use Rattle.flight_core.specs.Asked.{Asked}
+use Rattle.flight_info.specs.Replies.{ReplyAt}
 use Rattle.flight_core.specs.Log.{Log}
 use Rattle.flight_core.specs.Machine.{Run}
 use Rattle.flight_core.specs.Headline.{RunsMeetHeadline, Headline}

@@ -14,8 +14,8 @@ use Rattle.grpc_frame.specs.Records.{spelling, IsRecord, Received, with_more, Br
 use Rattle.grpc_frame.specs.Arrivals.{WasSound}
 use Rattle.grpc_frame.specs.Ends.{AppendsBeginning}
 use Rattle.grpc_frame.proofs.Coming.{none_sound}
-use Rattle.flight_core.specs.Asked.{ReplyAt}
-use Rattle.flight_core.specs.Payloads.{FitMessages}
+use Rattle.flight_info.specs.Replies.{ReplyAt}
+use Rattle.flight_info.specs.Payloads.{FitMessages}
 use Rattle.flight_core.specs.Log.{Log}
 use Rattle.flight_calls.specs.declared.call.Arrival.TheVariants as arrival
 use Rattle.flight_calls.specs.declared.setting.Options.{Options}

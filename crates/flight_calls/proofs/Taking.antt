@@ -17,7 +17,7 @@ use Rattle.grpc_frame.specs.Records.{spelling, IsRecord, place_after, place_afte
 use Rattle.grpc_frame.specs.Arrivals.{Arrives, WasSound}
 use Rattle.grpc_frame.proofs.Coming.{led_sound}
 use Rattle.grpc_frame.proofs.Splitting.{place_after_all-append}
-use Rattle.flight_core.specs.Payloads.{Payload}
+use Rattle.flight_info.specs.Payloads.{Payload}
 use Rattle.flight_calls.specs.Owed.{EndsIn, EndsInside}
 use Rattle.flight_calls.specs.Requests.{Holds}
 use Rattle.flight_calls.specs.Reading.{Fronts, Stops, RequestArrives, CallArrives}

@@ -2,7 +2,7 @@
 use Rattle.std.proofs.Common.{◌≡◌, ℕ, ◌+◌, List, [], ◌∷◌, ◌++◌, map, Option, Some, None, Result, Ok, Err, refl, ◌∙◌, append-nil, inl, inr, arith}
 use Rattle.scan_base.specs.declared.fault.Fault.{Fault}
 use Rattle.scan_base.specs.declared.fault.Fault.TheVariants.{Transport}
-use Rattle.flight_core.specs.Asked.{ReplyAt}
+use Rattle.flight_info.specs.Replies.{ReplyAt}
 use Rattle.flight_calls.specs.declared.setting.Options.{Options}
 use Rattle.flight_calls.specs.Owed.{Connection, Serves, Why, Wrote, items_owed, answer_bytes}
 use Rattle.flight_calls.specs.Laws.{ReadFailed}

@@ -11,7 +11,7 @@ use Rattle.grpc_frame.specs.declared.record.Record.TheVariants.{Message}
 use Rattle.grpc_frame.specs.Records.{spelling}
 use Rattle.grpc_frame.specs.Ends.{AppendsBeginning, Writes}
 use Rattle.grpc_frame.proofs.Growing.{beginning_of_head, beginning_of_content, content_behind}
-use Rattle.flight_core.specs.Payloads.{Payload, FitMessages}
+use Rattle.flight_info.specs.Payloads.{Payload, FitMessages}
 
 -- the bytes of messages, and of an answer
 

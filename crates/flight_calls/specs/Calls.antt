@@ -7,8 +7,9 @@ use Rattle.scan_base.specs.Reading.{◌>>=◌, wanted}
 use Rattle.grpc_frame.specs.declared.record.Record.{Record}
 use Rattle.grpc_frame.specs.declared.record.Record.TheVariants.{Open, Message, End}
 use Rattle.flight_proto.specs.Wanted as wants
-use Rattle.flight_core.specs.Payloads.{Payload}
-use Rattle.flight_core.specs.Asked.{Asked, put, info, tables, schema, fetch, ReplyAt, refusal}
+use Rattle.flight_info.specs.Payloads.{Payload}
+use Rattle.flight_core.specs.Asked.{Asked, put, info, tables, schema, fetch}
+use Rattle.flight_info.specs.Replies.{ReplyAt, refusal}
 use Rattle.flight_core.specs.Log.{Log}
 use Rattle.flight_core.specs.Machine.{StepOn}
 use Rattle.flight_calls.specs.declared.setting.Options.{Options}

@@ -11,8 +11,8 @@ use Rattle.grpc_frame.specs.Records.{spelling, IsRecord, Received, Ending, nothi
 use Rattle.grpc_frame.specs.Arrivals.{WasSound}
 use Rattle.grpc_frame.specs.Calls.{status_of}
 use Rattle.grpc_frame.specs.Ends.{AppendsBeginning}
-use Rattle.flight_core.specs.Asked.{ReplyAt}
-use Rattle.flight_core.specs.Payloads.{FitMessages}
+use Rattle.flight_info.specs.Replies.{ReplyAt}
+use Rattle.flight_info.specs.Payloads.{FitMessages}
 use Rattle.flight_core.specs.Log.{Log}
 use Rattle.flight_calls.specs.declared.setting.Options.{Options}
 use Rattle.flight_calls.specs.Calls.{Call, call_records, Answers}

@@ -8,7 +8,7 @@ use Rattle.grpc_frame.specs.declared.record.Record.{Record}
 use Rattle.grpc_frame.specs.declared.record.Record.TheVariants.{Message, End}
 use Rattle.grpc_frame.specs.Records.{spelling, IsRecord, Received, with_more, broken}
 use Rattle.grpc_frame.specs.Arrivals.{WasSound}
-use Rattle.flight_core.specs.Payloads.{Payload}
+use Rattle.flight_info.specs.Payloads.{Payload}
 use Rattle.flight_calls.specs.declared.call.Arrival.{Arrival}
 use Rattle.flight_calls.specs.declared.call.Arrival.TheVariants as arrival
 use Rattle.flight_calls.specs.declared.request.Request.{Request}

@@ -2,7 +2,7 @@
 
 ghost use Rattle.std.specs.Prelude.{◌<◌};
 ghost use Rattle.grpc_frame.specs.Ends.{CountsFailure, FailsByTransport, Writes};
-ghost use Rattle.flight_core.specs.Payloads.{FitMessages};
+ghost use Rattle.flight_info.specs.Payloads.{FitMessages};
 ghost use Rattle.flight_calls.specs.Owed.{answer_bytes};
 
 use flight_core::Reply;

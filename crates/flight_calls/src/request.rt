@@ -4,7 +4,7 @@ ghost use Rattle.std.specs.Prelude.{◌≡◌, ◌++◌, ◌∷◌, [], ℕ, Lis
 ghost use Rattle.scan_base.specs.Reading.{Gives};
 ghost use Rattle.flight_proto.specs.Wanted.{wanted_in};
 ghost use Rattle.flight_core.specs.Event.{asked_in};
-ghost use Rattle.flight_core.specs.Payloads.{Payload, FitMessages};
+ghost use Rattle.flight_info.specs.Payloads.{Payload, FitMessages};
 ghost use Rattle.flight_calls.specs.declared.request.Method.TheVariants as variant;
 ghost use Rattle.flight_calls.specs.Calls.{Call, method_at, info_asked, asked_with, asked_by, ReplyTo};
 ghost use Rattle.flight_calls.specs.Requests.{IsRefused, Holds};

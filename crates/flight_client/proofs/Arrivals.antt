@@ -16,7 +16,7 @@ use Rattle.ipc_batch.specs.State.{Known, State}
 use Rattle.ipc_batch.specs.Said.{Sent, News, Rows, rows_in, next_news, news_in, news_of, batch_sent, known_after, Follows}
 use Rattle.ipc_batch.proofs.Lengths.{fine, both}
 use Rattle.ipc_batch.proofs.Messages.{first, joined, once}
-use Rattle.flight_core.specs.Payloads.{Payload, message_in, PayloadsSay}
+use Rattle.flight_info.specs.Payloads.{Payload, message_in, PayloadsSay}
 use Rattle.flight_client.specs.Stream.{StreamAt, Came, schema_said}
 use Rattle.flight_client.specs.Laws.{StreamsHoldWhatIsSaid}
 

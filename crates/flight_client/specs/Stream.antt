@@ -8,7 +8,7 @@ use Rattle.arrow_schema.specs.declared.schema.Schema.{Schema}
 use Rattle.flight_proto.specs.FlightData.{DataSaid, data_of}
 use Rattle.ipc_batch.specs.State.{State}
 use Rattle.ipc_batch.specs.Said.{Rows, rows_in, news_of, Follows}
-use Rattle.flight_core.specs.Payloads.{Payload, message_in}
+use Rattle.flight_info.specs.Payloads.{Payload, message_in}
 use Rattle.flight_client.specs.Status.{StatusSays}
 
 -- what payloads left behind: the schema, once it came, with its dictionaries, and the rows; and, once the status came, what

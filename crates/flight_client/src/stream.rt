@@ -2,7 +2,7 @@
 
 ghost use Rattle.std.specs.Prelude.{◌≡◌, ◌∷◌, ◌++◌, [], List, OnOk, OnErr};
 ghost use Rattle.scan_base.specs.Reading.{Gives, GivesUnlessMemory};
-ghost use Rattle.flight_core.specs.Payloads.{Payload};
+ghost use Rattle.flight_info.specs.Payloads.{Payload};
 ghost use Rattle.flight_client.specs.Stream.{begun, after_payload, Came, Ends, schema_said};
 
 use crate::status::status_end;

@@ -7,7 +7,7 @@ use Rattle.flight_proto.specs.Ingest.{IngestSaid, ingest_of}
 use Rattle.ipc_batch.specs.State.{State}
 use Rattle.ipc_batch.specs.Said.{News, rows_in}
 use Rattle.table_versions.specs.Database.{Put}
-use Rattle.flight_core.specs.Payloads.{Payload}
+use Rattle.flight_info.specs.Payloads.{Payload}
 use Rattle.flight_core.specs.Refusals.{RefusedFor, GivesBehind}
 use Rattle.flight_core.specs.Puts.{Told, news_in_payload, told_by, command_in, put_said, put_made}
 use Rattle.flight_core.specs.Arriving.{BegunAt, said_so_far, HasRead, after_payload, glance_next, said_next, whole_put}

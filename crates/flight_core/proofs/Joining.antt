@@ -1,5 +1,5 @@
 -- The streams of an info's handles are what was wanted.
-use Rattle.std.proofs.Common.{◌≡◌, ℕ, ◌+◌, ◌<◌, ◌≤◌, Bool, true, false, nat_le, List, [], ◌∷◌, ◌++◌, length, map, take, drop, refl, sym, ap, subst, ◌∙◌, arith, cond, length-append, append-nil, Option, None, Some, Result, Ok, Err, inl, inr, rules}
+use Rattle.std.proofs.Common.{◌≡◌, ℕ, ◌≤◌, Bool, true, false, nat_le, List, [], ◌∷◌, ◌++◌, length, map, take, refl, sym, ap, subst, ◌∙◌, arith, cond, length-append, append-nil, None, Result, Ok, rules}
 use Rattle.std.specs.List.{flat_map}
 use Rattle.std.proofs.lemmas.List.{take-append-le}
 use Rattle.std.proofs.Math.Seq.{take-append_seam}
@@ -17,16 +17,16 @@ use Rattle.table_versions.specs.Table.{Row, Table}
 use Rattle.table_versions.specs.Database.{Database}
 use Rattle.typed_plan.specs.Meaning.{meaning}
 use Rattle.typed_plan.proofs.Ranges.{ranges_join}
-use Rattle.flight_core.specs.Log.{Log, puts_in, database_of, version}
-use Rattle.flight_core.specs.Payloads.{Payload, PayloadsSay}
-use Rattle.flight_core.specs.Meant.{Asks, first_rows, Answers}
-use Rattle.flight_core.specs.Fetches.{FetchAt, FetchBy, FetchIn, HandleMeans, handle_asked, handle_shown, version_of, is_short}
-use Rattle.flight_proto.specs.FlightInfo.{InfoSaid}
-use Rattle.flight_proto.specs.Wanted.{Wanted, rows_of, tables}
-use Rattle.flight_core.specs.Infos.{ranges_asked, RightInfo, handles_in}
-use Rattle.flight_core.specs.Tables.{tables_listed}
+use Rattle.flight_core.specs.Log.{Log, database_of, version}
+use Rattle.flight_info.specs.Payloads.{Payload}
+use Rattle.flight_info.specs.Meant.{Asks, first_rows}
+use Rattle.fetch_stream.specs.Fetches.{FetchAt, version_of, is_short}
+use Rattle.flight_core.specs.Machine.{FetchBy, FetchIn}
+use Rattle.flight_info.specs.Infos.{handle_asked, ranges_asked, handles_in}
+use Rattle.flight_proto.specs.Wanted.{rows_of, tables}
+use Rattle.flight_info.specs.Tables.{tables_listed}
 use Rattle.flight_core.specs.Headline.{Begins, Saw, FetchedAt, Joined, Pairwise}
-use Rattle.flight_core.proofs.Meaning.{one_sentence, same_ok}
+use Rattle.flight_info.proofs.Meaning.{one_sentence, same_ok}
 use Rattle.flight_core.proofs.Saying.{answers_say_one_thing}
 
 -- ---- logs

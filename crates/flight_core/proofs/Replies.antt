@@ -1,14 +1,19 @@
 -- Replies put together.
-use Rattle.std.proofs.Common.{◌≡◌, ◌≤◌, ◌^◌, ◌-◌, ℕ, pos, min, List, [], ◌∷◌, ◌++◌, length, refl, sym, ap, ◌∙◌, arith, ◌≢◌, Option, None, Some, Result, Ok, Err}
+use Rattle.std.proofs.Common.{◌≡◌, ◌≤◌, ◌^◌, ℤ, ◌-◌, ℕ, pos, min, List, [], ◌∷◌, ◌++◌, length, length-append, refl, sym, ap, ◌∙◌, arith, ◌≢◌, Option, None, Some, Result, Ok, Err}
 use Rattle.std.specs.Prelude.{IsOk, IfErr, unwrap_or}
 use Rattle.scan_base.specs.declared.fault.Fault.{Fault}
 use Rattle.scan_base.specs.declared.fault.Fault.TheVariants.{OutOfMemory}
 use Rattle.scan_base.specs.Reading.{first_fault}
-use Rattle.flight_proto.specs.PutResult.{rows_put_bytes}
-use Rattle.scan_base.specs.Limits.{most_rows}
+use Rattle.std.specs.Int.{w64, cast_unsigned}
+use Rattle.flight_proto.specs.Message.{set_fields, spelled}
+use Rattle.flight_proto.specs.PutResult.{update_bytes, rows_put_bytes}
+use Rattle.proto_wire.specs.Calls.{chunk_entry, varint_entry}
+use Rattle.proto_wire.specs.Writing.{spelling}
+use Rattle.scan_base.specs.Limits.{most_message_bytes, most_rows}
 use Rattle.table_versions.specs.Database.{Database, Put, put_faults, after, database_of}
 use Rattle.table_versions.proofs.Accepted.{accepted_puts_are_few}
-use Rattle.flight_core.specs.Payloads.{Payload}
+use Rattle.flight_info.specs.Payloads.{Payload}
+use Rattle.flight_info.proofs.Sizes.{short_number, short_chunk, short_set}
 use Rattle.flight_core.specs.Refusals.{RefusedFor}
 use Rattle.flight_core.specs.Puts.{command_in, put_said}
 use Rattle.flight_core.specs.Log.{Log}
@@ -54,3 +59,21 @@ pub due_exactly : (database : Database) (n : ℕ) (put : Put) (first : Option Fa
     → IfErr (after database n put) (λ cause. Some fault ≡ Some cause)
 due_exactly database n put (Some f) fault e is = rw (← e) (ap Some is)
 due_exactly database n put None fault e is = rw (← e) tt
+
+-- the answer to a put
+pub answer_fits : (rows : ℤ) (payload : List ℕ) → payload ≡ rows_put_bytes rows → length payload ≤ most_message_bytes
+answer_fits rows payload is =
+    let count = varint_entry 1 (cast_unsigned w64 rows) in
+    let metadata = chunk_entry 1 (update_bytes rows) in
+    let whole : length payload ≡ length (spelled (set_fields (metadata ∷ []))) = ap length is in
+    let inner : length (update_bytes rows) ≤ length (spelled (count ∷ [])) = short_set (count ∷ []) in
+    omega (
+      arith,
+      whole,
+      inner,
+      length-append (spelling count) [],
+      short_number 1 (cast_unsigned w64 rows),
+      short_set (metadata ∷ []),
+      length-append (spelling metadata) [],
+      short_chunk 1 (update_bytes rows),
+    )

@@ -1,24 +1,24 @@
 -- The headline of a run is the law of joined streams, where every seat and what it was told is the run's last log.
-use Rattle.std.proofs.Common.{◌≡◌, ℕ, ◌+◌, ◌≤◌, suc, Bool, true, false, nat_le, List, [], ◌∷◌, ◌++◌, length, take, drop, refl, sym, ap, subst, ◌∙◌, arith, append_assoc, append-nil, length-append, Option, None, Some, Result, Ok, Err, inl, inr, ◌⊎◌}
-use Rattle.std.specs.List.{flat_map, slice_get}
+use Rattle.std.proofs.Common.{◌≡◌, ℕ, ◌≤◌, suc, Bool, true, false, nat_le, List, [], ◌∷◌, ◌++◌, length, take, drop, refl, sym, ap, subst, ◌∙◌, arith, append_assoc, append-nil, length-append, Option, None, Some, Result, Ok, Err, inl, inr, ◌⊎◌}
+use Rattle.std.specs.List.{slice_get}
 use Rattle.scan_base.specs.declared.fault.Fault.{Fault}
 use Rattle.scan_base.specs.declared.fault.Fault.TheVariants.{LimitReached}
 use Rattle.scan_base.specs.Limits.{most_query_bytes}
 use Rattle.scan_base.specs.Reading.{◌>>=◌, demand}
 use Rattle.endpoint_split.specs.Handle.{HandleAt}
 use Rattle.ipc_batch.specs.Said.{Rows}
-use Rattle.table_versions.specs.Table.{Table}
 use Rattle.table_versions.specs.Database.{Database, Put}
 use Rattle.flight_core.specs.Log.{Log, puts_in, database_of}
-use Rattle.flight_core.specs.Payloads.{Payload}
+use Rattle.flight_info.specs.Payloads.{Payload}
 use Rattle.flight_core.specs.Puts.{put_said}
-use Rattle.flight_core.specs.Asked.{Asked, put, info, tables, schema, fetch, ReplyAt, whole}
+use Rattle.flight_core.specs.Asked.{Asked, put, info, tables, schema, fetch}
+use Rattle.flight_info.specs.Replies.{ReplyAt, whole}
 use Rattle.flight_proto.specs.FlightInfo.{InfoSaid, info_of}
-use Rattle.flight_proto.specs.Wanted.{Wanted, rows_of, tables as list, wanted_in}
-use Rattle.flight_core.specs.Infos.{only_rows, only_tables, short_enough, RightInfo, InfoAt}
+use Rattle.flight_proto.specs.Wanted.{Wanted, rows_of, tables as list}
+use Rattle.flight_info.specs.Infos.{only_rows, only_tables, short_enough, RightInfo, InfoAt}
 use Rattle.flight_core.specs.Machine.{PutStep, StepOn, Run}
 use Rattle.flight_core.specs.Headline.{Begins, FetchedAt, Fetched, Informed, RunsMeetHeadline, Pairwise}
-use Rattle.flight_core.proofs.Meaning.{same_ok}
+use Rattle.flight_info.proofs.Meaning.{same_ok}
 use Rattle.flight_core.proofs.Runs.{At, run_at}
 use Rattle.flight_core.proofs.Joining.{joined}
 

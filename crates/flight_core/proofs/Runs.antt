@@ -4,13 +4,14 @@ use Rattle.std.specs.List.{slice_get}
 use Rattle.std.proofs.lemmas.List.{take_more, take_all, map-append}
 use Rattle.scan_base.specs.declared.fault.Fault.{Fault}
 use Rattle.flight_core.specs.declared.event.Event.{Event}
-use Rattle.flight_core.specs.Payloads.{Payload}
-use Rattle.flight_core.specs.Asked.{Asked, put, info, tables, schema, fetch, ReplyAt}
+use Rattle.flight_info.specs.Payloads.{Payload}
+use Rattle.flight_core.specs.Asked.{Asked, put, info, tables, schema, fetch}
+use Rattle.flight_info.specs.Replies.{ReplyAt}
 use Rattle.flight_core.specs.Event.{asked_in}
 use Rattle.flight_core.specs.Log.{Log}
 use Rattle.flight_core.specs.Machine.{PutStep, StepOn, Run}
 use Rattle.flight_core.specs.Laws.{RefusalsLeaveNothing}
-use Rattle.flight_core.proofs.Results.{same_some}
+use Rattle.flight_info.proofs.Results.{same_some}
 
 pub run_joins : (old : Log) (asked : List Asked) (replies : List ReplyAt) (mid : Log) (more : List Asked) (others : List ReplyAt) (new : Log)
     → Run old asked replies mid → Run mid more others new → Run old (asked ++ more) (replies ++ others) new

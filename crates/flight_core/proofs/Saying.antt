@@ -13,9 +13,14 @@ use Rattle.ipc_batch.specs.Laws.{SayOneThing}
 use Rattle.ipc_batch.specs.Said.{Sent, News, Rows, Says, rows_in, news_of, Follows}
 use Rattle.ipc_batch.proofs.Lengths.{both}
 use Rattle.table_versions.specs.Database.{Put}
-use Rattle.flight_core.specs.Payloads.{Payload, carries_message, message_in, PutSays}
+use Rattle.endpoint_split.specs.Handle.{Query, Tables}
+use Rattle.sql_query.specs.Sentence.{Sentence}
+use Rattle.flight_info.specs.Payloads.{Payload, message_in}
+use Rattle.flight_info.specs.Meant.{result_over}
+use Rattle.flight_info.proofs.Meaning.{one_sentence}
+use Rattle.fetch_stream.specs.Fetches.{HandlesMeanOne}
+use Rattle.flight_core.specs.Laws.{carries_message, PutSays, AnswersSayOneThing, SayPut, PutsAreSaid}
 use Rattle.flight_core.specs.Puts.{Told, news_in_payload, told_by, put_made, put_said}
-use Rattle.flight_core.specs.Laws.{AnswersSayOneThing, SayPut, PutsAreSaid}
 
 -- the messages of FlightData
 abbrev messages_in : List DataSaid → List Sent
@@ -156,3 +161,11 @@ pub answers_say_one_thing : SayOneThing → AnswersSayOneThing
 answers_say_one_thing law payloads one other rows others p q =
     let same : p.0 ≡ q.0 = let a = p.1 in let b = q.1 in cc in
     law (map message_in q.0) one other rows others (subst (λ (all : List DataSaid). Says (map message_in all) one rows) same p.2) q.2
+
+-- ---- handles
+
+pub handles_mean_one : HandlesMeanOne
+handles_mean_one database (Query number from to text) one other a b =
+    let same = one_sentence text a.query b.query a.asks.says b.asks.says in
+    a.is ∙ ap (λ (s : Sentence). result_over s database from to) same ∙ sym b.is
+handles_mean_one database (Tables number) one other a b = a ∙ sym b

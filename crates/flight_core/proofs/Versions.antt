@@ -7,7 +7,7 @@ use Rattle.std.proofs.lemmas.List.{map-append, length-map}
 use Rattle.table_versions.specs.Database.{Database, Put, after, accepted, after_all, database_of}
 use Rattle.table_versions.proofs.Databases.{logs_grow}
 use Rattle.flight_core.specs.Versions.{versions_from, versions_of}
-use Rattle.flight_core.proofs.Results.{same_some}
+use Rattle.flight_info.proofs.Results.{same_some}
 
 -- how many puts come after one more
 one_more : (n m : ℕ) → (n + 1) + m ≡ n + suc m

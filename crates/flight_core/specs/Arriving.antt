@@ -7,7 +7,7 @@ use Rattle.flight_proto.specs.Ingest.{IngestSaid, ingest_of}
 use Rattle.ipc_batch.specs.Said.{rows_in}
 use Rattle.table_versions.specs.Database.{Put}
 use Rattle.flight_core.specs.Refusals.{GivesBehind}
-use Rattle.flight_core.specs.Payloads.{Payload}
+use Rattle.flight_info.specs.Payloads.{Payload}
 use Rattle.flight_core.specs.Puts.{Told, news_in_payload, told_by, put_made}
 
 -- a put that was begun: its command, and what its payloads tell

@@ -5,15 +5,15 @@ use Rattle.arrow_schema.specs.declared.schema.Schema.{Schema}
 use Rattle.endpoint_split.specs.Handle.{HandleAt}
 use Rattle.ipc_batch.specs.Said.{Rows}
 use Rattle.table_versions.specs.Table.{Table}
-use Rattle.flight_core.specs.Payloads.{Payload, PayloadsSay}
-use Rattle.flight_core.specs.Asked.{Asked, info, tables, fetch, ReplyAt, whole}
+use Rattle.flight_info.specs.Payloads.{Payload, PayloadsSay}
+use Rattle.flight_core.specs.Asked.{Asked, info, tables, fetch}
+use Rattle.flight_info.specs.Replies.{ReplyAt, whole}
 use Rattle.flight_proto.specs.FlightInfo.{InfoSaid, info_of}
 use Rattle.flight_proto.specs.Wanted.{Wanted, wanted_in}
 use Rattle.flight_core.specs.Log.{Log, puts_in, database_of}
-use Rattle.flight_core.specs.Fetches.{handle_asked, FetchIn}
-use Rattle.flight_core.specs.Meant.{Answers}
-use Rattle.flight_core.specs.Infos.{handles_in, RightInfo}
-use Rattle.flight_core.specs.Machine.{Run}
+use Rattle.flight_info.specs.Infos.{handle_asked, handles_in, RightInfo}
+use Rattle.flight_core.specs.Machine.{FetchIn, Run}
+use Rattle.flight_info.specs.Meant.{Answers}
 
 -- the items of two lists hold together, one by one
 abbrev pub Pairwise : {X Y : Type 0} → (X → Y → Type 0) → List X → List Y → Type 0

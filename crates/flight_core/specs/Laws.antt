@@ -1,13 +1,16 @@
 -- What holds of all runs, and of the payloads of answers and of puts.
-use Rattle.std.specs.Prelude.{◌≡◌, ◌↔◌, ℕ, ◌+◌, List, [], ◌∷◌, ◌++◌, take, drop, Some, Ok, slice_get}
+use Rattle.std.specs.Prelude.{◌≡◌, ◌↔◌, ℕ, ◌+◌, ◌==◌, Bool, not, List, [], ◌∷◌, ◌++◌, length, map, filter, take, drop, Some, Ok, slice_get}
 use Rattle.scan_base.specs.declared.fault.Fault.{Fault}
 use Rattle.arrow_schema.specs.declared.schema.Schema.{Schema}
+use Rattle.scan_base.specs.Lists.{each}
+use Rattle.flight_proto.specs.FlightData.{DataSaid, data_of}
 use Rattle.flight_proto.specs.Ingest.{IngestSaid, ingest_of}
-use Rattle.ipc_batch.specs.Said.{Rows}
+use Rattle.ipc_batch.specs.Said.{Rows, Says}
 use Rattle.table_versions.specs.Database.{Put}
-use Rattle.flight_core.specs.Payloads.{Payload, PayloadsSay, PutSays}
+use Rattle.flight_info.specs.Payloads.{Payload, message_in, PayloadsSay}
 use Rattle.flight_core.specs.Puts.{put_made, put_said}
-use Rattle.flight_core.specs.Asked.{Asked, ReplyAt}
+use Rattle.flight_core.specs.Asked.{Asked}
+use Rattle.flight_info.specs.Replies.{ReplyAt}
 use Rattle.flight_core.specs.Log.{Log}
 use Rattle.flight_core.specs.Machine.{Run}
 
@@ -31,6 +34,16 @@ RefusalsLeaveNothing = (asked : List Asked) (replies : List ReplyAt) (log : Log)
 abbrev pub AnswersSayOneThing : Type 0
 AnswersSayOneThing = (payloads : List Payload) (one other : Schema) (rows others : Rows) →
     PayloadsSay payloads one rows → PayloadsSay payloads other others → (one ≡ other) × (rows ≡ others)
+
+-- whether a FlightData carries a message: in a put, one with an empty header is skipped
+abbrev pub carries_message : DataSaid → Bool
+carries_message carried = not (length carried.data_header == 0)
+
+-- the payloads of a put say this schema and these rows
+abbrev pub PutSays : List Payload → Schema → Rows → Type 0
+PutSays payloads schema rows =
+    (all : List DataSaid) × (each data_of payloads ≡ Ok all)
+    × Says (map message_in (filter carries_message all)) schema rows
 
 -- payloads say a put: the command in the first of them names its table and its options, and all of them say its
 -- schema and its rows

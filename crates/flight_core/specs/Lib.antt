@@ -1,17 +1,9 @@
 pub mod Refusals
-pub mod Payloads
 pub mod Puts
 pub mod Arriving
 pub mod Asked
 pub mod Event
 pub mod Log
-pub mod Tables
-pub mod Listed
-pub mod Meant
-pub mod Fetches
-pub mod Infos
-pub mod Described
-pub mod Planned
 pub mod Machine
 pub mod Headline
 pub mod Laws

@@ -1,16 +1,18 @@
 -- The core as a machine: what is asked is answered by one step on a log.
-use Rattle.std.specs.Prelude.{◌≡◌, pos, List, [], ◌∷◌, ◌++◌, length, Option, Some, None, Result, Ok, IsOk}
+use Rattle.std.specs.Prelude.{◌≡◌, pos, List, [], ◌∷◌, ◌++◌, length, Option, Some, None, Result, Ok, Err, IsOk}
 use Rattle.scan_base.specs.declared.fault.Fault.{Fault}
 use Rattle.scan_base.specs.Reading.{◌>>=◌}
 use Rattle.flight_proto.specs.PutResult.{rows_put_bytes}
 use Rattle.table_versions.specs.Database.{Database, Put, after}
 use Rattle.flight_core.specs.Refusals.{RefusedFor}
-use Rattle.flight_core.specs.Payloads.{Payload}
-use Rattle.flight_core.specs.Asked.{Asked, put, info, tables, schema, fetch, ReplyAt}
-use Rattle.flight_core.specs.Log.{Log, puts_in, database_of}
+use Rattle.flight_info.specs.Payloads.{Payload}
+use Rattle.flight_core.specs.Asked.{Asked, put, info, tables, schema, fetch}
+use Rattle.flight_info.specs.Replies.{ReplyAt}
+use Rattle.flight_core.specs.Log.{Log, puts_in, database_of, version}
 use Rattle.flight_core.specs.Puts.{command_in, put_said}
-use Rattle.flight_core.specs.Fetches.{FetchIn}
-use Rattle.flight_core.specs.Infos.{rows_wanted, tables_wanted, schema_wanted, InfoAt, SchemaAt}
+use Rattle.fetch_stream.specs.Fetches.{version_of, handle_shown, FetchAt}
+use Rattle.endpoint_split.specs.Handle.{HandleAt}
+use Rattle.flight_info.specs.Infos.{rows_wanted, tables_wanted, schema_wanted, InfoAt, SchemaAt}
 
 -- the database after the put that payloads say, at a log, or the first fault
 abbrev pub database_put : Log → List Payload → Result Database Fault
@@ -25,6 +27,15 @@ PutStep log payloads answers None new = (put : Put) × (put_said payloads ≡ Ok
     × (answers ≡ rows_put_bytes (pos (length put.rows)) ∷ [])
 PutStep log payloads answers (Some fault) new = (new ≡ log) × (answers ≡ [])
     × RefusedFor (command_in payloads) (database_put log payloads) fault
+
+-- the answer to what a fetch shows: the fault that is seen there, or the answer at the handle's version
+abbrev pub FetchBy : Log → Result HandleAt Fault → List Payload → Option Fault → Type 0
+FetchBy log (Err cause) payloads fault = (payloads ≡ []) × (fault ≡ Some cause)
+FetchBy log (Ok handle) payloads fault = FetchAt (version log (version_of handle)) handle payloads fault
+
+-- the answer to a fetch at a log
+abbrev pub FetchIn : Log → Payload → List Payload → Option Fault → Type 0
+FetchIn log ticket payloads fault = FetchBy log (handle_shown (puts_in log) ticket) payloads fault
 
 -- at this log what is asked may be answered by this reply, and then the log is the last one
 abbrev pub StepOn : Log → Asked → ReplyAt → Log → Type 0

@@ -10,7 +10,7 @@ use Rattle.flight_proto.specs.Ingest.{IngestSaid, ingest_of}
 use Rattle.ipc_batch.specs.State.{State}
 use Rattle.ipc_batch.specs.Said.{News, Rows, news_of, rows_in}
 use Rattle.table_versions.specs.Database.{Put}
-use Rattle.flight_core.specs.Payloads.{Payload, message_in}
+use Rattle.flight_info.specs.Payloads.{Payload, message_in}
 
 -- what payloads leave behind: the schema, once it came, with its dictionaries, and the rows of their batches
 pub record Told : Type 0 where

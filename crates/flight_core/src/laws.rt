@@ -1,6 +1,6 @@
 //! What holds of all payloads, and of all runs. Each function here has an empty body: its contract is a law.
 
-ghost use Rattle.flight_core.specs.Fetches.{HandlesMeanOne};
+ghost use Rattle.fetch_stream.specs.Fetches.{HandlesMeanOne};
 ghost use Rattle.flight_core.specs.Headline.{Joined, RunsMeetHeadline};
 ghost use Rattle.flight_core.specs.Laws.{AnswersSayOneThing, PutsAreSaid, RefusalsLeaveNothing};
 

@@ -1,6 +1,6 @@
 //! Steps and runs.
 
-ghost use Rattle.std.specs.Prelude.{◌≡◌, ◌≢◌, [], ◌∷◌, Some, pos, min, map, List, IfOk, IfErr};
+ghost use Rattle.std.specs.Prelude.{◌≡◌, [], ◌∷◌, Some, pos, min, map, List, IfOk, IfErr};
 ghost use Rattle.scan_base.specs.Limits.{most_rows};
 ghost use Rattle.table_versions.specs.Valid.{HasDatabases};
 ghost use Rattle.scan_base.specs.declared.fault.Fault.TheVariants.{OutOfMemory};
@@ -9,21 +9,19 @@ ghost use Rattle.flight_core.specs.Event.{asked_in};
 ghost use Rattle.flight_core.specs.Log.{Log, ArePuts, puts_in, database_of};
 ghost use Rattle.flight_core.specs.Headline.{Headline};
 ghost use Rattle.flight_core.specs.Laws.{RefusedLeaveNothing};
-ghost use Rattle.flight_core.specs.Machine.{PutStep, StepOn, Run};
-ghost use Rattle.flight_core.specs.Fetches.{FetchIn};
+ghost use Rattle.flight_core.specs.Machine.{PutStep, StepOn, Run, FetchIn};
 ghost use Rattle.table_versions.specs.Database.{after};
 ghost use Rattle.flight_core.specs.Refusals.{GivesBehind};
 ghost use Rattle.table_versions.specs.Stored.{put_of};
-ghost use Rattle.flight_core.specs.Payloads.{Payload, FitMessages};
+ghost use Rattle.flight_info.specs.Payloads.{Payload, FitMessages};
 ghost use Rattle.flight_core.specs.Puts.{command_in, put_said};
 
-use crate::event::{Event, Reply};
-use crate::fetch::{answer_fetch, read_ticket, version_of};
-use crate::info::{answer_info, answer_schema, answer_tables};
+use crate::event::Event;
 use crate::plain::Plain;
 use crate::put::read_put;
-use crate::stream::payload_of;
 use bytes::Bytes;
+use fetch_stream::{answer_fetch, read_ticket, version_of};
+use flight_info::{Reply, answer_info, answer_schema, answer_tables, payload_of};
 use flight_proto::put_rows_put;
 use scan_base::Fault;
 use std::alloc::{AllocError, Global};

@@ -6,7 +6,7 @@ ghost use Rattle.scan_base.specs.Reading.{Gives, GivesUnlessMemory};
 ghost use Rattle.flight_proto.specs.Ingest.{ingest_of};
 ghost use Rattle.arrays.specs.Batch.{BatchAt};
 ghost use Rattle.table_versions.specs.Stored.{put_of};
-ghost use Rattle.flight_core.specs.Payloads.{Payload};
+ghost use Rattle.flight_info.specs.Payloads.{Payload};
 ghost use Rattle.flight_core.specs.Puts.{command_in, news_in_payload, put_said};
 ghost use Rattle.flight_core.specs.Refusals.{GivesBehind};
 ghost use Rattle.flight_core.specs.Stored.{MayBeStored, batches_in};

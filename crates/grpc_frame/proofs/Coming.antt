@@ -6,7 +6,8 @@ use Rattle.scan_base.specs.declared.fault.Fault.{Fault}
 use Rattle.scan_base.specs.declared.fault.Fault.TheVariants.{OutOfMemory, Transport}
 use Rattle.grpc_frame.specs.Records.{Received, with_more, Leads, Breaks, IsCut}
 use Rattle.grpc_frame.specs.declared.record.Record.{Record}
-use Rattle.grpc_frame.specs.Arrivals.{Arrives, TakesIn, WasSound}
+use Rattle.grpc_frame.specs.Arrivals.{Arrives, WasSound}
+use Rattle.grpc_frame.specs.inside.Reads.{TakesIn}
 use Rattle.grpc_frame.specs.Front.{Faulty, Whole, front_of}
 use Rattle.grpc_frame.specs.Calls.{TakesFront, KeepsProfile}
 use Rattle.grpc_frame.proofs.Again.{leads_front, breaks_front}
@@ -26,15 +27,18 @@ not_taken a b c old mid new fault p is_cut q = (p.came ++ q.0, Consumes-trans a 
     all_came : q.0 ≡ [] → mid ≡ with_more old (p.came ++ q.0)
     all_came none = p.whole ∙ ap (λ (came : List ℕ). with_more old came) (sym (append-nil p.came) ∙ ap (λ (l : List ℕ). p.came ++ l) (sym none))
 
+    few : q.0 ≡ [] → length q.0 ≤ 65536
+    few none = rw none (omega arith)
+
     -- what came before the piece is no flaw, since more had to come
     no_flaw : length q.0 ≤ 65536 → WasSound old (p.came ++ q.0)
-    no_flaw few = record { seen = p.came; piece = q.0; whole = refl; short = few; sound = λ found. (subst IsCut p.whole is_cut).no_flaw found }
+    no_flaw short = record { seen = p.came; piece = q.0; whole = refl; short = short; sound = λ found. (subst IsCut p.whole is_cut).no_flaw found }
 
-    either : ((fault ≡ Transport) × ((new ≡ mid) × (q.0 ≡ []))) ⊎ ((fault ≡ OutOfMemory) × (length q.0 ≤ 65536))
+    either : ((fault ≡ Transport) ⊎ (fault ≡ OutOfMemory)) × ((new ≡ mid) × (q.0 ≡ []))
         → ((fault ≡ Transport) × ((new ≡ with_more old (p.came ++ q.0)) × IsCut new))
         ⊎ (((fault ≡ OutOfMemory) × WasSound old (p.came ++ q.0)) ⊎ ((new ≡ with_more old (p.came ++ q.0)) × Breaks new fault))
-    either (inl e) = inl (e.0, (e.1.0 ∙ all_came e.1.1, subst IsCut (sym e.1.0) is_cut))
-    either (inr e) = inr (inl (e.0, no_flaw e.1))
+    either (inl e, s) = inl (e, (s.0 ∙ all_came s.1, subst IsCut (sym s.0) is_cut))
+    either (inr e, s) = inr (inl (e, no_flaw (few s.1)))
 
 -- memory was refused for a record that stands in front
 front_sound : (old mid rest : Received) (came : List ℕ) (found : Record) → mid ≡ with_more old came → front_of mid ≡ Whole found rest → WasSound old came

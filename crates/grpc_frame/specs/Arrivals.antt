@@ -1,5 +1,5 @@
 -- What a reader of records does with an input that comes in pieces.
-use Rattle.std.specs.Prelude.{◌≡◌, ◌≢◌, ◌≤◌, ℕ, ◌+◌, ◌*◌, ◌⊎◌, List, [], ◌++◌, length, Option, Some, None, Result, Ok, Err}
+use Rattle.std.specs.Prelude.{◌≡◌, ◌≢◌, ◌≤◌, ℕ, ◌+◌, ◌*◌, ◌⊎◌, List, ◌++◌, length, Option, Some, None, Result, Ok, Err}
 use Rattle.scan_base.specs.declared.fault.Fault.{Fault}
 use Rattle.scan_base.specs.declared.fault.Fault.TheVariants.{OutOfMemory, Transport}
 use Rattle.grpc_frame.specs.declared.record.Record.{Record}
@@ -21,13 +21,6 @@ Arrives (Ok (Some found)) old new came = Leads found (with_more old came) new
 Arrives (Ok None) old new came = (new ≡ with_more old came) × IsCut new
 Arrives (Err fault) old new came = ((fault ≡ Transport) × ((new ≡ with_more old came) × IsCut new))
     ⊎ (((fault ≡ OutOfMemory) × WasSound old came) ⊎ ((new ≡ with_more old came) × Breaks new fault))
-
--- a piece of so many bytes was taken in; none came where the read failed, and nothing changed; a short one where memory
--- was refused
-abbrev pub TakesIn : Result ℕ Fault → Received → Received → List ℕ → Type 0
-TakesIn (Ok count) old new came = (new ≡ with_more old came) × (length came ≡ count)
-TakesIn (Err fault) old new came = ((fault ≡ Transport) × ((new ≡ old) × (came ≡ [])))
-    ⊎ ((fault ≡ OutOfMemory) × (length came ≤ 65536))
 
 -- a failed transport is counted, and no other fault
 abbrev pub CountsTransport : {A : Type 0} → Result A Fault → ℕ → ℕ → Type 0

@@ -6,3 +6,4 @@ pub mod Ends
 pub mod Arrivals
 pub mod Laws
 pub mod Memory
+pub mod inside

@@ -1,24 +1,31 @@
 //! What has come, cut into records.
 
-ghost use Rattle.std.specs.Prelude.{◌≡◌, ◌++◌, ◌↔◌, [], OnOk, OnErr, IfErr, IsTrue, length};
+ghost use Rattle.std.specs.Prelude.{◌≡◌, ◌++◌, ◌↔◌, ◌<◌, [], ℕ, List, Ok, OnOk, OnErr, IfOk, IfErr, IsTrue, length};
+ghost use Rattle.std.specs.Io.KnownBytes.{Consumes, IsAtEnd};
 ghost use Rattle.scan_base.specs.declared.fault.Fault.TheVariants.{OutOfMemory};
 ghost use Rattle.grpc_frame.specs.declared.place.Place.TheVariants.{BetweenCalls, InAnswer};
 ghost use Rattle.grpc_frame.specs.Head.{AreBytes};
 ghost use Rattle.grpc_frame.specs.Calls.{TakesFront, KeepsProfile};
+ghost use Rattle.grpc_frame.specs.Arrivals.{CountsTransport, work_left};
+ghost use Rattle.grpc_frame.specs.inside.Reads.{TakesIn};
 
-use crate::head::read_front;
+use crate::block::{BLOCK_LEN, Block};
+use crate::ends::Input;
+use crate::head::{read_front, read_head};
 use crate::place::Place;
 use crate::record::Record;
-use bytes::BytesMut;
 use scan_base::Fault;
 use std::alloc::Global;
 use std::marker::Model;
+
+// The room that a read has at least, where so much has to come.
+const ROOM_LEN: usize = 32_768;
 
 /// What has come of a connection and is not taken yet. A contract sees those bytes and the place
 /// of the record in front.
 #[derive(Drop)]
 pub struct Inbox {
-    buffer: BytesMut,
+    block: Block,
     place: Place,
 }
 
@@ -27,7 +34,7 @@ impl Model for Inbox {
 
     ghost Value = { Received };
 
-    ghost view = { λ inbox. record { bytes = inbox.buffer.items; place = inbox.place } };
+    ghost view = { λ inbox. record { bytes = inbox.block.items; place = inbox.place } };
 }
 
 impl Inbox {
@@ -36,7 +43,7 @@ impl Inbox {
         ensures { result ≡ record { bytes = []; place = BetweenCalls } }
     {
         Inbox {
-            buffer: BytesMut::new(alloc),
+            block: Block::new(alloc),
             place: Place::BetweenCalls,
         }
     }
@@ -46,7 +53,7 @@ impl Inbox {
         ensures { result ≡ record { bytes = []; place = InAnswer } }
     {
         Inbox {
-            buffer: BytesMut::new(alloc),
+            block: Block::new(alloc),
             place: Place::InAnswer,
         }
     }
@@ -55,7 +62,7 @@ impl Inbox {
     pub fn is_between_calls(&self) -> bool
         ensures { IsTrue result ↔ (self.now ≡ record { bytes = []; place = BetweenCalls }) }
     {
-        self.place == Place::BetweenCalls && self.buffer.is_empty()
+        self.place == Place::BetweenCalls && self.block.len() == 0
     }
 
     /// Takes in the next piece, cut anywhere.
@@ -69,7 +76,7 @@ impl Inbox {
         ensures memory { IfErr result (λ fault. fault ≡ OutOfMemory) }
         ensures err { OnErr result (self.new ≡ self.old) }
     {
-        self.buffer.extend_from_slice(piece)?;
+        self.block.extend(piece)?;
         Ok(())
     }
 
@@ -94,12 +101,53 @@ impl Inbox {
         ensures front { TakesFront result self.old self.new }
         ensures bytes { AreBytes self.old.bytes }
     {
-        let Some(head) = read_front(self.place, self.buffer.as_slice())? else {
+        let Some(head) = read_front(self.place, self.block.as_slice())? else {
             return Ok(None);
         };
-        let mut content = self.buffer.freeze_to(head.len + head.content_len)?;
-        content.advance(head.len);
+        let content = self.block.take(head.len, head.len + head.content_len)?;
         self.place = head.kind.place_behind(self.place);
         Ok(Some(head.kind.into_record(content)))
+    }
+
+    /// Takes in one piece of an input, and gives its length: 0 at the end.
+    ///
+    /// A record of more than `BLOCK_LEN` bytes gets a block of its own, of at most its size, in which nothing else
+    /// lies: what has come of it is read no further than its end.
+    ///
+    /// # Errors
+    ///
+    /// `Fault::Transport` where the read failed. It is counted. `Fault::OutOfMemory` where memory for the piece is
+    /// refused: nothing is read then.
+    pub(crate) fn take_in<R: Input>(&mut self, input: &mut R) -> Result<usize, Fault>
+        requires { R.failures input.old < 18446744073709551615 }
+        ensures came { (came : List ℕ)
+            × Consumes (R.remaining input.old) (R.remaining input.new) came
+            × TakesIn result self.old self.new came }
+        ensures end { result ≡ Ok 0 → IsAtEnd (R.remaining input.new) }
+        ensures counted { CountsTransport result (R.failures input.old) (R.failures input.new) }
+        ensures fewer { IfOk result (λ count. 0 < count
+            → work_left (R.turns input.new) self.new < work_left (R.turns input.old) self.old) }
+    {
+        let whole = self.front_len();
+        let missing = match whole.saturating_sub(self.block.len()) {
+            0 => BLOCK_LEN,
+            missing => missing,
+        };
+        self.block
+            .make_room(missing.min(ROOM_LEN), whole.max(BLOCK_LEN))?;
+        let most = if whole > BLOCK_LEN {
+            missing
+        } else {
+            BLOCK_LEN
+        };
+        self.block.read_from(input, most.min(BLOCK_LEN))
+    }
+
+    // How many bytes the record in front has, or 0 where its head has not come.
+    fn front_len(&self) -> usize {
+        match read_head(self.place, self.block.as_slice()) {
+            Ok(Some(head)) => head.len + head.content_len,
+            _ => 0,
+        }
     }
 }

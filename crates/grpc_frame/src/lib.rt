@@ -6,6 +6,7 @@
 #![tactic(auto)]
 
 mod arrivals;
+mod block;
 mod counted;
 mod ends;
 mod head;

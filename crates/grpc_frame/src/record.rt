@@ -17,7 +17,7 @@ pub(crate) const END: u8 = 3;
 
 pub(crate) const STATUS: u8 = 4;
 
-/// A record of a connection. What it holds shares the memory of the inbox that it was read from.
+/// A record of a connection. What it holds lies in memory of its own, of just its size.
 #[derive(Debug, PartialEq, Eq, Drop)]
 pub enum Record {
     /// Begins a call of the method at this path, of at most `MAX_PATH_LEN` bytes.

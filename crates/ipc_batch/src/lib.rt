@@ -1,6 +1,7 @@
 //! Arrow's IPC messages: a header and a body each, which say a schema and rows.
 #![tactic(auto)]
 
+mod buffers;
 pub mod columns;
 mod dictionaries;
 pub mod laws;

@@ -12,9 +12,11 @@ ghost use Rattle.ipc_batch.specs.Written.{node_bytes, place_bytes, body_of, plac
 ghost use Rattle.ipc_batch.specs.Written.{node_written, buffers_written, parts_written, body_length};
 ghost use Rattle.ipc_batch.specs.Written.{FitsBatch, most_header_bytes, SaysParts, SaysBatch};
 
+use crate::buffers::push_columns;
 use crate::parts::STRUCT_BYTES;
 use arrays::{Batch, Cells, Column};
 use arrow_schema::{HeaderKind, write_message};
+use bytes::Bytes;
 use flatbuf::{Block, Builder, Slot};
 use std::alloc::{AllocError, Global};
 use std::marker::Model;
@@ -115,6 +117,21 @@ impl<'a> MeasuredBatch<'a> {
             out.truncate(start);
         }
         written
+    }
+
+    /// The buffers of the body, in order: those that came, where they have the bytes that are written, so that no value
+    /// is copied, and else some of their own. The body is each of them with zeros behind it up to a multiple of 8.
+    ///
+    /// # Errors
+    ///
+    /// `AllocError` where memory, or another owner of a buffer, is refused.
+    pub fn buffers(&self, alloc: Global) -> Result<Vec<Bytes>, AllocError>
+        ensures { IfOk result (λ buffers. buffers.items ≡ buffers_written self.now.columns) }
+    {
+        let lengths = self.lengths.as_slice();
+        let mut buffers = Vec::with_capacity(alloc, lengths.len())?;
+        push_columns(alloc, &mut buffers, self.batch.columns(), lengths)?;
+        Ok(buffers)
     }
 
     // The RecordBatch table.

@@ -1,38 +1,32 @@
--- Layouts whose slots are never texts.
-use Rattle.std.proofs.Common.{◌≡◌, ℕ, ◌+◌, Bool as Truth, true, false, List, [], ◌∷◌, Option, get_or, if◌then◌else◌, map, refl}
-use Rattle.std.specs.List.{list_any, range_with_len}
+-- What is known of a column's slots without looking at each.
+use Rattle.std.proofs.Common.{◌≡◌, ◌≤◌, ℕ, suc, Bool as Truth, true, false, List, [], ◌∷◌, length, nat_lt, ◌||◌, if◌then◌else◌, All, refl, sym, arith}
+use Rattle.std.specs.List.{list_any, filter}
+use Rattle.std.proofs.lemmas.Bool.{le-ltb, lt-ltb}
 use Rattle.scan_base.specs.declared.value.Value.{Value}
-use Rattle.scan_base.specs.declared.value.Value.TheVariants.{Null, Int, Bool}
-use Rattle.arrays.specs.declared.layout.Layout.{Layout}
-use Rattle.arrays.specs.declared.layout.Layout.TheVariants as layout
-use Rattle.arrays.specs.Number.{integer_at, decimal_at}
-use Rattle.arrays.specs.Validity.{is_valid, where_valid}
-use Rattle.arrays.specs.Layout.{layout_slot}
-use Rattle.arrays.specs.Column.{ColumnAt, slot_of}
+use Rattle.scan_base.specs.declared.value.Value.TheVariants.{Null, Int, Bool, Text}
+use Rattle.scan_base.specs.Limits.{most_text_bytes}
+use Rattle.arrays.specs.Written.{text_bytes}
 use Rattle.table_versions.specs.Table.{is_long_text}
-use Rattle.table_versions.specs.Columns.{may_have_texts, is_long_column}
 
--- a test that holds nowhere holds of none
-none_of : (test : Value → Truth) (f : ℕ → Value) → ((j : ℕ) → test (f j) ≡ false) → (js : List ℕ) → list_any test (map f js) ≡ false
-none_of test f h [] = refl
-none_of test f h (j ∷ js) = rw (h j) (none_of test f h js)
+-- a value whose text is short enough
+short : (value : Value) → length (text_bytes value) ≤ most_text_bytes → is_long_text value ≡ false
+short (Text bytes) low = le-ltb most_text_bytes (length bytes) low
+short Null low = refl
+short (Int number) low = refl
+short (Bool flag) low = refl
 
--- a slot of values that are no texts
-short : (validity : Option (List Truth)) (value : ℕ → Value) (place : ℕ) → is_long_text (value place) ≡ false →
-    is_long_text (where_valid validity value place) ≡ false
-short validity value place h = told (is_valid validity place)
+-- where no text is longer than the limit, none is too long
+pub none_long : (values : List Value) (most : ℕ) → most ≤ most_text_bytes → All (λ value. length (text_bytes value) ≤ most) values → list_any is_long_text values ≡ false
+none_long [] most low each = refl
+none_long (value ∷ values) most low each =
+    rw (short value (omega (arith, low, each 0 value (omega arith)))) (none_long values most low (λ k d within. each (suc k) d (omega arith)))
+
+-- a list has one of a kind where it has more than none of them
+pub any_counted : (test : Value → Truth) (values : List Value) → list_any test values ≡ nat_lt 0 (length (filter test values))
+any_counted test [] = refl
+any_counted test (value ∷ values) = by (test value) (any_counted test values)
   where
-    told : (valid : Truth) → is_long_text (if valid then value place else Null) ≡ false
-    told true = h
-    told false = refl
-
-short_slot : (slots : Layout) (place : ℕ) → may_have_texts slots ≡ false → is_long_text (layout_slot slots place) ≡ false
-short_slot (layout.Integers cells) place h = short cells.validity (λ at. Int (integer_at cells.integer cells.values at)) place refl
-short_slot (layout.Decimals cells) place h = short cells.validity (λ at. Int (decimal_at cells.values at)) place refl
-short_slot (layout.Bools cells) place h = short cells.validity (λ at. Bool (get_or cells.values at false)) place refl
-short_slot (layout.Texts cells) place h = let no : true ≡ false = h in cc
-short_slot (layout.Indices cells) place h = let no : true ≡ false = h in cc
-
--- a column of no texts
-pub short_column : (column : ColumnAt) → may_have_texts column.layout ≡ false → is_long_column column ≡ false
-short_column column h = none_of is_long_text (slot_of column) (λ j. short_slot column.layout (column.first + j) h) (range_with_len 0 column.len)
+    by : (found : Truth) → list_any test values ≡ nat_lt 0 (length (filter test values)) →
+        (found || list_any test values) ≡ nat_lt 0 (length (if found then value ∷ filter test values else filter test values))
+    by true counted = sym (lt-ltb _ _ (omega arith))
+    by false counted = counted

@@ -1,9 +1,7 @@
 -- Inside: the tests of rows, column by column.
-use Rattle.std.specs.Prelude.{Bool, true, false, not, ◌&&◌, List, All}
+use Rattle.std.specs.Prelude.{Bool, not, ◌&&◌, List, All}
 use Rattle.std.specs.List.{list_any, zip}
 use Rattle.arrow_schema.specs.declared.schema.Field.{Field}
-use Rattle.arrays.specs.declared.layout.Layout.{Layout}
-use Rattle.arrays.specs.declared.layout.Layout.TheVariants as layout
 use Rattle.arrays.specs.Batch.{BatchAt, AreLong}
 use Rattle.arrays.specs.Column.{ColumnAt, IsColumn, values_of}
 use Rattle.scan_base.specs.Value.{is_null}
@@ -25,9 +23,3 @@ is_long_column column = list_any is_long_text (values_of column)
 pub record Stands (batch : BatchAt) : Type 0 where
   pub long : AreLong batch.rows batch.columns
   pub columns : All IsColumn batch.columns
-
--- whether slots of a layout may be texts
-abbrev pub may_have_texts : Layout → Bool
-may_have_texts (layout.Texts cells) = true
-may_have_texts (layout.Indices cells) = true
-may_have_texts _ = false

@@ -6,21 +6,12 @@ ghost use Rattle.scan_base.specs.Value.{value_of, is_null};
 ghost use Rattle.arrays.specs.Batch.{rows_of};
 ghost use Rattle.arrays.specs.Column.{IsColumn, values_of};
 ghost use Rattle.table_versions.specs.Table.{is_long_text, has_bad_null};
-ghost use Rattle.table_versions.specs.Columns.{has_bad_column, is_long_column, may_have_texts, Stands};
+ghost use Rattle.table_versions.specs.Columns.{has_bad_column, is_long_column, Stands};
 
 use crate::limits::MAX_TEXT_BYTES;
-use arrays::{Batch, Cells, Column, Layout};
+use arrays::{Batch, Cells, Column};
 use arrow_schema::Field;
 use scan_base::ValueRef;
-
-fn is_null(value: ValueRef<'_>) -> bool
-    ensures { result ≡ is_null (value_of value.entry) }
-{
-    match value {
-        ValueRef::Null => true,
-        _ => false,
-    }
-}
 
 // Whether a value is a text of more than 65,536 bytes.
 fn is_long_text(value: ValueRef<'_>) -> bool
@@ -32,39 +23,21 @@ fn is_long_text(value: ValueRef<'_>) -> bool
     }
 }
 
-// Whether a slot may be a text.
-fn may_have_texts(layout: &Layout) -> bool
-    ensures { result ≡ may_have_texts layout.now }
-{
-    matches!(layout, Layout::Texts(_) | Layout::Indices(_))
-}
-
-// Whether a slot is null. A column that cannot have nulls is not walked.
+// Whether a slot is null.
 fn has_null(column: &Column) -> bool
     ensures { result ≡ list_any is_null (values_of column.now) }
 {
-    column.may_have_nulls() && has_null_slot(column)
+    column.null_count() > 0
 }
 
-fn has_null_slot(column: &Column) -> bool
-    ensures { result ≡ list_any is_null (values_of column.now) }
-{
-    for j in 0..column.len() {
-        if is_null(column.value_at(j)) {
-            return true;
-        }
-    }
-    false
-}
-
-// Whether a slot is a text that is too long. A column without texts is not walked, and of a dictionary's
-// texts only those count that stand in slots.
+// Whether a slot is a text that is too long. Slots are walked only where a text of the buffers is: a null may have it,
+// and of a dictionary's texts only those count that stand in slots.
 fn is_long_column(column: &Column) -> bool
     ensures long { result ≡ is_long_column column.now }
     ensures stands { IsColumn column.now }
 {
     let _len = column.len();
-    may_have_texts(column.layout()) && has_long_slot(column)
+    column.longest_text() > MAX_TEXT_BYTES && has_long_slot(column)
 }
 
 fn has_long_slot(column: &Column) -> bool

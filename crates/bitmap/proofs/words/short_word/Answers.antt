@@ -1,24 +1,14 @@
-use Rattle.std.proofs.Common.{◌≡◌, ◌+◌, ◌-◌, arith}
-use Rattle.bitmap.proofs.Masks.{no_bits, short_step, short_room, byte_cond, byte_small}
+use Rattle.std.proofs.Common.{◌≡◌, ◌≤◌, ◌*◌, ◌-◌, ◌^◌, ◌%◌, ℕ, ◌∙◌, ap, arith}
+use Rattle.std.specs.Int.Bits.{bit_and}
+use Rattle.std.proofs.lemmas.Nat.{and_mask}
+use Rattle.std.proofs.Math.Nat.{pow-le-pow_right}
+use Rattle.bitmap.proofs.Places.{short}
 use Rattle.bitmap.proofs.words.short_word.Goals as goal
 
-pub loop-taken-init : goal.loop-taken-init
-loop-taken-init c = no_bits c.args.bytes.now (c.args.first + (c.args.len - 0))
-
-pub overflow_mul-word : goal.overflow_mul-word
-overflow_mul-word c =
-    let room = short_room c.args.bytes.now (c.args.first + (c.args.len - c.loop-taken.taken)) c.loop-taken.taken 62 (omega arith) in
-    record { fits = omega (arith, c.loop-taken.invariant, room) }
-
-pub overflow_add-word : goal.overflow_add-word
-overflow_add-word c =
-    let room = short_room c.args.bytes.now (c.args.first + (c.args.len - c.loop-taken.taken)) c.loop-taken.taken 62 (omega arith) in
-    record { fits = omega (arith, c.loop-taken.invariant, room, byte_small c.bit.result) }
-
-pub loop-taken-preserved : goal.loop-taken-preserved
-loop-taken-preserved c =
-    let place = c.args.first + (c.args.len - 1 - c.loop-taken.taken) in
-    let above : c.args.first + (c.args.len - c.loop-taken.taken) ≡ place + 1 = omega arith in
-    let here : c.args.first + (c.args.len - (c.loop-taken.taken + 1)) ≡ place = omega arith in
-    let had = rw above at c.loop-taken.invariant in
-    rw (here, had, byte_cond c.bit.result, c.bit.ensures) (short_step c.args.bytes.now place c.loop-taken.taken)
+pub returns : goal.returns
+returns c =
+    let few : c.args.len ≤ 63 = omega arith in
+    let below : 2 ^ c.args.len ≤ 2 ^ 63 = pow-le-pow_right (omega arith) few in
+    let one : 1 * 2 ^ c.args.len % 2 ^ 64 ≡ 2 ^ c.args.len = omega (arith, below) in
+    ap (λ (n : ℕ). bit_and c.padded_word.result (n - 1)) one ∙ and_mask c.padded_word.result c.args.len
+    ∙ short c.padded_word.result c.args.first c.args.len c.args.bytes.now (omega arith) c.padded_word.ensures

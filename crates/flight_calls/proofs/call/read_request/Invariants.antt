@@ -1,6 +1,6 @@
 use Rattle.std.proofs.Common.{◌≡◌, ◌≤◌, List}
 use Rattle.grpc_frame.specs.Arrivals.{work_left}
-use Rattle.flight_core.specs.Payloads.{Payload}
+use Rattle.flight_info.specs.Payloads.{Payload}
 use Rattle.flight_calls.specs.Requests.{Holds}
 use Rattle.flight_calls.proofs.Taking.{Collected}
 use Rattle.flight_calls.proofs.call.read_request.Given as goal

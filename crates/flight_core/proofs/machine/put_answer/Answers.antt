@@ -1,8 +1,8 @@
 use Rattle.std.proofs.Common.{◌≡◌, [], ◌∷◌, pos, min, rules}
 use Rattle.flight_proto.specs.PutResult.{rows_put_bytes}
 use Rattle.scan_base.specs.Limits.{most_rows}
-use Rattle.flight_core.proofs.Sizes.{answer_fits}
-use Rattle.flight_core.proofs.Streaming.{none_fit, one_fits}
+use Rattle.flight_core.proofs.Replies.{answer_fits}
+use Rattle.flight_info.proofs.Fitting.{none_fit, one_fits}
 use Rattle.flight_core.proofs.machine.put_answer.Goals as goal
 
 pub returns-clause-fits : goal.returns-clause-fits

@@ -3,7 +3,7 @@ use Rattle.std.proofs.lemmas.List.Elements.{All-push}
 use Rattle.table_versions.specs.Stored.{put_of}
 use Rattle.table_versions.specs.Valid.{IsPut}
 use Rattle.table_versions.specs.Database.{after, database_of}
-use Rattle.flight_core.proofs.Results.{first_is, none_refused}
+use Rattle.flight_info.proofs.Results.{first_is, none_refused}
 use Rattle.flight_core.proofs.Replies.{accepted_reply, refused_reply, due}
 use Rattle.flight_core.proofs.machine.step_put.Goals as goal
 

@@ -1,5 +1,8 @@
-use Rattle.std.proofs.Common.{◌∙◌, sym}
+use Rattle.std.proofs.Common.{◌∙◌, sym, ap, nat_lt}
+use Rattle.arrays.specs.Column.{values_of}
+use Rattle.scan_base.specs.Value.{is_null}
+use Rattle.table_versions.proofs.Slots.{any_counted}
 use Rattle.table_versions.proofs.cells.has_null.Goals as goal
 
-pub returns-else-may_have_nulls : goal.returns-else-may_have_nulls
-returns-else-may_have_nulls c = c.if-may_have_nulls.false ∙ sym (c.may_have_nulls.ensures.values c.if-may_have_nulls.false)
+pub returns : goal.returns
+returns c = ap (nat_lt 0) c.null_count.ensures ∙ sym (any_counted is_null (values_of c.args.column.now))

@@ -12,7 +12,8 @@ invariant_of-result c =
     let empty : values ≡ [] = nil_from_length values (omega (arith, c.self.invariant.counted, c.if-self-eq0.true)) in
     let small : c.self.inside.len + c.args.part.len ≤ most_values = omega (arith, c.if-self-more.false, c.len-more.ensures.count, c.self.invariant.small) in
     rw (c.new.ensures, append-nil (texts_values c.args.part), c.len-more.ensures.count)
-    (dictionary_more [] c.args.part c.self.inside.len (rw empty at c.self.invariant) c.len-more.ensures.stands small)
+    (dictionary_more [] c.args.part c.self.inside.len c.self.inside.longest c.longest_between.result c.max-longest.result (rw empty at c.self.invariant) c.len-more.ensures.stands small
+    (λ place low. c.longest_between.ensures place (omega arith) (omega (arith, c.len-more.ensures.count))) (omega arith) (omega arith))
 
 pub invariant_of-result-2 : goal.invariant_of-result-2
 invariant_of-result-2 c =
@@ -20,7 +21,8 @@ invariant_of-result-2 c =
     let later = c.self.inside.later in
     let small : c.self.inside.len + c.args.part.len ≤ most_values = omega (arith, c.if-self-more.false, c.len-more.ensures.count, c.self.invariant.small) in
     rw (c.in_ok-first.ensures, c.in_ok-later.ensures, ← append_assoc first later (texts_values c.args.part), c.len-more.ensures.count)
-    (dictionary_more (first ++ later) c.args.part c.self.inside.len c.self.invariant c.len-more.ensures.stands small)
+    (dictionary_more (first ++ later) c.args.part c.self.inside.len c.self.inside.longest c.longest_between.result c.max-longest.result c.self.invariant c.len-more.ensures.stands small
+    (λ place low. c.longest_between.ensures place (omega arith) (omega (arith, c.len-more.ensures.count))) (omega arith) (omega arith))
 
 pub returns-clause-value : goal.returns-clause-value
 returns-clause-value c =

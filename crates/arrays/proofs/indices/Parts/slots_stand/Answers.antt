@@ -1,7 +1,20 @@
-use Rattle.std.proofs.Common.{◌≡◌, ◌∙◌, sym, ap, true, arith}
+use Rattle.std.proofs.Common.{◌≡◌, ◌∙◌, length, sym, ap, subst, true, arith}
 use Rattle.arrays.specs.Indices.{IndicesAt, index_stands}
-use Rattle.arrays.proofs.Slots.{slots_more}
+use Rattle.arrays.specs.Number.{integer_at}
+use Rattle.arrays.specs.inside.Placed.{IsPlaced}
+use Rattle.arrays.proofs.Slots.{slots_more, all_pass}
+use Rattle.arrays.proofs.Placed.{placed_stands}
 use Rattle.arrays.proofs.indices.Parts.slots_stand.Goals as goal
+
+pub returns-then-are_placed : goal.returns-then-are_placed
+returns-then-are_placed c =
+    let cells = c.args.self.now in
+    let count = ap (λ (cells : IndicesAt). cells.len) c.self.view_is in
+    let entries = c.len-count.ensures.count ∙ ap (λ (cells : IndicesAt). length cells.dictionary) c.self.view_is in
+    sym (all_pass (index_stands cells) 0 cells.len
+    (λ place first low. placed_stands cells c.len-count.result place (omega (arith, entries))
+    (subst (λ (cells : IndicesAt). IsPlaced c.len-count.result (integer_at cells.index cells.values place)) c.self.view_is
+    (c.are_placed.ensures c.if-are_placed.true place (omega (arith, count))))))
 
 pub loop-place-preserved : goal.loop-place-preserved
 loop-place-preserved c =

@@ -4,7 +4,7 @@ use Rattle.std.proofs.lemmas.Result.{err_from_is_err_and}
 use Rattle.table_versions.specs.Database.{Put, after, database_of}
 use Rattle.table_versions.specs.Stored.{VersionAt, put_of, tables_of}
 use Rattle.flight_core.specs.Versions.{numbered}
-use Rattle.flight_core.proofs.Results.{first_for}
+use Rattle.flight_info.proofs.Results.{first_for}
 use Rattle.flight_core.proofs.Versions.{kept_more}
 use Rattle.flight_core.proofs.plain.Plain.put.Goals as goal
 

@@ -1,0 +1,97 @@
+//! Texts looked at by the buffer: all offsets, and all data as one text.
+
+ghost use Rattle.std.specs.Prelude.{◌≡◌, ◌≤◌, ◌<◌, ◌+◌, ◌*◌, ℕ, true, length};
+ghost use Rattle.std.specs.List.{slice_range};
+ghost use Rattle.std.specs.Fmt.{is_char_start};
+ghost use Rattle.std.specs.Str.{is_utf8};
+ghost use Rattle.arrays.specs.Number.{element_at};
+ghost use Rattle.arrays.specs.inside.TextCuts.{OffsetsRise, LieWithin, CutBetweenCharacters, IsTextCut};
+
+use crate::numbers::uint32_at;
+use scan_base::{Fault, read_text};
+
+/// Whether the data of `len` slots is one text, which rising offsets cut between characters. Where the answer is no,
+/// each slot may stand still: the bytes of a null may be anything.
+pub(crate) fn are_cut_from_text(offsets: &[u8], bytes: &[u8], len: usize) -> bool
+    requires { 4 * (len + 1) ≤ length offsets.now }
+    ensures { result ≡ true → (place : ℕ) → place < len → IsTextCut offsets.now bytes.now place }
+{
+    let last = uint32_at(offsets, len) as usize;
+    if last > bytes.len() || last >= 1 << 31 || !offsets_rise(offsets, len) {
+        return false;
+    }
+    let whole = between(offsets, bytes, 0, len);
+    is_utf8(whole) && cut_between_characters(offsets, len, whole)
+}
+
+// Whether no offset is below the one before it. It reads each.
+fn offsets_rise(offsets: &[u8], len: usize) -> bool
+    requires { 4 * (len + 1) ≤ length offsets.now }
+    ensures { result ≡ true → OffsetsRise offsets.now len }
+{
+    let mut rise = true;
+    for place in 0..len {
+        rise = rise & (uint32_at(offsets, place) <= uint32_at(offsets, place + 1));
+    }
+    rise
+}
+
+/// The most bytes between an offset and the one behind it, of the slots `from` up to, not with, `to`.
+pub(crate) fn longest_cut(offsets: &[u8], from: usize, to: usize) -> u32
+    requires room { 4 * (to + 1) ≤ length offsets.now }
+    requires rise { (place : ℕ) → from ≤ place → place < to → element_at 4 offsets.now place ≤ element_at 4 offsets.now (place + 1) }
+    ensures { (place : ℕ) → from ≤ place → place < to → element_at 4 offsets.now (place + 1) ≤ element_at 4 offsets.now place + result }
+{
+    let mut longest = 0;
+    for place in from..to {
+        let bytes = uint32_at(offsets, place + 1) - uint32_at(offsets, place);
+        longest = bytes.max(longest);
+    }
+    longest
+}
+
+// Whether each offset, counted from the first on, is the place of a character's first byte in `whole`, or its
+// end. It reads each.
+fn cut_between_characters(offsets: &[u8], len: usize, whole: &[u8]) -> bool
+    requires offsets { 4 * (len + 1) ≤ length offsets.now }
+    requires within { LieWithin offsets.now len (element_at 4 offsets.now 0) (element_at 4 offsets.now 0 + length whole.now) }
+    ensures { result ≡ true → CutBetweenCharacters offsets.now len (element_at 4 offsets.now 0) whole.now }
+{
+    let first = uint32_at(offsets, 0) as usize;
+    let mut between = true;
+    for place in 0..len + 1 {
+        let at = uint32_at(offsets, place) as usize - first;
+        if at < whole.len() {
+            between = between & starts_character(whole[at]);
+        }
+    }
+    between
+}
+
+// Whether a byte is the first of a character in UTF-8.
+fn starts_character(byte: u8) -> bool
+    ensures { result ≡ is_char_start byte }
+{
+    byte < 0x80 || byte >= 0xC0
+}
+
+/// The bytes from one offset to another.
+pub(crate) fn between<'a>(offsets: &[u8], bytes: &'a [u8], from: usize, to: usize) -> &'a [u8]
+    requires begin { 4 * (from + 1) ≤ length offsets.now }
+    requires end { 4 * (to + 1) ≤ length offsets.now }
+    requires ordered { element_at 4 offsets.now from ≤ element_at 4 offsets.now to }
+    requires within { element_at 4 offsets.now to ≤ length bytes.now }
+    ensures { result.now ≡ slice_range bytes.now (element_at 4 offsets.now from) (element_at 4 offsets.now to) }
+{
+    &bytes[uint32_at(offsets, from) as usize..uint32_at(offsets, to) as usize]
+}
+
+/// Whether the bytes are UTF-8.
+pub(crate) fn is_utf8(bytes: &[u8]) -> bool
+    ensures { result ≡ is_utf8 bytes.now }
+{
+    match read_text(bytes, Fault::BadBatch) {
+        Ok(_) => true,
+        Err(_) => false,
+    }
+}

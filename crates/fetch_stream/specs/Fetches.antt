@@ -1,0 +1,63 @@
+-- What a fetch shows, and what its handle answers.
+use Rattle.std.specs.Prelude.{◌≡◌, ◌≤◌, ◌<◌, ◌⊎◌, ℕ, Bool, true, nat_le, List, [], length, take, Option, Some, None, Result, Ok}
+use Rattle.scan_base.specs.declared.fault.Fault.{Fault}
+use Rattle.scan_base.specs.declared.fault.Fault.TheVariants.{BadTicket, VersionUnknown, ResultTooLarge, OutOfMemory}
+use Rattle.scan_base.specs.Reading.{◌>>=◌, demand}
+use Rattle.scan_base.specs.Limits.{most_query_bytes, most_answer_rows}
+use Rattle.endpoint_split.specs.Handle.{HandleAt, Query, Tables}
+use Rattle.table_versions.specs.Table.{Table}
+use Rattle.table_versions.specs.Database.{Database}
+use Rattle.flight_info.specs.Infos.{handle_asked}
+use Rattle.flight_info.specs.Meant.{Meant}
+use Rattle.flight_info.specs.Payloads.{Payload, PayloadsSay}
+use Rattle.flight_info.specs.Tables.{tables_listed}
+
+-- the version of the catalog to which a handle is pinned
+abbrev pub version_of : HandleAt → ℕ
+version_of (Query number from to query) = number
+version_of (Tables number) = number
+
+-- whether a query's text is short enough to be read
+abbrev pub is_short : HandleAt → Bool
+is_short (Query number from to text) = nat_le (length text) most_query_bytes
+is_short (Tables number) = true
+
+-- What a fetch shows before any memory is taken, where so many puts were accepted: its handle, whose version was reached,
+-- and whose text is short enough. The first fault in this order.
+abbrev pub handle_shown : ℕ → Payload → Result HandleAt Fault
+handle_shown accepted ticket = do
+  handle ← handle_asked ticket
+  _ ← demand (nat_le (version_of handle) accepted) VersionUnknown
+  _ ← demand (is_short handle) BadTicket
+  Ok handle
+
+-- what a handle means
+abbrev pub HandleMeans : Database → HandleAt → Table → Type 0
+HandleMeans database (Query number from to text) answer = Meant database from to text answer
+HandleMeans database (Tables number) answer = answer ≡ tables_listed database
+
+-- a handle means nothing
+abbrev pub MeansNothing : Database → HandleAt → Type 0
+MeansNothing database handle = (answer : Table) → HandleMeans database handle answer → ⊥
+
+-- payloads say a beginning of an answer, of no more rows than one may have
+abbrev pub SayBeginning : List Payload → Table → Type 0
+SayBeginning payloads answer =
+    (n : ℕ) × (n ≤ most_answer_rows) × PayloadsSay payloads answer.schema (take n answer.rows)
+
+-- The answer to a handle at its version: what it means, its rows cut into batches freely. Of an answer of too many rows
+-- it is a beginning, and where memory is refused there may be one. A handle that means nothing is a bad ticket.
+abbrev pub FetchAt : Database → HandleAt → List Payload → Option Fault → Type 0
+FetchAt database handle payloads None = (answer : Table) × HandleMeans database handle answer
+    × (length answer.rows ≤ most_answer_rows) × PayloadsSay payloads answer.schema answer.rows
+FetchAt database handle payloads (Some ResultTooLarge) = (answer : Table) × HandleMeans database handle answer
+    × (most_answer_rows < length answer.rows) × SayBeginning payloads answer
+FetchAt database handle payloads (Some OutOfMemory) = (payloads ≡ [])
+    ⊎ ((answer : Table) × HandleMeans database handle answer × SayBeginning payloads answer)
+FetchAt database handle payloads (Some BadTicket) = (payloads ≡ []) × MeansNothing database handle
+FetchAt database handle payloads (Some _) = ⊥
+
+-- a handle means at most one answer
+abbrev pub HandlesMeanOne : Type 0
+HandlesMeanOne = (database : Database) (handle : HandleAt) (one other : Table) →
+    HandleMeans database handle one → HandleMeans database handle other → one ≡ other

@@ -1,0 +1,2 @@
+pub mod Fetches
+pub mod inside

@@ -1,7 +1,0 @@
-use Rattle.flight_core.proofs.Describing.{form_small}
-use Rattle.flight_core.proofs.Results.{ok_so}
-use Rattle.flight_core.proofs.info.schema_form.Goals as goal
-
-pub returns-clause-small : goal.returns-clause-small
-returns-clause-small c =
-    ok_so c.encapsulate.result _ _ (λ form framed. form_small c.deref.result.now form.items (rw c.deref.ensures.value c.in_ok-header.ensures.short) framed) c.encapsulate.ensures.items

@@ -1,0 +1,23 @@
+use Rattle.std.proofs.Common.{inl, inr}
+use Rattle.std.proofs.lemmas.Result.{err_from_is_err_and}
+use Rattle.sql_query.specs.Sentence.{sentence_of}
+use Rattle.table_versions.specs.Stored.{tables_of}
+use Rattle.typed_plan.specs.View.{plan_of}
+use Rattle.flight_info.proofs.Meaning.{planned, names_are}
+use Rattle.flight_info.proofs.planned.plan_text.Goals as goal
+
+pub returns-in_err-query-clause-missed : goal.returns-in_err-query-clause-missed
+returns-in_err-query-clause-missed c =
+    let p = err_from_is_err_and c.from_residual.result c.from_residual.ensures.1 in
+    rw (p.1, p.2) (λ other. inl c.in_err-query.ensures.parsed)
+
+pub returns-in_err-plan-clause-missed : goal.returns-in_err-plan-clause-missed
+returns-in_err-plan-clause-missed c =
+    let p = err_from_is_err_and c.from_residual-in_err-plan.result c.from_residual-in_err-plan.ensures.1 in
+    rw (p.1, p.2) (λ other. inr (sentence_of c.in_ok-query.query, c.in_ok-query.ensures.parsed, c.in_err-plan.ensures.bound other))
+
+pub returns-clause-planned : goal.returns-clause-planned
+returns-clause-planned c =
+    planned (tables_of c.args.catalog.now) c.args.text.now c.in_ok-query.query (plan_of c.in_ok-plan.plan) c.first_rows-rows.result c.in_ok-query.ensures.parsed
+    c.in_ok-plan.ensures.bound.0 c.in_ok-plan.ensures.bound.1 c.first_rows-rows.ensures.rows c.first_rows-rows.ensures.few
+    (c.in_ok-plan.ensures.named (names_are c.in_ok-query.query.select c.in_ok-query.ensures.named.select))

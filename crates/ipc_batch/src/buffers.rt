@@ -1,0 +1,43 @@
+//! The buffers of a body, without a copy where they came as they are written.
+
+ghost use Rattle.std.specs.Prelude.{◌≡◌, ◌<◌, ◌^◌, ◌++◌, length, OnOk};
+ghost use Rattle.arrays.specs.Written.{buffers_written as column_written};
+ghost use Rattle.ipc_batch.specs.Written.{body_of, buffers_written};
+
+use arrays::Column;
+use bytes::Bytes;
+use std::alloc::{AllocError, Global};
+
+// Puts the buffers of a column behind the others. `rooms` says how many bytes those have that are built, each at the
+// number of its buffer.
+fn push_column(
+    alloc: Global,
+    buffers: &mut Vec<Bytes>,
+    column: &Column,
+    rooms: &[usize],
+) -> Result<(), AllocError>
+    requires { length (body_of (column_written column.now)) < 2 ^ 31 }
+    ensures { OnOk result (buffers.new.items ≡ buffers.old.items ++ column_written column.now) }
+{
+    for index in 0..column.buffer_count() {
+        let room = rooms.get(buffers.len()).copied().unwrap_or(0);
+        buffers.push(column.buffer(alloc, index, room)?)?;
+    }
+    Ok(())
+}
+
+/// Puts the buffers of columns behind the others.
+pub(crate) fn push_columns(
+    alloc: Global,
+    buffers: &mut Vec<Bytes>,
+    columns: &[Column],
+    rooms: &[usize],
+) -> Result<(), AllocError>
+    requires { length (body_of (buffers_written columns.now)) < 2 ^ 31 }
+    ensures { OnOk result (buffers.new.items ≡ buffers.old.items ++ buffers_written columns.now) }
+{
+    for column in columns {
+        push_column(alloc, buffers, column, rooms)?;
+    }
+    Ok(())
+}
