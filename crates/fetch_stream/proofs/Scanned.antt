@@ -1,6 +1,6 @@
 -- What a scan gives, as payloads.
 use Rattle.std.proofs.Common.{◌≡◌, ◌≤◌, ◌<◌, ℕ, true, false, List, [], ◌∷◌, ◌++◌, length, map, Option, Some, None, Ok, Err, refl, sym, ap, subst, ◌∙◌, append_assoc, append-nil, length-append, arith}
-use Rattle.std.specs.List.{list_any}
+use Rattle.std.specs.List.{list_any, flat_map}
 use Rattle.std.proofs.lemmas.List.{length-map}
 use Rattle.std.proofs.lemmas.List.Folds.{list_any-append}
 use Rattle.scan_base.specs.declared.fault.Fault.{Fault}
@@ -15,7 +15,7 @@ use Rattle.arrays.specs.Batch.{BatchAt, BatchSlicesKeepRows, rows_of, cut_batch}
 use Rattle.arrays.specs.Column.{ColumnAt}
 use Rattle.arrays.specs.Typed.{AreOfTypes}
 use Rattle.ipc_batch.specs.Said.{Rows}
-use Rattle.scan_exec.specs.Scan.{ScanAt, AreOf, GivesRows, Gives}
+use Rattle.scan_exec.specs.Scan.{ScanAt, AreOf, GivesRows, Gives, left}
 use Rattle.table_versions.specs.Table.{is_long_text}
 use Rattle.table_versions.proofs.Rowing.{length-rows_of}
 use Rattle.table_versions.proofs.Storable.{first_false, second_false}
@@ -26,16 +26,10 @@ use Rattle.fetch_stream.proofs.Parts.{slice_whole}
 -- ---- what a call of a scan gave, which was not refused before
 
 pub gave : (before after : ScanAt) (given : Option BatchAt) (batch : BatchAt) → before.refused ≡ None → given ≡ Some batch → Gives before (Ok given) after → GivesRows before batch after
-gave before after given batch begins e gives = going before.left before.types before.batches before.opened before.refused begins (rw e at gives)
-  where
-    going : (left : Rows) (types : List DataType) (batches opened : List ℕ) (refused : Option Fault) → refused ≡ None
-        → Gives (record { left = left; types = types; batches = batches; opened = opened; refused = refused }) (Ok (Some batch)) after
-        → GivesRows (record { left = left; types = types; batches = batches; opened = opened; refused = refused }) batch after
-    going left types batches opened None begins gives = gives
-    going left types batches opened (Some fault) begins gives = absurd cc
+gave before after given batch begins e gives = let given = rw (begins, e) at gives in given
 
-pub ended : (before after : ScanAt) (given : Option BatchAt) → before.refused ≡ None → given ≡ None → Gives before (Ok given) after → before.left ≡ []
-ended before after given begins e gives = let end = rw (begins, e) at gives in end.0
+pub ended : (before after : ScanAt) (given : Option BatchAt) → before.refused ≡ None → given ≡ None → Gives before (Ok given) after → left before ≡ []
+ended before after given begins e gives = let end = rw (begins, e) at gives in ap (flat_map (λ (rows : Rows). rows)) end.0
 
 pub failed : (before after : ScanAt) (fault : Fault) → before.refused ≡ None → Gives before (Err fault) after → fault ≡ OutOfMemory
 failed before after fault begins gives = let end = rw begins at gives in end.0
@@ -72,27 +66,27 @@ pub say_none : (schema : Schema) (payloads : List Payload) (all : Rows) → Payl
 say_none schema payloads all said = record { done = []; said = said; rest = refl }
 
 pub say_on : BatchSlicesKeepRows → (schema : Schema) (all : Rows) (before after : ScanAt) (batch : BatchAt) (rows : ℕ) (old new : List Payload) → rows ≡ batch.rows → HasAnswerTypes schema before.types
-    → GivesRows before batch after → SayTo schema old all before.left → GoOn batch.columns old new (rows_of (cut_batch batch 0 rows)) → SayTo schema new all after.left
+    → GivesRows before batch after → SayTo schema old all (left before) → GoOn batch.columns old new (rows_of (cut_batch batch 0 rows)) → SayTo schema new all (left after)
 say_on keep schema all before after batch rows old new e typed gives say on = record {
   done = say.done ++ rows_of batch;
   said = subst (λ (more : Rows). PayloadsSay new schema (say.done ++ more)) (slice_whole keep batch rows e)
       (on (map field_of before.types) schema say.done (typed_fields before.types batch.columns gives.typed) (typed ∙ answer_types before.types) say.said);
-  rest = append_assoc say.done (rows_of batch) after.left ∙ ap (λ (left : Rows). say.done ++ left) gives.rows ∙ say.rest;
+  rest = append_assoc say.done (rows_of batch) (left after) ∙ ap (λ (more : Rows). say.done ++ more) gives.rows ∙ say.rest;
 }
 
-pub fewer_left : (before after : ScanAt) (batch : BatchAt) → GivesRows before batch after → length after.left < length before.left
+pub fewer_left : (before after : ScanAt) (batch : BatchAt) → GivesRows before batch after → length (left after) < length (left before)
 fewer_left before after batch gives =
-    let long : length (rows_of batch ++ after.left) ≡ length before.left = ap length gives.rows in
-    omega (arith, gives.some, long, length-append (rows_of batch) after.left, length-rows_of batch)
+    let long : length (rows_of batch ++ left after) ≡ length (left before) = ap length gives.rows in
+    omega (arith, gives.some, long, length-append (rows_of batch) (left after), length-rows_of batch)
 
 pub say_all : (schema : Schema) (payloads : List Payload) (all left : Rows) → left ≡ [] → SayTo schema payloads all left → PayloadsSay payloads schema all
 say_all schema payloads all left none say =
     subst (λ (rows : Rows). PayloadsSay payloads schema rows) (sym (append-nil say.done) ∙ ap (λ (rows : Rows). say.done ++ rows) (sym none) ∙ say.rest) say.said
 
 -- where no text of the rows that are left is too long, none of a batch of them is, and none behind it
-pub batch_short : (before after : ScanAt) (batch : BatchAt) → GivesRows before batch after → list_any (list_any is_long_text) before.left ≡ false
-    → (list_any (list_any is_long_text) (rows_of batch) ≡ false) × (list_any (list_any is_long_text) after.left ≡ false)
+pub batch_short : (before after : ScanAt) (batch : BatchAt) → GivesRows before batch after → list_any (list_any is_long_text) (left before) ≡ false
+    → (list_any (list_any is_long_text) (rows_of batch) ≡ false) × (list_any (list_any is_long_text) (left after) ≡ false)
 batch_short before after batch gives short =
     let long = list_any is_long_text in
-    let both = sym (list_any-append long (rows_of batch) after.left) ∙ ap (list_any long) gives.rows ∙ short in
-    (first_false (list_any long (rows_of batch)) (list_any long after.left) both, second_false (list_any long (rows_of batch)) (list_any long after.left) both)
+    let both = sym (list_any-append long (rows_of batch) (left after)) ∙ ap (list_any long) gives.rows ∙ short in
+    (first_false (list_any long (rows_of batch)) (list_any long (left after)) both, second_false (list_any long (rows_of batch)) (list_any long (left after)) both)

@@ -66,8 +66,8 @@ fn write_query(
     if from > to || to > planned.rows {
         return Err(Fault::BadTicket);
     }
-    let mut scan = Scan::new(alloc, &planned.plan, catalog, from, to)?;
-    write_scan(alloc, planned.plan.schema(), &mut scan)
+    let mut scan = Scan::new(alloc, planned.plan, from, to)?;
+    write_scan(alloc, &mut scan)
 }
 
 // The payloads of the list of tables.

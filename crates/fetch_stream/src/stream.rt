@@ -9,6 +9,7 @@ ghost use Rattle.arrays.specs.Batch.{cut_batch, rows_of};
 ghost use Rattle.arrays.specs.Typed.{AreOfTypes};
 ghost use Rattle.ipc_batch.specs.Written.{body_length};
 ghost use Rattle.table_versions.specs.Table.{is_long_text};
+ghost use Rattle.scan_exec.specs.Scan.{left};
 ghost use Rattle.scan_base.specs.declared.fault.Fault.TheVariants.{OutOfMemory};
 ghost use Rattle.flight_info.specs.Payloads.{PayloadsSay, FitMessages};
 ghost use Rattle.fetch_stream.specs.inside.Written.{SaysSchema, SaysBatchBehind, GoOn, most_body_bytes, HasAnswerTypes};
@@ -149,22 +150,18 @@ pub(crate) fn write_batch(
 
 /// The payloads of what a scan gives: a schema of the types as which its columns are answered, and then batches of
 /// at most 65,536 cells, whose bodies have at most 8,388,608 bytes. It fails for want of memory alone.
-pub(crate) fn write_scan(
-    alloc: Global,
-    schema: &Schema,
-    scan: &mut Scan<'_>,
-) -> Result<Vec<Bytes>, Fault>
-    requires schema { IsSchema schema.now }
-    requires typed { HasAnswerTypes schema.now scan.old.types }
+pub(crate) fn write_scan(alloc: Global, scan: &mut Scan) -> Result<Vec<Bytes>, Fault>
+    requires schema { IsSchema scan.old.schema }
+    requires typed { HasAnswerTypes scan.old.schema scan.old.types }
     requires begins { scan.old.refused ≡ None }
-    requires short { list_any (list_any is_long_text) scan.old.left ≡ false }
-    ensures said { IfOk result (λ payloads. PayloadsSay payloads.items schema.now scan.old.left) }
+    requires short { list_any (list_any is_long_text) (left scan.old) ≡ false }
+    ensures said { IfOk result (λ payloads. PayloadsSay payloads.items scan.old.schema (left scan.old)) }
     ensures fits { IfOk result (λ payloads. FitMessages payloads.items) }
     ensures err { IfErr result (λ fault. fault ≡ OutOfMemory) }
 {
     batch_slices_keep_rows();
     let mut payloads = Vec::new(alloc);
-    payloads.push(schema_payload(alloc, schema)?)?;
+    payloads.push(schema_payload(alloc, scan.schema())?)?;
     while let Some(batch) = scan.next(alloc)? {
         push_rows(alloc, &mut payloads, &batch, 0, batch.rows())?;
     }
