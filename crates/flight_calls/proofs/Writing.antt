@@ -1,16 +1,15 @@
 -- An answer as it is written.
 use Rattle.std.proofs.Common.{◌≡◌, ℕ, ◌+◌, ◌<◌, ◌≤◌, List, [], ◌∷◌, ◌++◌, length, map, take, drop, get_or, Option, sym, ap, subst, ◌∙◌, append_assoc, append-nil}
 use Rattle.std.specs.List.{flat_map}
-use Rattle.std.specs.Io.KnownBytes.{Appends}
 use Rattle.std.specs.Prelude.{Result}
 use Rattle.std.proofs.lemmas.Grind.{flat_map-append}
-use Rattle.std.proofs.lemmas.List.{map-append, take-append-drop, drop_more}
+use Rattle.std.proofs.lemmas.List.{map-append, take-append-drop, drop_more, take_more}
 use Rattle.std.proofs.lemmas.List.Elements.{All-get_or}
 use Rattle.grpc_frame.specs.declared.record.Record.{Record}
 use Rattle.grpc_frame.specs.declared.record.Record.TheVariants.{Message}
 use Rattle.grpc_frame.specs.Records.{spelling}
-use Rattle.grpc_frame.specs.Ends.{AppendsBeginning, Writes}
-use Rattle.grpc_frame.proofs.Growing.{beginning_of_head, beginning_of_content, content_behind}
+use Rattle.grpc_frame.specs.Sending.{Sent, NotSent, Sends}
+use Rattle.grpc_frame.proofs.Sending.{gathered, head_not_sent, both_sent, second_not_sent, sent_behind}
 use Rattle.flight_info.specs.Payloads.{Payload, FitMessages}
 
 -- the bytes of messages, and of an answer
@@ -45,18 +44,34 @@ cut_at payloads status i payload inside is =
           ∙ flat_map-append spelling front (back ++ status ∷ []);
     }
 
--- a message was begun
-pub message_begun : (a b c : Option (List ℕ)) (payloads : List Payload) (status : Record) (i : ℕ) (payload : Payload) → i < length payloads → payload ≡ get_or payloads i payload
-    → Appends a b (messages_bytes (take i payloads)) → AppendsBeginning b c (spelling (Message payload)) → AppendsBeginning a c (answer_bytes payloads status)
-message_begun a b c payloads status i payload inside is wrote begun =
-    let at = cut_at payloads status i payload inside is in
-    rw at.whole (beginning_of_content a b c (messages_bytes (take i payloads)) (spelling (Message payload) ++ at.rest) wrote (beginning_of_head b c (spelling (Message payload)) at.rest begun))
+-- nothing was sent yet
+pub none_sent : (a : Option (List ℕ)) (before : List ℕ) → Sent a a before before []
+none_sent a before = gathered a before before [] (sym (append-nil before))
 
--- the status was written, or begun
-pub status_written : {A E : Type 0} (r : Result A E) (a b c : Option (List ℕ)) (payloads : List Payload) (status : Record)
-    → Appends a b (messages_bytes payloads) → Writes r b c (spelling status) → Writes r a c (answer_bytes payloads status)
-status_written r a b c payloads status wrote last =
-    rw (status_last payloads status) (content_behind r a b c (messages_bytes payloads) (spelling status) wrote last)
+-- one message more was sent
+pub message_sent : (a b c : Option (List ℕ)) (before mid after : List ℕ) (payloads : List Payload) (i : ℕ) (payload : Payload) → i < length payloads → payload ≡ get_or payloads i payload
+    → Sent a b before mid (messages_bytes (take i payloads)) → Sent b c mid after (spelling (Message payload)) → Sent a c before after (messages_bytes (take (i + 1) payloads))
+message_sent a b c before mid after payloads i payload inside is sent more =
+    subst (Sent a c before after) (sym bytes) (both_sent a b c before mid after (messages_bytes (take i payloads)) (spelling (Message payload)) sent more)
+  where
+    bytes : messages_bytes (take (i + 1) payloads) ≡ messages_bytes (take i payloads) ++ spelling (Message payload)
+    bytes = ap messages_bytes (take_more payloads i payload inside ∙ ap (λ (p : Payload). take i payloads ++ p ∷ []) (sym is))
+        ∙ ap (flat_map spelling) (map-append Message (take i payloads) (payload ∷ []))
+        ∙ flat_map-append spelling (map Message (take i payloads)) (Message payload ∷ [])
+        ∙ ap (λ l. messages_bytes (take i payloads) ++ l) (append-nil (spelling (Message payload)))
+
+-- or not
+pub message_not_sent : (a b c : Option (List ℕ)) (before mid after : List ℕ) (payloads : List Payload) (status : Record) (i : ℕ) (payload : Payload) → i < length payloads → payload ≡ get_or payloads i payload
+    → Sent a b before mid (messages_bytes (take i payloads)) → NotSent b c mid after (spelling (Message payload)) → NotSent a c before after (answer_bytes payloads status)
+message_not_sent a b c before mid after payloads status i payload inside is sent failed =
+    let at = cut_at payloads status i payload inside is in
+    rw at.whole (second_not_sent a b c before mid after (messages_bytes (take i payloads)) (spelling (Message payload) ++ at.rest) sent (head_not_sent b c mid after (spelling (Message payload)) at.rest failed))
+
+-- the status was sent, or not
+pub status_sent : {A E : Type 0} (r : Result A E) (a b c : Option (List ℕ)) (before mid after : List ℕ) (payloads : List Payload) (status : Record)
+    → Sent a b before mid (messages_bytes payloads) → Sends r b c mid after (spelling status) → Sends r a c before after (answer_bytes payloads status)
+status_sent r a b c before mid after payloads status sent last =
+    rw (status_last payloads status) (sent_behind r a b c before mid after (messages_bytes payloads) (spelling status) sent last)
 
 -- each payload fits
 pub each_fits : (payloads : List Payload) (i : ℕ) (payload : Payload) → i < length payloads → payload ≡ get_or payloads i payload → FitMessages payloads → length payload ≤ 16777216
