@@ -15,8 +15,8 @@ use std::alloc::Global;
 
 /// Serves a connection: answers its calls one after another, up to the end of its input.
 ///
-/// An answer is begun once the call's End has come, and is written before the next call is looked at. A fault
-/// of a call is its answer, and the connection goes on.
+/// An answer is begun once the call's End has come, and is written before the next call is looked at. Of a fetch each
+/// payload is written before the next one is made. A fault of a call is its answer, and the connection goes on.
 ///
 /// # Errors
 ///
@@ -51,8 +51,8 @@ pub fn serve<R: Input, W: Output>(
             Ok(Arrival::CutShort) => return Err(Fault::Transport),
             Err(fault) => return refuse(writer, &mut outbox, fault),
         };
-        let reply = request.answer(alloc, plain, options);
-        let Ok(()) = write_answer(writer, &mut outbox, &reply) else {
+        let answer = request.answer(alloc, plain, options);
+        let Ok(()) = write_answer(alloc, writer, &mut outbox, answer) else {
             return Err(Fault::Transport);
         };
     }

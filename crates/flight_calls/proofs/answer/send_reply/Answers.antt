@@ -1,7 +1,7 @@
 use Rattle.std.proofs.Common.{refl, rules, take_all}
 use Rattle.std.proofs.lemmas.Result.{err_from_is_err_and}
 use Rattle.flight_calls.proofs.Writing.{none_sent, message_sent, message_not_sent, status_sent, each_fits}
-use Rattle.flight_calls.proofs.answer.send_answer.Goals as goal
+use Rattle.flight_calls.proofs.answer.send_reply.Goals as goal
 
 pub loop-payload-init : goal.loop-payload-init
 loop-payload-init g c = record { sent = none_sent _ _; count = refl }

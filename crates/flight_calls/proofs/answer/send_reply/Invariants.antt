@@ -1,7 +1,7 @@
 use Rattle.std.proofs.Common.{◌≡◌, take}
 use Rattle.grpc_frame.specs.Sending.{Sent}
 use Rattle.flight_calls.proofs.Writing.{messages_bytes}
-use Rattle.flight_calls.proofs.answer.send_answer.Given as goal
+use Rattle.flight_calls.proofs.answer.send_reply.Given as goal
 
 abbrev pub invariant-loop-payload : goal.invariant-loop-payload
 invariant-loop-payload g l = record {
