@@ -74,8 +74,8 @@ module _ (keep : BatchSlicesKeepRows) (cutter : Cutter) (source new : Source) (i
   no_batch on none after = (
     record {
       going = record {
-        cutter = is.placed;
-        source = on.source;
+        placed = is.placed;
+        behind = on.source;
         columns = λ more. absurd (let low : cutter.at < cutter.at = omega (arith, more, high) in omega (arith, low));
       };
       schema = on.schema;

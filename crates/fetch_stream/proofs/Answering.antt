@@ -1,5 +1,5 @@
 -- What the payloads of a stream say, call by call.
-use Rattle.std.proofs.Common.{◌≡◌, ◌≢◌, ◌≤◌, ◌<◌, ℕ, zero, suc, ◌+◌, Bool, true, false, cond, List, [], ◌∷◌, ◌++◌, length, take, Option, Some, None, Result, Ok, Err, ◌⊎◌, inl, inr, refl, sym, ap, subst, ◌∙◌, append_assoc, append-nil, length-append, arith}
+use Rattle.std.proofs.Common.{◌≡◌, ◌≢◌, ◌≤◌, ◌<◌, ℕ, zero, suc, ◌+◌, Bool, true, false, List, [], ◌∷◌, ◌++◌, length, take, Option, Some, None, Result, Ok, Err, ◌⊎◌, inl, inr, refl, sym, ap, subst, ◌∙◌, append_assoc, append-nil, length-append, arith}
 use Rattle.scan_base.specs.declared.fault.Fault.{Fault}
 use Rattle.scan_base.specs.declared.fault.Fault.TheVariants.{OutOfMemory}
 use Rattle.scan_base.specs.Limits.{most_answer_rows, most_message_bytes}
@@ -75,23 +75,28 @@ ended before after gives = by before.schema before.begun before.left before.refu
     by schema begun left None gives = gives
     by schema begun left (Some fault) gives = absurd (let e = gives.0 in cc)
 
+-- whether the schema is still to come, as a number
+abbrev to_begin : Bool → ℕ
+to_begin true = 0
+to_begin false = 1
+
 -- how many calls may still give something
 abbrev pub turns : StreamAt → ℕ
-turns stream = length stream.left + cond stream.begun 0 1
+turns stream = length stream.left + to_begin stream.begun
 
 pub fewer_turns : (before after : StreamAt) (payload : Payload) → GivesPayload before payload after → turns after < turns before
 fewer_turns before after payload gives =
     let long : length (gives.rows ++ after.left) ≡ length before.left = ap length gives.left in
-    let begun : cond after.begun 0 1 ≡ 0 = rw gives.begun refl in
+    let begun : to_begin after.begun ≡ 0 = rw gives.begun refl in
     by before.begun refl (omega (arith, long, length-append gives.rows after.left)) begun
   where
-    by : (begun : Bool) → before.begun ≡ begun → length gives.rows + length after.left ≡ length before.left → cond after.begun 0 1 ≡ 0 → turns after < turns before
+    by : (begun : Bool) → before.begun ≡ begun → length gives.rows + length after.left ≡ length before.left → to_begin after.begun ≡ 0 → turns after < turns before
     by true e long none =
         let some = gives.some e in
-        let last : cond before.begun 0 1 ≡ 0 = rw e refl in
+        let last : to_begin before.begun ≡ 0 = rw e refl in
         omega (arith, some, long, none, last)
     by false e long none =
-        let last : cond before.begun 0 1 ≡ 1 = rw e refl in
+        let last : to_begin before.begun ≡ 1 = rw e refl in
         omega (arith, long, none, last)
 
 -- ---- all calls
