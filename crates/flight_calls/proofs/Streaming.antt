@@ -1,5 +1,5 @@
--- A stream as it is sent, and the fetch that it answers.
-use Rattle.std.proofs.Common.{◌≡◌, ◌≤◌, ℕ, List, [], ◌∷◌, ◌++◌, length, Option, Some, None, Result, Ok, Err, refl, sym, ap, subst, ◌∙◌}
+-- A stream as it is sent.
+use Rattle.std.proofs.Common.{◌≡◌, ◌≤◌, ℕ, List, [], ◌∷◌, ◌++◌, length, Option, Some, None, Result, Ok, Err, sym, ap, subst}
 use Rattle.std.proofs.lemmas.List.Elements.{All-append, All-cons, All-nil}
 use Rattle.scan_base.specs.declared.fault.Fault.{Fault}
 use Rattle.scan_base.specs.declared.fault.Fault.TheVariants.{OutOfMemory}
@@ -13,15 +13,10 @@ use Rattle.table_versions.specs.Table.{Table}
 use Rattle.table_versions.specs.Database.{Database}
 use Rattle.flight_info.specs.Payloads.{Payload, FitMessages}
 use Rattle.flight_info.specs.Replies.{ReplyAt}
-use Rattle.fetch_stream.specs.Fetches.{version_of, handle_shown, FetchAt}
+use Rattle.fetch_stream.specs.Fetches.{FetchAt}
 use Rattle.fetch_stream.specs.Streams.{StreamAt, Opens, Gives, GivesPayload, HasGiven, StreamsAnswer, opened}
 use Rattle.fetch_stream.proofs.Answering.{gave, ended}
-use Rattle.flight_core.specs.Asked.{Asked, fetch}
-use Rattle.flight_core.specs.Log.{Log, puts_in, version}
-use Rattle.flight_core.specs.Machine.{FetchBy, OpensBy, OpensIn}
-use Rattle.flight_calls.specs.declared.answer.Answer.TheVariants.{Stream}
-use Rattle.flight_calls.specs.Calls.{ReplyTo}
-use Rattle.flight_calls.specs.Answered.{AnsweredBy, SendsReply}
+use Rattle.flight_calls.specs.Answered.{SendsReply}
 use Rattle.flight_calls.proofs.Writing.{messages_bytes, none_sent, payload_sent, payload_not_sent, status_sent}
 
 -- what a stream has given was sent
@@ -117,32 +112,3 @@ module _ (law : StreamsAnswer) where
         fits = has.fits;
         sent = status_sent r a b c before mid after has.payloads (status_of (Some fault)) has.sent last;
       }
-
--- ---- the fetch that a stream answers
-
--- what the ticket shows, and its stream
-record Shows (log : Log) (ticket : Payload) (stream : StreamAt) : Type 0 where
-  handle : HandleAt
-  shown : handle_shown (puts_in log) ticket ≡ Ok handle
-  opens : Opens (version log (version_of handle)) handle (Ok stream)
-
-shows : (log : Log) (ticket : Payload) (stream : StreamAt) → OpensIn log ticket (Ok stream) → Shows log ticket stream
-shows log ticket stream opens = by (handle_shown (puts_in log) ticket) refl opens
-  where
-    by : (seen : Result HandleAt Fault) → handle_shown (puts_in log) ticket ≡ seen → OpensBy log seen (Ok stream) → Shows log ticket stream
-    by (Ok handle) is opens = record { handle = handle; shown = is; opens = opens }
-    by (Err cause) is opens = absurd cc
-
-pub stream_sent : (asked : Result Asked Fault) (log new : Log) (stream : StreamAt) (r : Result (Unit {0}) Fault) (a b : Option (List ℕ)) (before after : List ℕ) → AnsweredBy asked log (Stream stream) new
-    → ((database : Database) (handle : HandleAt) → Opens database handle (Ok stream) → SendsFetch database handle r a b before after)
-    → SendsReply (λ (reply : ReplyAt). ReplyTo asked log reply new) r a b before after
-stream_sent asked log new stream r a b before after answered sends =
-    let seen = shows log answered.1 stream answered.4 in
-    let sent = sends (version log (version_of seen.handle)) seen.handle seen.opens in
-    record {
-      reply = sent.reply;
-      right = subst (λ (q : Result Asked Fault). ReplyTo q log sent.reply new) (sym answered.3)
-          (answered.0, subst (λ (s : Result HandleAt Fault). FetchBy log s sent.reply.payloads sent.reply.fault) (sym seen.shown) sent.right);
-      fits = sent.fits;
-      sent = sent.sent;
-    }

@@ -33,7 +33,8 @@ pub enum Answer {
 }
 
 /// Writes an answer: each payload in a Message, of which a large part is not copied, and then the Status. Where it is
-/// small it is written at once. A payload of a stream is written before the next one is made.
+/// small it is one write. A payload of a stream is sent before the next one is made, and of it no more than an outbox
+/// gathers waits for the next write.
 ///
 /// # Errors
 ///

@@ -1,4 +1,4 @@
-use Rattle.flight_calls.proofs.Streaming.{stream_sent}
+use Rattle.flight_calls.proofs.Fetching.{stream_sent}
 use Rattle.flight_calls.proofs.answer.send_answer.Goals as goal
 
 pub returns-in-Stream-clause-bytes : goal.returns-in-Stream-clause-bytes

@@ -1,6 +1,5 @@
 use Rattle.std.proofs.Common.{refl, rules}
 use Rattle.std.proofs.lemmas.Result.{err_from_is_err_and}
-use Rattle.fetch_stream.proofs.Answering.{gave, fewer_turns}
 use Rattle.flight_calls.proofs.Streaming.{stream_begins, stream_goes_on, stream_fails, stream_ends, stream_refused}
 use Rattle.flight_calls.proofs.answer.send_stream.Goals as goal
 
