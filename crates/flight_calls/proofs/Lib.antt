@@ -1,6 +1,9 @@
 pub mod Asking
 pub mod Taking
 pub mod Writing
+pub mod Pieces
+pub mod Streaming
+pub mod Fetching
 pub mod Serving
 pub mod Telling
 pub mod Running

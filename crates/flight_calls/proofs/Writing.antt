@@ -1,18 +1,16 @@
 -- An answer as it is written.
 use Rattle.std.proofs.Common.{◌≡◌, ℕ, ◌+◌, ◌<◌, ◌≤◌, List, [], ◌∷◌, ◌++◌, length, map, take, drop, get_or, Option, sym, ap, subst, ◌∙◌, append_assoc, append-nil}
 use Rattle.std.specs.List.{flat_map}
-use Rattle.std.specs.Prelude.{Result, Ok, Err}
+use Rattle.std.specs.Prelude.{Result}
 use Rattle.std.proofs.lemmas.Grind.{flat_map-append}
-use Rattle.std.proofs.lemmas.List.{map-append, take-append-drop, drop_more}
+use Rattle.std.proofs.lemmas.List.{map-append, take-append-drop, take_more, drop_more}
 use Rattle.std.proofs.lemmas.List.Elements.{All-get_or}
 use Rattle.grpc_frame.specs.declared.record.Record.{Record}
 use Rattle.grpc_frame.specs.declared.record.Record.TheVariants.{Message}
 use Rattle.grpc_frame.specs.Records.{spelling}
 use Rattle.grpc_frame.specs.Sending.{Sent, NotSent, Sends}
-use Rattle.grpc_frame.proofs.Sending.{gathered, head_not_sent, sent_behind}
-use Rattle.table_versions.specs.Table.{Table}
+use Rattle.grpc_frame.proofs.Sending.{gathered, head_not_sent, both_sent, second_not_sent, sent_behind}
 use Rattle.flight_info.specs.Payloads.{Payload, FitMessages}
-use Rattle.fetch_stream.specs.Streams.{StreamAt, HasGiven, opened}
 
 -- the bytes of messages, and of an answer
 
@@ -61,7 +59,7 @@ none_sent a before = gathered a before before [] (sym (append-nil before))
 pub message_sent : (a b c : Option (List ℕ)) (before mid after : List ℕ) (payloads : List Payload) (i : ℕ) (payload : Payload) → i < length payloads → payload ≡ get_or payloads i payload
     → Sent a b before mid (messages_bytes (take i payloads)) → Sent b c mid after (spelling (Message payload)) → Sent a c before after (messages_bytes (take (i + 1) payloads))
 message_sent a b c before mid after payloads i payload inside is sent more =
-    subst (Sent a c before after) (sym bytes) (sent_behind (Ok tt) a b c before mid after (messages_bytes (take i payloads)) (spelling (Message payload)) sent more)
+    subst (Sent a c before after) (sym bytes) (both_sent a b c before mid after (messages_bytes (take i payloads)) (spelling (Message payload)) sent more)
   where
     bytes : messages_bytes (take (i + 1) payloads) ≡ messages_bytes (take i payloads) ++ spelling (Message payload)
     bytes = ap messages_bytes (take_more payloads i payload inside ∙ ap (λ (p : Payload). take i payloads ++ p ∷ []) (sym is)) ∙ bytes_more (take i payloads) payload
@@ -71,7 +69,7 @@ pub message_not_sent : (a b c : Option (List ℕ)) (before mid after : List ℕ)
     → Sent a b before mid (messages_bytes (take i payloads)) → NotSent b c mid after (spelling (Message payload)) → NotSent a c before after (answer_bytes payloads status)
 message_not_sent a b c before mid after payloads status i payload inside is sent failed =
     let at = cut_at payloads status i payload inside is in
-    rw at.whole (sent_behind {A = Unit {0}} (Err tt) a b c before mid after (messages_bytes (take i payloads)) (spelling (Message payload) ++ at.rest) sent (head_not_sent b c mid after (spelling (Message payload)) at.rest failed))
+    rw at.whole (second_not_sent a b c before mid after (messages_bytes (take i payloads)) (spelling (Message payload) ++ at.rest) sent (head_not_sent b c mid after (spelling (Message payload)) at.rest failed))
 
 -- the status was sent, or not
 pub status_sent : {A E : Type 0} (r : Result A E) (a b c : Option (List ℕ)) (before mid after : List ℕ) (payloads : List Payload) (status : Record)
@@ -91,18 +89,11 @@ each_fits payloads i payload inside is fits =
 pub payload_sent : (a b c : Option (List ℕ)) (before mid after : List ℕ) (payloads : List Payload) (payload : Payload)
     → Sent a b before mid (messages_bytes payloads) → Sent b c mid after (spelling (Message payload)) → Sent a c before after (messages_bytes (payloads ++ payload ∷ []))
 payload_sent a b c before mid after payloads payload sent more =
-    subst (Sent a c before after) (sym (bytes_more payloads payload)) (sent_behind (Ok tt) a b c before mid after (messages_bytes payloads) (spelling (Message payload)) sent more)
+    subst (Sent a c before after) (sym (bytes_more payloads payload)) (both_sent a b c before mid after (messages_bytes payloads) (spelling (Message payload)) sent more)
 
 -- or not
 pub payload_not_sent : (a b c : Option (List ℕ)) (before mid after : List ℕ) (payloads : List Payload) (payload : Payload) (status : Record)
     → Sent a b before mid (messages_bytes payloads) → NotSent b c mid after (spelling (Message payload)) → NotSent a c before after (answer_bytes (payloads ++ payload ∷ []) status)
 payload_not_sent a b c before mid after payloads payload status sent failed =
     rw (status_last (payloads ++ payload ∷ []) status, bytes_more payloads payload, append_assoc (messages_bytes payloads) (spelling (Message payload)) (spelling status))
-    (sent_behind {A = Unit {0}} (Err tt) a b c before mid after (messages_bytes payloads) (spelling (Message payload) ++ spelling status) sent (head_not_sent b c mid after (spelling (Message payload)) (spelling status) failed))
-
--- what a stream has given was sent
-pub record HasSent (first stream : StreamAt) (a b : Option (List ℕ)) (before after : List ℕ) : Type 0 where
-  pub payloads : List Payload
-  pub given : (answer : Table) → first ≡ opened answer → HasGiven answer payloads stream
-  pub fits : FitMessages payloads
-  pub sent : Sent a b before after (messages_bytes payloads)
+    (second_not_sent a b c before mid after (messages_bytes payloads) (spelling (Message payload) ++ spelling status) sent (head_not_sent b c mid after (spelling (Message payload)) (spelling status) failed))

@@ -15,20 +15,25 @@ use Rattle.flight_calls.specs.Owed.{answer_bytes}
 
 -- what answers a call: its reply; or the stream of a fetch, which leaves the log
 abbrev pub AnsweredBy : Result Asked Fault → Log → Answer → Log → Type 0
-AnsweredBy asked log (Whole reply) new = ReplyTo asked log reply new × FitMessages reply.payloads
+AnsweredBy asked log (Whole reply) new = ReplyTo asked log reply new
 AnsweredBy asked log (Stream stream) new = (new ≡ log) × (ticket : Payload) × (workers : ℕ)
     × (asked ≡ Ok (fetch ticket workers)) × OpensIn log ticket (Ok stream)
 
+-- each payload of a reply fits a message; those of a stream do
+abbrev pub FitsMessages : Answer → Type 0
+FitsMessages (Whole reply) = FitMessages reply.payloads
+FitsMessages (Stream stream) = Unit {0}
+
 -- a reply that this holds of was written, or a beginning of it
-pub record WritesReply (Right : ReplyAt → Log → Type 0) (result : Result (Unit {0}) Fault) (old new : Option (List ℕ)) (log : Log) : Type 0 where
+pub record WritesReply (Right : ReplyAt → Type 0) (result : Result (Unit {0}) Fault) (old new : Option (List ℕ)) : Type 0 where
   pub reply : ReplyAt
-  pub right : Right reply log
+  pub right : Right reply
   pub fits : FitMessages reply.payloads
   pub wrote : Writes result old new (answer_bytes reply)
 
--- payloads and a fault that this holds of were sent as a reply, or a beginning of it
-pub record SendsReply (Right : List Payload → Option Fault → Type 0) (result : Result (Unit {0}) Fault) (old new : Option (List ℕ)) (before after : List ℕ) : Type 0 where
+-- a reply that this holds of was sent, or a beginning of it
+pub record SendsReply (Right : ReplyAt → Type 0) (result : Result (Unit {0}) Fault) (old new : Option (List ℕ)) (before after : List ℕ) : Type 0 where
   pub reply : ReplyAt
-  pub right : Right reply.payloads reply.fault
+  pub right : Right reply
   pub fits : FitMessages reply.payloads
   pub sent : Sends result old new before after (answer_bytes reply)

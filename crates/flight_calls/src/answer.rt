@@ -1,6 +1,6 @@
 //! Writing the answer of a call.
 
-ghost use Rattle.std.specs.Prelude.{◌≡◌, ◌<◌, [], Result, Ok};
+ghost use Rattle.std.specs.Prelude.{◌≡◌, ◌<◌, [], Result, Ok, OnErr};
 ghost use Rattle.scan_base.specs.declared.fault.Fault.{Fault as FaultAt};
 ghost use Rattle.grpc_frame.specs.declared.record.Record.TheVariants.{Message};
 ghost use Rattle.grpc_frame.specs.Records.{spelling};
@@ -15,12 +15,13 @@ ghost use Rattle.flight_core.specs.Asked.{Asked};
 ghost use Rattle.flight_core.specs.Log.{Log};
 ghost use Rattle.flight_calls.specs.Calls.{ReplyTo};
 ghost use Rattle.flight_calls.specs.Owed.{answer_bytes, last_status};
-ghost use Rattle.flight_calls.specs.Answered.{AnsweredBy, WritesReply, SendsReply};
+ghost use Rattle.flight_calls.specs.Answered.{AnsweredBy, FitsMessages, WritesReply, SendsReply};
 
 use flight_core::laws::streams_answer;
 use flight_core::{FetchStream, Payload, Reply};
 use grpc_frame::{Outbox, Output};
 use scan_base::Fault;
+use std::alloc::Global;
 
 /// What answers a call.
 #[derive(Drop)]
@@ -32,7 +33,8 @@ pub enum Answer {
 }
 
 /// Writes an answer: each payload in a Message, of which a large part is not copied, and then the Status. Where it is
-/// small it is written at once. A payload of a stream is written before the next one is made.
+/// small it is one write. A payload of a stream is sent before the next one is made, and of it no more than an outbox
+/// gathers waits for the next write.
 ///
 /// # Errors
 ///
@@ -45,17 +47,38 @@ pub fn write_answer<W: Output>(
 ) -> Result<(), Fault>
     requires failures { W.failures writer.old < 18446744073709551615 }
     requires empty { outbox.old ≡ [] }
+    requires short { FitsMessages answer }
     ensures bytes { (asked : Result Asked FaultAt) (log new : Log) → AnsweredBy asked log answer new →
-        WritesReply (ReplyTo asked log) result (W.contents writer.old) (W.contents writer.new) new }
+        WritesReply (λ reply. ReplyTo asked log reply new) result
+        (W.contents writer.old) (W.contents writer.new) }
     ensures empty { outbox.new ≡ [] }
     ensures counted { CountsFailure result (W.failures writer.old) (W.failures writer.new) }
     ensures kind { FailsByTransport result }
 {
-    match answer {
-        Answer::Whole(reply) => send_reply(writer, outbox, &reply)?,
-        Answer::Stream(stream) => send_stream(alloc, writer, outbox, stream)?,
-    }
+    send_answer(alloc, writer, outbox, answer)?;
     outbox.flush(writer)
+}
+
+// Sends an answer.
+fn send_answer<W: Output>(
+    alloc: Global,
+    writer: &mut W,
+    outbox: &mut Outbox,
+    answer: Answer,
+) -> Result<(), Fault>
+    requires failures { W.failures writer.old < 18446744073709551615 }
+    requires short { FitsMessages answer }
+    ensures bytes { (asked : Result Asked FaultAt) (log new : Log) → AnsweredBy asked log answer new →
+        SendsReply (λ reply. ReplyTo asked log reply new) result
+        (W.contents writer.old) (W.contents writer.new) outbox.old outbox.new }
+    ensures empty { OnErr result (outbox.new ≡ []) }
+    ensures counted { CountsFailure result (W.failures writer.old) (W.failures writer.new) }
+    ensures kind { FailsByTransport result }
+{
+    match answer {
+        Answer::Whole(reply) => send_reply(writer, outbox, &reply),
+        Answer::Stream(stream) => send_stream(alloc, writer, outbox, stream),
+    }
 }
 
 // Sends a reply.
@@ -103,8 +126,9 @@ fn send_stream<W: Output>(
 ) -> Result<(), Fault>
     requires failures { W.failures writer.old < 18446744073709551615 }
     ensures bytes { (database : Database) (handle : HandleAt) → Opens database handle (Ok stream) →
-        SendsReply (FetchAt database handle) result (W.contents writer.old) (W.contents writer.new)
-        outbox.old outbox.new }
+        SendsReply (λ reply. FetchAt database handle reply.payloads reply.fault) result
+        (W.contents writer.old) (W.contents writer.new) outbox.old outbox.new }
+    ensures empty { OnErr result (outbox.new ≡ []) }
     ensures counted { CountsFailure result (W.failures writer.old) (W.failures writer.new) }
     ensures kind { FailsByTransport result }
 {

@@ -8,7 +8,7 @@ ghost use Rattle.flight_core.specs.Event.{asked_in};
 ghost use Rattle.flight_info.specs.Payloads.{Payload};
 ghost use Rattle.flight_calls.specs.declared.request.Method.TheVariants as variant;
 ghost use Rattle.flight_calls.specs.Calls.{Call, method_at, info_asked, asked_with, asked_by};
-ghost use Rattle.flight_calls.specs.Answered.{AnsweredBy};
+ghost use Rattle.flight_calls.specs.Answered.{AnsweredBy, FitsMessages};
 ghost use Rattle.flight_calls.specs.Requests.{IsRefused, Holds};
 
 use crate::answer::Answer;
@@ -169,13 +169,16 @@ impl Request {
     /// What answers the call, once its End came: a step of the core, or the stream of a fetch. F4 where another method than
     /// DoPut has no message, and F5 for any action.
     pub fn answer(self, alloc: Global, plain: &mut Plain, options: Options) -> Answer
-        ensures { (call : Call) → Holds self call
+        ensures reply { (call : Call) → Holds self call
             → AnsweredBy (asked_by options call) plain.old result plain.new }
+        ensures short { FitsMessages result }
     {
         match self {
             Request::Put(reader) => Answer::Whole(step_put(alloc, plain, reader.into_put())),
             Request::Awaits(_) => Answer::Whole(Reply::refusal(alloc, Fault::BadProto)),
-            Request::Asks(Single::DoGet, ticket) => open_answer(alloc, plain, &ticket, options),
+            Request::Asks(Single::DoGet, ticket) => {
+                open_answer(alloc, plain, ticket.as_slice(), options)
+            }
             Request::Asks(method, message) => match event_of(method, message, options) {
                 Ok(event) => Answer::Whole(step(alloc, plain, &event)),
                 Err(fault) => Answer::Whole(Reply::refusal(alloc, fault)),
@@ -188,7 +191,8 @@ impl Request {
 
 // What answers a fetch.
 fn open_answer(alloc: Global, plain: &Plain, ticket: &[u8], options: Options) -> Answer
-    ensures { AnsweredBy (Ok (fetch ticket.now options.workers)) plain.now result plain.now }
+    ensures reply { AnsweredBy (Ok (fetch ticket.now options.workers)) plain.now result plain.now }
+    ensures short { FitsMessages result }
 {
     match open_fetch(alloc, plain, ticket, options.workers) {
         Ok(stream) => Answer::Stream(stream),

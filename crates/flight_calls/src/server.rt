@@ -16,7 +16,7 @@ use std::alloc::Global;
 /// Serves a connection: answers its calls one after another, up to the end of its input.
 ///
 /// An answer is begun once the call's End has come, and is written before the next call is looked at. Of a fetch each
-/// payload is written before the next one is made. A fault of a call is its answer, and the connection goes on.
+/// payload is sent before the next one is made. A fault of a call is its answer, and the connection goes on.
 ///
 /// # Errors
 ///

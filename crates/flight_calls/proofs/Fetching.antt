@@ -1,0 +1,54 @@
+-- The fetch that a stream answers.
+use Rattle.std.proofs.Common.{◌≡◌, List, [], ℕ, Option, Some, Result, Ok, Err, refl, inl, sym, subst}
+use Rattle.scan_base.specs.declared.fault.Fault.{Fault}
+use Rattle.scan_base.specs.declared.fault.Fault.TheVariants.{BadTicket, OutOfMemory}
+use Rattle.endpoint_split.specs.Handle.{HandleAt}
+use Rattle.table_versions.specs.Database.{Database}
+use Rattle.flight_info.specs.Payloads.{Payload}
+use Rattle.flight_info.specs.Replies.{ReplyAt}
+use Rattle.fetch_stream.specs.Fetches.{version_of, handle_shown}
+use Rattle.fetch_stream.specs.Streams.{StreamAt, Opens}
+use Rattle.flight_core.specs.Asked.{Asked}
+use Rattle.flight_core.specs.Log.{Log, puts_in, version}
+use Rattle.flight_core.specs.Machine.{FetchBy, FetchIn, OpensBy, OpensIn}
+use Rattle.flight_calls.specs.declared.answer.Answer.TheVariants.{Stream}
+use Rattle.flight_calls.specs.Calls.{ReplyTo}
+use Rattle.flight_calls.specs.Answered.{AnsweredBy, SendsReply}
+use Rattle.flight_calls.proofs.Streaming.{SendsFetch}
+
+-- what the ticket shows, and its stream
+record Shows (log : Log) (ticket : Payload) (stream : StreamAt) : Type 0 where
+  handle : HandleAt
+  shown : handle_shown (puts_in log) ticket ≡ Ok handle
+  opens : Opens (version log (version_of handle)) handle (Ok stream)
+
+shows : (log : Log) (ticket : Payload) (stream : StreamAt) → OpensIn log ticket (Ok stream) → Shows log ticket stream
+shows log ticket stream opens = by (handle_shown (puts_in log) ticket) refl opens
+  where
+    by : (seen : Result HandleAt Fault) → handle_shown (puts_in log) ticket ≡ seen → OpensBy log seen (Ok stream) → Shows log ticket stream
+    by (Ok handle) is opens = record { handle = handle; shown = is; opens = opens }
+    by (Err cause) is opens = absurd cc
+
+pub stream_sent : (asked : Result Asked Fault) (log new : Log) (stream : StreamAt) (r : Result (Unit {0}) Fault) (a b : Option (List ℕ)) (before after : List ℕ) → AnsweredBy asked log (Stream stream) new
+    → ((database : Database) (handle : HandleAt) → Opens database handle (Ok stream) → SendsFetch database handle r a b before after)
+    → SendsReply (λ (reply : ReplyAt). ReplyTo asked log reply new) r a b before after
+stream_sent asked log new stream r a b before after answered sends =
+    let seen = shows log answered.1 stream answered.4 in
+    let sent = sends (version log (version_of seen.handle)) seen.handle seen.opens in
+    record {
+      reply = sent.reply;
+      right = subst (λ (q : Result Asked Fault). ReplyTo q log sent.reply new) (sym answered.3)
+          (answered.0, subst (λ (s : Result HandleAt Fault). FetchBy log s sent.reply.payloads sent.reply.fault) (sym seen.shown) sent.right);
+      fits = sent.fits;
+      sent = sent.sent;
+    }
+
+-- where there is no stream, its fault is the answer
+pub not_opened : (log : Log) (ticket : Payload) (fault : Fault) → OpensIn log ticket (Err fault) → FetchIn log ticket [] (Some fault)
+not_opened log ticket fault opens = by (handle_shown (puts_in log) ticket) fault opens
+  where
+    by : (seen : Result HandleAt Fault) (fault : Fault) → OpensBy log seen (Err fault) → FetchBy log seen [] (Some fault)
+    by (Err cause) fault is = (refl, cc)
+    by (Ok handle) BadTicket none = (refl, none)
+    by (Ok handle) OutOfMemory tired = inl refl
+    by (Ok handle) fault never = absurd never
