@@ -49,9 +49,6 @@ more_than_one (suc (suc n)) some not = omega arith
 
 -- ---- the next batch
 
-pub still_there : (cutter : Cutter) (source : Source) → IsGoing cutter source → cutter.at < cutter.batch.rows → HasNext cutter source cutter source
-still_there cutter source is more = record { keeps = record { going = is; schema = refl }; rows = refl; more = more }
-
 module _ (keep : BatchSlicesKeepRows) (cutter : Cutter) (source new : Source) (is : IsGoing cutter source) (high : cutter.batch.rows ≤ cutter.at) where
   behind : rows_left cutter source ≡ left_behind source
   behind = ap (λ (rows : List Row). rows ++ left_behind source) (all_cut keep cutter is.placed high)
@@ -70,33 +67,7 @@ module _ (keep : BatchSlicesKeepRows) (cutter : Cutter) (source new : Source) (i
     more = gives.some;
   }
 
-  pub no_batch : GoesOn source new → left_behind source ≡ [] → left_behind new ≡ [] → Ends cutter source cutter new
-  no_batch on none after = (
-    record {
-      going = record {
-        placed = is.placed;
-        behind = on.source;
-        columns = λ more. absurd (let low : cutter.at < cutter.at = omega (arith, more, high) in omega (arith, low));
-      };
-      schema = on.schema;
-    },
-    behind ∙ none,
-    ap (λ (rows : List Row). rows ++ left_behind new) (all_cut keep cutter is.placed high) ∙ after,
-  )
-
-  pub failed_batch : left_behind source ≢ [] → rows_left cutter source ≢ []
-  failed_batch some none = some (sym behind ∙ none)
-
 -- ---- the next rows
-
-rows_there : (cutter : Cutter) (source : Source) → cutter.at < cutter.batch.rows → rows_left cutter source ≢ []
-rows_there cutter source more none =
-    let long : length (rows_left cutter source) ≡ 0 = ap length none in
-    omega (arith, more, long, length-append (uncut cutter) (left_behind source), length_cut cutter.batch cutter.at cutter.batch.rows)
-
--- a refusal behind the next batch
-pub failed_rows : (cutter : Cutter) (source : Source) (mid_cutter : Cutter) (mid : Source) → HasNext cutter source mid_cutter mid → rows_left cutter source ≢ []
-failed_rows cutter source mid_cutter mid next none = rows_there mid_cutter mid next.more (next.rows ∙ none)
 
 pub says_next : BatchSlicesKeepRows → (cutter : Cutter) (source : Source) (mid_cutter : Cutter) (mid : Source) (payload : Payload) (after : Cutter) → HasNext cutter source mid_cutter mid
     → Cuts mid_cutter payload after → SaysNext cutter source payload after mid

@@ -10,53 +10,12 @@ use Rattle.table_versions.specs.Table.{Row, Table}
 use Rattle.table_versions.specs.Database.{Database}
 use Rattle.flight_info.specs.Payloads.{Payload, PayloadsSay}
 use Rattle.fetch_stream.specs.Fetches.{HandleMeans, SayBeginning, FetchAt}
-use Rattle.fetch_stream.specs.Streams.{StreamAt, SaySoFar, GivesPayload, Gives, HasGiven, StreamsAnswer, opened}
+use Rattle.fetch_stream.specs.Streams.{StreamAt, SaySoFar, GivesPayload, Gives, HasGiven, Opens, StreamsAnswer, opened}
 use Rattle.fetch_stream.specs.inside.Ahead.{AnsweredAs}
 use Rattle.fetch_stream.specs.inside.Written.{SaysSchema, SaysBatchBehind}
 use Rattle.fetch_stream.proofs.Streaming.{say_first, say_more, carried_short}
 
-abbrev stream_of : Schema → Bool → List Row → StreamAt
-stream_of schema begun left = record { schema = schema; begun = begun; left = left; refused = None }
-
 -- ---- one call
-
--- the schema's payload
-pub gives_schema : (schema : Schema) (begun : Bool) (left : List Row) (payload : Payload) → begun ≡ false → SaysSchema payload schema → length payload ≤ most_message_bytes
-    → GivesPayload (stream_of schema begun left) payload (stream_of schema true left)
-gives_schema schema true left payload first s fits = absurd cc
-gives_schema schema false left payload first s fits = record {
-  rows = [];
-  said = λ payloads given so.
-    subst (λ (p : List Payload). PayloadsSay (p ++ payload ∷ []) schema (given ++ [])) (sym so.0)
-    (subst (λ (r : List Row). PayloadsSay (payload ∷ []) schema (r ++ [])) (sym so.1) (say_first payload schema s));
-  left = refl;
-  some = λ e. absurd cc;
-  few = omega arith;
-  short = carried_short payload s.message s.carries s.short;
-  fits = fits;
-  schema = refl;
-  begun = refl;
-  refused = refl;
-}
-
--- the payload of rows
-pub gives_rows : (schema new : Schema) (begun : Bool) (left rest rows : List Row) (payload : Payload) → begun ≡ true → new ≡ schema
-    → ((payloads : List Payload) (given : List Row) → PayloadsSay payloads schema given → PayloadsSay (payloads ++ payload ∷ []) schema (given ++ rows))
-    → rows ++ rest ≡ left → 0 < length rows → length rows ≤ 65536 → (batch : _) → SaysBatchBehind payload batch → length payload ≤ most_message_bytes
-    → GivesPayload (stream_of schema begun left) payload (stream_of new true rest)
-gives_rows schema new false left rest rows payload on same say join some few batch s fits = absurd cc
-gives_rows schema new true left rest rows payload on same say join some few batch s fits = record {
-  rows = rows;
-  said = λ payloads given so. subst (λ (sch : Schema). PayloadsSay (payloads ++ payload ∷ []) sch (given ++ rows)) (sym same) (say payloads given so);
-  left = join;
-  some = λ e. some;
-  few = few;
-  short = carried_short payload s.message s.carries s.short;
-  fits = fits;
-  schema = same;
-  begun = refl;
-  refused = refl;
-}
 
 -- what a call gave
 pub gave : (before after : StreamAt) (payload : Payload) → Gives before (Ok (Some payload)) after → GivesPayload before payload after
@@ -128,6 +87,11 @@ given_all answer payloads stream has begun none =
     subst (λ (rows : List Row). PayloadsSay payloads answer.schema rows)
     (sym (append-nil has.rows) ∙ ap (λ (rows : List Row). has.rows ++ rows) (sym none) ∙ has.all) (said_begun answer payloads stream has begun)
 
+-- all that a stream gave answers its handle
+pub fetched : (database : Database) (handle : HandleAt) (stream : StreamAt) (payloads : List Payload) → Opens database handle (Ok stream)
+    → ((answer : Table) → stream ≡ opened answer → PayloadsSay payloads answer.schema answer.rows) → FetchAt database handle payloads None
+fetched database handle stream payloads opens said = (opens.0, opens.1, opens.2, said opens.0 opens.3)
+
 take_first : {X : Type 0} (xs ys : List X) → take (length xs) (xs ++ ys) ≡ xs
 take_first [] ys = refl
 take_first (x ∷ xs) ys = ap (λ (rest : List _). x ∷ rest) (take_first xs ys)
@@ -143,11 +107,15 @@ given_part database handle answer payloads stream means few has = by stream.begu
         let n = length has.rows in
         let long : length (has.rows ++ stream.left) ≡ length answer.rows = ap length has.all in
         let first : take n answer.rows ≡ has.rows = ap (λ (rows : List Row). take n rows) (sym has.all) ∙ take_first has.rows stream.left in
-        inr (answer, means, (
-          n,
-          omega (arith, few, long, length-append has.rows stream.left),
-          subst (λ (rows : List Row). PayloadsSay payloads answer.schema rows) (sym first) (said_begun answer payloads stream has e),
-        ))
+        inr (
+          answer,
+          means,
+          (
+            n,
+            omega (arith, few, long, length-append has.rows stream.left),
+            subst (λ (rows : List Row). PayloadsSay payloads answer.schema rows) (sym first) (said_begun answer payloads stream has e),
+          ),
+        )
 
 pub streams_answer : StreamsAnswer
 streams_answer = record {

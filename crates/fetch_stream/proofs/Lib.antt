@@ -1,5 +1,6 @@
 pub mod Ahead
 pub mod Answering
+pub mod Going
 pub mod Meaning
 pub mod Padding
 pub mod Parts

@@ -40,11 +40,6 @@ answered : (schema : Schema) (types : List DataType) (columns : List ColumnAt) �
 answered schema types columns same typed =
     record { fields = map field_of types; typed = typed_fields types columns typed; same = same ∙ answer_types types }
 
--- columns of a schema whose types are answered as they are
-pub answered_plain : (schema : Schema) (columns : List ColumnAt) → AreOfTypes schema.fields columns
-    → map (λ field. field.data_type) schema.fields ≡ map (λ field. answer_type field.data_type) schema.fields → AnsweredAs schema columns
-answered_plain schema columns typed same = record { fields = schema.fields; typed = typed; same = same }
-
 -- ---- what a scan gives
 
 -- where no text of the rows that are left is too long, none of a batch of them is, and none behind it

@@ -154,5 +154,11 @@ cut_answered schema columns from to ans = record { fields = ans.fields; typed = 
 pub few_answered : (schema : Schema) (columns : List ColumnAt) → IsSchema schema → AnsweredAs schema columns → length columns ≤ most_columns
 few_answered schema columns is ans =
     let long : length (map (λ (field : Field). field.data_type) schema.fields) ≡ length (map (λ (field : Field). answer_type field.data_type) ans.fields) = ap length ans.same in
-    omega (arith, is.few, long, length-typed ans.fields columns ans.typed, length-map schema.fields (λ (field : Field). field.data_type),
-        length-map ans.fields (λ (field : Field). answer_type field.data_type))
+    omega (
+      arith,
+      is.few,
+      long,
+      length-typed ans.fields columns ans.typed,
+      length-map schema.fields (λ (field : Field). field.data_type),
+      length-map ans.fields (λ (field : Field). answer_type field.data_type),
+    )

@@ -1,0 +1,6 @@
+use Rattle.std.proofs.Common.{◌≡◌}
+use Rattle.fetch_stream.proofs.Scanned.{scan_gives}
+use Rattle.fetch_stream.proofs.source.Source.next.Goals as goal
+
+pub returns-in-Scanned : goal.returns-in-Scanned
+returns-in-Scanned c = rw c.in-Scanned.is (scan_gives c.in-Scanned.scan c.next.new.self c.next.result (rw c.in-Scanned.is at c.requires) c.next.ensures)
