@@ -4,8 +4,9 @@
     python3 scripts/column_answers.py < crates/column_cases/stdin > crates/column_cases/stdout
 
 A line has a type, a number of slots, validity bits, a buffer, what stands behind it, and the slots that are kept:
-from one up to, not with, another. Each slot's value is worked out here from Arrow's columnar format alone, with Python's own
-numbers and texts, and each buffer is written anew from those values. It shares nothing with the program.
+from one up to, not with, another. A further word 3 says that every third of those is gathered, from the first on. Each
+slot's value is worked out here from Arrow's columnar format alone, with Python's own numbers and texts, and each buffer
+is written anew from those values. It shares nothing with the program.
 """
 
 import sys
@@ -20,13 +21,14 @@ class Bad(Exception):
 
 
 def buffer(word):
-    """`-` none, `.` of no byte, `0aff*3` bytes three times, `+5*3` the numbers 0, 5 and 10 in four bytes each."""
+    """`-` none, `.` of no byte, `0aff*3` bytes three times, `+5*3` the numbers 0, 5 and 10 in four bytes each, of which a
+    number of more than 32 bits has its lowest."""
     if word == "-":
         return None
     spelled, _, count = word.partition("*")
     count = int(count or 1)
     if spelled.startswith("+"):
-        return b"".join((int(spelled) * i).to_bytes(4, "little") for i in range(count))
+        return b"".join((int(spelled) * i % 2**32).to_bytes(4, "little") for i in range(count))
     return bytes.fromhex(spelled.replace(".", "")) * count
 
 
@@ -92,8 +94,8 @@ def packed(flags):
     return bytes(sum(1 << j for j, flag in enumerate(flags[i:i + 8]) if flag) for i in range(0, len(flags), 8))
 
 
-def written(kind, validity, values, behind, first, slots):
-    """The buffers of the kept slots. Under a null of fixed width stays what stood there."""
+def written(kind, values, behind, places, slots):
+    """The buffers of the slots at places. Under a null of fixed width stays what stood there."""
     bitmap = packed([slot is not None for slot in slots]) if None in slots else b""
     if kind == "Utf8" or behind != "-":
         cells = [(slot or "").encode() for slot in slots]
@@ -103,9 +105,9 @@ def written(kind, validity, values, behind, first, slots):
         return [bitmap, b"".join(end.to_bytes(4, "little") for end in ends), b"".join(cells)]
     data = buffer(values)
     if kind == "Bool":
-        return [bitmap, packed(bits(data, first + len(slots))[first:])]
+        return [bitmap, packed([data[place // 8] >> place % 8 & 1 == 1 for place in places])]
     width = WIDTHS[kind]
-    return [bitmap, data[width * first:width * (first + len(slots))]]
+    return [bitmap, b"".join(data[width * place:width * (place + 1)] for place in places)]
 
 
 def summed(total, data):
@@ -137,15 +139,16 @@ def shown(slot):
 
 
 def answer(line):
-    kind, count, validity, values, behind, first, to = line.split()
-    first, to = int(first), int(to)
+    kind, count, validity, values, behind, first, to, *step = line.split()
+    places = range(int(first), int(to), int(step[0]) if step else 1)
     try:
-        slots = slots_of(kind, int(count), validity, values, behind)[first:to]
+        all_slots = slots_of(kind, int(count), validity, values, behind)
     except Bad:
         return BAD
+    slots = [all_slots[place] for place in places]
     said = "".join(" " + shown(slot) for slot in slots) if len(slots) <= 20 else f" sum {sum_of(slots)}"
     parts = [f"{len(slots)} slots, {slots.count(None)} null:{said}"]
-    for data in written(kind, validity, values, behind, first, slots):
+    for data in written(kind, values, behind, places, slots):
         parts.append(f"{len(data)}: " + (data.hex() if len(data) <= 64 else f"sum {summed(0, data)}"))
     return " | ".join(parts)
 

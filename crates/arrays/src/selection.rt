@@ -45,6 +45,13 @@ impl Selection {
         Ok(self.places.push(place)?)
     }
 
+    /// Takes all places away. Its memory is kept for others.
+    pub fn clear(&mut self)
+        ensures { self.new ≡ [] }
+    {
+        self.places.clear();
+    }
+
     /// How many places there are.
     pub fn len(&self) -> usize
         ensures { result ≡ length self.now }

@@ -5,6 +5,7 @@ ghost use Rattle.arrays.specs.Written.{buffers_written};
 
 use crate::case::Case;
 use crate::made::layout;
+use crate::places::gathered;
 use arrays::{Batch, Cells, Column};
 use scan_base::{Fault, ValueRef};
 use std::alloc::Global;
@@ -18,7 +19,7 @@ pub(crate) fn answer(rt: &impl Print, alloc: Global, line: &str) -> io::Result<(
     }
 }
 
-// The slots that a line keeps, as a batch of one column.
+// The slots that a line keeps, or those of them that it gathers, as a batch of one column.
 fn kept(alloc: Global, line: &str) -> Result<Batch, Fault> {
     let case = Case::read(line).ok_or(Fault::UnknownCommand)?;
     let column = Column::new(layout(alloc, &case)?);
@@ -26,8 +27,11 @@ fn kept(alloc: Global, line: &str) -> Result<Batch, Fault> {
     if case.from > case.to || case.to > rows {
         return Err(Fault::UnknownCommand);
     }
-    let batch = Batch::new(vec![in alloc; column]?, rows);
-    Ok(batch.slice(alloc, case.from, case.to)?)
+    let batch = Batch::new(vec![in alloc; column]?, rows).slice(alloc, case.from, case.to)?;
+    match case.every {
+        Some(step) => gathered(alloc, &batch, step),
+        None => Ok(batch),
+    }
 }
 
 fn tell_all(rt: &impl Print, alloc: Global, columns: &[Column]) -> io::Result<()> {

@@ -1,6 +1,6 @@
 //! The words of a line.
 
-/// What a column is made of, and the slots of it that are kept.
+/// What a column is made of, the slots of it that are kept, and which of those are gathered.
 #[derive(Clone, Copy)]
 pub(crate) struct Case<'a> {
     /// A type: `Int8` .. `UInt64`, `Decimal128`, `Bool` or `Utf8`.
@@ -16,10 +16,12 @@ pub(crate) struct Case<'a> {
     /// The first slot that is kept, and the one behind the last.
     pub(crate) from: usize,
     pub(crate) to: usize,
+    /// Of the kept slots every so-many-th is gathered, from the first on, where the line says so.
+    pub(crate) every: Option<usize>,
 }
 
 impl<'a> Case<'a> {
-    /// The case of a line, where it has all words.
+    /// The case of a line, where it has all words. The last may be left out.
     pub(crate) fn read(line: &'a str) -> Option<Case<'a>> {
         let mut words = line.split_whitespace();
         Some(Case {
@@ -30,6 +32,7 @@ impl<'a> Case<'a> {
             behind: words.next()?,
             from: number(words.next()?),
             to: number(words.next()?),
+            every: words.next().map(number),
         })
     }
 }

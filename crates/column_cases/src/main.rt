@@ -1,10 +1,11 @@
-//! Columns from the buffers of a line, cut and written back: an answer for each line.
+//! Columns from the buffers of a line, cut, gathered and written back: an answer for each line.
 #![tactic(auto)]
 
 mod answer;
 mod buffers;
 mod case;
 mod made;
+mod places;
 
 use crate::answer::answer;
 use std::io;

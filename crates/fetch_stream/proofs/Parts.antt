@@ -3,12 +3,7 @@ use Rattle.std.proofs.Common.{◌≡◌, ◌≤◌, ℕ, zero, suc, ◌+◌, ◌
 use Rattle.std.proofs.Math.Seq.{take-add}
 use Rattle.std.proofs.lemmas.List.{take_all}
 use Rattle.arrays.specs.Batch.{BatchAt, BatchSlicesKeepRows, rows_of, cut_batch}
-use Rattle.arrays.specs.Column.{ColumnAt}
-use Rattle.ipc_batch.specs.Said.{Rows}
 use Rattle.table_versions.proofs.Rowing.{length-rows_of}
-use Rattle.flight_info.specs.Payloads.{Payload, PayloadsSay}
-use Rattle.fetch_stream.specs.inside.Written.{GoOn, SaysBatchBehind}
-use Rattle.fetch_stream.proofs.Streaming.{say_more, whole_columns}
 
 drop_none : {X : Type 0} (n : ℕ) → drop {A = X} n [] ≡ []
 drop_none zero = refl
@@ -27,23 +22,16 @@ parts_join a b c xs low high =
     sym (ap (λ n. take n (drop a xs)) (sym long) ∙ take-add (b - a) (c - b) (drop a xs)
     ∙ ap (λ rest. take (b - a) (drop a xs) ++ take (c - b) rest) (drop_more a (b - a) xs ∙ ap (λ n. drop n xs) there))
 
--- payloads go on from payloads that went on
-pub go_further : (columns : List ColumnAt) (old mid new : List Payload) (more rest : Rows) → GoOn columns old mid more → GoOn columns mid new rest → GoOn columns old new (more ++ rest)
-go_further columns old mid new more rest a b fields schema rows typed types said =
-    subst (λ (all : Rows). PayloadsSay new schema all) (append_assoc rows more rest) (b fields schema (rows ++ more) typed types (a fields schema rows typed types said))
+-- rows of a batch, and those behind them
+pub cuts_join : BatchSlicesKeepRows → (batch : BatchAt) (from at to : ℕ) → from ≤ at → at ≤ to → to ≤ batch.rows
+    → rows_of (cut_batch batch from at) ++ rows_of (cut_batch batch at to) ≡ rows_of (cut_batch batch from to)
+cuts_join keep batch from at to low high within =
+    rw (keep batch from at low (omega (arith, high, within)), keep batch at to high within, keep batch from to (omega (arith, low, high)) within)
+    (parts_join from at to (rows_of batch) low high)
 
--- one more slice of a batch
-pub slice_more : BatchSlicesKeepRows → (batch : BatchAt) (from at end : ℕ) (old mid new : List Payload) (payload : Payload) → from ≤ at → at ≤ end → end ≤ batch.rows
-    → GoOn batch.columns old mid (rows_of (cut_batch batch from at)) → SaysBatchBehind payload (cut_batch batch at end) → new ≡ mid ++ payload ∷ []
-    → GoOn batch.columns old new (rows_of (cut_batch batch from end))
-slice_more keep batch from at end old mid new payload low high within on said e =
-    let one = whole_columns batch.columns at end mid (mid ++ payload ∷ []) (rows_of (cut_batch batch at end)) (say_more mid payload (cut_batch batch at end) said) in
-    let rows : rows_of (cut_batch batch from at) ++ rows_of (cut_batch batch at end) ≡ rows_of (cut_batch batch from end) =
-    rw (keep batch from at low (omega (arith, high, within)), keep batch at end high within, keep batch from end (omega (arith, low, high)) within)
-    (parts_join from at end (rows_of batch) low high) in
-    subst (λ (p : List Payload). GoOn batch.columns old p (rows_of (cut_batch batch from end))) (sym e)
-    (subst (λ (r : Rows). GoOn batch.columns old (mid ++ payload ∷ []) r) rows
-    (go_further batch.columns old mid (mid ++ payload ∷ []) (rows_of (cut_batch batch from at)) (rows_of (cut_batch batch at end)) on one))
+-- how many rows a slice has
+pub length_cut : (batch : BatchAt) (from to : ℕ) → length (rows_of (cut_batch batch from to)) ≡ to - from
+length_cut batch from to = length-rows_of (cut_batch batch from to)
 
 -- nothing of a batch
 pub slice_none : BatchSlicesKeepRows → (batch : BatchAt) (from : ℕ) → from ≤ batch.rows → rows_of (cut_batch batch from from) ≡ []

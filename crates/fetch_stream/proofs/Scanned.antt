@@ -1,7 +1,6 @@
--- What a scan gives, as payloads.
-use Rattle.std.proofs.Common.{◌≡◌, ◌≤◌, ◌<◌, ℕ, true, false, List, [], ◌∷◌, ◌++◌, length, map, Option, Some, None, Ok, Err, refl, sym, ap, subst, ◌∙◌, append_assoc, append-nil, length-append, arith}
-use Rattle.std.specs.List.{list_any}
-use Rattle.std.proofs.lemmas.List.{length-map}
+-- What a scan gives, as the source of a stream.
+use Rattle.std.proofs.Common.{◌≡◌, ◌≢◌, ◌<◌, ℕ, true, false, List, [], ◌∷◌, ◌++◌, length, map, Option, Some, None, Result, Ok, Err, refl, sym, ap, subst, ◌∙◌}
+use Rattle.std.specs.List.{list_any, flat_map}
 use Rattle.std.proofs.lemmas.List.Folds.{list_any-append}
 use Rattle.scan_base.specs.declared.fault.Fault.{Fault}
 use Rattle.scan_base.specs.declared.fault.Fault.TheVariants.{OutOfMemory}
@@ -9,36 +8,18 @@ use Rattle.arrow_schema.specs.declared.data_type.DataType.{DataType}
 use Rattle.arrow_schema.specs.declared.schema.Field.{Field}
 use Rattle.arrow_schema.specs.declared.schema.Schema.{Schema}
 use Rattle.arrow_schema.specs.Answer.{answer_type}
-use Rattle.scan_base.specs.Limits.{most_columns}
 use Rattle.arrow_schema.specs.Schema.{IsSchema}
-use Rattle.arrays.specs.Batch.{BatchAt, BatchSlicesKeepRows, rows_of, cut_batch}
+use Rattle.arrays.specs.Batch.{BatchAt, rows_of}
 use Rattle.arrays.specs.Column.{ColumnAt}
 use Rattle.arrays.specs.Typed.{AreOfTypes}
-use Rattle.ipc_batch.specs.Said.{Rows}
-use Rattle.scan_exec.specs.Scan.{ScanAt, AreOf, GivesRows, Gives}
-use Rattle.table_versions.specs.Table.{is_long_text}
-use Rattle.table_versions.proofs.Rowing.{length-rows_of}
+use Rattle.scan_exec.specs.Scan.{ScanAt, AreOf, GivesRows, Gives, left}
+use Rattle.table_versions.specs.Table.{Row, is_long_text}
 use Rattle.table_versions.proofs.Storable.{first_false, second_false}
-use Rattle.flight_info.specs.Payloads.{Payload, PayloadsSay}
-use Rattle.fetch_stream.specs.inside.Written.{GoOn, HasAnswerTypes}
-use Rattle.fetch_stream.proofs.Parts.{slice_whole}
-
--- ---- what a call of a scan gave, which was not refused before
-
-pub gave : (before after : ScanAt) (given : Option BatchAt) (batch : BatchAt) → before.refused ≡ None → given ≡ Some batch → Gives before (Ok given) after → GivesRows before batch after
-gave before after given batch begins e gives = going before.left before.types before.batches before.opened before.refused begins (rw e at gives)
-  where
-    going : (left : Rows) (types : List DataType) (batches opened : List ℕ) (refused : Option Fault) → refused ≡ None
-        → Gives (record { left = left; types = types; batches = batches; opened = opened; refused = refused }) (Ok (Some batch)) after
-        → GivesRows (record { left = left; types = types; batches = batches; opened = opened; refused = refused }) batch after
-    going left types batches opened None begins gives = gives
-    going left types batches opened (Some fault) begins gives = absurd cc
-
-pub ended : (before after : ScanAt) (given : Option BatchAt) → before.refused ≡ None → given ≡ None → Gives before (Ok given) after → before.left ≡ []
-ended before after given begins e gives = let end = rw (begins, e) at gives in end.0
-
-pub failed : (before after : ScanAt) (fault : Fault) → before.refused ≡ None → Gives before (Err fault) after → fault ≡ OutOfMemory
-failed before after fault begins gives = let end = rw begins at gives in end.0
+use Rattle.fetch_stream.specs.declared.source.Source.{Source}
+use Rattle.fetch_stream.specs.declared.source.Source.TheVariants.{Scanned, Listed}
+use Rattle.fetch_stream.specs.inside.Ahead.{IsSource, AnsweredAs}
+use Rattle.fetch_stream.specs.inside.Given.{GoesOn, GivesNext, GivesBatch}
+use Rattle.fetch_stream.specs.inside.Written.{HasAnswerTypes}
 
 -- ---- columns of types, as those of fields
 
@@ -55,44 +36,55 @@ answer_types : (types : List DataType) → map answer_type types ≡ map (λ fie
 answer_types [] = refl
 answer_types (data_type ∷ types) = ap (λ (more : List DataType). answer_type data_type ∷ more) (answer_types types)
 
-pub few_columns : (schema : Schema) (types : List DataType) (columns : List ColumnAt) → IsSchema schema → HasAnswerTypes schema types → length columns ≡ length types → length columns ≤ most_columns
-few_columns schema types columns is typed wide =
-    let long : length (map (λ (field : Field). field.data_type) schema.fields) ≡ length (map answer_type types) = ap length typed in
-    omega (arith, is.few, long, wide, length-map schema.fields (λ (field : Field). field.data_type), length-map types answer_type)
+answered : (schema : Schema) (types : List DataType) (columns : List ColumnAt) → HasAnswerTypes schema types → AreOf types columns → AnsweredAs schema columns
+answered schema types columns same typed =
+    record { fields = map field_of types; typed = typed_fields types columns typed; same = same ∙ answer_types types }
 
--- ---- batch by batch
+-- columns of a schema whose types are answered as they are
+pub answered_plain : (schema : Schema) (columns : List ColumnAt) → AreOfTypes schema.fields columns
+    → map (λ field. field.data_type) schema.fields ≡ map (λ field. answer_type field.data_type) schema.fields → AnsweredAs schema columns
+answered_plain schema columns typed same = record { fields = schema.fields; typed = typed; same = same }
 
--- payloads say all rows but those that are left
-pub record SayTo (schema : Schema) (payloads : List Payload) (all left : Rows) : Type 0 where
-  pub done : Rows
-  pub said : PayloadsSay payloads schema done
-  pub rest : done ++ left ≡ all
-
-pub say_none : (schema : Schema) (payloads : List Payload) (all : Rows) → PayloadsSay payloads schema [] → SayTo schema payloads all all
-say_none schema payloads all said = record { done = []; said = said; rest = refl }
-
-pub say_on : BatchSlicesKeepRows → (schema : Schema) (all : Rows) (before after : ScanAt) (batch : BatchAt) (rows : ℕ) (old new : List Payload) → rows ≡ batch.rows → HasAnswerTypes schema before.types
-    → GivesRows before batch after → SayTo schema old all before.left → GoOn batch.columns old new (rows_of (cut_batch batch 0 rows)) → SayTo schema new all after.left
-say_on keep schema all before after batch rows old new e typed gives say on = record {
-  done = say.done ++ rows_of batch;
-  said = subst (λ (more : Rows). PayloadsSay new schema (say.done ++ more)) (slice_whole keep batch rows e)
-      (on (map field_of before.types) schema say.done (typed_fields before.types batch.columns gives.typed) (typed ∙ answer_types before.types) say.said);
-  rest = append_assoc say.done (rows_of batch) after.left ∙ ap (λ (left : Rows). say.done ++ left) gives.rows ∙ say.rest;
-}
-
-pub fewer_left : (before after : ScanAt) (batch : BatchAt) → GivesRows before batch after → length after.left < length before.left
-fewer_left before after batch gives =
-    let long : length (rows_of batch ++ after.left) ≡ length before.left = ap length gives.rows in
-    omega (arith, gives.some, long, length-append (rows_of batch) after.left, length-rows_of batch)
-
-pub say_all : (schema : Schema) (payloads : List Payload) (all left : Rows) → left ≡ [] → SayTo schema payloads all left → PayloadsSay payloads schema all
-say_all schema payloads all left none say =
-    subst (λ (rows : Rows). PayloadsSay payloads schema rows) (sym (append-nil say.done) ∙ ap (λ (rows : Rows). say.done ++ rows) (sym none) ∙ say.rest) say.said
+-- ---- what a scan gives
 
 -- where no text of the rows that are left is too long, none of a batch of them is, and none behind it
-pub batch_short : (before after : ScanAt) (batch : BatchAt) → GivesRows before batch after → list_any (list_any is_long_text) before.left ≡ false
-    → (list_any (list_any is_long_text) (rows_of batch) ≡ false) × (list_any (list_any is_long_text) after.left ≡ false)
-batch_short before after batch gives short =
+both_short : (rows rest all : List Row) → rows ++ rest ≡ all → list_any (list_any is_long_text) all ≡ false
+    → (list_any (list_any is_long_text) rows ≡ false) × (list_any (list_any is_long_text) rest ≡ false)
+both_short rows rest all e short =
     let long = list_any is_long_text in
-    let both = sym (list_any-append long (rows_of batch) after.left) ∙ ap (list_any long) gives.rows ∙ short in
-    (first_false (list_any long (rows_of batch)) (list_any long after.left) both, second_false (list_any long (rows_of batch)) (list_any long after.left) both)
+    let both = sym (list_any-append long rows rest) ∙ ap (list_any long) e ∙ short in
+    (first_false (list_any long rows) (list_any long rest) both, second_false (list_any long rows) (list_any long rest) both)
+
+gives_batch : (before after : ScanAt) (batch : BatchAt) → IsSource (Scanned before) → GivesRows before batch after → GivesNext (Scanned before) batch (Scanned after)
+gives_batch before after batch is gives =
+    let short = both_short (rows_of batch) (left after) (left before) gives.rows is.short in
+    let typed : HasAnswerTypes after.schema after.types =
+    subst (λ (s : Schema). HasAnswerTypes s after.types) (sym gives.schema) (subst (λ (t : List DataType). HasAnswerTypes before.schema t) (sym gives.types) is.typed) in
+    record {
+      on = record {
+        source = record { schema = subst IsSchema (sym gives.schema) is.schema; typed = typed; short = short.1; begins = gives.refused };
+        schema = gives.schema;
+      };
+      some = gives.some;
+      rows = gives.rows;
+      columns = answered before.schema before.types batch.columns is.typed gives.typed;
+      short = short.0;
+    }
+
+pub scan_gives : (before after : ScanAt) (result : Result (Option BatchAt) Fault) → IsSource (Scanned before) → Gives before result after → GivesBatch (Scanned before) result (Scanned after)
+scan_gives before after result is gives = by before.schema before.types before.by_batch before.batches before.opened before.refused is.begins result is gives
+  where
+    by : (schema : Schema) (types : List DataType) (by_batch : List (List Row)) (batches opened : List ℕ) (refused : Option Fault) → refused ≡ None → (result : Result (Option BatchAt) Fault)
+        → IsSource (Scanned (record { schema = schema; types = types; by_batch = by_batch; batches = batches; opened = opened; refused = refused }))
+        → Gives (record { schema = schema; types = types; by_batch = by_batch; batches = batches; opened = opened; refused = refused }) result after
+        → GivesBatch (Scanned (record { schema = schema; types = types; by_batch = by_batch; batches = batches; opened = opened; refused = refused })) result (Scanned after)
+    by schema types by_batch batches opened (Some fault) none result is gives = absurd cc
+    by schema types by_batch batches opened None none (Ok (Some batch)) is gives =
+        gives_batch (record { schema = schema; types = types; by_batch = by_batch; batches = batches; opened = opened; refused = None }) after batch is gives
+    by schema types by_batch batches opened None none (Ok None) is gives =
+        let scan : ScanAt = record { schema = schema; types = types; by_batch = by_batch; batches = batches; opened = opened; refused = None } in
+        let same : record { schema = schema; types = types; by_batch = by_batch; batches = batches; opened = batches; refused = None } ≡ after = sym gives.1 in
+        let nothing : left scan ≡ [] = ap (flat_map (λ rows. rows)) gives.0 in
+        subst (λ (end : ScanAt). GoesOn (Scanned scan) (Scanned end) × (left scan ≡ []) × (left end ≡ [])) same
+        (record { source = record { schema = is.schema; typed = is.typed; short = is.short; begins = refl }; schema = refl }, nothing, nothing)
+    by schema types by_batch batches opened None none (Err fault) is gives = (gives.0, gives.2)

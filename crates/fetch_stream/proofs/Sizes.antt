@@ -27,7 +27,7 @@ use Rattle.scan_base.specs.Limits.{most_message_bytes, most_text_bytes}
 use Rattle.table_versions.specs.Table.{is_long_text}
 use Rattle.table_versions.proofs.Storable.{first_false, second_false}
 use Rattle.scan_exec.proofs.Short.{none-take, none-drop}
-use Rattle.fetch_stream.specs.inside.Written.{most_body_bytes}
+use Rattle.fetch_stream.specs.Streams.{most_body_bytes}
 use Rattle.flight_info.proofs.Sizes.{short_varint, short_chunk, short_set}
 
 -- a buffer before others takes its bytes and at most seven zeros

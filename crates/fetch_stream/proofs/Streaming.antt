@@ -1,6 +1,6 @@
 -- Payloads that are written say what they are written for.
-use Rattle.std.proofs.Common.{◌≡◌, ◌≤◌, ◌^◌, ℕ, List, [], ◌∷◌, ◌++◌, length, map, Some, None, Result, Ok, refl, sym, ap, subst, ◌∙◌, append-nil, arith}
-use Rattle.std.proofs.lemmas.List.{map-append}
+use Rattle.std.proofs.Common.{◌≡◌, ◌≤◌, ◌^◌, ℕ, List, [], ◌∷◌, ◌++◌, length, map, Some, None, Result, Ok, IfOk, refl, sym, ap, subst, ◌∙◌, append-nil, arith}
+use Rattle.std.proofs.lemmas.List.{map-append, length-map}
 use Rattle.scan_base.specs.declared.fault.Fault.{Fault}
 use Rattle.scan_base.specs.Reading.{◌>>=◌}
 use Rattle.scan_base.specs.Lists.{each}
@@ -27,7 +27,11 @@ use Rattle.ipc_batch.specs.Written.{SaysBatch}
 use Rattle.ipc_batch.proofs.Lengths.{both}
 use Rattle.ipc_batch.proofs.Messages.{joined}
 use Rattle.flight_info.specs.Payloads.{Payload, message_in, PayloadsSay}
-use Rattle.fetch_stream.specs.inside.Written.{Carries, SaysSchema, SaysBatchBehind, GoOn}
+use Rattle.scan_base.specs.Limits.{most_columns}
+use Rattle.table_versions.proofs.Storable.{length-typed}
+use Rattle.fetch_stream.specs.Streams.{most_body_bytes}
+use Rattle.fetch_stream.specs.inside.Ahead.{AnsweredAs}
+use Rattle.fetch_stream.specs.inside.Written.{Carries, SaysSchema, SaysBatchBehind}
 
 -- ---- one payload
 
@@ -53,15 +57,17 @@ schema_said payload schema is e short =
     record {
       message = record { header = bytes; body = [] };
       carries = carried_back payload bytes [] e (omega arith) (omega arith);
+      short = omega arith;
       said = rw (m.found, m.kind_again, told, m.body_length_again) refl;
     }
 
 -- the payload of a batch
-pub batch_said : (payload header body : List ℕ) (batch : BatchAt) → payload ≡ data_head header (length body) ++ body → FitsMemory header → FitsMemory body
+pub batch_said : (payload header body : List ℕ) (batch : BatchAt) → payload ≡ data_head header (length body) ++ body → FitsMemory header → length body ≤ most_body_bytes
     → SaysBatch (record { header = header; body = body }) batch → SaysBatchBehind payload batch
-batch_said payload header body batch e long wide said = record {
+batch_said payload header body batch e long short said = record {
   message = record { header = header; body = body };
-  carries = carried_back payload header body (e ∙ sym (bodies_follow_heads (record { data_header = header; data_body = body }))) long wide;
+  carries = carried_back payload header body (e ∙ sym (bodies_follow_heads (record { data_header = header; data_body = body }))) long (omega (arith, short));
+  short = short;
   said = said;
 }
 
@@ -111,12 +117,13 @@ say_first payload schema s =
     (known, refl, (news, [], s.said, refl, (refl, refl)))
 
 -- one batch more says its rows behind the others
-pub say_more : (payloads : List Payload) (payload : Payload) (batch : BatchAt) → SaysBatchBehind payload batch → GoOn batch.columns payloads (payloads ++ payload ∷ []) (rows_of batch)
-say_more payloads payload batch s fields schema rows typed types said =
+pub say_more : (payloads : List Payload) (payload : Payload) (batch : BatchAt) (schema : Schema) (rows : Rows) → SaysBatchBehind payload batch → AnsweredAs schema batch.columns
+    → PayloadsSay payloads schema rows → PayloadsSay (payloads ++ payload ∷ []) schema (rows ++ rows_of batch)
+say_more payloads payload batch schema rows s ans said =
     let sent = map message_in said.0 in
     let known = said.2.0 in
-    let same : map (λ (field : Field). field.data_type) known.schema.fields ≡ map (λ (field : Field). answer_type field.data_type) fields = rw said.2.1 types in
-    let read = s.said known fields typed same in
+    let same : map (λ (field : Field). field.data_type) known.schema.fields ≡ map (λ (field : Field). answer_type field.data_type) ans.fields = rw said.2.1 ans.same in
+    let read = s.said known ans.fields ans.typed same in
     let news : News = record { state = Some known; batch = Some read.0 } in
     let one : Follows (Some known) (s.message ∷ []) (Some known) (rows_of read.0) = (news, [], read.1, sym (append-nil (rows_of read.0)), (refl, refl)) in
     let all : Follows None (sent ++ s.message ∷ []) (Some known) (rows ++ rows_of read.0) = joined None sent (s.message ∷ []) (Some known) (Some known) rows (rows_of read.0) said.2.2 one in
@@ -124,9 +131,13 @@ say_more payloads payload batch s fields schema rows typed types said =
     (carry_more payloads payload sent s.message (record { all = said.0; read = said.1; same = refl }) s.carries)
     (known, said.2.1, subst (λ (more : Rows). Follows None (sent ++ s.message ∷ []) (Some known) (rows ++ more)) read.2 all)
 
--- nothing more
-pub go_nowhere : (columns : List ColumnAt) (payloads : List Payload) → GoOn columns payloads payloads []
-go_nowhere columns payloads fields schema rows typed types said = rw (append-nil rows) said
+-- what a payload carries is no longer than its message
+pub carried_short : (payload : Payload) (message : Sent) → Carries payload message → length message.body ≤ most_body_bytes → IfOk (data_of payload) (λ carried. length carried.data_body ≤ most_body_bytes)
+carried_short payload message c short =
+    let same : c.carried.data_body ≡ message.body = ap (λ (sent : Sent). sent.body) c.same in
+    rw c.read (rw same short)
+
+-- ---- columns that are answered
 
 -- slices of columns are of their types
 cut_typed : (fields : List Field) (columns : List ColumnAt) (from to : ℕ) → AreOfTypes fields columns → AreOfTypes fields (map (λ column. cut column from to) columns)
@@ -135,6 +146,13 @@ cut_typed (field ∷ fields) (column ∷ columns) from to typed = (typed.0, cut_
 cut_typed [] (column ∷ columns) from to typed = absurd typed
 cut_typed (field ∷ fields) [] from to typed = absurd typed
 
--- what goes on behind slices of columns goes on behind the columns
-pub whole_columns : (columns : List ColumnAt) (from to : ℕ) (old new : List Payload) (more : Rows) → GoOn (map (λ column. cut column from to) columns) old new more → GoOn columns old new more
-whole_columns columns from to old new more on fields schema rows typed types said = on fields schema rows (cut_typed fields columns from to typed) types said
+-- slices of columns are answered as the columns
+pub cut_answered : (schema : Schema) (columns : List ColumnAt) (from to : ℕ) → AnsweredAs schema columns → AnsweredAs schema (map (λ column. cut column from to) columns)
+cut_answered schema columns from to ans = record { fields = ans.fields; typed = cut_typed ans.fields columns from to ans.typed; same = ans.same }
+
+-- there are no more of them than a schema has
+pub few_answered : (schema : Schema) (columns : List ColumnAt) → IsSchema schema → AnsweredAs schema columns → length columns ≤ most_columns
+few_answered schema columns is ans =
+    let long : length (map (λ (field : Field). field.data_type) schema.fields) ≡ length (map (λ (field : Field). answer_type field.data_type) ans.fields) = ap length ans.same in
+    omega (arith, is.few, long, length-typed ans.fields columns ans.typed, length-map schema.fields (λ (field : Field). field.data_type),
+        length-map ans.fields (λ (field : Field). answer_type field.data_type))

@@ -1,2 +1,3 @@
 pub mod Fetches
+pub mod Streams
 pub mod inside

@@ -1,2 +1,6 @@
 -- What contracts of this crate's private functions alone cite.
+pub mod Ahead
+pub mod Cut
+pub mod Given
+pub mod Steps
 pub mod Written

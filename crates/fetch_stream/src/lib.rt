@@ -1,9 +1,17 @@
 //! The answer to a fetch: the rows of a handle at its version, as messages.
 //!
-//! `specs/Fetches.antt` says what a fetch shows, and what its handle answers.
+//! `specs/Fetches.antt` says what a fetch shows, and what its handle answers; `specs/Streams.antt` what a stream gives of
+//! an answer, one payload at a time.
 #![tactic(auto)]
 
+mod cutter;
 pub mod fetch;
-mod stream;
+pub mod laws;
+mod message;
+pub mod payload;
+mod source;
+pub mod stream;
 
 pub use crate::fetch::{answer_fetch, read_ticket, version_of};
+pub use crate::payload::Payload;
+pub use crate::stream::FetchStream;

@@ -1,172 +1,208 @@
-//! Writing the rows that a scan gives as payloads.
+//! Streams: an answer, one payload at a time.
 
-ghost use Rattle.std.specs.Prelude.{◌≡◌, ◌≤◌, ◌<◌, length, map, false, None, IfOk, IfErr, IfSome, OnOk};
+ghost use Rattle.std.specs.Prelude.{◌≡◌, ◌≢◌, ◌≤◌, ◌<◌, ◌++◌, false, None, length, nat_le, Err, IfOk, IfErr};
 ghost use Rattle.std.specs.List.{list_any};
-ghost use Rattle.scan_base.specs.Limits.{most_columns};
-ghost use Rattle.arrow_schema.specs.Answer.{answer_type};
+ghost use Rattle.scan_base.specs.declared.fault.Fault.TheVariants.{BadTicket, LimitReached, OutOfMemory};
+ghost use Rattle.scan_base.specs.Limits.{most_answer_rows, most_query_bytes};
+ghost use Rattle.scan_base.specs.Reading.{RefusesFirst, demand};
+ghost use Rattle.endpoint_split.specs.Seen.{handle_seen};
 ghost use Rattle.arrow_schema.specs.Schema.{IsSchema};
-ghost use Rattle.arrays.specs.Batch.{cut_batch, rows_of};
-ghost use Rattle.arrays.specs.Typed.{AreOfTypes};
-ghost use Rattle.ipc_batch.specs.Written.{body_length};
-ghost use Rattle.table_versions.specs.Table.{is_long_text};
-ghost use Rattle.scan_base.specs.declared.fault.Fault.TheVariants.{OutOfMemory};
-ghost use Rattle.flight_info.specs.Payloads.{PayloadsSay, FitMessages};
-ghost use Rattle.fetch_stream.specs.inside.Written.{SaysSchema, SaysBatchBehind, GoOn, most_body_bytes, HasAnswerTypes};
-ghost use Rattle.scan_base.specs.Limits.{most_message_bytes};
+ghost use Rattle.arrays.specs.Batch.{rows_of};
+ghost use Rattle.table_versions.specs.Table.{Table, is_long_text};
+ghost use Rattle.table_versions.specs.Stored.{tables_of};
+ghost use Rattle.flight_info.specs.Meant.{Meant};
+ghost use Rattle.flight_info.specs.Tables.{tables_listed};
+ghost use Rattle.fetch_stream.specs.Fetches.{is_short};
+ghost use Rattle.fetch_stream.specs.Streams.{Gives, Opens, opened};
+ghost use Rattle.fetch_stream.specs.inside.Ahead.{IsGoing, IsSource, AnsweredAs, schema_behind, left_behind};
+ghost use Rattle.fetch_stream.specs.inside.Steps.{GivesFirst, Refills, GivesRows};
 
+use crate::cutter::Cutter;
+use crate::message::schema_payload;
+use crate::payload::Payload;
+use crate::source::Source;
 use arrays::Batch;
 use arrays::laws::batch_slices_keep_rows;
-use arrow_schema::{Schema, write_schema};
-use bytes::Bytes;
-use flight_info::payload_of;
-use flight_proto::{put_flight_data, put_flight_data_head};
-use ipc_batch::MeasuredBatch;
+use arrow_schema::Schema;
+use endpoint_split::{Handle, Range};
+use flight_info::{plan_text, tables_batch, tables_schema};
 use scan_base::Fault;
 use scan_exec::Scan;
 use std::alloc::{AllocError, Global};
+use std::marker::Model;
+use table_versions::{CatalogVersion, Snapshot};
 
-// The most cells of a message that is written.
-const MOST_CELLS: usize = 65_536;
+/// The answer to a handle, one payload at a time: the message of its schema, and then record batches. A contract sees
+/// what is still to come, and what refused the stream. It shares the tables of its version, and holds no message.
+#[derive(Drop)]
+pub struct FetchStream {
+    begun: bool,
+    cutter: Cutter,
+    source: Source,
+    refused: Option<Fault>,
+}
 
-// The most bytes of a message's body that is written. One row has fewer: at most 64 texts of at most 65,536 bytes.
-const MOST_BODY_BYTES: usize = 8_388_608;
+impl Model for FetchStream {
+    ghost use Rattle.std.specs.Prelude.{◌≡◌, ◌++◌, None};
+    ghost use Rattle.fetch_stream.specs.Streams.{StreamAt};
+    ghost use Rattle.fetch_stream.specs.inside.Ahead.{IsGoing, schema_behind, left_behind, uncut};
 
-// The payload of a schema.
-fn schema_payload(alloc: Global, schema: &Schema) -> Result<Bytes, AllocError>
+    ghost Value = { StreamAt };
+
+    ghost view = { λ s. record {
+      schema = schema_behind s.source;
+      begun = s.begun;
+      left = uncut s.cutter ++ left_behind s.source;
+      refused = s.refused;
+    } };
+
+    ghost invariant = { λ s. s.refused ≡ None → IsGoing s.cutter s.source };
+}
+
+impl FetchStream {
+    // The stream of the rows of a batch and of those that a source gives behind them.
+    fn of(batch: Batch, source: Source) -> FetchStream
+        requires source { IsSource source }
+        requires columns { 0 < batch.rows → AnsweredAs (schema_behind source) batch.columns }
+        requires short { list_any (list_any is_long_text) (rows_of batch) ≡ false }
+        ensures { result ≡ record {
+          schema = schema_behind source;
+          begun = false;
+          left = rows_of batch ++ left_behind source;
+          refused = None;
+        } }
+    {
+        batch_slices_keep_rows();
+        FetchStream {
+            begun: false,
+            cutter: Cutter::new(batch),
+            source,
+            refused: None,
+        }
+    }
+
+    /// The stream of the answer to a handle at a version of the catalog. A dictionary of texts is answered as texts. The
+    /// list of tables has a row for each table of this version, in byte order of the names. One worker reads the rows.
+    ///
+    /// # Errors
+    ///
+    /// F17 (`Fault::BadTicket`) where the query does not parse or is not bound at this version, and where the range is not
+    /// within the rows of its first place, so never for the list of tables; F21 (`Fault::OutOfMemory`) where memory is
+    /// refused, and not for a query of more than 16,384 bytes.
+    pub fn new(
+        alloc: Global,
+        snapshot: &Snapshot,
+        handle: &Handle<'_>,
+        _workers: usize,
+    ) -> Result<FetchStream, Fault>
+        ensures opens { Opens (tables_of snapshot.now.catalog) (handle_seen handle.now) result }
+        ensures first { is_short (handle_seen handle.now) ≡ false → result ≡ Err BadTicket }
+    {
+        let catalog = snapshot.catalog();
+        match handle {
+            Handle::Query { range, query, .. } => match open_query(alloc, catalog, query, *range) {
+                Err(fault) if fault != Fault::OutOfMemory => Err(Fault::BadTicket),
+                opened => opened,
+            },
+            Handle::Tables { .. } => Ok(open_tables(alloc, catalog)?),
+        }
+    }
+
+    /// The next payload, and `None` behind the last one: first the message of the schema, and then record batches of at
+    /// most 65,536 rows, whose bodies have at most 8,388,608 bytes. What refuses a stream is answered from then on.
+    ///
+    /// # Errors
+    ///
+    /// F21 (`Fault::OutOfMemory`) where memory is refused.
+    pub fn next(&mut self, alloc: Global) -> Result<Option<Payload>, Fault>
+        ensures { Gives self.old result self.new }
+    {
+        if let Some(fault) = self.refused {
+            return Err(fault);
+        }
+        let given = if self.begun {
+            next_rows(alloc, &mut self.cutter, &mut self.source)
+        } else {
+            first_payload(alloc, self.source.schema())
+        };
+        match &given {
+            Ok(_) => self.begun = true,
+            Err(fault) => self.refused = Some(*fault),
+        }
+        given
+    }
+}
+
+// The payload of a schema, as the first one.
+fn first_payload(alloc: Global, schema: &Schema) -> Result<Option<Payload>, Fault>
     requires { IsSchema schema.now }
-    ensures said { IfOk result (λ payload. SaysSchema payload schema.now) }
-    ensures fits { IfOk result (λ payload. length payload ≤ most_message_bytes) }
+    ensures { GivesFirst schema.now result }
 {
-    let header = write_schema(alloc, schema)?;
-    let mut payload = Vec::with_capacity(alloc, header.len().saturating_add(16))?;
-    put_flight_data(&mut payload, None, &header, &[])?;
-    payload_of(payload)
+    Ok(Some(schema_payload(alloc, schema)?))
 }
 
-// The payload of a batch. Its values are copied once.
-fn batch_payload(alloc: Global, batch: &MeasuredBatch<'_>) -> Result<Bytes, AllocError>
-    requires few { length batch.now.columns ≤ most_columns }
-    requires short { body_length batch.now ≤ most_body_bytes }
-    ensures said { IfOk result (λ payload. SaysBatchBehind payload batch.now) }
-    ensures fits { IfOk result (λ payload. length payload ≤ most_message_bytes) }
-{
-    let header = batch.write_header(alloc)?;
-    let len = batch.body_length();
-    let room = header.len().saturating_add(len).saturating_add(32);
-    let mut payload = Vec::with_capacity(alloc, room)?;
-    put_flight_data_head(&mut payload, &header, len as u64)?;
-    batch.append_body(&mut payload)?;
-    payload_of(payload)
-}
-
-// How many rows a message has at most: fewer where there are more columns.
-fn rows_in_message(columns: usize) -> usize
-    ensures { 0 < result }
-{
-    (MOST_CELLS / columns.max(1)).max(1)
-}
-
-// The payload of the rows `from` up to, not with, `to` of a batch, or nothing where its body would have too
-// many bytes.
-fn slice_payload(
-    alloc: Global,
-    batch: &Batch,
-    from: usize,
-    to: usize,
-) -> Result<Option<Bytes>, AllocError>
-    requires few { length batch.now.columns ≤ most_columns }
-    requires ordered { from ≤ to }
-    requires within { to ≤ batch.now.rows }
-    ensures said { IfOk result (λ found. IfSome found (λ payload.
-        SaysBatchBehind payload (cut_batch batch.now from to))) }
-    ensures fits { IfOk result (λ found. IfSome found (λ payload. length payload ≤ most_message_bytes)) }
-    ensures long { IfOk result (λ found. found ≡ None → most_body_bytes < body_length (cut_batch batch.now from to)) }
-{
-    let slice = batch.slice(alloc, from, to)?;
-    match MeasuredBatch::new(alloc, &slice)? {
-        Some(measured) if measured.body_length() <= MOST_BODY_BYTES => {
-            Ok(Some(batch_payload(alloc, &measured)?))
-        }
-        _ => Ok(None),
-    }
-}
-
-// Writes the rows `from` up to, not with, `to` of a batch behind the payloads. Where a body would have too many
-// bytes, it and those behind it have half as many rows.
-fn push_rows(
-    alloc: Global,
-    payloads: &mut Vec<Bytes>,
-    batch: &Batch,
-    from: usize,
-    to: usize,
-) -> Result<(), AllocError>
-    requires few { length batch.now.columns ≤ most_columns }
-    requires ordered { from ≤ to }
-    requires within { to ≤ batch.now.rows }
-    requires short { list_any (list_any is_long_text) (rows_of batch.now) ≡ false }
-    ensures on { OnOk result (GoOn batch.now.columns payloads.old.items payloads.new.items
-        (rows_of (cut_batch batch.now from to))) }
-    ensures fits { OnOk result (FitMessages payloads.old.items → FitMessages payloads.new.items) }
+// Goes on to the next batch, where the last one was given whole. Whether a row is left.
+fn refill(alloc: Global, cutter: &mut Cutter, source: &mut Source) -> Result<bool, Fault>
+    requires { IsGoing cutter.old source.old }
+    ensures { Refills cutter.old source.old result cutter.new source.new }
 {
     batch_slices_keep_rows();
-    let mut most = rows_in_message(batch.columns().len());
-    let mut at = from;
-    while at < to {
-        let rows = most.min(to - at);
-        match slice_payload(alloc, batch, at, at + rows)? {
-            Some(payload) => {
-                payloads.push(payload)?;
-                at += rows;
-            }
-            None if rows > 1 => most = rows / 2,
-            None => unreachable!(),
-        }
+    if cutter.at < cutter.batch.rows() {
+        return Ok(true);
     }
-    Ok(())
+    let Some(batch) = source.next(alloc)? else {
+        return Ok(false);
+    };
+    *cutter = Cutter::new(batch);
+    Ok(true)
 }
 
-/// The payloads of a batch whose columns are answered as they are: its schema, and then its rows, as `write_scan` cuts
-/// those of a scan.
-pub(crate) fn write_batch(
+// The payload of the next rows.
+fn next_rows(
     alloc: Global,
-    schema: &Schema,
-    batch: &Batch,
-) -> Result<Vec<Bytes>, AllocError>
-    requires schema { IsSchema schema.now }
-    requires typed { AreOfTypes schema.now.fields batch.now.columns }
-    requires plain { map (λ field. field.data_type) schema.now.fields
-        ≡ map (λ field. answer_type field.data_type) schema.now.fields }
-    requires short { list_any (list_any is_long_text) (rows_of batch.now) ≡ false }
-    ensures said { IfOk result (λ payloads. PayloadsSay payloads.items schema.now (rows_of batch.now)) }
-    ensures fits { IfOk result (λ payloads. FitMessages payloads.items) }
+    cutter: &mut Cutter,
+    source: &mut Source,
+) -> Result<Option<Payload>, Fault>
+    requires { IsGoing cutter.old source.old }
+    ensures { GivesRows cutter.old source.old result cutter.new source.new }
 {
     batch_slices_keep_rows();
-    let mut payloads = Vec::new(alloc);
-    payloads.push(schema_payload(alloc, schema)?)?;
-    push_rows(alloc, &mut payloads, batch, 0, batch.rows())?;
-    Ok(payloads)
+    if !refill(alloc, cutter, source)? {
+        return Ok(None);
+    }
+    Ok(Some(cutter.next(alloc)?))
 }
 
-/// The payloads of what a scan gives: a schema of the types as which its columns are answered, and then batches of
-/// at most 65,536 cells, whose bodies have at most 8,388,608 bytes. It fails for want of memory alone.
-pub(crate) fn write_scan(
+// The stream of what a query means over a range of its first place.
+fn open_query(
     alloc: Global,
-    schema: &Schema,
-    scan: &mut Scan<'_>,
-) -> Result<Vec<Bytes>, Fault>
-    requires schema { IsSchema schema.now }
-    requires typed { HasAnswerTypes schema.now scan.old.types }
-    requires begins { scan.old.refused ≡ None }
-    requires short { list_any (list_any is_long_text) scan.old.left ≡ false }
-    ensures said { IfOk result (λ payloads. PayloadsSay payloads.items schema.now scan.old.left) }
-    ensures fits { IfOk result (λ payloads. FitMessages payloads.items) }
-    ensures err { IfErr result (λ fault. fault ≡ OutOfMemory) }
+    catalog: &CatalogVersion,
+    text: &str,
+    range: Range,
+) -> Result<FetchStream, Fault>
+    ensures opened { IfOk result (λ stream. (answer : Table)
+        × Meant (tables_of catalog.now) range.from range.to text.now answer
+        × (length answer.rows ≤ most_answer_rows) × (stream ≡ opened answer)) }
+    ensures refused { IfErr result (λ fault. fault ≢ OutOfMemory →
+        (answer : Table) → Meant (tables_of catalog.now) range.from range.to text.now answer → ⊥) }
+    ensures first { RefusesFirst result (demand (nat_le (length text.now) most_query_bytes) LimitReached) }
 {
-    batch_slices_keep_rows();
-    let mut payloads = Vec::new(alloc);
-    payloads.push(schema_payload(alloc, schema)?)?;
-    while let Some(batch) = scan.next(alloc)? {
-        push_rows(alloc, &mut payloads, &batch, 0, batch.rows())?;
+    let planned = plan_text(alloc, catalog, text)?;
+    let (from, to) = (range.from as usize, range.to as usize);
+    if from > to || to > planned.rows {
+        return Err(Fault::BadTicket);
     }
-    Ok(payloads)
+    let scan = Scan::new(alloc, planned.plan, from, to)?;
+    let nothing = Batch::new(Vec::new(alloc), 0);
+    Ok(FetchStream::of(nothing, Source::Scanned(scan)))
+}
+
+// The stream of the list of tables.
+fn open_tables(alloc: Global, catalog: &CatalogVersion) -> Result<FetchStream, AllocError>
+    ensures { IfOk result (λ stream. (length (tables_listed (tables_of catalog.now)).rows ≤ most_answer_rows)
+        × (stream ≡ opened (tables_listed (tables_of catalog.now)))) }
+{
+    let schema = tables_schema(alloc)?;
+    let batch = tables_batch(alloc, catalog)?;
+    Ok(FetchStream::of(batch, Source::Listed(schema)))
 }

@@ -11,7 +11,7 @@ use Rattle.scan_base.specs.declared.fault.Fault.TheVariants.{OutOfMemory, Transp
 use Rattle.grpc_frame.specs.declared.place.Place.{Place}
 use Rattle.grpc_frame.specs.declared.place.Place.TheVariants.{BetweenCalls}
 use Rattle.grpc_frame.specs.Records.{spelling, IsRecord, Received, with_more, Breaks, broken, Flaw, fault_of, wrong_kind, long_path, wrong_flag, long_message, bad_text}
-use Rattle.grpc_frame.specs.Arrivals.{WasSound}
+use Rattle.grpc_frame.specs.Arrivals.{IsSound}
 use Rattle.grpc_frame.specs.Ends.{AppendsBeginning}
 use Rattle.grpc_frame.proofs.Coming.{none_sound}
 use Rattle.flight_info.specs.Replies.{ReplyAt}
@@ -115,10 +115,10 @@ module _ (options : Options) (old mid : Connection) (left : Received) (p : Progr
 
   -- a call came, and a reply to it is due
   call_replied : (new : Connection) (left' : Received) (request : Request) (reply : ReplyAt) (q : (more : List ℕ) × Consumes mid.input new.input more × CallArrives (Ok (arrival.Whole request)) left left' more)
-      → ((call : Call) → Holds request call → ReplyTo (asked_by options call) mid.log reply new.log) → FitsMessages reply
+      → ReplyTo (asked_by options q.2.0) mid.log reply new.log → FitsMessages reply
       → Served options old.log (p.came ++ q.0) left'.bytes (p.replies ++ reply ∷ []) new.log
   call_replied new left' request reply q replied sent =
-      served_more options old.log mid.log new.log (p.came ++ q.0) (left.bytes ++ q.0) left'.bytes p.replies q.2.0 reply (served_then options old.log mid.log p.came left.bytes q.0 p.replies p.served) q.2.2.whole q.2.2.fits (replied q.2.0 q.2.1) sent
+      served_more options old.log mid.log new.log (p.came ++ q.0) (left.bytes ++ q.0) left'.bytes p.replies q.2.0 reply (served_then options old.log mid.log p.came left.bytes q.0 p.replies p.served) q.2.2.whole q.2.2.fits replied sent
 
   -- the record of a connection, by its parts
   served_so : (result : Result (Unit {0}) Fault) (new : Connection) (came rest : List ℕ) (replies : List ReplyAt) (last : Option Fault) (done begun : List (List ℕ)) → Consumes old.input new.input came
@@ -140,8 +140,8 @@ module _ (options : Options) (old mid : Connection) (left : Received) (p : Progr
   }
 
   -- it was written
-  pub call_served : (new : Connection) (left' : Received) (request : Request) (reply : ReplyAt) → (more : List ℕ) × Consumes mid.input new.input more × CallArrives (Ok (arrival.Whole request)) left left' more
-      → ((call : Call) → Holds request call → ReplyTo (asked_by options call) mid.log reply new.log) → FitsMessages reply → Appends mid.output new.output (answer_bytes reply) → Progress options old new left'
+  pub call_served : (new : Connection) (left' : Received) (request : Request) (reply : ReplyAt) → (q : (more : List ℕ) × Consumes mid.input new.input more × CallArrives (Ok (arrival.Whole request)) left left' more)
+      → ReplyTo (asked_by options q.2.0) mid.log reply new.log → FitsMessages reply → Appends mid.output new.output (answer_bytes reply) → Progress options old new left'
   call_served new left' request reply q replied sent wrote = record {
     came = p.came ++ q.0;
     consumed = Consumes-trans old.input mid.input new.input p.came q.0 p.consumed q.1;
@@ -153,8 +153,8 @@ module _ (options : Options) (old mid : Connection) (left : Received) (p : Progr
   }
 
   -- or begun
-  pub answer_failed : (new : Connection) (left' : Received) (request : Request) (reply : ReplyAt) → (more : List ℕ) × Consumes mid.input new.input more × CallArrives (Ok (arrival.Whole request)) left left' more
-      → ((call : Call) → Holds request call → ReplyTo (asked_by options call) mid.log reply new.log) → FitsMessages reply → AppendsBeginning mid.output new.output (answer_bytes reply) → Fails 0 1 old new
+  pub answer_failed : (new : Connection) (left' : Received) (request : Request) (reply : ReplyAt) → (q : (more : List ℕ) × Consumes mid.input new.input more × CallArrives (Ok (arrival.Whole request)) left left' more)
+      → ReplyTo (asked_by options q.2.0) mid.log reply new.log → FitsMessages reply → AppendsBeginning mid.output new.output (answer_bytes reply) → Fails 0 1 old new
       → Serves options (Err Transport) old new
   answer_failed new left' request reply q replied sent begun counted = served_so (Err Transport) new (p.came ++ q.0) left'.bytes (p.replies ++ reply ∷ []) None
       (map answer_bytes p.replies) (answer_bytes reply ∷ []) (Consumes-trans old.input mid.input new.input p.came q.0 p.consumed q.1)
@@ -185,18 +185,9 @@ module _ (options : Options) (old mid : Connection) (left : Received) (p : Progr
       all_written (Err Transport) new q.0 q.1 log output (rw (behind q.0) at q.2.1, inl (q.2.0, at_end, quiet))
 
   -- why reading stopped
-  cause : (fault : Fault) (more : List ℕ) → fault ≢ Transport → Stops fault (with_more left more) (WasSound left more) → IsCause fault (left.bytes ++ more)
+  cause : (fault : Fault) (more : List ℕ) → fault ≢ Transport → Stops fault (with_more left more) (IsSound (with_more left more)) → IsCause fault (left.bytes ++ more)
   cause fault more other (inl e) = absurd (other e.0)
-  cause fault more other (inr (inl e)) = inl (e.0, since_calls e.1)
-    where
-      since_calls : WasSound left more → WasSound (behind_calls []) (left.bytes ++ more)
-      since_calls sound = record {
-        seen = left.bytes ++ sound.seen;
-        piece = sound.piece;
-        whole = ap (λ (l : List ℕ). left.bytes ++ l) sound.whole ∙ sym (append_assoc left.bytes sound.seen sound.piece);
-        short = sound.short;
-        sound = λ found breaks. sound.sound found (subst (λ (r : Received). Breaks r found) (sym (behind sound.seen)) breaks);
-      }
+  cause fault more other (inr (inl e)) = inl (e.0, subst IsSound (behind more) e.1)
   cause fault more other (inr (inr ends)) = inr (rw (behind more) at ends)
 
   -- its status was written
@@ -219,7 +210,7 @@ module _ (options : Options) (old mid : Connection) (left : Received) (p : Progr
       ends (Err Transport) new q.0 (Some fault) (map answer_bytes p.replies) (last_status fault ∷ []) q.1 log refl (mid.output, p.wrote, begun) (cause fault q.0 other q.2, counted)
 
   -- a call of which more has to come, where a read failed
-  waits : (fault : Fault) (more : List ℕ) → fault ≡ Transport → Stops fault (with_more left more) (WasSound left more) → EndsInside (behind_calls (left.bytes ++ more))
+  waits : (fault : Fault) (more : List ℕ) → fault ≡ Transport → Stops fault (with_more left more) (IsSound (with_more left more)) → EndsInside (behind_calls (left.bytes ++ more))
   waits fault more is (inl stops) = rw (behind more) at stops.1
   waits fault more is (inr (inl e)) = let both : OutOfMemory ≡ Transport = sym e.0 ∙ is in absurd cc
   waits fault more is (inr (inr ends)) = absurd (not_broken fault is ends)

@@ -14,7 +14,7 @@ use Rattle.grpc_frame.specs.declared.place.Place.TheVariants.{BetweenCalls, Insi
 use Rattle.grpc_frame.specs.declared.record.Record.{Record}
 use Rattle.grpc_frame.specs.declared.record.Record.TheVariants.{Open, Message, End, Status}
 use Rattle.grpc_frame.specs.Records.{spelling, IsRecord, place_after, place_after_all, Received, with_more, Leads, Breaks, IsCut, Ending, nothing_more, cut, broken, Ends}
-use Rattle.grpc_frame.specs.Arrivals.{Arrives, WasSound}
+use Rattle.grpc_frame.specs.Arrivals.{Arrives, IsReason, IsSound}
 use Rattle.grpc_frame.proofs.Coming.{led_sound}
 use Rattle.grpc_frame.proofs.Splitting.{place_after_all-append}
 use Rattle.flight_info.specs.Payloads.{Payload}
@@ -167,13 +167,12 @@ module _ (a b c : Option (List ℕ)) (old mid new : Received) (messages : List P
   )
 
   pub collected_stop : (path : List ℕ) (fault : Fault) → Since b c mid new (Err fault) → (came : List ℕ) × Consumes a c came × RequestArrives (Err fault) path old new came
-  collected_stop path fault q = (all_came q.came, all_consumed q.came q.consumed, by q.arrives)
+  collected_stop path fault q = (all_came q.came, all_consumed q.came q.consumed, by (subst (IsReason fault) q.arrives.0 q.arrives.1))
     where
-      by : ((fault ≡ Transport) × ((new ≡ with_more mid q.came) × IsCut new)) ⊎ (((fault ≡ OutOfMemory) × WasSound mid q.came) ⊎ ((new ≡ with_more mid q.came) × Breaks new fault))
-          → Stops fault (with_more old (all_came q.came)) (Unit {0})
-      by (inl e) = inl (e.0, passed_cut (with_more old (all_came q.came)) (with_more mid q.came) (map Message messages) (stand q.came) (rw e.1.0 at e.1.1))
+      by : IsReason fault (with_more mid q.came) → Stops fault (with_more old (all_came q.came)) (Unit {0})
+      by (inl e) = inl (e.0, passed_cut (with_more old (all_came q.came)) (with_more mid q.came) (map Message messages) (stand q.came) e.1)
       by (inr (inl e)) = inr (inl (e.0, tt))
-      by (inr (inr e)) = inr (inr (passed_ends (with_more old (all_came q.came)) (with_more mid q.came) (map Message messages) (broken fault) (stand q.came) (rw e.0 at e.1)))
+      by (inr (inr breaks)) = inr (inr (passed_ends (with_more old (all_came q.came)) (with_more mid q.came) (map Message messages) (broken fault) (stand q.came) breaks))
 
 -- ---- a call
 
@@ -195,13 +194,12 @@ ends_after from left records ending p q = record {
 
 -- a fault before the first record
 pub first_stops : (a b : Option (List ℕ)) (old new : Received) (fault : Fault) → Since a b old new (Err fault) → (came : List ℕ) × Consumes a b came × CallArrives (Err fault) old new came
-first_stops a b old new fault q = (q.came, q.consumed, by q.arrives)
+first_stops a b old new fault q = (q.came, q.consumed, by (subst (IsReason fault) q.arrives.0 q.arrives.1))
   where
-    by : ((fault ≡ Transport) × ((new ≡ with_more old q.came) × IsCut new)) ⊎ (((fault ≡ OutOfMemory) × WasSound old q.came) ⊎ ((new ≡ with_more old q.came) × Breaks new fault))
-        → Stops fault (with_more old q.came) (WasSound old q.came)
-    by (inl e) = inl (e.0, passed_cut (with_more old q.came) (with_more old q.came) [] (passed_none (with_more old q.came)) (rw e.1.0 at e.1.1))
+    by : IsReason fault (with_more old q.came) → Stops fault (with_more old q.came) (IsSound (with_more old q.came))
+    by (inl e) = inl (e.0, passed_cut (with_more old q.came) (with_more old q.came) [] (passed_none (with_more old q.came)) e.1)
     by (inr (inl e)) = inr (inl e)
-    by (inr (inr e)) = inr (inr (passed_ends (with_more old q.came) (with_more old q.came) [] (broken fault) (passed_none (with_more old q.came)) (rw e.0 at e.1)))
+    by (inr (inr breaks)) = inr (inr (passed_ends (with_more old q.came) (with_more old q.came) [] (broken fault) (passed_none (with_more old q.came)) breaks))
 
 -- the input ended before the first record was whole
 pub first_cut : (a b : Option (List ℕ)) (old new : Received) → old.place ≡ BetweenCalls → ¬ (new ≡ record { bytes = []; place = BetweenCalls }) → Since a b old new (Ok None)
@@ -278,7 +276,7 @@ module _ (a b c : Option (List ℕ)) (old mid new : Received) (path : List ℕ) 
   pub call_stops : (fault : Fault) → (more : List ℕ) × Consumes b c more × RequestArrives (Err fault) path mid new more → (came : List ℕ) × Consumes a c came × CallArrives (Err fault) old new came
   call_stops fault q = (together q.0, both_consumed q.0 q.1, by q.2)
     where
-      by : Stops fault (with_more mid q.0) (Unit {0}) → Stops fault (with_more old (together q.0)) (WasSound old (together q.0))
+      by : Stops fault (with_more mid q.0) (Unit {0}) → Stops fault (with_more old (together q.0)) (IsSound (with_more old (together q.0)))
       by (inl (e, ends)) = inl (e, still_inside q.0 ends)
-      by (inr (inl e)) = inr (inl (e.0, led_sound old (with_more mid q.0) (together q.0) (Open path) (leads q.0)))
+      by (inr (inl e)) = inr (inl (e.0, led_sound (with_more old (together q.0)) (with_more mid q.0) (Open path) (leads q.0)))
       by (inr (inr ends)) = inr (inr (ends_after (with_more old (together q.0)) (with_more mid q.0) (Open path ∷ []) (broken fault) (opened q.0) ends))

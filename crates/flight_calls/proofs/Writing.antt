@@ -1,17 +1,18 @@
 -- An answer as it is written.
 use Rattle.std.proofs.Common.{◌≡◌, ℕ, ◌+◌, ◌<◌, ◌≤◌, List, [], ◌∷◌, ◌++◌, length, map, take, drop, get_or, Option, sym, ap, subst, ◌∙◌, append_assoc, append-nil}
 use Rattle.std.specs.List.{flat_map}
-use Rattle.std.specs.Io.KnownBytes.{Appends}
-use Rattle.std.specs.Prelude.{Result}
+use Rattle.std.specs.Prelude.{Result, Ok, Err}
 use Rattle.std.proofs.lemmas.Grind.{flat_map-append}
 use Rattle.std.proofs.lemmas.List.{map-append, take-append-drop, drop_more}
 use Rattle.std.proofs.lemmas.List.Elements.{All-get_or}
 use Rattle.grpc_frame.specs.declared.record.Record.{Record}
 use Rattle.grpc_frame.specs.declared.record.Record.TheVariants.{Message}
 use Rattle.grpc_frame.specs.Records.{spelling}
-use Rattle.grpc_frame.specs.Ends.{AppendsBeginning, Writes}
-use Rattle.grpc_frame.proofs.Growing.{beginning_of_head, beginning_of_content, content_behind}
+use Rattle.grpc_frame.specs.Sending.{Sent, NotSent, Sends}
+use Rattle.grpc_frame.proofs.Sending.{gathered, head_not_sent, sent_behind}
+use Rattle.table_versions.specs.Table.{Table}
 use Rattle.flight_info.specs.Payloads.{Payload, FitMessages}
+use Rattle.fetch_stream.specs.Streams.{StreamAt, HasGiven, opened}
 
 -- the bytes of messages, and of an answer
 
@@ -24,6 +25,13 @@ answer_bytes payloads status = flat_map spelling (map Message payloads ++ status
 -- the messages, and then the status
 status_last : (payloads : List Payload) (status : Record) → answer_bytes payloads status ≡ messages_bytes payloads ++ spelling status
 status_last payloads status = flat_map-append spelling (map Message payloads) (status ∷ []) ∙ ap (λ l. messages_bytes payloads ++ l) (append-nil (spelling status))
+
+-- one message more
+bytes_more : (payloads : List Payload) (payload : Payload) → messages_bytes (payloads ++ payload ∷ []) ≡ messages_bytes payloads ++ spelling (Message payload)
+bytes_more payloads payload =
+    ap (flat_map spelling) (map-append Message payloads (payload ∷ []))
+    ∙ flat_map-append spelling (map Message payloads) (Message payload ∷ [])
+    ∙ ap (λ l. messages_bytes payloads ++ l) (append-nil (spelling (Message payload)))
 
 -- the messages before one, that one, and the rest of the answer
 record Cut (payloads : List Payload) (status : Record) (i : ℕ) (payload : Payload) : Type 0 where
@@ -45,21 +53,56 @@ cut_at payloads status i payload inside is =
           ∙ flat_map-append spelling front (back ++ status ∷ []);
     }
 
--- a message was begun
-pub message_begun : (a b c : Option (List ℕ)) (payloads : List Payload) (status : Record) (i : ℕ) (payload : Payload) → i < length payloads → payload ≡ get_or payloads i payload
-    → Appends a b (messages_bytes (take i payloads)) → AppendsBeginning b c (spelling (Message payload)) → AppendsBeginning a c (answer_bytes payloads status)
-message_begun a b c payloads status i payload inside is wrote begun =
-    let at = cut_at payloads status i payload inside is in
-    rw at.whole (beginning_of_content a b c (messages_bytes (take i payloads)) (spelling (Message payload) ++ at.rest) wrote (beginning_of_head b c (spelling (Message payload)) at.rest begun))
+-- nothing was sent yet
+pub none_sent : (a : Option (List ℕ)) (before : List ℕ) → Sent a a before before []
+none_sent a before = gathered a before before [] (sym (append-nil before))
 
--- the status was written, or begun
-pub status_written : {A E : Type 0} (r : Result A E) (a b c : Option (List ℕ)) (payloads : List Payload) (status : Record)
-    → Appends a b (messages_bytes payloads) → Writes r b c (spelling status) → Writes r a c (answer_bytes payloads status)
-status_written r a b c payloads status wrote last =
-    rw (status_last payloads status) (content_behind r a b c (messages_bytes payloads) (spelling status) wrote last)
+-- one message more was sent
+pub message_sent : (a b c : Option (List ℕ)) (before mid after : List ℕ) (payloads : List Payload) (i : ℕ) (payload : Payload) → i < length payloads → payload ≡ get_or payloads i payload
+    → Sent a b before mid (messages_bytes (take i payloads)) → Sent b c mid after (spelling (Message payload)) → Sent a c before after (messages_bytes (take (i + 1) payloads))
+message_sent a b c before mid after payloads i payload inside is sent more =
+    subst (Sent a c before after) (sym bytes) (sent_behind (Ok tt) a b c before mid after (messages_bytes (take i payloads)) (spelling (Message payload)) sent more)
+  where
+    bytes : messages_bytes (take (i + 1) payloads) ≡ messages_bytes (take i payloads) ++ spelling (Message payload)
+    bytes = ap messages_bytes (take_more payloads i payload inside ∙ ap (λ (p : Payload). take i payloads ++ p ∷ []) (sym is)) ∙ bytes_more (take i payloads) payload
+
+-- or not
+pub message_not_sent : (a b c : Option (List ℕ)) (before mid after : List ℕ) (payloads : List Payload) (status : Record) (i : ℕ) (payload : Payload) → i < length payloads → payload ≡ get_or payloads i payload
+    → Sent a b before mid (messages_bytes (take i payloads)) → NotSent b c mid after (spelling (Message payload)) → NotSent a c before after (answer_bytes payloads status)
+message_not_sent a b c before mid after payloads status i payload inside is sent failed =
+    let at = cut_at payloads status i payload inside is in
+    rw at.whole (sent_behind {A = Unit {0}} (Err tt) a b c before mid after (messages_bytes (take i payloads)) (spelling (Message payload) ++ at.rest) sent (head_not_sent b c mid after (spelling (Message payload)) at.rest failed))
+
+-- the status was sent, or not
+pub status_sent : {A E : Type 0} (r : Result A E) (a b c : Option (List ℕ)) (before mid after : List ℕ) (payloads : List Payload) (status : Record)
+    → Sent a b before mid (messages_bytes payloads) → Sends r b c mid after (spelling status) → Sends r a c before after (answer_bytes payloads status)
+status_sent r a b c before mid after payloads status sent last =
+    rw (status_last payloads status) (sent_behind r a b c before mid after (messages_bytes payloads) (spelling status) sent last)
 
 -- each payload fits
 pub each_fits : (payloads : List Payload) (i : ℕ) (payload : Payload) → i < length payloads → payload ≡ get_or payloads i payload → FitMessages payloads → length payload ≤ 16777216
 unfolding FitMessages
 each_fits payloads i payload inside is fits =
     subst (λ (p : Payload). length p ≤ 16777216) (sym is) (All-get_or (λ (p : Payload). length p ≤ 16777216) payloads i payload inside fits)
+
+-- ---- a stream
+
+-- one payload more was sent
+pub payload_sent : (a b c : Option (List ℕ)) (before mid after : List ℕ) (payloads : List Payload) (payload : Payload)
+    → Sent a b before mid (messages_bytes payloads) → Sent b c mid after (spelling (Message payload)) → Sent a c before after (messages_bytes (payloads ++ payload ∷ []))
+payload_sent a b c before mid after payloads payload sent more =
+    subst (Sent a c before after) (sym (bytes_more payloads payload)) (sent_behind (Ok tt) a b c before mid after (messages_bytes payloads) (spelling (Message payload)) sent more)
+
+-- or not
+pub payload_not_sent : (a b c : Option (List ℕ)) (before mid after : List ℕ) (payloads : List Payload) (payload : Payload) (status : Record)
+    → Sent a b before mid (messages_bytes payloads) → NotSent b c mid after (spelling (Message payload)) → NotSent a c before after (answer_bytes (payloads ++ payload ∷ []) status)
+payload_not_sent a b c before mid after payloads payload status sent failed =
+    rw (status_last (payloads ++ payload ∷ []) status, bytes_more payloads payload, append_assoc (messages_bytes payloads) (spelling (Message payload)) (spelling status))
+    (sent_behind {A = Unit {0}} (Err tt) a b c before mid after (messages_bytes payloads) (spelling (Message payload) ++ spelling status) sent (head_not_sent b c mid after (spelling (Message payload)) (spelling status) failed))
+
+-- what a stream has given was sent
+pub record HasSent (first stream : StreamAt) (a b : Option (List ℕ)) (before after : List ℕ) : Type 0 where
+  pub payloads : List Payload
+  pub given : (answer : Table) → first ≡ opened answer → HasGiven answer payloads stream
+  pub fits : FitMessages payloads
+  pub sent : Sent a b before after (messages_bytes payloads)

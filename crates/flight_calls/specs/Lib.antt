@@ -4,3 +4,4 @@ pub mod Ending
 pub mod Requests
 pub mod Reading
 pub mod Laws
+pub mod Answered

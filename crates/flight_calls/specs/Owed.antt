@@ -8,7 +8,7 @@ use Rattle.grpc_frame.specs.declared.place.Place.TheVariants.{BetweenCalls}
 use Rattle.grpc_frame.specs.declared.record.Record.{Record}
 use Rattle.grpc_frame.specs.declared.record.Record.TheVariants.{Message, End}
 use Rattle.grpc_frame.specs.Records.{spelling, IsRecord, Received, Ending, nothing_more, cut, broken, Splits}
-use Rattle.grpc_frame.specs.Arrivals.{WasSound}
+use Rattle.grpc_frame.specs.Arrivals.{IsSound}
 use Rattle.grpc_frame.specs.Calls.{status_of}
 use Rattle.grpc_frame.specs.Ends.{AppendsBeginning}
 use Rattle.flight_info.specs.Replies.{ReplyAt}
@@ -35,10 +35,10 @@ abbrev pub behind_calls : List ℕ → Received
 behind_calls bytes = record { bytes = bytes; place = BetweenCalls }
 
 -- Why a server ends a connection: a faulty record stands behind the whole calls; or memory was refused, and then none
--- stood right behind them before the last piece came.
+-- stands right behind them.
 abbrev pub IsCause : Fault → List ℕ → Type 0
 IsCause fault rest =
-    ((fault ≡ OutOfMemory) × WasSound (behind_calls []) rest) ⊎ EndsIn (behind_calls rest) (broken fault)
+    ((fault ≡ OutOfMemory) × IsSound (behind_calls rest)) ⊎ EndsIn (behind_calls rest) (broken fault)
 
 -- ---- what is owed
 

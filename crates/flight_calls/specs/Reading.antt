@@ -7,7 +7,7 @@ use Rattle.grpc_frame.specs.declared.place.Place.TheVariants.{BetweenCalls}
 use Rattle.grpc_frame.specs.declared.record.Record.{Record}
 use Rattle.grpc_frame.specs.declared.record.Record.TheVariants.{Message, End}
 use Rattle.grpc_frame.specs.Records.{spelling, IsRecord, Received, with_more, broken}
-use Rattle.grpc_frame.specs.Arrivals.{WasSound}
+use Rattle.grpc_frame.specs.Arrivals.{IsSound}
 use Rattle.flight_info.specs.Payloads.{Payload}
 use Rattle.flight_calls.specs.declared.call.Arrival.{Arrival}
 use Rattle.flight_calls.specs.declared.call.Arrival.TheVariants as arrival
@@ -43,7 +43,7 @@ CallArrives (Ok (arrival.Whole request)) old new came =
     (call : Call) × Holds request call × Fronts (call_records call) (with_more old came) new
 CallArrives (Ok arrival.Nothing) old new came = with_more old came ≡ record { bytes = []; place = BetweenCalls }
 CallArrives (Ok arrival.CutShort) old new came = ((with_more old came).bytes ≢ []) × EndsInside (with_more old came)
-CallArrives (Err fault) old new came = Stops fault (with_more old came) (WasSound old came)
+CallArrives (Err fault) old new came = Stops fault (with_more old came) (IsSound (with_more old came))
 
 -- this holds of a call that came
 abbrev pub FallsForCall : Arrival → Type 0 → Type 0

@@ -1,28 +1,140 @@
 //! Writing the answer of a call.
 
-ghost use Rattle.std.specs.Prelude.{◌<◌};
+ghost use Rattle.std.specs.Prelude.{◌≡◌, ◌<◌, [], Result, Ok};
+ghost use Rattle.scan_base.specs.declared.fault.Fault.{Fault as FaultAt};
+ghost use Rattle.grpc_frame.specs.declared.record.Record.TheVariants.{Message};
+ghost use Rattle.grpc_frame.specs.Records.{spelling};
 ghost use Rattle.grpc_frame.specs.Ends.{CountsFailure, FailsByTransport, Writes};
+ghost use Rattle.grpc_frame.specs.Sending.{Sends};
+ghost use Rattle.endpoint_split.specs.Handle.{HandleAt};
+ghost use Rattle.table_versions.specs.Database.{Database};
 ghost use Rattle.flight_info.specs.Payloads.{FitMessages};
-ghost use Rattle.flight_calls.specs.Owed.{answer_bytes};
+ghost use Rattle.fetch_stream.specs.Fetches.{FetchAt};
+ghost use Rattle.fetch_stream.specs.Streams.{Opens};
+ghost use Rattle.flight_core.specs.Asked.{Asked};
+ghost use Rattle.flight_core.specs.Log.{Log};
+ghost use Rattle.flight_calls.specs.Calls.{ReplyTo};
+ghost use Rattle.flight_calls.specs.Owed.{answer_bytes, last_status};
+ghost use Rattle.flight_calls.specs.Answered.{AnsweredBy, WritesReply, SendsReply};
 
-use flight_core::Reply;
-use grpc_frame::{Output, write_message, write_status};
+use flight_core::laws::streams_answer;
+use flight_core::{FetchStream, Payload, Reply};
+use grpc_frame::{Outbox, Output};
 use scan_base::Fault;
 
-/// Writes an answer: each payload in a Message, of which no copy is made, and then the Status.
+/// What answers a call.
+#[derive(Drop)]
+pub enum Answer {
+    /// A reply.
+    Whole(Reply),
+    /// The payloads of a fetch, one at a time, and then a Status.
+    Stream(FetchStream),
+}
+
+/// Writes an answer: each payload in a Message, of which a large part is not copied, and then the Status. Where it is
+/// small it is written at once. A payload of a stream is written before the next one is made.
 ///
 /// # Errors
 ///
 /// `Fault::Transport` where a write failed. It is counted, and a beginning of the answer is written.
-pub fn write_answer<W: Output>(writer: &mut W, reply: &Reply) -> Result<(), Fault>
+pub fn write_answer<W: Output>(
+    alloc: Global,
+    writer: &mut W,
+    outbox: &mut Outbox,
+    answer: Answer,
+) -> Result<(), Fault>
+    requires failures { W.failures writer.old < 18446744073709551615 }
+    requires empty { outbox.old ≡ [] }
+    ensures bytes { (asked : Result Asked FaultAt) (log new : Log) → AnsweredBy asked log answer new →
+        WritesReply (ReplyTo asked log) result (W.contents writer.old) (W.contents writer.new) new }
+    ensures empty { outbox.new ≡ [] }
+    ensures counted { CountsFailure result (W.failures writer.old) (W.failures writer.new) }
+    ensures kind { FailsByTransport result }
+{
+    match answer {
+        Answer::Whole(reply) => send_reply(writer, outbox, &reply)?,
+        Answer::Stream(stream) => send_stream(alloc, writer, outbox, stream)?,
+    }
+    outbox.flush(writer)
+}
+
+// Sends a reply.
+fn send_reply<W: Output>(writer: &mut W, outbox: &mut Outbox, reply: &Reply) -> Result<(), Fault>
     requires failures { W.failures writer.old < 18446744073709551615 }
     requires short { FitMessages reply.now.payloads }
-    ensures bytes { Writes result (W.contents writer.old) (W.contents writer.new) (answer_bytes reply.now) }
+    ensures bytes { Sends result (W.contents writer.old) (W.contents writer.new)
+        outbox.old outbox.new (answer_bytes reply.now) }
     ensures counted { CountsFailure result (W.failures writer.old) (W.failures writer.new) }
     ensures kind { FailsByTransport result }
 {
     for payload in &reply.payloads {
-        write_message(writer, payload.as_slice())?;
+        outbox.send_message(writer, payload.as_slice())?;
     }
-    write_status(writer, reply.fault)
+    outbox.send_status(writer, reply.fault)
+}
+
+// Sends a payload in a Message, piece by piece.
+fn send_payload<W: Output>(
+    writer: &mut W,
+    outbox: &mut Outbox,
+    payload: &Payload,
+) -> Result<(), Fault>
+    requires failures { W.failures writer.old < 18446744073709551615 }
+    ensures bytes { Sends result (W.contents writer.old) (W.contents writer.new)
+        outbox.old outbox.new (spelling (Message payload.now)) }
+    ensures counted { CountsFailure result (W.failures writer.old) (W.failures writer.new) }
+    ensures kind { FailsByTransport result }
+{
+    outbox.send_message_head(writer, payload.len())?;
+    let (head, parts) = payload.pieces();
+    outbox.send_part(writer, head)?;
+    for part in parts {
+        outbox.send_part(writer, part.as_slice())?;
+    }
+    Ok(())
+}
+
+// Sends what a stream gives, and then the Status. Where memory refuses the stream, a beginning is sent, and F21.
+fn send_stream<W: Output>(
+    alloc: Global,
+    writer: &mut W,
+    outbox: &mut Outbox,
+    stream: FetchStream,
+) -> Result<(), Fault>
+    requires failures { W.failures writer.old < 18446744073709551615 }
+    ensures bytes { (database : Database) (handle : HandleAt) → Opens database handle (Ok stream) →
+        SendsReply (FetchAt database handle) result (W.contents writer.old) (W.contents writer.new)
+        outbox.old outbox.new }
+    ensures counted { CountsFailure result (W.failures writer.old) (W.failures writer.new) }
+    ensures kind { FailsByTransport result }
+{
+    streams_answer();
+    let mut stream = stream;
+    loop {
+        match stream.next(alloc) {
+            Ok(Some(payload)) => send_payload(writer, outbox, &payload)?,
+            Ok(None) => return outbox.send_status(writer, None),
+            Err(fault) => return outbox.send_status(writer, Some(fault)),
+        }
+    }
+}
+
+/// Writes the Status of a fault that ends the connection.
+///
+/// # Errors
+///
+/// `Fault::Transport` where the write failed. It is counted, and a beginning of the Status is written.
+pub fn write_last_status<W: Output>(
+    writer: &mut W,
+    outbox: &mut Outbox,
+    fault: Fault,
+) -> Result<(), Fault>
+    requires failures { W.failures writer.old < 18446744073709551615 }
+    requires empty { outbox.old ≡ [] }
+    ensures bytes { Writes result (W.contents writer.old) (W.contents writer.new) (last_status fault) }
+    ensures counted { CountsFailure result (W.failures writer.old) (W.failures writer.new) }
+    ensures kind { FailsByTransport result }
+{
+    outbox.send_status(writer, Some(fault))?;
+    outbox.flush(writer)
 }

@@ -1,17 +1,20 @@
 //! What a call asks, while its messages come.
 
-ghost use Rattle.std.specs.Prelude.{◌≡◌, ◌++◌, ◌∷◌, [], ℕ, List, Some, IfSome};
+ghost use Rattle.std.specs.Prelude.{◌≡◌, ◌++◌, ◌∷◌, [], ℕ, List, Some, IfSome, Ok};
 ghost use Rattle.scan_base.specs.Reading.{Gives};
 ghost use Rattle.flight_proto.specs.Wanted.{wanted_in};
+ghost use Rattle.flight_core.specs.Asked.{fetch};
 ghost use Rattle.flight_core.specs.Event.{asked_in};
-ghost use Rattle.flight_info.specs.Payloads.{Payload, FitMessages};
+ghost use Rattle.flight_info.specs.Payloads.{Payload};
 ghost use Rattle.flight_calls.specs.declared.request.Method.TheVariants as variant;
-ghost use Rattle.flight_calls.specs.Calls.{Call, method_at, info_asked, asked_with, asked_by, ReplyTo};
+ghost use Rattle.flight_calls.specs.Calls.{Call, method_at, info_asked, asked_with, asked_by};
+ghost use Rattle.flight_calls.specs.Answered.{AnsweredBy};
 ghost use Rattle.flight_calls.specs.Requests.{IsRefused, Holds};
 
+use crate::answer::Answer;
 use crate::setting::Options;
 use bytes::Bytes;
-use flight_core::{Event, Plain, PutReader, Reply, step, step_put};
+use flight_core::{Event, Plain, PutReader, Reply, open_fetch, step, step_put};
 use flight_proto::wanted::MAX_REQUEST_LEN;
 use flight_proto::{Wanted, read_wanted};
 use scan_base::Fault;
@@ -163,22 +166,32 @@ impl Request {
         }
     }
 
-    /// The reply to the call, once its End came, and a step of the core where it is one: F4 where another method than
+    /// What answers the call, once its End came: a step of the core, or the stream of a fetch. F4 where another method than
     /// DoPut has no message, and F5 for any action.
-    pub fn answer(self, alloc: Global, plain: &mut Plain, options: Options) -> Reply
-        ensures reply { (call : Call) → Holds self call
-            → ReplyTo (asked_by options call) plain.old result plain.new }
-        ensures short { FitMessages result.payloads }
+    pub fn answer(self, alloc: Global, plain: &mut Plain, options: Options) -> Answer
+        ensures { (call : Call) → Holds self call
+            → AnsweredBy (asked_by options call) plain.old result plain.new }
     {
         match self {
-            Request::Put(reader) => step_put(alloc, plain, reader.into_put()),
-            Request::Awaits(_) => Reply::refusal(alloc, Fault::BadProto),
+            Request::Put(reader) => Answer::Whole(step_put(alloc, plain, reader.into_put())),
+            Request::Awaits(_) => Answer::Whole(Reply::refusal(alloc, Fault::BadProto)),
+            Request::Asks(Single::DoGet, ticket) => open_answer(alloc, plain, &ticket, options),
             Request::Asks(method, message) => match event_of(method, message, options) {
-                Ok(event) => step(alloc, plain, &event),
-                Err(fault) => Reply::refusal(alloc, fault),
+                Ok(event) => Answer::Whole(step(alloc, plain, &event)),
+                Err(fault) => Answer::Whole(Reply::refusal(alloc, fault)),
             },
-            Request::Settled(fault) => Reply::refusal(alloc, fault),
-            Request::Refused(fault) => Reply::refusal(alloc, fault),
+            Request::Settled(fault) => Answer::Whole(Reply::refusal(alloc, fault)),
+            Request::Refused(fault) => Answer::Whole(Reply::refusal(alloc, fault)),
         }
+    }
+}
+
+// What answers a fetch.
+fn open_answer(alloc: Global, plain: &Plain, ticket: &[u8], options: Options) -> Answer
+    ensures { AnsweredBy (Ok (fetch ticket.now options.workers)) plain.now result plain.now }
+{
+    match open_fetch(alloc, plain, ticket, options.workers) {
+        Ok(stream) => Answer::Stream(stream),
+        Err(fault) => Answer::Whole(Reply::refusal(alloc, fault)),
     }
 }

@@ -1,22 +1,22 @@
 //! Serving a connection.
 
-ghost use Rattle.std.specs.Prelude.{◌<◌, []};
+ghost use Rattle.std.specs.Prelude.{◌≡◌, ◌<◌, []};
 ghost use Rattle.flight_core.specs.Log.{Log};
 ghost use Rattle.flight_calls.specs.Owed.{Serves, connection_of};
 ghost use Rattle.flight_calls.specs.Ending.{RefusesBy};
 
-use crate::answer::write_answer;
+use crate::answer::{write_answer, write_last_status};
 use crate::call::{Arrival, read_call};
 use crate::setting::Options;
 use flight_core::Plain;
-use grpc_frame::{Inbox, Input, Output, write_status};
+use grpc_frame::{Inbox, Input, Outbox, Output};
 use scan_base::Fault;
 use std::alloc::Global;
 
 /// Serves a connection: answers its calls one after another, up to the end of its input.
 ///
-/// An answer is begun once the call's End has come, and is written before the next call is looked at. A fault
-/// of a call is its answer, and the connection goes on.
+/// An answer is begun once the call's End has come, and is written before the next call is looked at. Of a fetch each
+/// payload is written before the next one is made. A fault of a call is its answer, and the connection goes on.
 ///
 /// # Errors
 ///
@@ -43,15 +43,16 @@ pub fn serve<R: Input, W: Output>(
         (R.failures reader.new) (W.failures writer.new) plain.new) }
 {
     let mut inbox = Inbox::of_server(alloc);
+    let mut outbox = Outbox::new(alloc);
     loop {
         let request = match read_call(alloc, &mut inbox, reader) {
             Ok(Arrival::Whole(request)) => request,
             Ok(Arrival::Nothing) => return Ok(()),
             Ok(Arrival::CutShort) => return Err(Fault::Transport),
-            Err(fault) => return refuse(writer, fault),
+            Err(fault) => return refuse(writer, &mut outbox, fault),
         };
-        let reply = request.answer(alloc, plain, options);
-        let Ok(()) = write_answer(writer, &reply) else {
+        let answer = request.answer(alloc, plain, options);
+        let Ok(()) = write_answer(alloc, writer, &mut outbox, answer) else {
             return Err(Fault::Transport);
         };
     }
@@ -78,17 +79,18 @@ pub fn serve_alone<R: Input, W: Output>(
 {
     match Plain::new(alloc) {
         Ok(mut plain) => serve(alloc, reader, writer, &mut plain, options),
-        Err(fault) => refuse(writer, fault),
+        Err(fault) => refuse(writer, &mut Outbox::new(alloc), fault),
     }
 }
 
 // Says why the connection ends, where its transport has not failed.
-fn refuse<W: Output>(writer: &mut W, fault: Fault) -> Result<(), Fault>
-    requires { W.failures writer.old < 18446744073709551615 }
+fn refuse<W: Output>(writer: &mut W, outbox: &mut Outbox, fault: Fault) -> Result<(), Fault>
+    requires failures { W.failures writer.old < 18446744073709551615 }
+    requires empty { outbox.old ≡ [] }
     ensures { RefusesBy fault result (W.contents writer.old) (W.contents writer.new)
         (W.failures writer.old) (W.failures writer.new) }
 {
-    if fault == Fault::Transport || write_status(writer, Some(fault)).is_err() {
+    if fault == Fault::Transport || write_last_status(writer, outbox, fault).is_err() {
         return Err(Fault::Transport);
     }
     Err(fault)

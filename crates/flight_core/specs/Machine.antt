@@ -11,6 +11,7 @@ use Rattle.flight_info.specs.Replies.{ReplyAt}
 use Rattle.flight_core.specs.Log.{Log, puts_in, database_of, version}
 use Rattle.flight_core.specs.Puts.{command_in, put_said}
 use Rattle.fetch_stream.specs.Fetches.{version_of, handle_shown, FetchAt}
+use Rattle.fetch_stream.specs.Streams.{StreamAt, Opens}
 use Rattle.endpoint_split.specs.Handle.{HandleAt}
 use Rattle.flight_info.specs.Infos.{rows_wanted, tables_wanted, schema_wanted, InfoAt, SchemaAt}
 
@@ -36,6 +37,15 @@ FetchBy log (Ok handle) payloads fault = FetchAt (version log (version_of handle
 -- the answer to a fetch at a log
 abbrev pub FetchIn : Log → Payload → List Payload → Option Fault → Type 0
 FetchIn log ticket payloads fault = FetchBy log (handle_shown (puts_in log) ticket) payloads fault
+
+-- the stream of what a fetch shows, or the fault that is seen there
+abbrev pub OpensBy : Log → Result HandleAt Fault → Result StreamAt Fault → Type 0
+OpensBy log (Err cause) result = result ≡ Err cause
+OpensBy log (Ok handle) result = Opens (version log (version_of handle)) handle result
+
+-- the stream of a fetch at a log, or why there is none
+abbrev pub OpensIn : Log → Payload → Result StreamAt Fault → Type 0
+OpensIn log ticket result = OpensBy log (handle_shown (puts_in log) ticket) result
 
 -- at this log what is asked may be answered by this reply, and then the log is the last one
 abbrev pub StepOn : Log → Asked → ReplyAt → Log → Type 0

@@ -6,6 +6,8 @@ ghost use Rattle.flight_core.specs.Laws.{AnswersSayOneThing, PutsAreSaid, Refusa
 
 use ipc_batch::laws::messages_say_one_thing;
 
+pub use fetch_stream::laws::streams_answer;
+
 /// The payloads of an answer say at most one schema and one list of rows.
 pub fn answers_say_one_thing()
     ensures { AnswersSayOneThing }

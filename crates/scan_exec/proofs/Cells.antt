@@ -1,15 +1,13 @@
 -- The cells of rows, by the numbers of their columns.
-use Rattle.std.proofs.Common.{◌≡◌, ◌<◌, ℕ, zero, suc, ◌+◌, true, List, [], ◌∷◌, ◌++◌, length, map, get_or, take, nat_lt}
+use Rattle.std.proofs.Common.{◌≡◌, ◌<◌, ℕ, zero, suc, ◌+◌, Bool, true, List, [], ◌∷◌, ◌++◌, length, map, get_or, take, nat_lt}
 use Rattle.std.proofs.Common.{slice_get, slice_index, option_map, unwrap_or, refl, sym, ap, ◌∙◌, arith, append_assoc}
-use Rattle.std.proofs.Common.{subst, All}
 use Rattle.std.specs.List.{range_with_len}
 use Rattle.std.proofs.lemmas.Bool.{ltb-true, and_parts}
 use Rattle.std.proofs.lemmas.Option.{slice_get-map, slice_get-get_or, slice_get_read, unwrap_or-slice_get}
 use Rattle.std.proofs.lemmas.List.FromFn.{fill_by_all, get_or-range_with_len}
-use Rattle.std.proofs.lemmas.List.{length-map, take_more, map-append}
-use Rattle.std.proofs.lemmas.List.Elements.{All-append}
-use Rattle.arrays.specs.Column.{ColumnAt, slot_of, cut}
-use Rattle.arrays.specs.Batch.{AreLong, row_of}
+use Rattle.std.proofs.lemmas.List.{length-map, take_more}
+use Rattle.arrays.specs.Column.{ColumnAt, slot_of}
+use Rattle.arrays.specs.Batch.{row_of}
 use Rattle.scan_base.specs.declared.value.Value.{Value}
 use Rattle.scan_base.specs.declared.value.Value.TheVariants.{Null}
 use Rattle.scan_base.specs.Predicate.{cell_in}
@@ -113,24 +111,10 @@ held_is tree columns read row is =
     ∙ ap (passes tree) (cells_read (tree_columns tree) (row_of columns row)
     (ap (λ n. has_columns n (tree_columns tree)) wide ∙ is.taken))
 
--- a slice of one number's column more
-pub sliced : (from to : ℕ) (columns : List ColumnAt) (some : List ColumnAt) (column slice : ColumnAt)
-    (old new : List ColumnAt) →
-    columns ≡ some ++ column ∷ [] → old ≡ map (λ (c : ColumnAt). cut c from to) some → slice ≡ cut column from to →
-    new ≡ old ++ slice ∷ [] →
-    new ≡ map (λ (c : ColumnAt). cut c from to) columns
-sliced from to columns some column slice old new e f g h =
-    let parts = map-append (λ (c : ColumnAt). cut c from to) some (column ∷ []) in
-    h ∙ ap (λ front. front ++ slice ∷ []) f ∙ ap (λ last. map (λ (c : ColumnAt). cut c from to) some ++ last ∷ []) g
-    ∙ sym parts
-    ∙ ap (map (λ (c : ColumnAt). cut c from to)) (sym e)
-
--- that slice is as long as the others
-pub long_more : (rows : ℕ) (slice : ColumnAt) (old new : List ColumnAt) → AreLong rows old → slice.len ≡ rows →
-    new ≡ old ++ slice ∷ [] → AreLong rows new
-long_more rows slice old new long e h =
-    subst (AreLong rows) (sym h) (All-append (λ (column : ColumnAt). column.len ≡ rows) old (slice ∷ []) long one)
-  where
-    one : All (λ (column : ColumnAt). column.len ≡ rows) (slice ∷ [])
-    one zero d k = e
-    one (suc i) d k = absurd (omega (arith, k))
+-- whether the filters let a row through that was looked at
+pub looked_at : (tree : Tree) (columns found : List ColumnAt) (read : List ℕ) (row : ℕ) (result : Bool) →
+    IsRead tree (length columns) read → found ≡ columns →
+    result ≡ passes tree (map (cell_in (row_of found row)) read) → holds tree (row_of columns row) ≡ result
+looked_at tree columns found read row result is e h =
+    sym (h ∙ ap (λ (some : List ColumnAt). passes tree (map (cell_in (row_of some row)) read)) e
+    ∙ held_is tree columns read row is)

@@ -77,7 +77,7 @@ filter_front f g first (suc n) wider front =
 -- ---- rows before a batch
 
 -- no fewer before a later batch
-grows : (batches : List BatchAt) (i j : ℕ) → i ≤ j → rows_before batches i ≤ rows_before batches j
+pub grows : (batches : List BatchAt) (i j : ℕ) → i ≤ j → rows_before batches i ≤ rows_before batches j
 grows batches i j h =
     let whole = ap (λ (some : List BatchAt). length (flat_map rows_of some)) (sym (take-append-drop i (take j batches)))
     ∙ rows-append (take i (take j batches)) (drop i (take j batches)) in
@@ -85,7 +85,7 @@ grows batches i j h =
     omega (arith, whole, front)
 
 -- and all rows behind the last one
-in_all : (batches : List BatchAt) (i : ℕ) → i ≤ length batches →
+pub in_all : (batches : List BatchAt) (i : ℕ) → i ≤ length batches →
     rows_before batches i ≤ length (flat_map rows_of batches)
 in_all batches i h =
     let all = ap (λ (some : List BatchAt). length (flat_map rows_of some))
@@ -198,23 +198,3 @@ module _ (from a b : ℕ) (batches : List BatchAt) (i : ℕ) (there : i < length
   pub opens_one : a ≡ max (rows_before batches i) from →
       length (batches_in from b batches) ≡ length (batches_in from a batches) + 1
   opens_one e = ap length (opens e) ∙ length-append (batches_in from a batches) (i ∷ [])
-
-  -- and a later one does not
-  pub stays_open : max (rows_before batches i) from < a → batches_in from b batches ≡ batches_in from a batches
-  stays_open e =
-      sym (filter_same (has_row_in from a batches) (has_row_in from b batches) 0 (length batches)
-      (λ k low within. each k (cases_lt k i)))
-    where
-      each : (k : ℕ) → (k < i) ⊎ (i ≤ k) → has_row_in from a batches k ≡ has_row_in from b batches k
-      each k (inl before) = earlier k before
-      each k (inr behind') = by (cases_eq i k)
-        where
-          by : (i ≡ k) ⊎ (i ≡ k → ⊥) → has_row_in from a batches k ≡ has_row_in from b batches k
-          by (inl same) =
-              let first : has_row_in from a batches i ≡ true =
-              lt-ltb (max (rows_before batches i) from) (min (rows_before batches (i + 1)) a)
-              (omega (arith, e, more, high)) in
-              sym (ap (has_row_in from a batches) same) ∙ first ∙ sym now_there ∙ ap (has_row_in from b batches) same
-          by (inr other) =
-              let above : i < k = omega (arith, behind', other) in
-              none_yet a (omega (arith, more)) k above ∙ sym (none_yet b (omega arith) k above)

@@ -1,10 +1,10 @@
 -- What a plan reads and gives.
-use Rattle.std.proofs.Common.{◌≡◌, ◌≤◌, ◌<◌, ℕ, zero, suc, ◌+◌, ◌-◌, Bool, true, false, ◌&&◌, List, [], ◌∷◌, length}
-use Rattle.std.proofs.Common.{map, take, drop, max, min, nat_lt, slice_get, slice_index, unwrap_or, option_map, Option}
-use Rattle.std.proofs.Common.{Some, None, cond, refl, sym, ap, ◌∙◌, arith, length-drop}
+use Rattle.std.proofs.Common.{◌≡◌, ◌≤◌, ℕ, zero, suc, ◌+◌, Bool, true, false, ◌&&◌, List, [], ◌∷◌, length}
+use Rattle.std.proofs.Common.{map, nat_lt, slice_get, slice_index, unwrap_or, option_map, Option}
+use Rattle.std.proofs.Common.{Some, cond, refl, sym, ap, ◌∙◌, arith}
 use Rattle.std.specs.List.{filter, range_with_len}
 use Rattle.std.proofs.lemmas.Bool.{lt-ltb, ltb-true, and_parts}
-use Rattle.std.proofs.lemmas.List.{length-map, take_min, map-id}
+use Rattle.std.proofs.lemmas.List.{length-map, map-id}
 use Rattle.std.proofs.lemmas.List.FromFn.{length-range_with_len, fill_by_all}
 use Rattle.std.proofs.lemmas.Option.{slice_get-map, slice_get-get_or, unwrap_or-slice_get}
 use Rattle.std.proofs.lemmas.Simd.{map-map}
@@ -12,7 +12,7 @@ use Rattle.arrow_schema.specs.declared.data_type.DataType.{DataType}
 use Rattle.arrow_schema.specs.declared.data_type.DataType.TheVariants.{Utf8}
 use Rattle.arrow_schema.specs.declared.schema.Schema.{Schema}
 use Rattle.arrow_schema.specs.Answer.{answer_type}
-use Rattle.table_versions.specs.Database.{Database, table_at, columns_of}
+use Rattle.table_versions.specs.Database.{Database, table_at}
 use Rattle.table_versions.specs.Stored.{TableAt, CatalogAt, table_of, tables_of, plain}
 use Rattle.table_versions.specs.Table.{Row, Table}
 use Rattle.table_versions.proofs.Stores.{table_at-tables_of}
@@ -23,18 +23,19 @@ use Rattle.typed_plan.specs.declared.plan.Output.{Output}
 use Rattle.typed_plan.specs.declared.plan.Output.TheVariants.{Project}
 use Rattle.typed_plan.specs.Joined.{rows_in, rows_between}
 use Rattle.typed_plan.specs.Plan.{Tree, scan, filtered, PlanAt, taken, is_true, tree_rows, output_rows, plan_rows}
-use Rattle.typed_plan.specs.Typed.{IsTyped, IsTypedTree, IsTypedOutput, IsOver, has_columns, tree_types, types_of}
+use Rattle.typed_plan.specs.Typed.{IsTyped, IsTypedTree, IsTypedOutput, has_columns, tree_types, types_of}
 use Rattle.typed_plan.specs.Typed.{types_taken}
+use Rattle.typed_plan.specs.Held.{tree_table, tree_schema}
+use Rattle.typed_plan.specs.View.{BoundAt, tree_of, plan_of}
 use Rattle.scan_exec.specs.Chosen.{are_within, numbers_at, type_at}
-use Rattle.scan_exec.specs.Given.{tree_table, tree_columns, output_columns, cells, holds, given}
-use Rattle.scan_exec.specs.Reading.{IsRead, IsScan}
+use Rattle.scan_exec.specs.Given.{tree_columns, output_columns, cells, holds, given}
+use Rattle.scan_exec.specs.Reading.{IsRead, IsReader}
 use Rattle.scan_exec.specs.Scan.{plan_types}
 use Rattle.scan_exec.proofs.Cells.{within_at, places}
-use Rattle.scan_exec.proofs.Opening.{none_in}
 
 -- ---- the rows that a plan gives
 
-filter-map : {X Y : Type 0} (test : Y → Bool) (f : X → Y) (xs : List X) →
+pub filter-map : {X Y : Type 0} (test : Y → Bool) (f : X → Y) (xs : List X) →
     filter test (map f xs) ≡ map f (filter (λ x. test (f x)) xs)
 filter-map test f [] = refl
 filter-map test f (x ∷ xs) =
@@ -84,51 +85,15 @@ given_is plan database a b = by plan.output
         ∙ map-map (cells columns) (cells (tree_columns plan.tree))
         (filter (holds plan.tree) (rows_between a b (rows_in (table_at database (tree_table plan.tree)))))
 
--- a range may end with the rows, and not before it begins
-clamped : (from to : ℕ) (rows : List Row) →
-    rows_between from (max (min to (length rows)) from) rows ≡ rows_between from to rows
-clamped from to rows =
-    let size = length-drop from rows in
-    let same : min (max (min to (length rows)) from - from) (length (drop from rows))
-    ≡ min (to - from) (length (drop from rows)) = omega (arith, size) in
-    sym (take_min (max (min to (length rows)) from - from) (drop from rows))
-    ∙ ap (λ (n : ℕ). take n (drop from rows)) same ∙ take_min (to - from) (drop from rows)
-
 pub left_is : (plan : PlanAt) (catalog : CatalogAt) (table : TableAt) (from to : ℕ) →
     table_at catalog (tree_table plan.tree) ≡ Some table →
-    given plan (rows_between from (max (min to (length (table_of table).rows)) from) (table_of table).rows)
-    ≡ plan_rows plan (tables_of catalog) from to
+    given plan (rows_between from to (table_of table).rows) ≡ plan_rows plan (tables_of catalog) from to
 left_is plan catalog table from to there =
     let found = table_at-tables_of catalog (tree_table plan.tree) ∙ ap plain there in
-    ap (given plan) (clamped from to (table_of table).rows
-    ∙ ap (λ (t : Option Table). rows_between from to (rows_in t)) (sym found))
+    ap (given plan) (ap (λ (t : Option Table). rows_between from to (rows_in t)) (sym found))
     ∙ sym (given_is plan (tables_of catalog) from to)
 
 -- ---- the columns that it reads
-
-abbrev tree_schema : Tree → Schema
-tree_schema (scan table schema columns) = schema
-tree_schema (filtered predicate tree) = tree_schema tree
-
-over_at : (tree : Tree) (database : Database) → IsOver tree database →
-    columns_of (table_at database (tree_table tree)) ≡ Some (tree_schema tree)
-over_at (scan table schema columns) database over = over
-over_at (filtered predicate tree) database over = over_at tree database over
-
-pub not_missing : (tree : Tree) (catalog : CatalogAt) → IsOver tree (tables_of catalog) →
-    table_at catalog (tree_table tree) ≡ None → ⊥
-not_missing tree catalog over missing =
-    let none = table_at-tables_of catalog (tree_table tree) ∙ ap plain missing in
-    let some = sym (ap columns_of none) ∙ over_at tree (tables_of catalog) over in
-    cc
-
-same_schema : (tree : Tree) (catalog : CatalogAt) (table : TableAt) → IsOver tree (tables_of catalog) →
-    table_at catalog (tree_table tree) ≡ Some table →
-    table.schema ≡ tree_schema tree
-same_schema tree catalog table over there =
-    let found = table_at-tables_of catalog (tree_table tree) ∙ ap plain there in
-    let some = sym (ap columns_of found) ∙ over_at tree (tables_of catalog) over in
-    cc
 
 columns_there : (tree : Tree) → IsTypedTree tree →
     has_columns (length (tree_schema tree).fields) (tree_columns tree) ≡ true
@@ -172,15 +137,12 @@ tree_wide (scan table schema columns) =
     (length-map schema.fields (λ field. field.data_type) ∙ sym (length-range_with_len 0 (length schema.fields)))
 tree_wide (filtered predicate tree) = tree_wide tree
 
-pub read_is : (tree : Tree) (catalog : CatalogAt) (table : TableAt) (read : List ℕ) → IsTypedTree tree →
-    IsOver tree (tables_of catalog) →
-    table_at catalog (tree_table tree) ≡ Some table →
-    read ≡ numbers_at (tree_columns tree) (range_with_len 0 (length table.schema.fields)) →
-    IsRead tree (length table.schema.fields) read
-read_is tree catalog table read typed over there e =
-    let width = length table.schema.fields in
-    let same = same_schema tree catalog table over there in
-    let sized = ap (λ (n : ℕ). has_columns n (tree_columns tree)) (ap (λ (s : Schema). length s.fields) same)
+pub read_is : (tree : Tree) (schema : Schema) (read : List ℕ) → IsTypedTree tree → tree_schema tree ≡ schema →
+    read ≡ numbers_at (tree_columns tree) (range_with_len 0 (length schema.fields)) →
+    IsRead tree (length schema.fields) read
+read_is tree schema read typed same e =
+    let width = length schema.fields in
+    let sized = ap (λ (n : ℕ). has_columns n (tree_columns tree)) (ap (λ (s : Schema). length s.fields) (sym same))
     ∙ columns_there tree typed in
     let long = length-range_with_len 0 width in
     record {
@@ -191,7 +153,7 @@ read_is tree catalog table read typed over there e =
           ∙ places_within (tree_columns tree) (range_with_len 0 width) width (range_within 0 width width (omega arith))
           (ap (λ (n : ℕ). has_columns n (tree_columns tree)) long ∙ sized);
       wide = tree_wide tree ∙ ap (λ (s : Schema). length
-          (numbers_at (tree_columns tree) (range_with_len 0 (length s.fields)))) (sym same) ∙ ap length (sym e);
+          (numbers_at (tree_columns tree) (range_with_len 0 (length s.fields)))) same ∙ ap length (sym e);
     }
 
 -- what a result takes of them is there
@@ -204,12 +166,11 @@ output_there plan width read typed is = by plan.output typed.output
     by (Project columns) h = ap (λ (n : ℕ). has_columns n columns) (sym is.wide) ∙ h.0
 
 -- the columns that a tree reads are there
-pub reads : (tree : Tree) (catalog : CatalogAt) (table : TableAt) → IsTypedTree tree → IsOver tree (tables_of catalog) →
-    table_at catalog (tree_table tree) ≡ Some table →
-    has_columns (length table.schema.fields) (tree_columns tree) ≡ true
-reads tree catalog table typed over there =
-    ap (λ (n : ℕ). has_columns n (tree_columns tree))
-    (ap (λ (s : Schema). length s.fields) (same_schema tree catalog table over there)) ∙ columns_there tree typed
+pub reads : (tree : Tree) (schema : Schema) → IsTypedTree tree → tree_schema tree ≡ schema →
+    has_columns (length schema.fields) (tree_columns tree) ≡ true
+reads tree schema typed same =
+    ap (λ (n : ℕ). has_columns n (tree_columns tree)) (ap (λ (s : Schema). length s.fields) (sym same))
+    ∙ columns_there tree typed
 
 -- ---- the types of the columns that it gives
 
@@ -242,51 +203,38 @@ types_at : (tree : Tree) → tree_types tree ≡ types_taken (tree_columns tree)
 types_at (scan table schema columns) = refl
 types_at (filtered predicate tree) = types_at tree
 
-pub types_are : (plan : PlanAt) (catalog : CatalogAt) (table : TableAt) (read chosen : List ℕ) → IsTyped plan →
-    IsOver plan.tree (tables_of catalog) →
-    table_at catalog (tree_table plan.tree) ≡ Some table → IsRead plan.tree (length table.schema.fields) read →
+pub types_are : (plan : PlanAt) (schema : Schema) (read chosen : List ℕ) → IsTyped plan →
+    tree_schema plan.tree ≡ schema → IsRead plan.tree (length schema.fields) read →
     chosen ≡ numbers_at (output_columns plan.output) read →
-    plan_types plan ≡ map (type_at (types_of table.schema.fields)) chosen
-types_are plan catalog table read chosen typed over there is e =
-    let types = types_of table.schema.fields in
+    plan_types plan ≡ map (type_at (types_of schema.fields)) chosen
+types_are plan schema read chosen typed same is e =
+    let types = types_of schema.fields in
     let output = output_columns plan.output in
-    let long : length types ≡ length table.schema.fields = length-map table.schema.fields (λ field. field.data_type) in
-    let schema = same_schema plan.tree catalog table over there in
-    let of_tree = types_at plan.tree ∙ ap (λ (s : Schema). types_taken (tree_columns plan.tree) (types_of s.fields))
-    (sym schema)
+    let long : length types ≡ length schema.fields = length-map schema.fields (λ field. field.data_type) in
+    let of_tree = types_at plan.tree ∙ ap (λ (s : Schema). types_taken (tree_columns plan.tree) (types_of s.fields)) same
     ∙ types_read (tree_columns plan.tree) types (ap (λ (n : ℕ). has_columns n (tree_columns plan.tree)) long ∙ is.taken)
     ∙ ap (λ (n : ℕ). map (type_at types) (numbers_at (tree_columns plan.tree) (range_with_len 0 n))) long
     ∙ ap (map (type_at types)) (sym is.numbers) in
     ap (types_taken output) of_tree
-    ∙ types_chosen output types read (output_there plan (length table.schema.fields) read typed is)
+    ∙ types_chosen output types read (output_there plan (length schema.fields) read typed is)
     ∙ ap (map (type_at types)) (sym e)
 
--- a scan before its first row
-pub begins : (plan : PlanAt) (table : TableAt) (read chosen : List ℕ) (from to : ℕ) → IsTyped plan →
-    IsRead plan.tree (length table.schema.fields) read →
-    chosen ≡ numbers_at (output_columns plan.output) read →
-    plan_types plan ≡ map (type_at (types_of table.schema.fields)) chosen →
-    from ≤ to → (from < to → to ≤ length (table_of table).rows) →
-    IsScan plan table read chosen (record { from = from; to = to; at = from; batch = 0; start = 0; opened = 0 })
-begins plan table read chosen from to typed is e types ordered few =
-    let width = length table.schema.fields in
+-- a plan with the columns that it reads and shows
+pub reader_is : (bound : BoundAt) (read chosen : List ℕ) → IsTyped (plan_of bound) →
+    tree_schema (tree_of bound.plan) ≡ bound.table.schema →
+    read ≡ numbers_at (tree_columns (tree_of bound.plan)) (range_with_len 0 (length bound.table.schema.fields)) →
+    chosen ≡ numbers_at (output_columns bound.output) read → IsReader bound read chosen
+reader_is bound read chosen typed same r e =
+    let plan = plan_of bound in
+    let width = length bound.table.schema.fields in
+    let is = read_is plan.tree bound.table.schema read typed.tree same r in
     let there = output_there plan width read typed is in
     record {
-      typed = typed;
       reading = is;
       taken = there;
       numbers = e;
-      there = ap (are_within width) e ∙ places_within (output_columns plan.output) read width is.there there;
-      types = types;
-      placed = record {
-        begun = omega arith;
-        ordered = ordered;
-        few = few;
-        behind = omega arith;
-        start = refl;
-        filled = omega arith;
-        opened = ap length (sym (none_in from from table.batches (omega arith)));
-      };
+      there = ap (are_within width) e ∙ places_within (output_columns bound.output) read width is.there there;
+      types = types_are plan bound.table.schema read chosen typed same is e;
     }
 
 -- the result's schema has the types as which the columns that a plan gives are answered

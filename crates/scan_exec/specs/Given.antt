@@ -1,18 +1,15 @@
 -- What a plan makes of the rows of its table.
-use Rattle.std.specs.Prelude.{Bool, true, ◌&&◌, List, map}
+use Rattle.std.specs.Prelude.{ℕ, ◌-◌, Bool, true, ◌&&◌, List, [], ◌∷◌, length, map, nat_lt}
 use Rattle.std.specs.List.{filter}
 use Rattle.scan_base.specs.Predicate.{cell_in}
-use Rattle.table_versions.specs.Table.{Name, Row}
+use Rattle.arrays.specs.Batch.{BatchAt, rows_of}
+use Rattle.table_versions.specs.Table.{Row}
+use Rattle.typed_plan.specs.Joined.{rows_between}
 use Rattle.typed_plan.specs.declared.plan.Columns.{Columns}
 use Rattle.typed_plan.specs.declared.plan.Columns.TheVariants.{All, These}
 use Rattle.typed_plan.specs.declared.plan.Output.{Output}
 use Rattle.typed_plan.specs.declared.plan.Output.TheVariants.{Project}
 use Rattle.typed_plan.specs.Plan.{Tree, scan, filtered, PlanAt, is_true}
-
--- the table that a tree reads
-abbrev pub tree_table : Tree → Name
-tree_table (scan table schema columns) = table
-tree_table (filtered predicate tree) = tree_table tree
 
 -- the cells that a tree takes of a row of its table
 abbrev pub tree_columns : Tree → Columns
@@ -44,3 +41,18 @@ shown plan row = cells (output_columns plan.output) (cells (tree_columns plan.tr
 -- what a plan gives of rows of its table
 abbrev pub given : PlanAt → List Row → List Row
 given plan rows = map (shown plan) (filter (holds plan.tree) rows)
+
+-- the rows `from` up to, not with, `to` of batches that stand in order, by batch
+abbrev pub parts : ℕ → ℕ → List BatchAt → List (List Row)
+parts from to [] = []
+parts from to (batch ∷ batches) =
+    rows_between from to (rows_of batch) ∷ parts (from - batch.rows) (to - batch.rows) batches
+
+-- whether there is a row
+abbrev pub has_any : List Row → Bool
+has_any rows = nat_lt 0 (length rows)
+
+-- what a plan gives of the rows `from` up to, not with, `to` of its table: the rows of each batch of the table, without
+-- the batches of which it gives none
+abbrev pub given_by_batch : PlanAt → ℕ → ℕ → List BatchAt → List (List Row)
+given_by_batch plan from to batches = filter has_any (map (given plan) (parts from to batches))

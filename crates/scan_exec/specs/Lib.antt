@@ -3,5 +3,5 @@ pub mod Given
 pub mod Opened
 pub mod Placed
 pub mod Reading
-pub mod Runs
 pub mod Scan
+pub mod Selected

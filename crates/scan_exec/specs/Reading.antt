@@ -2,13 +2,11 @@
 use Rattle.std.specs.Prelude.{◌≡◌, ◌<◌, ℕ, IsTrue, All, List, length, map}
 use Rattle.std.specs.List.{range_with_len}
 use Rattle.arrays.specs.Column.{ColumnAt}
-use Rattle.table_versions.specs.Stored.{TableAt}
-use Rattle.typed_plan.specs.Plan.{Tree, PlanAt}
-use Rattle.typed_plan.specs.Typed.{IsTyped, IsTypedTree, has_columns, tree_types, types_of}
-use Rattle.scan_exec.specs.declared.cursor.Cursor.{Cursor}
+use Rattle.typed_plan.specs.Plan.{Tree}
+use Rattle.typed_plan.specs.Typed.{IsTypedTree, has_columns, tree_types, types_of}
+use Rattle.typed_plan.specs.View.{BoundAt, plan_of}
 use Rattle.scan_exec.specs.Chosen.{are_within, numbers_at, type_at}
 use Rattle.scan_exec.specs.Given.{tree_columns, output_columns}
-use Rattle.scan_exec.specs.Placed.{IsPlaced}
 use Rattle.scan_exec.specs.Scan.{plan_types}
 
 -- the row and the columns of these numbers are there
@@ -24,12 +22,10 @@ pub record IsRead (tree : Tree) (width : ℕ) (read : List ℕ) : Type 0 where
   pub there : IsTrue (are_within width read)
   pub wide : length (tree_types tree) ≡ length read
 
--- what a scan keeps of its plan, and where it is
-pub record IsScan (plan : PlanAt) (table : TableAt) (read shown : List ℕ) (cursor : Cursor) : Type 0 where
-  pub typed : IsTyped plan
-  pub reading : IsRead plan.tree (length table.schema.fields) read
-  pub taken : IsTrue (has_columns (length read) (output_columns plan.output))
-  pub numbers : shown ≡ numbers_at (output_columns plan.output) read
-  pub there : IsTrue (are_within (length table.schema.fields) shown)
-  pub types : plan_types plan ≡ map (type_at (types_of table.schema.fields)) shown
-  pub placed : IsPlaced table cursor
+-- these are the columns that a plan reads of its table, and those that it shows
+pub record IsReader (bound : BoundAt) (read shown : List ℕ) : Type 0 where
+  pub reading : IsRead (plan_of bound).tree (length bound.table.schema.fields) read
+  pub taken : IsTrue (has_columns (length read) (output_columns bound.output))
+  pub numbers : shown ≡ numbers_at (output_columns bound.output) read
+  pub there : IsTrue (are_within (length bound.table.schema.fields) shown)
+  pub types : plan_types (plan_of bound) ≡ map (type_at (types_of bound.table.schema.fields)) shown

@@ -1,27 +1,35 @@
 -- What a scan gives, and what it opens.
 use Rattle.std.specs.Prelude.{◌≡◌, ◌≢◌, ◌<◌, ℕ, List, [], ◌∷◌, ◌++◌, length, Option, Some, None, Result, Ok, Err}
 use Rattle.std.specs.Io.{StartsWith}
+use Rattle.std.specs.List.{flat_map}
 use Rattle.arrays.specs.Batch.{BatchAt, rows_of}
 use Rattle.arrays.specs.Column.{ColumnAt}
 use Rattle.arrays.specs.Typed.{IsOfType}
 use Rattle.arrow_schema.specs.declared.data_type.DataType.{DataType}
+use Rattle.arrow_schema.specs.declared.schema.Schema.{Schema}
 use Rattle.scan_base.specs.declared.fault.Fault.{Fault}
 use Rattle.scan_base.specs.declared.fault.Fault.TheVariants.{OutOfMemory}
-use Rattle.table_versions.specs.Database.{table_at}
-use Rattle.table_versions.specs.Stored.{TableAt, CatalogAt}
 use Rattle.table_versions.specs.Table.{Row}
 use Rattle.typed_plan.specs.Plan.{PlanAt}
 use Rattle.typed_plan.specs.Typed.{tree_types, types_taken}
-use Rattle.scan_exec.specs.Given.{tree_table, output_columns}
+use Rattle.typed_plan.specs.View.{BoundAt, plan_of}
+use Rattle.scan_exec.specs.Given.{output_columns, given_by_batch}
+use Rattle.scan_exec.specs.Opened.{batches_in}
 
--- the rows that are still to be given, and the types of their columns; the numbers of the table's batches that have a
--- row in the range, and of those that were opened; and what refused the scan
+-- The columns of the result, and the types of the table's columns that it takes; what is still to be given of each batch
+-- of the table of which a row is; the numbers of the table's batches that have a row in the range, and of those that were
+-- opened; and what refused the scan.
 pub record ScanAt : Type 0 where
-  pub left : List Row
+  pub schema : Schema
   pub types : List DataType
+  pub by_batch : List (List Row)
   pub batches : List ℕ
   pub opened : List ℕ
   pub refused : Option Fault
+
+-- the rows that are still to be given
+abbrev pub left : ScanAt → List Row
+left scan = flat_map (λ rows. rows) scan.by_batch
 
 -- there is a column for each type, of that type
 abbrev pub AreOf : List DataType → List ColumnAt → Type 0
@@ -29,13 +37,15 @@ AreOf [] [] = Unit {0}
 AreOf (data_type ∷ types) (column ∷ columns) = IsOfType data_type column.layout × AreOf types columns
 AreOf _ _ = ⊥
 
--- A batch has the next rows, one or more, in columns of the types. Those opened are the first ones of the table's
--- batches that have a row in the range, and go on from those opened before.
+-- A batch has the next rows, one or more, in columns of the types: all that are given of one batch of the table. Those
+-- opened are the first ones of the table's batches that have a row in the range, and go on from those opened before.
 pub record GivesRows (before : ScanAt) (batch : BatchAt) (after : ScanAt) : Type 0 where
   pub some : 0 < batch.rows
-  pub rows : rows_of batch ++ after.left ≡ before.left
+  pub rows : rows_of batch ++ left after ≡ left before
+  pub source : before.by_batch ≡ rows_of batch ∷ after.by_batch
   pub wide : length batch.columns ≡ length before.types
   pub typed : AreOf before.types batch.columns
+  pub schema : after.schema ≡ before.schema
   pub types : after.types ≡ before.types
   pub batches : after.batches ≡ before.batches
   pub opening : StartsWith after.opened before.opened
@@ -50,18 +60,21 @@ Gives before result after = going before.refused result
     going : Option Fault → Result (Option BatchAt) Fault → Type 0
     going (Some fault) result = (result ≡ Err fault) × (after ≡ before)
     going None (Ok (Some batch)) = GivesRows before batch after
-    going None (Ok None) = (before.left ≡ []) × (after ≡ record before { opened = before.batches })
-    going None (Err fault) = (fault ≡ OutOfMemory) × (after.refused ≡ Some fault) × (before.left ≢ [])
+    going None (Ok None) = (before.by_batch ≡ []) × (after ≡ record before { opened = before.batches })
+    going None (Err fault) = (fault ≡ OutOfMemory) × (after.refused ≡ Some fault) × (left before ≢ [])
 
 -- the types of the table's columns that a plan gives; its schema has those of answers
 abbrev pub plan_types : PlanAt → List DataType
 plan_types plan = types_taken (output_columns plan.output) (tree_types plan.tree)
 
--- the batches of a table, and none where there is no table
-abbrev pub batches_of : Option TableAt → List BatchAt
-batches_of (Some table) = table.batches
-batches_of None = []
-
--- the batches of the table that a plan reads
-abbrev pub batches_read : PlanAt → CatalogAt → List BatchAt
-batches_read plan catalog = batches_of (table_at catalog (tree_table plan.tree))
+-- a scan of a plan over the rows `from` up to, not with, `to` of its table, before its first batch
+abbrev pub scan_of : BoundAt → ℕ → ℕ → ScanAt
+scan_of bound from to =
+    record {
+      schema = bound.schema;
+      types = plan_types (plan_of bound);
+      by_batch = given_by_batch (plan_of bound) from to bound.table.batches;
+      batches = batches_in from to bound.table.batches;
+      opened = [];
+      refused = None;
+    }

@@ -1,12 +1,13 @@
 //! Which columns of a table a plan reads and gives.
 
-ghost use Rattle.std.specs.Prelude.{◌≡◌, ◌≤◌, IfOk, IsTrue, length, nat_lt};
-ghost use Rattle.std.specs.List.{list_all, range_with_len};
-ghost use Rattle.arrays.specs.Batch.{AreLong, cut_batch};
+ghost use Rattle.std.specs.Prelude.{◌≡◌, ◌≤◌, ◌<◌, All, IfOk, IsTrue, length};
+ghost use Rattle.std.specs.List.{range_with_len};
 ghost use Rattle.typed_plan.specs.Typed.{has_columns};
-ghost use Rattle.scan_exec.specs.Chosen.{are_within, numbers_at, with_columns};
+ghost use Rattle.scan_exec.specs.Chosen.{are_within, numbers_at};
+ghost use Rattle.scan_exec.specs.Selected.{rows_of_part, HasRowsAt};
 
-use arrays::Batch;
+use crate::cursor::Part;
+use arrays::{Batch, Selection};
 use std::alloc::{AllocError, Global};
 use typed_plan::Columns;
 
@@ -42,23 +43,40 @@ pub(crate) fn picked(
     Ok(picked)
 }
 
-// These columns of the rows `from` up to, not with, `to` of a batch, over the same buffers.
+// These columns of the rows of a part of a batch, over the same buffers: no value is copied.
 pub(crate) fn slice_of(
     alloc: Global,
-    batch: &Batch,
+    part: &Part<'_>,
     numbers: &[usize],
-    from: usize,
-    to: usize,
 ) -> Result<Batch, AllocError>
-    requires there { IsTrue (are_within (length batch.now.columns) numbers.now) }
-    requires ordered { from ≤ to }
-    requires within { to ≤ batch.now.rows }
-    ensures { IfOk result (λ slice. slice ≡ cut_batch (with_columns numbers.now batch.now) from to) }
+    requires there { IsTrue (are_within (length part.now.batch.now.columns) numbers.now) }
+    requires ordered { part.now.from ≤ part.now.to }
+    requires within { part.now.to ≤ part.now.batch.now.rows }
+    ensures { IfOk result (λ slice. HasRowsAt (rows_of_part part.now) numbers.now part.now.batch.now slice) }
 {
-    let columns = batch.columns();
+    let columns = part.batch.columns();
     let mut slices = Vec::with_capacity(alloc, numbers.len())?;
     for number in numbers {
-        slices.push(columns[*number].slice(from, to)?)?;
+        slices.push(columns[*number].slice(part.from, part.to)?)?;
     }
-    Ok(Batch::new(slices, to - from))
+    Ok(Batch::new(slices, part.to - part.from))
+}
+
+// These columns of the rows of a batch that are selected, in buffers of their own.
+pub(crate) fn gather_of(
+    alloc: Global,
+    batch: &Batch,
+    selection: &Selection,
+    numbers: &[usize],
+) -> Result<Batch, AllocError>
+    requires there { IsTrue (are_within (length batch.now.columns) numbers.now) }
+    requires within { All (λ row. row < batch.now.rows) selection.now }
+    ensures { IfOk result (λ gathered. HasRowsAt selection.now numbers.now batch.now gathered) }
+{
+    let columns = batch.columns();
+    let mut gathered = Vec::with_capacity(alloc, numbers.len())?;
+    for number in numbers {
+        gathered.push(columns[*number].gather(alloc, selection)?)?;
+    }
+    Ok(Batch::new(gathered, selection.len()))
 }

@@ -1,18 +1,17 @@
 //! The filters of a plan, a row at a time.
 
-ghost use Rattle.std.specs.Prelude.{◌≡◌, ◌≤◌, ◌<◌, ℕ, not, length};
-ghost use Rattle.arrays.specs.Batch.{row_of};
+ghost use Rattle.std.specs.Prelude.{◌≡◌, ◌≢◌, ◌≤◌, ◌^◌, ◌<◌, [], IfErr, OnOk, length};
 ghost use Rattle.typed_plan.specs.Typed.{IsTypedTree, tree_types};
 ghost use Rattle.typed_plan.specs.View.{tree_of};
-ghost use Rattle.scan_exec.specs.Given.{passes, holds};
+ghost use Rattle.scan_exec.specs.Given.{passes};
 ghost use Rattle.scan_exec.specs.Reading.{IsRead};
-ghost use Rattle.scan_exec.specs.Runs.{IsFirstRun};
+ghost use Rattle.scan_exec.specs.Selected.{chosen_rows};
 
+use crate::cursor::Part;
 use crate::row::BatchRow;
-use arrays::Batch;
-use arrays::laws::batch_slices_keep_rows;
+use arrays::Selection;
 use scan_base::Truth;
-use std::ops::Range;
+use std::alloc::AllocError;
 use typed_plan::Plan;
 
 // Whether all filters of a plan are true in a row of its input.
@@ -28,51 +27,28 @@ fn passes(plan: &Plan, row: &BatchRow<'_>) -> bool
     }
 }
 
-// The first of the rows `from` up to, not with, `to` of a batch that the plan's filters let through, or, where
-// `held` is false, do not; `to` where there is none.
-fn first_row(
+// The rows of a part of a batch that the plan's filters let through, into an empty selection. Memory refuses it only
+// where there is one.
+pub(crate) fn select(
     plan: &Plan,
     read: &[usize],
-    batch: &Batch,
-    from: usize,
-    to: usize,
-    held: bool,
-) -> usize
-    requires read { IsRead (tree_of plan.now) (length batch.now.columns) read.now }
-    requires ordered { from ≤ to }
-    requires within { to ≤ batch.now.rows }
-    ensures low { from ≤ result }
-    ensures high { result ≤ to }
-    ensures passed { (k : ℕ) → from ≤ k → k < result →
-        holds (tree_of plan.now) (row_of batch.now.columns k) ≡ not held }
-    ensures found { result < to → holds (tree_of plan.now) (row_of batch.now.columns result) ≡ held }
+    part: &Part<'_>,
+    selection: &mut Selection,
+) -> Result<(), AllocError>
+    requires read { IsRead (tree_of plan.now) (length part.now.batch.now.columns) read.now }
+    requires ordered { part.now.from ≤ part.now.to }
+    requires within { part.now.to ≤ part.now.batch.now.rows }
+    requires small { part.now.to < 2 ^ 32 }
+    requires empty { selection.old ≡ [] }
+    ensures selected { OnOk result (selection.new ≡ chosen_rows (tree_of plan.now) part.now) }
+    ensures refused { IfErr result (λ _. chosen_rows (tree_of plan.now) part.now ≢ []) }
 {
-    let columns = batch.columns();
-    for row in from..to {
+    let columns = part.batch.columns();
+    for row in part.from..part.to {
         let cells = BatchRow { columns, read, row };
-        if passes(plan, &cells) == held {
-            return row;
+        if passes(plan, &cells) {
+            selection.push(row as u32)?;
         }
     }
-    to
-}
-
-// The first rows next to each other, of the rows `from` up to, not with, `to` of a batch, that the plan's filters
-// let through.
-pub(crate) fn first_run(
-    plan: &Plan,
-    read: &[usize],
-    batch: &Batch,
-    from: usize,
-    to: usize,
-) -> Range<usize>
-    requires read { IsRead (tree_of plan.now) (length batch.now.columns) read.now }
-    requires ordered { from ≤ to }
-    requires within { to ≤ batch.now.rows }
-    ensures { IsFirstRun (holds (tree_of plan.now)) batch.now from to result.start result.end }
-{
-    batch_slices_keep_rows();
-    let start = first_row(plan, read, batch, from, to, true);
-    let end = first_row(plan, read, batch, start, to, false);
-    start..end
+    Ok(())
 }

@@ -4,6 +4,7 @@
 mod columns;
 mod cursor;
 mod filter;
+mod reader;
 mod row;
 pub mod scan;
 mod tree;

@@ -1,104 +1,94 @@
 //! Scans.
 
-ghost use Rattle.std.specs.Prelude.{◌≡◌, [], false, None, IfOk, length, map};
+ghost use Rattle.std.specs.Prelude.{◌≡◌, false, IfOk, length, map};
 ghost use Rattle.std.specs.List.{list_any};
 ghost use Rattle.arrow_schema.specs.Answer.{answer_type};
-ghost use Rattle.table_versions.specs.Stored.{tables_of};
+ghost use Rattle.table_versions.specs.Stored.{CatalogAt, tables_of};
 ghost use Rattle.table_versions.specs.Table.{is_long_text};
+ghost use Rattle.typed_plan.specs.Held.{HoldsFrom};
 ghost use Rattle.typed_plan.specs.Plan.{plan_rows};
-ghost use Rattle.typed_plan.specs.Typed.{IsOver, types_of};
+ghost use Rattle.typed_plan.specs.Typed.{types_of};
 ghost use Rattle.typed_plan.specs.View.{plan_of};
-ghost use Rattle.scan_exec.specs.Opened.{batches_in};
-ghost use Rattle.scan_exec.specs.Scan.{Gives, batches_read, plan_types};
+ghost use Rattle.scan_exec.specs.Placed.{IsPlaced, Finds};
+ghost use Rattle.scan_exec.specs.Scan.{Gives, left, plan_types, scan_of};
 
-use crate::columns::{numbers_below, picked, slice_of};
 use crate::cursor::Cursor;
-use crate::tree::{output_columns, table_columns, table_name};
-use arrays::Batch;
-use arrays::laws::batch_slices_keep_rows;
+use crate::reader::Reader;
+use arrays::{Batch, Selection};
+use arrow_schema::Schema;
 use scan_base::Fault;
 use std::alloc::{AllocError, Global};
 use std::marker::Model;
-use table_versions::{CatalogVersion, TableVersion};
 use typed_plan::TypedPlan;
 
-/// The rows of a plan over a range of its table's rows, still to be given. A contract sees these rows,
+/// What a plan gives of a range of its table's rows, still to be given, batch by batch. A contract sees these rows,
 /// which batches of the table have a row in the range, which were opened, and what refused the scan.
 #[derive(Drop)]
-pub struct Scan<'a> {
-    plan: &'a TypedPlan,
-    table: &'a TableVersion,
-    // The numbers of the table's columns that the filters look at, and of those that the result has.
-    read: Vec<usize>,
-    shown: Vec<usize>,
+pub struct Scan {
+    reader: Reader,
     cursor: Cursor,
+    // The rows that were chosen of the last batch. Its memory is used for each batch again.
+    selection: Selection,
     refused: Option<Fault>,
 }
 
-impl<'a> Model for Scan<'a> {
-    ghost use Rattle.std.specs.Prelude.{length};
-    ghost use Rattle.table_versions.specs.Stored.{table_of};
-    ghost use Rattle.typed_plan.specs.Joined.{rows_between};
+impl Model for Scan {
     ghost use Rattle.typed_plan.specs.View.{plan_of};
-    ghost use Rattle.scan_exec.specs.Given.{given};
+    ghost use Rattle.scan_exec.specs.Given.{given_by_batch};
     ghost use Rattle.scan_exec.specs.Opened.{batches_in};
-    ghost use Rattle.scan_exec.specs.Reading.{IsScan};
+    ghost use Rattle.scan_exec.specs.Placed.{IsPlaced};
     ghost use Rattle.scan_exec.specs.Scan.{ScanAt, plan_types};
 
     ghost Value = { ScanAt };
 
     ghost view = { λ s. record {
-      left = given (plan_of s.plan.now) (rows_between s.cursor.at s.cursor.to (table_of s.table.now).rows);
-      types = plan_types (plan_of s.plan.now);
-      batches = batches_in s.cursor.from s.cursor.to s.table.now.batches;
-      opened = batches_in s.cursor.from s.cursor.at s.table.now.batches;
+      schema = s.reader.schema;
+      types = plan_types (plan_of s.reader);
+      by_batch = given_by_batch (plan_of s.reader) s.cursor.at s.cursor.to s.reader.table.batches;
+      batches = batches_in s.cursor.from s.cursor.to s.reader.table.batches;
+      opened = batches_in s.cursor.from s.cursor.at s.reader.table.batches;
       refused = s.refused;
     } };
 
-    ghost invariant = { λ s. IsScan (plan_of s.plan.now) s.table.now s.read.items s.shown.items s.cursor };
+    ghost invariant = { λ s. IsPlaced s.reader.table s.cursor };
 }
 
-impl<'a> Scan<'a> {
-    /// The scan of a plan over the rows `from` up to, not with, `to` of its table, at a version of the
-    /// catalog. Rows that the table does not have are none.
-    pub fn new(
-        alloc: Global,
-        plan: &'a TypedPlan,
-        catalog: &'a CatalogVersion,
-        from: usize,
-        to: usize,
-    ) -> Result<Scan<'a>, AllocError>
-        requires { IsOver (plan_of plan.now).tree (tables_of catalog.now) }
-        ensures scan { IfOk result (λ scan. scan ≡ record {
-          left = plan_rows (plan_of plan.now) (tables_of catalog.now) from to;
-          types = plan_types (plan_of plan.now);
-          batches = batches_in from to (batches_read (plan_of plan.now) catalog.now);
-          opened = [];
-          refused = None;
-        }) }
-        ensures short { IfOk result (λ scan. list_any (list_any is_long_text) scan.left ≡ false) }
-        ensures typed { types_of plan.now.schema.fields ≡ map answer_type (plan_types (plan_of plan.now)) }
+impl Scan {
+    /// The scan of a plan over the rows `from` up to, not with, `to` of its table. Rows that the table does not have
+    /// are none. The first row is looked for by halves.
+    ///
+    /// # Errors
+    ///
+    /// `AllocError` where memory is refused.
+    pub fn new(alloc: Global, plan: TypedPlan, from: usize, to: usize) -> Result<Scan, AllocError>
+        ensures scan { IfOk result (λ scan. scan ≡ scan_of plan from to) }
+        ensures rows { IfOk result (λ scan. (catalog : CatalogAt) → HoldsFrom catalog plan →
+            left scan ≡ plan_rows (plan_of plan) (tables_of catalog) from to) }
+        ensures short { IfOk result (λ scan. list_any (list_any is_long_text) (left scan) ≡ false) }
+        ensures typed { types_of plan.schema.fields ≡ map answer_type (plan_types (plan_of plan)) }
     {
-        let tree = plan.plan();
-        let Some(table) = catalog.get(table_name(tree)) else {
-            unreachable!()
-        };
-        let numbers = numbers_below(alloc, table.schema().fields.len())?;
-        let read = picked(alloc, table_columns(tree), numbers.as_slice())?;
-        let shown = picked(alloc, output_columns(plan.output()), read.as_slice())?;
+        let reader = Reader::new(alloc, plan)?;
+        let table = reader.plan().table();
         let end = to.min(table.rows()).max(from);
+        let cursor = Cursor::new(table, from, end);
         Ok(Scan {
-            plan,
-            table,
-            read,
-            shown,
-            cursor: Cursor::new(from, end),
+            reader,
+            cursor,
+            selection: Selection::new(alloc),
             refused: None,
         })
     }
 
-    /// The next rows, one or more, as slices of the table's columns: no value is copied. `None` where no
-    /// row is left. What refuses a scan is answered from then on.
+    /// The columns of the result.
+    pub fn schema(&self) -> &Schema
+        ensures { result.now ≡ self.now.schema }
+    {
+        self.reader.plan().schema()
+    }
+
+    /// What the plan gives of the next batch of the table of which it gives a row: one or more rows. Where these stand
+    /// next to each other they are slices of the table's columns, and no value is copied; else they are gathered into
+    /// buffers of their own. `None` where no row is left. What refuses a scan is answered from then on.
     ///
     /// # Errors
     ///
@@ -106,18 +96,11 @@ impl<'a> Scan<'a> {
     pub fn next(&mut self, alloc: Global) -> Result<Option<Batch>, Fault>
         ensures { Gives self.old result self.new }
     {
-        batch_slices_keep_rows();
         if let Some(fault) = self.refused {
             return Err(fault);
         }
-        let Some(run) = self
-            .cursor
-            .next_run(self.plan.plan(), self.read.as_slice(), self.table)
-        else {
-            return Ok(None);
-        };
-        match slice_of(alloc, run.batch, self.shown.as_slice(), run.from, run.to) {
-            Ok(batch) => Ok(Some(batch)),
+        match next_batch(alloc, &self.reader, &mut self.cursor, &mut self.selection) {
+            Ok(found) => Ok(found),
             Err(_) => {
                 self.refused = Some(Fault::OutOfMemory);
                 Err(Fault::OutOfMemory)
@@ -131,4 +114,25 @@ impl<'a> Scan<'a> {
     {
         self.cursor.opened
     }
+}
+
+// What a plan gives of the next batch of its table of which it gives a row.
+fn next_batch(
+    alloc: Global,
+    reader: &Reader,
+    cursor: &mut Cursor,
+    selection: &mut Selection,
+) -> Result<Option<Batch>, AllocError>
+    requires placed { IsPlaced reader.now.table cursor.old }
+    ensures placed { IsPlaced reader.now.table cursor.new }
+    ensures found { Finds reader.now cursor.old result cursor.new }
+{
+    let table = reader.plan().table();
+    while cursor.at < cursor.to {
+        let part = cursor.open(table);
+        if let Some(batch) = reader.pick(alloc, &part, selection)? {
+            return Ok(Some(batch));
+        }
+    }
+    Ok(None)
 }

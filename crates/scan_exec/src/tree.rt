@@ -2,22 +2,12 @@
 
 ghost use Rattle.std.specs.Prelude.{◌≡◌};
 ghost use Rattle.typed_plan.specs.View.{tree_of};
-ghost use Rattle.scan_exec.specs.Given.{tree_table, tree_columns, output_columns};
+ghost use Rattle.scan_exec.specs.Given.{tree_columns, output_columns};
+ghost use Rattle.scan_exec.specs.Selected.{has_filter};
 
-use scan_base::Text;
 use typed_plan::{Columns, Output, Plan};
 
-// The name of the table that a plan reads.
-pub(crate) fn table_name(plan: &Plan) -> &Text
-    ensures { result.now ≡ tree_table (tree_of plan.now) }
-{
-    match plan {
-        Plan::Scan { table, .. } => table,
-        Plan::Filter { input, .. } => table_name(input),
-    }
-}
-
-// The columns that it takes of that table.
+// The columns that a plan takes of its table.
 pub(crate) fn table_columns(plan: &Plan) -> &Columns
     ensures { result.now ≡ tree_columns (tree_of plan.now) }
 {
@@ -33,5 +23,15 @@ pub(crate) fn output_columns(output: &Output) -> &Columns
 {
     match output {
         Output::Project(columns) => columns,
+    }
+}
+
+// Whether a plan leaves rows out.
+pub(crate) fn has_filter(plan: &Plan) -> bool
+    ensures { result ≡ has_filter (tree_of plan.now) }
+{
+    match plan {
+        Plan::Scan { .. } => false,
+        Plan::Filter { .. } => true,
     }
 }

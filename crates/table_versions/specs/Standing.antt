@@ -1,7 +1,8 @@
 -- Where the rows of a table stand among its batches.
-use Rattle.std.specs.Prelude.{◌≡◌, ◌≤◌, ℕ, ◌+◌, ◌-◌, List, length, take, drop, Some, slice_get}
+use Rattle.std.specs.Prelude.{◌≡◌, ◌≤◌, ◌<◌, ℕ, ◌+◌, ◌-◌, List, length, take, drop, Some, slice_get}
 use Rattle.std.specs.List.{flat_map}
 use Rattle.arrays.specs.Batch.{BatchAt, rows_of, cut_batch}
+use Rattle.table_versions.specs.declared.table.BatchPlace.{BatchPlace}
 use Rattle.table_versions.specs.Stored.{TableAt, table_of}
 
 -- how many rows stand before batch i
@@ -19,3 +20,11 @@ abbrev pub BatchesAreRows : Type 0
 BatchesAreRows = (table : TableAt) →
     (rows_before table.batches (length table.batches) ≡ length (table_of table).rows)
     × ((i : ℕ) (batch : BatchAt) → slice_get table.batches i ≡ Some batch → StandsAt table i batch)
+
+-- a row of a table stands in the batch of this place; each batch before it has rows
+pub record StandsIn (table : TableAt) (row : ℕ) (place : BatchPlace) : Type 0 where
+  pub there : place.index < length table.batches
+  pub start : place.start ≡ rows_before table.batches place.index
+  pub behind : place.start ≤ row
+  pub before : row < rows_before table.batches (place.index + 1)
+  pub filled : place.index ≤ place.start

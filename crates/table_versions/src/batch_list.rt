@@ -13,18 +13,25 @@ use std::sync::Arc;
 // How many batches a full page has.
 const PAGE_SIZE: usize = 256;
 
+// A batch of a table, and how many rows of the table stand before it.
+#[derive(Drop)]
+pub(crate) struct PlacedBatch {
+    pub(crate) batch: Batch,
+    pub(crate) start: usize,
+}
+
 // A part of a list of batches.
 #[derive(Drop)]
 struct Page {
-    batches: Vec<Arc<Batch>>,
+    batches: Vec<Arc<PlacedBatch>>,
 }
 
 impl Model for Page {
     ghost use Rattle.std.specs.Prelude.{List, map};
     ghost use Rattle.std.specs.Arc.{arc_value};
-    ghost use Rattle.arrays.specs.Batch.{BatchAt};
+    ghost use Rattle.table_versions.specs.declared.batch_list.PlacedBatch.{PlacedBatch};
 
-    ghost Value = { List BatchAt };
+    ghost Value = { List PlacedBatch };
 
     ghost view = { λ page. map arc_value page.batches.items };
 }
@@ -44,7 +51,7 @@ impl Page {
         self.batches.len()
     }
 
-    fn batch(&self, index: usize) -> &Batch
+    fn batch(&self, index: usize) -> &PlacedBatch
         requires { index < length self.now }
         ensures { slice_get self.now index ≡ Some result.now }
     {
@@ -61,7 +68,7 @@ impl Page {
     }
 
     // The page with one batch more at its end.
-    fn with(mut self, alloc: Global, batch: Batch) -> Result<Page, AllocError>
+    fn with(mut self, alloc: Global, batch: PlacedBatch) -> Result<Page, AllocError>
         ensures { IfOk result (λ page. page ≡ self ++ batch ∷ []) }
     {
         let handle = Arc::new(alloc, batch).map_err(|_| AllocError)?;
@@ -80,10 +87,10 @@ pub(crate) struct BatchList {
 impl Model for BatchList {
     ghost use Rattle.std.specs.Prelude.{List, map};
     ghost use Rattle.std.specs.Arc.{arc_value};
-    ghost use Rattle.arrays.specs.Batch.{BatchAt};
+    ghost use Rattle.table_versions.specs.declared.batch_list.PlacedBatch.{PlacedBatch};
     ghost use Rattle.table_versions.specs.Batches.{joined, IsPaged};
 
-    ghost Value = { List BatchAt };
+    ghost Value = { List PlacedBatch };
 
     ghost view = { λ list. joined (map arc_value list.full.items) list.last };
 
@@ -110,7 +117,7 @@ impl BatchList {
     }
 
     // The batch of a number, counted from 0.
-    pub(crate) fn batch(&self, index: usize) -> &Batch
+    pub(crate) fn batch(&self, index: usize) -> &PlacedBatch
         requires { index < length self.now }
         ensures { slice_get self.now index ≡ Some result.now }
     {
@@ -132,7 +139,7 @@ impl BatchList {
     }
 
     // The list with one batch more at its end.
-    pub(crate) fn with(self, alloc: Global, batch: Batch) -> Result<BatchList, AllocError>
+    pub(crate) fn with(self, alloc: Global, batch: PlacedBatch) -> Result<BatchList, AllocError>
         ensures { IfOk result (λ list. list ≡ self ++ batch ∷ []) }
     {
         let BatchList { mut full, last } = self;

@@ -18,6 +18,7 @@ ghost use Rattle.table_versions.specs.Valid.{IsPut};
 use crate::catalog::CatalogVersion;
 use crate::cells::{has_bad_null, has_long_row};
 use crate::fields::{has_repeat, same_fields};
+use crate::growing::GrowingTable;
 use crate::limits::{MAX_COMMITS, MAX_NAME_BYTES, MAX_ROWS, MAX_TABLES};
 use crate::put::Put;
 use crate::snapshot::Snapshot;
@@ -130,7 +131,8 @@ fn appended(
     ensures { IfOk result (λ table. table
         ≡ record { schema = old.now.schema; batches = old.now.batches ++ kept batches.items }) }
 {
-    old.share(alloc)?.extended(alloc, batches)
+    let grown = old.grow(alloc)?.extended(alloc, batches)?;
+    TableVersion::grown(alloc, grown)
 }
 
 // A table of these batches alone.
@@ -141,7 +143,8 @@ fn created(alloc: Global, schema: Schema, batches: Vec<Batch>) -> Result<TableVe
     ensures { IfOk result (λ table. table
         ≡ record { schema = schema; batches = kept batches.items }) }
 {
-    TableVersion::new(alloc, schema)?.extended(alloc, batches)
+    let grown = GrowingTable::new(alloc, schema)?.extended(alloc, batches)?;
+    TableVersion::grown(alloc, grown)
 }
 
 // The put's name, and the table that it makes.

@@ -1,17 +1,17 @@
 //! A table as a version of the catalog has it.
 
-ghost use Rattle.std.specs.Prelude.{◌≡◌, ◌<◌, ◌+◌, ◌≤◌, ◌∷◌, ◌++◌, [], Some, length, slice_get};
-ghost use Rattle.std.specs.Prelude.{IfOk, IsTrue, All};
-ghost use Rattle.std.specs.List.{flat_map};
+ghost use Rattle.std.specs.Prelude.{◌≡◌, ◌<◌, ◌≤◌, Some, length, slice_get, IfOk};
 ghost use Rattle.std.specs.Arc.{arc_value};
 ghost use Rattle.arrow_schema.specs.Schema.{IsSchema};
-ghost use Rattle.arrays.specs.Batch.{BatchAt, rows_of};
+ghost use Rattle.arrays.specs.Batch.{rows_of};
 ghost use Rattle.arrays.specs.Typed.{AreOfTypes};
 ghost use Rattle.scan_base.specs.Limits.{most_columns, most_rows};
-ghost use Rattle.table_versions.specs.Stored.{table_of, has_rows, kept};
 ghost use Rattle.table_versions.specs.Kept.{AreSound};
+ghost use Rattle.table_versions.specs.Standing.{StandsIn};
+ghost use Rattle.table_versions.specs.Stored.{table_of};
 
 use crate::batch_list::BatchList;
+use crate::growing::GrowingTable;
 use arrays::Batch;
 use arrow_schema::Schema;
 use std::alloc::{AllocError, Global};
@@ -24,21 +24,27 @@ use std::sync::Arc;
 #[derive(Drop)]
 pub struct TableVersion {
     schema: Arc<Schema>,
-    batches: BatchList,
+    batches: Arc<BatchList>,
     rows: usize,
+}
+
+/// A batch of a table: its number, counted from 0, and how many rows of the table stand before it.
+#[derive(Clone, Copy, Drop)]
+pub struct BatchPlace {
+    pub index: usize,
+    pub start: usize,
 }
 
 impl Model for TableVersion {
     ghost use Rattle.std.specs.Arc.{arc_value};
     ghost use Rattle.table_versions.specs.Stored.{TableAt};
-    ghost use Rattle.table_versions.specs.Kept.{IsKept};
+    ghost use Rattle.table_versions.specs.Batches.{ArePlaced, placed_table};
 
     ghost Value = { TableAt };
 
-    ghost view = { λ t. record { schema = arc_value t.schema; batches = t.batches } };
+    ghost view = { λ t. placed_table (arc_value t.schema) (arc_value t.batches) };
 
-    ghost invariant = { λ t.
-        IsKept (record { schema = arc_value t.schema; batches = t.batches }) t.rows };
+    ghost invariant = { λ t. ArePlaced (arc_value t.schema) (arc_value t.batches) t.rows };
 }
 
 impl TableVersion {
@@ -77,73 +83,67 @@ impl TableVersion {
         ensures few { length result.now.columns ≤ most_columns }
         ensures sound { AreSound self.now.schema.fields (rows_of result.now) }
     {
-        self.batches.batch(index)
+        &self.batches.batch(index).batch
     }
 
-    // A table of no rows.
-    pub(crate) fn new(alloc: Global, schema: Schema) -> Result<TableVersion, AllocError>
-        requires { IsSchema schema }
-        ensures { IfOk result (λ table. table ≡ record { schema = schema; batches = [] }) }
+    /// The batch that a row stands in, looked for by halves.
+    pub fn batch_of(&self, row: usize) -> BatchPlace
+        requires { row < length (table_of self.now).rows }
+        ensures { StandsIn self.now row result }
     {
-        Ok(TableVersion {
-            schema: Arc::new(alloc, schema).map_err(|_| AllocError)?,
-            batches: BatchList::new(alloc),
-            rows: 0,
-        })
+        let mut index = 0;
+        let mut end = self.batches.len();
+        while end - index > 1 {
+            let middle = index + (end - index) / 2;
+            if self.batches.batch(middle).start <= row {
+                index = middle;
+            } else {
+                end = middle;
+            }
+        }
+        let start = self.batches.batch(index).start;
+        BatchPlace { index, start }
     }
 
-    // The same table once more.
-    pub(crate) fn share(&self, alloc: Global) -> Result<TableVersion, AllocError>
+    /// The same table once more, over the same batches. It takes no memory.
+    ///
+    /// # Errors
+    ///
+    /// `AllocError` where the table refuses another owner.
+    pub fn share(&self) -> Result<TableVersion, AllocError>
         ensures { IfOk result (λ table. table ≡ self.now) }
     {
         Ok(TableVersion {
+            schema: Arc::try_clone(&self.schema)?,
+            batches: Arc::try_clone(&self.batches)?,
+            rows: self.rows,
+        })
+    }
+
+    // The same table once more, for more batches.
+    pub(crate) fn grow(&self, alloc: Global) -> Result<GrowingTable, AllocError>
+        ensures { IfOk result (λ table. table ≡ self.now) }
+    {
+        Ok(GrowingTable {
             schema: Arc::try_clone(&self.schema)?,
             batches: self.batches.share(alloc)?,
             rows: self.rows,
         })
     }
 
-    // The table with one batch more behind its others.
-    fn with(self, alloc: Global, batch: Batch) -> Result<TableVersion, AllocError>
-        requires filled { IsTrue (has_rows batch) }
-        requires typed { AreOfTypes self.schema.fields batch.columns }
-        requires sound { AreSound self.schema.fields (rows_of batch) }
-        requires few { length (flat_map rows_of self.batches) + batch.rows ≤ most_rows }
-        ensures { IfOk result (λ table. table
-            ≡ record self { batches = self.batches ++ batch ∷ [] }) }
+    // A table that has all its batches.
+    pub(crate) fn grown(alloc: Global, table: GrowingTable) -> Result<TableVersion, AllocError>
+        ensures { IfOk result (λ version. version ≡ table) }
     {
-        let TableVersion {
+        let GrowingTable {
             schema,
             batches,
             rows,
-        } = self;
-        let rows = rows + batch.rows();
+        } = table;
         Ok(TableVersion {
             schema,
-            batches: batches.with(alloc, batch)?,
+            batches: Arc::new(alloc, batches).map_err(|_| AllocError)?,
             rows,
         })
-    }
-
-    // The table with those of the batches that have rows behind its others.
-    pub(crate) fn extended(
-        self,
-        alloc: Global,
-        batches: Vec<Batch>,
-    ) -> Result<TableVersion, AllocError>
-        requires typed { All (λ (batch : BatchAt). AreOfTypes self.schema.fields batch.columns)
-            batches.items }
-        requires sound { AreSound self.schema.fields (flat_map rows_of batches.items) }
-        requires few { length (flat_map rows_of (self.batches ++ batches.items)) ≤ most_rows }
-        ensures { IfOk result (λ table. table
-            ≡ record self { batches = self.batches ++ kept batches.items }) }
-    {
-        let mut table = self;
-        for batch in batches {
-            if batch.rows() > 0 {
-                table = table.with(alloc, batch)?;
-            }
-        }
-        Ok(table)
     }
 }

@@ -12,6 +12,7 @@ pub mod Outcome
 pub mod Named
 pub mod Plan
 pub mod View
+pub mod Held
 pub mod Typed
 pub mod Binding
 pub mod Plain

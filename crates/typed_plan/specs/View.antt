@@ -3,10 +3,12 @@ use Rattle.arrow_schema.specs.declared.schema.Schema.{Schema}
 use Rattle.typed_plan.specs.declared.plan.Plan.{Plan, Scan, Filter'}
 use Rattle.typed_plan.specs.declared.plan.Output.{Output}
 use Rattle.scan_base.specs.View.{pred_of}
+use Rattle.table_versions.specs.Stored.{TableAt}
 use Rattle.typed_plan.specs.Plan.{Tree, scan, filtered, PlanAt}
 
--- a bound query: a tree of boxes, what the result takes of its rows, and the result's columns
+-- a bound query: the table that it reads, a tree of boxes, what the result takes of its rows, and the result's columns
 pub record BoundAt : Type 0 where
+  pub table : TableAt
   pub plan : Plan
   pub output : Output
   pub schema : Schema

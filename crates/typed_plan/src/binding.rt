@@ -9,6 +9,7 @@ ghost use Rattle.table_versions.specs.Stored.{tables_of};
 ghost use Rattle.typed_plan.specs.Binding.{IsPlanOf};
 ghost use Rattle.typed_plan.specs.Bound.{fault_of, glance_of};
 ghost use Rattle.typed_plan.specs.Faults.{filter_fault};
+ghost use Rattle.typed_plan.specs.Held.{HoldsFrom, tree_table};
 ghost use Rattle.typed_plan.specs.Named.{HasNames};
 ghost use Rattle.typed_plan.specs.Outcome.{Binds};
 ghost use Rattle.typed_plan.specs.Plain.{plain_fault, place_scope, plain_plan, numbered_filter, where_kept};
@@ -28,7 +29,7 @@ use table_versions::{CatalogVersion, TableVersion};
 
 /// The plan of a query at a version of the catalog. It gives the rows that the query means, on every
 /// range of the first place, and has the schema of the result, which can be written where the query's
-/// aliases are names.
+/// aliases are names. It shares the table of its first place.
 ///
 /// # Errors
 ///
@@ -43,6 +44,8 @@ pub fn bind(alloc: Global, query: &Query, catalog: &CatalogVersion) -> Result<Ty
         (λ plan. IsPlanOf (sentence_of query.now) (tables_of catalog.now) (plan_of plan)) result }
     ensures named { HasNames query.now.select → IfOk result (λ plan. IsSchema plan.schema) }
     ensures first { RefusesFirst result (glance_of (sentence_of query.now) (tables_of catalog.now)) }
+    ensures held { IfOk result (λ plan. HoldsFrom catalog.now plan) }
+    ensures place { IfOk result (λ plan. tree_table (tree_of plan.plan) ≡ query.now.first.table) }
 {
     if !query.joins.is_empty() || query.is_grouped() {
         return Err(Fault::NotInSubset);
@@ -61,27 +64,32 @@ fn bind_place(alloc: Global, query: &Query, table: &TableVersion) -> Result<Type
         table.now.schema)
         result }
     ensures named { HasNames query.now.select → IfOk result (λ plan. IsSchema plan.schema) }
+    ensures held { IfOk result (λ plan. plan.table ≡ table.now) }
+    ensures place { IfOk result (λ plan. tree_table (tree_of plan.plan) ≡ query.now.first.table) }
 {
-    let schema = table.schema();
-    let scope = Scope::of_place(alloc, query.first.name(), schema.fields.as_slice())?;
-    bind_parts(alloc, query, &scope, schema)
+    let fields = table.schema().fields.as_slice();
+    let scope = Scope::of_place(alloc, query.first.name(), fields)?;
+    bind_parts(alloc, query, &scope, table)
 }
 
-// WHERE, then the list, over a table of this schema.
+// WHERE, then the list, over a table.
 fn bind_parts(
     alloc: Global,
     query: &Query,
     scope: &Scope<'_>,
-    schema: &Schema,
+    table: &TableVersion,
 ) -> Result<TypedPlan, Fault>
-    requires { scope.now ≡ place_scope (sentence_of query.now) schema.now }
-    ensures { Binds (plain_fault (sentence_of query.now) scope.now)
-        (λ plan. plan_of plan ≡ plain_plan (sentence_of query.now) scope.now schema.now) result }
+    requires { scope.now ≡ place_scope (sentence_of query.now) table.now.schema }
+    ensures bound { Binds (plain_fault (sentence_of query.now) scope.now)
+        (λ plan. plan_of plan ≡ plain_plan (sentence_of query.now) scope.now table.now.schema) result }
+    ensures held { IfOk result (λ plan. plan.table ≡ table.now) }
+    ensures place { IfOk result (λ plan. tree_table (tree_of plan.plan) ≡ query.now.first.table) }
 {
     let filter = bind_filter(alloc, scope, &query.filter)?;
     let (columns, result) = bind_select(alloc, scope, &query.select)?;
-    let plan = filtered_scan(alloc, &query.first.table, schema, filter)?;
+    let plan = filtered_scan(alloc, &query.first.table, table.schema(), filter)?;
     Ok(TypedPlan {
+        table: table.share()?,
         plan,
         output: Output::Project(columns),
         schema: result,

@@ -1,12 +1,14 @@
 //! Plans: what gives the rows of a bound query.
 
 ghost use Rattle.std.specs.Prelude.{◌≡◌};
+ghost use Rattle.typed_plan.specs.Held.{tree_schema};
 ghost use Rattle.typed_plan.specs.Typed.{IsTyped};
-ghost use Rattle.typed_plan.specs.View.{plan_of};
+ghost use Rattle.typed_plan.specs.View.{tree_of, plan_of};
 
 use arrow_schema::Schema;
 use scan_base::{Items, Predicate, Text};
 use std::marker::Model;
+use table_versions::TableVersion;
 
 /// Which cells of a row are taken.
 #[derive(Drop)]
@@ -40,10 +42,11 @@ pub enum Output {
     Project(Columns),
 }
 
-/// A bound query: what gives its rows, and the columns of its result. It is well typed: each column is
+/// A bound query: its table, what gives its rows, and the columns of its result. It is well typed: each column is
 /// there, what is compared is of one class, and the result has the types that its schema says.
 #[derive(Drop)]
 pub struct TypedPlan {
+    pub(crate) table: TableVersion,
     pub(crate) plan: Plan,
     pub(crate) output: Output,
     pub(crate) schema: Schema,
@@ -52,19 +55,31 @@ pub struct TypedPlan {
 impl Model for TypedPlan {
     ghost use Rattle.std.specs.Coded.{codes};
     ghost use Rattle.typed_plan.specs.contracts.plan.Plan as tree;
+    ghost use Rattle.std.specs.Prelude.{◌≡◌};
+    ghost use Rattle.typed_plan.specs.Held.{tree_schema};
     ghost use Rattle.typed_plan.specs.Typed.{IsTyped};
-    ghost use Rattle.typed_plan.specs.View.{BoundAt, plan_of};
+    ghost use Rattle.typed_plan.specs.View.{BoundAt, tree_of, plan_of};
 
     ghost Value = { BoundAt };
 
     ghost coded = { Prim.hlevel (codes, tree.the_row.coded) };
 
-    ghost view = { λ t. record { plan = t.plan; output = t.output; schema = t.schema } };
+    ghost view = { λ t. record { table = t.table; plan = t.plan; output = t.output; schema = t.schema } };
 
-    ghost invariant = { λ t. IsTyped (plan_of (record { plan = t.plan; output = t.output; schema = t.schema })) };
+    ghost invariant = { λ t.
+        IsTyped (plan_of (record { table = t.table; plan = t.plan; output = t.output; schema = t.schema }))
+        × (tree_schema (tree_of t.plan) ≡ t.table.schema) };
 }
 
 impl TypedPlan {
+    /// The table that the plan reads, with the columns that it says.
+    pub fn table(&self) -> &TableVersion
+        ensures table { result.now ≡ self.now.table }
+        ensures columns { tree_schema (tree_of self.now.plan) ≡ self.now.table.schema }
+    {
+        &self.table
+    }
+
     /// What gives the rows.
     pub fn plan(&self) -> &Plan
         ensures plan { result.now ≡ self.now.plan }

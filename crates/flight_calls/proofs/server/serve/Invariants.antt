@@ -1,4 +1,4 @@
-use Rattle.std.proofs.Common.{◌≡◌}
+use Rattle.std.proofs.Common.{◌≡◌, []}
 use Rattle.grpc_frame.specs.Arrivals.{work_left}
 use Rattle.flight_calls.specs.Owed.{connection_of}
 use Rattle.flight_calls.proofs.Serving.{Progress}
@@ -13,6 +13,7 @@ invariant-loop-request g l = record {
       (g.R.Input.failures l.reader) (g.W.Output.failures l.writer) l.plain)
       l.inbox;
   reads : g.R.Input.failures l.reader ≡ g.R.Input.failures l.initial.reader;
+  empty : l.outbox ≡ [];
   writes : g.W.Output.failures l.writer ≡ g.W.Output.failures l.initial.writer;
 }
 

@@ -1,9 +1,10 @@
-use Rattle.std.proofs.Common.{inl, inr}
+use Rattle.std.proofs.Common.{◌≡◌, length, Some, sym, ap, ◌∙◌, inl, inr}
 use Rattle.std.proofs.lemmas.Result.{err_from_is_err_and}
 use Rattle.sql_query.specs.Sentence.{sentence_of}
-use Rattle.table_versions.specs.Stored.{tables_of}
+use Rattle.table_versions.specs.Database.{table_at}
+use Rattle.table_versions.specs.Stored.{TableAt, table_of, tables_of}
 use Rattle.typed_plan.specs.View.{plan_of}
-use Rattle.flight_info.proofs.Meaning.{planned, names_are}
+use Rattle.flight_info.proofs.Meaning.{planned, names_are, place_is}
 use Rattle.flight_info.proofs.planned.plan_text.Goals as goal
 
 pub returns-in_err-query-clause-missed : goal.returns-in_err-query-clause-missed
@@ -18,6 +19,12 @@ returns-in_err-plan-clause-missed c =
 
 pub returns-clause-planned : goal.returns-clause-planned
 returns-clause-planned c =
-    planned (tables_of c.args.catalog.now) c.args.text.now c.in_ok-query.query (plan_of c.in_ok-plan.plan) c.first_rows-rows.result c.in_ok-query.ensures.parsed
-    c.in_ok-plan.ensures.bound.0 c.in_ok-plan.ensures.bound.1 c.first_rows-rows.ensures.rows c.first_rows-rows.ensures.few
-    (c.in_ok-plan.ensures.named (names_are c.in_ok-query.query.select c.in_ok-query.ensures.named.select))
+    let query = c.in_ok-query.query in
+    let table = c.in_ok-plan.plan.table in
+    let there : table_at c.args.catalog.now query.first.table ≡ Some table =
+    ap (table_at c.args.catalog.now) (sym c.in_ok-plan.ensures.place) ∙ c.in_ok-plan.ensures.held in
+    let rows = c.rows-rows.ensures.rows ∙ ap (λ (t : TableAt). length (table_of t).rows) c.table.ensures.table
+    ∙ ap length (sym (place_is c.args.catalog.now query.first (Some table) there)) in
+    planned (tables_of c.args.catalog.now) c.args.text.now query (plan_of c.in_ok-plan.plan) c.rows-rows.result c.in_ok-query.ensures.parsed
+    c.in_ok-plan.ensures.bound.0 c.in_ok-plan.ensures.bound.1 rows c.rows-rows.ensures.few
+    (c.in_ok-plan.ensures.named (names_are query.select c.in_ok-query.ensures.named.select))

@@ -5,6 +5,7 @@ use Rattle.table_versions.specs.Stored.{tables_of, plain, table_of}
 use Rattle.table_versions.proofs.Stores.{table_at-tables_of}
 use Rattle.typed_plan.specs.Bound.{is_unbuilt}
 use Rattle.typed_plan.proofs.Bound.{bound}
+use Rattle.typed_plan.proofs.Held.{holds}
 use Rattle.typed_plan.proofs.Plain.{missing}
 use Rattle.typed_plan.proofs.binding.bind.Goals as goal
 
@@ -35,3 +36,9 @@ returns-clause-first c =
     let there = table_at-tables_of c.args.catalog.now query.first.table
     ∙ ap plain (sym c.get.ensures ∙ ap option_copied c.in-Some.is) in
     rw (is_built, there) tt
+
+pub returns-clause-held : goal.returns-clause-held
+returns-clause-held c =
+    let there = sym c.get.ensures ∙ ap option_copied c.in-Some.is in
+    holds c.args.catalog.now c.args.query.now.first.table c.in-Some.table.now c.bind_place.result there c.bind_place.ensures.held
+    c.bind_place.ensures.place

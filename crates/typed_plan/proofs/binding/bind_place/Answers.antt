@@ -10,16 +10,16 @@ pub returns-clause-bound : goal.returns-clause-bound
 returns-clause-bound c = rw (
   c.in_ok-scope.ensures,
   c.name.ensures,
-  c.as_slice.ensures,
-  c.schema-schema.ensures.schema,
-) at c.bind_parts.ensures
+  c.as_slice-fields.ensures,
+  c.schema.ensures.schema,
+) at c.bind_parts.ensures.bound
 
 pub returns-clause-named : goal.returns-clause-named
 returns-clause-named c names =
     let query = sentence_of c.args.query.now in
     let schema = c.args.table.now.schema in
     let scope = place_scope query schema in
-    let valid = subst IsSchema c.schema-schema.ensures.schema c.schema-schema.ensures.valid in
+    let valid = subst IsSchema c.schema.ensures.schema c.schema.ensures.valid in
     if_bound (plain_fault query scope) (λ plan. plan_of plan ≡ plain_plan query scope schema)
     (λ plan. IsSchema plan.schema) c.bind_parts.result
     (returns-clause-bound c)

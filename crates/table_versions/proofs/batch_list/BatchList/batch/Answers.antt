@@ -2,7 +2,7 @@ use Rattle.std.proofs.Common.{rules, arith, ◌≡◌, ◌∙◌, ◌+◌, ◌*�
 use Rattle.std.proofs.lemmas.List.{length-map}
 use Rattle.std.specs.Arc.{arc_value}
 use Rattle.std.proofs.lemmas.Nat.{div-add-mod'}
-use Rattle.arrays.specs.Batch.{BatchAt}
+use Rattle.table_versions.specs.declared.batch_list.PlacedBatch.{PlacedBatch}
 use Rattle.table_versions.specs.Batches.{joined}
 use Rattle.table_versions.proofs.Pages.{handle_at, full_at, in_page, in_last, length-joined}
 use Rattle.table_versions.proofs.batch_list.BatchList.batch.Goals as goal
@@ -28,7 +28,7 @@ returns-then-page-len c =
     let place = sym (div-add-mod' c.args.index 256) in
     rw (← c.self.view_is)
     (in_page (map arc_value handles) c.self.inside.last _ _ _ c.args.index c.self.invariant.complete page (omega arith) place
-    ∙ ap (λ (batches : List BatchAt). slice_get batches (c.args.index % 256)) (sym c.deref.ensures) ∙ c.batch.ensures)
+    ∙ ap (λ (batches : List PlacedBatch). slice_get batches (c.args.index % 256)) (sym c.deref.ensures) ∙ c.batch.ensures)
 
 pub returns-else-page-len : goal.returns-else-page-len
 returns-else-page-len c =

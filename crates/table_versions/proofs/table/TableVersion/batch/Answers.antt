@@ -1,10 +1,19 @@
+use Rattle.std.proofs.Common.{◌≡◌, slice_get, Some, rules}
 use Rattle.std.specs.Arc.{arc_value}
+use Rattle.table_versions.specs.Batches.{placed_table}
+use Rattle.table_versions.proofs.Placing.{batches, batch_there}
 use Rattle.table_versions.proofs.Storable.{IsBatch, batch_at}
 use Rattle.table_versions.proofs.table.TableVersion.batch.Goals as goal
 
-here : (c : goal.After-batch) → IsBatch (arc_value c.self.inside.schema) c.batch.result.now
-here c = batch_at (record { schema = arc_value c.self.inside.schema; batches = c.self.inside.batches }) c.self.inside.rows c.args.index
-    c.batch.result.now c.self.invariant c.batch.ensures
+there : (c : goal.After-batch) → slice_get (batches (arc_value c.self.inside.batches)) c.args.index ≡ Some c.batch.result.now.batch
+there c = batch_there (arc_value c.self.inside.batches) c.args.index c.batch.result.now (rw c.deref.ensures at c.batch.ensures)
+
+here : (c : goal.After-batch) → IsBatch (arc_value c.self.inside.schema) c.batch.result.now.batch
+here c = batch_at (placed_table (arc_value c.self.inside.schema) (arc_value c.self.inside.batches)) c.self.inside.rows c.args.index
+    c.batch.result.now.batch c.self.invariant.kept (there c)
+
+pub returns-clause-batch : goal.returns-clause-batch
+returns-clause-batch c = rw (← c.self.view_is) (there c)
 
 pub returns-clause-filled : goal.returns-clause-filled
 returns-clause-filled c = (here c).filled

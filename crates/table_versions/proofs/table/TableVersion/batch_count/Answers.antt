@@ -1,7 +1,8 @@
 use Rattle.std.proofs.Common.{arith}
-use Rattle.table_versions.proofs.Rowing.{length-filled-le}
+use Rattle.std.specs.Arc.{arc_value}
+use Rattle.table_versions.proofs.Placing.{few_batches}
 use Rattle.table_versions.proofs.table.TableVersion.batch_count.Goals as goal
 
 pub len-requires : goal.len-requires
-len-requires c =
-    omega (arith, length-filled-le c.self.inside.batches c.self.invariant.filled, c.self.invariant.counted, c.self.invariant.few)
+len-requires c = rw c.deref.ensures
+    (omega (arith, few_batches (arc_value c.self.inside.schema) (arc_value c.self.inside.batches) c.self.inside.rows c.self.invariant))

@@ -1,0 +1,36 @@
+//! Which rows are gathered.
+
+ghost use Rattle.std.specs.Prelude.{◌<◌, All, IfOk};
+
+use arrays::{Batch, Selection};
+use scan_base::Fault;
+use std::alloc::Global;
+
+/// Every `step`-th row of a batch, from its first on, in buffers of their own.
+pub(crate) fn gathered(alloc: Global, batch: &Batch, step: usize) -> Result<Batch, Fault> {
+    let places = multiples(alloc, batch.rows(), step)?;
+    let rows = places.len();
+    let mut columns = Vec::with_capacity(alloc, batch.columns().len())?;
+    for column in batch.columns() {
+        columns.push(column.gather(alloc, &places)?)?;
+    }
+    Ok(Batch::new(columns, rows))
+}
+
+// The multiples of a step below `end`, from 0 on.
+fn multiples(alloc: Global, end: usize, step: usize) -> Result<Selection, Fault>
+    ensures { IfOk result (λ places. All (λ place. place < end) places) }
+{
+    let end = u32::try_from(end).map_err(|_| Fault::UnknownCommand)?;
+    let step = u32::try_from(step).map_err(|_| Fault::UnknownCommand)?;
+    if step == 0 {
+        return Err(Fault::UnknownCommand);
+    }
+    let mut places = Selection::new(alloc);
+    for place in 0..end {
+        if place % step == 0 {
+            places.push(place)?;
+        }
+    }
+    Ok(places)
+}

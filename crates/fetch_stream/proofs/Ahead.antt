@@ -1,0 +1,129 @@
+-- A stream goes on: the next batch, and the next rows of it.
+use Rattle.std.proofs.Common.{◌≡◌, ◌≢◌, ◌≤◌, ◌<◌, ℕ, zero, suc, ◌+◌, ◌-◌, ◌/◌, false, List, [], ◌∷◌, ◌++◌, length, refl, sym, ap, subst, ◌∙◌, append_assoc, length-append, arith}
+use Rattle.std.specs.List.{list_any}
+use Rattle.scan_base.specs.Limits.{most_columns}
+use Rattle.ipc_batch.specs.Written.{body_length}
+use Rattle.arrays.specs.Batch.{BatchAt, BatchSlicesKeepRows, rows_of, cut_batch}
+use Rattle.scan_base.specs.declared.fault.Fault.{Fault}
+use Rattle.table_versions.specs.Table.{Row, is_long_text}
+use Rattle.table_versions.proofs.Rowing.{length-rows_of}
+use Rattle.flight_info.specs.Payloads.{Payload}
+use Rattle.fetch_stream.specs.Streams.{most_body_bytes}
+use Rattle.fetch_stream.specs.declared.cutter.Cutter.{Cutter}
+use Rattle.fetch_stream.specs.declared.source.Source.{Source}
+use Rattle.fetch_stream.specs.inside.Ahead.{IsCutter, IsSource, IsGoing, AnsweredAs, schema_behind, left_behind, uncut}
+use Rattle.fetch_stream.specs.inside.Cut.{Cuts}
+use Rattle.fetch_stream.specs.inside.Given.{GoesOn, GivesNext}
+use Rattle.fetch_stream.specs.inside.Steps.{Keeps, HasNext, Ends, Fails, SaysNext, rows_left}
+use Rattle.fetch_stream.proofs.Parts.{slice_none, slice_whole, cuts_join, length_cut}
+use Rattle.fetch_stream.proofs.Sizes.{one_row_fits}
+use Rattle.fetch_stream.proofs.Streaming.{cut_answered}
+
+-- nothing of a batch is left that was given whole
+pub all_cut : BatchSlicesKeepRows → (cutter : Cutter) → IsCutter cutter → cutter.batch.rows ≤ cutter.at → uncut cutter ≡ []
+all_cut keep cutter is high =
+    let same : cutter.at ≡ cutter.batch.rows = omega (arith, high, is.within) in
+    rw same (slice_none keep cutter.batch cutter.batch.rows (omega arith))
+
+-- and all of one that was not begun
+pub none_cut : BatchSlicesKeepRows → (batch : BatchAt) (most : ℕ) → uncut (record { batch = batch; at = 0; most = most }) ≡ rows_of batch
+none_cut keep batch most = slice_whole keep batch batch.rows refl
+
+-- a cutter before the first row of a batch
+pub new_cutter : (batch : BatchAt) → list_any (list_any is_long_text) (rows_of batch) ≡ false → IsCutter (record { batch = batch; at = 0; most = 65536 })
+new_cutter batch short = record { within = omega arith; some = omega arith; few = omega arith; short = short }
+
+-- ---- how many rows are cut
+
+-- one row is always cut
+pub one_fits : BatchSlicesKeepRows → (cutter old : Cutter) → cutter ≡ old → IsCutter old → length old.batch.columns ≤ most_columns → (rows : ℕ) → old.at + rows ≤ old.batch.rows → rows ≡ 1
+    → body_length (cut_batch cutter.batch cutter.at (cutter.at + rows)) ≤ most_body_bytes
+one_fits keep cutter old same is few rows within one =
+    subst (λ (c : Cutter). body_length (cut_batch c.batch c.at (c.at + rows)) ≤ most_body_bytes) (sym same)
+    (one_row_fits keep old.batch old.at (old.at + rows) (omega (arith, one)) within few is.short)
+
+pub more_than_one : (rows : ℕ) → 0 < rows → (rows ≡ 1 → ⊥) → 0 < rows / 2
+more_than_one zero some not = omega (arith, some)
+more_than_one (suc zero) some not = absurd (not refl)
+more_than_one (suc (suc n)) some not = omega arith
+
+-- ---- the next batch
+
+pub still_there : (cutter : Cutter) (source : Source) → IsGoing cutter source → cutter.at < cutter.batch.rows → HasNext cutter source cutter source
+still_there cutter source is more = record { keeps = record { going = is; schema = refl }; rows = refl; more = more }
+
+module _ (keep : BatchSlicesKeepRows) (cutter : Cutter) (source new : Source) (is : IsGoing cutter source) (high : cutter.batch.rows ≤ cutter.at) where
+  behind : rows_left cutter source ≡ left_behind source
+  behind = ap (λ (rows : List Row). rows ++ left_behind source) (all_cut keep cutter is.placed high)
+
+  pub next_batch : (batch : BatchAt) → GivesNext source batch new → HasNext cutter source (record { batch = batch; at = 0; most = 65536 }) new
+  next_batch batch gives = record {
+    keeps = record {
+      going = record {
+        placed = new_cutter batch gives.short;
+        behind = gives.on.source;
+        columns = λ some. subst (λ schema. AnsweredAs schema batch.columns) (sym gives.on.schema) gives.columns;
+      };
+      schema = gives.on.schema;
+    };
+    rows = ap (λ (rows : List Row). rows ++ left_behind new) (none_cut keep batch 65536) ∙ gives.rows ∙ sym behind;
+    more = gives.some;
+  }
+
+  pub no_batch : GoesOn source new → left_behind source ≡ [] → left_behind new ≡ [] → Ends cutter source cutter new
+  no_batch on none after = (
+    record {
+      going = record {
+        placed = is.placed;
+        behind = on.source;
+        columns = λ more. absurd (let low : cutter.at < cutter.at = omega (arith, more, high) in omega (arith, low));
+      };
+      schema = on.schema;
+    },
+    behind ∙ none,
+    ap (λ (rows : List Row). rows ++ left_behind new) (all_cut keep cutter is.placed high) ∙ after,
+  )
+
+  pub failed_batch : left_behind source ≢ [] → rows_left cutter source ≢ []
+  failed_batch some none = some (sym behind ∙ none)
+
+-- ---- the next rows
+
+rows_there : (cutter : Cutter) (source : Source) → cutter.at < cutter.batch.rows → rows_left cutter source ≢ []
+rows_there cutter source more none =
+    let long : length (rows_left cutter source) ≡ 0 = ap length none in
+    omega (arith, more, long, length-append (uncut cutter) (left_behind source), length_cut cutter.batch cutter.at cutter.batch.rows)
+
+-- a refusal behind the next batch
+pub failed_rows : (cutter : Cutter) (source : Source) (mid_cutter : Cutter) (mid : Source) → HasNext cutter source mid_cutter mid → rows_left cutter source ≢ []
+failed_rows cutter source mid_cutter mid next none = rows_there mid_cutter mid next.more (next.rows ∙ none)
+
+pub says_next : BatchSlicesKeepRows → (cutter : Cutter) (source : Source) (mid_cutter : Cutter) (mid : Source) (payload : Payload) (after : Cutter) → HasNext cutter source mid_cutter mid
+    → Cuts mid_cutter payload after → SaysNext cutter source payload after mid
+says_next keep cutter source mid_cutter mid payload after next cuts =
+    let going = next.keeps.going in
+    let batch = mid_cutter.batch in
+    let at = mid_cutter.at in
+    let end = after.at in
+    let there : end ≤ batch.rows = subst (λ (b : BatchAt). end ≤ b.rows) cuts.batch cuts.placed.within in
+    let cut = cut_batch batch at end in
+    let answers : AnsweredAs (schema_behind mid) batch.columns = going.columns next.more in
+    let rest : uncut after ≡ rows_of (cut_batch batch end batch.rows) = ap (λ (b : BatchAt). rows_of (cut_batch b end b.rows)) cuts.batch in
+    let join : rows_of cut ++ uncut after ≡ uncut mid_cutter = ap (λ (rows : List Row). rows_of cut ++ rows) rest ∙ cuts_join keep batch at end batch.rows (omega (arith, cuts.forth)) there (omega arith) in
+    record {
+      batch = cut;
+      said = cuts.said;
+      columns = subst (λ schema. AnsweredAs schema cut.columns) next.keeps.schema (cut_answered (schema_behind mid) batch.columns at end answers);
+      rows = sym (append_assoc (rows_of cut) (uncut after) (left_behind mid)) ∙ ap (λ (rows : List Row). rows ++ left_behind mid) join ∙ next.rows;
+      some = omega (arith, cuts.forth, length_cut batch at end);
+      few = omega (arith, cuts.few, length_cut batch at end);
+      fits = cuts.fits;
+      keeps = record {
+        going = record {
+          placed = cuts.placed;
+          behind = going.behind;
+          columns = λ more. subst (λ (b : BatchAt). AnsweredAs (schema_behind mid) b.columns) (sym cuts.batch) answers;
+        };
+        schema = next.keeps.schema;
+      };
+    }

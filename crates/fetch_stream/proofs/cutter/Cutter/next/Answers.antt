@@ -1,0 +1,15 @@
+use Rattle.std.proofs.Common.{◌≡◌, None, arith, rules}
+use Rattle.fetch_stream.proofs.Ahead.{one_fits, more_than_one}
+use Rattle.fetch_stream.proofs.cutter.Cutter.next.Goals as goal
+
+pub loop-payload-preserved : goal.loop-payload-preserved
+loop-payload-preserved c =
+    let before = c.loop-payload.invariant in
+    let over = c.in_ok-payload.ensures.long c.in_default.is in
+    let fits = one_fits c.batch_slices_keep_rows.ensures c.loop-payload.self c.args.self.now before.same c.requires.placed c.requires.few c.loop-payload.rows before.within in
+    record {
+      some = more_than_one c.loop-payload.rows before.some (λ one. omega (arith, over, fits one));
+      few = omega (arith, before.few);
+      within = omega (arith, before.within);
+      same = before.same;
+    }

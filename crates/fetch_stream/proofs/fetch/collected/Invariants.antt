@@ -1,0 +1,15 @@
+use Rattle.std.proofs.Common.{◌≡◌}
+use Rattle.table_versions.specs.Table.{Table}
+use Rattle.flight_info.specs.Payloads.{FitMessages}
+use Rattle.fetch_stream.specs.Streams.{HasGiven, opened}
+use Rattle.fetch_stream.proofs.Answering.{turns}
+use Rattle.fetch_stream.proofs.fetch.collected.Given as goal
+
+abbrev pub invariant-loop-payloads : goal.invariant-loop-payloads
+invariant-loop-payloads l = record {
+  given : (answer : Table) → l.fn.stream ≡ opened answer → HasGiven answer l.payloads.items l.stream;
+  fits : FitMessages l.payloads.items;
+}
+
+abbrev pub decreases-loop-payloads : goal.decreases-loop-payloads
+decreases-loop-payloads l = turns l.stream

@@ -1,0 +1,93 @@
+-- A stream of an answer's payloads: what is still to come, and what its calls give.
+use Rattle.std.specs.Prelude.{◌≡◌, ◌≢◌, ◌≤◌, ◌<◌, ◌⊎◌, ℕ, Bool, true, false, List, [], ◌∷◌, ◌++◌, length, Option, Some, None, Result, Ok, Err, IfOk}
+use Rattle.scan_base.specs.declared.fault.Fault.{Fault}
+use Rattle.scan_base.specs.declared.fault.Fault.TheVariants.{BadTicket, OutOfMemory}
+use Rattle.scan_base.specs.Limits.{most_answer_rows, most_message_bytes}
+use Rattle.arrow_schema.specs.declared.schema.Schema.{Schema}
+use Rattle.table_versions.specs.Table.{Row, Table}
+use Rattle.table_versions.specs.Database.{Database}
+use Rattle.endpoint_split.specs.Handle.{HandleAt}
+use Rattle.flight_proto.specs.FlightData.{data_of}
+use Rattle.flight_info.specs.Payloads.{Payload, PayloadsSay}
+use Rattle.fetch_stream.specs.Fetches.{HandleMeans, MeansNothing, FetchAt}
+
+-- as many rows as a message of an answer has
+abbrev pub most_message_rows : ℕ
+most_message_rows = 65536
+
+-- as many bytes as its body has
+abbrev pub most_body_bytes : ℕ
+most_body_bytes = 8388608
+
+-- what is still to come of an answer: its schema, and whether a payload has said it, and its rows; what refused the stream
+pub record StreamAt : Type 0 where
+  pub schema : Schema
+  pub begun : Bool
+  pub left : List Row
+  pub refused : Option Fault
+
+-- all of an answer is still to come
+abbrev pub opened : Table → StreamAt
+opened answer = record { schema = answer.schema; begun = false; left = answer.rows; refused = None }
+
+-- The stream of a handle, or why there is none: a handle that means nothing is a bad ticket.
+abbrev pub Opens : Database → HandleAt → Result StreamAt Fault → Type 0
+Opens database handle (Ok stream) =
+    (answer : Table) × HandleMeans database handle answer × (length answer.rows ≤ most_answer_rows) × (stream ≡ opened answer)
+Opens database handle (Err BadTicket) = MeansNothing database handle
+Opens database handle (Err OutOfMemory) = Unit {0}
+Opens database handle (Err _) = ⊥
+
+-- the payloads that a stream has given say these rows behind its schema
+abbrev pub SaySoFar : StreamAt → List Payload → List Row → Type 0
+SaySoFar stream payloads rows = so_far stream.begun
+  where
+    so_far : Bool → Type 0
+    so_far true = PayloadsSay payloads stream.schema rows
+    so_far false = (payloads ≡ []) × (rows ≡ [])
+
+-- The next payload: the schema's, and then one row or more. With those before it, it says them behind theirs. A message
+-- has no more rows and bytes than it may have.
+pub record GivesPayload (before : StreamAt) (payload : Payload) (after : StreamAt) : Type 0 where
+  pub rows : List Row
+  pub said : (payloads : List Payload) (given : List Row) → SaySoFar before payloads given →
+      SaySoFar after (payloads ++ payload ∷ []) (given ++ rows)
+  pub left : rows ++ after.left ≡ before.left
+  pub some : before.begun ≡ true → 0 < length rows
+  pub few : length rows ≤ most_message_rows
+  pub short : IfOk (data_of payload) (λ carried. length carried.data_body ≤ most_body_bytes)
+  pub fits : length payload ≤ most_message_bytes
+  pub schema : after.schema ≡ before.schema
+  pub begun : after.begun ≡ true
+  pub refused : after.refused ≡ None
+
+-- What a call gives. Memory refuses a stream only where something is still to come, and what refused it is answered from
+-- then on.
+abbrev pub Gives : StreamAt → Result (Option Payload) Fault → StreamAt → Type 0
+Gives before result after = going before.refused result
+  where
+    going : Option Fault → Result (Option Payload) Fault → Type 0
+    going (Some fault) result = (result ≡ Err fault) × (after ≡ before)
+    going None (Ok (Some payload)) = GivesPayload before payload after
+    going None (Ok None) = (before.begun ≡ true) × (before.left ≡ []) × (after ≡ before)
+    going None (Err fault) = (fault ≡ OutOfMemory) × (after.refused ≡ Some fault)
+        × ((before.begun ≡ false) ⊎ (before.left ≢ []))
+
+-- a stream of an answer has given these payloads
+pub record HasGiven (answer : Table) (payloads : List Payload) (stream : StreamAt) : Type 0 where
+  pub rows : List Row
+  pub said : SaySoFar stream payloads rows
+  pub all : rows ++ stream.left ≡ answer.rows
+  pub schema : stream.schema ≡ answer.schema
+
+-- What a stream of an answer gives, call by call, is the answer: a beginning of it, and all of it where nothing is left.
+pub record StreamsAnswer : Type 0 where
+  pub begin : (answer : Table) → HasGiven answer [] (opened answer)
+  pub go_on : (answer : Table) (payloads : List Payload) (before after : StreamAt) (payload : Payload) →
+      HasGiven answer payloads before → GivesPayload before payload after → HasGiven answer (payloads ++ payload ∷ []) after
+  pub end : (database : Database) (handle : HandleAt) (answer : Table) (payloads : List Payload) (stream : StreamAt) →
+      HandleMeans database handle answer → length answer.rows ≤ most_answer_rows → HasGiven answer payloads stream →
+      stream.begun ≡ true → stream.left ≡ [] → FetchAt database handle payloads None
+  pub refused : (database : Database) (handle : HandleAt) (answer : Table) (payloads : List Payload) (stream : StreamAt) →
+      HandleMeans database handle answer → length answer.rows ≤ most_answer_rows → HasGiven answer payloads stream →
+      FetchAt database handle payloads (Some OutOfMemory)

@@ -1,0 +1,68 @@
+-- Inside: rows that are still to be cut into messages.
+use Rattle.std.specs.Prelude.{◌≡◌, ◌≤◌, ◌<◌, false, List, ◌++◌, [], map, None, Option, Some}
+use Rattle.std.specs.List.{list_any}
+use Rattle.arrow_schema.specs.declared.schema.Schema.{Schema}
+use Rattle.arrow_schema.specs.declared.schema.Field.{Field}
+use Rattle.arrow_schema.specs.Answer.{answer_type}
+use Rattle.arrow_schema.specs.Schema.{IsSchema}
+use Rattle.arrays.specs.Batch.{rows_of, cut_batch}
+use Rattle.arrays.specs.Column.{ColumnAt}
+use Rattle.arrays.specs.Typed.{AreOfTypes}
+use Rattle.scan_exec.specs.Scan.{left}
+use Rattle.scan_base.specs.declared.fault.Fault.{Fault}
+use Rattle.table_versions.specs.Table.{Row, is_long_text}
+use Rattle.fetch_stream.specs.Streams.{most_message_rows}
+use Rattle.fetch_stream.specs.declared.cutter.Cutter.{Cutter}
+use Rattle.fetch_stream.specs.declared.source.Source.{Source}
+use Rattle.fetch_stream.specs.declared.source.Source.TheVariants.{Scanned, Listed}
+use Rattle.fetch_stream.specs.inside.Written.{HasAnswerTypes}
+
+-- the columns of a batch are answered as this schema says
+pub record AnsweredAs (schema : Schema) (columns : List ColumnAt) : Type 0 where
+  pub fields : List Field
+  pub typed : AreOfTypes fields columns
+  pub same : map (λ field. field.data_type) schema.fields ≡ map (λ field. answer_type field.data_type) fields
+
+-- the rows of a batch that are still to be cut
+abbrev pub uncut : Cutter → List Row
+uncut cutter = rows_of (cut_batch cutter.batch cutter.at cutter.batch.rows)
+
+-- where a cutter stands in its batch, and how many rows its next message may have
+pub record IsCutter (cutter : Cutter) : Type 0 where
+  pub within : cutter.at ≤ cutter.batch.rows
+  pub some : 0 < cutter.most
+  pub few : cutter.most ≤ most_message_rows
+  pub short : list_any (list_any is_long_text) (rows_of cutter.batch) ≡ false
+
+-- the schema of what a source gives
+abbrev pub schema_behind : Source → Schema
+schema_behind (Scanned scan) = scan.schema
+schema_behind (Listed schema) = schema
+
+-- the rows that it has still to give
+abbrev pub left_behind : Source → List Row
+left_behind (Scanned scan) = left scan
+left_behind (Listed schema) = []
+
+-- what refused it
+abbrev pub refused_behind : Source → Option Fault
+refused_behind (Scanned scan) = scan.refused
+refused_behind (Listed schema) = None
+
+-- the columns that it gives are answered as its schema says
+abbrev pub TypedBehind : Source → Type 0
+TypedBehind (Scanned scan) = HasAnswerTypes scan.schema scan.types
+TypedBehind (Listed schema) = Unit {0}
+
+-- a source of rows that was not refused, none of which has a text that is too long
+pub record IsSource (source : Source) : Type 0 where
+  pub schema : IsSchema (schema_behind source)
+  pub typed : TypedBehind source
+  pub short : list_any (list_any is_long_text) (left_behind source) ≡ false
+  pub begins : refused_behind source ≡ None
+
+-- a batch that is being cut, and the source of those behind it
+pub record IsGoing (cutter : Cutter) (source : Source) : Type 0 where
+  pub placed : IsCutter cutter
+  pub behind : IsSource source
+  pub columns : cutter.at < cutter.batch.rows → AnsweredAs (schema_behind source) cutter.batch.columns

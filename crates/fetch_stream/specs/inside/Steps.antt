@@ -1,0 +1,67 @@
+-- Inside: how a stream goes on that was not refused.
+use Rattle.std.specs.Prelude.{◌≡◌, ◌≢◌, ◌≤◌, ◌<◌, true, false, Bool, List, [], ◌++◌, length, Option, Some, None, Result, Ok, Err}
+use Rattle.scan_base.specs.declared.fault.Fault.{Fault}
+use Rattle.scan_base.specs.declared.fault.Fault.TheVariants.{OutOfMemory}
+use Rattle.scan_base.specs.Limits.{most_message_bytes}
+use Rattle.arrow_schema.specs.declared.schema.Schema.{Schema}
+use Rattle.arrays.specs.Batch.{BatchAt, rows_of}
+use Rattle.table_versions.specs.Table.{Row}
+use Rattle.flight_info.specs.Payloads.{Payload}
+use Rattle.fetch_stream.specs.Streams.{most_message_rows}
+use Rattle.fetch_stream.specs.declared.cutter.Cutter.{Cutter}
+use Rattle.fetch_stream.specs.declared.source.Source.{Source}
+use Rattle.fetch_stream.specs.inside.Ahead.{IsGoing, AnsweredAs, uncut, schema_behind, left_behind}
+use Rattle.fetch_stream.specs.inside.Written.{SaysSchema, SaysBatchBehind}
+
+-- the first payload says the schema
+abbrev pub GivesFirst : Schema → Result (Option Payload) Fault → Type 0
+GivesFirst schema (Ok (Some payload)) = SaysSchema payload schema × (length payload ≤ most_message_bytes)
+GivesFirst schema (Ok None) = ⊥
+GivesFirst schema (Err fault) = fault ≡ OutOfMemory
+
+-- the rows that are still to be given: of the batch that is being cut, and behind it
+abbrev pub rows_left : Cutter → Source → List Row
+rows_left cutter source = uncut cutter ++ left_behind source
+
+-- a stream goes on, with its schema
+pub record Keeps (source : Source) (new_cutter : Cutter) (new : Source) : Type 0 where
+  pub going : IsGoing new_cutter new
+  pub schema : schema_behind new ≡ schema_behind source
+
+-- no row is left
+abbrev pub Ends : Cutter → Source → Cutter → Source → Type 0
+Ends cutter source new_cutter new =
+    Keeps source new_cutter new × (rows_left cutter source ≡ []) × (rows_left new_cutter new ≡ [])
+
+-- memory is refused, where a row is left
+abbrev pub Fails : Cutter → Source → Fault → Type 0
+Fails cutter source fault = (fault ≡ OutOfMemory) × (rows_left cutter source ≢ [])
+
+-- the next row stands in the batch that is being cut
+pub record HasNext (cutter : Cutter) (source : Source) (new_cutter : Cutter) (new : Source) : Type 0 where
+  pub keeps : Keeps source new_cutter new
+  pub rows : rows_left new_cutter new ≡ rows_left cutter source
+  pub more : new_cutter.at < new_cutter.batch.rows
+
+-- the next batch is there where the last one was given whole
+abbrev pub Refills : Cutter → Source → Result Bool Fault → Cutter → Source → Type 0
+Refills cutter source (Ok true) new_cutter new = HasNext cutter source new_cutter new
+Refills cutter source (Ok false) new_cutter new = Ends cutter source new_cutter new
+Refills cutter source (Err fault) new_cutter new = Fails cutter source fault
+
+-- a payload says a batch of the next rows, one or more, and no more than a message has
+pub record SaysNext (cutter : Cutter) (source : Source) (payload : Payload) (new_cutter : Cutter) (new : Source) : Type 0 where
+  pub batch : BatchAt
+  pub said : SaysBatchBehind payload batch
+  pub columns : AnsweredAs (schema_behind source) batch.columns
+  pub rows : rows_of batch ++ rows_left new_cutter new ≡ rows_left cutter source
+  pub some : 0 < length (rows_of batch)
+  pub few : length (rows_of batch) ≤ most_message_rows
+  pub fits : length payload ≤ most_message_bytes
+  pub keeps : Keeps source new_cutter new
+
+-- the payload of the next rows
+abbrev pub GivesRows : Cutter → Source → Result (Option Payload) Fault → Cutter → Source → Type 0
+GivesRows cutter source (Ok (Some payload)) new_cutter new = SaysNext cutter source payload new_cutter new
+GivesRows cutter source (Ok None) new_cutter new = Ends cutter source new_cutter new
+GivesRows cutter source (Err fault) new_cutter new = Fails cutter source fault

@@ -1,0 +1,67 @@
+//! Cutting a batch into messages.
+
+ghost use Rattle.std.specs.Prelude.{◌≡◌, ◌≤◌, ◌<◌, length, false, IfOk, OnErr};
+ghost use Rattle.std.specs.List.{list_any};
+ghost use Rattle.scan_base.specs.Limits.{most_columns};
+ghost use Rattle.arrays.specs.Batch.{rows_of};
+ghost use Rattle.table_versions.specs.Table.{is_long_text};
+ghost use Rattle.fetch_stream.specs.inside.Ahead.{IsCutter};
+ghost use Rattle.fetch_stream.specs.inside.Cut.{Cuts};
+
+use crate::message::slice_payload;
+use crate::payload::Payload;
+use arrays::Batch;
+use arrays::laws::batch_slices_keep_rows;
+use std::alloc::{AllocError, Global};
+
+// The most rows of a message.
+const MOST_ROWS: usize = 65_536;
+
+// A batch that is cut into messages.
+#[derive(Drop)]
+pub(crate) struct Cutter {
+    pub(crate) batch: Batch,
+    // The first row that was not given yet.
+    pub(crate) at: usize,
+    // How many rows the next message may have: after one that had few, twice as many.
+    pub(crate) most: usize,
+}
+
+impl Cutter {
+    /// Before the first row of a batch.
+    pub(crate) fn new(batch: Batch) -> Cutter
+        ensures { result ≡ record { batch = batch; at = 0; most = 65536 } }
+    {
+        Cutter {
+            batch,
+            at: 0,
+            most: MOST_ROWS,
+        }
+    }
+
+    /// The next rows as a payload: as many as a message may have. Where its body would have too many bytes, it has half
+    /// as many rows, down to one.
+    ///
+    /// # Errors
+    ///
+    /// `AllocError` where memory is refused. The same rows come next.
+    pub(crate) fn next(&mut self, alloc: Global) -> Result<Payload, AllocError>
+        requires placed { IsCutter self.old }
+        requires more { self.old.at < self.old.batch.rows }
+        requires few { length self.old.batch.columns ≤ most_columns }
+        ensures cut { IfOk result (λ payload. Cuts self.old payload self.new) }
+        ensures kept { OnErr result (self.new ≡ self.old) }
+    {
+        batch_slices_keep_rows();
+        let mut rows = self.most.min(self.batch.rows() - self.at);
+        loop {
+            let end = self.at + rows;
+            if let Some(payload) = slice_payload(alloc, &self.batch, self.at, end)? {
+                self.at = end;
+                self.most = (rows * 2).min(MOST_ROWS);
+                return Ok(payload);
+            }
+            rows /= 2;
+        }
+    }
+}

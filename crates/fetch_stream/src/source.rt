@@ -1,0 +1,47 @@
+//! What the rows of an answer come from.
+
+ghost use Rattle.std.specs.Prelude.{◌≡◌};
+ghost use Rattle.fetch_stream.specs.inside.Ahead.{schema_behind, IsSource};
+ghost use Rattle.fetch_stream.specs.inside.Given.{GivesBatch};
+
+use arrays::Batch;
+use arrow_schema::Schema;
+use scan_base::Fault;
+use scan_exec::Scan;
+use std::alloc::Global;
+
+// What gives the batches of an answer.
+#[derive(Drop)]
+pub(crate) enum Source {
+    // The batches of a scan.
+    Scanned(Scan),
+    // None but the one that was given: the list of tables.
+    Listed(Schema),
+}
+
+impl Source {
+    /// The schema of the answer.
+    pub(crate) fn schema(&self) -> &Schema
+        ensures { result.now ≡ schema_behind self.now }
+    {
+        match self {
+            Source::Scanned(scan) => scan.schema(),
+            Source::Listed(schema) => schema,
+        }
+    }
+
+    /// The next batch, of one row or more.
+    ///
+    /// # Errors
+    ///
+    /// F21 (`Fault::OutOfMemory`) where memory is refused, and from then on.
+    pub(crate) fn next(&mut self, alloc: Global) -> Result<Option<Batch>, Fault>
+        requires { IsSource self.old }
+        ensures { GivesBatch self.old result self.new }
+    {
+        match self {
+            Source::Scanned(scan) => scan.next(alloc),
+            Source::Listed(_) => Ok(None),
+        }
+    }
+}

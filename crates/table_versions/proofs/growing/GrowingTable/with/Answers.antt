@@ -1,0 +1,13 @@
+use Rattle.std.proofs.Common.{◌+◌, arith}
+use Rattle.std.specs.Arc.{arc_value}
+use Rattle.table_versions.proofs.Placing.{placed_push}
+use Rattle.table_versions.proofs.growing.GrowingTable.with.Goals as goal
+
+pub invariant_of-result : goal.invariant_of-result
+invariant_of-result c =
+    let typed = rw (← c.self.view_is) at c.requires.typed in
+    let sound = rw (← c.self.view_is) at c.requires.sound in
+    let few = rw (← c.self.view_is) at c.requires.few in
+    rw c.in_ok-with.ensures
+    (placed_push (arc_value c.self.inside.schema) c.self.inside.batches c.self.inside.rows c.self.invariant c.args.batch
+    (c.self.inside.rows + c.rows.result) c.requires.filled typed sound few (omega (arith, c.rows.ensures)))
