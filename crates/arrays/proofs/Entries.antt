@@ -20,7 +20,7 @@ use Rattle.arrays.specs.Texts.{TextsAt, texts_slot, texts_values}
 use Rattle.arrays.specs.Dictionary.{entry_at}
 use Rattle.arrays.specs.inside.Runs.{parts_values}
 use Rattle.arrays.specs.Indices.{IndicesAt, index_stands, AreIndices}
-use Rattle.arrays.proofs.Slots.{slots_at}
+use Rattle.arrays.proofs.EachSlot.{slots_at}
 
 -- the item at a place stands in front of those behind it
 pub dropped : {X : Type 0} (xs : List X) (i : ℕ) (x : X) → i < length xs → x ≡ get_or xs i x → drop i xs ≡ x ∷ drop (i + 1) xs

@@ -1,5 +1,6 @@
 mod Elements
-mod Slots
+mod Ordered
+mod EachSlot
 mod TextSlots
 pub mod TextCuts
 pub mod Adjoining
@@ -22,3 +23,5 @@ pub mod ColumnsAgain
 mod OfType
 mod Gathered
 mod GatheredTexts
+mod ValidSlots
+mod GatheredValues

@@ -15,7 +15,7 @@ use Rattle.arrays.specs.Validity.{is_valid, where_valid}
 use Rattle.scan_base.specs.Value.{IsTextOrNull}
 use Rattle.arrays.specs.Column.{IsColumn, slot_of}
 use Rattle.arrays.specs.Typed.{IsOfType, IsInteger, IsValueOf, ValuesAreOfTheirType}
-use Rattle.arrays.proofs.Slots.{all_slots}
+use Rattle.arrays.proofs.EachSlot.{all_slots}
 use Rattle.arrays.proofs.TextSlots.{slot_is_text}
 use Rattle.arrays.proofs.ColumnsAgain.{index_is_text}
 

@@ -8,7 +8,7 @@ use Rattle.scan_base.specs.declared.value.Value.TheVariants.{Null, Text}
 use Rattle.arrays.specs.Validity.{is_valid, IsLong}
 use Rattle.scan_base.specs.Value.{IsTextOrNull}
 use Rattle.arrays.specs.Texts.{TextsAt, texts_slot, texts_values, text_at, is_offset, text_stands, texts_stand, AreTexts}
-use Rattle.arrays.proofs.Slots.{one_holds, slots_at, all_slots}
+use Rattle.arrays.proofs.EachSlot.{one_holds, slots_at, all_slots}
 
 -- the text of a valid slot is UTF-8
 pub text_is_utf8 : (cells : TextsAt) (place : ℕ) → text_stands cells place ≡ true → is_valid cells.validity place ≡ true → IsUtf8 (text_at cells place)

@@ -19,6 +19,10 @@ abbrev pub buffer_count : DataType → ℕ
 buffer_count Utf8 = 3
 buffer_count _ = 2
 
+-- what is read is slots of a layout
+abbrev pub read_as : {Cells : Type 0} → (Cells → Layout) → Result Cells Fault → Result Layout Fault
+read_as layout read = read >>= λ cells. Ok (layout cells)
+
 -- Slots of a type whose values lie in one buffer. An index leads into these values of its dictionary.
 unfoldable pub values_layout : DataType → List Value → Option (List ℕ) → List ℕ → ℕ → Result Layout Fault
 values_layout (Integer integer) _ validity values len =

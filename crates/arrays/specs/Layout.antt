@@ -1,5 +1,5 @@
 -- The slots of a column of any layout.
-use Rattle.std.specs.Prelude.{ℕ, false, length, get_or, unwrap_or}
+use Rattle.std.specs.Prelude.{ℕ, Bool as Truth, false, List, length, get_or, Option, unwrap_or}
 use Rattle.scan_base.specs.declared.value.Value.{Value}
 use Rattle.scan_base.specs.declared.value.Value.TheVariants.{Null, Bool, Int}
 use Rattle.arrays.specs.declared.layout.Layout.{Layout}
@@ -19,6 +19,14 @@ layout_count (layout.Decimals cells) = cells.len
 layout_count (layout.Bools cells) = length cells.values
 layout_count (layout.Texts cells) = cells.len
 layout_count (layout.Indices cells) = cells.len
+
+-- which slots are valid
+abbrev pub layout_validity : Layout → Option (List Truth)
+layout_validity (layout.Integers cells) = cells.validity
+layout_validity (layout.Decimals cells) = cells.validity
+layout_validity (layout.Bools cells) = cells.validity
+layout_validity (layout.Texts cells) = cells.validity
+layout_validity (layout.Indices cells) = cells.validity
 
 -- The value of the slot at a place: of an index what the dictionary has there, which may be null too.
 abbrev pub layout_slot : Layout → ℕ → Value

@@ -5,3 +5,4 @@ pub mod Placed
 pub mod Runs
 pub mod Gathered
 pub mod TextCuts
+pub mod Slots

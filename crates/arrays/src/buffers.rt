@@ -9,7 +9,7 @@ ghost use Rattle.arrays.specs.declared.layout.Layout.TheVariants.{Texts as Texts
 use crate::cells::Cells;
 use crate::column::Column;
 use crate::layout::Layout;
-use crate::texts::Texts;
+use crate::texts::TextsRef;
 use bytes::Bytes;
 use std::alloc::{AllocError, Global};
 
@@ -86,10 +86,10 @@ impl Column {
     }
 
     // The texts of a column, where no null has bytes in the data: what its slots cut is what is written.
-    fn texts_as_written(&self) -> Option<&Texts>
-        ensures { IfSome result (λ texts. ((self.now).layout ≡ TextsLayout texts.now)
+    fn texts_as_written(&self) -> Option<TextsRef<'_>>
+        ensures { IfSome result (λ texts. ((self.now).layout ≡ TextsLayout texts)
             × ((place : ℕ) → place < (self.now).len →
-            text_bytes (slot_of self.now place) ≡ text_at texts.now ((self.now).first + place))) }
+            text_bytes (slot_of self.now place) ≡ text_at texts ((self.now).first + place))) }
     {
         let first = self.first();
         let behind = first + self.len();

@@ -1,17 +1,18 @@
 //! Dictionaries of texts.
 
-ghost use Rattle.std.specs.Prelude.{◌≡◌, ◌==◌, ◌≤◌, [], false, All, length, slice_get, option_map};
+ghost use Rattle.std.specs.Prelude.{◌≡◌, ◌==◌, ◌≤◌, [], false, All, length, slice_get, option_map, IfOk};
 ghost use Rattle.scan_base.specs.Reading.{GivesUnlessMemory, RefusesFirst};
 ghost use Rattle.scan_base.specs.Value.{value_of, is_null, IsTextOrNull};
-ghost use Rattle.std.specs.List.{list_any};
+ghost use Rattle.std.specs.List.{flat_map, list_any};
 ghost use Rattle.arrays.specs.Dictionary.{extended_by};
+ghost use Rattle.arrays.specs.Texts.{texts_values};
 ghost use Rattle.arrays.specs.Written.{text_bytes};
 
 use crate::cells::Cells;
 use crate::runs::Runs;
 use crate::texts::Texts;
 use scan_base::{Fault, ValueRef};
-use std::alloc::Global;
+use std::alloc::{AllocError, Global};
 use std::marker::Model;
 
 // How many values a dictionary may have.
@@ -79,6 +80,20 @@ impl Dictionary {
         self.later.get(index - first)
     }
 
+    /// The parts in which the values came, in order: a value's number is counted from the first of them on.
+    ///
+    /// # Errors
+    ///
+    /// `AllocError` where memory is refused.
+    pub fn parts(&self, alloc: Global) -> Result<Vec<&Texts>, AllocError>
+        ensures { IfOk result (λ parts. flat_map (λ part. texts_values part.now) parts.items ≡ self.now) }
+    {
+        let mut parts = Vec::new(alloc);
+        parts.push(&self.first)?;
+        self.later.append_parts(&mut parts)?;
+        Ok(parts)
+    }
+
     /// Whether a value may be null: where the answer is no, none is. It looks at no value.
     pub fn may_have_nulls(&self) -> bool
         ensures { result ≡ false → list_any is_null self.now ≡ false }
@@ -111,7 +126,7 @@ impl Dictionary {
             return Err(Fault::LimitReached);
         }
         let len = self.len + more;
-        let longest = self.longest.max(part.longest_between(0, more));
+        let longest = self.longest.max(part.borrowed().longest_between(0, more));
         if self.len == 0 {
             return Ok(Dictionary {
                 first: part,

@@ -5,10 +5,10 @@ ghost use Rattle.arrow_schema.specs.declared.data_type.DataType.{DataType};
 ghost use Rattle.arrays.specs.declared.layout.Layout.TheVariants as layout;
 ghost use Rattle.arrays.specs.Number.{byte_width};
 ghost use Rattle.arrays.specs.Validity.{IsLong};
-ghost use Rattle.arrays.specs.Layout.{layout_count};
+ghost use Rattle.arrays.specs.Layout.{layout_count, IsLayout};
 ghost use Rattle.arrays.specs.Column.{slot_of, values_of};
 ghost use Rattle.arrays.specs.Typed.{IsOfType};
-ghost use Rattle.arrays.specs.inside.Gathered.{AreAmong, HasElementsAt, AreValidAt, AreGathered};
+ghost use Rattle.arrays.specs.inside.Gathered.{AreAmong, HasElementsAt, AreValidAt, AreValuesAt, AreGathered};
 
 use crate::bools::Bools;
 use crate::cells::Cells;
@@ -17,11 +17,14 @@ use crate::decimals::Decimals;
 use crate::indices::Indices;
 use crate::integers::Integers;
 use crate::layout::Layout;
+use crate::numbers::are_bytes;
 use crate::selection::Selection;
+use crate::slots::{Slots, Values};
 use arrow_schema::IntegerType;
 use bitmap::Bits;
 use bytes::Bytes;
 use std::alloc::{AllocError, Global};
+use std::sync::Arc;
 
 impl Column {
     /// The slots at these places, in order: a column of as many slots, in buffers of its own. Of a dictionary the indices
@@ -38,82 +41,95 @@ impl Column {
             → IsOfType data_type (self.now).layout → IsOfType data_type column.layout) }
     {
         let _len = self.len();
-        let gathered = self.layout().gather(alloc, self.first(), places.places())?;
+        let gathered = self.slots().gather(alloc, self.first(), places.places())?;
         Ok(Column::new(gathered))
     }
 }
 
-impl Layout {
+impl Slots {
     // The slots at places, which are counted from `first` on.
-    fn gather(&self, alloc: Global, first: usize, places: &[u32]) -> Result<Layout, AllocError>
+    fn gather(&self, alloc: Global, first: usize, places: &[u32]) -> Result<Slots, AllocError>
         requires { AreAmong first places.now (layout_count self.now) }
         ensures { IfOk result (λ gathered. AreGathered gathered self.now first places.now) }
     {
+        let _count = self.len();
+        let validity = gather_validity(alloc, self.validity(), first, places)?;
+        let values = self.layout().gather(alloc, first, places)?;
+        Ok(Slots::from_parts(validity, places.len(), values))
+    }
+}
+
+impl<'a> Layout<'a> {
+    // The values of the slots at places, which are counted from `first` on.
+    fn gather(&self, alloc: Global, first: usize, places: &[u32]) -> Result<Values, AllocError>
+        requires among { AreAmong first places.now (layout_count self.now) }
+        requires stands { IsLayout self.now }
+        ensures { IfOk result (λ values. AreValuesAt values self.now first places.now) }
+    {
         match self {
-            Layout::Integers(cells) => Ok(Layout::Integers(cells.gather(alloc, first, places)?)),
-            Layout::Decimals(cells) => Ok(Layout::Decimals(cells.gather(alloc, first, places)?)),
-            Layout::Bools(cells) => Ok(Layout::Bools(cells.gather(alloc, first, places)?)),
-            Layout::Texts(cells) => Ok(Layout::Texts(cells.gather(alloc, first, places)?)),
-            Layout::Indices(cells) => Ok(Layout::Indices(cells.gather(alloc, first, places)?)),
+            Layout::Integers(cells) => cells.gather(alloc, first, places),
+            Layout::Decimals(cells) => cells.gather(alloc, first, places),
+            Layout::Bools(cells) => cells.gather(alloc, first, places),
+            Layout::Texts(cells) => cells.gather(alloc, first, places),
+            Layout::Indices(cells) => cells.gather(alloc, first, places),
         }
     }
 }
 
-impl Integers {
-    fn gather(&self, alloc: Global, first: usize, places: &[u32]) -> Result<Integers, AllocError>
+impl<'a> Integers<'a> {
+    fn gather(&self, alloc: Global, first: usize, places: &[u32]) -> Result<Values, AllocError>
         requires { AreAmong first places.now (self.now).len }
-        ensures { IfOk result (λ cells.
-            AreGathered (layout.Integers cells) (layout.Integers self.now) first places.now) }
+        ensures { IfOk result (λ values. AreValuesAt values (layout.Integers self.now) first places.now) }
     {
-        let _len = self.len();
         let integer = self.integer_type();
-        let validity = gather_validity(alloc, self.validity(), first, places)?;
-        let values = gather_integers(alloc, integer, self.values(), first, places)?;
-        Ok(Integers::from_parts(integer, validity, Bytes::from_vec(values)?, places.len()))
+        let _count = self.len;
+        let packed = Bytes::from_vec(gather_integers(
+            alloc,
+            integer,
+            self.values(),
+            first,
+            places,
+        )?)?;
+        are_bytes(packed.as_slice());
+        Ok(Values::Integers(integer, packed))
     }
 }
 
-impl Decimals {
-    fn gather(&self, alloc: Global, first: usize, places: &[u32]) -> Result<Decimals, AllocError>
+impl<'a> Decimals<'a> {
+    fn gather(&self, alloc: Global, first: usize, places: &[u32]) -> Result<Values, AllocError>
         requires { AreAmong first places.now (self.now).len }
-        ensures { IfOk result (λ cells.
-            AreGathered (layout.Decimals cells) (layout.Decimals self.now) first places.now) }
+        ensures { IfOk result (λ values. AreValuesAt values (layout.Decimals self.now) first places.now) }
     {
-        let _len = self.len();
-        let validity = gather_validity(alloc, self.validity(), first, places)?;
-        let values = gather_elements::<16>(alloc, self.values(), first, places)?;
-        Ok(Decimals::from_parts(validity, Bytes::from_vec(values)?, places.len()))
+        let _count = self.len;
+        let packed = Bytes::from_vec(gather_elements::<16>(alloc, self.values(), first, places)?)?;
+        are_bytes(packed.as_slice());
+        Ok(Values::Decimals(packed))
     }
 }
 
-impl Bools {
-    fn gather(&self, alloc: Global, first: usize, places: &[u32]) -> Result<Bools, AllocError>
+impl<'a> Bools<'a> {
+    fn gather(&self, alloc: Global, first: usize, places: &[u32]) -> Result<Values, AllocError>
         requires { AreAmong first places.now (length (self.now).values) }
-        ensures { IfOk result (λ cells.
-            AreGathered (layout.Bools cells) (layout.Bools self.now) first places.now) }
+        ensures { IfOk result (λ values. AreValuesAt values (layout.Bools self.now) first places.now) }
     {
-        let _len = self.len();
-        let validity = gather_validity(alloc, self.validity(), first, places)?;
-        let values = self.values().gather(alloc, first, places)?;
-        Ok(Bools::from_parts(validity, values))
+        Ok(Values::Bools(self.values().gather(alloc, first, places)?))
     }
 }
 
-impl Indices {
-    fn gather(&self, alloc: Global, first: usize, places: &[u32]) -> Result<Indices, AllocError>
+impl<'a> Indices<'a> {
+    fn gather(&self, alloc: Global, first: usize, places: &[u32]) -> Result<Values, AllocError>
         requires { AreAmong first places.now (self.now).len }
-        ensures { IfOk result (λ cells.
-            AreGathered (layout.Indices cells) (layout.Indices self.now) first places.now) }
+        ensures { IfOk result (λ values. AreValuesAt values (layout.Indices self.now) first places.now) }
     {
-        let _len = self.len();
-        let validity = gather_validity(alloc, self.validity(), first, places)?;
-        let values = gather_integers(alloc, self.index_type(), self.values(), first, places)?;
-        Ok(self.with_indices(validity, Bytes::from_vec(values)?, places.len())?)
+        let index = self.index_type();
+        let _count = self.len;
+        let packed = Bytes::from_vec(gather_integers(alloc, index, self.values(), first, places)?)?;
+        Ok(Values::Indices(index, packed, Arc::try_clone(self.dictionary)?))
     }
 }
 
-/// Which of the slots at places are valid. Where each slot is, no bits are made.
-pub(crate) fn gather_validity(
+// Which of the slots at places are valid. Where each slot is, no bits are made.
+fn gather_validity(
     alloc: Global,
     validity: &Option<Bits>,
     first: usize,

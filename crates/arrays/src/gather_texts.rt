@@ -3,36 +3,28 @@
 ghost use Rattle.std.specs.Prelude.{◌≡◌, ◌<◌, ◌^◌, IfOk, length};
 ghost use Rattle.arrays.specs.declared.layout.Layout.TheVariants as layout;
 ghost use Rattle.arrays.specs.Written.{offsets_from, texts_joined};
-ghost use Rattle.arrays.specs.inside.Gathered.{AreAmong, AreGathered, texts_at};
+ghost use Rattle.arrays.specs.inside.Gathered.{AreAmong, AreValuesAt, texts_at};
 
-use crate::cells::Cells;
-use crate::gather::gather_validity;
-use crate::texts::Texts;
+use crate::slots::Values;
+use crate::texts::TextsRef;
 use bytes::Bytes;
 use std::alloc::{AllocError, Global};
 
-impl Texts {
-    // The slots at places, which are counted from `first` on.
+impl<'a> TextsRef<'a> {
+    // The texts of the slots at places, which are counted from `first` on.
     pub(crate) fn gather(
         &self,
         alloc: Global,
         first: usize,
         places: &[u32],
-    ) -> Result<Texts, AllocError>
+    ) -> Result<Values, AllocError>
         requires { AreAmong first places.now (self.now).len }
-        ensures { IfOk result (λ cells.
-            AreGathered (layout.Texts cells) (layout.Texts self.now) first places.now) }
+        ensures { IfOk result (λ values. AreValuesAt values (layout.Texts self.now) first places.now) }
     {
-        let _len = self.len();
-        let validity = gather_validity(alloc, self.validity(), first, places)?;
+        let _count = self.len;
         let (offsets, total) = self.gather_offsets(alloc, first, places)?;
         let bytes = self.gather_bytes(alloc, first, places, total)?;
-        Ok(Texts::from_parts(
-            validity,
-            Bytes::from_vec(offsets)?,
-            Bytes::from_vec(bytes)?,
-            places.len(),
-        ))
+        Ok(Values::Texts(Bytes::from_vec(offsets)?, Bytes::from_vec(bytes)?))
     }
 
     // The offsets that cut the texts at places where they stand one behind another, and how many bytes those have.
@@ -47,7 +39,7 @@ impl Texts {
         ensures offsets { IfOk result (λ made. made.0.items ≡ offsets_from 0 (texts_at self.now first places.now)) }
         ensures total { IfOk result (λ made. made.1 ≡ length (texts_joined (texts_at self.now first places.now))) }
     {
-        let _len = self.len();
+        let _count = self.len;
         let mut offsets = Vec::with_capacity(alloc, 4 * (places.len() + 1))?;
         let mut offset: u32 = 0;
         for place in places {
@@ -71,7 +63,7 @@ impl Texts {
         requires { AreAmong first places.now (self.now).len }
         ensures { IfOk result (λ made. made.items ≡ texts_joined (texts_at self.now first places.now)) }
     {
-        let _len = self.len();
+        let _count = self.len;
         let bytes = self.bytes();
         let mut made = Vec::with_capacity(alloc, total as usize)?;
         for place in places {

@@ -1,10 +1,10 @@
 //! Indices looked at by the buffer: the greatest of them.
 
-ghost use Rattle.std.specs.Prelude.{◌≡◌, ◌≤◌, ◌<◌, ◌*◌, ℕ, pos, true, length};
+ghost use Rattle.std.specs.Prelude.{◌≡◌, ◌≤◌, ◌<◌, ◌≤ℤ◌, ◌*◌, ℕ, pos, true, length};
 ghost use Rattle.arrays.specs.Number.{byte_width, element_at, integer_at, number_from};
 ghost use Rattle.arrays.specs.inside.Placed.{IsPlaced};
 
-use crate::numbers::{uint8_at, uint16_at, uint32_at, uint64_at};
+use crate::element::Element;
 use arrow_schema::IntegerType;
 
 /// Whether each of `len` indices is one of `count` places, null ones too. Where the answer is no, each valid one
@@ -37,53 +37,25 @@ fn greatest(index: IntegerType, values: &[u8], len: usize) -> u64
     ensures { (place : ℕ) → place < len → element_at (byte_width index) values.now place ≤ result }
 {
     match index {
-        IntegerType::Int8 | IntegerType::UInt8 => u64::from(greatest_uint8(values, len)),
-        IntegerType::Int16 | IntegerType::UInt16 => u64::from(greatest_uint16(values, len)),
-        IntegerType::Int32 | IntegerType::UInt32 => u64::from(greatest_uint32(values, len)),
-        IntegerType::Int64 | IntegerType::UInt64 => greatest_uint64(values, len),
+        IntegerType::Int8 | IntegerType::UInt8 => u64::from(greatest_of::<u8>(values, len, 0)),
+        IntegerType::Int16 | IntegerType::UInt16 => u64::from(greatest_of::<u16>(values, len, 0)),
+        IntegerType::Int32 | IntegerType::UInt32 => u64::from(greatest_of::<u32>(values, len, 0)),
+        IntegerType::Int64 | IntegerType::UInt64 => greatest_of::<u64>(values, len, 0),
     }
 }
 
-fn greatest_uint8(values: &[u8], len: usize) -> u8
-    requires { len ≤ length values.now }
-    ensures { (place : ℕ) → place < len → element_at 1 values.now place ≤ result }
+// The greatest of `len` elements and one more.
+fn greatest_of<E: Element>(values: &[u8], len: usize, least: E) -> E
+    requires { E.WIDTH * len ≤ length values.now }
+    ensures { (place : ℕ) → place < len →
+        E.value (E.of_bits (element_at E.WIDTH values.now place)) ≤ℤ E.value result }
 {
-    let mut greatest = 0;
+    let mut greatest = least;
     for place in 0..len {
-        greatest = uint8_at(values, place).max(greatest);
-    }
-    greatest
-}
-
-fn greatest_uint16(values: &[u8], len: usize) -> u16
-    requires { 2 * len ≤ length values.now }
-    ensures { (place : ℕ) → place < len → element_at 2 values.now place ≤ result }
-{
-    let mut greatest = 0;
-    for place in 0..len {
-        greatest = uint16_at(values, place).max(greatest);
-    }
-    greatest
-}
-
-fn greatest_uint32(values: &[u8], len: usize) -> u32
-    requires { 4 * len ≤ length values.now }
-    ensures { (place : ℕ) → place < len → element_at 4 values.now place ≤ result }
-{
-    let mut greatest = 0;
-    for place in 0..len {
-        greatest = uint32_at(values, place).max(greatest);
-    }
-    greatest
-}
-
-fn greatest_uint64(values: &[u8], len: usize) -> u64
-    requires { 8 * len ≤ length values.now }
-    ensures { (place : ℕ) → place < len → element_at 8 values.now place ≤ result }
-{
-    let mut greatest = 0;
-    for place in 0..len {
-        greatest = uint64_at(values, place).max(greatest);
+        let element = E::read(values, place);
+        if greatest < element {
+            greatest = element;
+        }
     }
     greatest
 }

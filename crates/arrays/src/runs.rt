@@ -1,8 +1,8 @@
 //! The later parts of a dictionary, in runs that dictionaries share.
 
-ghost use Rattle.std.specs.Prelude.{◌≡◌, ◌≤◌, ◌<◌, ◌+◌, ◌++◌, [], false, Some, length, map, slice_get, slice_index, option_map, IfOk};
+ghost use Rattle.std.specs.Prelude.{◌≡◌, ◌≤◌, ◌<◌, ◌+◌, ◌++◌, [], false, Some, length, map, slice_get, slice_index, option_map, IfOk, OnOk};
 ghost use Rattle.std.specs.Arc.{arc_value};
-ghost use Rattle.std.specs.List.{list_any};
+ghost use Rattle.std.specs.List.{flat_map, list_any};
 ghost use Rattle.scan_base.specs.Value.{value_of, is_null};
 ghost use Rattle.arrays.specs.Texts.{texts_values};
 ghost use Rattle.scan_base.specs.Limits.{most_values};
@@ -96,6 +96,18 @@ impl Run {
         })
     }
 
+    // Puts the parts behind others.
+    fn append_parts<'a>(&'a self, parts: &mut Vec<&'a Texts>) -> Result<(), AllocError>
+        ensures { OnOk result (flat_map (λ part. texts_values part.now) parts.new.items
+            ≡ flat_map (λ part. texts_values part.now) parts.old.items ++ self.now) }
+    {
+        for part in &self.parts {
+            let texts: &'a Texts = part;
+            parts.push(texts)?;
+        }
+        Ok(())
+    }
+
     // The run with the parts of another at its end.
     fn followed_by(self, other: &Run) -> Result<Run, AllocError>
         requires { length self + length other.now ≤ most_values }
@@ -182,6 +194,17 @@ impl Runs {
             }
         }
         false
+    }
+
+    // Puts the parts of all runs behind others.
+    pub(crate) fn append_parts<'a>(&'a self, parts: &mut Vec<&'a Texts>) -> Result<(), AllocError>
+        ensures { OnOk result (flat_map (λ part. texts_values part.now) parts.new.items
+            ≡ flat_map (λ part. texts_values part.now) parts.old.items ++ self.now) }
+    {
+        for run in &self.runs {
+            run.append_parts(parts)?;
+        }
+        Ok(())
     }
 
     // The same runs once more.

@@ -7,7 +7,7 @@ ghost use Rattle.std.specs.Str.{is_utf8};
 ghost use Rattle.arrays.specs.Number.{element_at};
 ghost use Rattle.arrays.specs.inside.TextCuts.{OffsetsRise, LieWithin, CutBetweenCharacters, IsTextCut};
 
-use crate::numbers::uint32_at;
+use crate::element::Element;
 use scan_base::{Fault, read_text};
 
 /// Whether the data of `len` slots is one text, which rising offsets cut between characters. Where the answer is no,
@@ -16,7 +16,7 @@ pub(crate) fn are_cut_from_text(offsets: &[u8], bytes: &[u8], len: usize) -> boo
     requires { 4 * (len + 1) ≤ length offsets.now }
     ensures { result ≡ true → (place : ℕ) → place < len → IsTextCut offsets.now bytes.now place }
 {
-    let last = uint32_at(offsets, len) as usize;
+    let last = u32::read(offsets, len) as usize;
     if last > bytes.len() || last >= 1 << 31 || !offsets_rise(offsets, len) {
         return false;
     }
@@ -31,7 +31,7 @@ fn offsets_rise(offsets: &[u8], len: usize) -> bool
 {
     let mut rise = true;
     for place in 0..len {
-        rise = rise & (uint32_at(offsets, place) <= uint32_at(offsets, place + 1));
+        rise = rise & (u32::read(offsets, place) <= u32::read(offsets, place + 1));
     }
     rise
 }
@@ -44,7 +44,7 @@ pub(crate) fn longest_cut(offsets: &[u8], from: usize, to: usize) -> u32
 {
     let mut longest = 0;
     for place in from..to {
-        let bytes = uint32_at(offsets, place + 1) - uint32_at(offsets, place);
+        let bytes = u32::read(offsets, place + 1) - u32::read(offsets, place);
         longest = bytes.max(longest);
     }
     longest
@@ -57,10 +57,10 @@ fn cut_between_characters(offsets: &[u8], len: usize, whole: &[u8]) -> bool
     requires within { LieWithin offsets.now len (element_at 4 offsets.now 0) (element_at 4 offsets.now 0 + length whole.now) }
     ensures { result ≡ true → CutBetweenCharacters offsets.now len (element_at 4 offsets.now 0) whole.now }
 {
-    let first = uint32_at(offsets, 0) as usize;
+    let first = u32::read(offsets, 0) as usize;
     let mut between = true;
     for place in 0..len + 1 {
-        let at = uint32_at(offsets, place) as usize - first;
+        let at = u32::read(offsets, place) as usize - first;
         if at < whole.len() {
             between = between & starts_character(whole[at]);
         }
@@ -83,7 +83,7 @@ pub(crate) fn between<'a>(offsets: &[u8], bytes: &'a [u8], from: usize, to: usiz
     requires within { element_at 4 offsets.now to ≤ length bytes.now }
     ensures { result.now ≡ slice_range bytes.now (element_at 4 offsets.now from) (element_at 4 offsets.now to) }
 {
-    &bytes[uint32_at(offsets, from) as usize..uint32_at(offsets, to) as usize]
+    &bytes[u32::read(offsets, from) as usize..u32::read(offsets, to) as usize]
 }
 
 /// Whether the bytes are UTF-8.

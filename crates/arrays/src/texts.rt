@@ -1,17 +1,18 @@
 //! Columns of texts.
 
-ghost use Rattle.std.specs.Prelude.{◌≡◌, ◌==◌, ◌≤◌, ◌<◌, ◌+◌, ◌-◌, ◌*◌, ◌^◌, ◌||◌, [], IfOk, length, slice_range, true, ℕ};
-ghost use Rattle.std.specs.List.{flat_map, list_all, range_with_len};
+ghost use Rattle.std.specs.Prelude.{◌≡◌, ◌==◌, ◌≤◌, ◌<◌, ◌+◌, ◌-◌, ◌*◌, ◌^◌, [], IfOk, length, slice_range, true, ℕ};
+ghost use Rattle.std.specs.List.{flat_map, range_with_len};
 ghost use Rattle.scan_base.specs.Reading.{Gives};
 ghost use Rattle.arrays.specs.Number.{element_at, AreBytes};
-ghost use Rattle.std.specs.Str.{is_utf8};
-ghost use Rattle.arrays.specs.Validity.{IsLong};
-ghost use Rattle.arrays.specs.Texts.{texts_of, text_at, is_offset, text_stands, texts_stand, texts_values, texts_slot, AreTexts};
+ghost use Rattle.arrays.specs.Validity.{is_valid};
+ghost use Rattle.arrays.specs.Texts.{texts_of, text_at, texts_values, texts_slot, AreTexts};
 ghost use Rattle.arrays.specs.Written.{text_bytes};
 
 use crate::cells::Cells;
-use crate::numbers::{are_bytes, uint32_at};
-use crate::text_checks::{are_cut_from_text, is_utf8, longest_cut};
+use crate::element::Element;
+use crate::numbers::are_bytes;
+use crate::text_checks::longest_cut;
+use crate::text_parts::TextParts;
 use crate::validity::{is_valid, read_validity, share};
 use bitmap::Bits;
 use bytes::Bytes;
@@ -24,10 +25,10 @@ use std::str::from_utf8_unchecked;
 /// be nulls the bits that say which slots are valid. A contract sees the layout.
 #[derive(Drop)]
 pub struct Texts {
-    validity: Option<Bits>,
-    offsets: Bytes,
-    bytes: Bytes,
-    len: usize,
+    pub(crate) validity: Option<Bits>,
+    pub(crate) offsets: Bytes,
+    pub(crate) bytes: Bytes,
+    pub(crate) len: usize,
 }
 
 impl Model for Texts {
@@ -38,98 +39,6 @@ impl Model for Texts {
     ghost view = { λ s. record { validity = s.validity; offsets = s.offsets; bytes = s.bytes; len = s.len } };
 
     ghost invariant = { λ s. AreTexts (record { validity = s.validity; offsets = s.offsets; bytes = s.bytes; len = s.len }) };
-}
-
-// The buffers of texts, which may not stand.
-#[derive(Drop)]
-struct Parts<'a> {
-    validity: &'a Option<Bits>,
-    offsets: &'a [u8],
-    bytes: &'a [u8],
-    len: usize,
-}
-
-impl<'a> Model for Parts<'a> {
-    ghost use Rattle.arrays.specs.Texts.{TextsAt};
-
-    ghost Value = { TextsAt };
-
-    ghost view = { λ s. record { validity = s.validity.now; offsets = s.offsets.now; bytes = s.bytes.now; len = s.len } };
-}
-
-impl<'a> Parts<'a> {
-    // Offset `place`, as a number without a sign.
-    fn offset(&self, place: usize) -> usize
-        requires { 4 * (place + 1) ≤ length (self.now).offsets }
-        ensures { result ≡ element_at 4 (self.now).offsets place }
-    {
-        uint32_at(self.offsets, place) as usize
-    }
-
-    // Whether an offset is not negative and within the data.
-    fn is_offset(&self, place: usize) -> bool
-        requires { 4 * (place + 1) ≤ length (self.now).offsets }
-        ensures { result ≡ is_offset self.now place }
-    {
-        let offset = self.offset(place);
-        offset <= self.bytes.len() && offset < 1 << 31
-    }
-
-    // The bytes of a slot.
-    fn text(&self, place: usize) -> &'a [u8]
-        requires offsets { 4 * (place + 2) ≤ length (self.now).offsets }
-        requires ordered { element_at 4 (self.now).offsets place
-            ≤ element_at 4 (self.now).offsets (place + 1) }
-        requires within { element_at 4 (self.now).offsets (place + 1) ≤ length (self.now).bytes }
-        ensures { result.now ≡ text_at self.now place }
-    {
-        &self.bytes[self.offset(place)..self.offset(place + 1)]
-    }
-
-    // Whether a slot's text stands.
-    fn slot_stands(&self, place: usize) -> bool
-        requires offsets { 4 * (place + 2) ≤ length (self.now).offsets }
-        requires place { place < (self.now).len }
-        requires validity { IsLong (self.now).validity (self.now).len }
-        ensures { result ≡ text_stands self.now place }
-    {
-        let _count = self.len;
-        if !self.is_offset(place + 1) || self.offset(place) > self.offset(place + 1) {
-            return false;
-        }
-        !is_valid(self.validity, place) || is_utf8(self.text(place))
-    }
-
-    // Whether each slot's text stands. They are looked at one by one only where they are not cut from one text.
-    fn slots_stand(&self) -> bool
-        requires offsets { 4 * ((self.now).len + 1) ≤ length (self.now).offsets }
-        requires validity { IsLong (self.now).validity (self.now).len }
-        ensures { result ≡ list_all (text_stands self.now) (range_with_len 0 (self.now).len) }
-    {
-        if are_cut_from_text(self.offsets, self.bytes, self.len) {
-            return true;
-        }
-        for place in 0..self.len {
-            if !self.slot_stands(place) {
-                return false;
-            }
-        }
-        true
-    }
-
-    // Whether there are enough offsets, and each text stands.
-    fn are_texts(&self) -> bool
-        requires { IsLong (self.now).validity (self.now).len }
-        ensures { result ≡ texts_stand self.now }
-    {
-        if self.len == 0 && self.offsets.is_empty() {
-            return true;
-        }
-        if self.offsets.len() / 4 <= self.len {
-            return false;
-        }
-        self.is_offset(0) && self.slots_stand()
-    }
 }
 
 impl Texts {
@@ -150,7 +59,7 @@ impl Texts {
         ensures long { IfOk result (λ cells. cells.len ≡ len) }
     {
         let validity = read_validity(validity, len)?;
-        let parts = Parts {
+        let parts = TextParts {
             validity: &validity,
             offsets: offsets.as_slice(),
             bytes: bytes.as_slice(),
@@ -167,24 +76,6 @@ impl Texts {
         })
     }
 
-    // The slots of buffers whose texts stand.
-    pub(crate) fn from_parts(
-        validity: Option<Bits>,
-        offsets: Bytes,
-        bytes: Bytes,
-        len: usize,
-    ) -> Texts
-        requires { AreTexts (record { validity = validity; offsets = offsets; bytes = bytes; len = len }) }
-        ensures { result ≡ record { validity = validity; offsets = offsets; bytes = bytes; len = len } }
-    {
-        Texts {
-            validity,
-            offsets,
-            bytes,
-            len,
-        }
-    }
-
     // No slots. It takes no memory.
     pub(crate) fn none() -> Texts
         ensures { texts_values result ≡ [] }
@@ -197,25 +88,105 @@ impl Texts {
         }
     }
 
-    /// The validity bits, where there are some: one for each slot.
-    pub fn validity(&self) -> &Option<Bits>
-        ensures { result.now ≡ (self.now).validity }
+    /// The same slots, borrowed.
+    pub fn borrowed(&self) -> TextsRef<'_>
+        ensures { result ≡ self.now }
     {
-        &self.validity
+        TextsRef {
+            validity: &self.validity,
+            offsets: &self.offsets,
+            bytes: &self.bytes,
+            len: self.len,
+        }
     }
 
+    /// The same slots once more, over the same buffers: nothing is copied.
+    ///
+    /// # Errors
+    ///
+    /// `AllocError` where a buffer refuses another owner.
+    pub fn share(&self) -> Result<Texts, AllocError>
+        ensures { IfOk result (λ cells. cells ≡ self.now) }
+    {
+        Ok(Texts {
+            validity: share(&self.validity)?,
+            offsets: self.offsets.clone()?,
+            bytes: self.bytes.clone()?,
+            len: self.len,
+        })
+    }
+}
+
+impl Cells for Texts {
+    ghost use Rattle.arrays.specs.Texts.{texts_slot};
+
+    ghost slot_count = { λ cells. cells.len };
+
+    ghost slot = { texts_slot };
+
+    fn len(&self) -> usize
+        ensures count { result ≡ (self.now).len }
+        ensures stands { AreTexts self.now }
+    {
+        self.len
+    }
+
+    fn value_at(&self, place: usize) -> ValueRef<'_> {
+        if !is_valid(&self.validity, place) {
+            return ValueRef::Null;
+        }
+        ValueRef::Text(self.borrowed().get(place))
+    }
+
+    fn may_have_nulls(&self) -> bool {
+        self.validity.is_some()
+    }
+}
+
+/// Slots of texts, borrowed. A contract sees the layout.
+#[derive(Drop)]
+pub struct TextsRef<'a> {
+    pub(crate) validity: &'a Option<Bits>,
+    pub(crate) offsets: &'a Bytes,
+    pub(crate) bytes: &'a Bytes,
+    pub(crate) len: usize,
+}
+
+impl<'a> Model for TextsRef<'a> {
+    ghost use Rattle.arrays.specs.Texts.{TextsAt, AreTexts};
+
+    ghost Value = { TextsAt };
+
+    ghost view = { λ s. record { validity = s.validity.now; offsets = s.offsets.now; bytes = s.bytes.now; len = s.len } };
+
+    ghost invariant = { λ s. AreTexts (record { validity = s.validity.now; offsets = s.offsets.now; bytes = s.bytes.now; len = s.len }) };
+}
+
+impl<'a> TextsRef<'a> {
     /// The packed offsets.
-    pub fn offsets(&self) -> &[u8]
+    pub fn offsets(&self) -> &'a [u8]
         ensures { result.now ≡ (self.now).offsets }
     {
         self.offsets.as_slice()
     }
 
     /// The data that the offsets cut.
-    pub fn bytes(&self) -> &[u8]
+    pub fn bytes(&self) -> &'a [u8]
         ensures { result.now ≡ (self.now).bytes }
     {
         self.bytes.as_slice()
+    }
+
+    /// The text of a valid slot.
+    pub fn get(&self, place: usize) -> &'a str
+        requires place { place < (self.now).len }
+        requires valid { is_valid (self.now).validity place ≡ true }
+        ensures { result.now ≡ text_at self.now place }
+    {
+        let _count = self.len;
+        let (begin, end) = self.bounds(place, place + 1);
+        // The slot is valid, so its text was found to be UTF-8.
+        unsafe { from_utf8_unchecked(&self.bytes.as_slice()[begin..end]) }
     }
 
     // Where the texts of the slots `from` up to, not with, `to` begin and end in the data.
@@ -229,12 +200,12 @@ impl Texts {
         ensures short { result.1 < 2 ^ 31 }
     {
         let offsets = self.offsets.as_slice();
-        let begin = uint32_at(offsets, from) as usize;
-        (begin, uint32_at(offsets, to) as usize)
+        let begin = u32::read(offsets, from) as usize;
+        (begin, u32::read(offsets, to) as usize)
     }
 
     // The texts of the slots `from` up to, not with, `to`, one behind another: so they stand in the data.
-    pub(crate) fn bytes_between(&self, from: usize, to: usize) -> &[u8]
+    pub(crate) fn bytes_between(&self, from: usize, to: usize) -> &'a [u8]
         requires ordered { from ≤ to }
         requires within { to ≤ (self.now).len }
         ensures bytes { result.now ≡ flat_map (text_at self.now) (range_with_len from (to - from)) }
@@ -254,7 +225,7 @@ impl Texts {
     {
         let _count = self.len;
         let (begin, end) = self.bounds(place, place + 1);
-        is_valid(&self.validity, place) || begin == end
+        is_valid(self.validity, place) || begin == end
     }
 
     // Whether no null among the slots `from` up to, not with, `to` has bytes in the data.
@@ -318,61 +289,5 @@ impl Texts {
         } else {
             0
         }
-    }
-
-    /// The same slots once more, over the same buffers: nothing is copied.
-    ///
-    /// # Errors
-    ///
-    /// `AllocError` where a buffer refuses another owner.
-    pub fn share(&self) -> Result<Texts, AllocError>
-        ensures { IfOk result (λ cells. cells ≡ self.now) }
-    {
-        Ok(Texts {
-            validity: share(&self.validity)?,
-            offsets: self.offsets.clone()?,
-            bytes: self.bytes.clone()?,
-            len: self.len,
-        })
-    }
-
-    // The buffers, borrowed.
-    fn parts(&self) -> Parts<'_>
-        ensures { result ≡ self.now }
-    {
-        Parts {
-            validity: &self.validity,
-            offsets: self.offsets.as_slice(),
-            bytes: self.bytes.as_slice(),
-            len: self.len,
-        }
-    }
-}
-
-impl Cells for Texts {
-    ghost use Rattle.arrays.specs.Texts.{texts_slot};
-
-    ghost slot_count = { λ cells. cells.len };
-
-    ghost slot = { texts_slot };
-
-    fn len(&self) -> usize
-        ensures count { result ≡ (self.now).len }
-        ensures stands { AreTexts self.now }
-    {
-        self.len
-    }
-
-    fn value_at(&self, place: usize) -> ValueRef<'_> {
-        if !is_valid(&self.validity, place) {
-            return ValueRef::Null;
-        }
-        let text = self.parts().text(place);
-        // The slot is valid, so its text was found to be UTF-8.
-        ValueRef::Text(unsafe { from_utf8_unchecked(text) })
-    }
-
-    fn may_have_nulls(&self) -> bool {
-        self.validity.is_some()
     }
 }

@@ -12,7 +12,7 @@ ghost use Rattle.arrays.specs.Written.{text_bytes, offsets_from, texts_joined};
 use crate::cells::Cells;
 use crate::column::Column;
 use crate::layout::Layout;
-use crate::nulls::Nulls;
+use crate::nulls::{Nulls, is_null};
 use crate::packing::append_bits;
 use arrow_schema::IntegerType;
 use scan_base::ValueRef;
@@ -83,7 +83,7 @@ impl Column {
         if self.null_count() == 0 {
             return Ok(());
         }
-        match self.layout().nulls() {
+        match self.slots().nulls() {
             Nulls::AtZeros(bits) => append_bits(out, bits, self.first(), self.len()),
             _ => self.append_valid_slots(out),
         }
@@ -110,7 +110,7 @@ impl Column {
         let count = (len - from).min(8);
         let mut bits = 0;
         for taken in 0..count {
-            bits = 2 * bits + !self.has_null(from + (count - 1 - taken)) as u8;
+            bits = 2 * bits + !is_null(self.value_at(from + (count - 1 - taken))) as u8;
         }
         bits
     }
@@ -168,7 +168,7 @@ impl Column {
         let first = self.first();
         let behind = first + self.len();
         match self.layout() {
-            Layout::Texts(cells) if !cells.may_have_nulls() => {
+            Layout::Texts(cells) if !self.may_have_nulls() => {
                 Some(cells.bytes_between(first, behind))
             }
             _ => None,

@@ -3,7 +3,7 @@
 
 ghost use Rattle.std.specs.Prelude.{◌≡◌, IfOk, length};
 
-use arrays::{Batch, Cells, Column, Integers, Layout};
+use arrays::{Batch, Cells, Column, Slots};
 use arrow_schema::{HeaderKind, IntegerType, Schema, read_message};
 use bytes::Bytes;
 use ipc_batch::{MeasuredBatch, Reader};
@@ -81,8 +81,8 @@ fn schema_first(rt: HostRuntime) {
 fn numbers() -> Result<Column, Fault> {
     let validity = Some(Bytes::from_static(&[0x01]));
     let values = Bytes::from_static(&[5, 0, 9, 0]);
-    let cells = Integers::new(IntegerType::Int16, validity, values, 2)?;
-    Ok(Column::new(Layout::Integers(cells)))
+    let cells = Slots::integers(IntegerType::Int16, validity, values, 2)?;
+    Ok(Column::new(cells))
 }
 
 // A batch of one column.

@@ -2,7 +2,7 @@
 
 use crate::buffers::buffer;
 use crate::case::{Case, number};
-use arrays::{Bools, Decimals, Dictionary, Indices, Integers, Layout, Texts};
+use arrays::{Dictionary, Slots, Texts};
 use arrow_schema::IntegerType;
 use bytes::Bytes;
 use scan_base::Fault;
@@ -10,12 +10,12 @@ use std::alloc::Global;
 use std::sync::Arc;
 
 /// The slots of a case.
-pub(crate) fn layout(alloc: Global, case: &Case<'_>) -> Result<Layout, Fault> {
+pub(crate) fn layout(alloc: Global, case: &Case<'_>) -> Result<Slots, Fault> {
     let validity = optional(alloc, case.validity)?;
     let values = buffer(alloc, case.values)?;
     match case.kind {
-        "Bool" => bools(validity, values, case.len),
-        "Decimal128" => decimals(validity, values, case.len),
+        "Bool" => Slots::bools(validity, values, case.len),
+        "Decimal128" => Slots::decimals(validity, values, case.len),
         "Utf8" => texts(validity, values, buffer(alloc, case.behind)?, case.len),
         kind => numbers(alloc, integer_type(kind), validity, values, case),
     }
@@ -29,21 +29,13 @@ fn optional(alloc: Global, word: &str) -> Result<Option<Bytes>, Fault> {
     Ok(Some(buffer(alloc, word)?))
 }
 
-fn bools(validity: Option<Bytes>, values: Bytes, len: usize) -> Result<Layout, Fault> {
-    Ok(Layout::Bools(Bools::new(validity, values, len)?))
-}
-
-fn decimals(validity: Option<Bytes>, values: Bytes, len: usize) -> Result<Layout, Fault> {
-    Ok(Layout::Decimals(Decimals::new(validity, values, len)?))
-}
-
 fn texts(
     validity: Option<Bytes>,
     offsets: Bytes,
     bytes: Bytes,
     len: usize,
-) -> Result<Layout, Fault> {
-    Ok(Layout::Texts(Texts::new(validity, offsets, bytes, len)?))
+) -> Result<Slots, Fault> {
+    Ok(Slots::texts(Texts::new(validity, offsets, bytes, len)?))
 }
 
 // The type of a name.
@@ -67,12 +59,12 @@ fn numbers(
     validity: Option<Bytes>,
     values: Bytes,
     case: &Case<'_>,
-) -> Result<Layout, Fault> {
+) -> Result<Slots, Fault> {
     if case.behind == "-" {
-        return Ok(Layout::Integers(Integers::new(integer, validity, values, case.len)?));
+        return Slots::integers(integer, validity, values, case.len);
     }
     let values_led_to = dictionary(alloc, case.behind)?;
-    Ok(Layout::Indices(Indices::new(integer, validity, values, values_led_to, case.len)?))
+    Slots::indices(integer, validity, values, values_led_to, case.len)
 }
 
 // The dictionary of parts that are joined by `;`.

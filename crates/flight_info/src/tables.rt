@@ -11,7 +11,7 @@ ghost use Rattle.table_versions.specs.Table.{Name, is_long_text};
 ghost use Rattle.flight_info.specs.inside.Listed.{text_values, HoldTexts, HasValues, nulls_listed, names_listed, types_listed};
 ghost use Rattle.flight_info.specs.Tables.{text_column, tables_schema, tables_listed};
 
-use arrays::{Batch, Column, Layout, Texts};
+use arrays::{Batch, Column, Slots, Texts};
 use arrow_schema::{DataType, Field, Schema};
 use bytes::Bytes;
 use scan_base::{Items, Text};
@@ -89,7 +89,7 @@ impl TextBuilder {
         let offsets = Bytes::from_vec(self.offsets)?;
         let bytes = Bytes::from_vec(self.bytes)?;
         match Texts::new(None, offsets, bytes, len) {
-            Ok(texts) => Ok(Column::new(Layout::Texts(texts))),
+            Ok(texts) => Ok(Column::new(Slots::texts(texts))),
             Err(_) => unreachable!(),
         }
     }
@@ -103,7 +103,7 @@ fn null_column(alloc: Global, catalog: &CatalogVersion) -> Result<Column, AllocE
     let len = catalog.len();
     let zeros = Bytes::from_vec(vec![in alloc; 0u8; 4 * (len + 1)]?)?;
     match Texts::new(Some(zeros.clone()?), zeros, Bytes::new(), len) {
-        Ok(nulls) => Ok(Column::new(Layout::Texts(nulls))),
+        Ok(nulls) => Ok(Column::new(Slots::texts(nulls))),
         Err(_) => unreachable!(),
     }
 }

@@ -11,5 +11,6 @@ pub mod Rows
 pub mod Typed
 pub mod WriterLoops
 pub mod ColumnsAgain
+mod ColumnsRead
 pub mod BatchAgain
 pub mod DictionaryAgain

@@ -12,7 +12,7 @@ ghost use Rattle.ipc_batch.specs.inside.Seen.{parts_seen, front_seen};
 
 use crate::dictionaries::Dictionaries;
 use crate::parts::{BufferPlace, FieldNode, Parts, buffer, check_place};
-use arrays::{Bools, Column, Decimals, Indices, Integers, Layout, Texts};
+use arrays::{Column, Slots, Texts};
 use arrow_schema::{DataType, Field};
 use bytes::Bytes;
 use scan_base::Fault;
@@ -30,7 +30,7 @@ pub(crate) struct Source<'a> {
 /// The layout at the front of the buffers, and where those behind it lie.
 #[derive(Drop)]
 pub(crate) struct Front<'a> {
-    pub layout: Layout,
+    pub layout: Slots,
     pub behind: &'a [BufferPlace],
 }
 
@@ -128,21 +128,19 @@ fn layout(
     source: &Source<'_>,
     bits: Option<Bytes>,
     packed: Bytes,
-) -> Result<Layout, Fault>
+) -> Result<Slots, Fault>
     ensures value { GivesUnlessMemory (λ layout. layout) result (values_layout data_type
         (values_led_to data_type source.now.dictionaries.now) bits packed source.now.rows) }
     ensures long { IfOk result (λ layout. layout_count layout ≡ source.now.rows) }
 {
     let rows = source.rows as usize;
     Ok(match data_type {
-        DataType::Integer(integer) => {
-            Layout::Integers(Integers::new(integer, bits, packed, rows)?)
-        }
-        DataType::Bool => Layout::Bools(Bools::new(bits, packed, rows)?),
-        DataType::Decimal128 => Layout::Decimals(Decimals::new(bits, packed, rows)?),
+        DataType::Integer(integer) => Slots::integers(integer, bits, packed, rows)?,
+        DataType::Bool => Slots::bools(bits, packed, rows)?,
+        DataType::Decimal128 => Slots::decimals(bits, packed, rows)?,
         DataType::Dictionary(encoding) => {
             let dictionary = source.dictionaries.get(alloc, encoding.id)?;
-            Layout::Indices(Indices::new(encoding.index, bits, packed, dictionary, rows)?)
+            Slots::indices(encoding.index, bits, packed, dictionary, rows)?
         }
         DataType::Utf8 => return Err(Fault::BadBatch),
     })
@@ -157,7 +155,7 @@ fn values(
     node: FieldNode,
     validity_place: BufferPlace,
     values_place: BufferPlace,
-) -> Result<Layout, Fault>
+) -> Result<Slots, Fault>
     ensures value { GivesUnlessMemory (λ layout. layout) result (values_at data_type
         (values_led_to data_type source.now.dictionaries.now) source.now.rows source.now.body.now node
         validity_place values_place) }
@@ -186,7 +184,7 @@ fn texts_front<'a>(
     };
     let cells = texts(source.rows, source.body, node, *validity, *offsets, *bytes)?;
     Ok(Front {
-        layout: Layout::Texts(cells),
+        layout: Slots::texts(cells),
         behind,
     })
 }

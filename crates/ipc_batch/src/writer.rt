@@ -13,7 +13,7 @@ ghost use Rattle.ipc_batch.specs.Written.{SaysParts, SaysBatch, SaysDictionaryPa
 ghost use Rattle.ipc_batch.specs.Seen.{written_seen};
 
 use crate::measured::MeasuredBatch;
-use arrays::{Batch, Cells, Column, Layout, Texts};
+use arrays::{Batch, Cells, Column, Slots, Texts};
 use arrow_schema::{HeaderKind, write_message};
 use flatbuf::{Block, Builder, Slot};
 use std::alloc::{AllocError, Global};
@@ -60,7 +60,7 @@ fn values_batch(alloc: Global, values: &Texts) -> Result<Batch, AllocError>
     ensures { IfOk result (λ batch. batch ≡ values_batch values.now) }
 {
     let mut columns = Vec::with_capacity(alloc, 1)?;
-    columns.push(Column::new(Layout::Texts(values.share()?)))?;
+    columns.push(Column::new(Slots::texts(values.share()?)))?;
     Ok(Batch::new(columns, values.len()))
 }
 

@@ -35,11 +35,14 @@ starts_push placed batch rows are counted i one at = by (cases_lt i (length plac
   where
     new : PlacedBatch
     new = record { batch = batch; start = rows }
+
     long : length (batches placed) ≡ length placed
     long = length-map placed (λ (each : PlacedBatch). each.batch)
+
     front : i ≤ length placed → rows_before (batches (placed ++ new ∷ [])) i ≡ rows_before (batches placed) i
     front h = ap (λ (some : List BatchAt). length (flat_map rows_of (take i some))) (batches_push placed new)
         ∙ ap (λ (some : List BatchAt). length (flat_map rows_of some)) (take-append-le i (batches placed) (batch ∷ []) (omega (arith, h, long)))
+
     by : (i < length placed) ⊎ (length placed ≤ i) → one.start ≡ rows_before (batches (placed ++ new ∷ [])) i
     by (inl h) = are i one (sym (slice_get-append_left placed (new ∷ []) i h) ∙ at) ∙ sym (front (omega (arith, h)))
     by (inr h) =

@@ -7,7 +7,9 @@ use Rattle.arrays.specs.declared.layout.Layout.{Layout}
 use Rattle.arrays.specs.Number.{element_at}
 use Rattle.arrays.specs.Validity.{is_valid, IsLong}
 use Rattle.arrays.specs.Texts.{TextsAt, text_at}
-use Rattle.arrays.specs.Layout.{layout_count, layout_slot}
+use Rattle.arrays.specs.declared.slots.Values.{Values}
+use Rattle.arrays.specs.Layout.{layout_count, layout_slot, layout_validity}
+use Rattle.arrays.specs.inside.Slots.{layout_of, AreSlots}
 use Rattle.arrays.specs.Typed.{IsOfType}
 use Rattle.arrays.specs.Selection.{AreRising}
 
@@ -36,3 +38,8 @@ pub record AreGathered (gathered layout : Layout) (first : ℕ) (places : List �
   pub count : layout_count gathered ≡ length places
   pub slots : (k : ℕ) → k < length places → layout_slot gathered k ≡ layout_slot layout (first + get_or places k 0)
   pub typed : (data_type : DataType) → IsOfType data_type layout → IsOfType data_type gathered
+
+-- values are those of the slots of a layout at places, whichever of these are valid
+abbrev pub AreValuesAt : Values → Layout → ℕ → List ℕ → Type 0
+AreValuesAt values layout first places = (validity : Option (List Bool)) → AreValidAt validity (layout_validity layout) first places →
+    AreSlots validity (length places) values × AreGathered (layout_of validity (length places) values) layout first places

@@ -19,4 +19,4 @@ returns c =
     let n = 4 * (c.len-len.result + 1) in
     let are : offsets ≡ zeros n = c.in_ok-zeros.ensures.ok ∙ c.in_ok-vec.ensures.items_if_clones_equal (λ y same. same) in
     let slots = null_slots c.args.catalog.now bits offsets c.new.result n c.len-len.result are c.in_ok-clone.ensures.cases c.new.ensures refl c.len-len.ensures.count in
-    rw c.new-in-Ok.ensures (read_same (Some bits) offsets c.new.result c.len-len.result (nulls_listed c.args.catalog.now) c.in-Ok.nulls slots c.in-Ok.ensures.value)
+    rw (c.new-in-Ok.ensures, c.texts.ensures) (read_same (Some bits) offsets c.new.result c.len-len.result (nulls_listed c.args.catalog.now) c.in-Ok.nulls slots c.in-Ok.ensures.value)

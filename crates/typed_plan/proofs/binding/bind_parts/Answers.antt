@@ -29,8 +29,8 @@ invariant_of-result c =
     let placed = rw c.requires at is in (
       subst IsTyped (sym placed) (typed query schema (rw c.requires at none)),
       ap tree_schema c.in_ok-plan.ensures
-      ∙ kept_schema (option_map pred_of c.in_ok-filter.filter) (scan c.args.query.now.first.table c.schema.result.now All)
-      ∙ c.schema.ensures.schema ∙ sym (ap (λ (t : TableAt). t.schema) c.in_ok-share.ensures),
+          ∙ kept_schema (option_map pred_of c.in_ok-filter.filter) (scan c.args.query.now.first.table c.schema.result.now All)
+          ∙ c.schema.ensures.schema ∙ sym (ap (λ (t : TableAt). t.schema) c.in_ok-share.ensures),
     )
 
 pub returns-clause-place : goal.returns-clause-place

@@ -1,7 +1,6 @@
-use Rattle.arrays.proofs.Gathered.{bools_gathered}
+use Rattle.arrays.proofs.GatheredValues.{bools_at}
 use Rattle.arrays.proofs.bools.Bools.gather.Goals as goal
 
 pub returns : goal.returns
 returns c =
-    bools_gathered c.from_parts.result c.args.self.now c.in_ok-validity.validity c.validity.result.now c.in_ok-values.values c.values.result.now c.args.first c.args.places.now
-    c.from_parts.ensures c.validity.ensures c.values.ensures c.in_ok-validity.ensures c.in_ok-values.ensures.value
+    bools_at c.args.self.now c.in_ok-gather.field-0 c.values.result.now c.args.first c.args.places.now c.values.ensures c.in_ok-gather.ensures.value

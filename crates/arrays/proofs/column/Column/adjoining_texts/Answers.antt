@@ -10,9 +10,9 @@ same_bytes : (c : goal.After-bytes_between) → c.bytes_between.result.now ≡ t
 same_bytes c =
     let column = c.args.self.now in
     let cells = c.in-Texts.cells in
-    let stands = stands_as column c.layout.result.now (layout.Texts cells) c.layout.ensures c.in-Texts.is c.len.ensures.stands in
-    let texts = column_texts column cells (sym c.layout.ensures ∙ c.in-Texts.is)
-    (λ place low. c.may_have_nulls.ensures c.if-not-may_have_nulls.true (column.first + place) (omega (arith, stands.within, low))) in
+    let stands = stands_as column c.layout.result (layout.Texts cells) c.layout.ensures.value c.in-Texts.is c.len.ensures.stands in
+    let texts = column_texts column cells (sym c.layout.ensures.value ∙ c.in-Texts.is)
+    (λ place low. rw (sym c.layout.ensures.value ∙ c.in-Texts.is) at (c.may_have_nulls.ensures.slots c.if-not-may_have_nulls.true place low)) in
     let count : c.first-first.result + c.len.result - c.first-first.result ≡ column.len = omega (arith, c.len.ensures.count) in
     let read = rw (count, c.first-first.ensures) at c.bytes_between.ensures.bytes in
     read ∙ sym texts

@@ -12,7 +12,7 @@ pub returns-in-AtZeros-clause-ok : goal.returns-in-AtZeros-clause-ok
 returns-in-AtZeros-clause-ok c =
     let column = c.args.self.now in
     let bits = c.in-AtZeros.bits.now in
-    let at = rw c.layout.ensures at c.in-AtZeros.ensures in
+    let at = rw c.slots.ensures at c.in-AtZeros.ensures in
     let within = c.len.ensures.stands.within in
     let valid = valid_bits column bits (λ j low. at.1 (column.first + j) (omega (arith, within))) (omega (arith, within, at.0)) in
     let written = some_validity column (λ none. c.if-null_count-eq0.false (c.null_count.ensures ∙ none)) in

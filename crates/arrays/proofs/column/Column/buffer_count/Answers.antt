@@ -3,10 +3,7 @@ use Rattle.arrays.proofs.Lengths.{written_texts, written_other}
 use Rattle.arrays.proofs.column.Column.buffer_count.Goals as goal
 
 pub returns-in_default : goal.returns-in_default
-returns-in_default c = rw (written_other c.args.self.now c.layout.result.now c.layout.ensures c.in_default.not-Texts c.in_default.not-Indices) refl
+returns-in_default c = rw (written_other c.args.self.now c.layout.result c.layout.ensures.value c.in_default.not-Texts c.in_default.not-Indices) refl
 
 pub returns-in-Texts : goal.returns-in-Texts
-returns-in-Texts c = rw (written_texts c.args.self.now c.layout.result.now c.layout.ensures c.in-Texts.is) refl
-
-pub returns-in-Texts-2 : goal.returns-in-Texts-2
-returns-in-Texts-2 c = rw (written_texts c.args.self.now c.layout.result.now c.layout.ensures c.in-Texts.is) refl
+returns-in-Texts c = rw (written_texts c.args.self.now c.layout.result c.layout.ensures.value c.in-Texts.is) refl

@@ -5,10 +5,10 @@ use Rattle.arrays.proofs.column.Column.gather.Goals as goal
 
 pub gather-requires : goal.gather-requires
 gather-requires c =
-    rw (c.places.ensures.value, c.first.ensures, c.layout.ensures)
+    rw (c.places.ensures.value, c.first.ensures, c.slots.ensures)
     (places_among c.args.self.now c.args.places.now c.len-len.ensures.stands c.places.ensures.rising c.requires.within)
 
 pub returns-clause-values : goal.returns-clause-values
 returns-clause-values c =
     ap values_of c.new.ensures
-    ∙ values_gathered c.in_ok-gathered.gathered c.args.self.now c.args.places.now (rw (c.places.ensures.value, c.first.ensures, c.layout.ensures) at c.in_ok-gathered.ensures)
+    ∙ values_gathered c.in_ok-gathered.gathered c.args.self.now c.args.places.now (rw (c.places.ensures.value, c.first.ensures, c.slots.ensures) at c.in_ok-gathered.ensures)

@@ -1,4 +1,4 @@
-use Rattle.std.proofs.Common.{◌≡◌, ◌∙◌, ◌+◌, ◌-◌, ℕ, List, ap, arith}
+use Rattle.std.proofs.Common.{◌≡◌, ◌∙◌, ◌+◌, ◌-◌, ℕ, ap, arith}
 use Rattle.std.specs.List.{flat_map, range_with_len}
 use Rattle.arrays.specs.Texts.{text_at}
 use Rattle.arrays.proofs.AsCame.{came_texts}
@@ -7,7 +7,7 @@ use Rattle.arrays.proofs.column.Column.texts_that_came.Goals as goal
 pub returns-in_ok-data_between-in-Some : goal.returns-in_ok-data_between-in-Some
 returns-in_ok-data_between-in-Some c =
     let column = c.args.self.now in
-    let texts = c.in-Some.texts.now in
+    let texts = c.in-Some.texts in
     let count : c.first-first.result + c.len.result - c.first-first.result ≡ column.len = omega (arith, c.len.ensures.count) in
     c.in_ok-data_between-in-Some.ensures
     ∙ ap (λ (n : ℕ). flat_map (text_at texts) (range_with_len c.first-first.result n)) count

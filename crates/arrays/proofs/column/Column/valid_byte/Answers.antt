@@ -42,7 +42,7 @@ overflow_add-bits c =
     let rest = drop (c.min-count.result - c.loop-taken.taken) eight in
     let few : length rest < 8 = omega (arith, length-drop (c.min-count.result - c.loop-taken.taken) eight, long, c.loop-taken-test.true, count) in
     let low : c.loop-taken.bits < 128 = rw c.loop-taken.invariant (room rest few) in
-    record { fits = omega (arith, byte_small (not c.has_null.result)) }
+    record { fits = omega (arith, byte_small (not c.is_null.result)) }
 
 pub loop-taken-preserved : goal.loop-taken-preserved
 loop-taken-preserved c =
@@ -50,6 +50,6 @@ loop-taken-preserved c =
     let n = c.min-count.result in
     let count : n ≡ min (column.len - 8 * c.args.byte) 8 = omega (arith, c.min-count.ensures, c.len-len.ensures.count) in
     let step = byte_step column c.args.byte n c.loop-taken.taken c.requires count c.loop-taken-test.true in
-    let bit : bool_byte (not c.has_null.result) ≡ cond (not (is_null (slot_of column (8 * c.args.byte + (n - 1 - c.loop-taken.taken))))) 1 0 =
-    byte_cond (not c.has_null.result) ∙ ap (λ (null : Bool). cond (not null) 1 0) c.has_null.ensures in
+    let bit : bool_byte (not c.is_null.result) ≡ cond (not (is_null (slot_of column (8 * c.args.byte + (n - 1 - c.loop-taken.taken))))) 1 0 =
+    byte_cond (not c.is_null.result) ∙ ap (λ (null : Bool). cond (not null) 1 0) (c.is_null.ensures ∙ ap is_null c.value_at.ensures) in
     rw step (omega (arith, bit, c.loop-taken.invariant))

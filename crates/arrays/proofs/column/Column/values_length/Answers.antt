@@ -20,16 +20,16 @@ offsets_long column buffers is =
 
 pub returns-in_err-checked_add-in-Texts : goal.returns-in_err-checked_add-in-Texts
 returns-in_err-checked_add-in-Texts c =
-    let long = offsets_long c.args.self.now (values_written c.args.self.now) (written_texts c.args.self.now c.layout.result.now c.layout.ensures c.in-Texts.is) in
+    let long = offsets_long c.args.self.now (values_written c.args.self.now) (written_texts c.args.self.now c.layout.result c.layout.ensures.value c.in-Texts.is) in
     rw (c.from_residual.ensures, long) (λ small. c.in_err-checked_add-in-Texts.ensures (omega (arith, c.len-len.ensures.count)))
 
 pub returns-in-Integers : goal.returns-in-Integers
 returns-in-Integers c =
     let column = c.args.self.now in
     let cells = c.in-Integers.cells in
-    let stands = stands_as column c.layout.result.now (layout.Integers cells) c.layout.ensures c.in-Integers.is c.len-len.ensures.stands in
+    let stands = stands_as column c.layout.result (layout.Integers cells) c.layout.ensures.value c.in-Integers.is c.len-len.ensures.stands in
     let long : length (get_or (values_written column) 0 []) ≡ byte_width cells.integer * column.len =
-    ap (λ (all : List (List ℕ)). length (get_or all 0 [])) (written_as column c.layout.result.now (layout.Integers cells) c.layout.ensures c.in-Integers.is)
+    ap (λ (all : List (List ℕ)). length (get_or all 0 [])) (written_as column c.layout.result (layout.Integers cells) c.layout.ensures.value c.in-Integers.is)
     ∙ length-elements (byte_width cells.integer) cells.values column.first column.len cells.len stands.stands.values stands.within in
     rw long (rw (c.byte_width.ensures, c.integer_type.ensures, c.len-len.ensures.count) at c.checked_mul.ensures)
 
@@ -37,9 +37,9 @@ pub returns-in-Decimals : goal.returns-in-Decimals
 returns-in-Decimals c =
     let column = c.args.self.now in
     let cells = c.in-Decimals.field-0 in
-    let stands = stands_as column c.layout.result.now (layout.Decimals cells) c.layout.ensures c.in-Decimals.is c.len-len.ensures.stands in
+    let stands = stands_as column c.layout.result (layout.Decimals cells) c.layout.ensures.value c.in-Decimals.is c.len-len.ensures.stands in
     let long : length (get_or (values_written column) 0 []) ≡ column.len * 16 =
-    ap (λ (all : List (List ℕ)). length (get_or all 0 [])) (written_as column c.layout.result.now (layout.Decimals cells) c.layout.ensures c.in-Decimals.is)
+    ap (λ (all : List (List ℕ)). length (get_or all 0 [])) (written_as column c.layout.result (layout.Decimals cells) c.layout.ensures.value c.in-Decimals.is)
     ∙ length-elements 16 cells.values column.first column.len cells.len stands.stands.values stands.within ∙ omega arith in
     rw long (rw c.len-len.ensures.count at c.checked_mul-in-Decimals.ensures)
 
@@ -50,11 +50,11 @@ returns-in-Bools c =
     let bits = map (λ (j : ℕ). get_or cells.values j false) (range_with_len column.first column.len) in
     let count : length bits ≡ column.len = length-map-range_with_len (λ (j : ℕ). get_or cells.values j false) column.first column.len in
     let long : length (get_or (values_written column) 0 []) ≡ div_ceil column.len 8 =
-    ap (λ (all : List (List ℕ)). length (get_or all 0 [])) (written_as column c.layout.result.now (layout.Bools cells) c.layout.ensures c.in-Bools.is)
+    ap (λ (all : List (List ℕ)). length (get_or all 0 [])) (written_as column c.layout.result (layout.Bools cells) c.layout.ensures.value c.in-Bools.is)
     ∙ length-packed bits ∙ ap (λ (n : ℕ). div_ceil n 8) count in
     rw long (omega (arith, c.len-len.ensures.stands.small), c.div_ceil.ensures ∙ ap (λ (n : ℕ). div_ceil n 8) c.len-len.ensures.count)
 
 pub returns-in_ok-checked_add-in-Texts : goal.returns-in_ok-checked_add-in-Texts
 returns-in_ok-checked_add-in-Texts c =
-    let long = offsets_long c.args.self.now (values_written c.args.self.now) (written_texts c.args.self.now c.layout.result.now c.layout.ensures c.in-Texts.is) in
+    let long = offsets_long c.args.self.now (values_written c.args.self.now) (written_texts c.args.self.now c.layout.result c.layout.ensures.value c.in-Texts.is) in
     rw long (rw (c.in_ok-checked_add-in-Texts.ensures.1, c.len-len.ensures.count) at c.checked_mul-in-Texts.ensures)

@@ -1,7 +1,7 @@
-use Rattle.std.proofs.Common.{◌≡◌, ◌≤◌, ◌+◌, ◌∙◌, ◌++◌, [], List, Ok, length, ap, sym, append_assoc, arith}
+use Rattle.std.proofs.Common.{◌≡◌, ◌≤◌, ◌<◌, ◌+◌, ◌∙◌, ◌++◌, [], ℕ, List, Ok, length, ap, sym, subst, append_assoc, arith}
 use Rattle.std.proofs.lemmas.List.{append-nil, nil_from_length}
 use Rattle.scan_base.specs.declared.value.Value.{Value}
-use Rattle.arrays.specs.Texts.{TextsAt, texts_values}
+use Rattle.arrays.specs.Texts.{TextsAt, text_at, texts_values}
 use Rattle.scan_base.specs.Limits.{most_values}
 use Rattle.arrays.proofs.Joined.{dictionary_more, extended_is}
 use Rattle.arrays.proofs.dictionary.Dictionary.extended.Goals as goal
@@ -13,7 +13,7 @@ invariant_of-result c =
     let small : c.self.inside.len + c.args.part.len ≤ most_values = omega (arith, c.if-self-more.false, c.len-more.ensures.count, c.self.invariant.small) in
     rw (c.new.ensures, append-nil (texts_values c.args.part), c.len-more.ensures.count)
     (dictionary_more [] c.args.part c.self.inside.len c.self.inside.longest c.longest_between.result c.max-longest.result (rw empty at c.self.invariant) c.len-more.ensures.stands small
-    (λ place low. c.longest_between.ensures place (omega arith) (omega (arith, c.len-more.ensures.count))) (omega arith) (omega arith))
+    (λ place low. (subst (λ (cells : TextsAt). (k : ℕ) → 0 ≤ k → k < c.len-more.result → length (text_at cells k) ≤ c.longest_between.result) c.borrowed.ensures c.longest_between.ensures) place (omega arith) (omega (arith, c.len-more.ensures.count))) (omega arith) (omega arith))
 
 pub invariant_of-result-2 : goal.invariant_of-result-2
 invariant_of-result-2 c =
@@ -22,7 +22,7 @@ invariant_of-result-2 c =
     let small : c.self.inside.len + c.args.part.len ≤ most_values = omega (arith, c.if-self-more.false, c.len-more.ensures.count, c.self.invariant.small) in
     rw (c.in_ok-first.ensures, c.in_ok-later.ensures, ← append_assoc first later (texts_values c.args.part), c.len-more.ensures.count)
     (dictionary_more (first ++ later) c.args.part c.self.inside.len c.self.inside.longest c.longest_between.result c.max-longest.result c.self.invariant c.len-more.ensures.stands small
-    (λ place low. c.longest_between.ensures place (omega arith) (omega (arith, c.len-more.ensures.count))) (omega arith) (omega arith))
+    (λ place low. (subst (λ (cells : TextsAt). (k : ℕ) → 0 ≤ k → k < c.len-more.result → length (text_at cells k) ≤ c.longest_between.result) c.borrowed.ensures c.longest_between.ensures) place (omega arith) (omega (arith, c.len-more.ensures.count))) (omega arith) (omega arith))
 
 pub returns-clause-value : goal.returns-clause-value
 returns-clause-value c =

@@ -1,12 +1,13 @@
-use Rattle.arrays.proofs.Gathered.{indices_stand, indices_gathered}
+use Rattle.std.proofs.Common.{◌≡◌, ◌∙◌, ap, subst, refl}
+use Rattle.std.specs.Arc.{arc_value}
+use Rattle.arrays.specs.Indices.{IndicesAt, AreIndices}
+use Rattle.arrays.proofs.GatheredValues.{indices_at}
 use Rattle.arrays.proofs.indices.Indices.gather.Goals as goal
 
-pub with_indices-requires : goal.with_indices-requires
-with_indices-requires c =
-    indices_stand c.args.self.now c.index_type.result c.in_ok-validity.validity c.validity.result.now c.in_ok-from_vec.field-0 c.in_ok-values.values.items c.values.result.now c.args.first c.args.places.now
-    c.len-len.ensures.stands c.requires c.index_type.ensures c.validity.ensures c.in_ok-from_vec.ensures.ok c.values.ensures c.in_ok-validity.ensures c.in_ok-values.ensures
-
 pub returns : goal.returns
-returns c =
-    indices_gathered c.in_ok-with_indices.field-0 c.args.self.now c.index_type.result c.in_ok-validity.validity c.validity.result.now c.in_ok-from_vec.field-0 c.in_ok-values.values.items c.values.result.now c.args.first c.args.places.now
-    c.in_ok-with_indices.ensures c.index_type.ensures c.validity.ensures c.in_ok-from_vec.ensures.ok c.values.ensures c.in_ok-validity.ensures c.in_ok-values.ensures
+returns c = λ validity valid.
+    let cells = c.args.self.now in
+    let same : arc_value c.in_ok-try_clone.field-0 ≡ cells.dictionary = c.in_ok-try_clone.ensures ∙ ap (λ (x : IndicesAt). x.dictionary) c.self.view_is in
+    let made = indices_at cells c.index_type-index.result validity c.in_ok-packed.packed c.in_ok-gather_integers.field-0.items c.values.result.now (arc_value c.in_ok-try_clone.field-0) c.args.first c.args.places.now
+    (subst AreIndices c.self.view_is c.self.invariant) c.requires c.index_type-index.ensures c.in_ok-packed.ensures.ok c.values.ensures same valid c.in_ok-gather_integers.ensures in
+    (record { stand = made.0; count = refl }, made.1)

@@ -24,4 +24,4 @@ returns c texts held =
     let long : c.len.result ≡ length offsets = omega (arith, c.len.ensures, c.args.self.offsets.ok.0, ap length c.in_ok-offsets.ensures.ok) in
     let counted : len ≡ length offsets / 4 - 1 = ap (λ (n : ℕ). n / 4 - 1) long in
     let few : len < 2 ^ 64 = omega (arith, c.len.type_inv) in
-    rw c.new-in-Ok.ensures (read_same None offsets bytes len (text_values texts) c.in-Ok.texts (text_slots offsets bytes texts len here counted few) c.in-Ok.ensures.value)
+    rw (c.new-in-Ok.ensures, c.texts.ensures) (read_same None offsets bytes len (text_values texts) c.in-Ok.texts (text_slots offsets bytes texts len here counted few) c.in-Ok.ensures.value)

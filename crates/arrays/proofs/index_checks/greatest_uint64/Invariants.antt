@@ -1,6 +1,0 @@
-use Rattle.std.proofs.Common.{◌≤◌, ◌<◌, ℕ}
-use Rattle.arrays.specs.Number.{element_at}
-use Rattle.arrays.proofs.index_checks.greatest_uint64.Given as goal
-
-abbrev pub invariant-loop-place : goal.invariant-loop-place
-invariant-loop-place l = (k : ℕ) → k < l.place → element_at 8 l.values k ≤ l.greatest

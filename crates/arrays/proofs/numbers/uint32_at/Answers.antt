@@ -1,6 +1,0 @@
-use Rattle.std.proofs.Common.{◌∙◌, arith}
-use Rattle.arrays.proofs.Elements.{element_read}
-use Rattle.arrays.proofs.numbers.uint32_at.Goals as goal
-
-pub returns : goal.returns
-returns c = c.read_u32.ensures ∙ element_read 4 c.args.place c.args.values.now (omega arith)

@@ -1,5 +1,0 @@
-use Rattle.arrays.proofs.Elements.{byte_read}
-use Rattle.arrays.proofs.numbers.uint8_at.Goals as goal
-
-pub returns : goal.returns
-returns c = byte_read c.args.place c.args.values.now
