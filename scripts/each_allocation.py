@@ -2,9 +2,9 @@
 """Runs `flightscan pipe` with each of its allocations refused in turn, and looks at what it writes.
 
 The input is the first run's put, the same put again, and two fetches of version 1. With one allocation refused, each
-answer is whole or has status F21; the first put is there exactly where its status is 0, and else the second put makes
-version 1; where the connection ends, whole answers and a status F21 were written; and where there was no memory for
-the command line, nothing was written, and F21 was printed. Build the program first (`cd crates/flightscan && rt run --
+answer is whole or has status F21, that of a fetch behind its first messages; the first put is there exactly where its
+status is 0, and else the second put makes version 1; where the connection ends, whole answers and a status F21 were
+written; and where there was no memory for the command line, nothing was written, and F21 was printed. Build the program first (`cd crates/flightscan && rt run --
 pipe < stdin > /dev/null`). It needs a C compiler, and runs in a few seconds.
 """
 
@@ -28,13 +28,25 @@ REFUSED = bytes.fromhex("04 08 00 0F") + b"F21 OutOfMemory"
 FAULT_LINE = b"fault: F21 OutOfMemory\n"
 
 
+def beginnings(rows):
+    """The messages of an answer up to each place, from none to all."""
+    found, at = [b""], 0
+    while rows[at] == 2:
+        at += 6 + int.from_bytes(rows[at + 2 : at + 6], "big")
+        found.append(rows[:at])
+    return found
+
+
 def allowed(rows):
     """Each outcome that may be: what is written, what is said and the exit status, with a name."""
     whole = [MADE, EXISTS, rows, rows]
     outcomes = {(b"".join(whole), b"", 0): "all whole", (b"", FAULT_LINE, 3): "command line not read"}
     outcomes[REFUSED + MADE + rows + rows, b"", 0] = "first put refused"
-    for place, name in [(1, "second put refused"), (2, "first fetch refused"), (3, "second fetch refused")]:
-        outcomes[b"".join(whole[:place] + [REFUSED] + whole[place + 1 :]), b"", 0] = name
+    outcomes[MADE + REFUSED + rows + rows, b"", 0] = "second put refused"
+    for behind, begun in enumerate(beginnings(rows)):
+        for place, name in [(2, "first"), (3, "second")]:
+            answers = whole[:place] + [begun + REFUSED] + whole[place + 1 :]
+            outcomes[b"".join(answers), b"", 0] = f"{name} fetch refused behind {behind} messages"
     for done in range(5):
         outcomes[b"".join(whole[:done]) + REFUSED, FAULT_LINE, 3] = f"connection ended behind {done} answers"
     return outcomes
