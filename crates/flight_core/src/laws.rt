@@ -4,9 +4,8 @@ ghost use Rattle.fetch_stream.specs.Fetches.{HandlesMeanOne};
 ghost use Rattle.flight_core.specs.Headline.{Joined, RunsMeetHeadline};
 ghost use Rattle.flight_core.specs.Laws.{AnswersSayOneThing, PutsAreSaid, RefusalsLeaveNothing};
 
-use ipc_batch::laws::messages_say_one_thing;
-
 pub use fetch_stream::laws::streams_answer;
+use ipc_batch::laws::messages_say_one_thing;
 
 /// The payloads of an answer say at most one schema and one list of rows.
 pub fn answers_say_one_thing()
