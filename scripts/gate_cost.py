@@ -33,8 +33,9 @@ TOP = pathlib.Path(__file__).resolve().parent.parent
 KINDS = ("proof", "tests", "wrong bodies", "programs")
 BEGIN, END = "<!-- made by scripts/gate_cost.py -->", "<!-- end -->"
 WHOLE_MINUTES, PROOF_SECONDS, MOST_EDITS = 110, 270, 7
-YARD = ("sql_text", "table_versions", "typed_plan", "scan_exec", "grpc_frame")
-YARD_SECONDS = 366
+# (chained: a gate whose seconds were told by crates that changed since measured these)
+YARD = ("proto_wire", "flatbuf", "flight_proto", "sql_text", "sql_parse", "endpoint_split")
+YARD_SECONDS = 459
 PAUSE = 0.33
 TICKS = os.sysconf("SC_CLK_TCK")
 PAGE = os.sysconf("SC_PAGE_SIZE")
