@@ -96,10 +96,18 @@ take_first : {X : Type 0} (xs ys : List X) → take (length xs) (xs ++ ys) ≡ x
 take_first [] ys = refl
 take_first (x ∷ xs) ys = ap (λ (rest : List _). x ∷ rest) (take_first xs ys)
 
+some_left : (rows : List Row) → rows ≢ [] → 0 < length rows
+some_left [] not = absurd (not refl)
+some_left (row ∷ rows) not = omega arith
+
 pub given_part : (database : Database) (handle : HandleAt) (answer : Table) (payloads : List Payload) (stream : StreamAt) → HandleMeans database handle answer → length answer.rows ≤ most_answer_rows
-    → HasGiven answer payloads stream → FetchAt database handle payloads (Some OutOfMemory)
-given_part database handle answer payloads stream means few has = by stream.begun refl has.said
+    → HasGiven answer payloads stream → (stream.begun ≡ false) ⊎ (stream.left ≢ []) → FetchAt database handle payloads (Some OutOfMemory)
+given_part database handle answer payloads stream means few has more = by stream.begun refl has.said
   where
+    some_more : (stream.begun ≡ false) ⊎ (stream.left ≢ []) → stream.begun ≡ true → 0 < length stream.left
+    some_more (inl first) e = absurd (let both = sym first ∙ e in cc)
+    some_more (inr some) e = some_left stream.left some
+
     by : (begun : Bool) → stream.begun ≡ begun → SaySoFar (record { schema = stream.schema; begun = begun; left = stream.left; refused = stream.refused }) payloads has.rows
         → FetchAt database handle payloads (Some OutOfMemory)
     by false e said = inl said.0
@@ -113,6 +121,7 @@ given_part database handle answer payloads stream means few has = by stream.begu
           (
             n,
             omega (arith, few, long, length-append has.rows stream.left),
+            (let some = some_more more e in omega (arith, some, long, length-append has.rows stream.left)),
             subst (λ (rows : List Row). PayloadsSay payloads answer.schema rows) (sym first) (said_begun answer payloads stream has e),
           ),
         )

@@ -90,4 +90,4 @@ pub record StreamsAnswer : Type 0 where
       stream.begun ≡ true → stream.left ≡ [] → FetchAt database handle payloads None
   pub refused : (database : Database) (handle : HandleAt) (answer : Table) (payloads : List Payload) (stream : StreamAt) →
       HandleMeans database handle answer → length answer.rows ≤ most_answer_rows → HasGiven answer payloads stream →
-      FetchAt database handle payloads (Some OutOfMemory)
+      (stream.begun ≡ false) ⊎ (stream.left ≢ []) → FetchAt database handle payloads (Some OutOfMemory)

@@ -1,6 +1,6 @@
 //! Answering a fetch at a version.
 
-ghost use Rattle.std.specs.Prelude.{◌≡◌, false, IfOk};
+ghost use Rattle.std.specs.Prelude.{◌≡◌, ◌≢◌, [], false, None, IfOk};
 ghost use Rattle.scan_base.specs.declared.fault.Fault.TheVariants.{BadTicket};
 ghost use Rattle.scan_base.specs.Reading.{Gives};
 ghost use Rattle.endpoint_split.specs.Seen.{handle_seen};
@@ -68,6 +68,7 @@ pub fn answer_fetch(alloc: Global, snapshot: &Snapshot, handle: &Handle<'_>) -> 
     ensures answer { FetchAt (tables_of snapshot.now.catalog) (handle_seen handle.now)
         result.payloads result.fault }
     ensures first { is_short (handle_seen handle.now) ≡ false → result ≡ refusal BadTicket }
+    ensures none { result.fault ≢ None → result.payloads ≡ [] }
     ensures fits { FitMessages result.payloads }
 {
     match FetchStream::new(alloc, snapshot, handle, 1) {
