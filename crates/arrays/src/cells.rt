@@ -1,4 +1,4 @@
-//! What every layout of a column gives.
+//! What slots of every kind give: typed slots, texts, and columns.
 
 ghost use Rattle.std.specs.Prelude.{◌≡◌, ◌<◌, ℕ, false};
 ghost use Rattle.scan_base.specs.declared.value.Value.{Value};

@@ -11,9 +11,6 @@ use num_traits::FixedWidth;
 pub trait Element: FixedWidth + Copy + Ord {
     ghost WIDTH: { ℕ };
 
-    /// How many bytes a number has.
-    const WIDTH: usize;
-
     /// Number `place` of packed ones, counted from 0.
     fn read(values: &[u8], place: usize) -> Self
         requires { WIDTH * (place + 1) ≤ length values.now }
@@ -23,8 +20,6 @@ pub trait Element: FixedWidth + Copy + Ord {
 impl Element for i8 {
     ghost WIDTH = { 1 };
 
-    const WIDTH: usize = 1;
-
     fn read(values: &[u8], place: usize) -> i8 {
         u8::read(values, place).cast_signed()
     }
@@ -32,8 +27,6 @@ impl Element for i8 {
 
 impl Element for u8 {
     ghost WIDTH = { 1 };
-
-    const WIDTH: usize = 1;
 
     fn read(values: &[u8], place: usize) -> u8 {
         values[place]
@@ -43,8 +36,6 @@ impl Element for u8 {
 impl Element for i16 {
     ghost WIDTH = { 2 };
 
-    const WIDTH: usize = 2;
-
     fn read(values: &[u8], place: usize) -> i16 {
         LittleEndian::read_i16(&values[2 * place..])
     }
@@ -52,8 +43,6 @@ impl Element for i16 {
 
 impl Element for u16 {
     ghost WIDTH = { 2 };
-
-    const WIDTH: usize = 2;
 
     fn read(values: &[u8], place: usize) -> u16 {
         LittleEndian::read_u16(&values[2 * place..])
@@ -63,8 +52,6 @@ impl Element for u16 {
 impl Element for i32 {
     ghost WIDTH = { 4 };
 
-    const WIDTH: usize = 4;
-
     fn read(values: &[u8], place: usize) -> i32 {
         LittleEndian::read_i32(&values[4 * place..])
     }
@@ -72,8 +59,6 @@ impl Element for i32 {
 
 impl Element for u32 {
     ghost WIDTH = { 4 };
-
-    const WIDTH: usize = 4;
 
     fn read(values: &[u8], place: usize) -> u32 {
         LittleEndian::read_u32(&values[4 * place..])
@@ -83,8 +68,6 @@ impl Element for u32 {
 impl Element for i64 {
     ghost WIDTH = { 8 };
 
-    const WIDTH: usize = 8;
-
     fn read(values: &[u8], place: usize) -> i64 {
         LittleEndian::read_i64(&values[8 * place..])
     }
@@ -93,8 +76,6 @@ impl Element for i64 {
 impl Element for u64 {
     ghost WIDTH = { 8 };
 
-    const WIDTH: usize = 8;
-
     fn read(values: &[u8], place: usize) -> u64 {
         LittleEndian::read_u64(&values[8 * place..])
     }
@@ -102,8 +83,6 @@ impl Element for u64 {
 
 impl Element for i128 {
     ghost WIDTH = { 16 };
-
-    const WIDTH: usize = 16;
 
     fn read(values: &[u8], place: usize) -> i128 {
         LittleEndian::read_i128(&values[16 * place..])

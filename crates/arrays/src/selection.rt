@@ -1,6 +1,6 @@
 //! Places of slots that were chosen.
 
-ghost use Rattle.std.specs.Prelude.{◌≡◌, ◌<◌, ◌++◌, ◌∷◌, [], All, OnOk, length};
+ghost use Rattle.std.specs.Prelude.{◌≡◌, ◌<◌, ◌++◌, ◌∷◌, [], All, OnErr, OnOk, length};
 ghost use Rattle.arrays.specs.Selection.{AreRising};
 
 use std::alloc::{AllocError, Global};
@@ -37,10 +37,11 @@ impl Selection {
     ///
     /// # Errors
     ///
-    /// `AllocError` where memory is refused.
+    /// `AllocError` where memory is refused. The places stay then.
     pub fn push(&mut self, place: u32) -> Result<(), AllocError>
         requires { All (λ earlier. earlier < place) self.old }
-        ensures { OnOk result (self.new ≡ self.old ++ place ∷ []) }
+        ensures pushed { OnOk result (self.new ≡ self.old ++ place ∷ []) }
+        ensures kept { OnErr result (self.new ≡ self.old) }
     {
         Ok(self.places.push(place)?)
     }

@@ -37,7 +37,7 @@ loop-row-preserved c =
     c.requires.read c.columns-columns.ensures.columns c.passes.ensures in
     elim c.if-passes.branch [
       | then-passes+in_ok-push w ↦
-          w.selection-is ∙ w.in_ok-push.ensures ∙ ap (λ (rows : List ℕ). rows ++ row ∷ []) c.loop-row.invariant
+          w.selection-is ∙ w.in_ok-push.ensures.pushed ∙ ap (λ (rows : List ℕ). rows ++ row ∷ []) c.loop-row.invariant
           ∙ sym (chosen_more test part.from row c.loop-row.auto.row (here ∙ w.if-passes.true))
       | else-passes w ↦
           w.selection-is ∙ c.loop-row.invariant ∙ sym (chosen_same test part.from row c.loop-row.auto.row (here ∙ w.if-passes.false))
