@@ -52,16 +52,17 @@ both_short rows rest all e short =
 
 gives_batch : (before after : ScanAt) (batch : BatchAt) → IsSource (Scanned before) → GivesRows before batch after → GivesNext (Scanned before) batch (Scanned after)
 gives_batch before after batch is gives =
-    let short = both_short (rows_of batch) (left after) (left before) gives.rows is.short in
+    let rows : rows_of batch ++ left after ≡ left before = sym (ap (flat_map (λ (some : ℕ × List Row). some.1)) gives.source) in
+    let short = both_short (rows_of batch) (left after) (left before) rows is.short in
     let typed : HasAnswerTypes after.schema after.types =
-    subst (λ (s : Schema). HasAnswerTypes s after.types) (sym gives.schema) (subst (λ (t : List DataType). HasAnswerTypes before.schema t) (sym gives.types) is.typed) in
+    subst (λ (s : Schema). HasAnswerTypes s after.types) (sym gives.on.schema) (subst (λ (t : List DataType). HasAnswerTypes before.schema t) (sym gives.on.types) is.typed) in
     record {
       on = record {
-        source = record { schema = subst IsSchema (sym gives.schema) is.schema; typed = typed; short = short.1; begins = gives.refused };
-        schema = gives.schema;
+        source = record { schema = subst IsSchema (sym gives.on.schema) is.schema; typed = typed; short = short.1; begins = gives.refused };
+        schema = gives.on.schema;
       };
       some = gives.some;
-      rows = gives.rows;
+      rows = rows;
       columns = answered before.schema before.types batch.columns is.typed gives.typed;
       short = short.0;
     }
@@ -69,7 +70,7 @@ gives_batch before after batch is gives =
 pub scan_gives : (before after : ScanAt) (result : Result (Option BatchAt) Fault) → IsSource (Scanned before) → Gives before result after → GivesBatch (Scanned before) result (Scanned after)
 scan_gives before after result is gives = by before.schema before.types before.by_batch before.batches before.opened before.refused is.begins result is gives
   where
-    by : (schema : Schema) (types : List DataType) (by_batch : List (List Row)) (batches opened : List ℕ) (refused : Option Fault) → refused ≡ None → (result : Result (Option BatchAt) Fault)
+    by : (schema : Schema) (types : List DataType) (by_batch : List (ℕ × List Row)) (batches opened : List ℕ) (refused : Option Fault) → refused ≡ None → (result : Result (Option BatchAt) Fault)
         → IsSource (Scanned (record { schema = schema; types = types; by_batch = by_batch; batches = batches; opened = opened; refused = refused }))
         → Gives (record { schema = schema; types = types; by_batch = by_batch; batches = batches; opened = opened; refused = refused }) result after
         → GivesBatch (Scanned (record { schema = schema; types = types; by_batch = by_batch; batches = batches; opened = opened; refused = refused })) result (Scanned after)
@@ -79,7 +80,7 @@ scan_gives before after result is gives = by before.schema before.types before.b
     by schema types by_batch batches opened None none (Ok None) is gives =
         let scan : ScanAt = record { schema = schema; types = types; by_batch = by_batch; batches = batches; opened = opened; refused = None } in
         let same : record { schema = schema; types = types; by_batch = by_batch; batches = batches; opened = batches; refused = None } ≡ after = sym gives.1 in
-        let nothing : left scan ≡ [] = ap (flat_map (λ rows. rows)) gives.0 in
+        let nothing : left scan ≡ [] = ap (flat_map (λ some. some.1)) gives.0 in
         subst (λ (end : ScanAt). GoesOn (Scanned scan) (Scanned end) × (left scan ≡ []) × (left end ≡ [])) same
         (record { source = record { schema = is.schema; typed = is.typed; short = is.short; begins = refl }; schema = refl }, nothing, nothing)
     by schema types by_batch batches opened None none (Err fault) is gives = (gives.0, gives.2)

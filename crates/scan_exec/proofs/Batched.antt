@@ -1,26 +1,23 @@
 -- What a plan gives of a range of rows, batch by batch.
 use Rattle.std.proofs.Common.{◌≡◌, ◌≤◌, ◌<◌, ℕ, zero, suc, ◌+◌, ◌-◌, Bool, true, false, if◌then◌else◌, List, [], ◌∷◌, ◌++◌, length, map, take, drop, max, min}
-use Rattle.std.proofs.Common.{slice_get, Some, refl, sym, ap, ◌∙◌, ◌⊎◌, inl, inr, arith, length-drop}
-use Rattle.std.specs.List.{filter, flat_map}
-use Rattle.std.proofs.lemmas.Bool.{cases_lt, both_ways, lt-ltb}
-use Rattle.std.proofs.lemmas.List.{map-append, take-append-drop, drop_all}
+use Rattle.std.proofs.Common.{slice_get, Some, refl, sym, ap, ◌∙◌, ◌⊎◌, inl, inr, arith, length-drop, length-take, length-take-le, zip}
+use Rattle.std.specs.List.{filter, flat_map, range_with_len}
+use Rattle.std.proofs.lemmas.Bool.{cases_lt}
+use Rattle.std.proofs.lemmas.Grind.{flat_map-append}
+use Rattle.std.proofs.lemmas.List.{take-append-drop, take-take, take_all, drop_all, drop-drop, drop-take}
 use Rattle.std.proofs.lemmas.List.Elements.{filter-append}
 use Rattle.arrays.specs.Batch.{BatchAt, rows_of}
 use Rattle.table_versions.specs.Standing.{rows_before}
 use Rattle.table_versions.specs.Table.{Row}
 use Rattle.table_versions.proofs.Places.{split_at}
-use Rattle.table_versions.proofs.Rowing.{length-rows_of, rows-cons, rows-push}
+use Rattle.table_versions.proofs.Rowing.{length-rows_of, rows-cons}
 use Rattle.typed_plan.specs.Joined.{rows_between}
 use Rattle.typed_plan.specs.Plan.{PlanAt}
+use Rattle.scan_exec.proofs.Pieces.{take_none, given-append, joined, kept, kept_first, kept_joined}
 use Rattle.scan_exec.proofs.Ranges.{clamped}
-use Rattle.scan_exec.specs.Given.{holds, shown, given, parts, has_any, given_by_batch}
+use Rattle.scan_exec.specs.Given.{given, parts, has_any, most_scan_rows, pieces, given_by_batch}
 
 -- ---- rows from one to another
-
-take_none : {X : Type 0} (n : ℕ) (xs : List X) → xs ≡ [] → take n xs ≡ []
-take_none zero xs e = refl
-take_none (suc n) [] e = refl
-take_none (suc n) (x ∷ xs) e = cc
 
 take_append : {X : Type 0} (n : ℕ) (xs ys : List X) → take n (xs ++ ys) ≡ take n xs ++ take (n - length xs) ys
 take_append zero [] ys = refl
@@ -54,6 +51,9 @@ none_between from to rows h =
     let e : to - from ≡ 0 = omega (arith, h) in
     ap (λ (n : ℕ). take n (drop from rows)) e
 
+same_between : (from a b : ℕ) (rows : List Row) → max (min a (length rows)) from ≡ max (min b (length rows)) from → rows_between from a rows ≡ rows_between from b rows
+same_between from a b rows e = sym (clamped from a rows) ∙ ap (λ (n : ℕ). rows_between from n rows) e ∙ clamped from b rows
+
 -- the parts, one behind another, are the range
 parts_join : (from to : ℕ) (batches : List BatchAt) → flat_map (λ (rows : List Row). rows) (parts from to batches) ≡ rows_between from to (flat_map rows_of batches)
 parts_join from to [] = sym (none_behind from to [] (omega arith))
@@ -62,100 +62,155 @@ parts_join from to (batch ∷ batches) =
     ∙ ap (λ (n : ℕ). rows_between from to (rows_of batch) ++ rows_between (from - n) (to - n) (flat_map rows_of batches)) (sym (length-rows_of batch))
     ∙ sym (between_append from to (rows_of batch) (flat_map rows_of batches))
 
--- ---- what a plan gives of them
+-- ---- by batch, the batches counted from some number on
 
-given-append : (plan : PlanAt) (xs ys : List Row) → given plan (xs ++ ys) ≡ given plan xs ++ given plan ys
-given-append plan xs ys =
-    ap (map (shown plan)) (filter-append (holds plan.tree) xs ys) ∙ map-append (shown plan) (filter (holds plan.tree) xs) (filter (holds plan.tree) ys)
+abbrev given_from : PlanAt → ℕ → ℕ → ℕ → List BatchAt → List (ℕ × List Row)
+given_from plan n from to batches =
+    filter (λ (one : ℕ × List Row). has_any one.1)
+    (flat_map (λ (part : ℕ × List Row). map (λ (piece : List Row). (part.0, given plan piece)) (pieces part.1))
+    (zip (range_with_len n (length batches)) (parts from to batches)))
 
-pub none_given : (rows : List Row) → has_any rows ≡ false → rows ≡ []
-none_given [] e = refl
-none_given (row ∷ rows) e = absurd (both_ways (has_any (row ∷ rows)) e (lt-ltb 0 (length (row ∷ rows)) (omega arith)))
+-- of rows of one batch
+abbrev of_part : PlanAt → ℕ → List Row → List (ℕ × List Row)
+of_part plan n rows = kept plan n most_scan_rows (omega arith) (length rows) rows
 
-pub some_given : (rows : List Row) → 0 < length rows → has_any rows ≡ true
-some_given rows h = lt-ltb 0 (length rows) h
-
-join_kept : (plan : PlanAt) (all : List (List Row)) → flat_map (λ (rows : List Row). rows) (filter has_any (map (given plan) all)) ≡ given plan (flat_map (λ (rows : List Row). rows) all)
-join_kept plan [] = refl
-join_kept plan (rows ∷ all) = by (join_kept plan all) (has_any (given plan rows)) refl ∙ sym (given-append plan rows (flat_map (λ (some : List Row). some) all))
-  where
-    joined : List (List Row) → List Row
-    joined = flat_map (λ (some : List Row). some)
-
-    rest : List (List Row)
-    rest = filter has_any (map (given plan) all)
-
-    by : joined rest ≡ given plan (joined all) → (b : Bool) → has_any (given plan rows) ≡ b → joined (if b then given plan rows ∷ rest else rest) ≡ given plan rows ++ given plan (joined all)
-    by later true e = ap (λ (more : List Row). given plan rows ++ more) later
-    by later false e = later ∙ ap (λ (none : List Row). none ++ given plan (joined all)) (sym (none_given (given plan rows) e))
+-- of the first batch, and then of the others
+from_first : (plan : PlanAt) (n from to : ℕ) (batch : BatchAt) (batches : List BatchAt) →
+    given_from plan n from to (batch ∷ batches) ≡ of_part plan n (rows_between from to (rows_of batch)) ++ given_from plan (n + 1) (from - batch.rows) (to - batch.rows) batches
+from_first plan n from to batch batches =
+    filter-append (λ (one : ℕ × List Row). has_any one.1) (map (λ (piece : List Row). (n, given plan piece)) (pieces (rows_between from to (rows_of batch))))
+    (flat_map (λ (part : ℕ × List Row). map (λ (piece : List Row). (part.0, given plan piece)) (pieces part.1))
+    (zip (range_with_len (n + 1) (length batches)) (parts (from - batch.rows) (to - batch.rows) batches)))
 
 -- all that is given, one behind another
+join_kept : (plan : PlanAt) (n from to : ℕ) (batches : List BatchAt) →
+    joined (given_from plan n from to batches) ≡ given plan (flat_map (λ (rows : List Row). rows) (parts from to batches))
+join_kept plan n from to [] = refl
+join_kept plan n from to (batch ∷ batches) =
+    let rows = rows_between from to (rows_of batch) in
+    let rest = given_from plan (n + 1) (from - batch.rows) (to - batch.rows) batches in
+    let more = flat_map (λ (some : List Row). some) (parts (from - batch.rows) (to - batch.rows) batches) in
+    ap joined (from_first plan n from to batch batches)
+    ∙ flat_map-append (λ (some : ℕ × List Row). some.1) (of_part plan n rows) rest
+    ∙ ap (λ (front : List Row). front ++ joined rest) (kept_joined plan n most_scan_rows (omega arith) (length rows) rows (omega arith))
+    ∙ ap (λ (back : List Row). given plan rows ++ back) (join_kept plan (n + 1) (from - batch.rows) (to - batch.rows) batches)
+    ∙ sym (given-append plan rows more)
+
 pub given_joined : (plan : PlanAt) (from to : ℕ) (batches : List BatchAt) →
-    flat_map (λ (rows : List Row). rows) (given_by_batch plan from to batches) ≡ given plan (rows_between from to (flat_map rows_of batches))
-given_joined plan from to batches = join_kept plan (parts from to batches) ∙ ap (given plan) (parts_join from to batches)
+    joined (given_by_batch plan from to batches) ≡ given plan (rows_between from to (flat_map rows_of batches))
+given_joined plan from to batches = join_kept plan 0 from to batches ∙ ap (given plan) (parts_join from to batches)
 
 -- nothing of no rows
+none_from : (plan : PlanAt) (n from to : ℕ) (batches : List BatchAt) → to ≤ from → given_from plan n from to batches ≡ []
+none_from plan n from to [] h = refl
+none_from plan n from to (batch ∷ batches) h =
+    rw (none_between from to (rows_of batch) h) (none_from plan (n + 1) (from - batch.rows) (to - batch.rows) batches (omega (arith, h)))
+
 pub given_none : (plan : PlanAt) (from to : ℕ) (batches : List BatchAt) → to ≤ from → given_by_batch plan from to batches ≡ []
-given_none plan from to [] h = refl
-given_none plan from to (batch ∷ batches) h =
-    rw (none_between from to (rows_of batch) h) (given_none plan (from - batch.rows) (to - batch.rows) batches (omega (arith, h)))
+given_none plan from to batches h = none_from plan 0 from to batches h
 
 -- batches that end before a range give nothing of it
-given_past : (plan : PlanAt) (from to n : ℕ) (front rest : List BatchAt) → n ≡ length (flat_map rows_of front) → n ≤ from →
-    given_by_batch plan from to (front ++ rest) ≡ given_by_batch plan (from - n) (to - n) rest
-given_past plan from to n [] rest e h =
+given_past : (plan : PlanAt) (k from to n i : ℕ) (front rest : List BatchAt) → n ≡ length (flat_map rows_of front) → n ≤ from → i ≡ k + length front →
+    given_from plan k from to (front ++ rest) ≡ given_from plan i (from - n) (to - n) rest
+given_past plan k from to n i [] rest e h place =
     let one : from - n ≡ from = omega (arith, e) in
     let other : to - n ≡ to = omega (arith, e) in
-    rw (one, other) refl
-given_past plan from to n (batch ∷ front) rest e h =
+    let same : i ≡ k = omega (arith, place) in
+    rw (one, other, same) refl
+given_past plan k from to n i (batch ∷ front) rest e h place =
     let long = rows-cons batch front in
     let none = none_behind from to (rows_of batch) (omega (arith, length-rows_of batch, e, long, h)) in
     let m = length (flat_map rows_of front) in
     let one : from - batch.rows - m ≡ from - n = omega (arith, e, long) in
     let other : to - batch.rows - m ≡ to - n = omega (arith, e, long) in
     rw none
-    (given_past plan (from - batch.rows) (to - batch.rows) m front rest refl (omega (arith, e, long, h))
-    ∙ ap (λ (a : ℕ). given_by_batch plan a (to - batch.rows - m) rest) one ∙ ap (λ (b : ℕ). given_by_batch plan (from - n) b rest) other)
+    (given_past plan (k + 1) (from - batch.rows) (to - batch.rows) m i front rest refl (omega (arith, e, long, h)) (omega (arith, place))
+    ∙ ap (λ (a : ℕ). given_from plan i a (to - batch.rows - m) rest) one ∙ ap (λ (b : ℕ). given_from plan i (from - n) b rest) other)
 
--- the batch that the first row of a range stands in is the first that gives something of it
-pub given_next : (plan : PlanAt) (from to start i : ℕ) (batches : List BatchAt) (batch : BatchAt) → slice_get batches i ≡ Some batch → start ≡ rows_before batches i →
-    start ≤ from → from < start + batch.rows →
-    (rows : List Row) → rows ≡ given plan (rows_between (from - start) (to - start) (rows_of batch)) →
-    (next : ℕ) → next ≡ start + min batch.rows (to - start) → from < to →
-    given_by_batch plan from to batches ≡ (if has_any rows then rows ∷ given_by_batch plan next to batches else given_by_batch plan next to batches)
-given_next plan from to start i batches batch there s low high rows r next n more =
+-- ---- the first piece of a range, and the range behind it
+
+module _ (a b c : ℕ) (rows : List Row) (there : a < length rows) (more : a < c) (ends : b ≡ min (min (length rows) c) (a + most_scan_rows)) where
+  first_rows : take most_scan_rows (rows_between a c rows) ≡ rows_between a b rows
+  first_rows = by (cases_lt (c - a) most_scan_rows)
+    where
+      by : (c - a < most_scan_rows) ⊎ (most_scan_rows ≤ c - a) → take most_scan_rows (rows_between a c rows) ≡ rows_between a b rows
+      by (inl h) = take_all most_scan_rows (rows_between a c rows) (omega (arith, h, length-take (c - a) (drop a rows)))
+          ∙ same_between a c b rows (omega (arith, ends, there, more, h))
+      by (inr h) =
+          let size : most_scan_rows ≡ a + most_scan_rows - a = omega arith in
+          take-take most_scan_rows (c - a) (drop a rows) h ∙ ap (λ (n : ℕ). take n (drop a rows)) size
+          ∙ same_between a (a + most_scan_rows) b rows (omega (arith, ends, there, more, h))
+
+  rows_behind : drop most_scan_rows (rows_between a c rows) ≡ rows_between b c rows
+  rows_behind = by (cases_lt (c - a) most_scan_rows)
+    where
+      -- behind the last row of the range, or of the batch
+      at_end : (length rows ≤ b) ⊎ (c ≤ b) → rows_between b c rows ≡ []
+      at_end (inl h) = none_behind b c rows h
+      at_end (inr h) = none_between b c rows h
+
+      by : (c - a < most_scan_rows) ⊎ (most_scan_rows ≤ c - a) → drop most_scan_rows (rows_between a c rows) ≡ rows_between b c rows
+      by (inl h) = drop_all most_scan_rows (rows_between a c rows) (omega (arith, h, length-take (c - a) (drop a rows)))
+          ∙ sym (at_end (elim (cases_lt c (length rows)) [ inl l ↦ inr (omega (arith, ends, l, h)) | inr l ↦ inl (omega (arith, ends, l, h)) ]))
+      by (inr h) =
+          let left = c - (a + most_scan_rows) in
+          let whole : c - a ≡ most_scan_rows + left = omega (arith, h) in
+          ap (λ (n : ℕ). drop most_scan_rows (take n (drop a rows))) whole ∙ drop-take most_scan_rows left (drop a rows)
+          ∙ ap (take left) (drop-drop most_scan_rows a rows)
+          ∙ elim (cases_lt (length rows) (a + most_scan_rows)) [
+            | inl l ↦ none_behind (a + most_scan_rows) c rows (omega (arith, l)) ∙ sym (at_end (inl (omega (arith, ends, l, h))))
+            | inr l ↦ let same : a + most_scan_rows ≡ b = omega (arith, ends, l, h) in ap (λ (n : ℕ). rows_between n c rows) same
+          ]
+
+  -- what is given of them
+  part_is : (plan : PlanAt) (n : ℕ) → of_part plan n (rows_between a c rows)
+      ≡ (if has_any (given plan (rows_between a b rows)) then (n, given plan (rows_between a b rows)) ∷ of_part plan n (rows_between b c rows) else of_part plan n (rows_between b c rows))
+  part_is plan n =
+      let long = length-take (c - a) (drop a rows) in
+      let size = length-drop a rows in
+      let first = kept_first plan n most_scan_rows (omega arith) (rows_between a c rows) (omega (arith, long, size, there, more)) in
+      first ∙ ap (λ (one : List Row). if has_any (given plan one) then (n, given plan one) ∷ of_part plan n (drop most_scan_rows (rows_between a c rows))
+      else of_part plan n (drop most_scan_rows (rows_between a c rows))) first_rows
+      ∙ ap (λ (rest : List Row). if has_any (given plan (rows_between a b rows)) then (n, given plan (rows_between a b rows)) ∷ of_part plan n rest else of_part plan n rest) rows_behind
+
+-- the first piece of what is left of a batch gives the next rows, if any
+pub given_next : (plan : PlanAt) (from to start i : ℕ) (batches : List BatchAt) (batch : BatchAt) → slice_get batches i ≡ Some batch → i < length batches →
+    start ≡ rows_before batches i → start ≤ from → from < start + batch.rows →
+    (last : ℕ) → last ≡ min (min batch.rows (to - start)) (from - start + most_scan_rows) → from < to →
+    (rows : List Row) → rows ≡ given plan (rows_between (from - start) last (rows_of batch)) →
+    given_by_batch plan from to batches ≡ (if has_any rows then (i, rows) ∷ given_by_batch plan (start + last) to batches else given_by_batch plan (start + last) to batches)
+given_next plan from to start i batches batch there within s low high last l more rows r =
     let split = split_at batches i batch there in
     let front = take i batches in
     let behind = drop (i + 1) batches in
+    let before : length front ≡ i = length-take-le i batches (omega (arith, within)) in
     let whole : front ++ (batch ∷ behind) ≡ batches = ap (λ (some : List BatchAt). front ++ some) (sym split.0) ∙ take-append-drop i batches in
-    let first = ap (given_by_batch plan from to) (sym whole) ∙ given_past plan from to start front (batch ∷ behind) s low in
-    let zero_left : from - start - batch.rows ≡ 0 = omega (arith, high) in
-    let rest : given_by_batch plan (from - start - batch.rows) (to - start - batch.rows) behind ≡ given_by_batch plan next to batches =
-    ap (λ (a : ℕ). given_by_batch plan a (to - start - batch.rows) behind) zero_left ∙ by (cases_lt (to - start) batch.rows) in
-    first ∙ ap (λ (some : List (List Row)). if has_any (given plan (rows_between (from - start) (to - start) (rows_of batch)))
-    then given plan (rows_between (from - start) (to - start) (rows_of batch)) ∷ some else some) rest
-    ∙ ap (λ (some : List Row). if has_any some then some ∷ given_by_batch plan next to batches else given_by_batch plan next to batches) (sym r)
+    let past = λ (at : ℕ) (h : start ≤ at). ap (given_by_batch plan at to) (sym whole)
+    ∙ given_past plan 0 at to start i front (batch ∷ behind) s h (omega (arith, before)) ∙ from_first plan i (at - start) (to - start) batch behind in
+    let a = from - start in
+    let c = to - start in
+    let long = length-rows_of batch in
+    let rest = given_from plan (i + 1) 0 (c - batch.rows) behind in
+    let here : a - batch.rows ≡ 0 = omega (arith, high) in
+    let next : start + last - start ≡ last = omega arith in
+    let later : last - batch.rows ≡ 0 = omega (arith, l) in
+    let after : given_by_batch plan (start + last) to batches ≡ of_part plan i (rows_between last c (rows_of batch)) ++ rest =
+    past (start + last) (omega arith)
+    ∙ ap (λ (n : ℕ). of_part plan i (rows_between n c (rows_of batch)) ++ given_from plan (i + 1) (n - batch.rows) (c - batch.rows) behind) next
+    ∙ ap (λ (n : ℕ). of_part plan i (rows_between last c (rows_of batch)) ++ given_from plan (i + 1) n (c - batch.rows) behind) later in
+    let cut = part_is a last c (rows_of batch) (omega (arith, long, high, low)) (omega (arith, more, low)) (omega (arith, l, long)) plan i in
+    past from low
+    ∙ ap (λ (n : ℕ). of_part plan i (rows_between a c (rows_of batch)) ++ given_from plan (i + 1) n (c - batch.rows) behind) here
+    ∙ ap (λ (some : List (ℕ × List Row)). some ++ rest) cut
+    ∙ ap (λ (one : List Row). (if has_any one then (i, one) ∷ of_part plan i (rows_between last c (rows_of batch)) else of_part plan i (rows_between last c (rows_of batch))) ++ rest) (sym r)
+    ∙ put_behind (has_any rows) (i, rows) (of_part plan i (rows_between last c (rows_of batch))) rest
+    ∙ ap (λ (some : List (ℕ × List Row)). if has_any rows then (i, rows) ∷ some else some) (sym after)
   where
-    by : (to - start < batch.rows) ⊎ (batch.rows ≤ to - start) → given_by_batch plan 0 (to - start - batch.rows) (drop (i + 1) batches) ≡ given_by_batch plan next to batches
-    by (inl h) =
-        let end : to ≤ next = omega (arith, n, h, low, more) in
-        given_none plan 0 (to - start - batch.rows) (drop (i + 1) batches) (omega (arith, h)) ∙ sym (given_none plan next to batches end)
-    by (inr h) =
-        let through = split_at batches i batch there in
-        let long : next ≡ length (flat_map rows_of (take (i + 1) batches)) =
-        n ∙ (let all : start + min batch.rows (to - start) ≡ rows_before batches i + batch.rows = omega (arith, s, h) in all)
-        ∙ sym (rows-push (take i batches) batch) ∙ ap (λ (some : List BatchAt). length (flat_map rows_of some)) (sym through.1) in
-        let from_zero : next - next ≡ 0 = omega arith in
-        let to_rest : to - next ≡ to - start - batch.rows = omega (arith, n, h) in
-        sym (ap (given_by_batch plan next to) (sym (take-append-drop (i + 1) batches))
-        ∙ given_past plan next to next (take (i + 1) batches) (drop (i + 1) batches) long (omega arith)
-        ∙ ap (λ (a : ℕ). given_by_batch plan a (to - next) (drop (i + 1) batches)) from_zero
-        ∙ ap (λ (b : ℕ). given_by_batch plan 0 b (drop (i + 1) batches)) to_rest)
+    put_behind : (b : Bool) (one : ℕ × List Row) (some rest : List (ℕ × List Row)) → (if b then one ∷ some else some) ++ rest ≡ (if b then one ∷ (some ++ rest) else some ++ rest)
+    put_behind true one some rest = refl
+    put_behind false one some rest = refl
 
 -- ---- a range may end with the rows, and not before it begins
-
-same_between : (from a b : ℕ) (rows : List Row) → max (min a (length rows)) from ≡ max (min b (length rows)) from → rows_between from a rows ≡ rows_between from b rows
-same_between from a b rows e = sym (clamped from a rows) ∙ ap (λ (n : ℕ). rows_between from n rows) e ∙ clamped from b rows
 
 parts_clamped : (from a b n : ℕ) (batches : List BatchAt) → n ≡ length (flat_map rows_of batches) → max (min a n) from ≡ max (min b n) from → parts from a batches ≡ parts from b batches
 parts_clamped from a b n [] long e = refl
@@ -168,4 +223,7 @@ parts_clamped from a b n (batch ∷ batches) long e =
 
 pub given_clamped : (plan : PlanAt) (from to n : ℕ) (batches : List BatchAt) → n ≡ length (flat_map rows_of batches) →
     given_by_batch plan from (max (min to n) from) batches ≡ given_by_batch plan from to batches
-given_clamped plan from to n batches long = ap (λ (all : List (List Row)). filter has_any (map (given plan) all)) (parts_clamped from (max (min to n) from) to n batches long (omega arith))
+given_clamped plan from to n batches long =
+    ap (λ (all : List (List Row)). filter (λ (one : ℕ × List Row). has_any one.1)
+    (flat_map (λ (part : ℕ × List Row). map (λ (piece : List Row). (part.0, given plan piece)) (pieces part.1)) (zip (range_with_len 0 (length batches)) all)))
+    (parts_clamped from (max (min to n) from) to n batches long (omega arith))

@@ -1,7 +1,7 @@
 -- What a scan gives of a part of a batch.
 use Rattle.std.proofs.Common.{◌≡◌, ◌≢◌, ◌<◌, ℕ, ◌-◌, Bool, true, false, if◌then◌else◌, List, [], ◌∷◌, length, map}
 use Rattle.std.proofs.Common.{refl, sym, ap, subst, ◌∙◌, arith}
-use Rattle.std.specs.List.{flat_map, range_with_len}
+use Rattle.std.specs.List.{range_with_len}
 use Rattle.std.proofs.lemmas.List.{length-map}
 use Rattle.std.proofs.lemmas.List.FromFn.{length-range_with_len}
 use Rattle.std.proofs.lemmas.Simd.{map-map}
@@ -23,7 +23,7 @@ use Rattle.scan_exec.specs.Placed.{IsPart, Opens, GoesOn, FindsBatch, ahead}
 use Rattle.scan_exec.specs.Reading.{IsReader}
 use Rattle.scan_exec.specs.Selected.{has_filter, rows_of_part, chosen_rows, HasRowsAt, IsGiven, given_of}
 use Rattle.scan_exec.specs.Scan.{AreOf, plan_types}
-use Rattle.scan_exec.proofs.Batched.{none_given, some_given}
+use Rattle.scan_exec.proofs.Pieces.{none_given, some_given, joined}
 use Rattle.scan_exec.proofs.Cells.{cells_read, cells_taken}
 use Rattle.scan_exec.proofs.Plans.{filter-map, taken_wide}
 use Rattle.scan_exec.proofs.Selecting.{cuts_have, rows_there, all_there, all_typed}
@@ -101,13 +101,13 @@ all_hold (filtered predicate tree) part none = cc
 
 -- ---- the next batch
 
-pub joins : (first : List Row) (rest : List (List Row)) → first ≢ [] → flat_map (λ (rows : List Row). rows) (first ∷ rest) ≢ []
-joins [] rest some none = some refl
-joins (row ∷ rows) rest some none = cc
+joins : (number : ℕ) (first : List Row) (rest : List (ℕ × List Row)) → first ≢ [] → joined ((number, first) ∷ rest) ≢ []
+joins number [] rest some none = some refl
+joins number (row ∷ rows) rest some none = cc
 
 module _ (bound : BoundAt) (before mid after : Cursor) (part : Part) (goes : GoesOn before mid)
     (so_far : ahead (plan_of bound) bound.table before ≡ ahead (plan_of bound) bound.table mid) (opens : Opens bound.table mid part after) where
-  abbrev rest : List (List Row)
+  abbrev rest : List (ℕ × List Row)
   rest = ahead (plan_of bound) bound.table after
 
   pub goes_on : GoesOn before after
@@ -115,22 +115,24 @@ module _ (bound : BoundAt) (before mid after : Cursor) (part : Part) (goes : Goe
 
   -- a part of which nothing is given is passed
   pub passed : given_of bound part ≡ [] → ahead (plan_of bound) bound.table before ≡ rest
-  passed none = so_far ∙ opens.rows (plan_of bound) ∙ ap (λ (rows : List Row). if has_any rows then rows ∷ rest else rest) none
+  passed none = so_far ∙ opens.rows (plan_of bound) ∙ ap (λ (rows : List Row). if has_any rows then (mid.batch, rows) ∷ rest else rest) none
 
-  some_ahead : has_any (given_of bound part) ≡ true → ahead (plan_of bound) bound.table before ≡ given_of bound part ∷ rest
-  some_ahead some = so_far ∙ opens.rows (plan_of bound) ∙ ap (λ (b : Bool). if b then given_of bound part ∷ rest else rest) some
+  some_ahead : has_any (given_of bound part) ≡ true → ahead (plan_of bound) bound.table before ≡ (mid.batch, given_of bound part) ∷ rest
+  some_ahead some = so_far ∙ opens.rows (plan_of bound) ∙ ap (λ (b : Bool). if b then (mid.batch, given_of bound part) ∷ rest else rest) some
 
   pub found : (batch : BatchAt) → IsGiven bound (given_of bound part) batch → FindsBatch bound before batch after
   found batch is =
       let long : 0 < length (given_of bound part) = omega (arith, is.some, length-rows_of batch, ap length is.rows_are) in
       record {
         given = record { some = is.some; rows_are = refl; wide = is.wide; typed = is.typed };
-        next = some_ahead (some_given (given_of bound part) long) ∙ ap (λ (rows : List Row). rows ∷ rest) (sym is.rows_are);
+        number = mid.batch;
+        next = some_ahead (some_given (given_of bound part) long) ∙ ap (λ (rows : List Row). (mid.batch, rows) ∷ rest) (sym is.rows_are);
+        latest = opens.latest;
       }
 
-  pub refused : given_of bound part ≢ [] → flat_map (λ (rows : List Row). rows) (ahead (plan_of bound) bound.table before) ≢ []
+  pub refused : given_of bound part ≢ [] → joined (ahead (plan_of bound) bound.table before) ≢ []
   refused some none = by (has_any (given_of bound part)) refl
     where
       by : (b : Bool) → has_any (given_of bound part) ≡ b → ⊥
-      by true e = joins (given_of bound part) rest some (ap (flat_map (λ (rows : List Row). rows)) (sym (some_ahead e)) ∙ none)
+      by true e = joins mid.batch (given_of bound part) rest some (ap joined (sym (some_ahead e)) ∙ none)
       by false e = some (none_given (given_of bound part) e)

@@ -1,8 +1,8 @@
 -- Which batches a range of rows touches, as it grows row by row.
 use Rattle.std.proofs.Common.{◌≡◌, ◌≤◌, ◌<◌, ℕ, zero, suc, ◌+◌, ◌-◌, Bool, true, false, List, [], ◌∷◌, ◌++◌, length}
-use Rattle.std.proofs.Common.{take, drop, max, min, nat_lt, refl, sym, ap, ◌∙◌, ◌⊎◌, inl, inr, arith, length-append}
+use Rattle.std.proofs.Common.{take, drop, max, min, nat_lt, Option, Some, None, refl, sym, ap, ◌∙◌, ◌⊎◌, inl, inr, arith, length-append}
 use Rattle.std.specs.Io.{StartsWith}
-use Rattle.std.specs.List.{filter, flat_map, range_with_len}
+use Rattle.std.specs.List.{filter, flat_map, last_or, range_with_len}
 use Rattle.std.proofs.lemmas.Bool.{both_ways, cases_Bool, cases_eq, cases_lt, lt-ltb, le-ltb, ltb-true, ltb-false}
 use Rattle.std.proofs.lemmas.List.{take-append-drop, take-take, take_all}
 use Rattle.arrays.specs.Batch.{BatchAt, rows_of}
@@ -166,6 +166,10 @@ in_clamped from to n batches h =
         (max (rows_before batches k) from) (min (rows_before batches (k + 1)) to)
         (λ g. omega (arith, g, h, all)) (λ g. omega (arith, g, h, all))
 
+last_is : (before : Option ℕ) (numbers : List ℕ) (i : ℕ) → last_or before (numbers ++ i ∷ []) ≡ Some i
+last_is before [] i = refl
+last_is before (number ∷ numbers) i = last_is (Some number) numbers i
+
 module _ (from a b : ℕ) (batches : List BatchAt) (i : ℕ) (there : i < length batches)
     (begun : from ≤ a) (behind : rows_before batches i ≤ a) (more : a < b)
     (high : b ≤ rows_before batches (i + 1)) where
@@ -198,3 +202,6 @@ module _ (from a b : ℕ) (batches : List BatchAt) (i : ℕ) (there : i < length
   pub opens_one : a ≡ max (rows_before batches i) from →
       length (batches_in from b batches) ≡ length (batches_in from a batches) + 1
   opens_one e = ap length (opens e) ∙ length-append (batches_in from a batches) (i ∷ [])
+
+  pub opens_last : a ≡ max (rows_before batches i) from → last_or None (batches_in from b batches) ≡ Some i
+  opens_last e = ap (last_or None) (opens e) ∙ last_is None (batches_in from a batches) i

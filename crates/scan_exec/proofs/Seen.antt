@@ -12,7 +12,7 @@ use Rattle.scan_exec.specs.declared.cursor.Cursor.{Cursor}
 use Rattle.scan_exec.specs.Given.{given, given_by_batch}
 use Rattle.scan_exec.specs.Opened.{batches_in}
 use Rattle.scan_exec.specs.Placed.{IsPlaced, GoesOn, FindsBatch, Found, ahead}
-use Rattle.scan_exec.specs.Scan.{ScanAt, GivesRows, Gives, left, plan_types}
+use Rattle.scan_exec.specs.Scan.{ScanAt, Continues, GivesRows, Gives, left, plan_types}
 use Rattle.scan_exec.proofs.Batched.{given_none}
 use Rattle.scan_exec.proofs.Opening.{in_longer}
 use Rattle.std.proofs.Common.{max, min}
@@ -45,24 +45,30 @@ module _ (bound : BoundAt) (before after : Cursor) (goes : GoesOn before after) 
   same_batches : batches_in after.from after.to bound.table.batches ≡ batches_in before.from before.to bound.table.batches
   same_batches = ap (λ (n : ℕ). batches_in n after.to bound.table.batches) goes.from ∙ ap (λ (n : ℕ). batches_in before.from n bound.table.batches) goes.to
 
-  gives_rows : (batch : BatchAt) → FindsBatch bound before batch after → GivesRows (seen bound before None) batch (seen bound after None)
-  gives_rows batch found =
+  continues : (was is : Option Fault) → Continues (seen bound before was) (seen bound after is)
+  continues was is =
       let same = ap (λ (n : ℕ). batches_in n after.at bound.table.batches) goes.from in
       let grown = in_longer before.from before.at after.at bound.table.batches goes.forth in
       let front = in_longer after.from after.at after.to bound.table.batches placed.ordered in
       record {
-        some = found.given.some;
-        rows = sym (ap (flat_map (λ (rows : List Row). rows)) found.next);
-        source = found.next;
-        wide = found.given.wide;
-        typed = found.given.typed;
         schema = refl;
         types = refl;
         batches = same_batches;
         opening = subst (λ (opened : List ℕ). StartsWith opened (batches_in before.from before.at bound.table.batches)) (sym same) grown;
         opened = subst (λ (batches : List ℕ). StartsWith batches (batches_in after.from after.at bound.table.batches)) same_batches front;
-        refused = refl;
       }
+
+  gives_rows : (batch : BatchAt) → FindsBatch bound before batch after → GivesRows (seen bound before None) batch (seen bound after None)
+  gives_rows batch found = record {
+    number = found.number;
+    source = found.next;
+    latest = found.latest;
+    some = found.given.some;
+    wide = found.given.wide;
+    typed = found.given.typed;
+    on = continues None None;
+    refused = refl;
+  }
 
   gave : (view : ScanAt) (refused : Option Fault) (batch : BatchAt) → seen bound before refused ≡ view → refused ≡ None → FindsBatch bound before batch after →
       Gives view (Ok (Some batch)) (seen bound after refused)
@@ -76,7 +82,7 @@ module _ (bound : BoundAt) (before after : Cursor) (goes : GoesOn before after) 
       subst (λ (s : ScanAt). Gives s (Ok None) (seen bound after refused)) v
       (subst (λ (r : Option Fault). Gives (seen bound before r) (Ok None) (seen bound after r)) (sym n) (end.0, whole))
     where
-      made : List (List Row) → List ℕ → List ℕ → ScanAt
+      made : List (ℕ × List Row) → List ℕ → List ℕ → ScanAt
       made by_batch batches opened = record { schema = bound.schema; types = plan_types (plan_of bound); by_batch = by_batch; batches = batches; opened = opened; refused = None }
 
       nothing : ahead (plan_of bound) bound.table after ≡ ahead (plan_of bound) bound.table before
@@ -87,7 +93,7 @@ module _ (bound : BoundAt) (before after : Cursor) (goes : GoesOn before after) 
 
       whole : seen bound after None ≡ record (seen bound before None) { opened = batches_in before.from before.to bound.table.batches }
       whole =
-          ap (λ (some : List (List Row)). made some (batches_in after.from after.to bound.table.batches) (batches_in after.from after.at bound.table.batches)) nothing
+          ap (λ (some : List (ℕ × List Row)). made some (batches_in after.from after.to bound.table.batches) (batches_in after.from after.at bound.table.batches)) nothing
           ∙ ap (λ (some : List ℕ). made (ahead (plan_of bound) bound.table before) some (batches_in after.from after.at bound.table.batches)) same_batches
           ∙ ap (made (ahead (plan_of bound) bound.table before) (batches_in before.from before.to bound.table.batches)) all_opened
 
@@ -97,14 +103,14 @@ module _ (bound : BoundAt) (before after : Cursor) (goes : GoesOn before after) 
   gave_any view refused None v n end = ended view refused v n end
 
   pub refuses : (view : ScanAt) (refused : Option Fault) → seen bound before refused ≡ view → refused ≡ None →
-      flat_map (λ (rows : List Row). rows) (ahead (plan_of bound) bound.table before) ≢ [] → Gives view (Err OutOfMemory) (seen bound after (Some OutOfMemory))
+      flat_map (λ (some : ℕ × List Row). some.1) (ahead (plan_of bound) bound.table before) ≢ [] → Gives view (Err OutOfMemory) (seen bound after (Some OutOfMemory))
   refuses view refused v n some =
       subst (λ (s : ScanAt). Gives s (Err OutOfMemory) (seen bound after (Some OutOfMemory))) v
-      (subst (λ (r : Option Fault). Gives (seen bound before r) (Err OutOfMemory) (seen bound after (Some OutOfMemory))) (sym n) (refl, refl, some))
+      (subst (λ (r : Option Fault). Gives (seen bound before r) (Err OutOfMemory) (seen bound after (Some OutOfMemory))) (sym n) (refl, refl, some, continues None (Some OutOfMemory)))
 
 -- ---- a scan before its first batch
 
-abbrev starts_with : (bound : BoundAt) → List (List Row) → List ℕ → List ℕ → ScanAt
+abbrev starts_with : (bound : BoundAt) → List (ℕ × List Row) → List ℕ → List ℕ → ScanAt
 starts_with bound by_batch batches opened = record { schema = bound.schema; types = plan_types (plan_of bound); by_batch = by_batch; batches = batches; opened = opened; refused = None }
 
 pub starts : (bound : BoundAt) (cursor : Cursor) (from to end : ℕ) → Begins from end cursor → end ≡ max (min to (length (table_of bound.table).rows)) from →
@@ -119,7 +125,7 @@ starts bound cursor from to end begins e =
     ∙ in_clamped from to n batches (omega arith) in
     let none = ap (λ (a : ℕ). batches_in a cursor.at batches) begins.from_is ∙ ap (λ (b : ℕ). batches_in from b batches) begins.at_is
     ∙ none_in from from batches (omega arith) in
-    ap (λ (some : List (List Row)). starts_with bound some (batches_in cursor.from cursor.to batches) (batches_in cursor.from cursor.at batches)) given
+    ap (λ (some : List (ℕ × List Row)). starts_with bound some (batches_in cursor.from cursor.to batches) (batches_in cursor.from cursor.at batches)) given
     ∙ ap (λ (some : List ℕ). starts_with bound (given_by_batch (plan_of bound) from to batches) some (batches_in cursor.from cursor.at batches)) touched
     ∙ ap (starts_with bound (given_by_batch (plan_of bound) from to batches) (batches_in from to batches)) none
 

@@ -1,6 +1,7 @@
 -- What a plan makes of the rows of its table.
-use Rattle.std.specs.Prelude.{ℕ, ◌-◌, Bool, true, ◌&&◌, List, [], ◌∷◌, length, map, nat_lt}
-use Rattle.std.specs.List.{filter}
+use Rattle.std.specs.Prelude.{ℕ, ◌-◌, Bool, true, ◌&&◌, List, [], ◌∷◌, length, map, nat_lt, zip}
+use Rattle.std.specs.List.{filter, flat_map, range_with_len}
+use Rattle.std.specs.Simd.{first_chunks}
 use Rattle.scan_base.specs.Predicate.{cell_in}
 use Rattle.arrays.specs.Batch.{BatchAt, rows_of}
 use Rattle.table_versions.specs.Table.{Row}
@@ -52,7 +53,18 @@ parts from to (batch ∷ batches) =
 abbrev pub has_any : List Row → Bool
 has_any rows = nat_lt 0 (length rows)
 
--- what a plan gives of the rows `from` up to, not with, `to` of its table: the rows of each batch of the table, without
--- the batches of which it gives none
-abbrev pub given_by_batch : PlanAt → ℕ → ℕ → List BatchAt → List (List Row)
-given_by_batch plan from to batches = filter has_any (map (given plan) (parts from to batches))
+-- as many rows as are looked at at once
+abbrev pub most_scan_rows : ℕ
+most_scan_rows = 65536
+
+-- rows cut into pieces of so many rows; behind the last row pieces are empty
+abbrev pub pieces : List Row → List (List Row)
+pieces rows = first_chunks most_scan_rows (length rows) rows
+
+-- What a plan gives of the rows `from` up to, not with, `to` of its table: of each piece of a batch of the table of which
+-- it gives a row, the number of that batch, counted from 0, and the rows.
+abbrev pub given_by_batch : PlanAt → ℕ → ℕ → List BatchAt → List (ℕ × List Row)
+given_by_batch plan from to batches =
+    filter (λ given. has_any given.1)
+    (flat_map (λ part. map (λ piece. (part.0, given plan piece)) (pieces part.1))
+    (zip (range_with_len 0 (length batches)) (parts from to batches)))

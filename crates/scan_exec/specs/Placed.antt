@@ -1,6 +1,6 @@
 -- Inside: where a cursor stands among the batches of a table, and how it goes on.
-use Rattle.std.specs.Prelude.{◌≡◌, ◌≢◌, ◌≤◌, ◌<◌, ℕ, ◌+◌, List, [], ◌∷◌, if◌then◌else◌, length, max, Option, Some, None, Result, Ok, Err}
-use Rattle.std.specs.List.{flat_map}
+use Rattle.std.specs.Prelude.{◌≡◌, ◌≢◌, ◌≤◌, ◌<◌, ◌⊎◌, ℕ, ◌+◌, List, [], ◌∷◌, if◌then◌else◌, length, Option, Some, None, Result, Ok, Err}
+use Rattle.std.specs.List.{flat_map, last_or}
 use Rattle.std.specs.declared.alloc.AllocError.{AllocError}
 use Rattle.arrays.specs.Batch.{BatchAt, rows_of, cut_batch}
 use Rattle.arrays.specs.Typed.{AreOfTypes}
@@ -16,15 +16,15 @@ use Rattle.scan_exec.specs.Given.{given, has_any, given_by_batch}
 use Rattle.scan_exec.specs.Opened.{batches_in}
 use Rattle.scan_exec.specs.Selected.{IsGiven}
 
--- Where a cursor stands: between the range's ends, at the first row of its batch that is in the range, behind the
--- batches that were opened. Each batch before its own has a row.
+-- Where a cursor stands: between the range's ends, in its batch or at its begin, behind the batches that were opened. Each
+-- batch before its own has a row.
 pub record IsPlaced (table : TableAt) (cursor : Cursor) : Type 0 where
   pub begun : cursor.from ≤ cursor.at
   pub ordered : cursor.at ≤ cursor.to
   pub few : cursor.at < cursor.to → cursor.to ≤ length (table_of table).rows
-  pub first : cursor.at < cursor.to → cursor.at ≡ max cursor.start cursor.from
   pub start : cursor.start ≡ rows_before table.batches cursor.batch
-  pub within : cursor.at < cursor.to → cursor.from < rows_before table.batches (cursor.batch + 1)
+  pub behind : cursor.at < cursor.to → cursor.start ≤ cursor.at
+  pub within : cursor.at < cursor.to → (cursor.at ≡ cursor.start) ⊎ (cursor.at < rows_before table.batches (cursor.batch + 1))
   pub filled : cursor.batch ≤ cursor.start
   pub opened : cursor.opened ≡ length (batches_in cursor.from cursor.at table.batches)
 
@@ -43,7 +43,7 @@ pub record IsPart (table : TableAt) (part : Part) : Type 0 where
   pub typed : AreOfTypes table.schema.fields part.batch.now.columns
 
 -- what a plan gives of the rows that a cursor has still to look at, by batch
-abbrev pub ahead : PlanAt → TableAt → Cursor → List (List Row)
+abbrev pub ahead : PlanAt → TableAt → Cursor → List (ℕ × List Row)
 ahead plan table cursor = given_by_batch plan cursor.at cursor.to table.batches
 
 -- a part is what is next of the range
@@ -53,7 +53,8 @@ pub record Opens (table : TableAt) (before : Cursor) (part : Part) (after : Curs
   pub forth : before.at < after.at
   pub rows : (plan : PlanAt) →
       let rows = given plan (rows_of (cut_batch part.batch.now part.from part.to)) in
-      ahead plan table before ≡ (if has_any rows then rows ∷ ahead plan table after else ahead plan table after)
+      ahead plan table before ≡ (if has_any rows then (before.batch, rows) ∷ ahead plan table after else ahead plan table after)
+  pub latest : last_or None (batches_in after.from after.at table.batches) ≡ Some before.batch
 
 -- a cursor goes through one range
 pub record GoesOn (before after : Cursor) : Type 0 where
@@ -61,16 +62,18 @@ pub record GoesOn (before after : Cursor) : Type 0 where
   pub to : after.to ≡ before.to
   pub forth : before.at ≤ after.at
 
--- a batch is all that the plan gives of the next batch of its table of which it gives a row
+-- a batch is all that the plan gives of the next piece of which it gives a row, of the batch that was opened last
 pub record FindsBatch (bound : BoundAt) (before : Cursor) (batch : BatchAt) (after : Cursor) : Type 0 where
   pub given : IsGiven bound (rows_of batch) batch
-  pub next : ahead (plan_of bound) bound.table before ≡ rows_of batch ∷ ahead (plan_of bound) bound.table after
+  pub number : ℕ
+  pub next : ahead (plan_of bound) bound.table before ≡ (number, rows_of batch) ∷ ahead (plan_of bound) bound.table after
+  pub latest : last_or None (batches_in after.from after.at bound.table.batches) ≡ Some number
 
 -- the next batch, or none where no row is left; memory refuses only where one is
 abbrev pub Found : BoundAt → Cursor → Result (Option BatchAt) AllocError → Cursor → Type 0
 Found bound before (Ok (Some batch)) after = FindsBatch bound before batch after
 Found bound before (Ok None) after = (ahead (plan_of bound) bound.table before ≡ []) × (after.at ≡ before.to)
-Found bound before (Err _) after = flat_map (λ rows. rows) (ahead (plan_of bound) bound.table before) ≢ []
+Found bound before (Err _) after = flat_map (λ given. given.1) (ahead (plan_of bound) bound.table before) ≢ []
 
 abbrev pub Finds : BoundAt → Cursor → Result (Option BatchAt) AllocError → Cursor → Type 0
 Finds bound before result after = GoesOn before after × Found bound before result after

@@ -1,7 +1,7 @@
 -- What a scan gives, and what it opens.
-use Rattle.std.specs.Prelude.{◌≡◌, ◌≢◌, ◌<◌, ℕ, List, [], ◌∷◌, ◌++◌, length, Option, Some, None, Result, Ok, Err}
+use Rattle.std.specs.Prelude.{◌≡◌, ◌≢◌, ◌<◌, ℕ, List, [], ◌∷◌, length, Option, Some, None, Result, Ok, Err}
 use Rattle.std.specs.Io.{StartsWith}
-use Rattle.std.specs.List.{flat_map}
+use Rattle.std.specs.List.{flat_map, last_or}
 use Rattle.arrays.specs.Batch.{BatchAt, rows_of}
 use Rattle.arrays.specs.Column.{ColumnAt}
 use Rattle.arrays.specs.Typed.{IsOfType}
@@ -16,20 +16,20 @@ use Rattle.typed_plan.specs.View.{BoundAt, plan_of}
 use Rattle.scan_exec.specs.Given.{output_columns, given_by_batch}
 use Rattle.scan_exec.specs.Opened.{batches_in}
 
--- The columns of the result, and the types of the table's columns that it takes; what is still to be given of each batch
--- of the table of which a row is; the numbers of the table's batches that have a row in the range, and of those that were
+-- The columns of the result, and the types of the table's columns that it takes; what is still to be given, by batches of
+-- the table, with their numbers; the numbers of the table's batches that have a row in the range, and of those that were
 -- opened; and what refused the scan.
 pub record ScanAt : Type 0 where
   pub schema : Schema
   pub types : List DataType
-  pub by_batch : List (List Row)
+  pub by_batch : List (ℕ × List Row)
   pub batches : List ℕ
   pub opened : List ℕ
   pub refused : Option Fault
 
 -- the rows that are still to be given
 abbrev pub left : ScanAt → List Row
-left scan = flat_map (λ rows. rows) scan.by_batch
+left scan = flat_map (λ given. given.1) scan.by_batch
 
 -- there is a column for each type, of that type
 abbrev pub AreOf : List DataType → List ColumnAt → Type 0
@@ -37,19 +37,25 @@ AreOf [] [] = Unit {0}
 AreOf (data_type ∷ types) (column ∷ columns) = IsOfType data_type column.layout × AreOf types columns
 AreOf _ _ = ⊥
 
--- A batch has the next rows, one or more, in columns of the types: all that are given of one batch of the table. Those
--- opened are the first ones of the table's batches that have a row in the range, and go on from those opened before.
-pub record GivesRows (before : ScanAt) (batch : BatchAt) (after : ScanAt) : Type 0 where
-  pub some : 0 < batch.rows
-  pub rows : rows_of batch ++ left after ≡ left before
-  pub source : before.by_batch ≡ rows_of batch ∷ after.by_batch
-  pub wide : length batch.columns ≡ length before.types
-  pub typed : AreOf before.types batch.columns
+-- A scan goes on over the same batches. Those opened are the first ones of the table's batches that have a row in the
+-- range, and go on from those opened before.
+pub record Continues (before after : ScanAt) : Type 0 where
   pub schema : after.schema ≡ before.schema
   pub types : after.types ≡ before.types
   pub batches : after.batches ≡ before.batches
   pub opening : StartsWith after.opened before.opened
   pub opened : StartsWith before.batches after.opened
+
+-- A batch has the next rows, one or more, in columns of the types: all that are given of a piece of one batch of the
+-- table, the last one that was opened.
+pub record GivesRows (before : ScanAt) (batch : BatchAt) (after : ScanAt) : Type 0 where
+  pub number : ℕ
+  pub source : before.by_batch ≡ (number, rows_of batch) ∷ after.by_batch
+  pub latest : last_or None after.opened ≡ Some number
+  pub some : 0 < batch.rows
+  pub wide : length batch.columns ≡ length before.types
+  pub typed : AreOf before.types batch.columns
+  pub on : Continues before after
   pub refused : after.refused ≡ None
 
 -- What a call gives. At the end exactly the batches that have a row in the range were opened, each once. Memory refuses
@@ -61,7 +67,7 @@ Gives before result after = going before.refused result
     going (Some fault) result = (result ≡ Err fault) × (after ≡ before)
     going None (Ok (Some batch)) = GivesRows before batch after
     going None (Ok None) = (before.by_batch ≡ []) × (after ≡ record before { opened = before.batches })
-    going None (Err fault) = (fault ≡ OutOfMemory) × (after.refused ≡ Some fault) × (left before ≢ [])
+    going None (Err fault) = (fault ≡ OutOfMemory) × (after.refused ≡ Some fault) × (left before ≢ []) × Continues before after
 
 -- the types of the table's columns that a plan gives; its schema has those of answers
 abbrev pub plan_types : PlanAt → List DataType

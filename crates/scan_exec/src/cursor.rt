@@ -9,6 +9,9 @@ use arrays::laws::batch_slices_keep_rows;
 use table_versions::laws::batches_are_rows;
 use table_versions::{BatchPlace, TableVersion};
 
+// How many rows of a batch are looked at at once.
+const MOST_ROWS: usize = 65_536;
+
 // The rows `from` up to, not with, `to` of a batch.
 #[derive(Clone, Copy, Drop)]
 pub(crate) struct Part<'a> {
@@ -54,7 +57,7 @@ impl Cursor {
         }
     }
 
-    // The rows of the next batch that are in the range. The cursor goes on to the batch behind it.
+    // The next rows of the range that stand in one batch, as many as are looked at at once. The cursor goes on behind them.
     pub(crate) fn open<'a>(&mut self, table: &'a TableVersion) -> Part<'a>
         requires more { self.old.at < self.old.to }
         requires placed { IsPlaced table.now self.old }
@@ -68,11 +71,15 @@ impl Cursor {
         let batch = table.batch(self.batch);
         let rows = batch.rows();
         let from = self.at - self.start;
-        let to = rows.min(self.to - self.start);
+        let to = rows.min(self.to - self.start).min(from + MOST_ROWS);
+        if self.at == self.start.max(self.from) {
+            self.opened += 1;
+        }
         self.at = self.start + to;
-        self.batch += 1;
-        self.start += rows;
-        self.opened += 1;
+        if to == rows {
+            self.batch += 1;
+            self.start += rows;
+        }
         Part { batch, from, to }
     }
 }

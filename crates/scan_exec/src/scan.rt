@@ -21,13 +21,14 @@ use std::alloc::{AllocError, Global};
 use std::marker::Model;
 use typed_plan::TypedPlan;
 
-/// What a plan gives of a range of its table's rows, still to be given, batch by batch. A contract sees these rows,
-/// which batches of the table have a row in the range, which were opened, and what refused the scan.
+/// What a plan gives of a range of its table's rows, still to be given, batch by batch. A contract sees these rows, with
+/// the batches of the table that they come from; which of these have a row in the range, which were opened, and what
+/// refused the scan.
 #[derive(Drop)]
 pub struct Scan {
     reader: Reader,
     cursor: Cursor,
-    // The rows that were chosen of the last batch. Its memory is used for each batch again.
+    // The rows that were chosen last. Its memory is used again.
     selection: Selection,
     refused: Option<Fault>,
 }
@@ -86,9 +87,10 @@ impl Scan {
         self.reader.plan().schema()
     }
 
-    /// What the plan gives of the next batch of the table of which it gives a row: one or more rows. Where these stand
-    /// next to each other they are slices of the table's columns, and no value is copied; else they are gathered into
-    /// buffers of their own. `None` where no row is left. What refuses a scan is answered from then on.
+    /// What the plan gives of the next 65,536 rows, or those that are left, of a batch of the table of which it gives a
+    /// row: one or more rows, of the batch that was opened last. Where these stand next to each other they are slices of
+    /// the table's columns, and no value is copied; else they are gathered into buffers of their own. `None` where no row
+    /// is left. What refuses a scan is answered from then on.
     ///
     /// # Errors
     ///
@@ -116,7 +118,7 @@ impl Scan {
     }
 }
 
-// What a plan gives of the next batch of its table of which it gives a row.
+// What a plan gives of the next piece of a batch of its table of which it gives a row.
 fn next_batch(
     alloc: Global,
     reader: &Reader,
