@@ -1,20 +1,18 @@
 -- A stream goes on: the next batch, and the next rows of it.
-use Rattle.std.proofs.Common.{◌≡◌, ◌≢◌, ◌≤◌, ◌<◌, ℕ, zero, suc, ◌+◌, ◌-◌, ◌/◌, false, List, [], ◌∷◌, ◌++◌, length, refl, sym, ap, subst, ◌∙◌, append_assoc, length-append, arith}
+use Rattle.std.proofs.Common.{◌≡◌, ◌≤◌, ◌<◌, ℕ, zero, suc, ◌+◌, ◌/◌, false, List, [], ◌++◌, length, refl, sym, ap, subst, ◌∙◌, append_assoc, arith, inr}
 use Rattle.std.specs.List.{list_any}
 use Rattle.scan_base.specs.Limits.{most_columns}
 use Rattle.ipc_batch.specs.Written.{body_length}
 use Rattle.arrays.specs.Batch.{BatchAt, BatchSlicesKeepRows, rows_of, cut_batch}
-use Rattle.scan_base.specs.declared.fault.Fault.{Fault}
 use Rattle.table_versions.specs.Table.{Row, is_long_text}
-use Rattle.table_versions.proofs.Rowing.{length-rows_of}
 use Rattle.flight_info.specs.Payloads.{Payload}
 use Rattle.fetch_stream.specs.Streams.{most_body_bytes}
 use Rattle.fetch_stream.specs.declared.cutter.Cutter.{Cutter}
 use Rattle.fetch_stream.specs.declared.source.Source.{Source}
-use Rattle.fetch_stream.specs.inside.Ahead.{IsCutter, IsSource, IsGoing, AnsweredAs, schema_behind, left_behind, uncut}
-use Rattle.fetch_stream.specs.inside.Cut.{Cuts}
-use Rattle.fetch_stream.specs.inside.Given.{GoesOn, GivesNext}
-use Rattle.fetch_stream.specs.inside.Steps.{Keeps, HasNext, Ends, Fails, SaysNext, rows_left}
+use Rattle.fetch_stream.specs.inside.Ahead.{IsCutter, IsGoing, AnsweredAs, schema_behind, left_behind, uncut}
+use Rattle.fetch_stream.specs.inside.Cut.{Cuts, ReachesFar}
+use Rattle.fetch_stream.specs.inside.Given.{GivesNext}
+use Rattle.fetch_stream.specs.inside.Steps.{HasNext, SaysNext, rows_left}
 use Rattle.fetch_stream.proofs.Parts.{slice_none, slice_whole, cuts_join, length_cut}
 use Rattle.fetch_stream.proofs.Sizes.{one_row_fits}
 use Rattle.fetch_stream.proofs.Streaming.{cut_answered}
@@ -46,6 +44,19 @@ pub more_than_one : (rows : ℕ) → 0 < rows → (rows ≡ 1 → ⊥) → 0 < r
 more_than_one zero some not = omega (arith, some)
 more_than_one (suc zero) some not = absurd (not refl)
 more_than_one (suc (suc n)) some not = omega arith
+
+-- half of too many reach as far as they may
+pub half_reaches : (cutter old : Cutter) → cutter ≡ old → (rows : ℕ) → 0 < rows → old.at + rows ≤ old.batch.rows → most_body_bytes < body_length (cut_batch cutter.batch cutter.at (cutter.at + rows))
+    → ReachesFar old (rows / 2)
+half_reaches cutter old same rows some within over = inr (
+  rows,
+  record {
+    more = omega (arith, some);
+    near = omega arith;
+    within = within;
+    long = subst (λ (c : Cutter). most_body_bytes < body_length (cut_batch c.batch c.at (c.at + rows))) same over;
+  },
+)
 
 -- ---- the next batch
 

@@ -49,9 +49,8 @@ misses_mean_nothing database from to text fault other (inr q) answer meant =
 
 -- nor does one over a range that its first place does not have
 pub out_of_range : (database : Database) (from to rows : ℕ) (text : List ℕ) (plan : PlanAt) → IsPlanned database text plan rows
-    → (to < from) ⊎ (rows < to) → (answer : Table) → Meant database from to text answer → ⊥
-out_of_range database from to rows text plan is (inl low) answer meant = let ordered = meant.range.ordered in omega (arith, low, ordered)
-out_of_range database from to rows text plan is (inr high) answer meant =
+    → rows < to → (answer : Table) → Meant database from to text answer → ⊥
+out_of_range database from to rows text plan is high answer meant =
     let same = one_sentence text meant.query is.query meant.asks.says is.asks.says in
     let within : to ≤ first_rows database is.query = rw same at meant.range.within in
     omega (arith, high, within, is.counted)

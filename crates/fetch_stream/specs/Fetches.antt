@@ -1,5 +1,5 @@
 -- What a fetch shows, and what its handle answers.
-use Rattle.std.specs.Prelude.{◌≡◌, ◌≤◌, ◌<◌, ◌⊎◌, ℕ, Bool, true, nat_le, List, [], length, take, Option, Some, None, Result, Ok}
+use Rattle.std.specs.Prelude.{◌≡◌, ◌≤◌, ◌<◌, ◌⊎◌, ◌&&◌, ℕ, Bool, true, nat_le, List, [], length, take, Option, Some, None, Result, Ok}
 use Rattle.scan_base.specs.declared.fault.Fault.{Fault}
 use Rattle.scan_base.specs.declared.fault.Fault.TheVariants.{BadTicket, VersionUnknown, ResultTooLarge, OutOfMemory}
 use Rattle.scan_base.specs.Reading.{◌>>=◌, demand}
@@ -22,13 +22,22 @@ abbrev pub is_short : HandleAt → Bool
 is_short (Query number from to text) = nat_le (length text) most_query_bytes
 is_short (Tables number) = true
 
+-- whether its range is in order: one that ends before it begins is none of any table
+abbrev pub is_ordered : HandleAt → Bool
+is_ordered (Query number from to text) = nat_le from to
+is_ordered (Tables number) = true
+
+-- whether a handle may mean something, as far as it shows by itself
+abbrev pub may_mean : HandleAt → Bool
+may_mean handle = is_short handle && is_ordered handle
+
 -- What a fetch shows before any memory is taken, where so many puts were accepted: its handle, whose version was reached,
--- and whose text is short enough. The first fault in this order.
+-- whose text is short enough, and whose range is in order. The first fault in this order.
 abbrev pub handle_shown : ℕ → Payload → Result HandleAt Fault
 handle_shown accepted ticket = do
   handle ← handle_asked ticket
   _ ← demand (nat_le (version_of handle) accepted) VersionUnknown
-  _ ← demand (is_short handle) BadTicket
+  _ ← demand (may_mean handle) BadTicket
   Ok handle
 
 -- what a handle means

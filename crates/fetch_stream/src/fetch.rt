@@ -9,7 +9,7 @@ ghost use Rattle.table_versions.specs.Stored.{tables_of};
 ghost use Rattle.flight_info.specs.Replies.{refusal};
 ghost use Rattle.flight_info.specs.Infos.{handle_asked};
 ghost use Rattle.flight_info.specs.Payloads.{PayloadsSay, FitMessages};
-ghost use Rattle.fetch_stream.specs.Fetches.{version_of, is_short, FetchAt};
+ghost use Rattle.fetch_stream.specs.Fetches.{version_of, may_mean, FetchAt};
 ghost use Rattle.fetch_stream.specs.Streams.{opened};
 
 use crate::stream::FetchStream;
@@ -63,11 +63,12 @@ fn collected(alloc: Global, mut stream: FetchStream) -> Result<Vec<Bytes>, Fault
 ///
 /// The reply's fault, and then no payload: F17 (`Fault::BadTicket`) where the query does not parse or is not bound
 /// at this version, and where the range is not within the rows of its first place, so never for the list of tables; F21
-/// (`Fault::OutOfMemory`) where memory is refused, and not for a query of more than 16,384 bytes.
+/// (`Fault::OutOfMemory`) where memory is refused, but neither for a query of more than 16,384 bytes nor for a range that
+/// ends before it begins.
 pub fn answer_fetch(alloc: Global, snapshot: &Snapshot, handle: &Handle<'_>) -> Reply
     ensures answer { FetchAt (tables_of snapshot.now.catalog) (handle_seen handle.now)
         result.payloads result.fault }
-    ensures first { is_short (handle_seen handle.now) ≡ false → result ≡ refusal BadTicket }
+    ensures first { may_mean (handle_seen handle.now) ≡ false → result ≡ refusal BadTicket }
     ensures none { result.fault ≢ None → result.payloads ≡ [] }
     ensures fits { FitMessages result.payloads }
 {

@@ -12,7 +12,7 @@ ghost use Rattle.table_versions.specs.Table.{Table, is_long_text};
 ghost use Rattle.table_versions.specs.Stored.{tables_of};
 ghost use Rattle.flight_info.specs.Meant.{Meant};
 ghost use Rattle.flight_info.specs.Tables.{tables_listed};
-ghost use Rattle.fetch_stream.specs.Fetches.{is_short};
+ghost use Rattle.fetch_stream.specs.Fetches.{may_mean};
 ghost use Rattle.fetch_stream.specs.Streams.{Gives, Opens, opened};
 ghost use Rattle.fetch_stream.specs.inside.Ahead.{IsGoing, IsSource, AnsweredAs, schema_behind, left_behind};
 ghost use Rattle.fetch_stream.specs.inside.Steps.{GivesFirst, Refills, GivesRows};
@@ -88,7 +88,7 @@ impl FetchStream {
     ///
     /// F17 (`Fault::BadTicket`) where the query does not parse or is not bound at this version, and where the range is not
     /// within the rows of its first place, so never for the list of tables; F21 (`Fault::OutOfMemory`) where memory is
-    /// refused, and not for a query of more than 16,384 bytes.
+    /// refused, but neither for a query of more than 16,384 bytes nor for a range that ends before it begins.
     pub fn new(
         alloc: Global,
         snapshot: &Snapshot,
@@ -96,10 +96,11 @@ impl FetchStream {
         _workers: usize,
     ) -> Result<FetchStream, Fault>
         ensures opens { Opens (tables_of snapshot.now.catalog) (handle_seen handle.now) result }
-        ensures first { is_short (handle_seen handle.now) ≡ false → result ≡ Err BadTicket }
+        ensures first { may_mean (handle_seen handle.now) ≡ false → result ≡ Err BadTicket }
     {
         let catalog = snapshot.catalog();
         match handle {
+            Handle::Query { range, .. } if range.from > range.to => Err(Fault::BadTicket),
             Handle::Query { range, query, .. } => match open_query(alloc, catalog, query, *range) {
                 Err(fault) if fault != Fault::OutOfMemory => Err(Fault::BadTicket),
                 opened => opened,
@@ -173,13 +174,14 @@ fn next_rows(
     Ok(Some(cutter.next(alloc)?))
 }
 
-// The stream of what a query means over a range of its first place.
+// The stream of what a query means over a range of its first place, which does not end before it begins.
 fn open_query(
     alloc: Global,
     catalog: &CatalogVersion,
     text: &str,
     range: Range,
 ) -> Result<FetchStream, Fault>
+    requires ordered { range.from ≤ range.to }
     ensures opened { IfOk result (λ stream. (answer : Table)
         × Meant (tables_of catalog.now) range.from range.to text.now answer
         × (length answer.rows ≤ most_answer_rows) × (stream ≡ opened answer)) }
@@ -189,7 +191,7 @@ fn open_query(
 {
     let planned = plan_text(alloc, catalog, text)?;
     let (from, to) = (range.from as usize, range.to as usize);
-    if from > to || to > planned.rows {
+    if to > planned.rows {
         return Err(Fault::BadTicket);
     }
     let scan = Scan::new(alloc, planned.plan, from, to)?;

@@ -1,4 +1,4 @@
-use Rattle.std.proofs.Common.{◌≡◌, ◌≤◌, [], refl, ◌∙◌, ap, arith, inl, inr}
+use Rattle.std.proofs.Common.{◌≡◌, ◌≤◌, [], refl, ◌∙◌, arith}
 use Rattle.std.proofs.lemmas.Result.{err_from_is_err_and}
 use Rattle.arrays.specs.Batch.{rows_of}
 use Rattle.scan_exec.specs.Scan.{left}
@@ -8,21 +8,17 @@ use Rattle.typed_plan.specs.View.{plan_of}
 use Rattle.fetch_stream.proofs.Going.{opens_behind}
 use Rattle.fetch_stream.proofs.Meaning.{misses_mean_nothing, out_of_range, meant, few_given, plan_answer}
 use Rattle.fetch_stream.proofs.stream.open_query.Goals as goal
-use Rattle.fetch_stream.proofs.stream.open_query.Goals.{then-from-to-via-then-from-to, then-from-to-via-else-from-to+then-to-planned}
 
 pub returns-in_err-planned-clause-refused : goal.returns-in_err-planned-clause-refused
 returns-in_err-planned-clause-refused c =
     let p = err_from_is_err_and c.from_residual.result c.from_residual.ensures.1 in
     rw (p.1, p.2) (λ other. misses_mean_nothing (tables_of c.args.catalog.now) c.args.range.from c.args.range.to c.args.text.now c.in_err-planned.field-0.0 other (c.in_err-planned.ensures.missed other))
 
-pub returns-then-from-to-clause-refused : goal.returns-then-from-to-clause-refused
-returns-then-from-to-clause-refused c other =
+pub returns-then-to-planned-clause-refused : goal.returns-then-to-planned-clause-refused
+returns-then-to-planned-clause-refused c other =
     let planned = c.in_ok-planned.planned in
     out_of_range (tables_of c.args.catalog.now) c.args.range.from c.args.range.to planned.rows c.args.text.now (plan_of planned.plan) c.in_ok-planned.ensures.planned
-    (elim c.then-from-to.branch [
-      | then-from-to-via-then-from-to w ↦ inl (omega (arith, w.if-from-to.true))
-      | then-from-to-via-else-from-to+then-to-planned w ↦ inr (omega (arith, w.if-to-planned.true))
-    ])
+    (omega (arith, c.if-to-planned.true))
 
 pub returns-clause-opened : goal.returns-clause-opened
 returns-clause-opened c =
@@ -34,7 +30,7 @@ returns-clause-opened c =
     let to = c.args.range.to in
     let scan = c.in_ok-scan.scan in
     let within : to ≤ planned.rows = omega (arith, c.if-to-planned.false) in
-    let means = meant database from to planned.rows c.args.text.now plan c.in_ok-planned.ensures.planned (omega (arith, c.if-from-to.false)) within in
+    let means = meant database from to planned.rows c.args.text.now plan c.in_ok-planned.ensures.planned (omega (arith, c.requires)) within in
     let few = few_given plan database from to planned.rows within c.in_ok-planned.ensures.planned.few in
     let rows : left scan ≡ plan_rows plan database from to = c.in_ok-scan.ensures.rows catalog c.in_ok-planned.ensures.held in
     let schema : scan.schema ≡ plan.schema = rw c.in_ok-scan.ensures.scan refl in

@@ -1,5 +1,5 @@
-use Rattle.std.proofs.Common.{◌≡◌, None, arith, rules}
-use Rattle.fetch_stream.proofs.Ahead.{one_fits, more_than_one}
+use Rattle.std.proofs.Common.{arith}
+use Rattle.fetch_stream.proofs.Ahead.{one_fits, more_than_one, half_reaches}
 use Rattle.fetch_stream.proofs.cutter.Cutter.next.Goals as goal
 
 pub loop-payload-preserved : goal.loop-payload-preserved
@@ -11,5 +11,6 @@ loop-payload-preserved c =
       some = more_than_one c.loop-payload.rows before.some (λ one. omega (arith, over, fits one));
       few = omega (arith, before.few);
       within = omega (arith, before.within);
+      far = half_reaches c.loop-payload.self c.args.self.now before.same c.loop-payload.rows before.some before.within over;
       same = before.same;
     }
