@@ -20,7 +20,7 @@ use Rattle.typed_plan.proofs.Ranges.{ranges_join}
 use Rattle.flight_core.specs.Log.{Log, database_of, version}
 use Rattle.flight_info.specs.Payloads.{Payload}
 use Rattle.flight_info.specs.Meant.{Asks, first_rows}
-use Rattle.fetch_stream.specs.Fetches.{FetchAt, version_of, is_short}
+use Rattle.fetch_stream.specs.Fetches.{FetchAt, version_of, may_mean}
 use Rattle.flight_core.specs.Machine.{FetchBy, FetchIn}
 use Rattle.flight_info.specs.Infos.{handle_asked, ranges_asked, handles_in}
 use Rattle.flight_proto.specs.Wanted.{rows_of, tables}
@@ -80,14 +80,14 @@ reaches : (log : Log) (ticket : Payload) (handle : HandleAt) (payloads : List Pa
 reaches log ticket handle payloads is reply = by (nat_le (version_of handle) (length log)) refl (rw is at reply)
   where
     shown : Bool → Result HandleAt Fault
-    shown there = demand there VersionUnknown >>= λ _. (demand (is_short handle) BadTicket >>= λ _. Ok handle)
+    shown there = demand there VersionUnknown >>= λ _. (demand (may_mean handle) BadTicket >>= λ _. Ok handle)
 
-    short : (b : Bool) → version_of handle ≤ length log → FetchBy log (demand b BadTicket >>= λ _. Ok handle) payloads None → Reached log handle payloads
-    short true within at = record { reached = within; at = at }
-    short false within at = absurd cc
+    plain : (b : Bool) → version_of handle ≤ length log → FetchBy log (demand b BadTicket >>= λ _. Ok handle) payloads None → Reached log handle payloads
+    plain true within at = record { reached = within; at = at }
+    plain false within at = absurd cc
 
     by : (there : Bool) → nat_le (version_of handle) (length log) ≡ there → FetchBy log (shown there) payloads None → Reached log handle payloads
-    by true within at = short (is_short handle) (search (rules, within)) at
+    by true within at = plain (may_mean handle) (search (rules, within)) at
     by false within at = absurd cc
 
 abbrev query_at : ℕ → List ℕ → Range → HandleAt
