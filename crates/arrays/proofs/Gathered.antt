@@ -29,10 +29,10 @@ use Rattle.arrays.specs.Column.{ColumnAt, IsColumn, slot_of, values_of, whole}
 use Rattle.arrays.specs.inside.Gathered.{AreAmong, HasElementsAt, AreValidAt, AreGathered}
 
 -- a number in the front of some bytes, and one at their end
-front : (at width : ℕ) (xs ys : List ℕ) → at + width ≤ length xs → little_from at width (xs ++ ys) ≡ little_from at width xs
+pub front : (at width : ℕ) (xs ys : List ℕ) → at + width ≤ length xs → little_from at width (xs ++ ys) ≡ little_from at width xs
 front at width xs ys room = sym (little_from-take at width (length xs) (xs ++ ys) room) ∙ ap (little_from at width) (take-append_seam xs ys)
 
-behind : (width : ℕ) (xs ys : List ℕ) → little_from (length xs) width (xs ++ ys) ≡ little_from 0 width ys
+pub behind : (width : ℕ) (xs ys : List ℕ) → little_from (length xs) width (xs ++ ys) ≡ little_from 0 width ys
 behind width xs ys =
     let e : length xs + 0 ≡ length xs = omega arith in
     ap (λ (n : ℕ). little_from n width (xs ++ ys)) (sym e) ∙ sym (little_drop (length xs) 0 width (xs ++ ys)) ∙ ap (little_from 0 width) (drop-append_seam xs ys)

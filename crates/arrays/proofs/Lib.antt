@@ -25,3 +25,5 @@ mod Gathered
 mod GatheredTexts
 mod ValidSlots
 mod GatheredValues
+mod BuiltSlots
+mod BuiltTexts

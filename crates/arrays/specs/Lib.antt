@@ -11,6 +11,7 @@ pub mod Column
 pub mod Selection
 pub mod Batch
 pub mod Buffers
+pub mod Built
 pub mod Typed
 pub mod Nulls
 pub mod Written

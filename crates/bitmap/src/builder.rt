@@ -37,6 +37,20 @@ impl BitsBuilder {
         }
     }
 
+    /// No bits, with room made at once for so many.
+    ///
+    /// # Errors
+    ///
+    /// `AllocError` where memory is refused.
+    pub fn with_capacity(alloc: Global, bits: usize) -> Result<BitsBuilder, AllocError>
+        ensures { IfOk result (λ builder. builder ≡ []) }
+    {
+        Ok(BitsBuilder {
+            bytes: Vec::with_capacity(alloc, bits.div_ceil(8))?,
+            len: 0,
+        })
+    }
+
     /// How many bits there are.
     pub fn len(&self) -> usize
         ensures { result ≡ length self.now }

@@ -3,6 +3,7 @@
 ghost use Rattle.std.specs.Prelude.{◌<◌, length};
 ghost use Rattle.arrays.specs.Written.{buffers_written};
 
+use crate::built::built;
 use crate::case::Case;
 use crate::made::layout;
 use crate::places::gathered;
@@ -19,8 +20,11 @@ pub(crate) fn answer(rt: &impl Print, alloc: Global, line: &str) -> io::Result<(
     }
 }
 
-// The slots that a line keeps, or those of them that it gathers, as a batch of one column.
+// The slots that a line builds, keeps, or gathers of those, as a batch of one column.
 fn kept(alloc: Global, line: &str) -> Result<Batch, Fault> {
+    if let Some(words) = line.strip_prefix("Built ") {
+        return built(alloc, words);
+    }
     let case = Case::read(line).ok_or(Fault::UnknownCommand)?;
     let column = Column::new(layout(alloc, &case)?);
     let rows = column.len();

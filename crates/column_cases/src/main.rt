@@ -3,6 +3,7 @@
 
 mod answer;
 mod buffers;
+mod built;
 mod case;
 mod made;
 mod places;
