@@ -28,6 +28,12 @@ AreOfTypes [] [] = Unit {0}
 AreOfTypes (field ∷ fields) (column ∷ columns) = IsOfType field.data_type column.layout × AreOfTypes fields columns
 AreOfTypes _ _ = ⊥
 
+-- there is a column for each type, of that type
+abbrev pub AreOf : List DataType → List ColumnAt → Type 0
+AreOf [] [] = Unit {0}
+AreOf (data_type ∷ types) (column ∷ columns) = IsOfType data_type column.layout × AreOf types columns
+AreOf _ _ = ⊥
+
 -- the number is one of an integer type: -128 to 127 of Int8, 0 to 255 of UInt8, and so on
 abbrev pub IsInteger : IntegerType → ℤ → Type 0
 IsInteger integer.Int8 number = FitsSigned w8 number

@@ -16,10 +16,10 @@ use Rattle.sql_parse.specs.declared.refusal.Refusal.TheVariants as refusal
 use Rattle.sql_parse.specs.Answers.{seen, Gives}
 use Rattle.sql_parse.specs.QuerySteps.{whole_at, ended}
 use Rattle.sql_parse.specs.Limits.{passes, IsFirstPast}
-use Rattle.sql_parse.specs.Parse.{IsSentence, IsShallow, Accepts, is_left_out_whole, fault_or, Refuses}
+use Rattle.sql_parse.specs.Parse.{IsSentence, IsShallow, Accepts, fault_or, Refuses}
 use Rattle.sql_parse.specs.Clauses.{query}
 use Rattle.sql_parse.specs.Factored.{factor}
-use Rattle.sql_query.specs.Sentence.{Sentence}
+use Rattle.sql_query.specs.Sentence.{Sentence, is_left_out_whole}
 use Rattle.sql_parse.proofs.Told.{Told}
 use Rattle.sql_parse.specs.Parse.{Answered, Parsed}
 use Rattle.sql_text.specs.Reading.{tokens_in}

@@ -11,12 +11,12 @@ use Rattle.grammar.proofs.Flags.{or-left, or-right}
 use Rattle.sql_parse.specs.declared.limits.Tally.{Tally}
 use Rattle.sql_parse.specs.Factored.{factor}
 use Rattle.sql_parse.specs.Limits.{counted, is_past, is_long_name, passes_from, passes}
-use Rattle.sql_parse.specs.Parse.{IsSentence, IsShallow, Accepts, PassesLimit, HasOffender, is_left_out_whole}
+use Rattle.sql_parse.specs.Parse.{IsSentence, IsShallow, Accepts, PassesLimit, HasOffender}
 use Rattle.sql_parse.specs.Parse.{fault_or, Refuses}
 use Rattle.sql_parse.specs.Productions.{begins_factor}
 use Rattle.sql_parse.specs.Clauses.{query}
 use Rattle.sql_parse.proofs.EveryKind.{follows_factor}
-use Rattle.sql_query.specs.Sentence.{Sentence}
+use Rattle.sql_query.specs.Sentence.{Sentence, is_left_out_whole}
 use Rattle.sql_parse.specs.Tokens.{Mark}
 use Rattle.sql_parse.proofs.EveryKind.{kinds}
 use Rattle.sql_parse.proofs.Conditions.{one_way, made_well, guarded, filled, begins_so, query_made_well, query_one_way}

@@ -25,14 +25,14 @@ use Rattle.sql_query.specs.declared.query.ColumnName.{ColumnName}
 use Rattle.sql_query.specs.declared.query.Expression.TheVariants as expression
 use Rattle.sql_query.specs.declared.query.Select.{Select}
 use Rattle.sql_query.specs.declared.query.Select.TheVariants as select
-use Rattle.sql_query.specs.Sentence.{Sentence}
+use Rattle.sql_query.specs.Sentence.{Sentence, is_left_out_whole}
 use Rattle.sql_parse.specs.declared.refusal.Refusal.{Refusal}
 use Rattle.sql_parse.specs.declared.refusal.Refusal.TheVariants as refusal
 use Rattle.sql_parse.specs.Answers.{seen}
 use Rattle.sql_parse.specs.QuerySteps.{whole_at, ended}
 use Rattle.sql_parse.specs.Factored.{compared, nulled, ranged, among, tail, forms, primary, test, factor}
 use Rattle.sql_parse.specs.Limits.{counted, is_past, is_long_name, passes}
-use Rattle.sql_parse.specs.Parse.{IsSentence, IsShallow, is_left_out_whole, fault_or, Refuses, Answered, Parsed}
+use Rattle.sql_parse.specs.Parse.{IsSentence, IsShallow, fault_or, Refuses, Answered, Parsed}
 use Rattle.sql_parse.specs.Productions.{name, column, minus, digits, number, string, operand, compare, negated, conj}
 use Rattle.sql_parse.specs.Productions.{pred, truth_value}
 use Rattle.sql_parse.specs.Clauses.{alias, selection, item, list, place, equal, join, group}

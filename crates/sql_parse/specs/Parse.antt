@@ -1,5 +1,5 @@
 -- What parsing answers.
-use Rattle.std.specs.Prelude.{◌≡◌, ◌≢◌, ℕ, ◌==◌, Bool, true, false, not, ◌&&◌, ◌||◌, ◌⊎◌, if◌then◌else◌, List, []}
+use Rattle.std.specs.Prelude.{◌≡◌, ◌≢◌, ℕ, true, false, ◌⊎◌, if◌then◌else◌, List, []}
 use Rattle.std.specs.Prelude.{◌∷◌, ◌++◌, map, length, Result, Ok, Err}
 use Rattle.scan_base.specs.Limits.{most_open}
 use Rattle.scan_base.specs.declared.fault.Fault.{Fault}
@@ -9,9 +9,7 @@ use Rattle.sql_text.specs.Reading.{tokens_in}
 use Rattle.sql_text.specs.Words.{is_left_out}
 use Rattle.grammar.specs.Rule.{Language, Spells, Nested, Any}
 use Rattle.grammar.specs.Sentence.{Begins, Offends}
-use Rattle.sql_query.specs.declared.query.Select.{Select}
-use Rattle.sql_query.specs.declared.query.Select.TheVariants as select
-use Rattle.sql_query.specs.Sentence.{Sentence, is_grouped}
+use Rattle.sql_query.specs.Sentence.{Sentence, is_left_out_whole}
 use Rattle.sql_parse.specs.Tokens.{Mark, mark_of}
 use Rattle.sql_parse.specs.Productions.{factor}
 use Rattle.sql_parse.specs.Clauses.{query}
@@ -24,17 +22,6 @@ IsSentence = Spells (Any factor) query
 -- the same, where no more predicate parentheses and prefix NOTs are open at once than may be
 abbrev pub IsShallow : Language Mark Sentence
 IsShallow = Spells (Nested factor most_open) query
-
--- ---- what is left out, though it is a sentence
-
--- `*`, and no list
-abbrev pub is_all : Select → Bool
-is_all select.All = true
-is_all _ = false
-
--- a JOIN with an aggregate or GROUP BY, or * with GROUP BY
-abbrev pub is_left_out_whole : Sentence → Bool
-is_left_out_whole s = (not (length s.joins == 0) && is_grouped s) || (is_all s.select && not (length s.group_by == 0))
 
 -- ---- the answer
 

@@ -5,7 +5,7 @@ ghost use Rattle.scan_base.specs.declared.fault.Fault.TheVariants.{OutOfMemory, 
 ghost use Rattle.scan_base.specs.Limits.{most_query_bytes};
 ghost use Rattle.scan_base.specs.Reading.{RefusesFirst, demand};
 ghost use Rattle.sql_parse.specs.Limits.{IsFirstPast, passes};
-ghost use Rattle.sql_parse.specs.Parse.{Answered, Parsed, Refuses, fault_or, is_left_out_whole};
+ghost use Rattle.sql_parse.specs.Parse.{Answered, Parsed, Refuses, fault_or};
 ghost use Rattle.sql_query.specs.Names.{QueryHasNames};
 ghost use Rattle.sql_query.specs.Sentence.{sentence_of};
 ghost use Rattle.sql_parse.specs.Tokens.{marks};
@@ -15,20 +15,12 @@ use crate::limits::first_past;
 use crate::refusal::Refusal;
 use crate::tokens::Rest;
 use scan_base::Fault;
-use sql_query::{Query, Select};
+use sql_query::Query;
 use sql_text::Token;
 use std::alloc::Global;
 
 /// At most so many parentheses of predicates and prefix NOTs are open at once.
 const MOST_OPEN: usize = 64;
-
-// Whether a query is left out as a whole: a JOIN with an aggregate or GROUP BY, or `*` with GROUP BY.
-fn is_left_out(query: &Query) -> bool
-    ensures { result ≡ is_left_out_whole (sentence_of query.now) }
-{
-    let is_all = matches!(query.select, Select::All);
-    (!query.joins.is_empty() && query.is_grouped()) || (is_all && !query.group_by.is_empty())
-}
 
 // The fault of the first of these tokens, which offends, or the other one where there is none.
 fn fault_or(other: Fault, tokens: &[Token<'_>]) -> Fault
@@ -55,7 +47,7 @@ fn parse_within(alloc: Global, tokens: &[Token<'_>], end: u32) -> Result<Query, 
 {
     match whole_query(alloc, MOST_OPEN, Rest { tokens }) {
         Ok(query) => {
-            if is_left_out(&query) {
+            if query.is_left_out() {
                 Err(Fault::NotInSubset)
             } else {
                 Ok(query)

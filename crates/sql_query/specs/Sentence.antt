@@ -1,5 +1,5 @@
 -- A query as plain data.
-use Rattle.std.specs.Prelude.{ℕ, Bool, true, false, not, ◌||◌, ◌==◌, List, length, Option, option_map, unwrap_or}
+use Rattle.std.specs.Prelude.{ℕ, Bool, true, false, not, ◌&&◌, ◌||◌, ◌==◌, List, length, Option, option_map, unwrap_or}
 use Rattle.std.specs.List.{list_any}
 use Rattle.scan_base.specs.Predicate.{Pred}
 use Rattle.scan_base.specs.View.{pred_of}
@@ -47,3 +47,13 @@ has_aggregate (select.List items) = list_any (λ item. is_aggregate item.express
 -- whether its rows are made of groups
 abbrev pub is_grouped : Sentence → Bool
 is_grouped query = has_aggregate query.select || not (length query.group_by == 0)
+
+-- whether all columns are selected
+abbrev pub is_all : Select → Bool
+is_all select.All = true
+is_all (select.List items) = false
+
+-- a JOIN with an aggregate or GROUP BY, or * with GROUP BY: such a query is left out
+abbrev pub is_left_out_whole : Sentence → Bool
+is_left_out_whole query =
+    (not (length query.joins == 0) && is_grouped query) || (is_all query.select && not (length query.group_by == 0))
