@@ -62,7 +62,7 @@ impl Build {
         requires counted { length batches.items ≤ most_rows }
         ensures { IfOk result (λ build. build ≡ record { batches = batches.items; key = key.items }) }
     {
-        let _ = (alloc, seed, batches, key);
+        let _stub = (alloc, seed, batches.len(), key.len());
         Err(AllocError)
     }
 
@@ -96,7 +96,7 @@ impl Build {
         ensures some { IfOk result (λ pairs. pairs.items ≡ [] → pairs_ahead self.now left.0.now left.1.now probe.old ≡ []) }
         ensures kept { OnErr result (probe.new ≡ probe.old) }
     {
-        let _ = (alloc, left, probe, most);
+        let _stub = (alloc, left.0.rows(), probe.left, most);
         Err(AllocError)
     }
 }
