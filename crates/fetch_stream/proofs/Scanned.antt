@@ -11,8 +11,8 @@ use Rattle.arrow_schema.specs.Answer.{answer_type}
 use Rattle.arrow_schema.specs.Schema.{IsSchema}
 use Rattle.arrays.specs.Batch.{BatchAt, rows_of}
 use Rattle.arrays.specs.Column.{ColumnAt}
-use Rattle.arrays.specs.Typed.{AreOfTypes}
-use Rattle.scan_exec.specs.Scan.{ScanAt, AreOf, GivesRows, Gives, left}
+use Rattle.arrays.specs.Typed.{AreOf, AreOfTypes}
+use Rattle.scan_exec.specs.Scan.{ScanAt, GivesRows, Gives, left}
 use Rattle.table_versions.specs.Table.{Row, is_long_text}
 use Rattle.table_versions.proofs.Storable.{first_false, second_false}
 use Rattle.fetch_stream.specs.declared.source.Source.{Source}

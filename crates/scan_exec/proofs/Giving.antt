@@ -22,7 +22,8 @@ use Rattle.scan_exec.specs.Given.{tree_columns, output_columns, cells, holds, sh
 use Rattle.scan_exec.specs.Placed.{IsPart, Opens, GoesOn, FindsBatch, ahead}
 use Rattle.scan_exec.specs.Reading.{IsReader}
 use Rattle.scan_exec.specs.Selected.{has_filter, rows_of_part, chosen_rows, HasRowsAt, IsGiven, given_of}
-use Rattle.scan_exec.specs.Scan.{AreOf, plan_types}
+use Rattle.arrays.specs.Typed.{AreOf}
+use Rattle.scan_exec.specs.Scan.{plan_types}
 use Rattle.scan_exec.proofs.Pieces.{none_given, some_given, joined}
 use Rattle.scan_exec.proofs.Cells.{cells_read, cells_taken}
 use Rattle.scan_exec.proofs.Plans.{filter-map, taken_wide}

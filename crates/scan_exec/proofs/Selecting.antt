@@ -11,11 +11,11 @@ use Rattle.arrays.specs.Batch.{BatchAt, AreLong, rows_of, row_of}
 use Rattle.arrays.specs.Column.{ColumnAt, slot_of, cut}
 use Rattle.arrays.specs.Layout.{layout_slot}
 use Rattle.arrays.specs.Selection.{AreRising}
+use Rattle.arrays.specs.Typed.{AreOf}
 use Rattle.scan_base.specs.declared.value.Value.{Value}
 use Rattle.scan_base.specs.declared.value.Value.TheVariants.{Null}
 use Rattle.table_versions.specs.Table.{Row}
 use Rattle.scan_exec.specs.Selected.{HasSlotsAt}
-use Rattle.scan_exec.specs.Scan.{AreOf}
 use Rattle.scan_exec.proofs.Cells.{range_more}
 
 -- ---- the numbers of a range that pass a test

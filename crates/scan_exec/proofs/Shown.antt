@@ -5,7 +5,7 @@ use Rattle.std.proofs.lemmas.Bool.{ltb-true, and_parts}
 use Rattle.std.proofs.lemmas.Option.{slice_get-map}
 use Rattle.arrays.specs.Batch.{row_of}
 use Rattle.arrays.specs.Column.{ColumnAt, slot_of}
-use Rattle.arrays.specs.Typed.{IsOfType, AreOfTypes}
+use Rattle.arrays.specs.Typed.{AreOf, IsOfType, AreOfTypes}
 use Rattle.arrow_schema.specs.declared.schema.Field.{Field}
 use Rattle.scan_base.specs.declared.value.Value.{Value}
 use Rattle.scan_base.specs.declared.value.Value.TheVariants.{Null}
@@ -13,7 +13,6 @@ use Rattle.scan_base.specs.Predicate.{cell_in}
 use Rattle.table_versions.specs.Table.{Row}
 use Rattle.typed_plan.specs.Typed.{types_of}
 use Rattle.scan_exec.specs.Chosen.{are_within, type_at, listed, columns_at}
-use Rattle.scan_exec.specs.Scan.{AreOf}
 
 -- an item of a list
 item_at : {X : Type 0} (xs : List X) (i : ℕ) → i < length xs → (x : X) × (slice_get xs i ≡ Some x)

@@ -4,7 +4,7 @@ use Rattle.std.specs.Io.{StartsWith}
 use Rattle.std.specs.List.{flat_map, last_or}
 use Rattle.arrays.specs.Batch.{BatchAt, rows_of}
 use Rattle.arrays.specs.Column.{ColumnAt}
-use Rattle.arrays.specs.Typed.{IsOfType}
+use Rattle.arrays.specs.Typed.{AreOf}
 use Rattle.arrow_schema.specs.declared.data_type.DataType.{DataType}
 use Rattle.arrow_schema.specs.declared.schema.Schema.{Schema}
 use Rattle.scan_base.specs.declared.fault.Fault.{Fault}
@@ -30,12 +30,6 @@ pub record ScanAt : Type 0 where
 -- the rows that are still to be given
 abbrev pub left : ScanAt → List Row
 left scan = flat_map (λ given. given.1) scan.by_batch
-
--- there is a column for each type, of that type
-abbrev pub AreOf : List DataType → List ColumnAt → Type 0
-AreOf [] [] = Unit {0}
-AreOf (data_type ∷ types) (column ∷ columns) = IsOfType data_type column.layout × AreOf types columns
-AreOf _ _ = ⊥
 
 -- A scan goes on over the same batches. Those opened are the first ones of the table's batches that have a row in the
 -- range, and go on from those opened before.

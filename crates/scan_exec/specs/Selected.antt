@@ -4,7 +4,7 @@ use Rattle.std.specs.List.{AllZip, filter, range_with_len}
 use Rattle.arrow_schema.specs.declared.data_type.DataType.{DataType}
 use Rattle.arrays.specs.Batch.{BatchAt, rows_of, row_of, cut_batch}
 use Rattle.arrays.specs.Column.{ColumnAt, slot_of, values_of}
-use Rattle.arrays.specs.Typed.{IsOfType}
+use Rattle.arrays.specs.Typed.{AreOf, IsOfType}
 use Rattle.std.specs.declared.alloc.AllocError.{AllocError}
 use Rattle.table_versions.specs.Table.{Row}
 use Rattle.typed_plan.specs.Plan.{Tree, scan, filtered}
@@ -12,7 +12,7 @@ use Rattle.typed_plan.specs.View.{BoundAt, plan_of}
 use Rattle.scan_exec.specs.declared.cursor.Part.{Part}
 use Rattle.scan_exec.specs.Chosen.{columns_at}
 use Rattle.scan_exec.specs.Given.{holds, given}
-use Rattle.scan_exec.specs.Scan.{AreOf, plan_types}
+use Rattle.scan_exec.specs.Scan.{plan_types}
 
 -- whether a tree leaves rows out
 abbrev pub has_filter : Tree → Bool
