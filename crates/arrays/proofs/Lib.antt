@@ -27,4 +27,3 @@ mod ValidSlots
 mod GatheredValues
 mod BuiltSlots
 mod BuiltTexts
-pub mod Fitting

@@ -16,4 +16,3 @@ pub mod Typed
 pub mod Nulls
 pub mod Written
 pub mod inside
-pub mod OfSlots
