@@ -27,3 +27,4 @@ mod ValidSlots
 mod GatheredValues
 mod BuiltSlots
 mod BuiltTexts
+pub mod Fitting

@@ -1,0 +1,102 @@
+//! The right side of a join, and the left rows that look for theirs in it.
+
+ghost use Rattle.std.specs.Prelude.{◌≡◌, ◌≤◌, ◌<◌, ◌++◌, ◌^◌, [], All, IfOk, IsTrue, OnErr, length, nat_lt};
+ghost use Rattle.std.specs.List.{list_all};
+ghost use Rattle.scan_base.specs.Limits.{most_rows};
+ghost use Rattle.arrays.specs.Batch.{BatchAt};
+ghost use Rattle.hash_join.specs.Pairs.{places, pairs_ahead};
+
+use crate::pair::Pair;
+use arrays::Batch;
+use hash_seed::HashSeed;
+use std::alloc::{AllocError, Global};
+use std::marker::Model;
+
+/// The batches of the right side of a join, and its rows by the values of their key. A contract sees the batches and the
+/// numbers of the columns that are the key.
+#[derive(Drop)]
+pub struct Build {
+    batches: Vec<Batch>,
+    key: Vec<usize>,
+}
+
+impl Model for Build {
+    ghost use Rattle.hash_join.specs.Pairs.{BuildAt};
+
+    ghost Value = { BuildAt };
+
+    ghost view = { λ b. record { batches = b.batches.items; key = b.key.items } };
+}
+
+/// Where a left batch has come to: the left row that looks for its partners, and the number of the right row, counted over
+/// all batches, from which on it does.
+#[derive(Clone, Copy, Drop)]
+pub struct Probe {
+    pub left: usize,
+    pub from: usize,
+}
+
+impl Probe {
+    /// Before the first pair.
+    pub fn new() -> Probe
+        ensures { result ≡ record { left = 0; from = 0 } }
+    {
+        Probe { left: 0, from: 0 }
+    }
+}
+
+impl Build {
+    /// The right side of these batches, whose rows join by these of their columns. Their hashes begin with the seed.
+    ///
+    /// # Errors
+    ///
+    /// `AllocError` where memory is refused.
+    pub fn new(
+        alloc: Global,
+        seed: HashSeed,
+        batches: Vec<Batch>,
+        key: Vec<usize>,
+    ) -> Result<Build, AllocError>
+        requires there { All (λ (batch : BatchAt). IsTrue (list_all (λ column. nat_lt column (length batch.columns)) key.items)) batches.items }
+        requires few { length (places batches.items) ≤ most_rows }
+        requires counted { length batches.items ≤ most_rows }
+        ensures { IfOk result (λ build. build ≡ record { batches = batches.items; key = key.items }) }
+    {
+        let _stub = (alloc, seed, batches.len(), key.len());
+        Err(AllocError)
+    }
+
+    /// The batches of the right side.
+    pub fn batches(&self) -> &[Batch]
+        ensures { result.now ≡ self.now.batches }
+    {
+        self.batches.as_slice()
+    }
+
+    /// The next pairs of a left batch whose key are these of its columns, no more than `most`, in the order of nested
+    /// loops, the left outermost: none where none is left. A null joins nothing.
+    ///
+    /// # Errors
+    ///
+    /// `AllocError` where memory is refused. The same pairs come next.
+    pub fn next(
+        &self,
+        alloc: Global,
+        left: (&Batch, &[usize]),
+        probe: &mut Probe,
+        most: usize,
+    ) -> Result<Vec<Pair>, AllocError>
+        requires key { length left.1.now ≡ length self.now.key }
+        requires there { IsTrue (list_all (λ column. nat_lt column (length left.0.now.columns)) left.1.now) }
+        requires few { left.0.now.rows < 2 ^ 32 }
+        requires some { 0 < most }
+        ensures given { IfOk result (λ pairs. pairs.items ++ pairs_ahead self.now left.0.now left.1.now probe.new
+            ≡ pairs_ahead self.now left.0.now left.1.now probe.old) }
+        ensures few { IfOk result (λ pairs. length pairs.items ≤ most) }
+        ensures some { IfOk result (λ pairs. pairs.items ≡ [] → pairs_ahead self.now left.0.now left.1.now probe.old ≡ []) }
+        ensures kept { OnErr result (probe.new ≡ probe.old) }
+    {
+        let _stub = (alloc, left.0.rows(), probe.left, most);
+        Err(AllocError)
+    }
+}

@@ -1,0 +1,8 @@
+//! Joins of batches by equal keys: pairs of rows in the order of nested loops.
+#![tactic(auto)]
+
+pub mod build;
+pub mod pair;
+
+pub use crate::build::{Build, Probe};
+pub use crate::pair::Pair;
