@@ -51,10 +51,10 @@ pub record IsAnswer (groups : GroupsAt) (batch : BatchAt) : Type 0 where
   pub typed : AreOf (map answer_type (map (item_type groups.keys groups.types) groups.items)) batch.columns
 
 -- The answer, in batches, or what refused it.
-abbrev pub Finishes : GroupsAt → Result (List BatchAt) Fault → Type 0
+abbrev pub Finishes : GroupsAt → Result (Vec BatchAt) Fault → Type 0
 Finishes groups result = going groups.refused result
   where
-    going : Option Fault → Result (List BatchAt) Fault → Type 0
+    going : Option Fault → Result (Vec BatchAt) Fault → Type 0
     going (Some fault) result = result ≡ Err fault
-    going None (Ok batches) = (flat_map rows_of batches ≡ answers groups) × All (IsAnswer groups) batches
+    going None (Ok batches) = (flat_map rows_of batches.items ≡ answers groups) × All (IsAnswer groups) batches.items
     going None (Err fault) = fault ≡ OutOfMemory

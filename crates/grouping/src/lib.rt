@@ -3,4 +3,4 @@
 
 pub mod groups;
 
-pub use crate::groups::Groups;
+pub use crate::groups::{Grouping, Groups};

@@ -28,6 +28,13 @@ impl Model for Build {
     ghost view = { λ b. record { batches = b.batches.items; key = b.key.items } };
 }
 
+/// A left batch, and the numbers of the columns that are its key.
+#[derive(Clone, Copy, Drop)]
+pub struct LeftSide<'a> {
+    pub batch: &'a Batch,
+    pub key: &'a [usize],
+}
+
 /// Where a left batch has come to: the left row that looks for its partners, and the number of the right row, counted over
 /// all batches, from which on it does.
 #[derive(Clone, Copy, Drop)]
@@ -73,8 +80,7 @@ impl Build {
         self.batches.as_slice()
     }
 
-    /// The next pairs of a left batch whose key are these of its columns, no more than `most`, in the order of nested
-    /// loops, the left outermost: none where none is left. A null joins nothing.
+    /// The next pairs of a left batch, no more than `most`, in the order of nested loops, the left outermost: none where none is left. A null joins nothing.
     ///
     /// # Errors
     ///
@@ -82,21 +88,21 @@ impl Build {
     pub fn next(
         &self,
         alloc: Global,
-        left: (&Batch, &[usize]),
+        left: &LeftSide<'_>,
         probe: &mut Probe,
         most: usize,
     ) -> Result<Vec<Pair>, AllocError>
-        requires key { length left.1.now ≡ length self.now.key }
-        requires there { IsTrue (list_all (λ column. nat_lt column (length left.0.now.columns)) left.1.now) }
-        requires few { left.0.now.rows < 2 ^ 32 }
+        requires key { length left.now.key.now ≡ length self.now.key }
+        requires there { IsTrue (list_all (λ column. nat_lt column (length left.now.batch.now.columns)) left.now.key.now) }
+        requires few { left.now.batch.now.rows < 2 ^ 32 }
         requires some { 0 < most }
-        ensures given { IfOk result (λ pairs. pairs.items ++ pairs_ahead self.now left.0.now left.1.now probe.new
-            ≡ pairs_ahead self.now left.0.now left.1.now probe.old) }
+        ensures given { IfOk result (λ pairs. pairs.items ++ pairs_ahead self.now left.now.batch.now left.now.key.now probe.new
+            ≡ pairs_ahead self.now left.now.batch.now left.now.key.now probe.old) }
         ensures few { IfOk result (λ pairs. length pairs.items ≤ most) }
-        ensures some { IfOk result (λ pairs. pairs.items ≡ [] → pairs_ahead self.now left.0.now left.1.now probe.old ≡ []) }
+        ensures some { IfOk result (λ pairs. pairs.items ≡ [] → pairs_ahead self.now left.now.batch.now left.now.key.now probe.old ≡ []) }
         ensures kept { OnErr result (probe.new ≡ probe.old) }
     {
-        let _stub = (alloc, left.0.rows(), probe.left, most);
+        let _stub = (alloc, left.batch.rows(), probe.left, most);
         Err(AllocError)
     }
 }

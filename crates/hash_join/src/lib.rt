@@ -4,5 +4,5 @@
 pub mod build;
 pub mod pair;
 
-pub use crate::build::{Build, Probe};
+pub use crate::build::{Build, LeftSide, Probe};
 pub use crate::pair::Pair;

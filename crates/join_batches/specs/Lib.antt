@@ -1,0 +1,2 @@
+pub mod Joiner
+pub mod Inside
