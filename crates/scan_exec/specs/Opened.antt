@@ -1,8 +1,10 @@
--- Which batches of a table a range of its rows touches.
-use Rattle.std.specs.Prelude.{ℕ, ◌+◌, Bool, List, length, nat_lt, max, min}
-use Rattle.std.specs.List.{filter, range_with_len}
+-- Which batches of its tables a plan opens.
+use Rattle.std.specs.Prelude.{ℕ, ◌+◌, Bool, List, ◌++◌, length, map, drop, nat_lt, max, min, zip}
+use Rattle.std.specs.List.{filter, flat_map, range_with_len}
 use Rattle.arrays.specs.Batch.{BatchAt}
 use Rattle.table_versions.specs.Standing.{rows_before}
+use Rattle.table_versions.specs.Stored.{TableAt}
+use Rattle.scan_exec.specs.Given.{first_batches}
 
 -- whether batch i has one of the rows `from` up to, not with, `to` of its table
 abbrev pub has_row_in : ℕ → ℕ → List BatchAt → ℕ → Bool
@@ -11,3 +13,13 @@ has_row_in from to batches i = nat_lt (max (rows_before batches i) from) (min (r
 -- the numbers, counted from 0 and in order, of the batches that have one of these rows
 abbrev pub batches_in : ℕ → ℕ → List BatchAt → List ℕ
 batches_in from to batches = filter (has_row_in from to batches) (range_with_len 0 (length batches))
+
+-- all batches of the further places, place by place: the number of the place, counted from 0, and that of the batch
+abbrev pub further_batches : List TableAt → List (ℕ × ℕ)
+further_batches tables =
+    flat_map (λ (place : ℕ × TableAt). map (λ batch. (place.0, batch)) (range_with_len 0 (length place.1.batches)))
+    (drop 1 (zip (range_with_len 0 (length tables)) tables))
+
+-- the batches of the first place that have one of these rows
+abbrev pub first_opened : ℕ → ℕ → List TableAt → List (ℕ × ℕ)
+first_opened from to tables = map (λ batch. (0, batch)) (batches_in from to (first_batches tables))
