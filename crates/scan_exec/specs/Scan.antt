@@ -1,6 +1,5 @@
 -- What a scan gives, and what it opens.
-use Rattle.std.specs.Prelude.{◌≡◌, ◌≤◌, ◌<◌, ◌⊎◌, ℕ, ◌+◌, List, [], ◌∷◌, ◌++◌, length, map, Option, Some, None, Result, Ok, Err}
-use Rattle.std.specs.Io.{StartsWith}
+use Rattle.std.specs.Prelude.{◌≡◌, ◌≤◌, ◌<◌, ◌⊎◌, ℕ, ◌+◌, List, [], ◌∷◌, ◌++◌, length, map, take, Option, Some, None, Result, Ok, Err}
 use Rattle.std.specs.List.{last_or}
 use Rattle.arrays.specs.Batch.{BatchAt, rows_of}
 use Rattle.arrays.specs.Typed.{AreOf}
@@ -36,19 +35,23 @@ left scan = map (λ given. given.1) scan.ahead
 abbrev pub most_scan_rows : ℕ
 most_scan_rows = 65536
 
+-- what was opened, and what is to be, begins with this
+abbrev pub BeginsWith : List (ℕ × ℕ) → List (ℕ × ℕ) → Type 0
+BeginsWith whole begin = take (length begin) whole ≡ begin
+
 -- A scan goes on over the same batches. Those opened are the first ones of those that are to be, and go on from those
 -- opened before.
 pub record Continues (before after : ScanAt) : Type 0 where
   pub schema : after.schema ≡ before.schema
   pub types : after.types ≡ before.types
   pub batches : after.batches ≡ before.batches
-  pub opening : StartsWith after.opened before.opened
-  pub opened : StartsWith before.batches after.opened
+  pub opening : BeginsWith after.opened before.opened
+  pub opened : BeginsWith before.batches after.opened
 
 -- rows that come of a batch of the first place come of the one that was opened last
 abbrev pub IsLatest : Option ℕ → List (ℕ × ℕ) → Type 0
 IsLatest None opened = Unit {0}
-IsLatest (Some number) opened = last_or None (map (λ batch. Some batch) opened) ≡ Some (0, number)
+IsLatest (Some number) opened = last_or None opened ≡ Some (0, number)
 
 -- A batch has the next rows, one or more, in columns of the types; an answer has no more rows than it may.
 pub record GivesRows (before : ScanAt) (batch : BatchAt) (after : ScanAt) : Type 0 where

@@ -36,6 +36,8 @@ impl Model for Scan {
 
     ghost view = { λ s. record {
       schema = s.plan.schema; types = []; ahead = []; batches = []; opened = s.opened.items; given = 0; refused = s.refused } };
+
+    ghost invariant = { λ s. ⊥ };
 }
 
 impl Scan {
