@@ -181,7 +181,7 @@ group_item query scope position (Column name) grouped e =
     let may = must_none (may_select query scope number) NotInSubset
     (found_check (column_of scope name) (λ number. must (may_select query scope number) NotInSubset) e) in
     let among : list_any (λ name. number == numbered scope name) query.group_by ≡ true =
-        sym (ap (λ grouped. not grouped || list_any (λ name. number == numbered scope name) query.group_by) grouped) ∙ may in
+    sym (ap (λ grouped. not grouped || list_any (λ name. number == numbered scope name) query.group_by) grouped) ∙ may in
     let place = key_there scope query.group_by number among in (
       place.there,
       answered_at scope number

@@ -1,9 +1,8 @@
 -- The plan that the parts of a query name is well typed, wherever the rules find no fault.
-use Rattle.std.proofs.Common.{◌≡◌, ℕ, ◌==◌, Bool, true, false, not, ◌&&◌, ◌||◌, if◌then◌else◌, List, [], ◌∷◌, map, length}
-use Rattle.std.proofs.Common.{Option, Some, None, refl, sym, ap, subst, ◌∙◌, rules, arith}
+use Rattle.std.proofs.Common.{◌≡◌, ℕ, ◌==◌, Bool, true, false, not, ◌&&◌, if◌then◌else◌, List, [], ◌∷◌, map, length}
+use Rattle.std.proofs.Common.{Option, Some, None, refl, sym, ap, subst, ◌∙◌, arith}
 use Rattle.std.proofs.lemmas.Bool.{not-true, or_parts, ne_eqb}
 use Rattle.arrow_schema.specs.Answer.{answer_type}
-use Rattle.scan_base.specs.declared.fault.Fault.{Fault}
 use Rattle.scan_base.specs.declared.fault.Fault.TheVariants.{NotInSubset}
 use Rattle.scan_base.specs.Predicate.{Pred}
 use Rattle.sql_query.specs.declared.query.ColumnName.{ColumnName}
@@ -11,7 +10,6 @@ use Rattle.sql_query.specs.declared.query.Join.{Join}
 use Rattle.sql_query.specs.Sentence.{Sentence, is_grouped, is_all, is_left_out_whole}
 use Rattle.table_versions.specs.Database.{Database}
 use Rattle.typed_plan.specs.declared.plan.Output.{Output}
-use Rattle.typed_plan.specs.declared.plan.Output.TheVariants.{Project, Groups}
 use Rattle.typed_plan.specs.Bound.{places_fault, joins_fault, select_fault, rules_fault, fault_of}
 use Rattle.typed_plan.specs.Faults.{◌then◌, must, first_in, fault_in, class_of_name, predicate_fault, filter_fault}
 use Rattle.typed_plan.specs.Joined.{place_columns, scope_of}
@@ -19,7 +17,7 @@ use Rattle.typed_plan.specs.Numbered.{predicate_map}
 use Rattle.typed_plan.specs.Plan.{Tree}
 use Rattle.typed_plan.specs.Planned.{place_tree, joins_tree, from_tree, numbered_filter, where_kept, output_for, plan_for}
 use Rattle.typed_plan.specs.Scope.{Scope, column_of, numbered}
-use Rattle.typed_plan.specs.Typed.{types_of, class_of_number, is_place, output_types, HasOutput, is_grouping, IsTyped}
+use Rattle.typed_plan.specs.Typed.{class_of_number, is_place, output_types, HasOutput, is_grouping, IsTyped}
 use Rattle.typed_plan.proofs.ClassFollows.{predicate_follows}
 use Rattle.typed_plan.proofs.PlannedJoins.{must_none, HasTypes, joins_typed}
 use Rattle.typed_plan.proofs.PlannedOutput.{output_typed}
@@ -108,7 +106,7 @@ plan_typed query database e =
     let scope = scope_of query database in
     let parts = no_fault query database e in
     let first : HasTypes (place_columns database query.first) (place_tree database query.first) =
-        record { types = place_types database query.first; typed = refl } in
+    record { types = place_types database query.first; typed = refl } in
     let from = joins_typed database (place_columns database query.first) (place_tree database query.first) query.joins
     first parts.joins in
     let tree = where_typed scope (from_tree query database) query.filter from parts.filter in

@@ -1,9 +1,9 @@
 -- The types of the columns that the names of a query may stand for.
-use Rattle.std.proofs.Common.{◌≡◌, ◌<◌, ℕ, ◌+◌, true, false, if◌then◌else◌, List, [], ◌∷◌, ◌++◌, map, length, nat_lt}
-use Rattle.std.proofs.Common.{slice_get, unwrap_or, Option, Some, None, option_map, Result, Ok, Err, refl, sym, ap}
+use Rattle.std.proofs.Common.{◌≡◌, ◌<◌, ℕ, ◌+◌, true, false, if◌then◌else◌, List, [], ◌∷◌, map, length, nat_lt}
+use Rattle.std.proofs.Common.{Option, Some, None, option_map, Result, Ok, Err, refl, sym, ap}
 use Rattle.std.proofs.Common.{◌∙◌, arith}
 use Rattle.std.proofs.lemmas.Bool.{lt-ltb}
-use Rattle.std.proofs.lemmas.List.{length-map, map-append}
+use Rattle.std.proofs.lemmas.List.{length-map}
 use Rattle.std.proofs.lemmas.Option.{slice_get-map, slice_get-get_or}
 use Rattle.std.proofs.lemmas.Simd.{map-map}
 use Rattle.arrow_schema.specs.declared.data_type.DataType.{DataType}
@@ -13,9 +13,8 @@ use Rattle.scan_base.specs.declared.fault.Fault.{Fault}
 use Rattle.sql_query.specs.declared.query.ColumnName.{ColumnName}
 use Rattle.sql_query.specs.declared.query.Place.{Place}
 use Rattle.sql_query.specs.Sentence.{place_name}
-use Rattle.table_versions.specs.Table.{Name, Table}
+use Rattle.table_versions.specs.Table.{Table}
 use Rattle.table_versions.specs.Database.{Database, table_at}
-use Rattle.typed_plan.specs.declared.class.Class.{Class}
 use Rattle.typed_plan.specs.Scope.{Scope, ScopeColumn, stands_for, numbers_of, the_only, column_of, numbered, number_in}
 use Rattle.typed_plan.specs.Faults.{fault_in, class_at, class_of_column, class_of_name}
 use Rattle.typed_plan.specs.Joined.{fields_in, place_columns}
