@@ -5,22 +5,21 @@ use Rattle.std.specs.List.{AllByRecursion, list_any}
 use Rattle.std.specs.Str.{bytes_eq}
 use Rattle.scan_base.specs.declared.fault.Fault.TheVariants.{TableMissing, UnknownName, NotInSubset}
 use Rattle.scan_base.specs.Predicate.{Pred}
-use Rattle.sql_query.specs.declared.query.ColumnName.{ColumnName}
 use Rattle.sql_query.specs.declared.query.Join.{Join}
 use Rattle.sql_query.specs.declared.query.Place.{Place}
 use Rattle.sql_query.specs.Sentence.{Sentence, place_name, is_left_out_whole}
 use Rattle.table_versions.specs.Table.{Name, Table}
 use Rattle.table_versions.specs.Database.{Database, table_at, columns_of}
 use Rattle.typed_plan.specs.Scope.{Scope, column_of}
-use Rattle.typed_plan.specs.Joined.{place_columns, scope_of, kept, rows_between}
+use Rattle.typed_plan.specs.Joined.{place_columns, scope_of, kept}
 use Rattle.typed_plan.specs.Faults.{◌then◌, must, first_in, fault_in, filter_fault}
 use Rattle.typed_plan.specs.Bound.{place_fault, places_fault, joins_fault, select_fault, rules_fault, fault_of}
-use Rattle.typed_plan.specs.Plan.{Tree, joined as both, output_rows, tree_rows}
+use Rattle.typed_plan.specs.Plan.{Tree, joined as both, output_rows}
 use Rattle.typed_plan.specs.Planned.{schema_in, place_tree, keys_of, joins_tree, from_tree, numbered_filter, where_kept}
 use Rattle.typed_plan.specs.Planned.{output_for, plan_for}
 use Rattle.typed_plan.specs.Held.{tree_tables}
 use Rattle.typed_plan.specs.Typed.{IsOver}
-use Rattle.typed_plan.specs.Binding.{Means, IsPlanOf}
+use Rattle.typed_plan.specs.Binding.{IsPlanOf}
 use Rattle.typed_plan.proofs.TypedNames.{then_none}
 use Rattle.typed_plan.proofs.PlannedRows.{rows_are}
 use Rattle.typed_plan.proofs.PlannedGroups.{output_is}

@@ -1,6 +1,6 @@
 -- What a query's plan takes of rows is what the query selects of them, of each row or of each group.
 use Rattle.std.proofs.Common.{◌≡◌, ℕ, ◌+◌, ◌==◌, Bool, true, false, not, ◌||◌, if◌then◌else◌, List, [], ◌∷◌, ◌++◌, length}
-use Rattle.std.proofs.Common.{map, Option, None, Result, Ok, Err, refl, sym, ap, ◌∙◌, one-add}
+use Rattle.std.proofs.Common.{map, None, Result, Ok, Err, refl, sym, ap, ◌∙◌, one-add}
 use Rattle.std.specs.List.{AllByRecursion, list_any, fold}
 use Rattle.std.proofs.lemmas.Bool.{or_parts, eqb-true, eq-eqb}
 use Rattle.std.proofs.lemmas.List.{map-id}

@@ -25,9 +25,9 @@ use Rattle.sql_query.specs.Sentence.{Sentence}
 use Rattle.table_versions.specs.Table.{Row}
 use Rattle.table_versions.specs.Database.{Database}
 use Rattle.typed_plan.specs.declared.plan.JoinKey.{JoinKey}
-use Rattle.typed_plan.specs.Scope.{Scope, numbered, cell_of}
+use Rattle.typed_plan.specs.Scope.{Scope, numbered}
 use Rattle.typed_plan.specs.Joined.{place_columns, place_rows, scope_of, fits_on, extensions, rows_after, rows_between}
-use Rattle.typed_plan.specs.Joined.{joined, passes, kept}
+use Rattle.typed_plan.specs.Joined.{passes, kept}
 use Rattle.typed_plan.specs.Numbered.{operand_map, predicate_map}
 use Rattle.typed_plan.specs.Plan.{Tree, joined as both, is_true, fits, joined_rows, tree_rows}
 use Rattle.typed_plan.specs.Planned.{place_tree, key_of, keys_of, joins_tree, from_tree, numbered_filter, where_kept}
