@@ -2,7 +2,9 @@
 #![tactic(auto)]
 
 pub mod build;
+mod key_row;
 pub mod pair;
+mod rights;
 
 pub use crate::build::{Build, LeftSide, Probe};
 pub use crate::pair::Pair;
