@@ -2,9 +2,11 @@
 #![tactic(auto)]
 
 pub mod build;
+mod chains;
 mod key_row;
 pub mod pair;
 mod rights;
+mod walk;
 
 pub use crate::build::{Build, LeftSide, Probe};
 pub use crate::pair::Pair;
