@@ -44,6 +44,7 @@ impl<'a> Walk<'a> {
     fn first_in(&self, bucket: usize, from: usize) -> usize
         requires whole { IsWalk self.now }
         requires bucket { bucket_left self.now ≡ Some bucket }
+        requires within { bucket ≤ (self.now).rights.now.buckets.mask }
         ensures { Leads (in_chain self.now) (length (self.now).rights.now.places.items) from result }
     {
         if from == 0 {
