@@ -6,6 +6,7 @@ mod chains;
 mod key_row;
 pub mod pair;
 mod rights;
+mod search;
 mod walk;
 
 pub use crate::build::{Build, LeftSide, Probe};
