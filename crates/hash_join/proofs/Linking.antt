@@ -1,6 +1,6 @@
 -- Chains as they are linked, from the last row down.
-use Rattle.std.proofs.Common.{◌≡◌, ◌≢◌, ◌≤◌, ◌<◌, ◌+◌, ◌==◌, ℕ, Bool, true, false, List, length, get_or, Option, Some, None, inl, inr, refl, sym, ap, ◌∙◌, arith}
-use Rattle.std.proofs.lemmas.Bool.{cases_lt, eq-eqb}
+use Rattle.std.proofs.Common.{◌≡◌, ◌≤◌, ◌<◌, ◌+◌, ℕ, Bool, true, false, List, length, get_or, Option, Some, None, inl, inr, refl, sym, ap, ◌∙◌, arith}
+use Rattle.std.proofs.lemmas.Bool.{cases_lt}
 use Rattle.std.proofs.lemmas.Bool.Decides.{eqb_tells}
 use Rattle.std.proofs.lemmas.List.{get_or-set_other, length-set}
 use Rattle.std.proofs.lemmas.Grind.{get_or-set_at}
@@ -44,18 +44,18 @@ module _ (buckets : ℕ → Option ℕ) (mask count : ℕ) (heads links : List �
     links_count = length-set links row (get_or heads bucket 0) ∙ had.links_count;
     first = λ d le. elim (eqb_tells bucket d) [
       | inl same ↦ let e : d ≡ bucket = sym same.1 in
-        rw (get_or-set_at heads bucket d row 0 e (omega (arith, had.heads_count)))
-        (here_lead (λ r. stands (Some d) (buckets r)) count row (ap (stands (Some d)) is ∙ same.0))
+          rw (get_or-set_at heads bucket d row 0 e (omega (arith, had.heads_count)))
+          (here_lead (λ r. stands (Some d) (buckets r)) count row (ap (stands (Some d)) is ∙ same.0))
       | inr other ↦ rw (get_or-set_other heads bucket d row 0 (λ e. other.1 (sym e)))
-        (before_lead (λ r. stands (Some d) (buckets r)) count row (get_or heads d 0) (had.first d le) (ap (stands (Some d)) is ∙ other.0))
+          (before_lead (λ r. stands (Some d) (buckets r)) count row (get_or heads d 0) (had.first d le) (ap (stands (Some d)) is ∙ other.0))
     ];
     next = λ s b from to at. elim (cases_lt row s) [
       | inl lt ↦ rw (get_or-set_other links row s (get_or heads bucket 0) 0 (λ e. absurd (omega arith))) (had.next s b (omega arith) to at)
       | inr ge ↦
-        let e : s ≡ row = omega arith in
-        let f : buckets row ≡ Some b = ap buckets (sym e) ∙ at in
-        let g : b ≡ bucket = cc in
-        rw (e, g) (rw (get_or-set_at links row row (get_or heads bucket 0) 0 refl (omega (arith, had.links_count))) (had.first bucket le_mask))
+          let e : s ≡ row = omega arith in
+          let f : buckets row ≡ Some b = ap buckets (sym e) ∙ at in
+          let g : b ≡ bucket = cc in
+          rw (e, g) (rw (get_or-set_at links row row (get_or heads bucket 0) 0 refl (omega (arith, had.links_count))) (had.first bucket le_mask))
     ];
   }
 
@@ -68,7 +68,7 @@ module _ (buckets : ℕ → Option ℕ) (mask count : ℕ) (heads links : List �
     first = λ b le. record {
       after = omega (arith, ends b le);
       none = λ r from to. absurd (omega (arith, ends b le));
-      there = λ h. absurd (omega (arith, ends b le))
+      there = λ h. absurd (omega (arith, ends b le));
     };
     next = λ r b from to at. absurd (omega arith);
   }

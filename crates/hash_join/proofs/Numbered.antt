@@ -1,11 +1,10 @@
 -- The rows of the right side by their numbers.
-use Rattle.std.proofs.Common.{◌≡◌, ◌<◌, ℕ, true, List, [], All, length, get_or, refl, sym, ap, ◌∙◌, arith, nat_lt}
+use Rattle.std.proofs.Common.{◌≡◌, ◌<◌, ℕ, true, [], length, get_or, ap, ◌∙◌, nat_lt}
 use Rattle.std.specs.List.{list_all}
 use Rattle.std.proofs.lemmas.List.{get_or_read}
-use Rattle.std.proofs.lemmas.List.Elements.{All-get_or}
 use Rattle.arrays.specs.Batch.{BatchAt, row_of}
 use Rattle.hash_join.specs.declared.rights.Rights.{Rights}
-use Rattle.hash_join.specs.Pairs.{places, key_in, row_at}
+use Rattle.hash_join.specs.Pairs.{key_in, row_at}
 use Rattle.hash_join.specs.Places.{IsPlace}
 use Rattle.hash_join.specs.Rights.{place_at, key_at, AreRights}
 use Rattle.hash_join.proofs.Places.{place_there}

@@ -1,5 +1,5 @@
 -- The places of rows, batch by batch.
-use Rattle.std.proofs.Common.{◌≡◌, ◌≤◌, ◌<◌, ◌+◌, ℕ, zero, suc, List, [], ◌∷◌, ◌++◌, All, length, map, drop, get_or, refl, sym, ap, ◌∙◌, arith, append_assoc, add-one, length-append}
+use Rattle.std.proofs.Common.{◌≡◌, ◌≤◌, ◌<◌, ◌+◌, ℕ, suc, List, [], ◌∷◌, ◌++◌, All, length, map, drop, get_or, refl, sym, ap, ◌∙◌, arith, append_assoc, add-one, length-append}
 use Rattle.std.specs.List.{range_with_len, flat_map, zip}
 use Rattle.std.proofs.Math.Seq.{drop-cons}
 use Rattle.std.proofs.lemmas.List.Elements.{All-append}
@@ -33,13 +33,13 @@ each_place P number [] each = λ k d h. absurd (omega arith)
 each_place P number (batch ∷ batches) each =
     All-append P (places_in number batch.rows) (places_from (number + 1) batches)
     (λ k d h.
-      let within : k < batch.rows = omega (arith, h, length-map-range_with_len (in_batch number) 0 batch.rows) in
-      let same : number + 0 ≡ number = omega arith in
-      rw (get_or-map-range_with_len (in_batch number) 0 batch.rows k k d within (omega arith))
-      (rw same at (each 0 k (omega arith) within)))
+    let within : k < batch.rows = omega (arith, h, length-map-range_with_len (in_batch number) 0 batch.rows) in
+    let same : number + 0 ≡ number = omega arith in
+    rw (get_or-map-range_with_len (in_batch number) 0 batch.rows k k d within (omega arith))
+    (rw same at (each 0 k (omega arith) within)))
     (each_place P (number + 1) batches (λ i row h g.
-      let same : number + 1 + i ≡ number + suc i = omega arith in
-      rw same (each (suc i) row (omega arith) g)))
+    let same : number + 1 + i ≡ number + suc i = omega arith in
+    rw same (each (suc i) row (omega arith) g)))
 
 -- each of the places is one
 pub place_there : (batches : List BatchAt) (k : ℕ) → k < length (places batches) → IsPlace batches (get_or (places batches) k (0, 0))
@@ -62,8 +62,13 @@ pub rows_few : (batches : List BatchAt) (number : ℕ) (batch : BatchAt) (made w
 rows_few batches number batch made whole h is e =
     let rest = places_from (number + 1) (drop (number + 1) batches) in
     let all : made ++ (places_in number batch.rows ++ rest) ≡ whole = ap (λ after. made ++ after) (sym (next_batch batches number batch h is)) ∙ e in
-    omega (arith, ap length all, length-append made (places_in number batch.rows ++ rest), length-append (places_in number batch.rows) rest,
-      length-map-range_with_len (in_batch number) 0 batch.rows)
+    omega (
+      arith,
+      ap length all,
+      length-append made (places_in number batch.rows ++ rest),
+      length-append (places_in number batch.rows) rest,
+      length-map-range_with_len (in_batch number) 0 batch.rows,
+    )
 
 -- one batch more
 pub more_places : (batches : List BatchAt) (number : ℕ) (batch : BatchAt) (made whole : List (ℕ × ℕ)) → number < length batches →

@@ -1,10 +1,9 @@
 -- The pairs of a left batch are those of one left row after another.
-use Rattle.std.proofs.Common.{◌≡◌, ◌≤◌, ◌<◌, ◌+◌, ◌-◌, ◌==◌, ℕ, zero, suc, Bool, true, false, List, [], ◌∷◌, ◌++◌, length, map, drop, if◌then◌else◌, inl, inr, refl, sym, ap, ◌∙◌, arith, append_assoc}
+use Rattle.std.proofs.Common.{◌≡◌, ◌≤◌, ◌<◌, ◌+◌, ◌-◌, ◌==◌, ℕ, zero, suc, Bool, true, false, List, [], ◌++◌, length, map, drop, if◌then◌else◌, inl, inr, refl, sym, ap, ◌∙◌, arith, append_assoc}
 use Rattle.std.specs.List.{filter, flat_map, range_with_len}
 use Rattle.std.proofs.Math.ListN.{drop_of_length-le}
 use Rattle.std.proofs.lemmas.Bool.{eq-eqb}
 use Rattle.std.proofs.lemmas.Bool.Decides.{eqb_tells}
-use Rattle.std.proofs.lemmas.List.{append-nil}
 use Rattle.hash_join.specs.declared.build.Probe.{Probe}
 use Rattle.hash_join.specs.declared.pair.Pair.{Pair}
 use Rattle.hash_join.specs.declared.search.Search.{Search}
@@ -93,6 +92,6 @@ module _ (search : Search) (is : IsSearch search) where
     passed past =
         let rest = ahead_of search (probe_at (row + 1) 0) in
         let none : pairs_past (walk_at search row) stop ≡ [] =
-            ap (λ (places : List (ℕ × ℕ)). map (pair_at (walk_at search row)) (filter (joins_at (walk_at search row)) places))
-            (drop_of_length-le search.rights.now.places.items past) in
+        ap (λ (places : List (ℕ × ℕ)). map (pair_at (walk_at search row)) (filter (joins_at (walk_at search row)) places))
+        (drop_of_length-le search.rights.now.places.items past) in
         ap (λ ahead. more ++ ahead) (sym (ap (λ first. first ++ rest) none) ∙ sym (ahead_first row stop h)) ∙ stopped

@@ -4,7 +4,7 @@ use Rattle.std.specs.List.{filter}
 use Rattle.std.proofs.Math.ListN.{drop_of_length-le}
 use Rattle.std.proofs.Math.Seq.{drop-cons}
 use Rattle.std.proofs.lemmas.Bool.{cases_lt}
-use Rattle.std.proofs.lemmas.List.{append-nil, length-map}
+use Rattle.std.proofs.lemmas.List.{length-map}
 use Rattle.arrays.specs.Batch.{row_of}
 use Rattle.scan_base.specs.Predicate.{cell_in}
 use Rattle.hash_join.specs.declared.pair.Pair.{Pair}
@@ -22,13 +22,13 @@ skip : {X : Type 0} (p : X → Bool) (xs : List X) (d : X) (k a : ℕ) →
 skip p xs d zero a none = let e : a + zero ≡ a = omega arith in rw e refl
 skip p xs d (suc k) a none = elim (cases_lt a (length xs)) [
   | inl lt ↦
-    let e : a + suc k ≡ a + 1 + k = omega arith in
-    let miss : p (get_or xs a d) ≡ false = none a (omega arith) (omega arith) lt in
-    let rest = skip p xs d k (a + 1) (λ i h l. none i (omega arith) (omega arith)) in
-    rw (e, drop-cons xs a d lt, miss) (ap (λ n. filter p (drop n xs)) (sym (add-one a)) ∙ rest)
+      let e : a + suc k ≡ a + 1 + k = omega arith in
+      let miss : p (get_or xs a d) ≡ false = none a (omega arith) (omega arith) lt in
+      let rest = skip p xs d k (a + 1) (λ i h l. none i (omega arith) (omega arith)) in
+      rw (e, drop-cons xs a d lt, miss) (ap (λ n. filter p (drop n xs)) (sym (add-one a)) ∙ rest)
   | inr ge ↦
-    let l : length xs ≤ a + suc k = omega arith in
-    ap (filter p) (drop_of_length-le xs ge ∙ sym (drop_of_length-le xs l))
+      let l : length xs ≤ a + suc k = omega arith in
+      ap (filter p) (drop_of_length-le xs ge ∙ sym (drop_of_length-le xs l))
 ]
 
 -- the first item by itself
@@ -105,8 +105,8 @@ module _ (walk : Walk) (is : IsWalk walk) where
       let lead = next_leads row lt (had.there lt) in
       record {
         all = append_assoc made (pair_of_row row) (pairs_past walk next)
-          ∙ ap (λ rest. made ++ (pair_of_row row ++ rest)) (sym (lead_same (row + 1) next lead))
-          ∙ ap (λ rest. made ++ rest) (sym (first_pair row lt)) ∙ had.all;
+            ∙ ap (λ rest. made ++ (pair_of_row row ++ rest)) (sym (lead_same (row + 1) next lead))
+            ∙ ap (λ rest. made ++ rest) (sym (first_pair row lt)) ∙ had.all;
         there = lead.there;
         few = omega (arith, length-append made (pair_of_row row), one_at_most row);
       }
@@ -120,7 +120,7 @@ module _ (walk : Walk) (is : IsWalk walk) where
   none_joins from past null le =
       let count = length walk.rights.now.places.items in
       let all_miss = skip (joins_at walk) walk.rights.now.places.items (0, 0) count from
-          (λ row h l within. misses row (ap (λ left. stands left (bucket_at walk.rights.now row)) null)) in
+      (λ row h l within. misses row (ap (λ left. stands left (bucket_at walk.rights.now row)) null)) in
       let l : count ≤ from + count = omega arith in
       ap (map (pair_at walk)) (all_miss
       ∙ ap (filter (joins_at walk)) (drop_of_length-le walk.rights.now.places.items l ∙ sym (drop_of_length-le walk.rights.now.places.items le)))

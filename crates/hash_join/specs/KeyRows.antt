@@ -1,5 +1,5 @@
 -- Inside: a row by its key, as the code keeps it.
-use Rattle.std.specs.Prelude.{◌<◌, ℕ, List, IsTrue, length, nat_lt}
+use Rattle.std.specs.Prelude.{◌<◌, List, IsTrue, length, nat_lt}
 use Rattle.std.specs.List.{list_all}
 use Rattle.scan_base.specs.declared.value.Value.{Value}
 use Rattle.arrays.specs.Batch.{row_of}

@@ -7,7 +7,7 @@ use Rattle.hash_join.specs.Pairs.{keys_join}
 use Rattle.hash_join.specs.Hashes.{bucket_of}
 use Rattle.hash_join.specs.KeyRows.{key_of, IsKeyRow}
 use Rattle.hash_join.specs.Rights.{key_from, bucket_at, AreRights}
-use Rattle.hash_join.specs.Chains.{stands, Leads, HasLinked}
+use Rattle.hash_join.specs.Chains.{stands, HasLinked}
 
 -- whether the left row joins the right row at a place
 abbrev pub joins_at : Walk → ℕ × ℕ → Bool

@@ -1,4 +1,4 @@
-use Rattle.std.proofs.Common.{◌≡◌, ◌≤◌, ◌+◌, ◌++◌, ap, sym, ◌∙◌, arith, length, drop}
+use Rattle.std.proofs.Common.{◌+◌, ◌++◌, ap, sym, ◌∙◌, arith, drop}
 use Rattle.hash_join.specs.Pairs.{places}
 use Rattle.hash_join.specs.Places.{places_from}
 use Rattle.hash_join.proofs.Places.{places_in, places_is, rows_few, more_places}

@@ -1,4 +1,4 @@
-use Rattle.std.proofs.Common.{ap, ◌++◌, ◌∷◌, [], ◌∙◌, sym, append_assoc, arith, ℕ, map}
+use Rattle.std.proofs.Common.{ap, ◌++◌, ◌∷◌, [], ◌∙◌, sym, append_assoc, arith, map}
 use Rattle.std.specs.List.{range_with_len}
 use Rattle.std.proofs.lemmas.List.FromFn.{map-range_with_len_more}
 use Rattle.hash_join.proofs.Places.{in_batch}

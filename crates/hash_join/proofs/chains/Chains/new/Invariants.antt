@@ -1,4 +1,3 @@
-use Rattle.std.proofs.Common.{length}
 use Rattle.hash_join.specs.Chains.{HasLinked}
 use Rattle.hash_join.proofs.chains.Chains.new.Given as goal
 

@@ -1,5 +1,4 @@
 use Rattle.std.proofs.Common.{ap, get_or, ◌∙◌}
-use Rattle.arrays.specs.Column.{ColumnAt}
 use Rattle.hash_join.proofs.Cells.{part_at}
 use Rattle.hash_join.proofs.key_row.KeyRow.part.Goals as goal
 

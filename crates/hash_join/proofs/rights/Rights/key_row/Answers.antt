@@ -1,4 +1,4 @@
-use Rattle.std.proofs.Common.{◌≡◌, arith, ap, sym, ◌∙◌, true, IsTrue, nat_lt, List, ℕ, length}
+use Rattle.std.proofs.Common.{arith, ap, ◌∙◌, nat_lt, List, ℕ, length}
 use Rattle.std.specs.List.{list_all}
 use Rattle.arrays.specs.Batch.{row_of}
 use Rattle.hash_join.specs.Pairs.{key_in}
@@ -16,7 +16,7 @@ returns-clause-row c =
     record {
       row = row_there c.args.self.now c.args.number c.index.result.now c.requires.whole c.requires.within c.index.ensures batch c.index-2.ensures;
       columns = ap (λ (key : List ℕ). list_all (λ column. nat_lt column (length batch.columns)) key) c.as_slice.ensures.value
-        ∙ columns_there c.args.self.now c.args.number c.index.result.now c.requires.whole c.requires.within c.index.ensures batch c.index-2.ensures;
+          ∙ columns_there c.args.self.now c.args.number c.index.result.now c.requires.whole c.requires.within c.index.ensures batch c.index-2.ensures;
     }
 
 pub returns-clause-key : goal.returns-clause-key
