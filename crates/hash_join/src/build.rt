@@ -88,7 +88,8 @@ impl Build {
         self.rights.batches.as_slice()
     }
 
-    /// The next pairs of a left batch, no more than `most`, in the order of nested loops, the left outermost: none where none is left. A null joins nothing.
+    /// The next pairs of a left batch, no more than `most`, in the order of nested loops, the left outermost: none where none
+    /// is left. A null joins nothing.
     ///
     /// # Errors
     ///
