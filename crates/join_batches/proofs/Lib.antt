@@ -1,0 +1,6 @@
+pub mod Typed
+pub mod Cells
+pub mod Short
+pub mod Made
+pub mod Looping
+pub mod There

@@ -1,6 +1,6 @@
 //! The rows that pairs stand for, as columns.
 
-ghost use Rattle.std.specs.Prelude.{◌≡◌, ◌<◌, ℕ, All, IfOk, length, map, slice_index_or};
+ghost use Rattle.std.specs.Prelude.{◌≡◌, ◌<◌, ◌+◌, ℕ, All, IfOk, length, map, slice_index_or};
 ghost use Rattle.std.specs.List.{AllZip, range_with_len};
 ghost use Rattle.arrow_schema.specs.Answer.{answer_type};
 ghost use Rattle.arrays.specs.Typed.{AreOf};
@@ -114,6 +114,7 @@ impl<'a> Sides<'a> {
     }
 
     // The slots of a column of the left batch, one for each pair.
+    #[tactic(auto, using(crate::proofs::Typed::typed_long))]
     fn left_slots(
         &self,
         alloc: Global,
@@ -135,6 +136,7 @@ impl<'a> Sides<'a> {
     }
 
     // The slots of a column of the right batches, one for each pair.
+    #[tactic(auto, using(crate::proofs::Typed::typed_long))]
     fn right_slots(
         &self,
         alloc: Global,
