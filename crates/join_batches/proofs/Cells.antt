@@ -1,7 +1,8 @@
 -- The cells of the rows that pairs stand for, and slots that have them.
-use Rattle.std.proofs.Common.{◌≡◌, ◌≤◌, ◌<◌, ℕ, suc, ◌+◌, List, [], ◌∷◌, ◌++◌, All, length, map, get_or, refl, sym, ap, ◌∙◌, arith, length-append, subst}
-use Rattle.std.proofs.lemmas.List.{get_or-map, length-map, get_or_append_left, get_or-append-add}
+use Rattle.std.proofs.Common.{◌≡◌, ◌≤◌, ◌<◌, ℕ, zero, suc, ◌+◌, List, [], ◌∷◌, ◌++◌, All, length, map, get_or, take, refl, sym, ap, ◌∙◌, arith, length-append, subst}
+use Rattle.std.proofs.lemmas.List.{take_more, get_or-map, length-map, get_or_append_left, get_or-append-add}
 use Rattle.std.proofs.lemmas.List.Elements.{All-nil, All-cons}
+use Rattle.std.proofs.lemmas.Slice.Zip.{all_zipped_more}
 use Rattle.std.proofs.lemmas.Option.{unwrap_or-slice_get}
 use Rattle.arrow_schema.specs.declared.data_type.DataType.{DataType}
 use Rattle.arrow_schema.specs.declared.data_type.DataType.TheVariants.{Utf8}
@@ -90,7 +91,41 @@ right_holds sides number pair slot are is long h column place =
         (subst (λ (c : ColumnAt). IsOfType (get_or sides.right_types.now number Utf8) c.layout) (sym column) typed));
     }
 
+-- whichever default a place that is there has
+same_at : {X : Type 0} (xs : List X) (place : ℕ) (one other : X) → place < length xs → get_or xs place one ≡ get_or xs place other
+same_at [] place one other h = absurd (omega (arith, h))
+same_at (x ∷ xs) zero one other h = refl
+same_at (x ∷ xs) (suc place) one other h = same_at xs place one other (omega (arith, h))
+
+-- the slot of a left column that was found
+pub left_found : (sides : Sides) (number : ℕ) (pair : Pair) (slot : SlotRef) (columns : List ColumnAt) → AreSides sides →
+    IsPair sides.rights.now sides.left.now pair → columns ≡ sides.left.now.columns → AreLong sides.left.now.rows columns →
+    number < length sides.left_types.now → slot.column.now ≡ get_or columns number slot.column.now → slot.place ≡ pair.left → HoldsCell sides number pair slot
+left_found sides number pair slot columns are is e long h column place =
+    left_holds sides number pair slot are is (subst (AreLong sides.left.now.rows) e long) h
+    (column ∙ ap (λ (some : List ColumnAt). get_or some number slot.column.now) e) place
+
+-- the slot of a right column that was found
+pub right_found : (sides : Sides) (number : ℕ) (pair : Pair) (slot : SlotRef) (batch : BatchAt) (columns : List ColumnAt) → AreSides sides →
+    IsPair sides.rights.now sides.left.now pair → batch ≡ get_or sides.rights.now pair.batch batch → columns ≡ batch.columns → AreLong batch.rows columns →
+    number < length sides.right_types.now → slot.column.now ≡ get_or columns number slot.column.now → slot.place ≡ pair.row →
+    HoldsCell sides (length sides.left_types.now + number) pair slot
+right_found sides number pair slot batch columns are is there e long h column place =
+    let same : batch ≡ batch_at sides.rights.now pair.batch =
+    there ∙ same_at sides.rights.now pair.batch batch (record { columns = []; rows = 0 }) is.batch in
+    right_holds sides number pair slot are is
+    (subst (λ (b : BatchAt). AreLong b.rows b.columns) same (subst (AreLong batch.rows) e long)) h
+    (column ∙ ap (λ (some : List ColumnAt). get_or some number slot.column.now) (e ∙ ap (λ (b : BatchAt). b.columns) same)) place
+
 -- ---- a slot for each pair
+
+-- one pair more
+pub held_more : (sides : Sides) (number : ℕ) (pairs : List Pair) (place : ℕ) (other : Pair) (slots all : List SlotRef) (slot : SlotRef) → place < length pairs →
+    all ≡ slots ++ slot ∷ [] → HoldCells sides number (take place pairs) slots → HoldsCell sides number (get_or pairs place other) slot →
+    HoldCells sides number (take (place + 1) pairs) all
+held_more sides number pairs place other slots all slot h e hold is =
+    rw (e, take_more pairs place other h)
+    (all_zipped_more (HoldsCell sides number) (take place pairs) slots (get_or pairs place other) slot hold is)
 
 pub held_values : (sides : Sides) (number : ℕ) (pairs : List Pair) (slots : List SlotRef) → HoldCells sides number pairs slots →
     map slot_value slots ≡ cells_of (rows_at sides pairs) number

@@ -1,19 +1,25 @@
 -- Batches of the columns of rows have those rows.
-use Rattle.std.proofs.Common.{◌≡◌, ◌≤◌, ◌<◌, ℕ, zero, suc, ◌+◌, List, [], ◌∷◌, ◌++◌, All, length, map, get_or, refl, sym, ap, ◌∙◌, arith, subst}
+use Rattle.std.proofs.Common.{◌≡◌, ◌≤◌, ◌<◌, ℕ, zero, suc, ◌+◌, List, [], ◌∷◌, ◌++◌, All, length, map, get_or, take, refl, sym, ap, ◌∙◌, arith, subst}
 use Rattle.std.specs.List.{AllZip, range_with_len}
-use Rattle.std.proofs.lemmas.List.{get_or-map, length-map}
-use Rattle.std.proofs.lemmas.List.Elements.{All-nil, All-cons}
+use Rattle.std.proofs.lemmas.List.{get_or-map, length-map, length-take-le}
+use Rattle.std.proofs.lemmas.List.Elements.{All-nil, All-cons, All-map, All-take, All-weaker}
 use Rattle.std.proofs.lemmas.List.FromFn.{fill_by_all, get_or-map-range_with_len}
 use Rattle.std.proofs.lemmas.Option.{unwrap_or-slice_get}
 use Rattle.std.proofs.lemmas.Slice.Zip.{all_zipped_more}
+use Rattle.arrow_schema.specs.Answer.{answer_type}
 use Rattle.scan_base.specs.declared.value.Value.{Value}
 use Rattle.scan_base.specs.declared.value.Value.TheVariants.{Null}
 use Rattle.scan_base.specs.Predicate.{cell_in}
 use Rattle.arrays.specs.Batch.{BatchAt, AreLong, rows_of, row_of}
 use Rattle.arrays.specs.Column.{ColumnAt, slot_of}
+use Rattle.arrays.specs.Typed.{AreOf}
 use Rattle.arrays.specs.Written.{texts_joined}
+use Rattle.hash_join.specs.declared.pair.Pair.{Pair}
+use Rattle.join_batches.specs.declared.sides.Sides.{Sides}
+use Rattle.join_batches.specs.Rows.{pair_row, IsPair}
 use Rattle.join_batches.specs.Joiner.{most_joined_bytes, text_bytes_of}
-use Rattle.join_batches.specs.Sides.{AreShort, IsColumnOf, cells_of}
+use Rattle.join_batches.specs.Sides.{types_of, width_of, AreSides, ArePairs, AllFit, AreShort, IsColumnOf, IsBatchOf, rows_at, cells_of}
+use Rattle.join_batches.proofs.Cells.{row_wide}
 
 -- one number more
 range_more : (a n j : ℕ) → a + n ≡ j → range_with_len a (n + 1) ≡ range_with_len a n ++ j ∷ []
@@ -79,3 +85,22 @@ module _ (rows : List (List Value)) where
       All-cons (λ (column : ColumnAt). text_bytes_of column ≤ most_joined_bytes) column columns
       (omega (arith, few, ap (λ values. length (texts_joined values)) all.0.values))
       (all_light (from + 1) n columns all.1 (λ number h. short number (omega (arith, h))) many)
+
+-- a joined batch of so many rows
+pub batch_made : (sides : Sides) (pairs : List Pair) (count : ℕ) (columns : List ColumnAt) → AreSides sides → ArePairs sides pairs →
+    AllFit sides pairs (width_of sides) count → AllZip (IsColumnOf (rows_at sides (take count pairs))) (range_with_len 0 (width_of sides)) columns →
+    AreOf (map answer_type (types_of sides)) columns → IsBatchOf sides pairs (record { columns = columns; rows = count })
+batch_made sides pairs count columns are there fit all typed =
+    let rows = rows_at sides (take count pairs) in
+    let few = fit.within in
+    let size : length rows ≡ count = length-map (take count pairs) (pair_row sides.rights.now sides.left.now) ∙ length-take-le count pairs few in
+    record {
+      some = fit.some;
+      few = few;
+      rows_are = rows_there rows (width_of sides) (record { columns = columns; rows = count }) all (sym size)
+          (All-map (λ (row : List Value). length row ≡ width_of sides) (pair_row sides.rights.now sides.left.now) (take count pairs)
+          (All-weaker (IsPair sides.rights.now sides.left.now) (λ (pair : Pair). length (pair_row sides.rights.now sides.left.now pair) ≡ width_of sides)
+          (λ pair is. row_wide sides pair are is) (take count pairs) (All-take (IsPair sides.rights.now sides.left.now) count pairs there)));
+      typed = typed;
+      light = λ many. all_light rows 0 (width_of sides) columns all (λ number h. fit.short number (omega (arith, h))) (omega (arith, many, size));
+    }
