@@ -106,13 +106,13 @@ left_found sides number pair slot columns are is e long h column place =
     (column ∙ ap (λ (some : List ColumnAt). get_or some number slot.column.now) e) place
 
 -- the slot of a right column that was found
-pub right_found : (sides : Sides) (number : ℕ) (pair : Pair) (slot : SlotRef) (batch : BatchAt) (columns : List ColumnAt) → AreSides sides →
-    IsPair sides.rights.now sides.left.now pair → batch ≡ get_or sides.rights.now pair.batch batch → columns ≡ batch.columns → AreLong batch.rows columns →
-    number < length sides.right_types.now → slot.column.now ≡ get_or columns number slot.column.now → slot.place ≡ pair.row →
-    HoldsCell sides (length sides.left_types.now + number) pair slot
-right_found sides number pair slot batch columns are is there e long h column place =
-    let same : batch ≡ batch_at sides.rights.now pair.batch =
-    there ∙ same_at sides.rights.now pair.batch batch (record { columns = []; rows = 0 }) is.batch in
+pub right_found : (sides : Sides) (number : ℕ) (pair : Pair) (slot : SlotRef) (other : BatchAt) (columns : List ColumnAt) → AreSides sides →
+    IsPair sides.rights.now sides.left.now pair → columns ≡ (get_or sides.rights.now pair.batch other).columns →
+    AreLong (get_or sides.rights.now pair.batch other).rows columns → number < length sides.right_types.now →
+    slot.column.now ≡ get_or columns number slot.column.now → slot.place ≡ pair.row → HoldsCell sides (length sides.left_types.now + number) pair slot
+right_found sides number pair slot other columns are is e long h column place =
+    let batch = get_or sides.rights.now pair.batch other in
+    let same : batch ≡ batch_at sides.rights.now pair.batch = same_at sides.rights.now pair.batch other (record { columns = []; rows = 0 }) is.batch in
     right_holds sides number pair slot are is
     (subst (λ (b : BatchAt). AreLong b.rows b.columns) same (subst (AreLong batch.rows) e long)) h
     (column ∙ ap (λ (some : List ColumnAt). get_or some number slot.column.now) (e ∙ ap (λ (b : BatchAt). b.columns) same)) place

@@ -4,3 +4,4 @@ pub mod Short
 pub mod Made
 pub mod Looping
 pub mod There
+pub mod Giving

@@ -12,5 +12,5 @@ loop-pair-preserved c =
     held_more sides (length sides.left_types.now + c.args.number) pairs place other c.loop-pair.slots.items c.push.new.self.items _ c.loop-pair-test.true
     c.in_ok-push.ensures.items c.loop-pair.invariant
     (right_found sides c.args.number (get_or pairs place other) _ c.index-self-pair.result c.columns.result.now c.requires.sides
-    (c.requires.there place other c.loop-pair-test.true) c.index-self-pair.is c.columns.ensures.columns c.columns.ensures.long c.requires.number
+    (c.requires.there place other c.loop-pair-test.true) c.columns.ensures.columns c.columns.ensures.long c.requires.number
     c.index-columns-number.is refl)
