@@ -1,5 +1,5 @@
 -- The cells of the rows that pairs stand for, and slots that have them.
-use Rattle.std.proofs.Common.{◌≡◌, ◌≤◌, ◌<◌, ℕ, zero, suc, ◌+◌, List, [], ◌∷◌, ◌++◌, All, length, map, get_or, take, refl, sym, ap, ◌∙◌, arith, length-append, subst}
+use Rattle.std.proofs.Common.{◌≡◌, ◌<◌, ℕ, zero, suc, ◌+◌, List, [], ◌∷◌, ◌++◌, All, length, map, get_or, take, refl, sym, ap, ◌∙◌, arith, length-append, subst}
 use Rattle.std.proofs.lemmas.List.{take_more, get_or-map, length-map, get_or_append_left, get_or-append-add}
 use Rattle.std.proofs.lemmas.List.Elements.{All-nil, All-cons}
 use Rattle.std.proofs.lemmas.Slice.Zip.{all_zipped_more}
@@ -32,7 +32,7 @@ left_cell : (rights : List BatchAt) (left : BatchAt) (pair : Pair) (number : ℕ
 left_cell rights left pair number other h =
     unwrap_or-slice_get (pair_row rights left pair) number Null
     ∙ get_or_append_left (row_of left.columns pair.left) (row_at rights (pair.batch, pair.row)) Null number
-      (omega (arith, h, length-map left.columns (λ column. slot_of column pair.left)))
+    (omega (arith, h, length-map left.columns (λ column. slot_of column pair.left)))
     ∙ cell_at left.columns pair.left number other h
 
 -- a cell of the right row
@@ -62,9 +62,11 @@ left_holds sides number pair slot are is long h column place =
       value =
           ap (λ (c : ColumnAt). slot_of c slot.place) column ∙ ap (slot_of (get_or left.columns number slot.column.now)) place
           ∙ sym (left_cell sides.rights.now left pair number slot.column.now within);
-      there = (omega (arith, place, size, is.left_row),
+      there = (
+        omega (arith, place, size, is.left_row),
         subst (λ (t : DataType). IsOfType t slot.column.now.layout) (sym of)
-        (subst (λ (c : ColumnAt). IsOfType (get_or sides.left_types.now number Utf8) c.layout) (sym column) typed));
+            (subst (λ (c : ColumnAt). IsOfType (get_or sides.left_types.now number Utf8) c.layout) (sym column) typed),
+      );
     }
 
 -- a slot of a right column has the cell
@@ -86,9 +88,11 @@ right_holds sides number pair slot are is long h column place =
       value =
           ap (λ (c : ColumnAt). slot_of c slot.place) column ∙ ap (slot_of (get_or right.columns number slot.column.now)) place
           ∙ sym (right_cell sides.rights.now left pair (length sides.left_types.now) number slot.column.now (typed_long sides.left_types.now left.columns are.left) within);
-      there = (omega (arith, place, size, is.right_row),
+      there = (
+        omega (arith, place, size, is.right_row),
         subst (λ (t : DataType). IsOfType t slot.column.now.layout) (sym of)
-        (subst (λ (c : ColumnAt). IsOfType (get_or sides.right_types.now number Utf8) c.layout) (sym column) typed));
+            (subst (λ (c : ColumnAt). IsOfType (get_or sides.right_types.now number Utf8) c.layout) (sym column) typed),
+      );
     }
 
 -- whichever default a place that is there has

@@ -1,9 +1,8 @@
 -- What a joiner gives next.
-use Rattle.std.proofs.Common.{◌≡◌, ◌≤◌, ◌<◌, ℕ, zero, suc, ◌+◌, ◌-◌, List, [], ◌∷◌, ◌++◌, All, length, map, take, drop, get_or, nat_lt, refl, sym, ap, ◌∙◌, subst, arith, true, append_assoc, length-drop}
+use Rattle.std.proofs.Common.{◌≡◌, ◌≤◌, ◌<◌, ℕ, ◌+◌, List, [], ◌++◌, All, length, map, take, drop, nat_lt, refl, sym, ap, ◌∙◌, subst, arith, true, append_assoc, length-drop}
 use Rattle.std.specs.Global.{Vec}
 use Rattle.std.specs.List.{list_all}
 use Rattle.std.proofs.lemmas.List.{map-append, take-append-drop, drop_all, drop-drop}
-use Rattle.std.proofs.lemmas.List.Elements.{All-drop}
 use Rattle.arrow_schema.specs.declared.data_type.DataType.{DataType}
 use Rattle.arrow_schema.specs.Answer.{answer_type}
 use Rattle.scan_base.specs.declared.value.Value.{Value}
@@ -16,7 +15,7 @@ use Rattle.join_batches.specs.declared.joiner.Joiner.TheInside.{Inside}
 use Rattle.join_batches.specs.declared.sides.Sides.{Sides}
 use Rattle.join_batches.specs.Joiner.{GivesJoined, most_joined_rows}
 use Rattle.join_batches.specs.Rows.{pair_row, IsPair}
-use Rattle.join_batches.specs.Sides.{AreSides, ArePairs, IsBatchOf}
+use Rattle.join_batches.specs.Sides.{AreSides, IsBatchOf}
 use Rattle.join_batches.specs.Held.{joiner_of, IsJoiner}
 use Rattle.join_batches.proofs.Typed.{typed_long}
 

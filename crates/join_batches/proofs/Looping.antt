@@ -1,14 +1,11 @@
 -- The rows that pairs stand for are those of nested loops.
-use Rattle.std.proofs.Common.{◌≡◌, ◌≤◌, ◌<◌, ℕ, zero, suc, ◌+◌, ◌-◌, ◌==◌, Bool, true, false, if◌then◌else◌, List, [], ◌∷◌, ◌++◌, length, map, drop, get_or, zip, refl, sym, ap, ◌∙◌, arith}
+use Rattle.std.proofs.Common.{◌≡◌, ℕ, zero, suc, ◌+◌, ◌-◌, ◌==◌, Bool, true, false, if◌then◌else◌, List, [], ◌∷◌, ◌++◌, length, map, drop, zip, refl, ap, ◌∙◌, arith}
 use Rattle.std.specs.List.{filter, flat_map, range_with_len}
 use Rattle.std.proofs.lemmas.List.{map-append}
-use Rattle.std.proofs.Math.Seq.{drop-append_seam, drop-cons}
 use Rattle.scan_base.specs.declared.value.Value.{Value}
 use Rattle.arrays.specs.Batch.{BatchAt, rows_of, row_of}
 use Rattle.hash_join.specs.declared.pair.Pair.{Pair}
-use Rattle.hash_join.specs.declared.build.Probe.{Probe}
 use Rattle.hash_join.specs.Pairs.{BuildAt, key_in, keys_join, places, row_at, pairs_of, pairs_ahead}
-use Rattle.join_batches.specs.Joiner.{JoinerAt, joined_with, joined_of}
 use Rattle.join_batches.specs.Rows.{batch_at, pair_row}
 
 -- ---- the rows at all places are all rows
@@ -30,8 +27,8 @@ rows_from all (batch ∷ rest) number is =
     map-append (row_at all) (map (λ (row : ℕ). (number, row)) (range_with_len 0 batch.rows))
     (flat_map (λ (p : ℕ × BatchAt). map (λ row. (p.0, row)) (range_with_len 0 p.1.rows)) (zip (range_with_len (number + 1) (length rest)) rest))
     ∙ ap (λ (front : List (List Value)). front ++ map (row_at all)
-      (flat_map (λ (p : ℕ × BatchAt). map (λ row. (p.0, row)) (range_with_len 0 p.1.rows)) (zip (range_with_len (number + 1) (length rest)) rest)))
-      (rows_in all batch number (first all number is) (range_with_len 0 batch.rows))
+    (flat_map (λ (p : ℕ × BatchAt). map (λ row. (p.0, row)) (range_with_len 0 p.1.rows)) (zip (range_with_len (number + 1) (length rest)) rest)))
+    (rows_in all batch number (first all number is) (range_with_len 0 batch.rows))
     ∙ ap (λ (back : List (List Value)). rows_of batch ++ back) (rows_from all rest (number + 1) (next all number is))
   where
     first : (all : List BatchAt) (number : ℕ) → drop number all ≡ batch ∷ rest → batch_at all number ≡ batch
@@ -92,10 +89,10 @@ module _ (build : BuildAt) (left : BatchAt) (key : List ℕ) where
       map-append (pair_row build.batches left) (pairs_of build left key row (if row == 0 then 0 else 0))
       (flat_map (λ row. pairs_of build left key row (if row == 0 then 0 else 0)) rows)
       ∙ ap (λ (front : List (List Value)). front ++ map (pair_row build.batches left)
-        (flat_map (λ row. pairs_of build left key row (if row == 0 then 0 else 0)) rows))
-        (ap (λ (from : ℕ). map (pair_row build.batches left) (pairs_of build left key row from)) (nothing_yet (row == 0))
-        ∙ of_row row (places build.batches)
-        ∙ ap (λ (some : List (List Value)). with_each build key some (row_of left.columns row)) (rows_at_places build.batches))
+      (flat_map (λ row. pairs_of build left key row (if row == 0 then 0 else 0)) rows))
+      (ap (λ (from : ℕ). map (pair_row build.batches left) (pairs_of build left key row from)) (nothing_yet (row == 0))
+      ∙ of_row row (places build.batches)
+      ∙ ap (λ (some : List (List Value)). with_each build key some (row_of left.columns row)) (rows_at_places build.batches))
       ∙ ap (λ (back : List (List Value)). with_each build key (flat_map rows_of build.batches) (row_of left.columns row) ++ back) (of_rows rows)
 
   -- the rows that all pairs stand for are those of nested loops

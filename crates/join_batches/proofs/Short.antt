@@ -1,6 +1,6 @@
 -- Texts that are short, of fewer values too.
-use Rattle.std.proofs.Common.{◌≡◌, ◌≤◌, ◌<◌, ℕ, zero, suc, ◌+◌, List, [], ◌∷◌, length, map, take, refl, sym, ap, ◌∙◌, arith, length-append, length-take, subst, below_more}
-use Rattle.std.proofs.lemmas.List.{take-map, take-take, length-map}
+use Rattle.std.proofs.Common.{◌≡◌, ◌≤◌, ◌<◌, ℕ, zero, suc, ◌+◌, List, [], ◌∷◌, length, take, sym, ap, ◌∙◌, arith, length-append, length-take, subst, below_more}
+use Rattle.std.proofs.lemmas.List.{take-map, take-take}
 use Rattle.scan_base.specs.declared.value.Value.{Value}
 use Rattle.scan_base.specs.Predicate.{cell_in}
 use Rattle.arrays.specs.declared.of_slots.SlotRef.{SlotRef}

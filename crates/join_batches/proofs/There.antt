@@ -1,5 +1,5 @@
 -- The places of pairs are there.
-use Rattle.std.proofs.Common.{◌≡◌, ◌≤◌, ◌<◌, ℕ, zero, suc, ◌+◌, ◌-◌, ◌==◌, List, [], ◌∷◌, ◌++◌, All, length, map, drop, get_or, zip, if◌then◌else◌, refl, sym, ap, ◌∙◌, arith, subst}
+use Rattle.std.proofs.Common.{◌≡◌, ◌≤◌, ◌<◌, ℕ, zero, suc, ◌+◌, ◌-◌, ◌==◌, List, [], ◌∷◌, ◌++◌, All, length, map, drop, zip, if◌then◌else◌, refl, sym, ap, arith, subst}
 use Rattle.std.specs.List.{filter, flat_map, range_with_len}
 use Rattle.std.proofs.lemmas.List.Elements.{All-nil, All-cons, All-head, All-tail, All-append, All-map, All-filter, All-drop, All-weaker}
 use Rattle.arrays.specs.Batch.{BatchAt, row_of}
@@ -31,9 +31,9 @@ places_from all (batch ∷ rest) number is =
     All-append (IsPlace all) (map (λ (row : ℕ). (number, row)) (range_with_len 0 batch.rows))
     (flat_map (λ (p : ℕ × BatchAt). map (λ row. (p.0, row)) (range_with_len 0 p.1.rows)) (zip (range_with_len (number + 1) (length rest)) rest))
     (All-map (IsPlace all) (λ (row : ℕ). (number, row)) (range_with_len 0 batch.rows)
-      (All-weaker (λ (row : ℕ). row < batch.rows) (λ (row : ℕ). IsPlace all (number, row))
-      (λ row low. record { batch = some all number is; row = subst (λ (b : BatchAt). row < b.rows) (sym (first all number is)) low })
-      (range_with_len 0 batch.rows) (all_below 0 batch.rows batch.rows (omega arith))))
+    (All-weaker (λ (row : ℕ). row < batch.rows) (λ (row : ℕ). IsPlace all (number, row))
+    (λ row low. record { batch = some all number is; row = subst (λ (b : BatchAt). row < b.rows) (sym (first all number is)) low })
+    (range_with_len 0 batch.rows) (all_below 0 batch.rows batch.rows (omega arith))))
     (places_from all rest (number + 1) (next all number is))
   where
     first : (all : List BatchAt) (number : ℕ) → drop number all ≡ batch ∷ rest → batch_at all number ≡ batch

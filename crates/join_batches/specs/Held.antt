@@ -1,7 +1,6 @@
 -- Inside: the rows that a joiner has still to give, and what it keeps.
-use Rattle.std.specs.Prelude.{◌≡◌, ◌≤◌, ◌<◌, ◌^◌, ℕ, IsTrue, All, List, ◌++◌, length, map, drop, nat_lt}
+use Rattle.std.specs.Prelude.{◌≡◌, ◌≤◌, ◌<◌, IsTrue, All, List, ◌++◌, length, map, drop, nat_lt}
 use Rattle.std.specs.List.{list_all, flat_map}
-use Rattle.scan_base.specs.declared.value.Value.{Value}
 use Rattle.arrays.specs.Batch.{BatchAt, rows_of}
 use Rattle.arrays.specs.Typed.{AreOf}
 use Rattle.hash_join.specs.Pairs.{pairs_ahead}

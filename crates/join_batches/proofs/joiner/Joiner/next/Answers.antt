@@ -1,4 +1,4 @@
-use Rattle.std.proofs.Common.{◌≡◌, ◌<◌, ◌-◌, ◌+◌, ℕ, nat_lt, List, All, length, take, drop, refl, ap, ◌∙◌, subst, sym, arith, rules, length-take, length-drop}
+use Rattle.std.proofs.Common.{◌≡◌, ◌<◌, ◌-◌, ◌+◌, nat_lt, List, All, length, take, drop, refl, ap, ◌∙◌, subst, sym, arith, rules, length-take, length-drop}
 use Rattle.std.specs.List.{list_all}
 use Rattle.std.proofs.lemmas.List.{take_all}
 use Rattle.std.proofs.lemmas.List.Elements.{All-drop, All-take}
@@ -18,11 +18,12 @@ next_pairs-requires-clause-key c = λ some.
 -- the same rows are to be given, whether the next pairs were looked for or not
 goes : (c : After-as_slice-2) → Goes c.self.inside c.if-self-len.self-inside
 goes c = elim c.if-self-len.branch [
-    then-self-len+in_ok-self-inside w ↦ subst (Goes c.self.inside) (sym w.self-inside-is)
+  | then-self-len+in_ok-self-inside w ↦ subst (Goes c.self.inside) (sym w.self-inside-is)
       (goes_found c.self.inside w.in_ok-self-inside.field-0 w.next_pairs.new.probe c.self.invariant
       (omega (arith, w.if-self-len.true, c.len.ensures, c.self.inside.pairs.ok.0))
       (rw w.as_slice.ensures.value at w.in_ok-self-inside.ensures.next) w.in_ok-self-inside.ensures.there w.in_ok-self-inside.ensures.few)
-  | else-self-len w ↦ subst (Goes c.self.inside) (sym w.self-inside-is) (goes_on c.self.inside c.self.invariant) ]
+  | else-self-len w ↦ subst (Goes c.self.inside) (sym w.self-inside-is) (goes_on c.self.inside c.self.invariant)
+]
 
 -- some pair is there
 more : (c : After-as_slice-4) → c.if-self-len.self-inside.given < length c.if-self-len.self-inside.pairs.items

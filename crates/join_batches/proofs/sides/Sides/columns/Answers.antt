@@ -1,4 +1,4 @@
-use Rattle.std.proofs.Common.{◌≡◌, ◌<◌, ◌+◌, ◌^◌, ℕ, List, ◌++◌, All, length, map, get_or, take, sym, ap, ◌∙◌, subst, arith, length-append}
+use Rattle.std.proofs.Common.{◌<◌, ◌+◌, ◌^◌, List, All, length, map, get_or, sym, ap, ◌∙◌, subst, arith, length-append}
 use Rattle.std.specs.List.{AllZip, range_with_len}
 use Rattle.std.proofs.lemmas.List.{length-map}
 use Rattle.arrow_schema.specs.declared.data_type.DataType.{DataType}
@@ -45,9 +45,10 @@ loop-number-preserved c =
       values = c.in_ok-column.ensures.values ∙ ap (map slot_value) c.as_slice.ensures.value ∙ held_values sides number pairs slots c.in_ok-slots.ensures;
       long = c.in_ok-column.ensures.long ∙ ap length c.as_slice.ensures.value ∙ held_long sides number pairs slots c.in_ok-slots.ensures
           ∙ sym (length-map pairs (pair_row sides.rights.now sides.left.now));
-    } in
-    (subst (λ (all : List ColumnAt). AllZip (IsColumnOf (rows_at sides pairs)) (range_with_len 0 (number + 1)) all) (sym c.in_ok-push.ensures.items)
-      (columns_more (rows_at sides pairs) number c.loop-number.columns.items column c.loop-number.invariant.0 is),
-    answered_more (types_of sides) number c.loop-number.columns.items c.push.new.self.items column
-      (omega (arith, c.loop-number-test.true, c.width-number-end.ensures, wide)) c.in_ok-push.ensures.items c.loop-number.invariant.1
-      (subst (λ (t : DataType). IsOfType (answer_type t) column.layout) c.type_of.ensures c.in_ok-column.ensures.typed))
+    } in (
+      subst (λ (all : List ColumnAt). AllZip (IsColumnOf (rows_at sides pairs)) (range_with_len 0 (number + 1)) all) (sym c.in_ok-push.ensures.items)
+          (columns_more (rows_at sides pairs) number c.loop-number.columns.items column c.loop-number.invariant.0 is),
+      answered_more (types_of sides) number c.loop-number.columns.items c.push.new.self.items column
+          (omega (arith, c.loop-number-test.true, c.width-number-end.ensures, wide)) c.in_ok-push.ensures.items c.loop-number.invariant.1
+          (subst (λ (t : DataType). IsOfType (answer_type t) column.layout) c.type_of.ensures c.in_ok-column.ensures.typed),
+    )

@@ -1,4 +1,4 @@
-use Rattle.std.proofs.Common.{◌<◌, List, All, length, take, sym, subst}
+use Rattle.std.proofs.Common.{◌<◌, List, All, take, sym, subst}
 use Rattle.std.proofs.lemmas.List.Elements.{All-weaker}
 use Rattle.arrow_schema.specs.declared.data_type.DataType.TheVariants.{Utf8}
 use Rattle.std.proofs.Common.{get_or}
