@@ -27,7 +27,7 @@ cell_at : (columns : List ColumnAt) (row number : ℕ) (other : ColumnAt) → nu
 cell_at columns row number other h = get_or-map (λ column. slot_of column row) columns number other Null h
 
 -- a cell of the left row
-left_cell : (rights : List BatchAt) (left : BatchAt) (pair : Pair) (number : ℕ) (other : ColumnAt) → number < length left.columns →
+pub left_cell : (rights : List BatchAt) (left : BatchAt) (pair : Pair) (number : ℕ) (other : ColumnAt) → number < length left.columns →
     cell_in (pair_row rights left pair) number ≡ slot_of (get_or left.columns number other) pair.left
 left_cell rights left pair number other h =
     unwrap_or-slice_get (pair_row rights left pair) number Null
@@ -36,7 +36,7 @@ left_cell rights left pair number other h =
     ∙ cell_at left.columns pair.left number other h
 
 -- a cell of the right row
-right_cell : (rights : List BatchAt) (left : BatchAt) (pair : Pair) (width number : ℕ) (other : ColumnAt) → length left.columns ≡ width →
+pub right_cell : (rights : List BatchAt) (left : BatchAt) (pair : Pair) (width number : ℕ) (other : ColumnAt) → length left.columns ≡ width →
     number < length (batch_at rights pair.batch).columns →
     cell_in (pair_row rights left pair) (width + number) ≡ slot_of (get_or (batch_at rights pair.batch).columns number other) pair.row
 right_cell rights left pair width number other e h =

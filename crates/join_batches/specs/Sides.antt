@@ -1,8 +1,8 @@
 -- Inside: the columns of the rows that pairs stand for.
-use Rattle.std.specs.Prelude.{◌≡◌, ◌≤◌, ◌<◌, ◌+◌, ◌^◌, ℕ, All, List, ◌++◌, length, map, take, get_or}
+use Rattle.std.specs.Prelude.{◌≡◌, ◌≤◌, ◌<◌, ◌+◌, ◌^◌, ℕ, All, List, ◌++◌, length, map, take, get_or, Bool, true, false}
 use Rattle.std.specs.List.{AllZip}
 use Rattle.arrow_schema.specs.declared.data_type.DataType.{DataType}
-use Rattle.arrow_schema.specs.declared.data_type.DataType.TheVariants.{Utf8}
+use Rattle.arrow_schema.specs.declared.data_type.DataType.TheVariants.{Utf8, Dictionary}
 use Rattle.arrow_schema.specs.Answer.{answer_type}
 use Rattle.scan_base.specs.declared.value.Value.{Value}
 use Rattle.scan_base.specs.Predicate.{cell_in}
@@ -61,6 +61,18 @@ pub record Fits (slots : List SlotRef) (count : ℕ) : Type 0 where
   pub some : 0 < count
   pub within : count ≤ length slots
   pub short : AreShort (map slot_value (take count slots))
+
+-- whether a type's values are texts
+abbrev pub has_texts : DataType → Bool
+has_texts Utf8 = true
+has_texts (Dictionary encoding) = true
+has_texts _ = false
+
+-- the texts of a column of so many rows, from the first on, are short
+pub record FitsIn (sides : Sides) (pairs : List Pair) (number count : ℕ) : Type 0 where
+  pub some : 0 < count
+  pub within : count ≤ length pairs
+  pub short : AreShort (cells_of (rows_at sides (take count pairs)) number)
 
 -- the texts of the first columns of so many rows are short
 pub record AllFit (sides : Sides) (pairs : List Pair) (columns count : ℕ) : Type 0 where

@@ -5,7 +5,7 @@ ghost use Rattle.std.specs.List.{AllZip, range_with_len};
 ghost use Rattle.arrow_schema.specs.Answer.{answer_type};
 ghost use Rattle.arrays.specs.Typed.{AreOf};
 ghost use Rattle.join_batches.specs.Sides.{AllFit, AreShort, AreSides, ArePairs, Fits, HoldCells};
-ghost use Rattle.join_batches.specs.Sides.{IsBatchOf, IsColumnOf, cells_of, rows_at, types_of, width_of};
+ghost use Rattle.join_batches.specs.Sides.{FitsIn, IsBatchOf, IsColumnOf, cells_of, has_texts, rows_at, types_of, width_of};
 
 use arrays::{Batch, Column, SlotRef, texts_fit};
 use arrow_schema::DataType;
@@ -49,10 +49,29 @@ impl<'a> Sides<'a> {
     {
         let mut count = pairs.len();
         for number in 0..self.width() {
-            let slots = self.slots(alloc, number, &pairs[..count])?;
-            count = fitting(slots.as_slice())?;
+            count = self.how_many_fit_in(alloc, number, &pairs[..count])?;
         }
         Ok(count)
+    }
+
+    // How many of the pairs, from the first on, have texts in a column that have room in one batch. Only texts are looked at.
+    fn how_many_fit_in(
+        &self,
+        alloc: Global,
+        number: usize,
+        pairs: &[Pair],
+    ) -> Result<usize, AllocError>
+        requires sides { AreSides self.now }
+        requires there { ArePairs self.now pairs.now }
+        requires number { number < width_of self.now }
+        requires some { 0 < length pairs.now }
+        ensures { IfOk result (λ count. FitsIn self.now pairs.now number count) }
+    {
+        if !has_texts(self.type_of(number)) {
+            return Ok(pairs.len());
+        }
+        let slots = self.slots(alloc, number, pairs)?;
+        fitting(slots.as_slice())
     }
 
     // The columns of the joined rows.
@@ -157,6 +176,13 @@ impl<'a> Sides<'a> {
         }
         Ok(slots)
     }
+}
+
+// Whether a type's values are texts.
+fn has_texts(data_type: DataType) -> bool
+    ensures { result ≡ has_texts data_type }
+{
+    matches!(data_type, DataType::Utf8 | DataType::Dictionary(_))
 }
 
 // How many of the slots, from the first on, stand in one column of a batch: all of them, halved until their texts have no
