@@ -120,7 +120,8 @@ impl Joiner {
     ///
     /// # Errors
     ///
-    /// `AllocError` where memory is refused. The same rows come next.
+    /// `AllocError` where memory is refused, or where one text has so many bytes that no offset names the last: 2 to the 31
+    /// or more. The same rows come next.
     pub fn next(&mut self, alloc: Global) -> Result<Option<Batch>, AllocError>
         ensures { JoinsNext self.old result self.new }
     {
