@@ -3,6 +3,7 @@ pub mod Cells
 pub mod Short
 pub mod Plain
 pub mod Made
+pub mod Numbered
 pub mod Looping
 pub mod There
 pub mod Giving

@@ -1,5 +1,5 @@
 -- The rows that pairs stand for are those of nested loops.
-use Rattle.std.proofs.Common.{◌≡◌, ℕ, zero, suc, ◌+◌, ◌-◌, ◌==◌, Bool, true, false, if◌then◌else◌, List, [], ◌∷◌, ◌++◌, length, map, drop, zip, refl, ap, ◌∙◌, arith}
+use Rattle.std.proofs.Common.{◌≡◌, ℕ, ◌+◌, ◌-◌, ◌==◌, Bool, true, false, if◌then◌else◌, List, [], ◌∷◌, ◌++◌, length, map, drop, zip, refl, ap, ◌∙◌, arith}
 use Rattle.std.specs.List.{filter, flat_map, range_with_len}
 use Rattle.std.proofs.lemmas.List.{map-append}
 use Rattle.scan_base.specs.declared.value.Value.{Value}
@@ -7,6 +7,7 @@ use Rattle.arrays.specs.Batch.{BatchAt, rows_of, row_of}
 use Rattle.hash_join.specs.declared.pair.Pair.{Pair}
 use Rattle.hash_join.specs.Pairs.{BuildAt, key_in, keys_join, places, row_at, pairs_of, pairs_ahead}
 use Rattle.join_batches.specs.Rows.{batch_at, pair_row}
+use Rattle.join_batches.proofs.Numbered.{first_at, others_from}
 
 -- ---- the rows at all places are all rows
 
@@ -28,23 +29,8 @@ rows_from all (batch ∷ rest) number is =
     (flat_map (λ (p : ℕ × BatchAt). map (λ row. (p.0, row)) (range_with_len 0 p.1.rows)) (zip (range_with_len (number + 1) (length rest)) rest))
     ∙ ap (λ (front : List (List Value)). front ++ map (row_at all)
     (flat_map (λ (p : ℕ × BatchAt). map (λ row. (p.0, row)) (range_with_len 0 p.1.rows)) (zip (range_with_len (number + 1) (length rest)) rest)))
-    (rows_in all batch number (first all number is) (range_with_len 0 batch.rows))
-    ∙ ap (λ (back : List (List Value)). rows_of batch ++ back) (rows_from all rest (number + 1) (next all number is))
-  where
-    first : (all : List BatchAt) (number : ℕ) → drop number all ≡ batch ∷ rest → batch_at all number ≡ batch
-    first [] zero e = cc
-    first [] (suc number) e = cc
-    first (one ∷ all) zero e = cc
-    first (one ∷ all) (suc number) e = first all number e
-
-    later : (all : List BatchAt) (number : ℕ) → drop number all ≡ batch ∷ rest → drop (suc number) all ≡ rest
-    later [] zero e = cc
-    later [] (suc number) e = cc
-    later (one ∷ all) zero e = cc
-    later (one ∷ all) (suc number) e = later all number e
-
-    next : (all : List BatchAt) (number : ℕ) → drop number all ≡ batch ∷ rest → drop (number + 1) all ≡ rest
-    next all number e = let one : number + 1 ≡ suc number = omega arith in rw one (later all number e)
+    (rows_in all batch number (first_at all number batch rest is) (range_with_len 0 batch.rows))
+    ∙ ap (λ (back : List (List Value)). rows_of batch ++ back) (rows_from all rest (number + 1) (others_from all number batch rest is))
 
 pub rows_at_places : (batches : List BatchAt) → map (row_at batches) (places batches) ≡ flat_map rows_of batches
 rows_at_places batches = rows_from batches batches 0 refl

@@ -7,6 +7,7 @@ use Rattle.hash_join.specs.declared.pair.Pair.{Pair}
 use Rattle.hash_join.specs.declared.build.Probe.{Probe}
 use Rattle.hash_join.specs.Pairs.{BuildAt, key_in, keys_join, places, row_at, pairs_of, pairs_ahead}
 use Rattle.join_batches.specs.Rows.{batch_at, IsPair}
+use Rattle.join_batches.proofs.Numbered.{first_at, first_within, others_from}
 
 -- what holds of all items of each list
 all_joined : {A B : Type 0} (P : B → Type 0) (f : A → List B) (xs : List A) → ((x : A) → All P (f x)) → All P (flat_map f xs)
@@ -32,30 +33,9 @@ places_from all (batch ∷ rest) number is =
     (flat_map (λ (p : ℕ × BatchAt). map (λ row. (p.0, row)) (range_with_len 0 p.1.rows)) (zip (range_with_len (number + 1) (length rest)) rest))
     (All-map (IsPlace all) (λ (row : ℕ). (number, row)) (range_with_len 0 batch.rows)
     (All-weaker (λ (row : ℕ). row < batch.rows) (λ (row : ℕ). IsPlace all (number, row))
-    (λ row low. record { batch = some all number is; row = subst (λ (b : BatchAt). row < b.rows) (sym (first all number is)) low })
+    (λ row low. record { batch = first_within all number batch rest is; row = subst (λ (b : BatchAt). row < b.rows) (sym (first_at all number batch rest is)) low })
     (range_with_len 0 batch.rows) (all_below 0 batch.rows batch.rows (omega arith))))
-    (places_from all rest (number + 1) (next all number is))
-  where
-    first : (all : List BatchAt) (number : ℕ) → drop number all ≡ batch ∷ rest → batch_at all number ≡ batch
-    first [] zero e = cc
-    first [] (suc number) e = cc
-    first (one ∷ all) zero e = cc
-    first (one ∷ all) (suc number) e = first all number e
-
-    some : (all : List BatchAt) (number : ℕ) → drop number all ≡ batch ∷ rest → number < length all
-    some [] zero e = cc
-    some [] (suc number) e = cc
-    some (one ∷ all) zero e = omega arith
-    some (one ∷ all) (suc number) e = let h = some all number e in omega (arith, h)
-
-    later : (all : List BatchAt) (number : ℕ) → drop number all ≡ batch ∷ rest → drop (suc number) all ≡ rest
-    later [] zero e = cc
-    later [] (suc number) e = cc
-    later (one ∷ all) zero e = cc
-    later (one ∷ all) (suc number) e = later all number e
-
-    next : (all : List BatchAt) (number : ℕ) → drop number all ≡ batch ∷ rest → drop (number + 1) all ≡ rest
-    next all number e = let one : number + 1 ≡ suc number = omega arith in rw one (later all number e)
+    (places_from all rest (number + 1) (others_from all number batch rest is))
 
 all_places : (batches : List BatchAt) → All (IsPlace batches) (places batches)
 all_places batches = places_from batches batches 0 refl
