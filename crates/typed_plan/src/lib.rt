@@ -1,11 +1,15 @@
 //! What a query means, and the plan that gives its rows.
 #![tactic(auto)]
 
+mod answer;
 pub mod binding;
 mod chain;
 pub mod class;
+mod joining;
 pub mod laws;
 pub mod plan;
+mod predicate;
+mod scope;
 
 pub use crate::binding::bind;
 pub use crate::class::Class;
