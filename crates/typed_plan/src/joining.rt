@@ -7,6 +7,7 @@ ghost use Rattle.typed_plan.specs.Faults.{must, first_in};
 ghost use Rattle.typed_plan.specs.Listed.{AreFields};
 ghost use Rattle.typed_plan.specs.Outcome.{Binds};
 ghost use Rattle.typed_plan.specs.Over.{columns_over, scan_over, joined_over, joins_fault_over, scope_over, tree_over};
+ghost use Rattle.typed_plan.specs.Plan.{joined as joined_trees};
 ghost use Rattle.typed_plan.specs.Planned.{key_of, keys_of};
 ghost use Rattle.typed_plan.specs.Scope.{numbered};
 ghost use Rattle.typed_plan.specs.View.{tree_of};
@@ -51,9 +52,9 @@ impl<'a> Joined<'a> {
         joins: &'a [Join],
         tables: &'a [TableVersion],
     ) -> Result<Joined<'a>, Fault>
-        ensures { Binds (joins_fault_over self.scope joins.now tables.now)
-            (λ joined. (joined.scope ≡ scope_over self.scope joins.now tables.now)
-            × (tree_of joined.tree ≡ tree_over self.scope (tree_of self.tree) joins.now tables.now)) result }
+        ensures { Binds (joins_fault_over self.entry.scope joins.now tables.now)
+            (λ joined. (joined.scope ≡ scope_over self.entry.scope joins.now tables.now)
+            × (tree_of joined.tree ≡ tree_over self.entry.scope (tree_of self.entry.tree) joins.now tables.now)) result }
     {
         match joins {
             [] => Ok(self),
@@ -71,20 +72,40 @@ impl<'a> Joined<'a> {
         join: &'a Join,
         table: &'a TableVersion,
     ) -> Result<Joined<'a>, Fault>
-        ensures { Binds (first_in (equality_fault (length self.scope) (self.scope ++ columns_over join.now.place table.now)) join.now.on)
-            (λ joined. (joined.scope ≡ self.scope ++ columns_over join.now.place table.now)
-            × (tree_of joined.tree ≡ joined_over self.scope (tree_of self.tree) join.now table.now)) result }
+        ensures { Binds (first_in (equality_fault (length self.entry.scope) (self.entry.scope ++ columns_over join.now.place table.now)) join.now.on)
+            (λ joined. (joined.scope ≡ self.entry.scope ++ columns_over join.now.place table.now)
+            × (tree_of joined.tree ≡ joined_over self.entry.scope (tree_of self.entry.tree) join.now table.now)) result }
     {
         let Joined { mut scope, tree } = self;
-        let seam = scope.len();
-        scope.push_place(join.place.name(), table.schema().fields.as_slice())?;
-        let on = bind_on(alloc, &scope, seam, join.on.as_slice())?;
-        let right = scan(alloc, &join.place, table)?;
-        let left = Box::new(alloc, tree).map_err(|_| AllocError)?;
-        let right = Box::new(alloc, right).map_err(|_| AllocError)?;
-        let tree = Plan::Join { left, right, on };
+        let on = push_join(alloc, &mut scope, join, table)?;
+        let tree = join_trees(alloc, tree, scan(alloc, &join.place, table)?, on)?;
         Ok(Joined { scope, tree })
     }
+}
+
+// The columns of one place more, behind the others, and the keys of its ON.
+fn push_join<'a>(
+    alloc: Global,
+    scope: &mut Scope<'a>,
+    join: &'a Join,
+    table: &'a TableVersion,
+) -> Result<Items<JoinKey>, Fault>
+    ensures { Binds (first_in (equality_fault (length scope.old) (scope.old ++ columns_over join.now.place table.now)) join.now.on)
+        (λ keys. (scope.new ≡ scope.old ++ columns_over join.now.place table.now)
+        × (keys ≡ keys_of (length scope.old) (scope.old ++ columns_over join.now.place table.now) join.now.on)) result }
+{
+    let seam = scope.len();
+    scope.push_place(join.place.name(), table.schema().fields.as_slice())?;
+    bind_on(alloc, scope, seam, join.on.as_slice())
+}
+
+// The rows of two trees, joined.
+fn join_trees(alloc: Global, left: Plan, right: Plan, on: Items<JoinKey>) -> Result<Plan, AllocError>
+    ensures { IfOk result (λ plan. tree_of plan ≡ joined_trees (tree_of left) (tree_of right) on) }
+{
+    let left = Box::new(alloc, left).map_err(|_| AllocError)?;
+    let right = Box::new(alloc, right).map_err(|_| AllocError)?;
+    Ok(Plan::Join { left, right, on })
 }
 
 // All columns of a place.
