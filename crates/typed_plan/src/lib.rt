@@ -5,11 +5,13 @@ mod answer;
 pub mod binding;
 mod chain;
 pub mod class;
+mod grouped;
 mod joining;
 pub mod laws;
 pub mod plan;
 mod predicate;
 mod scope;
+mod selection;
 
 pub use crate::binding::bind;
 pub use crate::class::Class;
