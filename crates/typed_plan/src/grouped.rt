@@ -25,7 +25,7 @@ use sql_query::{ColumnName, Expression, SelectItem};
 use std::alloc::{AllocError, Global};
 
 // What an item of a grouped list may name: the columns, and the numbers of those that are the key.
-#[derive(Drop)]
+#[derive(Clone, Copy, Drop)]
 struct Key<'k> {
     scope: &'k Scope<'k>,
     numbers: &'k [usize],
@@ -46,7 +46,11 @@ pub(crate) fn bind_groups(
         × (bound.1 ≡ record { fields = list_fields scope.now 1 items.now })) result }
 {
     let keys = bind_keys(alloc, scope, names)?;
-    let (aggregates, fields) = bind_aggregates(alloc, scope, keys.as_slice(), items)?;
+    let key = Key {
+        scope,
+        numbers: keys.as_slice(),
+    };
+    let (aggregates, fields) = key.bind_aggregates(alloc, items)?;
     check_width(items.len())?;
     let output = Output::Groups {
         keys,
@@ -67,29 +71,27 @@ fn bind_keys(alloc: Global, scope: &Scope<'_>, names: &[ColumnName]) -> Result<I
     Ok(keys)
 }
 
-// What the items give of a group, and their columns of the result.
-fn bind_aggregates(
-    alloc: Global,
-    scope: &Scope<'_>,
-    numbers: &[usize],
-    items: &[SelectItem],
-) -> Result<(Items<Aggregate>, Items<Field>), Fault>
-    ensures { Binds (first_in (λ item. aggregate_fault scope.now numbers.now item.expression) items.now)
-        (λ bound. (bound.0 ≡ map (λ item. aggregate_of scope.now numbers.now item.expression) items.now)
-        × (bound.1 ≡ list_fields scope.now 1 items.now)) result }
-{
-    let key = Key { scope, numbers };
-    let mut aggregates = Items::new(alloc);
-    let mut fields = Items::new(alloc);
-    for (index, item) in items.iter().enumerate() {
-        let (aggregate, field) = key.bind_aggregate(alloc, index + 1, item)?;
-        aggregates.push(aggregate)?;
-        fields.push(field)?;
-    }
-    Ok((aggregates, fields))
-}
-
 impl<'k> Key<'k> {
+    // What the items give of a group, and their columns of the result.
+    fn bind_aggregates(
+        &self,
+        alloc: Global,
+        items: &[SelectItem],
+    ) -> Result<(Items<Aggregate>, Items<Field>), Fault>
+        ensures { Binds (first_in (λ item. aggregate_fault self.now.scope.now self.now.numbers.now item.expression) items.now)
+            (λ bound. (bound.0 ≡ map (λ item. aggregate_of self.now.scope.now self.now.numbers.now item.expression) items.now)
+            × (bound.1 ≡ list_fields self.now.scope.now 1 items.now)) result }
+    {
+        let mut aggregates = Items::new(alloc);
+        let mut fields = Items::new(alloc);
+        for (index, item) in items.iter().enumerate() {
+            let (aggregate, field) = self.bind_aggregate(alloc, index + 1, item)?;
+            aggregates.push(aggregate)?;
+            fields.push(field)?;
+        }
+        Ok((aggregates, fields))
+    }
+
     // What an item gives of a group, and its column of the result, at this position of the list.
     fn bind_aggregate(
         &self,
