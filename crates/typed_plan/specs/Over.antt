@@ -5,6 +5,7 @@ use Rattle.sql_query.specs.declared.query.Join.{Join}
 use Rattle.sql_query.specs.declared.query.Place.{Place}
 use Rattle.sql_query.specs.Sentence.{Sentence, place_name}
 use Rattle.table_versions.specs.Database.{table_at}
+use Rattle.table_versions.specs.Table.{Name}
 use Rattle.table_versions.specs.Stored.{CatalogAt, TableAt}
 use Rattle.typed_plan.specs.declared.plan.Columns.TheVariants.{All}
 use Rattle.typed_plan.specs.Scope.{Scope, columns_in, column_of}
@@ -14,9 +15,13 @@ use Rattle.typed_plan.specs.Plan.{Tree, scan, joined, PlanAt}
 use Rattle.typed_plan.specs.Planned.{keys_of, where_kept, numbered_filter, output_for}
 use Rattle.typed_plan.specs.ResultSchema.{select_fields}
 
--- the places of a query, in order
-abbrev pub places_of : Sentence → List Place
-places_of query = query.first ∷ map (λ join. join.place) query.joins
+-- the first place and those of the joins, in order
+abbrev pub places_of : Place → List Join → List Place
+places_of first joins = first ∷ map (λ join. join.place) joins
+
+-- the names that they go by
+abbrev pub names_of : Place → List Join → List Name
+names_of first joins = place_name first ∷ map (λ join. place_name join.place) joins
 
 -- these are the catalog's tables of the places
 abbrev pub AreTablesOf : CatalogAt → List Place → List TableAt → Type 0

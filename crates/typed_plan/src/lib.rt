@@ -8,6 +8,7 @@ pub mod class;
 mod grouped;
 mod joining;
 pub mod laws;
+mod places;
 pub mod plan;
 mod predicate;
 mod scope;
