@@ -1,5 +1,5 @@
 -- What a call answers that binds as another does.
-use Rattle.std.proofs.Common.{◌≡◌, ◌≢◌, Option, Some, None, Result, Ok, Err, sym, ap, ◌∙◌}
+use Rattle.std.proofs.Common.{◌≡◌, ◌≢◌, Option, Some, None, Result, Ok, Err, IfOk, sym, ap, ◌∙◌}
 use Rattle.scan_base.specs.declared.fault.Fault.{Fault}
 use Rattle.scan_base.specs.declared.fault.Fault.TheVariants.{OutOfMemory}
 use Rattle.typed_plan.specs.Faults.{◌then◌}
@@ -21,3 +21,14 @@ binds_then first second whole P Q given is none more =
 pub fails_then : (first second whole : Option Fault) (fault : Fault) →
     whole ≡ (first then second) → (fault ≢ OutOfMemory → first ≡ Some fault) → fault ≢ OutOfMemory → whole ≡ Some fault
 fails_then first second whole fault is failed apart = is ∙ ap (λ one. one then second) (failed apart)
+
+-- what holds at any rate
+pub holds_if_ok : {X : Type 0} (P : Type 0) (given : Result X Fault) → P → IfOk given (λ _. P)
+holds_if_ok P (Ok x) holds = holds
+holds_if_ok P (Err fault) holds = tt
+
+-- what holds of a value wherever there is no fault
+pub if_bound : {X : Type 0} (fault : Option Fault) (P Q : X → Type 0) (given : Result X Fault) → Binds fault P given →
+    ((x : X) → fault ≡ None → P x → Q x) → IfOk given Q
+if_bound fault P Q (Ok x) bound more = more x bound.0 bound.1
+if_bound fault P Q (Err other) bound more = tt

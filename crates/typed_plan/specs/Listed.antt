@@ -1,5 +1,5 @@
 -- Inside: the list of a query, where its rows are made of groups and where they are not.
-use Rattle.std.specs.Prelude.{ℕ, ◌==◌, List, [], ◌∷◌, Option, Some, None}
+use Rattle.std.specs.Prelude.{ℕ, ◌==◌, ◌≤◌, List, length, Option, Some, None}
 use Rattle.std.specs.List.{list_any}
 use Rattle.arrow_schema.specs.Schema.{IsField}
 use Rattle.scan_base.specs.declared.fault.Fault.{Fault}
@@ -26,6 +26,6 @@ aggregate_fault scope keys (Count name) = fault_in (column_of scope name)
 aggregate_fault scope keys (Sum name) =
     found (column_of scope name) (λ number. must (can_sum (field_at (slice_get scope number)).data_type) TypeClash)
 
--- each column can be written in a schema
-abbrev pub AreFields : Scope → Type 0
-AreFields scope = All (λ column. IsField column.field) scope
+-- there is a column, and each can be written in a schema
+abbrev pub CanBeWritten : Scope → Type 0
+CanBeWritten scope = (1 ≤ length scope) × All (λ column. IsField column.field) scope

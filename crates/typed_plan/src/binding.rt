@@ -10,6 +10,7 @@ ghost use Rattle.typed_plan.specs.Binding.{IsPlanOf};
 ghost use Rattle.typed_plan.specs.Bound.{fault_of, glance_of};
 ghost use Rattle.typed_plan.specs.Faults.{filter_fault};
 ghost use Rattle.typed_plan.specs.Held.{HoldsFrom, tree_tables};
+ghost use Rattle.typed_plan.specs.Listed.{CanBeWritten};
 ghost use Rattle.typed_plan.specs.Named.{HasNames};
 ghost use Rattle.typed_plan.specs.Outcome.{Binds};
 ghost use Rattle.typed_plan.specs.Over.{parts_fault, plan_over, rest_fault};
@@ -76,9 +77,10 @@ fn bind_parts(
     others: &[TableVersion],
 ) -> Result<(Plan, Output, Schema), Fault>
     requires { is_left_out_whole (sentence_of query.now) ≡ false }
-    ensures { Binds (parts_fault (sentence_of query.now) first.now others.now)
+    ensures bound { Binds (parts_fault (sentence_of query.now) first.now others.now)
         (λ parts. record { tree = tree_of parts.0; output = parts.1; schema = parts.2 }
         ≡ plan_over (sentence_of query.now) first.now others.now) result }
+    ensures named { HasNames query.now.select → IfOk result (λ parts. IsSchema parts.2) }
 {
     let joined = Joined::of_place(alloc, &query.first, first)?;
     let joined = joined.with_all(alloc, query.joins.as_slice(), others)?;
@@ -92,11 +94,12 @@ fn bind_rest(
     joined: Joined<'_>,
 ) -> Result<(Plan, Output, Schema), Fault>
     requires { is_left_out_whole (sentence_of query.now) ≡ false }
-    ensures { Binds (rest_fault (sentence_of query.now) joined.entry.scope)
+    ensures bound { Binds (rest_fault (sentence_of query.now) joined.entry.scope)
         (λ parts. (tree_of parts.0
         ≡ where_kept (numbered_filter joined.entry.scope (option_map pred_of query.now.filter)) (tree_of joined.entry.tree))
         × (parts.1 ≡ output_for (sentence_of query.now) joined.entry.scope)
         × (parts.2 ≡ record { fields = select_fields joined.entry.scope query.now.select })) result }
+    ensures named { CanBeWritten joined.entry.scope → HasNames query.now.select → IfOk result (λ parts. IsSchema parts.2) }
 {
     let Joined { scope, tree } = joined;
     let filter = bind_filter(alloc, &scope, &query.filter)?;

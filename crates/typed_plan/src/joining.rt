@@ -4,7 +4,7 @@ ghost use Rattle.std.specs.Prelude.{◌≡◌, ◌++◌, ℕ, IfOk, length};
 ghost use Rattle.sql_query.specs.Sentence.{place_name};
 ghost use Rattle.typed_plan.specs.Bound.{crosses, equality_fault};
 ghost use Rattle.typed_plan.specs.Faults.{must, first_in};
-ghost use Rattle.typed_plan.specs.Listed.{AreFields};
+ghost use Rattle.typed_plan.specs.Listed.{CanBeWritten};
 ghost use Rattle.typed_plan.specs.Outcome.{Binds};
 ghost use Rattle.typed_plan.specs.Over.{columns_over, scan_over, joined_over, joins_fault_over, scope_over, tree_over};
 ghost use Rattle.typed_plan.specs.Plan.{joined as joined_trees};
@@ -37,6 +37,7 @@ impl<'a> Joined<'a> {
     ) -> Result<Joined<'a>, AllocError>
         ensures scope { IfOk result (λ joined. joined.scope ≡ columns_over place.now table.now) }
         ensures tree { IfOk result (λ joined. tree_of joined.tree ≡ scan_over place.now table.now) }
+        ensures written { IfOk result (λ joined. CanBeWritten joined.scope) }
     {
         let fields = table.schema().fields.as_slice();
         Ok(Joined {
@@ -52,9 +53,10 @@ impl<'a> Joined<'a> {
         joins: &'a [Join],
         tables: &'a [TableVersion],
     ) -> Result<Joined<'a>, Fault>
-        ensures { Binds (joins_fault_over self.entry.scope joins.now tables.now)
+        ensures bound { Binds (joins_fault_over self.entry.scope joins.now tables.now)
             (λ joined. (joined.scope ≡ scope_over self.entry.scope joins.now tables.now)
             × (tree_of joined.tree ≡ tree_over self.entry.scope (tree_of self.entry.tree) joins.now tables.now)) result }
+        ensures written { CanBeWritten self.entry.scope → IfOk result (λ joined. CanBeWritten joined.scope) }
     {
         match joins {
             [] => Ok(self),
@@ -72,9 +74,10 @@ impl<'a> Joined<'a> {
         join: &'a Join,
         table: &'a TableVersion,
     ) -> Result<Joined<'a>, Fault>
-        ensures { Binds (first_in (equality_fault (length self.entry.scope) (self.entry.scope ++ columns_over join.now.place table.now)) join.now.on)
+        ensures bound { Binds (first_in (equality_fault (length self.entry.scope) (self.entry.scope ++ columns_over join.now.place table.now)) join.now.on)
             (λ joined. (joined.scope ≡ self.entry.scope ++ columns_over join.now.place table.now)
             × (tree_of joined.tree ≡ joined_over self.entry.scope (tree_of self.entry.tree) join.now table.now)) result }
+        ensures written { CanBeWritten self.entry.scope → IfOk result (λ joined. CanBeWritten joined.scope) }
     {
         let Joined { mut scope, tree } = self;
         let on = push_join(alloc, &mut scope, join, table)?;
@@ -90,9 +93,10 @@ fn push_join<'a>(
     join: &'a Join,
     table: &'a TableVersion,
 ) -> Result<Items<JoinKey>, Fault>
-    ensures { Binds (first_in (equality_fault (length scope.old) (scope.old ++ columns_over join.now.place table.now)) join.now.on)
+    ensures bound { Binds (first_in (equality_fault (length scope.old) (scope.old ++ columns_over join.now.place table.now)) join.now.on)
         (λ keys. (scope.new ≡ scope.old ++ columns_over join.now.place table.now)
         × (keys ≡ keys_of (length scope.old) (scope.old ++ columns_over join.now.place table.now) join.now.on)) result }
+    ensures written { CanBeWritten scope.old → IfOk result (λ keys. CanBeWritten scope.new) }
 {
     let seam = scope.len();
     scope.push_place(join.place.name(), table.schema().fields.as_slice())?;

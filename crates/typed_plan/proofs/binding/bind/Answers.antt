@@ -45,7 +45,7 @@ returns-in_err-plan-clause-bound c =
     let is = fault_is query catalog first others (sym c.is_left_out.ensures ∙ c.if-is_left_out.false)
     (sym c.get.ensures ∙ ap option_copied c.in-Some.is) tail c.in_ok-tables.ensures.0 in
     let p = err_from_is_err_and c.from_residual-in_err-plan.result c.from_residual-in_err-plan.ensures.1 in
-    rw (p.1, p.2) (λ apart. is ∙ c.in_err-plan.ensures apart)
+    rw (p.1, p.2) (λ apart. is ∙ c.in_err-plan.ensures.bound apart)
 
 pub invariant_of-result : goal.invariant_of-result
 invariant_of-result c =
@@ -58,7 +58,7 @@ invariant_of-result c =
     let first = c.in-Some.first.now in
     let head = sym c.get.ensures ∙ ap option_copied c.in-Some.is in
     let tail = others_are catalog query.first query.joins tables are in
-    let parts = c.in_ok-plan.ensures in
+    let parts = c.in_ok-plan.ensures.bound in
     let bound = bound_over query catalog first others _ (sym c.is_left_out.ensures ∙ c.if-is_left_out.false)
     head tail c.in_ok-tables.ensures.0 parts.0 parts.1 in (
       subst IsTyped (sym bound.1) (plan_typed query (tables_of catalog) bound.0),
@@ -76,7 +76,7 @@ returns-clause-bound c =
     let are = subst (AreTablesOf catalog (places_of query.first query.joins)) same c.in_ok-tables.ensures.1 in
     let others = take (length tables - 1) (drop 1 tables) in
     let tail = others_are catalog query.first query.joins tables are in
-    let parts = c.in_ok-plan.ensures in
+    let parts = c.in_ok-plan.ensures.bound in
     bound_over query catalog c.in-Some.first.now others _ (sym c.is_left_out.ensures ∙ c.if-is_left_out.false)
     (sym c.get.ensures ∙ ap option_copied c.in-Some.is) tail c.in_ok-tables.ensures.0 parts.0 parts.1
 
@@ -88,7 +88,7 @@ returns-clause-means c =
     subst (IsPlanOf query database) (sym bound.1) (plan_means query database bound.0)
 
 pub returns-clause-named : goal.returns-clause-named
-returns-clause-named c = ?
+returns-clause-named c names = c.in_ok-plan.ensures.named names
 
 pub returns-clause-places : goal.returns-clause-places
 returns-clause-places c =

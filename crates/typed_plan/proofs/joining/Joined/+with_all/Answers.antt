@@ -9,19 +9,19 @@ use Rattle.typed_plan.proofs.Outcomes.{binds_then, fails_then}
 use Rattle.typed_plan.proofs.Over.{split}
 use Rattle.typed_plan.proofs.joining.Joined.+with_all.Goals as goal
 
-pub returns-in_err-with-in-len1-up-tables : goal.returns-in_err-with-in-len1-up-tables
-returns-in_err-with-in-len1-up-tables t c =
+pub returns-in_err-with-in-len1-up-tables-clause-bound : goal.returns-in_err-with-in-len1-up-tables-clause-bound
+returns-in_err-with-in-len1-up-tables-clause-bound t c =
     let joins = split c.args.joins.now c.join-item.result c.in-len1-up.len_at_least c.join-item.is in
     let tables = split c.args.tables.now c.table-item.result c.in-len1-up-tables.len_at_least c.table-item.is in
     let p = err_from_is_err_and c.from_residual.result c.from_residual.ensures.1 in
-    rw (joins, tables, p.1, p.2) (λ apart. fails_then _ _ _ _ refl c.in_err-with-in-len1-up-tables.ensures apart)
+    rw (joins, tables, p.1, p.2) (λ apart. fails_then _ _ _ _ refl c.in_err-with-in-len1-up-tables.ensures.bound apart)
 
-pub returns-in_ok-with-in-len1-up-tables : goal.returns-in_ok-with-in-len1-up-tables
-returns-in_ok-with-in-len1-up-tables t c =
+pub returns-in_ok-with-in-len1-up-tables-clause-bound : goal.returns-in_ok-with-in-len1-up-tables-clause-bound
+returns-in_ok-with-in-len1-up-tables-clause-bound t c =
     let joins = split c.args.joins.now c.join-item.result c.in-len1-up.len_at_least c.join-item.is in
     let tables = split c.args.tables.now c.table-item.result c.in-len1-up-tables.len_at_least c.table-item.is in
-    let here = c.in_ok-with-in-len1-up-tables.ensures in
-    let rest = rw (here.1.0, here.1.1) at c.with_all.ensures in
+    let here = c.in_ok-with-in-len1-up-tables.ensures.bound in
+    let rest = rw (here.1.0, here.1.1) at c.with_all.ensures.bound in
     let scope = c.args.self.scope in
     let tree = tree_of c.args.self.tree in
     let wide = scope ++ columns_over c.join-item.result.place c.table-item.result in
