@@ -1,5 +1,5 @@
 -- The list of a query, with groups and without.
-use Rattle.std.proofs.Common.{◌≡◌, ℕ, ◌==◌, Bool, true, false, not, ◌||◌, List, [], ◌∷◌, length, map, Option, Some, None}
+use Rattle.std.proofs.Common.{◌≡◌, ℕ, ◌==◌, true, false, not, ◌||◌, List, [], ◌∷◌, length, map}
 use Rattle.std.proofs.Common.{if◌then◌else◌, Result, Ok, Err, refl, sym, ap, ◌∙◌, arith, rules}
 use Rattle.std.specs.List.{list_any}
 use Rattle.std.proofs.lemmas.Bool.{or_parts}
@@ -10,11 +10,9 @@ use Rattle.scan_base.specs.declared.fault.Fault.TheVariants.{NotInSubset}
 use Rattle.sql_query.specs.declared.query.ColumnName.{ColumnName}
 use Rattle.sql_query.specs.declared.query.Expression.{Expression}
 use Rattle.sql_query.specs.declared.query.Expression.TheVariants.{Column, CountRows, Count, Sum}
-use Rattle.sql_query.specs.declared.query.Select.{Select}
 use Rattle.sql_query.specs.declared.query.Select.TheVariants as select
 use Rattle.sql_query.specs.declared.query.SelectItem.{SelectItem}
 use Rattle.sql_query.specs.Sentence.{Sentence, is_aggregate, has_aggregate, is_grouped}
-use Rattle.typed_plan.specs.declared.plan.Columns.{Columns}
 use Rattle.typed_plan.specs.declared.plan.Columns.TheVariants.{These}
 use Rattle.typed_plan.specs.declared.plan.Output.{Output}
 use Rattle.typed_plan.specs.declared.plan.Output.TheVariants.{Project, Groups}
@@ -106,12 +104,12 @@ grouped_output query scope items given is g =
     let keys = map (numbered scope) query.group_by in
     let named = first_in (λ name. fault_in (column_of scope name)) query.group_by in
     let same : output_fault query scope
-        ≡ (named then first_in (λ item. aggregate_fault scope keys item.expression) items then width_fault (length items)) =
-        ap (λ selecting. named then select_fault query scope selecting) is
-        ∙ ap (λ list. named then list then width_fault (length items)) (grouped_items query scope items g) in
+    ≡ (named then first_in (λ item. aggregate_fault scope keys item.expression) items then width_fault (length items)) =
+    ap (λ selecting. named then select_fault query scope selecting) is
+    ∙ ap (λ list. named then list then width_fault (length items)) (grouped_items query scope items g) in
     let output : output_for query scope ≡ Groups keys (map (λ item. aggregate_of scope keys item.expression) items) =
-        ap (λ b. if b then Groups keys (aggregates scope keys query.select) else Project (chosen scope query.select)) g
-        ∙ ap (λ selecting. Groups keys (aggregates scope keys selecting)) is in
+    ap (λ b. if b then Groups keys (aggregates scope keys query.select) else Project (chosen scope query.select)) g
+    ∙ ap (λ selecting. Groups keys (aggregates scope keys selecting)) is in
     let fields : select_fields scope query.select ≡ list_fields scope 1 items = ap (select_fields scope) is in
     binds_as _ (output_fault query scope)
     (λ bound. (bound.0 ≡ Groups keys (map (λ item. aggregate_of scope keys item.expression) items))
@@ -138,13 +136,13 @@ plain_output query scope items given is g =
     let named = λ (names : List ColumnName). first_in (λ name. fault_in (column_of scope name)) names in
     let none : list_any (λ item. is_aggregate item.expression) items ≡ false = ap has_aggregate (sym is) ∙ parts.0 in
     let same : output_fault query scope
-        ≡ (first_in (λ item. column_fault scope item.expression) items then width_fault (length items)) =
-        ap (λ names. named names then select_fault query scope query.select) (no_names query.group_by parts.1)
-        ∙ ap (select_fault query scope) is
-        ∙ ap (λ list. list then width_fault (length items)) (plain_items query scope items g none) in
+    ≡ (first_in (λ item. column_fault scope item.expression) items then width_fault (length items)) =
+    ap (λ names. named names then select_fault query scope query.select) (no_names query.group_by parts.1)
+    ∙ ap (select_fault query scope) is
+    ∙ ap (λ list. list then width_fault (length items)) (plain_items query scope items g none) in
     let output : output_for query scope ≡ Project (These (map (number_of_item scope) items)) =
-        ap (λ b. if b then Groups keys (aggregates scope keys query.select) else Project (chosen scope query.select)) g
-        ∙ ap (λ selecting. Project (chosen scope selecting)) is in
+    ap (λ b. if b then Groups keys (aggregates scope keys query.select) else Project (chosen scope query.select)) g
+    ∙ ap (λ selecting. Project (chosen scope selecting)) is in
     let fields : select_fields scope query.select ≡ list_fields scope 1 items = ap (select_fields scope) is in
     binds_as _ (output_fault query scope)
     (λ bound. (bound.0 ≡ Project (These (map (number_of_item scope) items)))

@@ -4,7 +4,6 @@ use Rattle.std.proofs.Common.{ℕ, arith, refl, sym, ap, subst, ◌∙◌, appen
 use Rattle.scan_base.specs.Predicate.{Pred}
 use Rattle.typed_plan.specs.Held.{tree_schemas}
 use Rattle.std.proofs.lemmas.List.{take_all}
-use Rattle.scan_base.specs.declared.fault.Fault.{Fault}
 use Rattle.scan_base.specs.declared.fault.Fault.TheVariants.{NotInSubset}
 use Rattle.sql_query.specs.declared.query.Join.{Join}
 use Rattle.sql_query.specs.declared.query.Place.{Place}

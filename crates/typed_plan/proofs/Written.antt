@@ -1,6 +1,6 @@
 -- The result of a query has a schema that can be written.
-use Rattle.std.proofs.Common.{◌≡◌, ◌≤◌, ◌<◌, ◌^◌, ℕ, suc, ◌+◌, Bool, true, false, ◌||◌, not, List, [], ◌∷◌, ◌++◌, map, length}
-use Rattle.std.proofs.Common.{nat_lt, slice_get, get_or, unwrap_or, All, Option, Some, None, Result, Ok, Err, IfOk, codes}
+use Rattle.std.proofs.Common.{◌≡◌, ◌≤◌, ℕ, suc, ◌+◌, Bool, true, false, ◌||◌, not, List, [], ◌∷◌, ◌++◌, map, length}
+use Rattle.std.proofs.Common.{nat_lt, slice_get, get_or, unwrap_or, All, Option, Some, None, Result, Ok, Err, codes}
 use Rattle.std.proofs.Common.{refl, sym, ap, subst, ◌∙◌, arith, rules}
 use Rattle.std.specs.Fmt.{decimal}
 use Rattle.std.specs.List.{list_any}
@@ -13,9 +13,7 @@ use Rattle.std.proofs.lemmas.Str.{IsAscii-append, IsUtf8-from_ascii}
 use Rattle.arrow_schema.specs.declared.data_type.DataType.{DataType}
 use Rattle.arrow_schema.specs.declared.data_type.DataType.TheVariants.{Integer, Utf8, Bool as Flag, Decimal128}
 use Rattle.arrow_schema.specs.declared.data_type.DataType.TheVariants.{Dictionary}
-use Rattle.arrow_schema.specs.declared.data_type.IntegerType.TheVariants.{Int64}
 use Rattle.arrow_schema.specs.declared.schema.Field.{Field}
-use Rattle.arrow_schema.specs.declared.schema.Schema.{Schema}
 use Rattle.arrow_schema.specs.Answer.{answer_type, answer_field}
 use Rattle.arrow_schema.specs.Header.{shares_dictionary, same_dictionary}
 use Rattle.arrow_schema.specs.Schema.{IsName, IsType, IsField, IsSchema}
@@ -126,7 +124,7 @@ columns_answered (column ∷ scope) all =
 position_named : (position : ℕ) → position ≤ 64 → IsName (position_name position)
 position_named position few =
     let short : length (decimal position) ≤ 2 =
-        length-decimal-le 2 position (omega arith) (omega arith) (omega arith) in
+    length-decimal-le 2 position (omega arith) (omega arith) (omega arith) in
     let long = length-append (codes "col") (decimal position) in
     record {
       some = omega (arith, long);

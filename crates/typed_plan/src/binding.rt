@@ -124,11 +124,7 @@ fn bind_filter(
 }
 
 // The rows of a tree for which the filter is true.
-fn filtered(
-    alloc: Global,
-    filter: Option<Predicate<usize>>,
-    tree: Plan,
-) -> Result<Plan, AllocError>
+fn filtered(alloc: Global, filter: Option<Predicate<usize>>, tree: Plan) -> Result<Plan, AllocError>
     ensures { IfOk result (λ plan. tree_of plan ≡ where_kept (option_map pred_of filter) (tree_of tree)) }
 {
     match filter {

@@ -178,11 +178,7 @@ fn can_sum(data_type: DataType) -> bool
 }
 
 // The alias, else `col` and the position.
-fn aggregate_name(
-    alloc: Global,
-    position: usize,
-    alias: &Option<Text>,
-) -> Result<Text, AllocError>
+fn aggregate_name(alloc: Global, position: usize, alias: &Option<Text>) -> Result<Text, AllocError>
     ensures { IfOk result (λ name. name ≡ unwrap_or alias.now (position_name position)) }
 {
     match alias {

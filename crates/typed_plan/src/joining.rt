@@ -62,7 +62,9 @@ impl<'a> Joined<'a> {
             [] => Ok(self),
             [join, joins @ ..] => match tables {
                 [] => Ok(self),
-                [table, tables @ ..] => self.with(alloc, join, table)?.with_all(alloc, joins, tables),
+                [table, tables @ ..] => self
+                    .with(alloc, join, table)?
+                    .with_all(alloc, joins, tables),
             },
         }
     }
@@ -104,7 +106,12 @@ fn push_join<'a>(
 }
 
 // The rows of two trees, joined.
-fn join_trees(alloc: Global, left: Plan, right: Plan, on: Items<JoinKey>) -> Result<Plan, AllocError>
+fn join_trees(
+    alloc: Global,
+    left: Plan,
+    right: Plan,
+    on: Items<JoinKey>,
+) -> Result<Plan, AllocError>
     ensures { IfOk result (λ plan. tree_of plan ≡ joined_trees (tree_of left) (tree_of right) on) }
 {
     let left = Box::new(alloc, left).map_err(|_| AllocError)?;

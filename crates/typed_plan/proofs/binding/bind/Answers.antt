@@ -10,7 +10,6 @@ use Rattle.typed_plan.specs.Binding.{IsPlanOf}
 use Rattle.typed_plan.specs.Held.{tree_tables, tree_schemas}
 use Rattle.typed_plan.specs.Plan.{PlanAt}
 use Rattle.typed_plan.specs.Typed.{IsTyped}
-use Rattle.typed_plan.specs.View.{plan_of}
 use Rattle.typed_plan.proofs.Over.{others_are, fault_is, bound_over, schemas_are, names_hold}
 use Rattle.typed_plan.proofs.PlanMeans.{plan_means, plan_reads}
 use Rattle.typed_plan.proofs.PlannedTypes.{plan_typed}

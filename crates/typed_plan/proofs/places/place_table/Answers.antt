@@ -16,7 +16,7 @@ pub returns-then-is_taken : goal.returns-then-is_taken
 returns-then-is_taken c apart =
     let names = names_of c.args.first.now c.args.joins.now in
     let known : list_any (bytes_eq (place_name c.args.place.now)) names ≡ true =
-        ap (λ name. list_any (bytes_eq name) names) (sym c.name.ensures) ∙ sym c.is_taken.ensures ∙ c.if-is_taken.true in
+    ap (λ name. list_any (bytes_eq name) names) (sym c.name.ensures) ∙ sym c.is_taken.ensures ∙ c.if-is_taken.true in
     taken c.args.catalog.now names c.args.place.now c.in-Some.table.now
     (sym c.get.ensures ∙ ap option_copied c.in-Some.is) known
 
@@ -25,5 +25,5 @@ returns c =
     let names = names_of c.args.first.now c.args.joins.now in
     let there = sym c.get.ensures ∙ ap option_copied c.in-Some.is in
     let unknown : list_any (bytes_eq (place_name c.args.place.now)) names ≡ false =
-        ap (λ name. list_any (bytes_eq name) names) (sym c.name.ensures) ∙ sym c.is_taken.ensures ∙ c.if-is_taken.false in
+    ap (λ name. list_any (bytes_eq name) names) (sym c.name.ensures) ∙ sym c.is_taken.ensures ∙ c.if-is_taken.false in
     (free c.args.catalog.now names c.args.place.now c.in-Some.table.now there unknown, there)

@@ -30,7 +30,7 @@ returns-in_ok-with-in-len1-up-tables-clause-bound t c =
     let left_tables = take (length c.args.tables.now - 1) (drop 1 c.args.tables.now) in
     let second = joins_fault_over wide left_joins left_tables in
     let bound = λ (joined : Joined). (joined.scope ≡ scope_over wide left_joins left_tables)
-        × (tree_of joined.tree
-        ≡ tree_over wide (joined_over scope tree c.join-item.result c.table-item.result) left_joins left_tables) in
+    × (tree_of joined.tree
+    ≡ tree_over wide (joined_over scope tree c.join-item.result c.table-item.result) left_joins left_tables) in
     rw (joins, tables)
     (binds_then first second (first then second) bound bound c.with_all.result refl here.0 (λ x is. is) rest)
