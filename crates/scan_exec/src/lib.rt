@@ -1,6 +1,12 @@
 //! Running a plan: the rows that it gives, batch by batch.
 #![tactic(auto)]
 
+mod columns;
+mod cursor;
+mod picker;
+mod piece;
+mod place;
+mod row;
 pub mod scan;
 
 pub use crate::scan::Scan;
