@@ -6,3 +6,4 @@ pub mod Picking
 pub mod Placed
 pub mod Running
 pub mod Sources
+pub mod Joined

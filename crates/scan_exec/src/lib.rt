@@ -7,6 +7,7 @@ mod picker;
 mod piece;
 mod place;
 mod row;
+mod rows;
 pub mod scan;
 
 pub use crate::scan::Scan;
