@@ -7,3 +7,4 @@ pub mod Placed
 pub mod Running
 pub mod Sources
 pub mod Joined
+pub mod Begun
