@@ -1,6 +1,7 @@
 //! Running a plan: the rows that it gives, batch by batch.
 #![tactic(auto)]
 
+mod answer;
 mod build;
 mod columns;
 mod cursor;

@@ -1,0 +1,46 @@
+//! What a scan gives: rows, or groups of them.
+
+ghost use Rattle.std.specs.Prelude.{◌≡◌, length};
+ghost use Rattle.scan_exec.specs.Answering.{GivesNext, IsGiving, giving_at, of_rows};
+
+use crate::rows::Rows;
+use arrays::Batch;
+use std::alloc::{AllocError, Global};
+
+// What is still to be given.
+#[derive(Drop)]
+pub(crate) enum Answer {
+    Rows(Rows),
+}
+
+impl Answer {
+    // The next batch.
+    pub(crate) fn next(&mut self, alloc: Global) -> Result<Option<Batch>, AllocError>
+        requires { IsGiving self.old }
+        ensures giving { IsGiving self.new }
+        ensures gives { GivesNext (giving_at self.old) result (giving_at self.new) }
+    {
+        match self {
+            Answer::Rows(rows) => next_batch(alloc, rows),
+        }
+    }
+
+    // How many batches of the first place were opened.
+    pub(crate) fn opened(&self) -> usize
+        ensures { result ≡ length (giving_at self.now).opened }
+    {
+        match self {
+            Answer::Rows(rows) => rows.opened(),
+        }
+    }
+}
+
+// The next batch of rows.
+fn next_batch(alloc: Global, rows: &mut Rows) -> Result<Option<Batch>, AllocError>
+    ensures { GivesNext (of_rows rows.old) result (of_rows rows.new) }
+{
+    match rows.next(alloc)? {
+        None => Ok(None),
+        Some(piece) => Ok(Some(piece.batch)),
+    }
+}
