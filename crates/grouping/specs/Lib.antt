@@ -1,1 +1,3 @@
 pub mod Fed
+pub mod Keys
+pub mod RowKeys

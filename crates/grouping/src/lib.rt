@@ -1,6 +1,8 @@
 //! Groups of rows by first appearance, with their counts and sums.
 #![tactic(auto)]
 
+mod cell;
 pub mod groups;
+mod key;
 
 pub use crate::groups::{Grouping, Groups};
