@@ -1,1 +1,2 @@
 pub mod KeyCells
+pub mod Numbers

@@ -1,3 +1,5 @@
 pub mod Fed
 pub mod Keys
 pub mod RowKeys
+pub mod Tallies
+pub mod inside

@@ -4,5 +4,6 @@
 mod cell;
 pub mod groups;
 mod key;
+mod tally;
 
 pub use crate::groups::{Grouping, Groups};

@@ -1,0 +1,2 @@
+-- Inside: what proofs say of tallies and of places.
+pub mod Counting
