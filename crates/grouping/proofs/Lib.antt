@@ -1,2 +1,3 @@
 pub mod KeyCells
 pub mod Numbers
+pub mod Stepping

@@ -4,6 +4,7 @@
 mod cell;
 pub mod groups;
 mod key;
+mod part;
 mod tally;
 
 pub use crate::groups::{Grouping, Groups};

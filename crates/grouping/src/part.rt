@@ -1,0 +1,35 @@
+//! Rows that are fed, and their groups.
+
+ghost use Rattle.std.specs.Prelude.{◌≡◌, ◌≤◌, ◌<◌, ◌+◌, All, length};
+ghost use Rattle.scan_base.specs.Limits.{most_rows};
+ghost use Rattle.grouping.specs.inside.Counting.{AreWithin, CanCount, stepped};
+
+use crate::tally::Tally;
+use arrays::Batch;
+use typed_plan::Aggregate;
+
+/// Rows of a batch, the group of each, and how many rows were fed before them.
+#[derive(Clone, Copy, Drop)]
+pub(crate) struct Part<'p> {
+    pub(crate) batch: &'p Batch,
+    pub(crate) rows: &'p [u32],
+    pub(crate) groups: &'p [usize],
+    pub(crate) fed: usize,
+}
+
+/// Adds each row to the tally of its group.
+pub(crate) fn add_rows(tallies: &mut [Tally], item: Aggregate, part: &Part<'_>)
+    requires there { CanCount item part.now.batch.now.columns }
+    requires within { All (λ row. row < part.now.batch.now.rows) part.now.rows.now }
+    requires grouped { All (λ group. group < length tallies.old) part.now.groups.now }
+    requires long { length part.now.groups.now ≡ length part.now.rows.now }
+    requires few { part.now.fed + length part.now.rows.now ≤ most_rows }
+    requires small { AreWithin part.now.fed tallies.old }
+    ensures stepped { tallies.new ≡ stepped item part.now.batch.now.columns part.now.groups.now part.now.rows.now tallies.old (length part.now.rows.now) }
+    ensures small { AreWithin (part.now.fed + length part.now.rows.now) tallies.new }
+{
+    for k in 0..part.rows.len() {
+        let group = part.groups[k];
+        tallies[group] = tallies[group].with_row(item, part.batch, part.rows[k] as usize);
+    }
+}
