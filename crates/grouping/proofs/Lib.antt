@@ -1,3 +1,5 @@
 pub mod KeyCells
 pub mod Numbers
 pub mod Stepping
+pub mod Finding
+pub mod Sharing

@@ -1,4 +1,5 @@
 pub mod Fed
+pub mod Found
 pub mod Keys
 pub mod RowKeys
 pub mod Tallies

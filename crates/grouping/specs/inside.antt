@@ -1,2 +1,3 @@
 -- Inside: what proofs say of tallies and of places.
 pub mod Counting
+pub mod Placing

@@ -5,6 +5,7 @@ mod cell;
 pub mod groups;
 mod key;
 mod part;
+mod table;
 mod tally;
 
 pub use crate::groups::{Grouping, Groups};
