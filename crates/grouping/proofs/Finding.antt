@@ -17,7 +17,7 @@ use Rattle.typed_plan.specs.Grouped.{same_key}
 use Rattle.grouping.specs.declared.key.RowKey.{RowKey}
 use Rattle.grouping.specs.Found.{key_in, place_in, found_then}
 use Rattle.grouping.specs.Keys.{key_self}
-use Rattle.grouping.specs.inside.Placing.{ArePlaced, IsFirst}
+use Rattle.grouping.specs.inside.Placing.{ArePlaced, IsFirst, found_by}
 use Rattle.grouping.specs.RowKeys.{key_of, same_first}
 
 -- the invariant of the loop over rows
@@ -151,3 +151,13 @@ step keys columns rows before count firsts groups first so more same_keys same_c
       kept = λ types typed all. all_inserted (IsFirst types keys) firsts first (so.kept types typed all)
         (record { typed = subst (AreOf types) (sym same_columns) typed; keyed = same_keys });
     }
+
+-- without columns the one key stays
+pub found_alone : (keys : List ℕ) (firsts : List RowKey) (rows : List Row) → nat_eq (length keys) 0 ≡ true →
+    found_by keys firsts ≡ found_then keys (found_by keys firsts) rows
+found_alone [] firsts rows empty = one rows
+  where
+    one : (rows : List Row) → ([] ∷ []) ≡ found_then [] ([] ∷ []) rows
+    one [] = refl
+    one (row ∷ rows) = one rows
+found_alone (key ∷ keys) firsts rows empty = let no_key : nat_eq (length (key ∷ keys)) 0 ≡ false = ne_eqb _ _ (λ (h : length (key ∷ keys) ≡ 0). omega arith) in cc

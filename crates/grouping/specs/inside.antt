@@ -1,3 +1,4 @@
 -- Inside: what proofs say of tallies and of places.
+pub mod Adding
 pub mod Counting
 pub mod Placing
