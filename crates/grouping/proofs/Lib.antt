@@ -3,3 +3,4 @@ pub mod Numbers
 pub mod Stepping
 pub mod Finding
 pub mod Sharing
+pub mod AddingAll

@@ -3,6 +3,7 @@
 
 mod cell;
 pub mod groups;
+mod kept;
 mod key;
 mod part;
 mod table;

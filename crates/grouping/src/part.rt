@@ -1,8 +1,8 @@
 //! Rows that are fed, and their groups.
 
-ghost use Rattle.std.specs.Prelude.{◌≡◌, ◌≤◌, ◌<◌, ◌+◌, All, OnOk, length};
+ghost use Rattle.std.specs.Prelude.{◌≡◌, ◌≤◌, ◌<◌, ℕ, ◌+◌, All, OnOk, length};
 ghost use Rattle.scan_base.specs.Limits.{most_rows};
-ghost use Rattle.grouping.specs.inside.Adding.{IsAdded};
+ghost use Rattle.grouping.specs.inside.Adding.{IsAdded, AreAdded, CanCountAll, IsKept, lists_of};
 ghost use Rattle.grouping.specs.inside.Counting.{AreWithin, CanCount, stepped};
 
 use crate::tally::Tally;
@@ -59,5 +59,31 @@ pub(crate) fn add_to(
 {
     tallies.resize(found, Tally::new())?;
     add_rows(tallies.as_mut_slice(), item, part);
+    Ok(())
+}
+
+/// Adds each row to the tallies of its group, one for each item.
+///
+/// # Errors
+///
+/// `AllocError` where memory is refused.
+pub(crate) fn add_all(
+    tallies: &mut [Vec<Tally>],
+    items: &[Aggregate],
+    part: &Part<'_>,
+    found: usize,
+) -> Result<(), AllocError>
+    requires there { CanCountAll items.now part.now.batch.now.columns }
+    requires within { All (λ row. row < part.now.batch.now.rows) part.now.rows.now }
+    requires grouped { All (λ group. group < found) part.now.groups.now }
+    requires long { length part.now.groups.now ≡ length part.now.rows.now }
+    requires few { part.now.fed + length part.now.rows.now ≤ most_rows }
+    requires kept { (before : ℕ) × (before ≤ found) × IsKept items.now before part.now.fed (lists_of tallies.old) }
+    ensures added { OnOk result (AreAdded items.now part.now.batch.now.columns part.now.rows.now part.now.groups.now found part.now.fed
+        (lists_of tallies.old) (lists_of tallies.new) (length items.now)) }
+{
+    for item in 0..items.len() {
+        add_to(&mut tallies[item], items[item], part, found)?;
+    }
     Ok(())
 }
