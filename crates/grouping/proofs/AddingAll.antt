@@ -6,7 +6,8 @@ use Rattle.typed_plan.specs.declared.plan.Aggregate.{Aggregate}
 use Rattle.typed_plan.specs.declared.plan.Aggregate.TheVariants.{Key}
 use Rattle.grouping.specs.declared.tally.Tally.{Tally}
 use Rattle.grouping.specs.inside.Counting.{AreWithin}
-use Rattle.grouping.specs.inside.Adding.{IsAdded, AreAdded}
+use Rattle.grouping.specs.inside.Adding.{IsAdded, AreAdded, IsKept}
+use Rattle.grouping.proofs.Sharing.{stepped_long}
 
 -- one item more
 pub step : (items : List Aggregate) (columns : List ColumnAt) (rows groups : List ℕ) (found fed : ℕ) (before after : List (List Tally)) (place : ℕ) (new : List Tally) →
@@ -28,3 +29,14 @@ step items columns rows groups found fed before after place new so there added w
         (subst (AreWithin (fed + length rows)) (sym here) within);
       left = λ item high. other item (λ (q : item ≡ place). omega arith) ∙ so.left item (omega arith);
     }
+
+-- where all items are done, there is a tally of each item for each group
+pub kept_after : (items : List Aggregate) (columns : List ColumnAt) (rows groups : List ℕ) (found fed : ℕ) (before after : List (List Tally)) →
+    AreAdded items columns rows groups found fed before after (length items) → length after ≡ length items →
+    IsKept items found (fed + length rows) after
+kept_after items columns rows groups found fed before after so many = record {
+  many = many;
+  long = λ item low. let added = so.added item low in
+    ap length added.stepped ∙ stepped_long (get_or items item (Key 0)) columns groups rows added.padded (length rows) ∙ added.long;
+  small = so.small;
+}

@@ -81,6 +81,7 @@ pub(crate) fn add_all(
     requires kept { (before : ℕ) × (before ≤ found) × IsKept items.now before part.now.fed (lists_of tallies.old) }
     ensures added { OnOk result (AreAdded items.now part.now.batch.now.columns part.now.rows.now part.now.groups.now found part.now.fed
         (lists_of tallies.old) (lists_of tallies.new) (length items.now)) }
+    ensures kept { OnOk result (IsKept items.now found (part.now.fed + length part.now.rows.now) (lists_of tallies.new)) }
 {
     for item in 0..items.len() {
         add_to(&mut tallies[item], items[item], part, found)?;
