@@ -4,3 +4,5 @@ pub mod Stepping
 pub mod Finding
 pub mod Sharing
 pub mod AddingAll
+pub mod Feeding
+pub mod Blank

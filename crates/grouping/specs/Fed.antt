@@ -93,3 +93,12 @@ Finishes groups result = going groups.refused result
     going (Some fault) result = result ≡ Err fault
     going None (Ok batches) = ((rows : List Row) → Holds groups rows → AreAnswers groups batches.items rows) × All (IsAnswer groups) batches.items
     going None (Err fault) = fault ≡ OutOfMemory
+
+-- no row was fed
+pub record IsNew (types : List DataType) (keys : List ℕ) (items : List Aggregate) (groups : GroupsAt) : Type 0 where
+  pub types_are : groups.types ≡ types
+  pub keys_are : groups.keys ≡ keys
+  pub items_are : groups.items ≡ items
+  pub refused : groups.refused ≡ None
+  pub count : groups.count ≡ 0
+  pub held : Holds groups []

@@ -1,4 +1,5 @@
 -- Inside: what proofs say of tallies and of places.
 pub mod Adding
 pub mod Counting
+pub mod Kept
 pub mod Placing

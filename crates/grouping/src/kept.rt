@@ -1,6 +1,6 @@
 //! What is kept of the rows that were fed.
 
-ghost use Rattle.std.specs.Prelude.{◌≡◌, ◌≤◌, ◌<◌, ◌+◌, List, All, IsTrue, OnOk, length, map, nat_lt};
+ghost use Rattle.std.specs.Prelude.{◌≡◌, ◌≤◌, ◌<◌, ◌+◌, List, All, IfOk, IsTrue, OnOk, length, map, nat_lt};
 ghost use Rattle.std.specs.List.{list_all};
 ghost use Rattle.scan_base.specs.Limits.{most_rows};
 ghost use Rattle.arrow_schema.specs.declared.data_type.DataType.{DataType};
@@ -8,6 +8,7 @@ ghost use Rattle.arrays.specs.Batch.{row_of};
 ghost use Rattle.arrays.specs.Typed.{AreOf};
 ghost use Rattle.grouping.specs.Found.{found_then};
 ghost use Rattle.grouping.specs.inside.Adding.{CanCountAll, IsKept, IsGrown, lists_of};
+ghost use Rattle.grouping.specs.inside.Kept.{AreBlank};
 ghost use Rattle.grouping.specs.inside.Placing.{found_by, IsFirst};
 
 use crate::key::RowKey;
@@ -72,4 +73,26 @@ pub(crate) fn found_count(columns: &[usize], firsts: &IndexSet<RowKey<'_>, HashS
         return 1;
     }
     firsts.len()
+}
+
+/// For each of so many items the tallies of no rows, one for each group.
+///
+/// # Errors
+///
+/// `AllocError` where memory is refused.
+pub(crate) fn blank(
+    alloc: Global,
+    items: usize,
+    groups: usize,
+) -> Result<Vec<Vec<Tally>>, AllocError>
+    ensures many { IfOk result (λ tallies. length tallies.items ≡ items) }
+    ensures blank { IfOk result (λ tallies. All (λ list. AreBlank groups list.items) tallies.items) }
+{
+    let mut tallies = Vec::with_capacity(alloc, items)?;
+    for _item in 0..items {
+        let mut list = Vec::new(alloc);
+        list.resize(groups, Tally::new())?;
+        tallies.push(list)?;
+    }
+    Ok(tallies)
 }
