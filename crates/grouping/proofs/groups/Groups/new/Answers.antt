@@ -1,4 +1,4 @@
-use Rattle.std.proofs.Common.{◌≡◌, [], length, refl, sym, ap, ◌∙◌, subst, All, List}
+use Rattle.std.proofs.Common.{◌≡◌, [], length, refl, sym, ap, ◌∙◌, subst, All, List, arith}
 use Rattle.std.proofs.lemmas.List.Elements.{All-nil}
 use Rattle.grouping.specs.declared.key.RowKey.{RowKey}
 use Rattle.grouping.specs.inside.Adding.{IsKept, lists_of}
@@ -10,7 +10,7 @@ pub invariant_of-result : goal.invariant_of-result
 invariant_of-result c =
     let shape = c.args.shape in
     let none : c.with_hasher-firsts.result.keys ≡ [] = c.with_hasher-firsts.ensures.empty in
-    let many = c.in_ok-tallies.ensures.many ∙ c.len.ensures in
+    let many : length c.in_ok-tallies.tallies.items ≡ length c.args.shape.items.items = omega (arith, c.in_ok-tallies.ensures.many, c.len.ensures, c.args.shape.items.ok) in
     record {
       has = c.requires;
       kept = λ _. subst (λ groups. IsKept shape.items.items groups 0 (lists_of c.in_ok-tallies.tallies.items)) c.found_count-groups.ensures
@@ -22,7 +22,7 @@ pub returns : goal.returns
 returns c =
     let shape = c.args.shape in
     let none : c.with_hasher-firsts.result.keys ≡ [] = c.with_hasher-firsts.ensures.empty in
-    let many = c.in_ok-tallies.ensures.many ∙ c.len.ensures in
+    let many : length c.in_ok-tallies.tallies.items ≡ length c.args.shape.items.items = omega (arith, c.in_ok-tallies.ensures.many, c.len.ensures, c.args.shape.items.ok) in
     record {
       types_are = refl;
       keys_are = refl;
