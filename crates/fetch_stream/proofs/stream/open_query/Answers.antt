@@ -6,7 +6,7 @@ use Rattle.table_versions.specs.Stored.{tables_of}
 use Rattle.typed_plan.specs.Plan.{plan_rows}
 use Rattle.typed_plan.specs.View.{plan_of}
 use Rattle.fetch_stream.proofs.Going.{opens_behind}
-use Rattle.fetch_stream.proofs.Meaning.{misses_mean_nothing, out_of_range, meant, few_given, plan_answer}
+use Rattle.fetch_stream.proofs.Meaning.{misses_mean_nothing, out_of_range, part_of_groups, range_is, meant, plan_answer}
 use Rattle.fetch_stream.proofs.stream.open_query.Goals as goal
 
 pub returns-in_err-planned-clause-refused : goal.returns-in_err-planned-clause-refused
@@ -17,7 +17,7 @@ returns-in_err-planned-clause-refused c =
 pub returns-then-to-planned-clause-refused : goal.returns-then-to-planned-clause-refused
 returns-then-to-planned-clause-refused c other =
     let planned = c.in_ok-planned.planned in
-    out_of_range (tables_of c.args.catalog.now) c.args.range.from c.args.range.to planned.rows c.args.text.now (plan_of planned.plan) c.in_ok-planned.ensures.planned
+    out_of_range (tables_of c.args.catalog.now) c.args.range.from c.args.range.to planned.rows planned.grouped c.args.text.now (plan_of planned.plan) c.in_ok-planned.ensures.planned
     (omega (arith, c.if-to-planned.true))
 
 pub returns-clause-opened : goal.returns-clause-opened
@@ -31,8 +31,7 @@ returns-clause-opened c =
     let scan = c.in_ok-scan.scan in
     let within : to ≤ planned.rows = omega (arith, c.if-to-planned.false) in
     let means = meant database from to planned.rows c.args.text.now plan c.in_ok-planned.ensures.planned (omega (arith, c.requires)) within in
-    let few = few_given plan database from to planned.rows within c.in_ok-planned.ensures.planned.few in
     let rows : left scan ≡ plan_rows plan database from to = c.in_ok-scan.ensures.rows catalog c.in_ok-planned.ensures.held in
-    let schema : scan.schema ≡ plan.schema = rw c.in_ok-scan.ensures.scan refl in
+    let schema : scan.schema ≡ plan.schema = c.in_ok-scan.ensures.begins.schema in
     let nothing : rows_of c.new-nothing.result ≡ [] = rw c.new-nothing.ensures refl in
-    (plan_answer plan database from to, means, few, c.of.ensures ∙ opens_behind scan.schema (rows_of c.new-nothing.result) (left scan) (plan_answer plan database from to) schema nothing rows)
+    (plan_answer plan database from to, means, c.of.ensures ∙ opens_behind scan.schema (rows_of c.new-nothing.result) (left scan) (plan_answer plan database from to) schema nothing rows)

@@ -7,4 +7,4 @@ use Rattle.fetch_stream.proofs.stream.FetchStream.of.Goals as goal
 
 pub returns : goal.returns
 returns c =
-    rw c.new.ensures (ap (λ rows. stream_of (schema_behind c.args.source) false (rows ++ left_behind c.args.source)) (none_cut c.batch_slices_keep_rows.ensures c.args.batch 65536))
+    rw c.new.ensures (ap (λ rows. stream_of (schema_behind c.args.source) false (rows ++ left_behind c.args.source) 0) (none_cut c.batch_slices_keep_rows.ensures c.args.batch 65536))

@@ -3,13 +3,16 @@ use Rattle.flight_info.specs.Payloads.{Payload, FitMessages}
 use Rattle.flight_info.proofs.Fitting.{none_fit, one_fits}
 use Rattle.fetch_stream.specs.Streams.{StreamAt, Gives, GivesPayload, HasGiven, opened}
 use Rattle.fetch_stream.proofs.Answering.{given_none, fewer_turns, gave, given_more, ended, given_all}
-use Rattle.fetch_stream.proofs.fetch.collected.Goals as goal
+use Rattle.fetch_stream.proofs.fetch.collect.Goals as goal
 
 pub loop-payloads-init : goal.loop-payloads-init
 loop-payloads-init c = record {
-  given = λ answer same. subst (λ (stream : StreamAt). HasGiven answer c.new-payloads.result.items stream) (sym same)
-      (subst (λ (payloads : List Payload). HasGiven answer payloads (opened answer)) (sym c.new-payloads.ensures.items) (given_none answer));
-  fits = subst FitMessages (sym c.new-payloads.ensures.items) none_fit;
+  given = λ answer same. (
+    ap (λ (stream : StreamAt). stream.refused) same,
+    subst (λ (stream : StreamAt). HasGiven answer c.args.payloads.now.items stream) (sym same)
+        (subst (λ (payloads : List Payload). HasGiven answer payloads (opened answer)) (sym c.requires) (given_none answer)),
+  );
+  fits = subst FitMessages (sym c.requires) none_fit;
 }
 
 pub loop-payloads-smaller : goal.loop-payloads-smaller
@@ -29,13 +32,9 @@ loop-payloads-preserved c =
     let gives : GivesPayload before payload after = gave before after payload (subst (λ (found : Option Payload). Gives before (Ok found) after) c.in-Some.is c.in_ok-payload.ensures) in
     let pushed : c.push.new.self.items ≡ payloads ++ payload ∷ [] = c.in_ok-push.ensures.items ∙ ap (λ (last : Payload). payloads ++ last ∷ []) c.in_ok-into_bytes.ensures.same in
     record {
-      given = λ answer same. subst (λ (all : List Payload). HasGiven answer all after) (sym pushed) (given_more answer payloads before after payload (c.loop-payloads.invariant.given answer same) gives);
+      given = λ answer same. (
+        gives.refused,
+        subst (λ (all : List Payload). HasGiven answer all after) (sym pushed) (given_more answer payloads before after payload (c.loop-payloads.invariant.given answer same).1 gives),
+      );
       fits = subst FitMessages (sym pushed) (one_fits payloads payload c.loop-payloads.invariant.fits gives.fits);
     }
-
-pub returns-clause-said : goal.returns-clause-said
-returns-clause-said c answer same =
-    let before = c.loop-payloads.stream in
-    let after = c.next.new.self in
-    let end = ended before after (subst (λ (found : Option Payload). Gives before (Ok found) after) c.in_default.is c.in_ok-payload.ensures) in
-    given_all answer c.loop-payloads.payloads.items before (c.loop-payloads.invariant.given answer same) end.0 end.1
