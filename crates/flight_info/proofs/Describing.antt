@@ -105,8 +105,9 @@ pub one_range : (rows : ℕ) → ranges_of rows 1 ≡ record { from = 0; to = ro
 unfolding ranges_of
 one_range rows =
     let one : count_of rows 1 ≡ 1 = omega arith in
+    let begin : 0 * rows / 1 ≡ 0 = omega arith in
     let end : (0 + 1) * rows / 1 ≡ rows = omega arith in
-    rw (one, end) refl
+    rw (one, begin, end) refl
 
 parts_are : (grouped : Bool) (rows parts : ℕ) → IsPartition 0 rows (ranges_over grouped rows parts)
 parts_are true rows parts = (refl, omega arith, refl)

@@ -1,9 +1,8 @@
 -- What a text says, and what is planned of it.
-use Rattle.std.proofs.Common.{◌≡◌, ◌≤◌, ◌==◌, ◌||◌, not, ℕ, Bool, true, false, List, length, map, Option, Some, None, Result, Ok, refl, sym, ap, ◌∙◌}
+use Rattle.std.proofs.Common.{◌≡◌, ◌≤◌, ℕ, Bool, get_or, List, [], ◌∷◌, map, Option, Some, None, Result, Ok, sym, ap, ◌∙◌}
 use Rattle.std.specs.Prelude.{IfSome}
 use Rattle.std.proofs.lemmas.List.Elements.{All-weaker}
 use Rattle.scan_base.specs.declared.fault.Fault.{Fault}
-use Rattle.scan_base.specs.declared.fault.Fault.TheVariants.{NotInSubset}
 use Rattle.scan_base.specs.Limits.{most_rows}
 use Rattle.arrow_schema.specs.Schema.{IsSchema}
 use Rattle.sql_text.specs.Reading.{tokens_in}
@@ -22,8 +21,7 @@ use Rattle.table_versions.specs.Database.{Database, table_at}
 use Rattle.table_versions.specs.Stored.{CatalogAt, TableAt, plain, tables_of}
 use Rattle.table_versions.proofs.Stores.{table_at-tables_of}
 use Rattle.typed_plan.specs.Binding.{IsPlanOf}
-use Rattle.typed_plan.specs.Bound.{fault_of, rules_fault}
-use Rattle.typed_plan.specs.Faults.{must, ◌then◌}
+use Rattle.typed_plan.specs.Bound.{fault_of}
 use Rattle.typed_plan.specs.Joined.{place_rows, rows_in}
 use Rattle.typed_plan.specs.Named.{IsNameIfThere, HasNames}
 use Rattle.typed_plan.specs.Plan.{PlanAt}
@@ -73,11 +71,12 @@ names_are (select.List items) named =
 
 -- the first table that a plan holds is the one of the first place
 pub first_held : (catalog : CatalogAt) (name : Name) (names all : List Name) (tables : List TableAt) → map (table_at catalog) all ≡ map (λ (table : TableAt). Some table) tables
-    → all ≡ name ∷ names → (table : TableAt) → slice_get tables 0 ≡ Some table → table_at catalog name ≡ Some table
-first_held catalog name names all [] held is table there = absurd cc
+    → all ≡ name ∷ names → (table : TableAt) → table ≡ get_or tables 0 table → table_at catalog name ≡ Some table
+first_held catalog name names all [] held is table there =
+    let both : table_at catalog name ∷ map (table_at catalog) names ≡ [] = ap (map (table_at catalog)) (sym is) ∙ held in cc
 first_held catalog name names all (first ∷ rest) held is table there =
     let both : table_at catalog name ∷ map (table_at catalog) names ≡ Some first ∷ map (λ (table : TableAt). Some table) rest = ap (map (table_at catalog)) (sym is) ∙ held in
-    let same : Some first ≡ Some table = there in
+    let same : table ≡ first = there in
     cc
 
 pub place_is : (catalog : CatalogAt) (place : Place) (found : Option TableAt) → table_at catalog place.table ≡ found → place_rows (tables_of catalog) place ≡ rows_in (plain found)

@@ -91,7 +91,11 @@ fn query_tickets(
 fn endpoint_ranges(rows: u32, grouped: bool, parts: u32) -> Ranges
     ensures { result ≡ ranges_over grouped rows parts }
 {
-    split(rows, if grouped { 1 } else { parts })
+    if grouped {
+        split(rows, 1)
+    } else {
+        split(rows, parts)
+    }
 }
 
 // What the info of a query says: its schema, and a Ticket for each part.
