@@ -8,3 +8,4 @@ pub mod Running
 pub mod Sources
 pub mod Joined
 pub mod Begun
+pub mod Shown
