@@ -1,7 +1,6 @@
 //! FROM: the columns of its places, and the tree that gives their rows.
 
-ghost use Rattle.std.specs.Prelude.{◌≡◌, ◌++◌, ℕ, IfOk, length};
-ghost use Rattle.sql_query.specs.Sentence.{place_name};
+ghost use Rattle.std.specs.Prelude.{◌≡◌, ◌++◌, IfOk, length};
 ghost use Rattle.typed_plan.specs.Bound.{crosses, equality_fault};
 ghost use Rattle.typed_plan.specs.Faults.{must, first_in};
 ghost use Rattle.typed_plan.specs.Listed.{CanBeWritten};

@@ -1,9 +1,8 @@
 //! The tables of a query's places.
 
-ghost use Rattle.std.specs.Prelude.{◌≡◌, ◌∷◌, [], Some, map};
+ghost use Rattle.std.specs.Prelude.{◌≡◌, [], Some};
 ghost use Rattle.std.specs.List.{list_any};
 ghost use Rattle.std.specs.Str.{bytes_eq};
-ghost use Rattle.sql_query.specs.Sentence.{sentence_of, place_name};
 ghost use Rattle.table_versions.specs.Database.{table_at};
 ghost use Rattle.table_versions.specs.Stored.{tables_of};
 ghost use Rattle.typed_plan.specs.Bound.{place_fault, places_fault};

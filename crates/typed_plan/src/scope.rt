@@ -1,7 +1,7 @@
 //! The columns that the names of a query may stand for.
 
 ghost use Rattle.std.specs.Prelude.{◌≡◌, ◌<◌, ◌++◌, IfOk, OnOk, Some, length, option_map, slice_get};
-ghost use Rattle.typed_plan.specs.Scope.{columns_in, stands_for as is_named, column_of, numbers_of};
+ghost use Rattle.typed_plan.specs.Scope.{columns_in, stands_for as is_named, column_of};
 ghost use Rattle.typed_plan.specs.ResultSchema.{select_fields};
 ghost use Rattle.sql_query.specs.declared.query.Select.TheVariants.{All};
 

@@ -1,6 +1,6 @@
 //! What a query selects: what the result takes of the rows, and its columns.
 
-ghost use Rattle.std.specs.Prelude.{◌≡◌, ℕ, false, IfOk, length, map};
+ghost use Rattle.std.specs.Prelude.{◌≡◌, ℕ, false, length, map};
 ghost use Rattle.sql_query.specs.Sentence.{sentence_of, is_left_out_whole};
 ghost use Rattle.sql_query.specs.declared.query.Select.TheVariants.{All as AllColumns};
 ghost use Rattle.typed_plan.specs.Bound.{width_fault};
