@@ -1,5 +1,5 @@
 -- Which rows join, and the pairs of them in the order of nested loops.
-use Rattle.std.specs.Prelude.{ℕ, ◌-◌, ◌==◌, Bool, if◌then◌else◌, List, [], ◌++◌, length, map, drop, get_or, nat_lt, zip}
+use Rattle.std.specs.Prelude.{ℕ, ◌-◌, ◌==◌, Bool, if◌then◌else◌, List, [], length, map, drop, get_or, zip}
 use Rattle.std.specs.List.{list_all, filter, flat_map, range_with_len}
 use Rattle.scan_base.specs.declared.comparison.Comparison.TheVariants.{Equal}
 use Rattle.scan_base.specs.declared.value.Value.{Value}

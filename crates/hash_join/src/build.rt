@@ -6,7 +6,10 @@ ghost use Rattle.scan_base.specs.Limits.{most_rows};
 ghost use Rattle.arrays.specs.Batch.{BatchAt};
 ghost use Rattle.hash_join.specs.Pairs.{places, pairs_ahead};
 
+use crate::chains::Chains;
 use crate::pair::Pair;
+use crate::rights::Rights;
+use crate::search::Search;
 use arrays::Batch;
 use hash_seed::HashSeed;
 use std::alloc::{AllocError, Global};
@@ -16,8 +19,8 @@ use std::marker::Model;
 /// numbers of the columns that are the key.
 #[derive(Drop)]
 pub struct Build {
-    batches: Vec<Batch>,
-    key: Vec<usize>,
+    rights: Rights,
+    chains: Chains,
 }
 
 impl Model for Build {
@@ -25,7 +28,11 @@ impl Model for Build {
 
     ghost Value = { BuildAt };
 
-    ghost view = { λ b. record { batches = b.batches.items; key = b.key.items } };
+    ghost use Rattle.hash_join.specs.Searches.{build_of, IsBuilt};
+
+    ghost view = { λ b. build_of b.rights };
+
+    ghost invariant = { λ b. IsBuilt b.rights b.chains };
 }
 
 /// A left batch, and the numbers of the columns that are its key.
@@ -69,18 +76,20 @@ impl Build {
         requires counted { length batches.items ≤ most_rows }
         ensures { IfOk result (λ build. build ≡ record { batches = batches.items; key = key.items }) }
     {
-        let _stub = (alloc, seed, batches.len(), key.len());
-        Err(AllocError)
+        let rights = Rights::new(alloc, seed, batches, key)?;
+        let chains = Chains::new(alloc, &rights)?;
+        Ok(Build { rights, chains })
     }
 
     /// The batches of the right side.
     pub fn batches(&self) -> &[Batch]
         ensures { result.now ≡ self.now.batches }
     {
-        self.batches.as_slice()
+        self.rights.batches.as_slice()
     }
 
-    /// The next pairs of a left batch, no more than `most`, in the order of nested loops, the left outermost: none where none is left. A null joins nothing.
+    /// The next pairs of a left batch, no more than `most`, in the order of nested loops, the left outermost: none where none
+    /// is left. A null joins nothing.
     ///
     /// # Errors
     ///
@@ -102,7 +111,14 @@ impl Build {
         ensures some { IfOk result (λ pairs. pairs.items ≡ [] → pairs_ahead self.now left.now.batch.now left.now.key.now probe.old ≡ []) }
         ensures kept { OnErr result (probe.new ≡ probe.old) }
     {
-        let _stub = (alloc, left.batch.rows(), probe.left, most);
-        Err(AllocError)
+        let search = Search {
+            rights: &self.rights,
+            chains: &self.chains,
+            left: *left,
+        };
+        let mut pairs = Vec::new(alloc);
+        let stop = search.push_pairs(probe, most, &mut pairs)?;
+        *probe = stop;
+        Ok(pairs)
     }
 }

@@ -2,7 +2,12 @@
 #![tactic(auto)]
 
 pub mod build;
+mod chains;
+mod key_row;
 pub mod pair;
+mod rights;
+mod search;
+mod walk;
 
 pub use crate::build::{Build, LeftSide, Probe};
 pub use crate::pair::Pair;

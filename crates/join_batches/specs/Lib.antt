@@ -1,2 +1,4 @@
 pub mod Joiner
-pub mod Inside
+pub mod Rows
+pub mod Sides
+pub mod Held

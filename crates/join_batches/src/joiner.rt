@@ -1,19 +1,24 @@
 //! Joins of left batches with the rows of a right side.
 
-ghost use Rattle.std.specs.Prelude.{◌≡◌, ◌≤◌, [], All, IfOk, IsTrue, length, nat_lt};
+ghost use Rattle.std.specs.Prelude.{◌≡◌, ◌≤◌, ◌<◌, ◌++◌, [], All, IfOk, IsTrue, OnErr, length, nat_lt};
 ghost use Rattle.std.specs.List.{list_all, flat_map};
 ghost use Rattle.scan_base.specs.Limits.{most_rows};
 ghost use Rattle.arrays.specs.Batch.{BatchAt, rows_of};
 ghost use Rattle.arrays.specs.Typed.{AreOf};
-ghost use Rattle.hash_join.specs.Pairs.{places};
+ghost use Rattle.hash_join.specs.Pairs.{places, pairs_ahead};
 ghost use Rattle.join_batches.specs.Joiner.{JoinsNext, joined_of, most_joined_rows};
+ghost use Rattle.join_batches.specs.Rows.{IsPair};
 
+use crate::sides::Sides;
 use arrays::Batch;
 use arrow_schema::DataType;
-use hash_join::{Build, Pair, Probe};
+use hash_join::{Build, LeftSide, Pair, Probe};
 use hash_seed::HashSeed;
 use std::alloc::{AllocError, Global};
 use std::marker::Model;
+
+// As many pairs as are looked for at once, and as many rows as a joined batch has.
+const MOST_ROWS: usize = 65_536;
 
 /// The types of the columns of a side of a join, and the numbers of those that are the key.
 #[derive(Drop)]
@@ -44,25 +49,15 @@ pub struct Joiner {
 }
 
 impl Model for Joiner {
-    ghost use Rattle.std.specs.Prelude.{length, map, All, ◌≤◌};
-    ghost use Rattle.std.specs.List.{flat_map};
-    ghost use Rattle.arrays.specs.Batch.{rows_of};
     ghost use Rattle.join_batches.specs.Joiner.{JoinerAt};
-    ghost use Rattle.join_batches.specs.Inside.{pair_row, pairs_left, IsJoiner};
 
     ghost Value = { JoinerAt };
 
-    ghost view = { λ j. record {
-      left_types = j.left.types.items;
-      right_types = j.right_types.items;
-      left_key = j.left.key.items;
-      right_key = j.build.key;
-      rights = flat_map rows_of j.build.batches;
-      ahead = map (pair_row j.build j.batch)
-          (pairs_left j.build j.batch j.left.key.items j.probe j.pairs.items j.given);
-    } };
+    ghost use Rattle.join_batches.specs.Held.{joiner_of, IsJoiner};
 
-    ghost invariant = { λ j. ⊥ };
+    ghost view = { joiner_of };
+
+    ghost invariant = { IsJoiner };
 }
 
 impl Joiner {
@@ -93,8 +88,18 @@ impl Joiner {
           ahead = [];
         }) }
     {
-        let _stub = (alloc, seed, sides, batches.len());
-        Err(AllocError)
+        let JoinSides { left, right } = sides;
+        let JoinSide { types, key } = right;
+        let build = Build::new(alloc, seed, batches, key)?;
+        Ok(Joiner {
+            left,
+            right_types: types,
+            build,
+            batch: Batch::new(Vec::new(alloc), 0),
+            probe: Probe::new(),
+            pairs: Vec::new(alloc),
+            given: 0,
+        })
     }
 
     /// Joins a left batch next: all joined rows of the one before were given.
@@ -111,15 +116,60 @@ impl Joiner {
     }
 
     /// The next joined rows of the left batch as a batch: one row or more, no more than 65,536, whose texts have no more
-    /// than 16 MB where it is more than one. `None` where no row is left.
+    /// than 16 MB in a column where it is more than one. `None` where no row is left.
     ///
     /// # Errors
     ///
-    /// `AllocError` where memory is refused. The same rows come next.
+    /// `AllocError` where memory is refused, or where one text has so many bytes that no offset names the last: 2 to the 31
+    /// or more. The same rows come next.
     pub fn next(&mut self, alloc: Global) -> Result<Option<Batch>, AllocError>
         ensures { JoinsNext self.old result self.new }
     {
-        let _stub = (alloc, self.given);
-        Err(AllocError)
+        if self.given == self.pairs.len() {
+            let left = LeftSide {
+                batch: &self.batch,
+                key: self.left.key.as_slice(),
+            };
+            self.pairs = next_pairs(alloc, &self.build, &left, &mut self.probe)?;
+            self.given = 0;
+        }
+        let pairs = &self.pairs.as_slice()[self.given..];
+        if pairs.is_empty() {
+            return Ok(None);
+        }
+        let sides = Sides {
+            left: &self.batch,
+            left_types: self.left.types.as_slice(),
+            rights: self.build.batches(),
+            right_types: self.right_types.as_slice(),
+        };
+        let joined = sides.joined(alloc, pairs)?;
+        self.given += joined.rows();
+        Ok(Some(joined))
     }
+}
+
+// The next pairs of a left batch that are to be found: none where the batch has no row.
+fn next_pairs(
+    alloc: Global,
+    build: &Build,
+    left: &LeftSide<'_>,
+    probe: &mut Probe,
+) -> Result<Vec<Pair>, AllocError>
+    requires alike { length left.now.key.now ≡ length build.now.key }
+    requires key { 0 < left.now.batch.now.rows →
+        IsTrue (list_all (λ column. nat_lt column (length left.now.batch.now.columns)) left.now.key.now) }
+    requires few { left.now.batch.now.rows ≤ most_joined_rows }
+    ensures next { IfOk result (λ pairs. pairs.items ++ pairs_ahead build.now left.now.batch.now left.now.key.now probe.new
+        ≡ pairs_ahead build.now left.now.batch.now left.now.key.now probe.old) }
+    ensures there { IfOk result (λ pairs. All (IsPair build.now.batches left.now.batch.now) pairs.items) }
+    ensures few { IfOk result (λ pairs. length pairs.items ≤ most_joined_rows) }
+    ensures some { IfOk result
+        (λ pairs. pairs.items ≡ [] → pairs_ahead build.now left.now.batch.now left.now.key.now probe.old ≡ []) }
+    ensures kept { OnErr result (probe.new ≡ probe.old) }
+{
+    if left.batch.rows() == 0 {
+        return Ok(Vec::new(alloc));
+    }
+    build.next(alloc, left, probe, MOST_ROWS)
 }

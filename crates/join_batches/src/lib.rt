@@ -2,5 +2,6 @@
 #![tactic(auto)]
 
 pub mod joiner;
+mod sides;
 
 pub use crate::joiner::{JoinSide, JoinSides, Joiner};

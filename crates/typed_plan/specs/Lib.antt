@@ -16,3 +16,5 @@ pub mod Held
 pub mod Typed
 pub mod Binding
 pub mod Planned
+pub mod Over
+pub mod Listed

@@ -1,23 +1,34 @@
 //! Binding: the names of a query become columns, and the query a plan.
 
-ghost use Rattle.std.specs.Prelude.{◌≡◌, ◌∷◌, IfOk, map};
+ghost use Rattle.std.specs.Prelude.{◌≡◌, ◌∷◌, false, IfOk, map, option_map};
 ghost use Rattle.arrow_schema.specs.Schema.{IsSchema};
 ghost use Rattle.scan_base.specs.Reading.{RefusesFirst};
-ghost use Rattle.sql_query.specs.Sentence.{sentence_of};
+ghost use Rattle.scan_base.specs.View.{pred_of};
+ghost use Rattle.sql_query.specs.Sentence.{sentence_of, is_left_out_whole};
 ghost use Rattle.table_versions.specs.Stored.{tables_of};
 ghost use Rattle.typed_plan.specs.Binding.{IsPlanOf};
 ghost use Rattle.typed_plan.specs.Bound.{fault_of, glance_of};
+ghost use Rattle.typed_plan.specs.Faults.{filter_fault};
 ghost use Rattle.typed_plan.specs.Held.{HoldsFrom, tree_tables};
+ghost use Rattle.typed_plan.specs.Listed.{CanBeWritten};
 ghost use Rattle.typed_plan.specs.Named.{HasNames};
 ghost use Rattle.typed_plan.specs.Outcome.{Binds};
-ghost use Rattle.typed_plan.specs.Planned.{plan_for};
+ghost use Rattle.typed_plan.specs.Over.{parts_fault, plan_over, rest_fault};
+ghost use Rattle.typed_plan.specs.Planned.{plan_for, numbered_filter, where_kept, output_for};
+ghost use Rattle.typed_plan.specs.ResultSchema.{select_fields};
 ghost use Rattle.typed_plan.specs.View.{tree_of, plan_of};
 
-use crate::plan::TypedPlan;
-use scan_base::Fault;
-use sql_query::Query;
-use std::alloc::Global;
-use table_versions::CatalogVersion;
+use crate::joining::Joined;
+use crate::places::place_tables;
+use crate::plan::{Output, Plan, TypedPlan};
+use crate::predicate::number_predicate;
+use crate::scope::Scope;
+use crate::selection::bind_output;
+use arrow_schema::Schema;
+use scan_base::{Fault, Predicate};
+use sql_query::{ColumnName, Query};
+use std::alloc::{AllocError, Global};
+use table_versions::{CatalogVersion, TableVersion};
 
 /// The plan of a query at a version of the catalog: the one tree that the parts of the query name. It gives the rows that
 /// the query means, on every range of the first place, and has the schema of the result, which can be written where the
@@ -42,12 +53,85 @@ pub fn bind(alloc: Global, query: &Query, catalog: &CatalogVersion) -> Result<Ty
     ensures places { IfOk result (λ plan. tree_tables (tree_of plan.plan)
         ≡ query.now.first.table ∷ map (λ join. join.place.table) query.now.joins) }
 {
-    let _stub = alloc;
     if query.is_left_out() {
         return Err(Fault::NotInSubset);
     }
-    let Some(_) = catalog.get(&query.first.table) else {
+    let Some(first) = catalog.get(&query.first.table) else {
         return Err(Fault::TableMissing);
     };
-    Err(Fault::OutOfMemory)
+    let tables = place_tables(alloc, query, catalog, first)?;
+    let (plan, output, schema) = bind_parts(alloc, query, first, &tables[1..])?;
+    Ok(TypedPlan {
+        tables,
+        plan,
+        output,
+        schema,
+    })
+}
+
+// The joins, WHERE, GROUP BY and the list, over the tables of the first place and of the others.
+fn bind_parts(
+    alloc: Global,
+    query: &Query,
+    first: &TableVersion,
+    others: &[TableVersion],
+) -> Result<(Plan, Output, Schema), Fault>
+    requires { is_left_out_whole (sentence_of query.now) ≡ false }
+    ensures bound { Binds (parts_fault (sentence_of query.now) first.now others.now)
+        (λ parts. record { tree = tree_of parts.0; output = parts.1; schema = parts.2 }
+        ≡ plan_over (sentence_of query.now) first.now others.now) result }
+    ensures named { HasNames query.now.select → IfOk result (λ parts. IsSchema parts.2) }
+{
+    let joined = Joined::of_place(alloc, &query.first, first)?;
+    let joined = joined.with_all(alloc, query.joins.as_slice(), others)?;
+    bind_rest(alloc, query, joined)
+}
+
+// WHERE, GROUP BY and the list.
+fn bind_rest(
+    alloc: Global,
+    query: &Query,
+    joined: Joined<'_>,
+) -> Result<(Plan, Output, Schema), Fault>
+    requires { is_left_out_whole (sentence_of query.now) ≡ false }
+    ensures bound { Binds (rest_fault (sentence_of query.now) joined.entry.scope)
+        (λ parts. (tree_of parts.0
+        ≡ where_kept (numbered_filter joined.entry.scope (option_map pred_of query.now.filter)) (tree_of joined.entry.tree))
+        × (parts.1 ≡ output_for (sentence_of query.now) joined.entry.scope)
+        × (parts.2 ≡ record { fields = select_fields joined.entry.scope query.now.select })) result }
+    ensures named { CanBeWritten joined.entry.scope → HasNames query.now.select → IfOk result (λ parts. IsSchema parts.2) }
+{
+    let Joined { scope, tree } = joined;
+    let filter = bind_filter(alloc, &scope, &query.filter)?;
+    let (output, schema) = bind_output(alloc, &scope, query)?;
+    let plan = filtered(alloc, filter, tree)?;
+    Ok((plan, output, schema))
+}
+
+// WHERE, over numbers of columns.
+fn bind_filter(
+    alloc: Global,
+    scope: &Scope<'_>,
+    filter: &Option<Predicate<ColumnName>>,
+) -> Result<Option<Predicate<usize>>, Fault>
+    ensures { Binds (filter_fault scope.now (option_map pred_of filter.now))
+        (λ bound. option_map pred_of bound ≡ numbered_filter scope.now (option_map pred_of filter.now)) result }
+{
+    match filter {
+        None => Ok(None),
+        Some(predicate) => Ok(Some(number_predicate(alloc, scope, predicate)?)),
+    }
+}
+
+// The rows of a tree for which the filter is true.
+fn filtered(alloc: Global, filter: Option<Predicate<usize>>, tree: Plan) -> Result<Plan, AllocError>
+    ensures { IfOk result (λ plan. tree_of plan ≡ where_kept (option_map pred_of filter) (tree_of tree)) }
+{
+    match filter {
+        None => Ok(tree),
+        Some(predicate) => {
+            let input = Box::new(alloc, tree).map_err(|_| AllocError)?;
+            Ok(Plan::Filter { predicate, input })
+        }
+    }
 }

@@ -1,0 +1,23 @@
+//! The columns of a result.
+
+ghost use Rattle.std.specs.Prelude.{◌≡◌, IfOk, unwrap_or};
+ghost use Rattle.arrow_schema.specs.Answer.{answer_field};
+
+use arrow_schema::Field;
+use scan_base::Text;
+use std::alloc::AllocError;
+
+// The column of a result that a column gives, with the alias as its name where there is one.
+pub(crate) fn answer_field(field: &Field, alias: &Option<Text>) -> Result<Field, AllocError>
+    ensures { IfOk result (λ answer. answer
+        ≡ record (answer_field field.now) { name = unwrap_or alias.now field.now.name }) }
+{
+    let Some(alias) = alias else {
+        return field.answered();
+    };
+    Ok(Field {
+        name: alias.clone()?,
+        nullable: field.nullable,
+        data_type: field.data_type.answered(),
+    })
+}
