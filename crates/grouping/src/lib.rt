@@ -1,6 +1,7 @@
 //! Groups of rows by first appearance, with their counts and sums.
 #![tactic(auto)]
 
+mod answer;
 mod cell;
 pub mod groups;
 mod kept;
