@@ -1,6 +1,13 @@
 //! Groups of rows by first appearance, with their counts and sums.
 #![tactic(auto)]
 
+mod answer;
+mod cell;
 pub mod groups;
+mod kept;
+mod key;
+mod part;
+mod table;
+mod tally;
 
 pub use crate::groups::{Grouping, Groups};

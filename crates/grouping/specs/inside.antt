@@ -1,0 +1,6 @@
+-- Inside: what proofs say of tallies and of places.
+pub mod Adding
+pub mod Answering
+pub mod Counting
+pub mod Kept
+pub mod Placing
