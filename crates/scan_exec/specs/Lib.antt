@@ -9,3 +9,4 @@ pub mod Sources
 pub mod Joined
 pub mod Begun
 pub mod Answering
+pub mod Shown
