@@ -5,6 +5,7 @@ mod answer;
 mod build;
 mod columns;
 mod cursor;
+mod opened;
 mod picker;
 mod piece;
 mod place;

@@ -1,0 +1,7 @@
+use Rattle.std.proofs.Common.{◌≡◌, ◌++◌, drop}
+use Rattle.scan_exec.specs.Opened.{numbered_batches, further_batches}
+use Rattle.scan_exec.proofs.opened.further.Given as goal
+
+-- those of the places so far, and then those of the others
+abbrev pub invariant-loop-place : goal.invariant-loop-place
+invariant-loop-place l = l.list.items ++ numbered_batches l.place (drop l.place l.tables) ≡ further_batches l.tables

@@ -1,0 +1,60 @@
+//! Which batches a scan opens.
+
+ghost use Rattle.std.specs.Prelude.{◌≡◌, ◌≤◌, ◌++◌, IfOk, OnOk, length, map};
+ghost use Rattle.std.specs.List.{range_with_len};
+ghost use Rattle.scan_exec.specs.Opened.{batches_in, further_batches};
+
+use std::alloc::{AllocError, Global};
+use table_versions::TableVersion;
+
+// All batches of a place, behind others.
+fn push_all(
+    list: &mut Vec<(usize, usize)>,
+    place: usize,
+    count: usize,
+) -> Result<(), AllocError>
+    ensures { OnOk result (list.new.items ≡ list.old.items ++ map (λ batch. (place, batch)) (range_with_len 0 count)) }
+{
+    for batch in 0..count {
+        list.push((place, batch))?;
+    }
+    Ok(())
+}
+
+// All batches of the further places.
+pub(crate) fn further(
+    alloc: Global,
+    tables: &[TableVersion],
+) -> Result<Vec<(usize, usize)>, AllocError>
+    ensures { IfOk result (λ list. list.items ≡ further_batches tables.now) }
+{
+    let mut list = Vec::new(alloc);
+    for place in 1..tables.len() {
+        push_all(&mut list, place, tables[place].batch_count())?;
+    }
+    Ok(list)
+}
+
+// The batches of a table with one of the rows `from` up to, not with, `to`, as those of place 0, behind others. The first is
+// looked for by halves.
+pub(crate) fn push_first(
+    list: &mut Vec<(usize, usize)>,
+    table: &TableVersion,
+    from: usize,
+    to: usize,
+) -> Result<(), AllocError>
+    ensures { OnOk result (list.new.items ≡ list.old.items ++ map (λ batch. (0, batch)) (batches_in from to table.now.batches)) }
+{
+    let end = to.min(table.rows());
+    if from >= end {
+        return Ok(());
+    }
+    let place = table.batch_of(from);
+    let (mut index, mut start) = (place.index, place.start);
+    while start < end {
+        list.push((0, index))?;
+        start += table.batch(index).rows();
+        index += 1;
+    }
+    Ok(())
+}
