@@ -7,3 +7,4 @@ pub mod AddingAll
 pub mod Feeding
 pub mod Blank
 pub mod Answering
+pub mod Held

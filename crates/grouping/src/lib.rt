@@ -6,6 +6,7 @@ mod cell;
 pub mod groups;
 mod kept;
 mod key;
+pub mod laws;
 mod part;
 mod table;
 mod tally;
