@@ -113,7 +113,7 @@ filter_none p (x ∷ xs) none =
     ap (λ t. cond t (x ∷ filter p xs) (filter p xs)) first ∙ filter_none p xs (λ k d low. none (suc k) d (omega arith))
 
 -- what is found later changes no share of rows that had their places
-share_kept : (keys : List ℕ) (found : List (List Value)) (more rows : List Row) (group : ℕ) →
+pub share_kept : (keys : List ℕ) (found : List (List Value)) (more rows : List Row) (group : ℕ) →
     All (λ row. place_in found (key_in keys row) < length found) rows →
     share keys (found_then keys found more) rows group ≡ share keys found rows group
 share_kept keys found more rows group all =
@@ -121,7 +121,7 @@ share_kept keys found more rows group all =
     (λ k d low. ap (λ place. place == group) (place_kept keys found more (key_in keys (get_or rows k d)) (all k d low)))
 
 -- a group that opens later has none of the rows before
-share_none : (keys : List ℕ) (found : List (List Value)) (rows : List Row) (group : ℕ) → length found ≤ group →
+pub share_none : (keys : List ℕ) (found : List (List Value)) (rows : List Row) (group : ℕ) → length found ≤ group →
     All (λ row. place_in found (key_in keys row) < length found) rows → share keys found rows group ≡ []
 share_none keys found rows group high all =
     filter_none (λ row. place_in found (key_in keys row) == group) rows
