@@ -1,4 +1,4 @@
-use Rattle.std.proofs.Common.{◌≡◌, ℕ, ◌+◌, List, length, map, None, refl, sym, ap, ◌∙◌, subst, IsTrue, All}
+use Rattle.std.proofs.Common.{◌≡◌, ℕ, ◌+◌, List, length, map, None, refl, sym, ap, ◌∙◌, subst, IsTrue, All, arith}
 use Rattle.arrays.specs.Batch.{row_of}
 use Rattle.arrays.specs.Typed.{AreOf}
 use Rattle.grouping.specs.Fed.{GroupsAt, Feeds, HasFed, Holds}
@@ -25,6 +25,7 @@ invariant_of-self c =
     record {
       has = c.self.invariant.has;
       kept = λ none. rw c.as_slice.ensures.value at c.in-Ok.ensures.kept;
+      few = λ none. omega (arith, c.in-Ok.ensures.count, c.requires.few, ap (λ (g : GroupsAt). g.count) c.self.view_is, ap (λ (rows : List ℕ). length rows) c.places.ensures.value);
       first = λ none. c.in-Ok.ensures.firsts shape.types.items typed (c.self.invariant.first none);
     }
 
