@@ -1,17 +1,16 @@
 -- Groups before any row.
-use Rattle.std.proofs.Common.{◌≡◌, ◌≤◌, ◌<◌, ℕ, zero, suc, ◌+◌, List, [], ◌∷◌, length, map, get_or, None, refl, sym, ap, ◌∙◌, subst, arith, All, Vec}
+use Rattle.std.proofs.Common.{◌≡◌, ◌<◌, ℕ, zero, suc, List, [], ◌∷◌, length, get_or, refl, sym, ap, ◌∙◌, subst, arith, All, Vec}
 use Rattle.std.specs.Global.{Global}
 use Rattle.std.proofs.lemmas.Int.{ints}
 use Rattle.std.proofs.lemmas.List.{length-map}
 use Rattle.typed_plan.specs.declared.plan.Aggregate.{Aggregate}
 use Rattle.typed_plan.specs.declared.plan.Aggregate.TheVariants.{Key}
-use Rattle.grouping.specs.declared.key.RowKey.{RowKey}
 use Rattle.grouping.specs.declared.tally.Tally.{Tally}
 use Rattle.grouping.specs.Fed.{GroupsAt, Holds, AreTallied}
 use Rattle.grouping.specs.Found.{first_found}
 use Rattle.grouping.specs.Tallies.{no_rows}
 use Rattle.grouping.specs.inside.Adding.{IsKept, lists_of}
-use Rattle.grouping.specs.inside.Counting.{IsWithin, AreWithin}
+use Rattle.grouping.specs.inside.Counting.{IsWithin}
 use Rattle.grouping.specs.inside.Kept.{AreBlank}
 use Rattle.grouping.specs.inside.Placing.{found_by}
 

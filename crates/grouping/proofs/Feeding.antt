@@ -1,5 +1,5 @@
 -- What feeding leaves, and what it needs.
-use Rattle.std.proofs.Common.{◌≡◌, ◌≤◌, ◌<◌, ℕ, zero, suc, ◌+◌, Bool, true, false, ◌&&◌, List, [], ◌∷◌, ◌++◌, length, map, get_or, slice_get, Some, None, Option, Ok, refl, sym, ap, ◌∙◌, subst, arith, All, IsTrue, nat_lt}
+use Rattle.std.proofs.Common.{◌≡◌, ◌<◌, ℕ, zero, suc, ◌+◌, Bool, true, List, [], ◌∷◌, ◌++◌, length, map, get_or, slice_get, Some, None, Option, Ok, refl, sym, ap, ◌∙◌, subst, arith, nat_lt}
 use Rattle.std.specs.List.{list_all}
 use Rattle.std.proofs.lemmas.Bool.{and_parts}
 use Rattle.std.proofs.lemmas.List.{length-append, length-map}
@@ -15,11 +15,10 @@ use Rattle.typed_plan.specs.Class.{can_sum}
 use Rattle.typed_plan.specs.Typed.{has_item, type_at}
 use Rattle.typed_plan.specs.declared.plan.Aggregate.{Aggregate}
 use Rattle.typed_plan.specs.declared.plan.Aggregate.TheVariants.{Key, CountRows, Count, Sum}
-use Rattle.grouping.specs.declared.tally.Tally.{Tally}
 use Rattle.grouping.specs.Fed.{GroupsAt, Holds, HasItems, AreTallied, HasFed, Feeds}
 use Rattle.grouping.specs.Found.{found_in, found_then, first_found}
 use Rattle.grouping.specs.inside.Counting.{CanCount, IsIntegers}
-use Rattle.grouping.specs.inside.Adding.{CanCountAll, IsGrown, IsKept, IsAdded}
+use Rattle.grouping.specs.inside.Adding.{CanCountAll, IsGrown, IsAdded}
 use Rattle.grouping.specs.inside.Placing.{ArePlaced}
 use Rattle.grouping.proofs.Finding.{found_more}
 use Rattle.grouping.proofs.Sharing.{fed_tallies}

@@ -1,26 +1,24 @@
 -- The groups of rows, by the keys that were found and the rows of each.
-use Rattle.std.proofs.Common.{◌≡◌, ◌≢◌, ◌≤◌, ◌<◌, ℕ, zero, suc, ◌+◌, pos, Bool, true, false, cond, not, ◌||◌, if◌then◌else◌, List, [], ◌∷◌, ◌++◌, length, map, get_or, refl, sym, ap, ◌∙◌, subst, arith, All, append_assoc}
+use Rattle.std.proofs.Common.{◌≡◌, ◌≢◌, ◌<◌, ℕ, zero, suc, ◌+◌, pos, Bool, true, false, cond, if◌then◌else◌, List, [], ◌∷◌, ◌++◌, length, map, get_or, refl, sym, ap, ◌∙◌, subst, arith, append_assoc}
 use Rattle.std.specs.Prelude.{◌==◌, nat_eq}
-use Rattle.std.specs.List.{fold, filter, list_any, range_with_len}
+use Rattle.std.specs.List.{fold, list_any, range_with_len}
 use Rattle.std.proofs.lemmas.List.{append-nil}
-use Rattle.std.proofs.lemmas.List.Elements.{filter-append, All-nil}
 use Rattle.indexmap.specs.IndexSet.{insert_key}
 use Rattle.scan_base.specs.declared.value.Value.{Value}
 use Rattle.scan_base.specs.declared.value.Value.TheVariants.{Null, Bool as Flag, Int, Text}
 use Rattle.scan_base.specs.Predicate.{cell_in}
 use Rattle.table_versions.specs.Table.{Row}
-use Rattle.typed_plan.specs.Grouped.{Group, with_row, same_key, present, plus, count_of, sum_of}
+use Rattle.typed_plan.specs.Grouped.{Group, with_row, same_key, present, plus}
 use Rattle.typed_plan.specs.Plan.{answered, groups_by}
 use Rattle.typed_plan.specs.declared.plan.Aggregate.{Aggregate}
 use Rattle.typed_plan.specs.declared.plan.Aggregate.TheVariants.{Key, CountRows, Count, Sum}
 use Rattle.grouping.specs.declared.tally.Tally.{Tally}
-use Rattle.grouping.specs.Answered.{cell_at, row_at, answer_rows, HeldAnswersAreGroups}
-use Rattle.grouping.specs.Fed.{GroupsAt, Holds, AreTallied}
-use Rattle.grouping.specs.Found.{key_in, place_in, found_in, found_then, first_found, share}
+use Rattle.grouping.specs.Answered.{cell_at, row_at, HeldAnswersAreGroups}
+use Rattle.grouping.specs.Found.{key_in, place_in, found_in, first_found, share}
 use Rattle.grouping.specs.Keys.{same_key_laws}
 use Rattle.grouping.specs.Tallies.{no_rows, added, counted, summed, tally_of, item_value}
-use Rattle.grouping.proofs.Finding.{found_more, place_stays, place_inserted}
-use Rattle.grouping.proofs.Sharing.{share_more, share_kept, share_none, all_found, found_grows}
+use Rattle.grouping.proofs.Finding.{found_more, place_inserted}
+use Rattle.grouping.proofs.Sharing.{share_more, share_kept, share_none, all_found}
 use borrow.Author.Tests.{eq-eqb, ne_eqb, eqb-true, eqb-false}
 
 -- ---- tallies

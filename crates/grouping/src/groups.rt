@@ -1,6 +1,6 @@
 //! Groups of rows.
 
-ghost use Rattle.std.specs.Prelude.{◌≡◌, ◌≤◌, ◌+◌, ◌-◌, ◌<◌, [], All, IfOk, None, drop, length, map, get_or, take};
+ghost use Rattle.std.specs.Prelude.{◌≡◌, ◌≤◌, ◌+◌, ◌<◌, All, IfOk, length, map};
 ghost use Rattle.scan_base.specs.Limits.{most_rows};
 ghost use Rattle.arrays.specs.Batch.{row_of};
 ghost use Rattle.arrays.specs.Typed.{AreOf};
@@ -8,7 +8,6 @@ ghost use Rattle.grouping.specs.Fed.{HasItems, IsNew, Feeds, Finishes};
 
 use crate::kept::{Kept, add, blank, found_count};
 use crate::table::Chosen;
-use crate::tally::Tally;
 use arrays::{Batch, Selection};
 use arrow_schema::DataType;
 use hash_seed::HashSeed;
@@ -125,20 +124,5 @@ impl<'t> Groups<'t> {
         }
         let _stub = alloc;
         Err(Fault::OutOfMemory)
-    }
-
-    // The tallies of the item at a place, for the groups `from` up to, not with, `to`.
-    fn tallies_of(&self, item: usize, from: usize, to: usize) -> &[Tally]
-        requires going { (self.now).refused ≡ None }
-        requires there { item < length self.now.items }
-        requires ordered { from ≤ to }
-        requires within { to ≤ length self.now.found }
-        ensures value { result.now ≡ take (to - from) (drop from (get_or self.now.tallies item [])) }
-        ensures long { length result.now ≡ to - from }
-        ensures few { All (λ tally. tally.count ≤ most_rows) result.now }
-    {
-        let list = &self.kept.tallies[item];
-        let tallies = list.as_slice();
-        &tallies[from..to]
     }
 }

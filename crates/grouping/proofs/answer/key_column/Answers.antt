@@ -1,4 +1,4 @@
-use Rattle.std.proofs.Common.{◌≡◌, ◌<◌, length, map, get_or, All, IfOk, sym, ap, ◌∙◌, subst, arith, List}
+use Rattle.std.proofs.Common.{get_or, All, IfOk, sym, subst, arith, List}
 use Rattle.std.proofs.lemmas.List.Elements.{All-push}
 use Rattle.arrow_schema.specs.Answer.{answer_type}
 use Rattle.arrow_schema.specs.declared.data_type.DataType.{DataType}

@@ -1,4 +1,4 @@
-use Rattle.std.proofs.Common.{◌≡◌, map, take, All, length, get_or}
+use Rattle.std.proofs.Common.{◌≡◌, map, take, All}
 use Rattle.arrays.specs.OfSlots.{slot_value, IsSlotOf}
 use Rattle.typed_plan.specs.Typed.{type_at}
 use Rattle.grouping.specs.inside.Answering.{first_cell}

@@ -1,8 +1,8 @@
-use Rattle.std.proofs.Common.{◌≡◌, ◌<◌, [], length, get_or, sym, ap, ◌∙◌, arith, subst, Vec}
+use Rattle.std.proofs.Common.{◌≡◌, ◌<◌, [], length, arith, Vec}
 use Rattle.std.specs.Global.{Global}
 use Rattle.std.proofs.lemmas.List.{map-set, get_or-map, length-map}
 use Rattle.grouping.specs.declared.tally.Tally.{Tally}
-use Rattle.grouping.specs.inside.Adding.{IsAdded, lists_of}
+use Rattle.grouping.specs.inside.Adding.{lists_of}
 use Rattle.grouping.proofs.AddingAll.{step, kept_after}
 use Rattle.grouping.proofs.part.add_all.Goals as goal
 

@@ -1,7 +1,6 @@
 use Rattle.std.proofs.Common.{◌<◌, ◌+◌, length, get_or, arith}
 use Rattle.std.proofs.lemmas.List.Elements.{All-get_or}
 use Rattle.grouping.specs.inside.Counting.{IsWithin}
-use Rattle.grouping.specs.Tallies.{no_rows}
 use Rattle.grouping.proofs.Stepping.{step}
 use Rattle.grouping.proofs.part.add_rows.Goals as goal
 

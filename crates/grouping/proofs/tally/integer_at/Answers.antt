@@ -1,4 +1,4 @@
-use Rattle.std.proofs.Common.{◌≡◌, subst, sym, FitsSigned, rules}
+use Rattle.std.proofs.Common.{subst, sym, FitsSigned, rules}
 use Rattle.std.specs.Int.{w128}
 use Rattle.std.proofs.lemmas.Int.{to_z-of_z}
 use Rattle.grouping.proofs.Numbers.{slot_short, IsShortOrNull}

@@ -1,8 +1,6 @@
-use Rattle.std.proofs.Common.{◌≡◌, ℕ, ◌+◌, List, length, map, None, refl, sym, ap, ◌∙◌, subst, IsTrue, All, arith}
-use Rattle.arrays.specs.Batch.{row_of}
+use Rattle.std.proofs.Common.{ℕ, ◌+◌, List, length, refl, sym, ap, ◌∙◌, subst, arith}
 use Rattle.arrays.specs.Typed.{AreOf}
-use Rattle.grouping.specs.Fed.{GroupsAt, Feeds, HasFed, Holds}
-use Rattle.grouping.specs.inside.Adding.{CanCountAll, IsKept, IsGrown}
+use Rattle.grouping.specs.Fed.{GroupsAt}
 use Rattle.grouping.proofs.Feeding.{can_count_all, keys_there, feeds_all}
 use Rattle.grouping.proofs.groups.Groups.feed.Goals as goal
 
