@@ -70,10 +70,11 @@ pub slot_there : (columns found : List ColumnAt) (rows place row : ℕ) (column 
     (row < column.len) × IsOfType (type_at types place) column.layout
 slot_there columns found rows place row column same long is there within types typed =
     let low : place < length found = omega (arith, ap length same) in
-    let wide : (get_or found place column).len ≡ rows = long place column low in
-    (omega (arith, wide, ap (λ (c : ColumnAt). c.len) is),
+    let wide : (get_or found place column).len ≡ rows = long place column low in (
+      omega (arith, wide, ap (λ (c : ColumnAt). c.len) is),
       subst (λ (c : ColumnAt). IsOfType (type_at types place) c.layout) (sym is)
-      (typed_at types found place column (subst (AreOf types) (sym same) typed) low))
+          (typed_at types found place column (subst (AreOf types) (sym same) typed) low),
+    )
 
 -- the values of slots, and of one more
 pub values_more : (cell : RowKey → Value) (firsts : List RowKey) (index : ℕ) (first : RowKey) (slots : List SlotRef) (slot : SlotRef) →

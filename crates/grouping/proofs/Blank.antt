@@ -30,8 +30,8 @@ kept_blank items tallies groups many all = record {
   many = length-map tallies (λ (list : Vec Tally Global). list.items) ∙ many;
   long = λ item low. (blank_at tallies groups all item (omega arith)).long;
   small = λ item low.
-    let blank = blank_at tallies groups all item (omega arith) in
-    record { each = λ group below. subst (IsWithin 0) (sym (blank.each group (omega (arith, blank.long)))) none_within };
+      let blank = blank_at tallies groups all item (omega arith) in
+      record { each = λ group below. subst (IsWithin 0) (sym (blank.each group (omega (arith, blank.long)))) none_within };
 }
 
 -- before any row the keys are those of none
@@ -48,7 +48,7 @@ holds_none groups tallies count found long none is many all = record {
   count = none;
   many = ap length is ∙ length-map tallies (λ (list : Vec Tally Global). list.items) ∙ many;
   tallied = λ item low.
-    let blank = blank_at tallies count all item (omega arith) in
-    subst (λ lists. AreTallied groups.keys groups.found [] (get_or groups.items item (Key 0)) (get_or lists item [])) (sym is)
-    (record { long = blank.long ∙ long; each = λ group below. blank.each group (omega (arith, long)) });
+      let blank = blank_at tallies count all item (omega arith) in
+      subst (λ lists. AreTallied groups.keys groups.found [] (get_or groups.items item (Key 0)) (get_or lists item [])) (sym is)
+      (record { long = blank.long ∙ long; each = λ group below. blank.each group (omega (arith, long)) });
 }

@@ -66,7 +66,7 @@ pub can_count_all : (types : List DataType) (keys : List ℕ) (items : List Aggr
     HasItems types keys items → AreOf types columns → CanCountAll items columns
 can_count_all types keys items columns has are = record {
   each = λ item low. can_count (length keys) types columns (get_or items item (Key 0)) are
-    (has_each (has_item (length keys) types) items item (Key 0) low has.typed);
+      (has_each (has_item (length keys) types) items item (Key 0) low has.typed);
 }
 
 pub keys_there : (types : List DataType) (keys : List ℕ) (columns : List ColumnAt) → AreOf types columns →
@@ -83,20 +83,20 @@ fed_holds before after columns rows earlier keys items count many grown held =
     let more = map (row_of columns) rows in
     record {
       found = grown.found_is ∙ ap (λ found. found_then before.keys found more) held.found
-        ∙ sym (found_more before.keys (first_found before.keys) earlier more)
-        ∙ ap (λ keys. found_in keys (earlier ++ more)) (sym keys);
+          ∙ sym (found_more before.keys (first_found before.keys) earlier more)
+          ∙ ap (λ keys. found_in keys (earlier ++ more)) (sym keys);
       count = omega (arith, count, held.count, length-append earlier more, length-map rows (row_of columns));
       many = many ∙ ap length (sym items);
       tallied = λ item low.
-        let below : item < length before.items = omega (arith, ap length items) in
-        let placed = subst (λ found. ArePlaced before.keys columns found rows grown.groups (length rows)) grown.found_is grown.placed in
-        let added = subst (λ found. IsAdded (get_or before.items item (Key 0)) columns rows grown.groups (length found) (get_or before.tallies item []) (get_or after.tallies item [])) grown.found_is
+          let below : item < length before.items = omega (arith, ap length items) in
+          let placed = subst (λ found. ArePlaced before.keys columns found rows grown.groups (length rows)) grown.found_is grown.placed in
+          let added = subst (λ found. IsAdded (get_or before.items item (Key 0)) columns rows grown.groups (length found) (get_or before.tallies item []) (get_or after.tallies item [])) grown.found_is
           (grown.added.added item below) in
-        let done = fed_tallies before.keys columns rows grown.groups earlier (get_or before.items item (Key 0)) (get_or before.tallies item []) (get_or after.tallies item [])
+          let done = fed_tallies before.keys columns rows grown.groups earlier (get_or before.items item (Key 0)) (get_or before.tallies item []) (get_or after.tallies item [])
           before.found held.found placed added (held.tallied item below) in
-        subst (λ found. AreTallied after.keys found (earlier ++ more) (get_or after.items item (Key 0)) (get_or after.tallies item [])) (sym grown.found_is)
-        (subst (λ keys. AreTallied keys (found_then before.keys before.found more) (earlier ++ more) (get_or after.items item (Key 0)) (get_or after.tallies item [])) (sym keys)
-        (subst (λ items. AreTallied before.keys (found_then before.keys before.found more) (earlier ++ more) (get_or items item (Key 0)) (get_or after.tallies item [])) (sym items) done));
+          subst (λ found. AreTallied after.keys found (earlier ++ more) (get_or after.items item (Key 0)) (get_or after.tallies item [])) (sym grown.found_is)
+          (subst (λ keys. AreTallied keys (found_then before.keys before.found more) (earlier ++ more) (get_or after.items item (Key 0)) (get_or after.tallies item [])) (sym keys)
+          (subst (λ items. AreTallied before.keys (found_then before.keys before.found more) (earlier ++ more) (get_or items item (Key 0)) (get_or after.tallies item [])) (sym items) done));
     }
 
 -- what was not refused and has fed the rows feeds them

@@ -43,8 +43,12 @@ count_values : (column : ℕ) (tally : Tally) (rows : List Row) →
     (fold (added (Count column)) tally rows).count ≡ tally.count + length (present (map (λ row. cell_in row column) rows))
 count_values column tally [] = omega arith
 count_values column tally (row ∷ rows) =
-    omega (arith, count_values column (counted tally (cell_in row column)) rows, count_one tally (cell_in row column),
-      more_present (cell_in row column) (map (λ row. cell_in row column) rows))
+    omega (
+      arith,
+      count_values column (counted tally (cell_in row column)) rows,
+      count_one tally (cell_in row column),
+      more_present (cell_in row column) (map (λ row. cell_in row column) rows),
+    )
 
 sum_count : (tally : Tally) (value : Value) → (summed tally value).count ≡ (counted tally value).count
 sum_count tally Null = refl
@@ -62,8 +66,13 @@ sum_counts : (column : ℕ) (tally : Tally) (rows : List Row) →
     (fold (added (Sum column)) tally rows).count ≡ tally.count + length (present (map (λ row. cell_in row column) rows))
 sum_counts column tally [] = omega arith
 sum_counts column tally (row ∷ rows) =
-    omega (arith, sum_counts column (summed tally (cell_in row column)) rows, count_one tally (cell_in row column), sum_count tally (cell_in row column),
-      more_present (cell_in row column) (map (λ row. cell_in row column) rows))
+    omega (
+      arith,
+      sum_counts column (summed tally (cell_in row column)) rows,
+      count_one tally (cell_in row column),
+      sum_count tally (cell_in row column),
+      more_present (cell_in row column) (map (λ row. cell_in row column) rows),
+    )
 
 sum_sums : (column : ℕ) (tally : Tally) (rows : List Row) →
     (fold (added (Sum column)) tally rows).sum ≡ fold plus tally.sum (map (λ row. cell_in row column) rows)
@@ -130,19 +139,19 @@ with_row_made key row (k ∷ found) rows_at none =
     by again true e =
         let turned : same_key k key ≡ true = same_key_laws.symm k key ∙ e in
         rw (turned, e) (ap (λ rest. record { key = k; rows = rows_at 0 ++ row ∷ [] } ∷ rest)
-          (made_alike found (λ place. rows_at (suc place)) (λ place. more_at 0 row rows_at (suc place))
-          (λ place low. sym (other_at 0 row rows_at (suc place) (λ (h : 0 ≡ suc place). omega arith)))))
+        (made_alike found (λ place. rows_at (suc place)) (λ place. more_at 0 row rows_at (suc place))
+        (λ place low. sym (other_at 0 row rows_at (suc place) (λ (h : 0 ≡ suc place). omega arith)))))
     by again false e =
         let turned : same_key k key ≡ false = same_key_laws.symm k key ∙ e in
         let here = place_in found key in
         let ins = insert_key same_key found key in
         rw (turned, e) (ap (λ rest. record { key = k; rows = rows_at 0 } ∷ rest) again
-          ∙ ap (λ rows. record { key = k; rows = rows } ∷ made ins (more_at here row (λ place. rows_at (suc place))))
-            (sym (other_at (1 + here) row rows_at 0 (λ (h : 1 + here ≡ 0). omega arith)))
-          ∙ ap (λ rest. record { key = k; rows = more_at (1 + here) row rows_at 0 } ∷ rest)
-            (made_alike ins (more_at here row (λ place. rows_at (suc place))) (λ place. more_at (1 + here) row rows_at (suc place))
-            (λ place low. ap (λ t. rows_at (suc place) ++ (if t then row ∷ [] else [])) (shifted here place)))
-          ∙ sym (made_insert (list_any (same_key key) found) k key found (more_at (1 + here) row rows_at)))
+        ∙ ap (λ rows. record { key = k; rows = rows } ∷ made ins (more_at here row (λ place. rows_at (suc place))))
+        (sym (other_at (1 + here) row rows_at 0 (λ (h : 1 + here ≡ 0). omega arith)))
+        ∙ ap (λ rest. record { key = k; rows = more_at (1 + here) row rows_at 0 } ∷ rest)
+        (made_alike ins (more_at here row (λ place. rows_at (suc place))) (λ place. more_at (1 + here) row rows_at (suc place))
+        (λ place low. ap (λ t. rows_at (suc place) ++ (if t then row ∷ [] else [])) (shifted here place)))
+        ∙ sym (made_insert (list_any (same_key key) found) k key found (more_at (1 + here) row rows_at)))
 
 -- one row more
 step_made : (keys : List ℕ) (done : List Row) (row : Row) →
@@ -155,9 +164,9 @@ step_made keys done row =
     let all = all_found keys (first_found keys) done in
     with_row_made key row found (share keys found done) (share_none keys found done (length found) (omega arith) all)
     ∙ made_alike ins (more_at (place_in found key) row (share keys found done)) (share keys ins (done ++ row ∷ []))
-      (λ place low. sym (share_more keys ins done (row ∷ []) place
-      ∙ ap (λ rows. rows ++ share keys ins (row ∷ []) place) (share_kept keys found (row ∷ []) done place all)
-      ∙ ap (λ here. share keys found done place ++ (if here == place then row ∷ [] else [])) (place_inserted found key).0))
+    (λ place low. sym (share_more keys ins done (row ∷ []) place
+    ∙ ap (λ rows. rows ++ share keys ins (row ∷ []) place) (share_kept keys found (row ∷ []) done place all)
+    ∙ ap (λ here. share keys found done place ++ (if here == place then row ∷ [] else [])) (place_inserted found key).0))
     ∙ ap (λ f. made f (share keys f (done ++ row ∷ []))) (sym (found_more keys (first_found keys) done (row ∷ [])))
 
 walk_made : (key : ℕ) (keys : List ℕ) (done rest : List Row) →
@@ -210,19 +219,19 @@ held_answers groups rows held =
     let all = made groups.found f in
     let none : Group = record { key = []; rows = [] } in
     let cell : (group item : ℕ) → group < length groups.found → item < length groups.items →
-        cell_at groups group item ≡ answered (record { key = get_or groups.found group []; rows = f group }) (get_or groups.items item (Key 0)) =
-      λ group item low there.
-        ap (item_value (get_or groups.found group []) (get_or groups.items item (Key 0))) ((held.tallied item there).each group low)
-        ∙ item_answered (get_or groups.found group []) (f group) (get_or groups.items item (Key 0)) in
+    cell_at groups group item ≡ answered (record { key = get_or groups.found group []; rows = f group }) (get_or groups.items item (Key 0)) =
+    λ group item low there.
+    ap (item_value (get_or groups.found group []) (get_or groups.items item (Key 0))) ((held.tallied item there).each group low)
+    ∙ item_answered (get_or groups.found group []) (f group) (get_or groups.items item (Key 0)) in
     let row : (group : ℕ) → group < length groups.found →
-        row_at groups group ≡ map (answered (record { key = get_or groups.found group []; rows = f group })) groups.items =
-      λ group low. ranged groups.items (Key 0) (cell_at groups group) (answered (record { key = get_or groups.found group []; rows = f group })) 0
-        (λ item there. let same : 0 + item ≡ item = omega arith in ap (cell_at groups group) same ∙ cell group item low there) in
+    row_at groups group ≡ map (answered (record { key = get_or groups.found group []; rows = f group })) groups.items =
+    λ group low. ranged groups.items (Key 0) (cell_at groups group) (answered (record { key = get_or groups.found group []; rows = f group })) 0
+    (λ item there. let same : 0 + item ≡ item = omega arith in ap (cell_at groups group) same ∙ cell group item low there) in
     ap (λ n. map (row_at groups) (range_with_len 0 n)) (sym (made_long groups.found f))
     ∙ ranged all none (row_at groups) (λ (group : Group). map (answered group) groups.items) 0
-      (λ place low.
-        let there : place < length groups.found = omega (arith, made_long groups.found f) in
-        let same : 0 + place ≡ place = omega arith in
-        ap (row_at groups) same ∙ row place there ∙ ap (λ (group : Group). map (answered group) groups.items) (sym (made_at groups.found f place none there)))
+    (λ place low.
+    let there : place < length groups.found = omega (arith, made_long groups.found f) in
+    let same : 0 + place ≡ place = omega arith in
+    ap (row_at groups) same ∙ row place there ∙ ap (λ (group : Group). map (answered group) groups.items) (sym (made_at groups.found f place none there)))
     ∙ ap (map (λ (group : Group). map (answered group) groups.items))
-      (sym (grouped groups.keys rows ∙ ap (λ found. made found (share groups.keys found rows)) (sym held.found)))
+    (sym (grouped groups.keys rows ∙ ap (λ found. made found (share groups.keys found rows)) (sym held.found)))

@@ -46,8 +46,8 @@ pub slot_short : ValuesAreOfTheirType → (column : ColumnAt) → IsColumn colum
 slot_short law column is integers j there =
     let all = law (Integer integers.0) column is integers.1 in
     let at : get_or (values_of column) j Null ≡ slot_of column j =
-      get_or-map-range_with_len (slot_of column) 0 column.len j j Null there (omega arith) in
+    get_or-map-range_with_len (slot_of column) 0 column.len j j Null there (omega arith) in
     let within : j < length (values_of column) =
-      omega (arith, there, length-map (range_with_len 0 column.len) (slot_of column), length-range_with_len 0 column.len) in
+    omega (arith, there, length-map (range_with_len 0 column.len) (slot_of column), length-range_with_len 0 column.len) in
     subst IsShortOrNull at (of_value integers.0 (get_or (values_of column) j Null)
-      (All-get_or (IsValueOf (Integer integers.0)) (values_of column) j Null within all))
+    (All-get_or (IsValueOf (Integer integers.0)) (values_of column) j Null within all))

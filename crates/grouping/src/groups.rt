@@ -45,7 +45,14 @@ impl<'t> Model for Groups<'t> {
     ghost Value = { GroupsAt };
 
     ghost view = { λ g. record {
-      types = g.shape.types.items; keys = g.shape.keys.now; items = g.shape.items.items; found = found_by g.shape.keys.now g.kept.firsts.keys; tallies = lists_of g.kept.tallies.items; count = g.kept.count; refused = g.refused } };
+      types = g.shape.types.items;
+      keys = g.shape.keys.now;
+      items = g.shape.items.items;
+      found = found_by g.shape.keys.now g.kept.firsts.keys;
+      tallies = lists_of g.kept.tallies.items;
+      count = g.kept.count;
+      refused = g.refused;
+    } };
 
     ghost invariant = { λ g. IsGroups g.shape.types.items g.shape.keys.now g.shape.items.items g.kept.firsts.keys (lists_of g.kept.tallies.items) g.kept.count g.refused };
 }
@@ -56,11 +63,7 @@ impl<'t> Groups<'t> {
     /// # Errors
     ///
     /// `AllocError` where memory is refused.
-    pub fn new(
-        alloc: Global,
-        seed: HashSeed,
-        shape: Grouping<'t>,
-    ) -> Result<Groups<'t>, AllocError>
+    pub fn new(alloc: Global, seed: HashSeed, shape: Grouping<'t>) -> Result<Groups<'t>, AllocError>
         requires { HasItems shape.types.items shape.keys.now shape.items.items }
         ensures { IfOk result (IsNew (shape.entry).types.items (shape.entry).keys.now (shape.entry).items.items) }
     {

@@ -19,19 +19,19 @@ pub slot_at-requires : goal.slot_at-requires
 slot_at-requires c =
     let types = c.args.types.now in
     let typed = subst (λ (first : RowKey). AreOf types first.batch.now.columns) (sym c.first-item.is)
-      (c.requires.typed c.loop-first.first-index c.first-item.result (omega arith)) in
+    (c.requires.typed c.loop-first.first-index c.first-item.result (omega arith)) in
     omega (arith, c.requires.there, as_many types c.first-item.result.batch.now.columns typed)
 
 pub loop-first-preserved : goal.loop-first-preserved
 loop-first-preserved c =
     let types = c.args.types.now in
     let typed = subst (λ (first : RowKey). AreOf types first.batch.now.columns) (sym c.first-item.is)
-      (c.requires.typed c.loop-first.first-index c.first-item.result (omega arith)) in
+    (c.requires.typed c.loop-first.first-index c.first-item.result (omega arith)) in
     let slots = c.loop-first.slots.items in
     let slot = c.slot_at.result in
     record {
       values = rw c.in_ok-push.ensures.items (values_more (first_cell c.args.column) c.args.firsts.now c.loop-first.first-index c.first-item.result slots slot
-        c.first-item.is (omega arith) c.slot_at.ensures.value c.loop-first.invariant.values);
+          c.first-item.is (omega arith) c.slot_at.ensures.value c.loop-first.invariant.values);
       there = rw c.in_ok-push.ensures.items (All-push (IsSlotOf (type_at types c.args.column)) slots slot c.loop-first.invariant.there (c.slot_at.ensures.there types typed));
     }
 

@@ -21,6 +21,6 @@ loop-item-preserved c =
 pub returns-clause-kept : goal.returns-clause-kept
 returns-clause-kept c =
     let long : length (lists_of c.loop-item.tallies) ≡ length c.args.items.now =
-      omega (arith, c.requires.kept.2.many, length-map c.loop-item.tallies (λ (list : Vec Tally Global). list.items), length-map c.args.tallies.now (λ (list : Vec Tally Global). list.items)) in
+    omega (arith, c.requires.kept.2.many, length-map c.loop-item.tallies (λ (list : Vec Tally Global). list.items), length-map c.args.tallies.now (λ (list : Vec Tally Global). list.items)) in
     let all : c.loop-item.item ≡ length c.args.items.now = omega arith in
     kept_after _ _ _ _ _ _ _ _ (rw all at c.loop-item.invariant) long
