@@ -5,8 +5,8 @@ use Rattle.fetch_stream.specs.Streams.{StreamAt, Gives, GivesPayload, HasGiven, 
 use Rattle.fetch_stream.proofs.Answering.{given_none, fewer_turns, gave, given_more, ended, given_all}
 use Rattle.fetch_stream.proofs.fetch.collect.Goals as goal
 
-pub loop-payloads-init : goal.loop-payloads-init
-loop-payloads-init c = record {
+pub loop-stream-init : goal.loop-stream-init
+loop-stream-init c = record {
   given = λ answer same. (
     ap (λ (stream : StreamAt). stream.refused) same,
     subst (λ (stream : StreamAt). HasGiven answer c.args.payloads.now.items stream) (sym same)
@@ -15,26 +15,26 @@ loop-payloads-init c = record {
   fits = subst FitMessages (sym c.requires) none_fit;
 }
 
-pub loop-payloads-smaller : goal.loop-payloads-smaller
-loop-payloads-smaller c =
-    let before = c.loop-payloads.stream in
+pub loop-stream-smaller : goal.loop-stream-smaller
+loop-stream-smaller c =
+    let before = c.loop-stream.stream in
     let after = c.next.new.self in
     let payload = c.in-Some.payload in
     let gives : Gives before (Ok (Some payload)) after = subst (λ (found : Option Payload). Gives before (Ok found) after) c.in-Some.is c.in_ok-payload.ensures in
     fewer_turns before after payload (gave before after payload gives)
 
-pub loop-payloads-preserved : goal.loop-payloads-preserved
-loop-payloads-preserved c =
-    let before = c.loop-payloads.stream in
+pub loop-stream-preserved : goal.loop-stream-preserved
+loop-stream-preserved c =
+    let before = c.loop-stream.stream in
     let after = c.next.new.self in
     let payload = c.in-Some.payload in
-    let payloads = c.loop-payloads.payloads.items in
+    let payloads = c.loop-stream.payloads.items in
     let gives : GivesPayload before payload after = gave before after payload (subst (λ (found : Option Payload). Gives before (Ok found) after) c.in-Some.is c.in_ok-payload.ensures) in
     let pushed : c.push.new.self.items ≡ payloads ++ payload ∷ [] = c.in_ok-push.ensures.items ∙ ap (λ (last : Payload). payloads ++ last ∷ []) c.in_ok-into_bytes.ensures.same in
     record {
       given = λ answer same. (
         gives.refused,
-        subst (λ (all : List Payload). HasGiven answer all after) (sym pushed) (given_more answer payloads before after payload (c.loop-payloads.invariant.given answer same).1 gives),
+        subst (λ (all : List Payload). HasGiven answer all after) (sym pushed) (given_more answer payloads before after payload (c.loop-stream.invariant.given answer same).1 gives),
       );
-      fits = subst FitMessages (sym pushed) (one_fits payloads payload c.loop-payloads.invariant.fits gives.fits);
+      fits = subst FitMessages (sym pushed) (one_fits payloads payload c.loop-stream.invariant.fits gives.fits);
     }

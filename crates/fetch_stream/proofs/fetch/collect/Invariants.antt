@@ -5,11 +5,11 @@ use Rattle.fetch_stream.specs.Streams.{HasGiven, opened}
 use Rattle.fetch_stream.proofs.Answering.{turns}
 use Rattle.fetch_stream.proofs.fetch.collect.Given as goal
 
-abbrev pub invariant-loop-payloads : goal.invariant-loop-payloads
-invariant-loop-payloads l = record {
+abbrev pub invariant-loop-stream : goal.invariant-loop-stream
+invariant-loop-stream l = record {
   given : (answer : Table) → l.fn.stream ≡ opened answer → (l.stream.refused ≡ None) × HasGiven answer l.payloads.items l.stream;
   fits : FitMessages l.payloads.items;
 }
 
-abbrev pub decreases-loop-payloads : goal.decreases-loop-payloads
-decreases-loop-payloads l = turns l.stream
+abbrev pub decreases-loop-stream : goal.decreases-loop-stream
+decreases-loop-stream l = turns l.stream
