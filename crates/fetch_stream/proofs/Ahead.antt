@@ -10,7 +10,7 @@ use Rattle.flight_info.specs.Payloads.{Payload}
 use Rattle.fetch_stream.specs.Streams.{most_body_bytes}
 use Rattle.fetch_stream.specs.declared.cutter.Cutter.{Cutter}
 use Rattle.fetch_stream.specs.declared.source.Source.{Source}
-use Rattle.fetch_stream.specs.inside.Ahead.{IsCutter, IsGoing, AnsweredAs, schema_behind, left_behind, rows_taken, uncut}
+use Rattle.fetch_stream.specs.inside.Ahead.{IsCutter, IsGoing, AnsweredAs, schema_behind, left_behind, rows_taken, rows_cut, uncut}
 use Rattle.fetch_stream.specs.inside.Cut.{Cuts, ReachesFar}
 use Rattle.fetch_stream.specs.inside.Given.{GivesNext, GivesBatch, MayRefuseSource}
 use Rattle.fetch_stream.specs.inside.Steps.{Ends, Fails, HasNext, SaysNext, rows_left}
@@ -27,6 +27,9 @@ all_cut keep cutter is high =
 -- and all of one that was not begun
 pub none_cut : BatchSlicesKeepRows → (batch : BatchAt) (most : ℕ) → uncut (record { batch = batch; at = 0; most = most }) ≡ rows_of batch
 none_cut keep batch most = slice_whole keep batch batch.rows refl
+
+pub none_taken : (batch : BatchAt) (most : ℕ) (source : Source) → rows_taken batch source ≡ batch.rows → rows_cut (record { batch = batch; at = 0; most = most }) source ≡ 0
+none_taken batch most source all = omega (arith, all)
 
 -- a cutter before the first row of a batch
 pub new_cutter : (batch : BatchAt) → list_any (list_any is_long_text) (rows_of batch) ≡ false → IsCutter (record { batch = batch; at = 0; most = 65536 })

@@ -160,10 +160,16 @@ streams_answer = record {
 
 -- ---- the payloads of an answer, all together
 
-pub collected_whole : (database : Database) (handle : HandleAt) (answer : Table) (payloads : List Payload) → HandleMeans database handle answer → Collects answer payloads (Ok tt)
-    → FetchAt database handle payloads None
-collected_whole database handle answer payloads means all = all_given database handle answer payloads all.stream means all.given all.stops.0 all.stops.1
+-- up to where a stream is refused
+pub collected_before : (answer : Table) (payloads : List Payload) (before after : StreamAt) (fault : Fault) → (before.refused ≡ None) × HasGiven answer payloads before
+    → Gives before (Err fault) after → Collects answer payloads (Err fault)
+collected_before answer payloads before after fault has gives = record { stream = before; given = has.1; stops = was_refused before after fault has.0 gives }
 
-pub collected_part : (database : Database) (handle : HandleAt) (answer : Table) (payloads : List Payload) (fault : Fault) → HandleMeans database handle answer
-    → Collects answer payloads (Err fault) → FetchAt database handle payloads (Some fault)
-collected_part database handle answer payloads fault means all = stopped database handle answer payloads all.stream means all.given fault all.stops
+pub collected_whole : (database : Database) (handle : HandleAt) (answer : Table) (payloads : List Payload) (done : Unit {0}) → HandleMeans database handle answer
+    → Collects answer payloads (Ok done) → FetchAt database handle payloads None
+collected_whole database handle answer payloads done means all = all_given database handle answer payloads all.stream means all.given all.stops.0 all.stops.1
+
+pub collected_large : (database : Database) (handle : HandleAt) (answer : Table) (payloads : List Payload) (fault : Fault) → fault ≡ ResultTooLarge → HandleMeans database handle answer
+    → Collects answer payloads (Err fault) → FetchAt database handle payloads (Some ResultTooLarge)
+collected_large database handle answer payloads fault is means all =
+    subst (λ (f : Fault). FetchAt database handle payloads (Some f)) is (stopped database handle answer payloads all.stream means all.given fault all.stops)

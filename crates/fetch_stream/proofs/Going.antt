@@ -23,6 +23,10 @@ stream_of schema begun left count = record { schema = schema; begun = begun; lef
 pub opens_behind : (schema : Schema) (none left : List Row) (answer : Table) → schema ≡ answer.schema → none ≡ [] → left ≡ answer.rows → stream_of schema false (none ++ left) 0 ≡ opened answer
 opens_behind schema none left answer same nothing all = rw (same, nothing, all) refl
 
+-- a stream of a batch of which nothing was cut
+pub starts : (schema : Schema) (cut whole left : List Row) (count : ℕ) → cut ≡ whole → count ≡ 0 → stream_of schema false (cut ++ left) count ≡ stream_of schema false (whole ++ left) 0
+starts schema cut whole left count same none = rw (same, none) refl
+
 -- a stream of rows alone
 pub opens_all : (schema : Schema) (rows : List Row) (answer : Table) → schema ≡ answer.schema → rows ≡ answer.rows → stream_of schema false (rows ++ []) 0 ≡ opened answer
 opens_all schema rows answer same all = rw (append-nil rows, same, all) refl

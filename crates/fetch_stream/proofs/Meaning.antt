@@ -1,5 +1,5 @@
 -- What a handle means: none where it is refused, and the rows of its plan.
-use Rattle.std.proofs.Common.{◌≡◌, ◌≢◌, ◌≤◌, ◌<◌, ◌-◌, ℕ, Bool, true, List, length, map, Ok, Err, sym, ap, subst, ◌∙◌, arith, ◌⊎◌, inl, inr}
+use Rattle.std.proofs.Common.{◌≡◌, ◌≢◌, ◌≤◌, ◌<◌, ◌-◌, ℕ, Bool, true, false, List, length, map, Ok, Err, refl, sym, ap, subst, ◌∙◌, arith, ◌⊎◌, inl, inr}
 use Rattle.scan_base.specs.declared.fault.Fault.{Fault}
 use Rattle.scan_base.specs.declared.fault.Fault.TheVariants.{OutOfMemory}
 use Rattle.arrow_schema.specs.declared.schema.Schema.{Schema}
@@ -47,13 +47,14 @@ out_of_range database from to rows grouped text plan is high answer meant =
     omega (arith, high, within, is.counted)
 
 -- nor one that is grouped, over less than all
-pub part_of_groups : (database : Database) (from to rows : ℕ) (text : List ℕ) (plan : PlanAt) → IsPlanned database text plan rows true
-    → to - from < rows → (answer : Table) → Meant database from to text answer → ⊥
-part_of_groups database from to rows text plan is few answer meant =
+pub part_of_groups : (database : Database) (from to rows least : ℕ) (grouped : Bool) (text : List ℕ) (plan : PlanAt) → IsPlanned database text plan rows grouped
+    → (grouped ≡ true → least ≡ rows) → (grouped ≡ false → least ≡ 0) → to - from < least → (answer : Table) → Meant database from to text answer → ⊥
+part_of_groups database from to rows least false text plan is all none few answer meant = omega (arith, few, none refl)
+part_of_groups database from to rows least true text plan is all none few answer meant =
     let same = one_sentence text meant.query is.query meant.asks.says is.asks.says in
     let range : IsRange database is.query from to = subst (λ (query : Sentence). IsRange database query from to) same meant.range in
     let whole = range.whole (sym is.groups) in
-    omega (arith, few, whole.0, whole.1, is.counted)
+    omega (arith, few, all refl, whole.0, whole.1, is.counted)
 
 -- the answer of a plan over a range
 abbrev pub plan_answer : PlanAt → Database → ℕ → ℕ → Table

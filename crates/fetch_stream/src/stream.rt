@@ -1,6 +1,6 @@
 //! Streams: an answer, one payload at a time.
 
-ghost use Rattle.std.specs.Prelude.{◌≡◌, ◌≢◌, ◌≤◌, ◌<◌, ◌++◌, false, None, length, nat_le, Err, IfOk, IfErr};
+ghost use Rattle.std.specs.Prelude.{◌≡◌, ◌≢◌, ◌≤◌, ◌<◌, ◌++◌, true, false, None, length, nat_le, Err, IfOk, IfErr};
 ghost use Rattle.std.specs.List.{list_any};
 ghost use Rattle.scan_base.specs.declared.fault.Fault.TheVariants.{BadTicket, LimitReached, OutOfMemory};
 ghost use Rattle.scan_base.specs.Limits.{most_answer_rows, most_query_bytes};
@@ -25,7 +25,7 @@ use arrays::Batch;
 use arrays::laws::batch_slices_keep_rows;
 use arrow_schema::Schema;
 use endpoint_split::{Handle, Range};
-use flight_info::{plan_text, tables_batch, tables_schema};
+use flight_info::{Planned, plan_text, tables_batch, tables_schema};
 use scan_base::Fault;
 use scan_exec::Scan;
 use std::alloc::{AllocError, Global};
@@ -180,6 +180,14 @@ fn next_rows(
     Ok(Some(cutter.next(alloc)?))
 }
 
+// How many rows a range of a query has at least: all of the first place, where the query makes groups.
+fn least_rows(planned: &Planned) -> usize
+    ensures whole { planned.now.grouped ≡ true → result ≡ planned.now.rows }
+    ensures part { planned.now.grouped ≡ false → result ≡ 0 }
+{
+    if planned.grouped { planned.rows } else { 0 }
+}
+
 // The stream of what a query means over a range of its first place, which does not end before it begins.
 fn open_query(
     alloc: Global,
@@ -196,7 +204,12 @@ fn open_query(
 {
     let planned = plan_text(alloc, catalog, text)?;
     let (from, to) = (range.from as usize, range.to as usize);
-    if to > planned.rows || (planned.grouped && to - from < planned.rows) {
+    if to > planned.rows {
+        return Err(Fault::BadTicket);
+    }
+    let count = to - from;
+    let least = least_rows(&planned);
+    if count < least {
         return Err(Fault::BadTicket);
     }
     let scan = Scan::new(alloc, catalog.seed(), planned.plan, from..to)?;

@@ -1,8 +1,9 @@
 use Rattle.std.proofs.Common.{◌≡◌, ◌∷◌, [], ◌++◌, List, Option, Some, Ok, sym, ap, subst, ◌∙◌}
+use Rattle.std.proofs.lemmas.Result.{err_from_is_err_and}
 use Rattle.flight_info.specs.Payloads.{Payload, FitMessages}
 use Rattle.flight_info.proofs.Fitting.{none_fit, one_fits}
 use Rattle.fetch_stream.specs.Streams.{StreamAt, Gives, GivesPayload, HasGiven, opened}
-use Rattle.fetch_stream.proofs.Answering.{given_none, fewer_turns, gave, given_more, ended, given_all}
+use Rattle.fetch_stream.proofs.Answering.{given_none, fewer_turns, gave, given_more, collected_before}
 use Rattle.fetch_stream.proofs.fetch.collect.Goals as goal
 
 pub loop-stream-init : goal.loop-stream-init
@@ -38,3 +39,8 @@ loop-stream-preserved c =
       );
       fits = subst FitMessages (sym pushed) (one_fits payloads payload c.loop-stream.invariant.fits gives.fits);
     }
+
+pub returns-in_err-payload-clause-said : goal.returns-in_err-payload-clause-said
+returns-in_err-payload-clause-said c answer same =
+    let p = err_from_is_err_and c.from_residual.result c.from_residual.ensures.1 in
+    rw (p.1, p.2) (collected_before answer c.loop-stream.payloads.items c.loop-stream.stream c.next.new.self c.in_err-payload.field-0.0 (c.loop-stream.invariant.given answer same) c.in_err-payload.ensures)
