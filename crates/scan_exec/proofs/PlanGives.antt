@@ -1,12 +1,11 @@
 -- A plan gives of the rows of its tables what it says at the catalog.
-use Rattle.std.proofs.Common.{◌≡◌, ◌<◌, ℕ, false, List, [], ◌∷◌, ◌++◌, length, map, map-id, Option, Some, None, refl, sym, ap, ◌∙◌, arith, if◌then◌else◌}
+use Rattle.std.proofs.Common.{◌≡◌, ℕ, List, [], ◌∷◌, ◌++◌, length, map, map-id, Option, Some, None, refl, sym, ap, ◌∙◌, arith, if◌then◌else◌}
 use Rattle.std.specs.List.{flat_map}
-use Rattle.std.proofs.lemmas.List.{map-append}
-use Rattle.std.proofs.lemmas.List.Folds.{flat_map-map}
+use Rattle.std.proofs.lemmas.List.{length-map, map-append}
 use Rattle.std.proofs.lemmas.Simd.{map-map}
 use Rattle.arrays.specs.Batch.{BatchAt, rows_of}
 use Rattle.table_versions.specs.Database.{table_at}
-use Rattle.table_versions.specs.Stored.{TableAt, CatalogAt, table_of, tables_of}
+use Rattle.table_versions.specs.Stored.{TableAt, CatalogAt, tables_of}
 use Rattle.table_versions.specs.Table.{Row}
 use Rattle.typed_plan.specs.declared.plan.Columns.{Columns}
 use Rattle.typed_plan.specs.declared.plan.Columns.TheVariants.{All, These}
@@ -18,10 +17,8 @@ use Rattle.typed_plan.specs.Plan.{Tree, plan_rows, output_rows, tree_rows, taken
 use Rattle.typed_plan.specs.Typed.{IsTyped, is_grouping}
 use Rattle.typed_plan.specs.View.{BoundAt, plan_of, tree_of}
 use Rattle.typed_plan.proofs.Scans.{some_table}
-use Rattle.scan_exec.specs.Begun.{tree_given, rows_behind}
+use Rattle.scan_exec.specs.Begun.{rows_behind}
 use Rattle.scan_exec.specs.Given.{rows_over, rows_from, further_rows, first_batches, parts, numbered_parts, given_of}
-use Rattle.scan_exec.specs.Placed.{numbered_rows}
-use Rattle.scan_exec.specs.Shown.{cells}
 use Rattle.scan_exec.proofs.PartsJoin.{parts_join, parts_numbered}
 use Rattle.scan_exec.proofs.TreeGives.{taken-append, over-append, over_none, over_tables}
 
@@ -69,22 +66,24 @@ given_rows bound from to = by bound.output
     batches : List BatchAt
     batches = first_batches bound.tables
 
+    range : List Row
+    range = rows_between from to (flat_map rows_of batches)
+
+    give : Output → List Row → List Row
+    give output rows = output_rows output (rows_over tree (rows ∷ further_rows bound))
+
     by : (output : Output) →
         map (λ (given : Option ℕ × Row). given.1)
-        (if is_grouping output
-        then map (λ row. (None, row)) (output_rows output (rows_over (tree_of bound.plan) (rows_between from to (flat_map rows_of (first_batches bound.tables)) ∷ further_rows bound)))
-        else flat_map (λ (part : ℕ × List Row). map (λ row. (Some part.0, row)) (output_rows output (rows_over (tree_of bound.plan) (part.1 ∷ further_rows bound))))
-        (numbered_parts from to (first_batches bound.tables)))
-        ≡ output_rows output (rows_over (tree_of bound.plan) (rows_between from to (flat_map rows_of (first_batches bound.tables)) ∷ further_rows bound))
+        (if is_grouping output then map (λ row. (None, row)) (give output range)
+        else flat_map (λ (part : ℕ × List Row). map (λ row. (Some part.0, row)) (give output part.1)) (numbered_parts from to batches))
+        ≡ give output range
     by (Project columns) =
-        let give = shown (tree_of bound.plan) (further_rows bound) columns in
-        rows_numbered give (numbered_parts from to (first_batches bound.tables))
-        ∙ ap (flat_map give) (parts_numbered from to (first_batches bound.tables))
-        ∙ shown_parts (tree_of bound.plan) (further_rows bound) columns (parts from to (first_batches bound.tables))
-        ∙ ap give (parts_join from to (first_batches bound.tables))
+        rows_numbered (give (Project columns)) (numbered_parts from to batches)
+        ∙ ap (flat_map (give (Project columns))) (parts_numbered from to batches)
+        ∙ shown_parts tree (further_rows bound) columns (parts from to batches)
+        ∙ ap (give (Project columns)) (parts_join from to batches)
     by (Groups keys items) =
-        let rows = output_rows (Groups keys items)
-        (rows_over (tree_of bound.plan) (rows_between from to (flat_map rows_of (first_batches bound.tables)) ∷ further_rows bound)) in
+        let rows = give (Groups keys items) range in
         map-map (λ (given : Option ℕ × Row). given.1) (λ row. (None, row)) rows ∙ map-id rows
 
 -- and those of the plan at the catalog that holds its tables
@@ -99,3 +98,10 @@ rows_law catalog bound from to typed same held = given_rows bound from to ∙ ap
         ≡ tree_rows (tree_of bound.plan) (tables_of catalog) (rows_between from to)
     by [] columns there = let some = some_table (tree_of bound.plan) [] columns in absurd (omega (arith, some))
     by (table ∷ tables) columns there = over_tables catalog (tree_of bound.plan) (rows_between from to) table tables there
+
+-- as many rows are given as the plan has
+pub count_law : (catalog : CatalogAt) (bound : BoundAt) (from to : ℕ) → IsTyped (plan_of bound) →
+    tree_schemas (plan_of bound).tree ≡ map (λ (table : TableAt). table.schema) bound.tables → HoldsFrom catalog bound →
+    length (given_of bound from to) ≡ length (plan_rows (plan_of bound) (tables_of catalog) from to)
+count_law catalog bound from to typed same held =
+    sym (length-map (given_of bound from to) (λ (given : Option ℕ × Row). given.1)) ∙ ap length (rows_law catalog bound from to typed same held)

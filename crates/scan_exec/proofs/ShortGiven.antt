@@ -1,6 +1,6 @@
 -- A plan gives no text that is too long, where the rows of its tables have none.
 use Rattle.std.proofs.Common.{◌≡◌, ℕ, zero, suc, ◌-◌, ◌==◌, Bool, true, false, if◌then◌else◌, All, List, [], ◌∷◌, ◌++◌, length, map, take, drop, cond, pos}
-use Rattle.std.proofs.Common.{Option, refl, sym, ap, ◌∙◌, fold}
+use Rattle.std.proofs.Common.{Option, refl, ap, ◌∙◌, fold}
 use Rattle.std.specs.List.{list_any, filter, flat_map}
 use Rattle.std.proofs.lemmas.List.Folds.{list_any-append, list_any_none}
 use Rattle.arrays.specs.Batch.{rows_of}
@@ -17,11 +17,11 @@ use Rattle.typed_plan.specs.declared.plan.Columns.TheVariants.{All as AllColumns
 use Rattle.typed_plan.specs.declared.plan.JoinKey.{JoinKey}
 use Rattle.typed_plan.specs.declared.plan.Output.{Output}
 use Rattle.typed_plan.specs.declared.plan.Output.TheVariants.{Project, Groups}
-use Rattle.typed_plan.specs.Grouped.{Group, same_key, with_row, present, plus, sum_of}
+use Rattle.typed_plan.specs.Grouped.{Group, same_key, with_row, present, plus}
 use Rattle.typed_plan.specs.Held.{tree_schemas}
 use Rattle.typed_plan.specs.Joined.{rows_between}
 use Rattle.typed_plan.specs.Plan.{Tree, scan, filtered, joined, taken, is_true, fits, joined_rows, answered, groups_by, output_rows}
-use Rattle.typed_plan.specs.View.{BoundAt, plan_of, tree_of}
+use Rattle.typed_plan.specs.View.{BoundAt, tree_of}
 use Rattle.scan_exec.specs.Begun.{rows_behind}
 use Rattle.scan_exec.specs.Given.{first_rows, first_batches, rows_over, given_of}
 use Rattle.scan_exec.proofs.PlanGives.{given_rows}

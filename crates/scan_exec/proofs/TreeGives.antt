@@ -1,11 +1,9 @@
 -- What a tree gives of the rows of its places.
-use Rattle.std.proofs.Common.{◌≡◌, ◌<◌, ℕ, zero, suc, List, [], ◌∷◌, ◌++◌, length, map, drop, filter, Option, Some, None, refl, sym, ap, ◌∙◌, arith, append_assoc}
-use Rattle.std.specs.List.{flat_map}
+use Rattle.std.proofs.Common.{◌≡◌, ◌<◌, ℕ, zero, suc, List, [], ◌∷◌, ◌++◌, length, map, drop, filter, Option, Some, refl, sym, ap, ◌∙◌, arith, append_assoc}
 use Rattle.std.proofs.Math.Seq.{drop-append_seam}
 use Rattle.std.proofs.lemmas.Grind.{flat_map-append}
 use Rattle.std.proofs.lemmas.List.{append-nil, length-append, length-map, map-append}
 use Rattle.std.proofs.lemmas.List.Elements.{filter-append}
-use Rattle.std.proofs.lemmas.Simd.{map-map}
 use Rattle.scan_base.specs.Predicate.{cell_in}
 use Rattle.table_versions.specs.Database.{Database, table_at}
 use Rattle.table_versions.specs.Stored.{TableAt, CatalogAt, table_of, tables_of, plain}
@@ -18,7 +16,7 @@ use Rattle.typed_plan.specs.Held.{tree_tables, tree_schemas}
 use Rattle.typed_plan.specs.Joined.{rows_in}
 use Rattle.typed_plan.specs.Plan.{Tree, scan, filtered, joined, taken, is_true, fits, joined_rows, tree_rows}
 use Rattle.typed_plan.proofs.Scans.{some_schema}
-use Rattle.scan_exec.specs.Given.{first_rows, rows_over}
+use Rattle.scan_exec.specs.Given.{rows_over}
 
 -- ---- rows of the first place, one behind another
 
