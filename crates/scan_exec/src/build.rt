@@ -11,8 +11,9 @@ ghost use Rattle.typed_plan.specs.Typed.{IsTypedTree};
 ghost use Rattle.typed_plan.specs.View.{tree_of};
 ghost use Rattle.scan_exec.specs.Begun.{IsBegun, IsSourced, sourced_at};
 
+use crate::picker::Picker;
 use crate::rows::{Rows, Source};
-use arrays::Batch;
+use arrays::{Batch, Selection};
 use arrow_schema::DataType;
 use hash_seed::HashSeed;
 use scan_base::Predicate;
@@ -54,8 +55,18 @@ impl Sourced {
         requires { IsSourced self }
         ensures { IfOk result (λ rows. rows ≡ sourced_at self) }
     {
-        let _stub = (alloc, self);
-        Err(AllocError)
+        let mut read = Vec::new(alloc);
+        read.extend_from_slice(self.columns.as_slice())?;
+        let picker = Picker {
+            filters: self.filters,
+            read,
+            shown: self.columns,
+        };
+        Ok(Rows {
+            source: self.source,
+            picker,
+            selection: Selection::new(alloc),
+        })
     }
 }
 
@@ -65,6 +76,10 @@ pub(crate) fn collected(alloc: Global, rows: Rows) -> Result<Vec<Batch>, AllocEr
     ensures typed { IfOk result (λ batches. All (λ (batch : BatchAt). AreOf rows.types batch.columns) batches.items) }
     ensures filled { IfOk result (λ batches. All (λ (batch : BatchAt). 0 < batch.rows) batches.items) }
 {
-    let _stub = (alloc, rows);
-    Err(AllocError)
+    let mut rows = rows;
+    let mut batches = Vec::new(alloc);
+    while let Some(piece) = rows.next(alloc)? {
+        batches.push(piece.batch)?;
+    }
+    Ok(batches)
 }
