@@ -4,11 +4,13 @@
 mod build;
 mod columns;
 mod cursor;
+mod join_source;
 mod picker;
 mod piece;
 mod place;
 mod row;
 mod rows;
 pub mod scan;
+mod scan_source;
 
 pub use crate::scan::Scan;
