@@ -7,3 +7,4 @@ pub mod Gathered
 pub mod Built
 pub mod TextCuts
 pub mod Slots
+pub mod Filled
