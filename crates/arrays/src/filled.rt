@@ -1,6 +1,6 @@
 //! Columns that are filled slot by slot.
 
-ghost use Rattle.std.specs.Prelude.{◌≡◌, ◌≤◌, ◌<◌, ◌^◌, All, IfOk, length, map};
+ghost use Rattle.std.specs.Prelude.{◌≡◌, ◌≤◌, ◌<◌, ◌^◌, false, All, IfOk, length, map};
 ghost use Rattle.scan_base.specs.Value.{value_of, is_null};
 ghost use Rattle.arrow_schema.specs.Answer.{answer_type};
 ghost use Rattle.arrow_schema.specs.declared.data_type.DataType.TheVariants as type;
@@ -155,7 +155,7 @@ fn pack_flags<S: Source>(alloc: Global, slots: &[S]) -> Result<Bits, AllocError>
 
 // The number of a value, and 0 of one that is no number.
 fn number_of(value: ValueRef<'_>) -> i128
-    ensures { result ≡ number_of (value_of value) }
+    ensures { result ≡ number_of (value_of value.entry) }
 {
     match value {
         ValueRef::Int(number) => number,
@@ -165,7 +165,7 @@ fn number_of(value: ValueRef<'_>) -> i128
 
 // The flag of a value, and false of one that is no truth value.
 fn flag_of(value: ValueRef<'_>) -> bool
-    ensures { result ≡ flag_of (value_of value) }
+    ensures { result ≡ flag_of (value_of value.entry) }
 {
     match value {
         ValueRef::Bool(flag) => flag,

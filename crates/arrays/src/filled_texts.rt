@@ -57,7 +57,7 @@ fn join_texts<S: Source>(alloc: Global, slots: &[S], total: u32) -> Result<Vec<u
 
 /// The bytes of a text, and none where there is no text.
 pub(crate) fn text_bytes<'a>(value: ValueRef<'a>) -> &'a [u8]
-    ensures { result.now ≡ text_bytes (value_of value) }
+    ensures { result.now ≡ text_bytes (value_of value.entry) }
 {
     match value {
         ValueRef::Text(text) => text.as_bytes(),
