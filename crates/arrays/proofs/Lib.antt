@@ -28,3 +28,4 @@ mod GatheredValues
 mod BuiltSlots
 mod BuiltTexts
 pub mod Fitting
+mod FilledSlots

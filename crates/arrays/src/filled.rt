@@ -1,13 +1,14 @@
 //! Columns that are filled slot by slot.
 
-ghost use Rattle.std.specs.Prelude.{◌≡◌, ◌≤◌, ◌<◌, ◌^◌, false, All, IfOk, length, map};
-ghost use Rattle.scan_base.specs.Value.{value_of, is_null};
+ghost use Rattle.std.specs.Prelude.{◌≡◌, ◌≤◌, ◌<◌, ◌^◌, All, IfOk, length, map};
+ghost use Rattle.scan_base.specs.Value.{value_of};
 ghost use Rattle.arrow_schema.specs.Answer.{answer_type};
+ghost use Rattle.arrow_schema.specs.declared.data_type.DataType.{DataType};
 ghost use Rattle.arrow_schema.specs.declared.data_type.DataType.TheVariants as type;
 ghost use Rattle.arrays.specs.Column.{values_of};
-ghost use Rattle.arrays.specs.Typed.{IsOfType, IsValueOf};
+ghost use Rattle.arrays.specs.Typed.{IsOfType};
 ghost use Rattle.arrays.specs.Written.{texts_joined};
-ghost use Rattle.arrays.specs.inside.Filled.{number_of, flag_of, AreValidUnlessNull, AreNumbersOf, FillSlots};
+ghost use Rattle.arrays.specs.inside.Filled.{number_of, flag_of, AreOfType, AreValidUnlessNull, AreNumbersOf, FillSlots};
 
 use crate::column::Column;
 use crate::filled_texts::fill_texts;
@@ -31,7 +32,7 @@ impl Column {
         slots: &[S],
     ) -> Result<Column, AllocError>
         requires there { All S.IsThere slots.now }
-        requires typed { All (IsValueOf data_type) (map S.held slots.now) }
+        requires typed { All (S.IsOf data_type) slots.now }
         requires short { length (texts_joined (map S.held slots.now)) < 2 ^ 31 }
         ensures values { IfOk result (λ column. values_of column ≡ map S.held slots.now) }
         ensures long { IfOk result (λ column. column.len ≡ length slots.now) }
@@ -43,32 +44,25 @@ impl Column {
     }
 }
 
-// The validity bits of slots that are valid where they are not null, and none where no slot is null.
+// The validity bits of slots that are valid where they are not null, and none where no slot is null. Each value is one
+// of its slot's type.
 fn fill_validity<S: Source>(alloc: Global, slots: &[S]) -> Result<Option<Bits>, AllocError>
     requires { All S.IsThere slots.now }
-    ensures { IfOk result (λ validity. AreValidUnlessNull validity (map S.held slots.now)) }
+    ensures valid { IfOk result (λ validity. AreValidUnlessNull validity (map S.held slots.now)) }
+    ensures typed { IfOk result (λ validity. (data_type : DataType) → All (S.IsOf data_type) slots.now →
+        AreOfType data_type (map S.held slots.now) (length slots.now)) }
 {
-    if !has_null(slots) {
+    let mut bits = BitsBuilder::with_capacity(alloc, slots.len())?;
+    let mut nulls = false;
+    for slot in slots {
+        let null = is_null(slot.value());
+        nulls = nulls || null;
+        bits.push(!null)?;
+    }
+    if !nulls {
         return Ok(None);
     }
-    let mut bits = BitsBuilder::with_capacity(alloc, slots.len())?;
-    for slot in slots {
-        bits.push(!is_null(slot.value()))?;
-    }
     Ok(Some(bits.into_bits()?))
-}
-
-// Whether some slot is null.
-fn has_null<S: Source>(slots: &[S]) -> bool
-    requires { All S.IsThere slots.now }
-    ensures { result ≡ false → All (λ value. is_null value ≡ false) (map S.held slots.now) }
-{
-    for slot in slots {
-        if is_null(slot.value()) {
-            return true;
-        }
-    }
-    false
 }
 
 // The values of slots, as a column of their type keeps them.
@@ -78,7 +72,7 @@ fn fill_values<S: Source>(
     slots: &[S],
 ) -> Result<Values, AllocError>
     requires there { All S.IsThere slots.now }
-    requires typed { All (IsValueOf data_type) (map S.held slots.now) }
+    requires typed { AreOfType data_type (map S.held slots.now) (length slots.now) }
     requires short { length (texts_joined (map S.held slots.now)) < 2 ^ 31 }
     ensures { IfOk result (λ kept. FillSlots kept data_type (map S.held slots.now)) }
 {
@@ -96,7 +90,7 @@ fn fill_integers<S: Source>(
     slots: &[S],
 ) -> Result<Values, AllocError>
     requires there { All S.IsThere slots.now }
-    requires typed { All (IsValueOf (type.Integer integer)) (map S.held slots.now) }
+    requires typed { AreOfType (type.Integer integer) (map S.held slots.now) (length slots.now) }
     ensures { IfOk result (λ kept. FillSlots kept (type.Integer integer) (map S.held slots.now)) }
 {
     let packed = Bytes::from_vec(pack_numbers(alloc, byte_width(integer), slots)?)?;
@@ -106,7 +100,7 @@ fn fill_integers<S: Source>(
 
 fn fill_decimals<S: Source>(alloc: Global, slots: &[S]) -> Result<Values, AllocError>
     requires there { All S.IsThere slots.now }
-    requires typed { All (IsValueOf type.Decimal128) (map S.held slots.now) }
+    requires typed { AreOfType type.Decimal128 (map S.held slots.now) (length slots.now) }
     ensures { IfOk result (λ kept. FillSlots kept type.Decimal128 (map S.held slots.now)) }
 {
     let packed = Bytes::from_vec(pack_numbers(alloc, 16, slots)?)?;
@@ -116,7 +110,7 @@ fn fill_decimals<S: Source>(alloc: Global, slots: &[S]) -> Result<Values, AllocE
 
 fn fill_bools<S: Source>(alloc: Global, slots: &[S]) -> Result<Values, AllocError>
     requires there { All S.IsThere slots.now }
-    requires typed { All (IsValueOf type.Bool) (map S.held slots.now) }
+    requires typed { AreOfType type.Bool (map S.held slots.now) (length slots.now) }
     ensures { IfOk result (λ kept. FillSlots kept type.Bool (map S.held slots.now)) }
 {
     Ok(Values::Bools(pack_flags(alloc, slots)?))

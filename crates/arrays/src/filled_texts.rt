@@ -3,9 +3,8 @@
 ghost use Rattle.std.specs.Prelude.{◌≡◌, ◌<◌, ◌^◌, All, IfOk, length, map};
 ghost use Rattle.arrow_schema.specs.declared.data_type.DataType.TheVariants.{Utf8};
 ghost use Rattle.scan_base.specs.Value.{value_of};
-ghost use Rattle.arrays.specs.Typed.{IsValueOf};
 ghost use Rattle.arrays.specs.Written.{text_bytes, offsets_from, texts_joined};
-ghost use Rattle.arrays.specs.inside.Filled.{FillSlots};
+ghost use Rattle.arrays.specs.inside.Filled.{AreOfType, FillSlots};
 
 use crate::slots::Values;
 use crate::source::Source;
@@ -16,7 +15,7 @@ use std::alloc::{AllocError, Global};
 /// The texts of slots, as a column of texts keeps them.
 pub(crate) fn fill_texts<S: Source>(alloc: Global, slots: &[S]) -> Result<Values, AllocError>
     requires there { All S.IsThere slots.now }
-    requires typed { All (IsValueOf Utf8) (map S.held slots.now) }
+    requires typed { AreOfType Utf8 (map S.held slots.now) (length slots.now) }
     requires short { length (texts_joined (map S.held slots.now)) < 2 ^ 31 }
     ensures { IfOk result (λ kept. FillSlots kept Utf8 (map S.held slots.now)) }
 {

@@ -9,7 +9,7 @@ use Rattle.arrow_schema.specs.Answer.{answer_type}
 use Rattle.arrays.specs.Number.{element_at}
 use Rattle.arrays.specs.Validity.{is_valid, IsLong}
 use Rattle.arrays.specs.Layout.{layout_count, layout_slot, IsLayout}
-use Rattle.arrays.specs.Typed.{IsOfType}
+use Rattle.arrays.specs.Typed.{IsOfType, IsValueOf}
 use Rattle.arrays.specs.declared.slots.Values.{Values}
 use Rattle.arrays.specs.inside.Slots.{layout_of}
 
@@ -26,6 +26,10 @@ flag_of _ = false
 -- so many lowest bytes of a value's number, in two's complement
 abbrev pub low_bytes : ℕ → Value → ℕ
 low_bytes width value = cast_unsigned w128 (number_of value) % 256 ^ width
+
+-- the first `count` values are of a type
+abbrev pub AreOfType : DataType → List Value → ℕ → Type 0
+AreOfType data_type values count = (k : ℕ) → k < count → IsValueOf data_type (get_or values k Null)
 
 -- a slot is valid where its value is not null
 pub record AreValidUnlessNull (validity : Option (List Truth)) (values : List Value) : Type 0 where

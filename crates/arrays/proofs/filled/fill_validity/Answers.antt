@@ -1,0 +1,24 @@
+use Rattle.std.proofs.Common.{◌≡◌, ◌∙◌, false, sym, ap, subst, rules}
+use Rattle.scan_base.specs.declared.value.Value.{Value}
+use Rattle.scan_base.specs.Value.{is_null}
+use Rattle.arrays.specs.Typed.{IsValueOf}
+use Rattle.arrays.proofs.FilledSlots.{slot_more, differ}
+use Rattle.arrays.proofs.filled.fill_validity.Goals.{then-nulls, else-nulls}
+use Rattle.arrays.proofs.filled.fill_validity.Goals as goal
+
+pub loop-slot-preserved : goal.loop-slot-preserved
+loop-slot-preserved g c =
+    let slots = c.args.slots.now in
+    let i = c.loop-slot.slot-index in
+    let slot = c.slot-item.result in
+    record {
+      bits = search rules;
+      none = λ none. elim c.if-nulls.branch [
+        | then-nulls w ↦ differ c.if-nulls.nulls w.nulls-is none
+        | else-nulls w ↦ slot_more (λ value. is_null value ≡ false) g.S.Source.held slots i slot c.loop-slot-test.true c.slot-item.is
+            (ap is_null (sym c.value.ensures.value) ∙ sym c.is_null-null.ensures ∙ sym w.nulls-is ∙ none) (c.loop-slot.invariant.none w.if-nulls.false)
+      ];
+      typed = λ data_type all. slot_more (IsValueOf data_type) g.S.Source.held slots i slot c.loop-slot-test.true c.slot-item.is
+          (c.value.ensures.typed data_type (subst (g.S.Source.IsOf data_type) (sym c.slot-item.is) (all i slot c.loop-slot-test.true)))
+          (c.loop-slot.invariant.typed data_type all);
+    }
