@@ -1,10 +1,11 @@
 -- Slots that are filled with values.
-use Rattle.std.proofs.Common.{◌≡◌, ◌<◌, ◌≤◌, ◌%◌, ◌^◌, ◌+◌, ◌-◌, ◌*◌, ℕ, suc, ℤ, pos, negsuc, Bool as Truth, true, false, not, List, [], ◌∷◌, ◌++◌, length, map, take, get_or, Option, FitsSigned, refl, sym, ap, subst, ◌∙◌, arith, inl, inr, append-nil, if◌then◌else◌}
+use Rattle.std.proofs.Common.{◌≡◌, ◌<◌, ◌≤◌, ◌%◌, ◌^◌, ◌+◌, ◌-◌, ◌*◌, ℕ, suc, ℤ, pos, negsuc, Bool as Truth, true, false, true≢false, rules, not, List, [], ◌∷◌, ◌++◌, length, map, take, get_or, Option, FitsSigned, refl, sym, ap, subst, ◌∙◌, arith, inl, inr, append-nil, if◌then◌else◌}
 use Rattle.std.specs.Int.{w128, cast_unsigned, to_le_bytes, bytes_low_first}
 use Rattle.std.specs.Str.{is_utf8}
 use Rattle.std.proofs.Math.Facts.{ltb_yes}
+use Rattle.std.proofs.lemmas.Grind.{common_steps}
 use Rattle.std.proofs.lemmas.Bool.{cases_lt, lt-ltb, le-ltb}
-use Rattle.std.proofs.lemmas.List.{length-append, length-map, get_or-map, same_lists}
+use Rattle.std.proofs.lemmas.List.{length-append, length-map, length-take, get_or-map, get_or_default, same_lists}
 use Rattle.std.proofs.lemmas.List.FromFn.{length-map-range_with_len, get_or-map-range_with_len}
 use Rattle.std.proofs.Math.Nat.{mul-le-mul_left, div-one}
 use Rattle.byteorder.specs.Numbers.{length-bytes_low_first, little_from-bytes}
@@ -52,6 +53,11 @@ low_part width bits few =
       ap length is ∙ length-bytes_low_first 0 width bits,
       ap (little_from 0 width) (is ∙ sym (append-nil (bytes_low_first 0 width bits))) ∙ little_from-bytes width 0 bits [] ∙ ap (λ (n : ℕ). n % 256 ^ width) (div-one bits),
     )
+
+-- the flag of one slot more
+pub flags_more : {T : Type 0} (flag : Value → Truth) (held : T → Value) (slots : List T) (i : ℕ) (slot : T) (bits new : List Truth) (next : Truth) → i < length slots → slot ≡ get_or slots i slot →
+    new ≡ bits ++ next ∷ [] → next ≡ flag (held slot) → bits ≡ map flag (map held (take i slots)) → new ≡ map flag (map held (take (i + 1) slots))
+flags_more flag held slots i slot bits new next low is e next_is so_far = search (rules, common_steps)
 
 -- one number more
 pub numbers_more : (width : ℕ) (packed new part : List ℕ) (values : List Value) (i : ℕ) → new ≡ packed ++ part → length part ≡ width →
@@ -112,8 +118,7 @@ decimal_back (negsuc n) is = signed_is_neg 128 ((2 ^ 128 - suc n) % 2 ^ 128) n (
 
 -- no flag is both
 pub differ : {X : Type 0} (flag : Truth) → flag ≡ true → flag ≡ false → X
-differ true yes no = absurd (let none : ⊥ = cc in none)
-differ false yes no = absurd (let none : ⊥ = cc in none)
+differ flag set unset = absurd (true≢false (sym set ∙ unset))
 
 -- what the bytes of a value's number are read as
 number_value : (integer : IntegerType) (value : Value) (bits : ℕ) → is_null value ≡ false → IsValueOf (type.Integer integer) value → bits ≡ low_bytes (byte_width integer) value →
@@ -167,11 +172,11 @@ text_value (Int number) some of = absurd of
 text_value (Bool flag) some of = absurd of
 text_value (Text bytes) some of = refl
 
-text_utf8 : (value : Value) → IsValueOf type.Utf8 value → is_utf8 (text_bytes value) ≡ true
-text_utf8 Null of = refl
-text_utf8 (Int number) of = absurd of
-text_utf8 (Bool flag) of = absurd of
-text_utf8 (Text bytes) of = of
+text_utf8 : (value : Value) (valid : Truth) → IsValueOf type.Utf8 value → valid ≡ not (is_null value) → valid ≡ true → is_utf8 (text_bytes value) ≡ true
+text_utf8 Null valid of is some = differ valid some is
+text_utf8 (Int number) valid of is some = absurd of
+text_utf8 (Bool flag) valid of is some = absurd of
+text_utf8 (Text bytes) valid of is some = of
 
 pub texts_fill : (offsets bytes made_offsets made_bytes : List ℕ) (values : List Value) (count : ℕ) → offsets ≡ made_offsets → bytes ≡ made_bytes →
     made_offsets ≡ offsets_from 0 values → made_bytes ≡ texts_joined values → length values ≡ count → length (texts_joined values) < 2 ^ 31 → AreOfType type.Utf8 values count →
@@ -180,7 +185,7 @@ texts_fill offsets bytes made_offsets made_bytes values count a b c d many short
     subst (λ (xs : List ℕ). FillSlots (kind.Texts xs bytes) type.Utf8 values) (sym (a ∙ c))
     (subst (λ (xs : List ℕ). FillSlots (kind.Texts (offsets_from 0 values) xs) type.Utf8 values) (sym (b ∙ d))
     (λ validity valid. record {
-      stand = texts_stand validity values valid.long short (λ k low some. text_utf8 (get_or values k Null) (of k (omega (arith, many))));
+      stand = texts_stand validity values valid.long short (λ k low some. text_utf8 (get_or values k Null) (is_valid validity k) (of k (omega (arith, many))) (valid.each k low) some);
       count = refl;
       slots = λ k low. slot_filled validity (λ at. Text (text_at (texts_made validity values) at)) k (get_or values k Null) (valid.each k low)
           (λ some. ap Text (text_made validity values k Null low short) ∙ text_value (get_or values k Null) some (of k (omega (arith, many))));
@@ -213,4 +218,4 @@ values_filled layout values count slots =
     let within : k < layout_count layout = omega (arith, low, count) in
     let z : 0 + k ≡ k = omega arith in
     get_or-map-range_with_len (slot_of (whole layout)) 0 (layout_count layout) k k d within z
-    ∙ ap (layout_slot layout) z ∙ slots k low ∙ ?)
+    ∙ ap (layout_slot layout) z ∙ slots k low ∙ get_or_default values k Null d low)

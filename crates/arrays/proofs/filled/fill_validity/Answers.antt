@@ -1,8 +1,8 @@
-use Rattle.std.proofs.Common.{◌≡◌, ◌∙◌, false, sym, ap, subst, rules}
+use Rattle.std.proofs.Common.{◌≡◌, ◌∙◌, false, not, sym, ap, subst}
 use Rattle.scan_base.specs.declared.value.Value.{Value}
 use Rattle.scan_base.specs.Value.{is_null}
 use Rattle.arrays.specs.Typed.{IsValueOf}
-use Rattle.arrays.proofs.FilledSlots.{slot_more, differ}
+use Rattle.arrays.proofs.FilledSlots.{slot_more, flags_more, differ}
 use Rattle.arrays.proofs.filled.fill_validity.Goals.{then-nulls, else-nulls}
 use Rattle.arrays.proofs.filled.fill_validity.Goals as goal
 
@@ -12,9 +12,10 @@ loop-slot-preserved g c =
     let i = c.loop-slot.slot-index in
     let slot = c.slot-item.result in
     record {
-      bits = search rules;
+      bits = flags_more (λ value. not (is_null value)) g.S.Source.held slots i slot c.loop-slot.bits c.push.new.self (not c.is_null-null.result) c.loop-slot-test.true c.slot-item.is c.in_ok-push.ensures.ok
+          (ap not (c.is_null-null.ensures ∙ ap is_null c.value.ensures.value)) c.loop-slot.invariant.bits;
       none = λ none. elim c.if-nulls.branch [
-        | then-nulls w ↦ differ c.if-nulls.nulls w.nulls-is none
+        | then-nulls w ↦ differ c.if-nulls.nulls (w.nulls-is ∙ w.if-nulls.true) none
         | else-nulls w ↦ slot_more (λ value. is_null value ≡ false) g.S.Source.held slots i slot c.loop-slot-test.true c.slot-item.is
             (ap is_null (sym c.value.ensures.value) ∙ sym c.is_null-null.ensures ∙ sym w.nulls-is ∙ none) (c.loop-slot.invariant.none w.if-nulls.false)
       ];
