@@ -1,11 +1,11 @@
 -- Slots that are filled with values.
-use Rattle.std.proofs.Common.{◌≡◌, ◌<◌, ◌≤◌, ◌%◌, ◌^◌, ◌+◌, ◌-◌, ◌*◌, ℕ, suc, ℤ, pos, negsuc, Bool as Truth, true, false, true≢false, rules, not, List, [], ◌∷◌, ◌++◌, length, map, take, get_or, Option, FitsSigned, refl, sym, ap, subst, ◌∙◌, arith, inl, inr, append-nil, if◌then◌else◌}
+use Rattle.std.proofs.Common.{◌≡◌, ◌<◌, ◌≤◌, ◌%◌, ◌^◌, ◌+◌, ◌-◌, ◌*◌, ℕ, suc, ℤ, pos, negsuc, Bool as Truth, true, false, true≢false, rules, not, List, [], ◌∷◌, ◌++◌, length, map, take, get_or, Option, Some, FitsSigned, refl, sym, ap, subst, ◌∙◌, arith, inl, inr, append-nil, if◌then◌else◌}
 use Rattle.std.specs.Int.{w128, cast_unsigned, to_le_bytes, bytes_low_first}
 use Rattle.std.specs.Str.{is_utf8}
 use Rattle.std.proofs.Math.Facts.{ltb_yes}
 use Rattle.std.proofs.lemmas.Grind.{common_steps}
 use Rattle.std.proofs.lemmas.Bool.{cases_lt, lt-ltb, le-ltb}
-use Rattle.std.proofs.lemmas.List.{length-append, length-map, length-take, get_or-map, get_or_default, same_lists}
+use Rattle.std.proofs.lemmas.List.{length-append, length-map, length-take, get_or-map, get_or_default, take_all, same_lists}
 use Rattle.std.proofs.lemmas.List.FromFn.{length-map-range_with_len, get_or-map-range_with_len}
 use Rattle.std.proofs.Math.Nat.{mul-le-mul_left, div-one}
 use Rattle.byteorder.specs.Numbers.{length-bytes_low_first, little_from-bytes}
@@ -58,6 +58,16 @@ low_part width bits few =
 pub flags_more : {T : Type 0} (flag : Value → Truth) (held : T → Value) (slots : List T) (i : ℕ) (slot : T) (bits new : List Truth) (next : Truth) → i < length slots → slot ≡ get_or slots i slot →
     new ≡ bits ++ next ∷ [] → next ≡ flag (held slot) → bits ≡ map flag (map held (take i slots)) → new ≡ map flag (map held (take (i + 1) slots))
 flags_more flag held slots i slot bits new next low is e next_is so_far = search (rules, common_steps)
+
+-- the flags of all slots that are not null are their validity bits
+pub flags_valid : {T : Type 0} (held : T → Value) (slots : List T) (i : ℕ) (bits new : List Truth) → length slots ≤ i → new ≡ bits →
+    bits ≡ map (λ value. not (is_null value)) (map held (take i slots)) → AreValidUnlessNull (Some new) (map held slots)
+flags_valid {T} held slots i bits new all e so_far =
+    let is : new ≡ map (λ value. not (is_null value)) (map held slots) = e ∙ so_far ∙ ap (λ (xs : List T). map (λ value. not (is_null value)) (map held xs)) (take_all i slots all) in
+    record {
+      long = ap length is ∙ length-map (map held slots) (λ value. not (is_null value));
+      each = λ k low. ap (λ (xs : List Truth). get_or xs k false) is ∙ get_or-map (λ value. not (is_null value)) (map held slots) k Null false low;
+    }
 
 -- one number more
 pub numbers_more : (width : ℕ) (packed new part : List ℕ) (values : List Value) (i : ℕ) → new ≡ packed ++ part → length part ≡ width →

@@ -1,8 +1,8 @@
-use Rattle.std.proofs.Common.{◌≡◌, ◌∙◌, false, not, sym, ap, subst}
+use Rattle.std.proofs.Common.{◌≡◌, ◌∙◌, false, not, sym, ap, subst, arith}
 use Rattle.scan_base.specs.declared.value.Value.{Value}
 use Rattle.scan_base.specs.Value.{is_null}
 use Rattle.arrays.specs.Typed.{IsValueOf}
-use Rattle.arrays.proofs.FilledSlots.{slot_more, flags_more, differ}
+use Rattle.arrays.proofs.FilledSlots.{slot_more, flags_more, flags_valid, differ}
 use Rattle.arrays.proofs.filled.fill_validity.Goals.{then-nulls, else-nulls}
 use Rattle.arrays.proofs.filled.fill_validity.Goals as goal
 
@@ -23,3 +23,12 @@ loop-slot-preserved g c =
           (c.value.ensures.typed data_type (subst (g.S.Source.IsOf data_type) (sym c.slot-item.is) (all i slot c.loop-slot-test.true)))
           (c.loop-slot.invariant.typed data_type all);
     }
+
+pub returns-then-not-nulls-clause-typed : goal.returns-then-not-nulls-clause-typed
+returns-then-not-nulls-clause-typed g c data_type all k low = c.loop-slot.invariant.typed data_type all k (omega (arith, low, c.loop-slot-test.false))
+
+pub returns-clause-typed : goal.returns-clause-typed
+returns-clause-typed g c data_type all k low = c.loop-slot.invariant.typed data_type all k (omega (arith, low, c.loop-slot-test.false))
+
+pub returns-clause-valid : goal.returns-clause-valid
+returns-clause-valid g c = flags_valid g.S.Source.held c.args.slots.now c.loop-slot.slot-index c.loop-slot.bits c.in_ok-into_bits.field-0 c.loop-slot-test.false c.in_ok-into_bits.ensures.value c.loop-slot.invariant.bits
