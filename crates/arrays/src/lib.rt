@@ -5,7 +5,6 @@ pub mod batch;
 pub mod bools;
 mod buffers;
 mod built;
-mod built_texts;
 pub mod cells;
 pub mod column;
 pub mod decimals;
