@@ -5,7 +5,7 @@ use Rattle.std.specs.Str.{is_utf8}
 use Rattle.std.proofs.Math.Facts.{ltb_yes}
 use Rattle.std.proofs.lemmas.Grind.{common_steps}
 use Rattle.std.proofs.lemmas.Bool.{cases_lt, lt-ltb, le-ltb}
-use Rattle.std.proofs.lemmas.List.{length-append, length-map, length-take, get_or-map, get_or_default, take_all, same_lists}
+use Rattle.std.proofs.lemmas.List.{length-append, length-map, get_or-map, get_or_default, take_all, same_lists}
 use Rattle.std.proofs.lemmas.List.FromFn.{length-map-range_with_len, get_or-map-range_with_len}
 use Rattle.std.proofs.Math.Nat.{mul-le-mul_left, div-one}
 use Rattle.byteorder.specs.Numbers.{length-bytes_low_first, little_from-bytes}
@@ -26,7 +26,7 @@ use Rattle.arrays.specs.Validity.{is_valid, where_valid}
 use Rattle.arrays.specs.Layout.{layout_count, layout_slot}
 use Rattle.arrays.specs.Column.{slot_of, values_of, whole}
 use Rattle.arrays.specs.Typed.{IsInteger, IsValueOf}
-use Rattle.arrays.specs.inside.Filled.{number_of, low_bytes, AreOfType, AreValidUnlessNull, AreNumbersOf, FillSlots}
+use Rattle.arrays.specs.inside.Filled.{low_bytes, AreOfType, AreValidUnlessNull, AreNumbersOf, FillSlots}
 use Rattle.arrays.specs.Texts.{text_at}
 use Rattle.arrays.specs.Written.{text_bytes, offsets_from, texts_joined}
 use Rattle.arrays.proofs.Gathered.{front, behind}

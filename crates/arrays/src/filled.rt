@@ -117,11 +117,7 @@ fn fill_bools<S: Source>(alloc: Global, slots: &[S]) -> Result<Values, AllocErro
 }
 
 // The packed numbers of slots, each of so many bytes, and 0 where there is none.
-fn pack_numbers<S: Source>(
-    alloc: Global,
-    width: usize,
-    slots: &[S],
-) -> Result<Vec<u8>, AllocError>
+fn pack_numbers<S: Source>(alloc: Global, width: usize, slots: &[S]) -> Result<Vec<u8>, AllocError>
     requires there { All S.IsThere slots.now }
     requires width { width ≤ 16 }
     ensures { IfOk result

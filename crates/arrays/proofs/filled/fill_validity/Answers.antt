@@ -1,5 +1,4 @@
 use Rattle.std.proofs.Common.{◌≡◌, ◌∙◌, false, not, sym, ap, subst, arith}
-use Rattle.scan_base.specs.declared.value.Value.{Value}
 use Rattle.scan_base.specs.Value.{is_null}
 use Rattle.arrays.specs.Typed.{IsValueOf}
 use Rattle.arrays.proofs.FilledSlots.{slot_more, flags_more, flags_valid, differ}

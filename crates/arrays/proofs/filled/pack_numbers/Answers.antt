@@ -1,4 +1,4 @@
-use Rattle.std.proofs.Common.{◌≡◌, ◌%◌, ◌^◌, List, ℕ, ℤ, ◌∙◌, ap, sym, length, map, take, rules, of_z}
+use Rattle.std.proofs.Common.{◌≡◌, ◌%◌, ◌^◌, List, ℕ, ℤ, ◌∙◌, ap, length, map, take, rules, of_z}
 use Rattle.std.specs.Int.{w128, to_le_bytes}
 use Rattle.std.proofs.lemmas.Int.{to_z-of_z}
 use Rattle.byteorder.specs.Endian.{little_from}

@@ -1,7 +1,7 @@
-use Rattle.std.proofs.Common.{ℕ, map, length, subst, ap, sym, ◌∙◌}
+use Rattle.std.proofs.Common.{ℕ, map, length, ap, sym, ◌∙◌}
 use Rattle.std.proofs.lemmas.List.{length-map}
 use Rattle.arrays.specs.Column.{values_of, whole}
-use Rattle.arrays.specs.inside.Slots.{layout_of, AreSlots}
+use Rattle.arrays.specs.inside.Slots.{layout_of}
 use Rattle.arrays.proofs.FilledSlots.{values_filled}
 use Rattle.arrays.proofs.column.Column.filled.Goals as goal
 
