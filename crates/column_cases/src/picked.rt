@@ -1,6 +1,6 @@
 //! Slots of columns in any order, and more than once, as a column of its own.
 
-ghost use Rattle.std.specs.Prelude.{◌<◌, All, IfOk};
+ghost use Rattle.std.specs.Prelude.{◌≡◌, ◌<◌, All, IfOk};
 ghost use Rattle.arrow_schema.specs.declared.data_type.DataType.{DataType};
 ghost use Rattle.arrays.specs.Typed.{IsOfType};
 ghost use Rattle.arrays.specs.OfSlots.{IsSlotOf};
@@ -16,25 +16,25 @@ use std::alloc::Global;
 /// kept. In each the slot of a turn is so many behind that of the turn before, and the first one stands behind the last.
 pub(crate) fn picked(alloc: Global, words: &str) -> Result<Batch, Fault> {
     let (step, numbers) = words.split_once(' ').ok_or(Fault::UnknownCommand)?;
-    let (turns, line) = numbers.split_once(' ').ok_or(Fault::UnknownCommand)?;
+    let (count, line) = numbers.split_once(' ').ok_or(Fault::UnknownCommand)?;
+    let turns = Turns {
+        count: turn_number(count)?,
+        step: turn_number(step)?,
+    };
     let case = Case::read(line).ok_or(Fault::UnknownCommand)?;
-    let whole = Column::new(layout(alloc, &case)?);
+    let column = picked_of(alloc, &case, turns)?;
+    let rows = column.len();
+    Ok(Batch::new(vec![in alloc; column]?, rows))
+}
+
+// The slots of all turns, of the column of a case.
+fn picked_of(alloc: Global, case: &Case<'_>, turns: Turns) -> Result<Column, Fault> {
+    let whole = Column::new(layout(alloc, case)?);
     if case.from > case.to || case.to > whole.len() {
         return Err(Fault::UnknownCommand);
     }
     let kept = whole.slice(case.from, case.to)?;
-    let data_type = type_of(&whole);
-    let turns = Turns {
-        count: turn_number(turns)?,
-        step: turn_number(step)?,
-    };
-    let slots = slots_in_turn(alloc, &whole, &kept, turns)?;
-    if !texts_fit(slots.as_slice(), (1 << 31) - 1) {
-        return Err(Fault::LimitReached);
-    }
-    let column = Column::of_slots(alloc, data_type, slots.as_slice())?;
-    let rows = column.len();
-    Ok(Batch::new(vec![in alloc; column]?, rows))
+    taken(alloc, &whole, &kept, turns)
 }
 
 // How many turns there are, and how far the slot of each is behind that of the one before.
@@ -46,6 +46,19 @@ struct Turns {
 
 fn turn_number(word: &str) -> Result<u32, Fault> {
     u32::try_from(number(word)).map_err(|_| Fault::UnknownCommand)
+}
+
+// The slots of all turns, as a column.
+fn taken(alloc: Global, whole: &Column, kept: &Column, turns: Turns) -> Result<Column, Fault>
+    requires { kept.now.layout ≡ whole.now.layout }
+{
+    let data_type = type_of(whole);
+    let taken = slots_in_turn(alloc, whole, kept, turns)?;
+    let slots = taken.as_slice();
+    if !texts_fit(slots, (1 << 31) - 1) {
+        return Err(Fault::LimitReached);
+    }
+    Ok(Column::of_slots(alloc, data_type, slots)?)
 }
 
 // The type of a column, by its layout.
