@@ -24,8 +24,8 @@ use scan_base::ValueRef;
 use std::alloc::{AllocError, Global};
 
 impl Column {
-    // A column of a type, or of the texts of a dictionary, with these slots. Where none is null, no validity bits are
-    // made.
+    // A column of a type, or of the texts of a dictionary, with these slots. Where none is null, it has no validity
+    // bits.
     pub(crate) fn filled<S: Source>(
         alloc: Global,
         data_type: DataType,
