@@ -1,5 +1,5 @@
 -- Texts of slots that are too many bytes.
-use Rattle.std.proofs.Common.{◌≡◌, ◌<◌, ℕ, zero, suc, ◌+◌, List, [], ◌∷◌, Some, false, length, map, take, slice_get, nat_le, arith, sym, ◌∙◌, length-append}
+use Rattle.std.proofs.Common.{◌≡◌, ◌<◌, ℕ, zero, suc, ◌+◌, List, [], ◌∷◌, Some, length, map, take, slice_get, arith, length-append}
 use Rattle.arrays.specs.declared.of_slots.SlotRef.{SlotRef}
 use Rattle.arrays.specs.OfSlots.{slot_value}
 use Rattle.arrays.specs.Written.{text_bytes, texts_joined}

@@ -1,5 +1,5 @@
 -- Slots of any columns, one behind another.
-use Rattle.std.specs.Prelude.{◌<◌, List, All}
+use Rattle.std.specs.Prelude.{◌<◌}
 use Rattle.scan_base.specs.declared.value.Value.{Value}
 use Rattle.arrow_schema.specs.declared.data_type.DataType.{DataType}
 use Rattle.arrays.specs.declared.of_slots.SlotRef.{SlotRef}

@@ -36,8 +36,7 @@ impl Column {
         ensures long { IfOk result (λ column. column.len ≡ length slots.now) }
         ensures typed { IfOk result (λ column. IsOfType (answer_type data_type) column.layout) }
     {
-        let _stub = (alloc, data_type, slots.len());
-        Err(AllocError)
+        Column::filled(alloc, data_type, slots)
     }
 }
 

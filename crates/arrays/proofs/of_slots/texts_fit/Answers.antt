@@ -1,4 +1,4 @@
-use Rattle.std.proofs.Common.{◌≡◌, ◌<◌, ◌+◌, Some, length, map, take, nat_le, sym, ap, ◌∙◌, subst, arith}
+use Rattle.std.proofs.Common.{Some, length, map, sym, ap, ◌∙◌, arith}
 use Rattle.std.proofs.lemmas.Bool.{lt-leb}
 use Rattle.std.proofs.lemmas.Option.{slice_get-get_or}
 use Rattle.arrays.specs.OfSlots.{slot_value}
