@@ -8,3 +8,4 @@ pub mod Feeding
 pub mod Blank
 pub mod Answering
 pub mod Held
+pub mod Batching
