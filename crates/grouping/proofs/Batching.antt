@@ -27,7 +27,7 @@ pub rows_of_cells : (columns : List ColumnAt) (rows : ℕ) (cell : ℕ → ℕ �
 rows_of_cells columns rows cell same =
     map_alike (row_of columns) (λ row. map (cell row) (range_with_len 0 (length columns))) 0 rows
     (λ row low. let moved : 0 + row ≡ row = omega arith in
-      ap (row_of columns) moved
-      ∙ sym (ranged_any columns (cell row) (λ (column : ColumnAt). slot_of column row) 0
-        (λ item d there. let shifted : 0 + item ≡ item = omega arith in ap (cell row) shifted ∙ sym (same item d row there low)))
-      ∙ ap (λ row. map (cell row) (range_with_len 0 (length columns))) (sym moved))
+    ap (row_of columns) moved
+    ∙ sym (ranged_any columns (cell row) (λ (column : ColumnAt). slot_of column row) 0
+    (λ item d there. let shifted : 0 + item ≡ item = omega arith in ap (cell row) shifted ∙ sym (same item d row there low)))
+    ∙ ap (λ row. map (cell row) (range_with_len 0 (length columns))) (sym moved))

@@ -6,6 +6,7 @@ ghost use Rattle.arrays.specs.Batch.{row_of};
 ghost use Rattle.arrays.specs.Typed.{AreOf};
 ghost use Rattle.grouping.specs.Fed.{HasItems, IsNew, Feeds, Finishes};
 
+use crate::batches::Answer;
 use crate::kept::{Kept, add, blank, found_count};
 use crate::table::Chosen;
 use arrays::{Batch, Selection};
@@ -125,7 +126,17 @@ impl<'t> Groups<'t> {
         if let Some(fault) = self.refused {
             return Err(fault);
         }
-        let _stub = alloc;
-        Err(Fault::OutOfMemory)
+        let answer = Answer {
+            types: self.shape.types.as_slice(),
+            keys: self.shape.keys,
+            items: self.shape.items.as_slice(),
+            firsts: self.kept.firsts.as_slice(),
+            tallies: self.kept.tallies.as_slice(),
+        };
+        let groups = found_count(self.shape.keys, &self.kept.firsts);
+        match answer.batches(alloc, groups) {
+            Ok(batches) => Ok(batches),
+            Err(_) => Err(Fault::OutOfMemory),
+        }
     }
 }

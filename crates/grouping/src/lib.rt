@@ -2,6 +2,7 @@
 #![tactic(auto)]
 
 mod answer;
+mod batches;
 mod cell;
 pub mod groups;
 mod kept;
