@@ -1,0 +1,11 @@
+pub mod KeyCells
+pub mod Numbers
+pub mod Stepping
+pub mod Finding
+pub mod Sharing
+pub mod AddingAll
+pub mod Feeding
+pub mod Blank
+pub mod Answering
+pub mod Held
+pub mod Batching

@@ -1,1 +1,7 @@
+pub mod Answered
 pub mod Fed
+pub mod Found
+pub mod Keys
+pub mod RowKeys
+pub mod Tallies
+pub mod inside

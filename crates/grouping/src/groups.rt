@@ -1,57 +1,85 @@
 //! Groups of rows.
 
-ghost use Rattle.std.specs.Prelude.{◌≡◌, ◌≤◌, ◌+◌, ◌<◌, ◌++◌, [], All, IfOk, None, length, map};
+ghost use Rattle.std.specs.Prelude.{◌≡◌, ◌≤◌, ◌+◌, ◌<◌, All, IfOk, length, map};
 ghost use Rattle.scan_base.specs.Limits.{most_rows};
 ghost use Rattle.arrays.specs.Batch.{row_of};
 ghost use Rattle.arrays.specs.Typed.{AreOf};
-ghost use Rattle.grouping.specs.Fed.{HasItems, Feeds, Finishes};
+ghost use Rattle.grouping.specs.Fed.{HasItems, IsNew, Feeds, Finishes};
 
+use crate::batches::Answer;
+use crate::kept::{Kept, add, blank, found_count};
+use crate::table::Chosen;
 use arrays::{Batch, Selection};
 use arrow_schema::DataType;
 use hash_seed::HashSeed;
+use indexmap::IndexSet;
 use scan_base::Fault;
-use std::alloc::Global;
+use std::alloc::{AllocError, Global};
 use std::marker::Model;
 use typed_plan::Aggregate;
 
 /// What is grouped: the types of the columns of the rows, the numbers of those that are the key, and the items that are
 /// wanted of each group.
 #[derive(Drop)]
-pub struct Grouping {
+pub struct Grouping<'t> {
     pub types: Vec<DataType>,
-    pub keys: Vec<usize>,
+    pub keys: &'t [usize],
     pub items: Vec<Aggregate>,
 }
 
 /// Groups of rows that have the same values in some columns, by first appearance; without such a column there is one
 /// group of all rows, also of none. Keys stay in the batches that they came in: no value is copied for a row. A contract
-/// sees the rows that were fed.
+/// sees the keys and the tallies of the groups; `Holds` says of which rows they are.
 #[derive(Drop)]
 pub struct Groups<'t> {
-    shape: Grouping,
+    shape: Grouping<'t>,
+    kept: Kept<'t>,
     refused: Option<Fault>,
-    batch: Option<&'t Batch>,
 }
 
 impl<'t> Model for Groups<'t> {
-    ghost use Rattle.std.specs.Prelude.{[]};
     ghost use Rattle.grouping.specs.Fed.{GroupsAt};
+    ghost use Rattle.grouping.specs.inside.Adding.{lists_of};
+    ghost use Rattle.grouping.specs.inside.Kept.{IsGroups};
+    ghost use Rattle.grouping.specs.inside.Placing.{found_by};
 
     ghost Value = { GroupsAt };
 
     ghost view = { λ g. record {
-      types = g.shape.types.items; keys = g.shape.keys.items; items = g.shape.items.items; rows = []; refused = g.refused } };
+      types = g.shape.types.items;
+      keys = g.shape.keys.now;
+      items = g.shape.items.items;
+      found = found_by g.shape.keys.now g.kept.firsts.keys;
+      tallies = lists_of g.kept.tallies.items;
+      count = g.kept.count;
+      refused = g.refused;
+    } };
+
+    ghost invariant = { λ g. IsGroups g.shape.types.items g.shape.keys.now g.shape.items.items g.kept.firsts.keys (lists_of g.kept.tallies.items) g.kept.count g.refused };
 }
 
 impl<'t> Groups<'t> {
     /// No row yet. The hashes of keys begin with the seed.
-    pub fn new(alloc: Global, seed: HashSeed, shape: Grouping) -> Groups<'t>
-        requires { HasItems shape.types.items shape.keys.items shape.items.items }
-        ensures { result ≡ record {
-          types = shape.types.items; keys = shape.keys.items; items = shape.items.items; rows = []; refused = None } }
+    ///
+    /// # Errors
+    ///
+    /// `AllocError` where memory is refused.
+    pub fn new(alloc: Global, seed: HashSeed, shape: Grouping<'t>) -> Result<Groups<'t>, AllocError>
+        requires { HasItems shape.types.items shape.keys.now shape.items.items }
+        ensures { IfOk result (IsNew (shape.entry).types.items (shape.entry).keys.now (shape.entry).items.items) }
     {
-        let _stub = (alloc, seed);
-        Groups { shape, refused: None, batch: None }
+        let firsts = IndexSet::with_hasher(alloc, seed);
+        let groups = found_count(shape.keys, &firsts);
+        let tallies = blank(alloc, shape.items.len(), groups)?;
+        Ok(Groups {
+            shape,
+            kept: Kept {
+                firsts,
+                tallies,
+                count: 0,
+            },
+            refused: None,
+        })
     }
 
     /// Feeds the rows of a batch that are selected, in order.
@@ -59,33 +87,32 @@ impl<'t> Groups<'t> {
     /// # Errors
     ///
     /// F21 (`Fault::OutOfMemory`) where memory is refused. What refused the groups is answered from then on.
-    pub fn feed(&mut self, alloc: Global, batch: &'t Batch, selection: &Selection) -> Result<(), Fault>
+    pub fn feed(
+        &mut self,
+        alloc: Global,
+        batch: &'t Batch,
+        selection: &Selection,
+    ) -> Result<(), Fault>
         requires typed { AreOf self.old.types batch.now.columns }
         requires within { All (λ row. row < batch.now.rows) selection.now }
-        requires few { length self.old.rows + length selection.now ≤ most_rows }
+        requires few { self.old.count + length selection.now ≤ most_rows }
         ensures { Feeds self.old result self.new (map (row_of batch.now.columns) selection.now) }
     {
-        let _stub = (alloc, batch.rows(), selection.len());
-        self.refused = Some(Fault::OutOfMemory);
-        Err(Fault::OutOfMemory)
-    }
-
-    /// Feeds the rows that were fed to other groups of the same columns, behind these. What refused the others refuses
-    /// these.
-    ///
-    /// # Errors
-    ///
-    /// F21 (`Fault::OutOfMemory`) where memory is refused. What refused the groups is answered from then on.
-    pub fn merge(&mut self, alloc: Global, other: Groups<'t>) -> Result<(), Fault>
-        requires types { other.types ≡ self.old.types }
-        requires keys { other.keys ≡ self.old.keys }
-        requires items { other.items ≡ self.old.items }
-        requires few { length self.old.rows + length other.rows ≤ most_rows }
-        ensures { other.refused ≡ None → Feeds self.old result self.new other.rows }
-    {
-        let _stub = (alloc, other.refused);
-        self.refused = Some(Fault::OutOfMemory);
-        Err(Fault::OutOfMemory)
+        if let Some(fault) = self.refused {
+            return Err(fault);
+        }
+        let chosen = Chosen {
+            batch,
+            columns: self.shape.keys,
+            rows: selection.places(),
+        };
+        match add(alloc, self.shape.items.as_slice(), &mut self.kept, &chosen) {
+            Ok(()) => Ok(()),
+            Err(_) => {
+                self.refused = Some(Fault::OutOfMemory);
+                Err(Fault::OutOfMemory)
+            }
+        }
     }
 
     /// The items of each group, in order, in batches of one to 65,536 rows.
@@ -94,9 +121,22 @@ impl<'t> Groups<'t> {
     ///
     /// What refused the groups; F21 (`Fault::OutOfMemory`) where memory is refused.
     pub fn finish(self, alloc: Global) -> Result<Vec<Batch>, Fault>
-        ensures { Finishes self result }
+        ensures { Finishes self.entry result }
     {
-        let _stub = (alloc, self.refused);
-        Err(Fault::OutOfMemory)
+        if let Some(fault) = self.refused {
+            return Err(fault);
+        }
+        let answer = Answer {
+            types: self.shape.types.as_slice(),
+            keys: self.shape.keys,
+            items: self.shape.items.as_slice(),
+            firsts: self.kept.firsts.as_slice(),
+            tallies: self.kept.tallies.as_slice(),
+        };
+        let groups = found_count(self.shape.keys, &self.kept.firsts);
+        match answer.batches(alloc, groups) {
+            Ok(batches) => Ok(batches),
+            Err(_) => Err(Fault::OutOfMemory),
+        }
     }
 }

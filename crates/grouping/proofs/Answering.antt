@@ -1,0 +1,87 @@
+-- Cells of the answer.
+use Rattle.std.proofs.Common.{◌≡◌, ◌≤◌, ◌<◌, ℕ, ℤ, zero, suc, ◌+◌, pos, Bool, true, false, if◌then◌else◌, List, [], ◌∷◌, ◌++◌, length, map, get_or, take, Some, None, Option, Result, Ok, Err, IfOk, refl, sym, ap, ◌∙◌, subst, arith}
+use Rattle.std.specs.Prelude.{◌==◌}
+use Rattle.std.proofs.lemmas.List.{take_all, map-append, map_more}
+use Rattle.scan_base.specs.declared.value.Value.{Value}
+use Rattle.scan_base.specs.declared.value.Value.TheVariants.{Null, Int}
+use Rattle.arrow_schema.specs.declared.data_type.DataType.{DataType}
+use Rattle.arrays.specs.declared.of_slots.SlotRef.{SlotRef}
+use Rattle.arrays.specs.Batch.{AreLong}
+use Rattle.arrays.specs.OfSlots.{slot_value}
+use Rattle.arrays.specs.Built.{value_or_null}
+use Rattle.arrays.specs.Column.{ColumnAt}
+use Rattle.arrays.specs.Typed.{AreOf, IsOfType}
+use Rattle.typed_plan.specs.Typed.{type_at}
+use Rattle.grouping.specs.declared.key.RowKey.{RowKey}
+use Rattle.grouping.specs.declared.tally.Tally.{Tally}
+use Rattle.grouping.specs.inside.Answering.{count_or_none, sum_or_none}
+
+pub if_ok : {T E : Type 0} (P Q : T → Type 0) → ((x : T) → P x → Q x) → (r : Result T E) → IfOk r P → IfOk r Q
+if_ok P Q f (Ok x) h = f x h
+if_ok P Q f (Err e) h = tt
+
+counts_all : (tallies : List Tally) → map (value_or_null Int) (map count_or_none tallies) ≡ map (λ (tally : Tally). Int (pos tally.count)) tallies
+counts_all [] = refl
+counts_all (tally ∷ tallies) = ap (λ rest. Int (pos tally.count) ∷ rest) (counts_all tallies)
+
+sum_one : (tally : Tally) → value_or_null Int (sum_or_none tally) ≡ (if tally.count == 0 then Null else Int tally.sum)
+sum_one tally = by (tally.count == 0)
+  where
+    by : (none : Bool) → value_or_null Int (if none then None else Some tally.sum) ≡ (if none then Null else Int tally.sum)
+    by true = refl
+    by false = refl
+
+sums_all : (tallies : List Tally) → map (value_or_null Int) (map sum_or_none tallies) ≡ map (λ (tally : Tally). if tally.count == 0 then Null else Int tally.sum) tallies
+sums_all [] = refl
+sums_all (tally ∷ tallies) =
+    ap (λ first. first ∷ map (value_or_null Int) (map sum_or_none tallies)) (sum_one tally)
+    ∙ ap (λ rest. (if tally.count == 0 then Null else Int tally.sum) ∷ rest) (sums_all tallies)
+
+-- the values of a column of counts
+pub counts_of : (tallies : List Tally) (index : ℕ) (values : List (Option ℤ)) → length tallies ≤ index → values ≡ map count_or_none (take index tallies) →
+    map (value_or_null Int) values ≡ map (λ (tally : Tally). Int (pos tally.count)) tallies
+counts_of tallies index values long is =
+    ap (map (value_or_null Int)) (is ∙ ap (map count_or_none) (take_all index tallies long)) ∙ counts_all tallies
+
+-- the values of a column of sums
+pub sums_of : (tallies : List Tally) (index : ℕ) (values : List (Option ℤ)) → length tallies ≤ index → values ≡ map sum_or_none (take index tallies) →
+    map (value_or_null Int) values ≡ map (λ (tally : Tally). if tally.count == 0 then Null else Int tally.sum) tallies
+sums_of tallies index values long is =
+    ap (map (value_or_null Int)) (is ∙ ap (map sum_or_none) (take_all index tallies long)) ∙ sums_all tallies
+
+-- a column is of the type at its place
+pub typed_at : (types : List DataType) (columns : List ColumnAt) (place : ℕ) (d : ColumnAt) → AreOf types columns → place < length columns →
+    IsOfType (type_at types place) (get_or columns place d).layout
+typed_at [] [] place d are low = absurd (omega arith)
+typed_at (t ∷ types) (c ∷ columns) zero d are low = are.0
+typed_at (t ∷ types) (c ∷ columns) (suc place) d are low = typed_at types columns place d are.1 (omega arith)
+typed_at [] (c ∷ columns) place d are low = absurd are
+typed_at (t ∷ types) [] place d are low = absurd are
+
+-- the type at a place that is there
+pub type_there : (types : List DataType) (place : ℕ) (d : DataType) → place < length types → get_or types place d ≡ type_at types place
+type_there [] place d low = absurd (omega arith)
+type_there (t ∷ types) zero d low = refl
+type_there (t ∷ types) (suc place) d low = type_there types place d (omega arith)
+
+-- a slot of a first row is there, in a column of the type at its place
+pub slot_there : (columns found : List ColumnAt) (rows place row : ℕ) (column : ColumnAt) → found ≡ columns → AreLong rows found →
+    column ≡ get_or found place column → place < length columns → row < rows → (types : List DataType) → AreOf types columns →
+    (row < column.len) × IsOfType (type_at types place) column.layout
+slot_there columns found rows place row column same long is there within types typed =
+    let low : place < length found = omega (arith, ap length same) in
+    let wide : (get_or found place column).len ≡ rows = long place column low in (
+      omega (arith, wide, ap (λ (c : ColumnAt). c.len) is),
+      subst (λ (c : ColumnAt). IsOfType (type_at types place) c.layout) (sym is)
+          (typed_at types found place column (subst (AreOf types) (sym same) typed) low),
+    )
+
+-- the values of slots, and of one more
+pub values_more : (cell : RowKey → Value) (firsts : List RowKey) (index : ℕ) (first : RowKey) (slots : List SlotRef) (slot : SlotRef) →
+    first ≡ get_or firsts index first → index < length firsts → slot_value slot ≡ cell first →
+    map slot_value slots ≡ map cell (take index firsts) → map slot_value (slots ++ slot ∷ []) ≡ map cell (take (index + 1) firsts)
+values_more cell firsts index first slots slot is low value so =
+    map-append slot_value slots (slot ∷ [])
+    ∙ ap (λ values. values ++ slot_value slot ∷ []) so
+    ∙ ap (λ v. map cell (take index firsts) ++ v ∷ []) (value ∙ ap cell is)
+    ∙ sym (map_more cell firsts index first low)
