@@ -76,6 +76,12 @@ def numbers(*values):
     return trees.batch(len(values), (0, b"", b"".join(value.to_bytes(8, "little", signed=True) for value in values)))
 
 
+def pairs(*rows):
+    """A batch of two columns of numbers, row by row."""
+    columns = [(0, b"", b"".join(value.to_bytes(8, "little", signed=True) for value in values)) for values in zip(*rows)]
+    return trees.batch(len(rows), *columns)
+
+
 def words(*values):
     """A batch of one column of these texts."""
     return trees.batch(len(values), (0, b"", *trees.texts([value.encode() for value in values])))
@@ -120,6 +126,10 @@ def refuse(method, messages, fault):
 
 def whole_numbers(*values):
     return [f"Int({value})," for value in values]
+
+
+def rows_of(*rows):
+    return ["".join(whole_numbers(*row)) for row in rows]
 
 
 A = "a Integer(Int64) or null;"
@@ -177,6 +187,21 @@ B, A_TOO = put(b"b", CREATE, COLUMN_A), put(b"a", CREATE, COLUMN_A, numbers(1), 
 pipe("--parts 7", info(OF_TABLES, LIST, [tables_handle(0)]), fetch(tables_handle(0), LIST), B, A_TOO,
      info(OF_TABLES, LIST, [tables_handle(2)]), schema(OF_TABLES, LIST), put(b"c", CREATE, COLUMN_A),
      fetch(tables_handle(2), LIST, *LISTED), fetch(tables_handle(1), LIST, LISTED[1]))
+
+note("a join in two parts; groups in one, of which a part means nothing; and texts of both that are refused")
+PAIRS = put(b"t", CREATE, [("a", INT64), ("i", INT64)], pairs((1, 10), (1, 20)), rows=2)
+JOIN = b"SELECT x.i, y.i FROM t AS x JOIN t AS y ON x.a = y.a"
+GROUPS = b"SELECT a, COUNT(*), SUM(i) FROM t GROUP BY a"
+TWO_I, OF_GROUPS = "i Integer(Int64) or null;" * 2, "a Integer(Int64) or null;col2 Integer(Int64);col3 Decimal128 or null;"
+ONE, OTHER_ONE = query_handle(1, 0, 1, JOIN), query_handle(1, 1, 2, JOIN)
+pipe("--parts 2", PAIRS, info(of_query(JOIN), TWO_I, [ONE, OTHER_ONE]), fetch(OTHER_ONE, TWO_I, *rows_of((20, 10), (20, 20))),
+     fetch(ONE, TWO_I, *rows_of((10, 10), (10, 20))), info(of_query(GROUPS), OF_GROUPS, [query_handle(1, 0, 2, GROUPS)]),
+     fetch(query_handle(1, 0, 2, GROUPS), OF_GROUPS, *rows_of((1, 2, 30))), refuse(b"DoGet", [ticket(query_handle(1, 0, 1, GROUPS))], "F17"),
+     refuse(b"DoGet", [ticket(query_handle(1, 1, 2, GROUPS))], "F17"), refuse(b"DoGet", [ticket(query_handle(1, 0, 3, GROUPS))], "F17"))
+for text, fault in ((b"SELECT a FROM t JOIN t u ON t.a = u.a", "F14"), (b"SELECT t.a FROM t JOIN t ON t.a = t.a", "F14"),
+                    (b"SELECT t.a FROM t JOIN t u ON t.a = t.a", "F16"), (b"SELECT i, COUNT(*) FROM t GROUP BY a", "F16"),
+                    (b"SELECT COUNT(*) FROM t JOIN t u ON t.a = u.a", "F16")):
+    pipe("", PAIRS, refuse(b"GetFlightInfo", [of_query(text)], fault), refuse(b"DoGet", [ticket(query_handle(1, 0, 2, text))], "F17"))
 
 note("calls that are refused whatever the tables are, each before a put")
 for call in WITH_INFOS:

@@ -13,11 +13,12 @@ mod cases;
 mod said;
 
 use crate::cases::Cases;
+use hash_seed::HashSeed;
 use std::io;
 
 fn main(rt: HostRuntime) -> io::Result<()> {
     let alloc = rt.alloc();
-    let mut cases = Cases::new(alloc);
+    let mut cases = Cases::new(alloc, HashSeed::new(&rt)?);
     for line in rt.lines(alloc) {
         match cases.answer(alloc, line?.as_str()) {
             Ok(Some(answer)) => println!(rt; "{answer}")?,
