@@ -54,13 +54,15 @@ MARK = "="  # the line behind each answer of sqlite3
 
 @dataclass
 class Asked:
-    """A query with its text, the database that it is asked of, and its tickets' handles."""
+    """A query with its text, the database that it is asked of, its tickets' handles, and both answers."""
 
     query: Query
     text: str
     database: Database
     handles: list[bytes]
     streams: list[list[Row]] = field(default_factory=list)
+    wanted: list[Row] = field(default_factory=list)
+    given: list[Row] = field(default_factory=list)
 
 
 class Case:
@@ -178,8 +180,8 @@ def stream_of_fetch(answer: wire.Answer) -> tuple[list[Column], list[Row]]:
     return columns_of(reader), [tuple(row) for row in reader.total]
 
 
-def pipe_answers(path: str, case: Case) -> list[list[Row]]:
-    """The rows of each query's endpoints, joined in their order."""
+def pipe_answers(path: str, case: Case) -> None:
+    """Looks at the answers of `pipe`. A query's rows are those of its endpoints, joined in their order."""
     source = wire.Bytes(run([path, "pipe", "--parts", str(case.parts)], b"".join(case.calls)))
     schemas: dict[int, list[Column]] = {}
     for rows, asked in case.counts:
@@ -193,17 +195,20 @@ def pipe_answers(path: str, case: Case) -> list[list[Row]]:
         columns, asked.streams[number] = stream_of_fetch(wire.answer(source))
         same("the schema of a stream and that of its info", schemas[id(asked)], columns)
     same("the bytes behind the last answer", 0, len(source.data) - source.place)
-    return [[row for stream in asked.streams for row in stream] for asked in case.asked]
+    for asked in case.asked:
+        asked.given = [row for stream in asked.streams for row in stream]
 
 
-def compare(case: Case, path: str | None) -> list[list[Row]]:
-    """Compares all answers of a case, and gives those of sqlite3."""
-    wanted = sqlite_answers(case)
-    same("the number of answers of sqlite3", len(case.asked), len(wanted))
-    given = pipe_answers(path, case) if path else [query_rows(asked.query, asked.database) for asked in case.asked]
-    for case.now, rows, own in zip(case.asked, wanted, given):
-        same("the rows, wanted as sqlite3 gives them", rows, own)
-    return wanted
+def compare(case: Case, path: str | None) -> None:
+    """Compares all answers of a case: of `pipe`, or of the plain model, with those of sqlite3."""
+    answers = sqlite_answers(case)
+    same("the number of answers of sqlite3", len(case.asked), len(answers))
+    for asked, asked.wanted in zip(case.asked, answers):
+        asked.given = [] if path else query_rows(asked.query, asked.database)
+    if path:
+        pipe_answers(path, case)
+    for case.now in case.asked:
+        same("the rows, wanted as sqlite3 gives them", case.now.wanted, case.now.given)
 
 
 def tell(case: Case, difference: str, switches: list[str]) -> None:
@@ -211,23 +216,23 @@ def tell(case: Case, difference: str, switches: list[str]) -> None:
     print(f"seed {case.seed}, {case.parts} parts: {difference}")
     asked = case.now
     if asked is not None:
-        for place in asked.query.places:
-            table = asked.database[place.table]
+        for name in dict.fromkeys(place.table for place in asked.query.places):
+            table = asked.database[name]
             columns = ", ".join(f"{one.name!r} {one.type}{' or null' * one.nullable}" for one in table.columns)
-            print(f"table {place.table!r} of {columns}", *map(str, table.rows), sep="\n  ")
-        print(f"ours:    {asked.text}\nsqlite3: {joined.sqlite_query(asked.query)}")
-        for handle, stream in zip(asked.handles, asked.streams):
-            print(f"rows {handle[9:13].hex()} to {handle[13:17].hex()}, ours: {stream}")
+            print(f"table {name!r} of {columns}", *table.rows, sep="\n  ")
+        print("rows of its endpoints:", [wire.handle_parts(handle)[1:3] for handle in asked.handles])
+        print(f"ours:    {asked.text}", *asked.given, sep="\n  ")
+        print(f"sqlite3: {joined.sqlite_query(asked.query)}", *asked.wanted, sep="\n  ")
     print(" ".join(["again: python3 scripts/sqlite_answers.py --count 1 --seed", str(case.seed), *switches]))
 
 
-def count(case: Case, answers: list[list[Row]], counts: collections.Counter) -> None:
+def count(case: Case, counts: collections.Counter) -> None:
     """Adds a case that went well to the counts."""
-    for asked, rows in zip(case.asked, answers):
+    for asked in case.asked:
         kind = "groups" if asked.query.grouped else f"places: {len(asked.query.places)}"
         counts[kind] += 1
-        counts[kind, "rows"] += len(rows)
-        counts[kind, "none"] += not rows
+        counts[kind, "rows"] += len(asked.given)
+        counts[kind, "none"] += not asked.given
         counts["endpoints"] += len(asked.handles)
 
 
@@ -248,7 +253,8 @@ def main() -> int:
     for seed in range(words.seed, words.seed + words.count):
         case = Case(seed, words.places)
         try:
-            count(case, compare(case, path), counts)
+            compare(case, path)
+            count(case, counts)
         except (Difference, wire.Unreadable, Fault, ValueError, IndexError, subprocess.TimeoutExpired) as found:
             tell(case, str(found) if isinstance(found, Difference) else repr(found), switches)
             return 1

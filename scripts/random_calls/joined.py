@@ -75,7 +75,7 @@ class Values:
     def __init__(self, random: Random):
         self.random = random
         self.numbers = [0, *random.sample([1, 2, 3, 100, -1, -2, 127, 255, -128, LARGE, -LARGE], random.randrange(1, 5))]
-        self.texts = random.sample(TEXTS, random.randrange(1, 5))
+        self.texts = random.sample(TEXTS[:-1], random.randrange(1, 5))
 
     def value(self, kind: str) -> Value:
         match class_of(kind):
