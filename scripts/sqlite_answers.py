@@ -1,7 +1,7 @@
 #!/usr/bin/env python3
 """Random joins and groups over small random tables, through `flightscan pipe` and through sqlite3, compared.
 
-    python3 scripts/sqlite_answers.py [--count N] [--seed S] [--program PATH] [--places N] [--without-program]
+    python3 scripts/sqlite_answers.py [--count N] [--seed S] [--program PATH] [--plain] [--without-program]
 
 What it shows: that the answers are those of a program which shares nothing with ours, wherever both define the same.
 Each of the databases (2,000 if no count is said) has 1 to 4 tables of 1 to 4 columns of any types but floats and dates,
@@ -15,7 +15,7 @@ count, each info's tickets, the schemas of an info and of its streams, and each 
 What both define alike, and no more: sqlite3 has its truth values as 1 and 0, names differ by more than their case, and
 numbers are so small that sqlite3's sums of 64 bits do not overflow.
 
-With --places 1 no query has a join. With --without-program the answers of sqlite3 are compared with those of the
+With --plain no query has a join or groups. With --without-program the answers of sqlite3 are compared with those of the
 plain model in random_calls, which needs no built program. Seeds are S, S + 1, ..; of one seed all is always the same.
 It ends with 1 at the first difference, and prints the query and both answers. It needs `sqlite3` (3.39 or newer) on the
 path, and the program is built as for bench/pipe.py.
@@ -68,8 +68,8 @@ class Asked:
 class Case:
     """A database, its queries, and the calls and the script that say both."""
 
-    def __init__(self, seed: int, most_places: int):
-        self.random, self.seed, self.most_places = Random(seed), seed, most_places
+    def __init__(self, seed: int, plain: bool):
+        self.random, self.seed, self.plain = Random(seed), seed, plain
         self.parts, self.version, self.database = self.random.randint(1, 3), 0, {}
         self.values = Values(self.random)
         self.calls: list[bytes] = []
@@ -119,7 +119,7 @@ class Case:
 
     def ask(self) -> None:
         """An info of a query, where one was found that binds and is short enough."""
-        query = Joiner(self.random, self.database, self.values, self.most_places).joined_query()
+        query = Joiner(self.random, self.database, self.values, self.plain).joined_query()
         text = JoinSpeller(self.random).joined_query(query) if query else ""
         if query is None or len(text.encode()) > joined.LONGEST_TEXT:
             return
@@ -241,7 +241,7 @@ def options() -> argparse.Namespace:
     parser.add_argument("--count", type=int, default=2000, help="how many databases (2000)")
     parser.add_argument("--seed", type=int, default=1, help="the seed of the first (1)")
     parser.add_argument("--program", help="the built program (that of the repository)")
-    parser.add_argument("--places", type=int, default=4, help="the most places of a query (4)")
+    parser.add_argument("--plain", action="store_true", help="ask no joins and no groups")
     parser.add_argument("--without-program", action="store_true", help="compare sqlite3 with the plain model")
     return parser.parse_args()
 
@@ -249,9 +249,9 @@ def options() -> argparse.Namespace:
 def main() -> int:
     words, counts = options(), collections.Counter()
     path = None if words.without_program else program(words.program)
-    switches = ["--places", str(words.places), *["--without-program"] * words.without_program]
+    switches = ["--plain"] * words.plain + ["--without-program"] * words.without_program
     for seed in range(words.seed, words.seed + words.count):
-        case = Case(seed, words.places)
+        case = Case(seed, words.plain)
         try:
             compare(case, path)
             count(case, counts)

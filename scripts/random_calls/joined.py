@@ -93,13 +93,13 @@ class Values:
 
 
 class Joiner(Asker):
-    """Makes queries of one or more places, which all bind."""
+    """Makes queries of one or more places, which all bind; plain ones have one place and no groups."""
 
-    def __init__(self, random: Random, database: Database, values: Values, most_places: int):
-        self.random, self.database, self.values = random, database, values
-        count = random.choice([1, 1, 1, 2, 2, 2, 3, 4])
+    def __init__(self, random: Random, database: Database, values: Values, plain: bool):
+        self.random, self.database, self.values, self.plain = random, database, values, plain
+        count = 1 if plain else random.choice([1, 1, 1, 2, 2, 2, 3, 4])
         self.places: tuple[Place, ...] = ()
-        for _ in range(min(count, most_places)):
+        for _ in range(count):
             self.places += (self.place(),)
         self.columns = [column for place in self.places for column in place.columns]
         self.rows = [[value for place in self.places for value in self.row_of(place)] for _ in range(3)]
@@ -161,7 +161,7 @@ class Joiner(Asker):
         ons = tuple(self.equalities(number) for number in range(1, len(self.places)))
         where = self.predicate(self.random.choice([0, 1, 2, 3])) if self.chance(0.6) else None
         items, keys = (), ()
-        if len(self.places) == 1 and self.chance(0.7):
+        if len(self.places) == 1 and not self.plain and self.chance(0.7):
             items, keys = self.groups()
         elif self.chance(0.8):
             items = tuple((self.name(), self.alias()) for _ in range(self.random.choice([1, 2, 3, 5])))
