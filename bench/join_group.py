@@ -20,6 +20,7 @@ import sys
 import tempfile
 import zlib
 from array import array
+from collections.abc import Callable
 from dataclasses import dataclass
 from random import Random
 
@@ -50,7 +51,7 @@ class Case:
     name: str
     query: str
     words: str
-    tables: callable  # gives the columns of each table
+    tables: Callable[[], dict]  # gives the columns of each table
     widths: tuple = (8, 8)
 
 
