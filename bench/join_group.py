@@ -4,10 +4,10 @@
     python3 bench/join_group.py [--program PATH] [--runs N] [CASE..]
 
 It makes the inputs once for each case: puts of columns of Int64 in batches of 65,536 rows, with and without a fetch
-behind them, and the same columns as plain files for bench/join_group.cpp, which it compiles (g++, -O3, baseline x86-64).
-First it reads both answers, which must be the same in every byte of each column, so also in their order. Then it
-measures both: processor time, the least of N runs (5), and the most memory held. "fetch" is the time with the fetch less
-that of the puts alone, and "C++" its time with the answer less that of reading the columns alone; both write to
+behind them, and the same columns as plain files for bench/join_group.cpp, which it compiles (g++, -O3, for baseline
+x86-64). First it reads both answers, which must be the same in every byte of each column, so also in their order. Then
+it measures both: processor time, the least of N runs (5), and the most memory held. "fetch" is the time with the fetch
+less that of the puts alone, and "C++" its time with the answer less that of reading the columns alone; both write to
 /dev/null. A case of colliding keys has keys that fall into one bucket of the C++ table. The table that is printed is
 the one of bench/README.md. Build the program first, as for `pipe.py`.
 """

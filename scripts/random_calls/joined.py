@@ -16,6 +16,7 @@ from random_calls.puts import RANGES, TEXTS
 from random_calls.queries import Asker, Speller
 
 LARGE = 2**59  # sixteen of these are no sum of more than 64 bits, which sqlite3 would refuse
+NUMBERS = [1, 2, 3, 100, -1, -2, 127, 255, -128, LARGE, -LARGE]
 ALIASES = ["p", "q", "r", "w", "on p", "from"]  # of places; tables have other names
 SUMMED = [name for name in RANGES if name != "Decimal128"]
 LONGEST_TEXT = 16_384
@@ -74,7 +75,7 @@ class Values:
 
     def __init__(self, random: Random):
         self.random = random
-        self.numbers = [0, *random.sample([1, 2, 3, 100, -1, -2, 127, 255, -128, LARGE, -LARGE], random.randrange(1, 5))]
+        self.numbers = [0, *random.sample(NUMBERS, random.randrange(1, 5))]
         self.texts = random.sample(TEXTS[:-1], random.randrange(1, 5))
 
     def value(self, kind: str) -> Value:
@@ -172,7 +173,7 @@ class Joiner(Asker):
 
 
 class JoinSpeller(Speller):
-    """Writes a query in one of the ways that mean it: a name has its place where it needs it, and at times elsewhere."""
+    """Writes a query in one of the ways that mean it. A name has its place where it needs it, or at times."""
 
     def __init__(self, random: Random):
         super().__init__(random)
@@ -275,7 +276,8 @@ def sqlite_predicate(predicate: Predicate) -> str:
 
 def sqlite_query(query: Query) -> str:
     """The query with its order. The columns of the answer are named 0, 1 and so on."""
-    text = "SELECT " + ", ".join(f'{sqlite_operand(item)} AS "{number}"' for number, item in enumerate(query.selected()))
+    items = [f'{sqlite_operand(item)} AS "{number}"' for number, item in enumerate(query.selected())]
+    text = "SELECT " + ", ".join(items)
     for number, place in enumerate(query.places):
         text += f"{' JOIN ' if number else ' FROM '}{sqlite_name(place.table)} AS {sqlite_name(place.name)}"
         if number:
