@@ -6,10 +6,11 @@
 It makes the inputs once for each case: puts of columns of Int64 in batches of 65,536 rows, with and without a fetch
 behind them, and the same columns as plain files for bench/join_group.cpp, which it compiles (g++, -O3, for baseline
 x86-64). First it reads both answers, which must be the same in every byte of each column, so also in their order. Then
-it measures both: processor time, the least of N runs (5), and the most memory held. "fetch" is the time with the fetch
-less that of the puts alone, and "C++" its time with the answer less that of reading the columns alone; both write to
-/dev/null. A case of colliding keys has keys that fall into one bucket of the C++ table. The table that is printed is
-the one of bench/README.md. Build the program first, as for `pipe.py`.
+it measures both: processor time, the least of N runs (5) or of those that a minute takes, and the most memory held.
+"fetch" is the time with the fetch less that of the puts alone, and "C++" its time with the answer less that of reading
+the columns alone; both write to /dev/null. A case of colliding keys has keys that fall into one bucket of the C++
+table. The table that is printed is the one of bench/README.md. Build the program first, as for `pipe.py`. It ends with
+1 where the answers of a case differ or one was refused, and says so in place of its figures.
 """
 
 import argparse
@@ -216,8 +217,12 @@ def run(command, source):
 
 
 def least(runs, command, source=os.devnull):
-    """The least time of some runs, and the most memory."""
-    seconds, peaks = zip(*(run(command, source) for _ in range(runs)))
+    """The least time of some runs, or of as many as a minute takes, and the most memory."""
+    seconds, peaks = [], []
+    while len(seconds) < runs and sum(seconds) < 60:
+        spent, peak = run(command, source)
+        seconds.append(spent)
+        peaks.append(peak)
     return min(seconds) * 1e3, max(peaks)
 
 
