@@ -17,11 +17,11 @@ numbers are so small that sqlite3's sums of 64 bits do not overflow.
 
 With --plain no query has a join or groups. With --without-program the answers of sqlite3 are compared with those of the
 plain model in random_calls, which needs no built program. Seeds are S, S + 1, ..; of one seed all is always the same.
-It ends with 1 at the first difference, and prints the query and both answers. It needs `sqlite3` on the path (tried with
-3.40), and the program is built as for bench/pipe.py.
+It ends with 1 at the first difference, and prints the query and both answers. It needs `sqlite3` on the path (tried
+with 3.40), and the program is built as for bench/pipe.py.
 
-What it found: no difference. 1,300 databases with 7,250 queries, of which 4,341 had joins, on a program built with checks
-before its proofs were whole; 1,500 databases with 8,400 queries, 2,408 of them with groups, on the plain model alone.
+What it found: no difference. 1,300 databases with 7,250 queries, of which 4,341 had joins, on a program built with
+checks before its proofs were whole; 1,500 databases with 8,400 queries, 2,408 of them with groups, on the model alone.
 """
 
 from __future__ import annotations
