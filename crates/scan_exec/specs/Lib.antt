@@ -1,3 +1,11 @@
 pub mod Given
 pub mod Opened
 pub mod Scan
+pub mod Chosen
+pub mod Picking
+pub mod Placed
+pub mod Running
+pub mod Sources
+pub mod Joined
+pub mod Begun
+pub mod Shown

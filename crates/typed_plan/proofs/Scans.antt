@@ -6,7 +6,7 @@ use Rattle.table_versions.specs.Stored.{TableAt}
 use Rattle.typed_plan.specs.Held.{tree_schemas}
 use Rattle.typed_plan.specs.Plan.{Tree, scan, filtered, joined}
 
-some_schema : (tree : Tree) → 0 < length (tree_schemas tree)
+pub some_schema : (tree : Tree) → 0 < length (tree_schemas tree)
 some_schema (scan table schema columns) = grind (arith)
 some_schema (filtered predicate tree) = some_schema tree
 some_schema (joined left right on) =

@@ -1,0 +1,96 @@
+-- The rows of a range, batch by batch.
+use Rattle.std.proofs.Common.{◌≡◌, ◌≤◌, ◌<◌, ℕ, zero, suc, ◌+◌, ◌-◌, List, [], ◌∷◌, ◌++◌, length, map, take, drop, max, min, append_assoc}
+use Rattle.std.proofs.Common.{slice_get, Some, refl, sym, ap, ◌∙◌, arith, length-drop, length-take-le, zip, take-add, drop-drop}
+use Rattle.std.specs.List.{flat_map, range_with_len}
+use Rattle.std.proofs.lemmas.List.{take-append-drop, drop_all, map-append}
+use Rattle.arrays.specs.Batch.{BatchAt, rows_of}
+use Rattle.table_versions.specs.Standing.{rows_before}
+use Rattle.table_versions.specs.Table.{Row}
+use Rattle.table_versions.proofs.Places.{split_at}
+use Rattle.table_versions.proofs.Rowing.{length-rows_of, rows-cons}
+use Rattle.typed_plan.specs.Joined.{rows_between}
+use Rattle.scan_exec.specs.Given.{parts, numbered_parts}
+use Rattle.scan_exec.specs.Placed.{numbered_rows}
+use Rattle.scan_exec.specs.Scan.{most_scan_rows}
+
+take_none : {X : Type 0} (n : ℕ) (xs : List X) → xs ≡ [] → take n xs ≡ []
+take_none zero xs e = refl
+take_none (suc n) xs e = rw e refl
+
+pub none_behind : (from to : ℕ) (rows : List Row) → length rows ≤ from → rows_between from to rows ≡ []
+none_behind from to rows h = take_none (to - from) (drop from rows) (drop_all from rows h)
+
+pub none_between : (from to : ℕ) (rows : List Row) → to ≤ from → rows_between from to rows ≡ []
+none_between from to rows h =
+    let e : to - from ≡ 0 = omega (arith, h) in
+    ap (λ (n : ℕ). take n (drop from rows)) e
+
+-- a range is one part of it and then the other
+pub between_parts : (a b c : ℕ) (rows : List Row) → a ≤ b → b ≤ c →
+    rows_between a c rows ≡ rows_between a b rows ++ rows_between b c rows
+between_parts a b c rows low high =
+    let size : c - a ≡ (b - a) + (c - b) = omega (arith, low, high) in
+    let there : a + (b - a) ≡ b = omega (arith, low) in
+    ap (λ (n : ℕ). take n (drop a rows)) size ∙ take-add (b - a) (c - b) (drop a rows)
+    ∙ ap (λ (rest : List Row). take (b - a) (drop a rows) ++ take (c - b) rest) (drop-drop (b - a) a rows ∙ ap (λ (n : ℕ). drop n rows) there)
+
+-- the batches counted from some number on
+abbrev pub numbered_from : ℕ → ℕ → ℕ → List BatchAt → List (ℕ × Row)
+numbered_from n from to batches = numbered_rows (zip (range_with_len n (length batches)) (parts from to batches))
+
+-- no rows of no range
+pub none_from : (n from to : ℕ) (batches : List BatchAt) → to ≤ from → numbered_from n from to batches ≡ []
+none_from n from to [] h = refl
+none_from n from to (batch ∷ batches) h =
+    rw (none_between from to (rows_of batch) h) (none_from (n + 1) (from - batch.rows) (to - batch.rows) batches (omega (arith, h)))
+
+-- batches that end before a range have nothing of it
+past : (k from to n i : ℕ) (front rest : List BatchAt) → n ≡ length (flat_map rows_of front) → n ≤ from → i ≡ k + length front →
+    numbered_from k from to (front ++ rest) ≡ numbered_from i (from - n) (to - n) rest
+past k from to n i [] rest e h place =
+    let one : from - n ≡ from = omega (arith, e) in
+    let other : to - n ≡ to = omega (arith, e) in
+    let same : i ≡ k = omega (arith, place) in
+    rw (one, other, same) refl
+past k from to n i (batch ∷ front) rest e h place =
+    let long = rows-cons batch front in
+    let none = none_behind from to (rows_of batch) (omega (arith, length-rows_of batch, e, long, h)) in
+    let m = length (flat_map rows_of front) in
+    let one : from - batch.rows - m ≡ from - n = omega (arith, e, long) in
+    let other : to - batch.rows - m ≡ to - n = omega (arith, e, long) in
+    rw none
+    (past (k + 1) (from - batch.rows) (to - batch.rows) m i front rest refl (omega (arith, e, long, h)) (omega (arith, place))
+    ∙ ap (λ (a : ℕ). numbered_from i a (to - batch.rows - m) rest) one ∙ ap (λ (b : ℕ). numbered_from i (from - n) b rest) other)
+
+-- the first rows of what is left of a batch are next
+pub rows_next : (from to start i : ℕ) (batches : List BatchAt) (batch : BatchAt) → slice_get batches i ≡ Some batch → i < length batches →
+    start ≡ rows_before batches i → start ≤ from → from < start + batch.rows →
+    (last : ℕ) → last ≡ min (min batch.rows (to - start)) (from - start + most_scan_rows) → from < to →
+    (rows : List Row) → rows ≡ rows_between (from - start) last (rows_of batch) →
+    numbered_from 0 from to batches ≡ map (λ row. (i, row)) rows ++ numbered_from 0 (start + last) to batches
+rows_next from to start i batches batch there within s low high last l more rows r =
+    let split = split_at batches i batch there in
+    let front = take i batches in
+    let behind = drop (i + 1) batches in
+    let before : length front ≡ i = length-take-le i batches (omega (arith, within)) in
+    let whole : front ++ (batch ∷ behind) ≡ batches = ap (λ (some : List BatchAt). front ++ some) (sym split.0) ∙ take-append-drop i batches in
+    let to_here = λ (at : ℕ) (h : start ≤ at). ap (numbered_from 0 at to) (sym whole)
+    ∙ past 0 at to start i front (batch ∷ behind) s h (omega (arith, before)) in
+    let a = from - start in
+    let c = to - start in
+    let with_rows : List Row → List (ℕ × Row) = λ some. map (λ row. (i, row)) some in
+    let rest = numbered_from (i + 1) 0 (c - batch.rows) behind in
+    let here : a - batch.rows ≡ 0 = omega (arith, high) in
+    let next : start + last - start ≡ last = omega arith in
+    let later : last - batch.rows ≡ 0 = omega (arith, l) in
+    let after : numbered_from 0 (start + last) to batches ≡ with_rows (rows_between last c (rows_of batch)) ++ rest =
+    to_here (start + last) (omega arith)
+    ∙ ap (λ (n : ℕ). with_rows (rows_between n c (rows_of batch)) ++ numbered_from (i + 1) (n - batch.rows) (c - batch.rows) behind) next
+    ∙ ap (λ (n : ℕ). with_rows (rows_between last c (rows_of batch)) ++ numbered_from (i + 1) n (c - batch.rows) behind) later in
+    let cut = between_parts a last c (rows_of batch) (omega (arith, l, high, low, more)) (omega (arith, l)) in
+    to_here from low
+    ∙ ap (λ (n : ℕ). with_rows (rows_between a c (rows_of batch)) ++ numbered_from (i + 1) n (c - batch.rows) behind) here
+    ∙ ap (λ (some : List Row). with_rows some ++ rest) (cut ∙ ap (λ (one : List Row). one ++ rows_between last c (rows_of batch)) (sym r))
+    ∙ ap (λ (some : List (ℕ × Row)). some ++ rest) (map-append (λ row. (i, row)) rows (rows_between last c (rows_of batch)))
+    ∙ append_assoc (with_rows rows) (with_rows (rows_between last c (rows_of batch))) rest
+    ∙ ap (λ (some : List (ℕ × Row)). with_rows rows ++ some) (sym after)

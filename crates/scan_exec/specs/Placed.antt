@@ -1,0 +1,59 @@
+-- Inside: where a cursor stands among the batches of a table, and how it goes on.
+use Rattle.std.specs.Prelude.{◌≡◌, ◌≤◌, ◌<◌, ◌⊎◌, ℕ, ◌+◌, List, ◌++◌, length, map, Some, None}
+use Rattle.std.specs.List.{flat_map, last_or}
+use Rattle.arrays.specs.Batch.{rows_of, cut_batch}
+use Rattle.arrays.specs.Typed.{AreOf}
+use Rattle.scan_base.specs.Limits.{most_rows}
+use Rattle.table_versions.specs.Stored.{TableAt, table_of}
+use Rattle.table_versions.specs.Standing.{rows_before}
+use Rattle.table_versions.specs.Table.{Row}
+use Rattle.typed_plan.specs.Typed.{types_of}
+use Rattle.scan_exec.specs.declared.cursor.Cursor.{Cursor}
+use Rattle.scan_exec.specs.declared.cursor.Part.{Part}
+use Rattle.scan_exec.specs.Given.{numbered_parts}
+use Rattle.scan_exec.specs.Opened.{batches_in}
+use Rattle.scan_exec.specs.Scan.{most_scan_rows}
+
+-- Where a cursor stands: between the range's ends, in its batch or at its begin, behind the batches that were opened. Each
+-- batch before its own has a row.
+pub record IsPlaced (table : TableAt) (cursor : Cursor) : Type 0 where
+  pub begun : cursor.from ≤ cursor.at
+  pub ordered : cursor.at ≤ cursor.to
+  pub few : cursor.at < cursor.to → cursor.to ≤ length (table_of table).rows
+  pub start : cursor.start ≡ rows_before table.batches cursor.batch
+  pub behind : cursor.at < cursor.to → cursor.start ≤ cursor.at
+  pub within : cursor.at < cursor.to → (cursor.at ≡ cursor.start) ⊎ (cursor.at < rows_before table.batches (cursor.batch + 1))
+  pub filled : cursor.batch ≤ cursor.start
+  pub opened : cursor.opened ≡ length (batches_in cursor.from cursor.at table.batches)
+
+-- before the first row of a range
+pub record Begins (from to : ℕ) (cursor : Cursor) : Type 0 where
+  pub from_is : cursor.from ≡ from
+  pub to_is : cursor.to ≡ to
+  pub at_is : cursor.at ≡ from
+
+-- rows of a batch of a table, one or more, as many as are looked at at once
+pub record IsPart (table : TableAt) (part : Part) : Type 0 where
+  pub some : part.from < part.to
+  pub within : part.to ≤ part.batch.now.rows
+  pub short : part.to ≤ part.from + most_scan_rows
+  pub few : part.batch.now.rows ≤ most_rows
+  pub wide : length part.batch.now.columns ≡ length table.schema.fields
+  pub typed : AreOf (types_of table.schema.fields) part.batch.now.columns
+
+-- the rows from one to another of batches, each with the number of its batch
+abbrev pub numbered_rows : List (ℕ × List Row) → List (ℕ × Row)
+numbered_rows parts = flat_map (λ (part : ℕ × List Row). map (λ row. (part.0, row)) part.1) parts
+
+-- the rows that a cursor has still to look at
+abbrev pub rows_ahead : TableAt → Cursor → List (ℕ × Row)
+rows_ahead table cursor = numbered_rows (numbered_parts cursor.at cursor.to table.batches)
+
+-- a part is what is next of the range
+pub record Opens (table : TableAt) (before : Cursor) (part : Part) (after : Cursor) : Type 0 where
+  pub from : after.from ≡ before.from
+  pub to : after.to ≡ before.to
+  pub forth : before.at < after.at
+  pub rows : rows_ahead table before
+      ≡ map (λ row. (before.batch, row)) (rows_of (cut_batch part.batch.now part.from part.to)) ++ rows_ahead table after
+  pub latest : last_or None (batches_in after.from after.at table.batches) ≡ Some before.batch
