@@ -1,12 +1,14 @@
 -- Inside: what gives rows, before its first one.
-use Rattle.std.specs.Prelude.{◌≡◌, ℕ, All, List, [], ◌∷◌, length, map, drop}
-use Rattle.std.specs.List.{flat_map}
+use Rattle.std.specs.Prelude.{◌≡◌, ℕ, false, All, List, [], ◌∷◌, length, map, drop}
+use Rattle.std.specs.List.{list_any}
 use Rattle.arrow_schema.specs.Answer.{answer_type}
 use Rattle.scan_base.specs.View.{pred_of}
 use Rattle.table_versions.specs.Stored.{TableAt, table_of}
-use Rattle.table_versions.specs.Table.{Row}
+use Rattle.table_versions.specs.Table.{Row, is_long_text}
+use Rattle.typed_plan.specs.declared.plan.Columns.{Columns}
 use Rattle.typed_plan.specs.Plan.{Tree}
-use Rattle.typed_plan.specs.Typed.{tree_types}
+use Rattle.typed_plan.specs.Typed.{tree_types, types_taken}
+use Rattle.scan_exec.specs.Shown.{cells}
 use Rattle.scan_exec.specs.declared.build.Sourced.{Sourced}
 use Rattle.scan_exec.specs.Given.{rows_over, first_batches, numbered_parts}
 use Rattle.scan_exec.specs.Joined.{source_at, IsSource}
@@ -46,3 +48,14 @@ pub record IsBegun (tree : Tree) (tables : List TableAt) (from to : ℕ) (rows :
   pub wide : All (λ (row : ℕ × Row). length row.1 ≡ length rows.types) rows.ahead
   pub batches : rows.batches ≡ batches_in from to (first_batches tables)
   pub opened : rows.opened ≡ []
+
+-- these columns of rows
+abbrev pub shown_of : Columns → RowsAt → RowsAt
+shown_of columns rows = record rows {
+  types = types_taken columns rows.types;
+  ahead = map (λ (row : ℕ × Row). (row.0, cells columns row.1)) rows.ahead;
+}
+
+-- no text of a table is too long
+abbrev pub IsShort : TableAt → Type 0
+IsShort table = list_any (list_any is_long_text) (table_of table).rows ≡ false

@@ -12,5 +12,6 @@ mod place;
 mod row;
 mod rows;
 pub mod scan;
+mod shown;
 
 pub use crate::scan::Scan;

@@ -1,11 +1,13 @@
 //! Which batches a scan opens.
 
-ghost use Rattle.std.specs.Prelude.{◌≡◌, ◌≤◌, ◌++◌, IfOk, OnOk, length, map};
+ghost use Rattle.std.specs.Prelude.{◌≡◌, ◌++◌, All, IfOk, OnOk, drop, map};
 ghost use Rattle.std.specs.List.{range_with_len};
+ghost use Rattle.scan_exec.specs.Begun.{IsShort};
 ghost use Rattle.scan_exec.specs.Opened.{batches_in, further_batches};
 
 use std::alloc::{AllocError, Global};
 use table_versions::TableVersion;
+use table_versions::laws::batches_are_rows;
 
 // All batches of a place, behind others.
 fn push_all(
@@ -26,11 +28,14 @@ pub(crate) fn further(
     alloc: Global,
     tables: &[TableVersion],
 ) -> Result<Vec<(usize, usize)>, AllocError>
-    ensures { IfOk result (λ list. list.items ≡ further_batches tables.now) }
+    ensures batches { IfOk result (λ list. list.items ≡ further_batches tables.now) }
+    ensures short { IfOk result (λ _. All IsShort (drop 1 tables.now)) }
 {
     let mut list = Vec::new(alloc);
     for place in 1..tables.len() {
-        push_all(&mut list, place, tables[place].batch_count())?;
+        let table = &tables[place];
+        let _most = table.rows();
+        push_all(&mut list, place, table.batch_count())?;
     }
     Ok(list)
 }
@@ -43,8 +48,10 @@ pub(crate) fn push_first(
     from: usize,
     to: usize,
 ) -> Result<(), AllocError>
-    ensures { OnOk result (list.new.items ≡ list.old.items ++ map (λ batch. (0, batch)) (batches_in from to table.now.batches)) }
+    ensures batches { OnOk result (list.new.items ≡ list.old.items ++ map (λ batch. (0, batch)) (batches_in from to table.now.batches)) }
+    ensures short { IsShort table.now }
 {
+    batches_are_rows();
     let end = to.min(table.rows());
     if from >= end {
         return Ok(());

@@ -68,8 +68,20 @@ impl Scan {
             left scan ≡ plan_rows (plan_of plan) (tables_of catalog) range.start range.end) }
         ensures short { IfOk result (λ scan. list_any (list_any is_long_text) (left scan) ≡ false) }
     {
-        let _stub = (alloc, seed, plan.tables().len(), range.start);
-        Err(AllocError)
+        let (tables, plan, output, schema) = plan.into_parts();
+        let (from, to) = (range.start, range.end);
+        let mut batches = further(alloc, tables.as_slice())?;
+        let further = batches.len();
+        push_first(&mut batches, &tables[0], from, to)?;
+        let sourced = build(alloc, plan, tables, Reading { seed, from, to })?;
+        Ok(Scan {
+            schema,
+            answer: answer_of(alloc, sourced, output)?,
+            batches,
+            further,
+            given: 0,
+            refused: None,
+        })
     }
 
     /// The columns of the result.

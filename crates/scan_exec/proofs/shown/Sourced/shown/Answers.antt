@@ -1,0 +1,7 @@
+use Rattle.scan_exec.proofs.shown.Sourced.shown.Goals as goal
+
+pub invariant_of-result : goal.invariant_of-result
+invariant_of-result c = ?
+
+pub returns : goal.returns
+returns c = ?
