@@ -15,7 +15,8 @@ use Rattle.typed_plan.specs.Plan.{Tree}
 use Rattle.typed_plan.specs.Typed.{IsTyped, type_at, types_taken, types_of, tree_types, output_types}
 use Rattle.typed_plan.specs.View.{BoundAt, plan_of}
 use Rattle.scan_exec.specs.Answering.{GivingAt, of_rows, scan_at}
-use Rattle.scan_exec.specs.Begun.{IsBegun, shown_of, tree_given}
+use Rattle.scan_exec.specs.Begun.{IsBegun, tree_given}
+use Rattle.scan_exec.specs.Showing.{shown_of}
 use Rattle.scan_exec.specs.Given.{given_of, first_batches}
 use Rattle.scan_exec.specs.Opened.{batches_in, further_batches, first_opened}
 use Rattle.scan_exec.specs.Running.{RowsAt}

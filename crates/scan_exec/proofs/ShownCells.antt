@@ -11,7 +11,7 @@ use Rattle.table_versions.specs.Table.{Row}
 use Rattle.typed_plan.specs.declared.plan.Columns.{Columns}
 use Rattle.typed_plan.specs.declared.plan.Columns.TheVariants as columns
 use Rattle.typed_plan.specs.Typed.{has_columns, type_at, types_taken}
-use Rattle.scan_exec.specs.Begun.{shown_of}
+use Rattle.scan_exec.specs.Showing.{shown_of}
 use Rattle.scan_exec.specs.Chosen.{are_within, numbers_at}
 use Rattle.scan_exec.specs.Picking.{PickAt, cells_at, holds, given_numbered}
 use Rattle.scan_exec.specs.Running.{RowsAt, picked_of}

@@ -1,14 +1,14 @@
 -- Inside: what gives rows, before its first one.
-use Rattle.std.specs.Prelude.{◌≡◌, ℕ, false, All, List, [], ◌∷◌, length, map, drop}
-use Rattle.std.specs.List.{list_any}
+use Rattle.std.specs.Prelude.{◌≡◌, ◌≤◌, ℕ, ◌+◌, IsTrue, All, List, [], ◌∷◌, ◌++◌, length, map, drop, nat_lt}
+use Rattle.std.specs.List.{filter, flat_map, list_all}
 use Rattle.arrow_schema.specs.Answer.{answer_type}
+use Rattle.scan_base.specs.Limits.{most_rows}
 use Rattle.scan_base.specs.View.{pred_of}
 use Rattle.table_versions.specs.Stored.{TableAt, table_of}
-use Rattle.table_versions.specs.Table.{Row, is_long_text}
-use Rattle.typed_plan.specs.declared.plan.Columns.{Columns}
-use Rattle.typed_plan.specs.Plan.{Tree}
-use Rattle.typed_plan.specs.Typed.{tree_types, types_taken}
-use Rattle.scan_exec.specs.Shown.{cells}
+use Rattle.table_versions.specs.Table.{Row}
+use Rattle.typed_plan.specs.declared.plan.JoinKey.{JoinKey}
+use Rattle.typed_plan.specs.Plan.{Tree, fits}
+use Rattle.typed_plan.specs.Typed.{spans, tree_types}
 use Rattle.scan_exec.specs.declared.build.Sourced.{Sourced}
 use Rattle.scan_exec.specs.Given.{rows_over, first_batches, numbered_parts}
 use Rattle.scan_exec.specs.Joined.{source_at, IsSource}
@@ -49,13 +49,24 @@ pub record IsBegun (tree : Tree) (tables : List TableAt) (from to : ℕ) (rows :
   pub batches : rows.batches ≡ batches_in from to (first_batches tables)
   pub opened : rows.opened ≡ []
 
--- these columns of rows
-abbrev pub shown_of : Columns → RowsAt → RowsAt
-shown_of columns rows = record rows {
-  types = types_taken columns rows.types;
-  ahead = map (λ (row : ℕ × Row). (row.0, cells columns row.1)) rows.ahead;
-}
+-- the joined rows of numbered left rows that fit, in the order of nested loops, each with the number of its left row
+abbrev pub numbered_fits : List JoinKey → List Row → List (ℕ × Row) → List (ℕ × Row)
+numbered_fits on rights lefts =
+    flat_map (λ (left : ℕ × Row). map (λ row. (left.0, row)) (filter (fits on) (map (λ right. left.1 ++ right) rights))) lefts
 
--- no text of a table is too long
-abbrev pub IsShort : TableAt → Type 0
-IsShort table = list_any (list_any is_long_text) (table_of table).rows ≡ false
+-- Rows can be joined: no left one was given, each is as wide as there are types, the right ones are few enough to be
+-- counted, and each key has a cell of both sides.
+pub record CanJoin (on : List JoinKey) (left right : RowsAt) : Type 0 where
+  pub wide : All (λ (row : ℕ × Row). length row.1 ≡ length left.types) left.ahead
+  pub unopened : left.opened ≡ []
+  pub few : length right.ahead ≤ most_rows
+  pub spanned : IsTrue (list_all (spans (length left.types)) on)
+  pub there : IsTrue (list_all (λ (key : JoinKey). nat_lt key.right (length left.types + length right.types)) on)
+
+-- joined rows before the first one: all rows of both sides that fit are to come
+pub record JoinsRows (on : List JoinKey) (left right made : RowsAt) : Type 0 where
+  pub types : made.types ≡ map answer_type (left.types ++ right.types)
+  pub ahead : made.ahead ≡ numbered_fits on (map (λ (row : ℕ × Row). row.1) right.ahead) left.ahead
+  pub wide : All (λ (row : ℕ × Row). length row.1 ≡ length made.types) made.ahead
+  pub batches : made.batches ≡ left.batches
+  pub opened : made.opened ≡ []

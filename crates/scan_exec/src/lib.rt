@@ -6,6 +6,7 @@ mod build;
 mod columns;
 mod cursor;
 mod opened;
+mod join_source;
 mod picker;
 mod piece;
 mod place;
@@ -13,5 +14,6 @@ mod row;
 mod rows;
 pub mod scan;
 mod shown;
+mod scan_source;
 
 pub use crate::scan::Scan;

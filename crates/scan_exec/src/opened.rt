@@ -2,7 +2,7 @@
 
 ghost use Rattle.std.specs.Prelude.{◌≡◌, ◌++◌, All, IfOk, OnOk, drop, map};
 ghost use Rattle.std.specs.List.{range_with_len};
-ghost use Rattle.scan_exec.specs.Begun.{IsShort};
+ghost use Rattle.scan_exec.specs.Showing.{IsShort};
 ghost use Rattle.scan_exec.specs.Opened.{batches_in, further_batches};
 
 use std::alloc::{AllocError, Global};

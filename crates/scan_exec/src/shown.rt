@@ -2,7 +2,8 @@
 
 ghost use Rattle.std.specs.Prelude.{◌≡◌, IfOk, IsTrue, length};
 ghost use Rattle.typed_plan.specs.Typed.{has_columns};
-ghost use Rattle.scan_exec.specs.Begun.{IsSourced, shown_of, sourced_at};
+ghost use Rattle.scan_exec.specs.Begun.{IsSourced, sourced_at};
+ghost use Rattle.scan_exec.specs.Showing.{shown_of};
 
 use crate::build::Sourced;
 use crate::columns::picked;

@@ -1,6 +1,6 @@
 use Rattle.std.proofs.Common.{◌≡◌, ◌≤◌, ◌<◌, ◌++◌, ℕ, drop, get_or}
 use Rattle.table_versions.specs.Stored.{TableAt}
-use Rattle.scan_exec.specs.Begun.{IsShort}
+use Rattle.scan_exec.specs.Showing.{IsShort}
 use Rattle.scan_exec.specs.Opened.{numbered_batches, further_batches}
 use Rattle.scan_exec.proofs.opened.further.Given as goal
 
