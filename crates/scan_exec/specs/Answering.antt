@@ -8,7 +8,13 @@ use Rattle.arrays.specs.Typed.{AreOf}
 use Rattle.table_versions.specs.Table.{Row}
 use Rattle.scan_exec.specs.declared.answer.Answer.{Answer}
 use Rattle.scan_exec.specs.declared.answer.Answer.TheVariants as answer
+use Rattle.arrow_schema.specs.Answer.{answer_type}
+use Rattle.typed_plan.specs.declared.plan.Output.{Output}
+use Rattle.typed_plan.specs.declared.plan.Output.TheVariants.{Project, Groups}
+use Rattle.typed_plan.specs.Plan.{answered, groups_by}
+use Rattle.typed_plan.specs.Typed.{item_type}
 use Rattle.scan_exec.specs.Running.{RowsAt}
+use Rattle.scan_exec.specs.Showing.{shown_of}
 use Rattle.scan_exec.specs.Scan.{ScanAt, most_scan_rows}
 use Rattle.arrow_schema.specs.declared.schema.Schema.{Schema}
 use Rattle.scan_base.specs.Limits.{most_answer_rows}
@@ -98,3 +104,13 @@ pub record IsScan (giving : GivingAt) (batches : List (ℕ × ℕ)) (further giv
   pub first : drop further batches ≡ map (λ batch. (0, batch)) giving.batches
   pub front : take (length giving.opened) giving.batches ≡ giving.opened
   pub few : given ≤ most_answer_rows
+
+-- What a result takes of rows: columns of them, or the items of their groups by first appearance.
+abbrev pub answer_for : Output → RowsAt → GivingAt
+answer_for (Project columns) rows = of_rows (shown_of columns rows)
+answer_for (Groups keys items) rows = record {
+  types = map answer_type (map (item_type keys rows.types) items);
+  ahead = map (λ group. (None, map (answered group) items)) (groups_by keys (map (λ (row : ℕ × Row). row.1) rows.ahead));
+  batches = rows.batches;
+  opened = rows.opened;
+}

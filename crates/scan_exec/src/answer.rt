@@ -1,11 +1,15 @@
 //! What a scan gives: rows, or groups of them.
 
-ghost use Rattle.std.specs.Prelude.{◌≡◌, length};
-ghost use Rattle.scan_exec.specs.Answering.{GivesNext, IsGiving, giving_at, of_rows};
+ghost use Rattle.std.specs.Prelude.{◌≡◌, IfOk, length, take};
+ghost use Rattle.typed_plan.specs.Typed.{HasOutput};
+ghost use Rattle.scan_exec.specs.Begun.{IsSourced, sourced_at};
+ghost use Rattle.scan_exec.specs.Answering.{GivesNext, IsGiving, answer_for, giving_at, of_rows};
 
+use crate::build::Sourced;
 use crate::rows::Rows;
 use arrays::Batch;
 use std::alloc::{AllocError, Global};
+use typed_plan::Output;
 
 // What is still to be given.
 #[derive(Drop)]
@@ -42,5 +46,23 @@ fn next_batch(alloc: Global, rows: &mut Rows) -> Result<Option<Batch>, AllocErro
     match rows.next(alloc)? {
         None => Ok(None),
         Some(piece) => Ok(Some(piece.batch)),
+    }
+}
+
+// What a result takes of the rows of a source.
+pub(crate) fn answer_of(
+    alloc: Global,
+    sourced: Sourced,
+    output: Output,
+) -> Result<Answer, AllocError>
+    requires sourced { IsSourced sourced }
+    requires output { HasOutput output sourced.types.items }
+    requires front { take (length (sourced_at sourced).opened) (sourced_at sourced).batches ≡ (sourced_at sourced).opened }
+    ensures giving { IfOk result IsGiving }
+    ensures answer { IfOk result (λ answer. giving_at answer ≡ answer_for output (sourced_at sourced)) }
+{
+    match output {
+        Output::Project(columns) => Ok(Answer::Rows(sourced.shown(alloc, &columns)?)),
+        Output::Groups { .. } => Err(AllocError),
     }
 }

@@ -13,7 +13,7 @@ mod place;
 mod row;
 mod rows;
 pub mod scan;
-mod shown;
+mod result;
 mod scan_source;
 
 pub use crate::scan::Scan;

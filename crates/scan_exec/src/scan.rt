@@ -11,7 +11,9 @@ ghost use Rattle.scan_base.specs.Limits.{most_answer_rows};
 ghost use Rattle.scan_exec.specs.Answering.{CountsNext, IsGiving, giving_at};
 ghost use Rattle.scan_exec.specs.Scan.{Gives, IsBeginning, left};
 
-use crate::answer::Answer;
+use crate::answer::{Answer, answer_of};
+use crate::build::{Reading, build};
+use crate::opened::{further, push_first};
 use arrays::Batch;
 use arrow_schema::Schema;
 use hash_seed::HashSeed;
