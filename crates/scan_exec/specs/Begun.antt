@@ -57,7 +57,8 @@ numbered_fits on rights lefts =
 -- Rows can be joined: no left one was given, each is as wide as there are types, the right ones are few enough to be
 -- counted, and each key has a cell of both sides.
 pub record CanJoin (on : List JoinKey) (left right : RowsAt) : Type 0 where
-  pub wide : All (λ (row : ℕ × Row). length row.1 ≡ length left.types) left.ahead
+  pub left_wide : All (λ (row : ℕ × Row). length row.1 ≡ length left.types) left.ahead
+  pub right_wide : All (λ (row : ℕ × Row). length row.1 ≡ length right.types) right.ahead
   pub unopened : left.opened ≡ []
   pub few : length right.ahead ≤ most_rows
   pub spanned : IsTrue (list_all (spans (length left.types)) on)
