@@ -1,4 +1,4 @@
-use Rattle.std.proofs.Common.{◌≡◌, ℕ, List, [], ◌∷◌, ◌++◌, length, map, Option, Some, Result, Ok, Err, ap, sym, ◌∙◌, subst, arith, rules, IfOk}
+use Rattle.std.proofs.Common.{◌≡◌, ◌<◌, ℕ, List, [], ◌∷◌, ◌++◌, length, map, Option, Some, Result, Ok, Err, ap, sym, ◌∙◌, subst, arith, rules, IfOk}
 use Rattle.std.specs.Option.{option_to_list}
 use Rattle.std.proofs.lemmas.List.{map-append}
 use Rattle.scan_base.specs.Predicate.{Pred}
@@ -18,6 +18,7 @@ use Rattle.scan_exec.specs.Running.{picked_of}
 use Rattle.scan_exec.proofs.BeginPick.{pick_with}
 use Rattle.scan_exec.proofs.BeginPlan.{schemas_of, sides_tables, can_join, joined_begun}
 use Rattle.scan_exec.proofs.BeginTree.{filter_begun, filter_pick}
+use Rattle.scan_exec.proofs.Sizes.{tree_size}
 use Rattle.scan_exec.proofs.build.+build.Goals as goal
 
 pub returns-in-Filter-clause-sourced : goal.returns-in-Filter-clause-sourced
@@ -71,7 +72,9 @@ build-requires-in-Join t c =
     let popped = c.pop-in-Join.new.self.items in
     let all = with_last c.args.tables.items popped c.pop-in-Join.result c.in_ok-table-in-Join.table c.pop-in-Join.ensures.items c.in_ok-table-in-Join.ensures.ok_part in
     let sides = sides_tables left right c.args.tables.items popped c.in_ok-table-in-Join.table typed.2 (sym (ap tree_schemas tree) ∙ c.requires.schemas) all in
-    (search rules,
+    let smaller : tree_size (tree_of c.into_inner-in-Join.result) < tree_size (tree_of c.args.plan) =
+    omega (arith, ap (λ (plan : Plan). tree_size (tree_of plan)) c.into_inner-in-Join.ensures, ap tree_size tree) in
+    (first_of (omega (arith, smaller), search (rules, smaller)),
     (subst (λ (plan : Plan). IsTypedTree (tree_of plan)) (sym c.into_inner-in-Join.ensures) typed.0,
     ap (λ (plan : Plan). tree_schemas (tree_of plan)) c.into_inner-in-Join.ensures ∙ sides.0))
 
@@ -86,7 +89,9 @@ build-requires-in-Join-2 t c =
     let all = with_last c.args.tables.items popped c.pop-in-Join.result table c.pop-in-Join.ensures.items c.in_ok-table-in-Join.ensures.ok_part in
     let sides = sides_tables left right c.args.tables.items popped table typed.2 (sym (ap tree_schemas tree) ∙ c.requires.schemas) all in
     let lasts : c.push-in-Join.new.self.items ≡ table ∷ [] = c.in_ok-push-in-Join.ensures.items ∙ ap (λ (some : List TableAt). some ++ table ∷ []) c.new-last.ensures.items in
-    (search rules,
+    let smaller : tree_size (tree_of c.into_inner-in-Join-2.result) < tree_size (tree_of c.args.plan) =
+    omega (arith, ap (λ (plan : Plan). tree_size (tree_of plan)) c.into_inner-in-Join-2.ensures, ap tree_size tree) in
+    (first_of (omega (arith, smaller), search (rules, smaller)),
     (subst (λ (plan : Plan). IsTypedTree (tree_of plan)) (sym c.into_inner-in-Join-2.ensures) typed.1,
     ap (λ (plan : Plan). tree_schemas (tree_of plan)) c.into_inner-in-Join-2.ensures ∙ sides.1 ∙ ap schemas_of (sym lasts)))
 
