@@ -1,11 +1,10 @@
 -- What gives joined rows, before the first one.
-use Rattle.std.proofs.Common.{◌≡◌, ◌≤◌, ◌<◌, ℕ, zero, suc, ◌+◌, Bool, true, false, ◌&&◌, cond, All, List, [], ◌∷◌, ◌++◌, length, map, nat_lt, drop, slice_get, unwrap_or, Option, Some, None, refl, sym, ap, ◌∙◌, subst, arith, append_assoc, length-append, ◌⊎◌, inl, inr}
+use Rattle.std.proofs.Common.{◌≡◌, ◌≤◌, ◌<◌, ℕ, suc, ◌+◌, Bool, true, false, ◌&&◌, cond, All, List, [], ◌∷◌, ◌++◌, length, map, nat_lt, unwrap_or, Option, refl, sym, ap, ◌∙◌, subst, arith, length-append, inl}
 use Rattle.std.specs.Prelude.{◌-◌, not}
 use Rattle.std.specs.List.{filter, flat_map, list_all, range_with_len, zip}
 use Rattle.std.proofs.lemmas.Bool.{and_parts, ltb-true, ltb-false, lt-ltb}
 use Rattle.std.proofs.lemmas.Grind.{flat_map-append}
 use Rattle.std.proofs.lemmas.List.{length-map, map-append}
-use Rattle.std.proofs.lemmas.List.Elements.{filter-append}
 use Rattle.std.proofs.lemmas.List.FromFn.{length-map-range_with_len}
 use Rattle.std.proofs.Common.{get_or, take}
 use Rattle.std.proofs.lemmas.List.Elements.{All-append, All-filter, All-map, All-nil}
@@ -22,7 +21,7 @@ use Rattle.scan_base.specs.Predicate.{cell_in}
 use Rattle.scan_base.specs.Truth.{keeps}
 use Rattle.table_versions.specs.Table.{Row}
 use Rattle.table_versions.proofs.Pages.{slice_get-append_left, slice_get-append_right}
-use Rattle.table_versions.proofs.Rowing.{length-rows_of, rows-cons}
+use Rattle.table_versions.proofs.Rowing.{rows-cons}
 use Rattle.typed_plan.specs.declared.plan.JoinKey.{JoinKey}
 use Rattle.typed_plan.specs.Plan.{fits, joined_rows}
 use Rattle.typed_plan.specs.Typed.{spans, type_at}

@@ -1,6 +1,6 @@
 -- What gives the rows of a join of plans.
-use Rattle.std.proofs.Common.{◌≡◌, ◌≤◌, ◌<◌, ℕ, zero, suc, ◌+◌, Bool, true, false, ◌&&◌, All, List, [], ◌∷◌, ◌++◌, length, map, nat_lt, drop, slice_get, Option, Some, None, Result, Ok, Err, refl, sym, ap, ◌∙◌, subst, arith, length-append, length-drop, cond}
-use Rattle.std.specs.Prelude.{◌-◌, IsTrue}
+use Rattle.std.proofs.Common.{◌≡◌, ◌≤◌, ◌<◌, ℕ, zero, suc, ◌+◌, Bool, true, false, List, [], ◌∷◌, ◌++◌, length, map, nat_lt, drop, slice_get, Option, Some, None, Result, Ok, Err, refl, sym, ap, ◌∙◌, subst, arith, length-append, length-drop, cond}
+use Rattle.std.specs.Prelude.{◌-◌}
 use Rattle.std.specs.List.{filter, flat_map, list_all, range_with_len, zip}
 use Rattle.std.proofs.lemmas.Bool.{lt-ltb}
 use Rattle.std.proofs.lemmas.List.{drop_all, length-map, map-append, take_all}
@@ -26,8 +26,8 @@ use Rattle.typed_plan.specs.Joined.{rows_between}
 use Rattle.typed_plan.specs.Plan.{Tree, scan, filtered, joined, is_true, joined_rows}
 use Rattle.typed_plan.specs.Typed.{class_if_there, class_of_number, is_place, key_fault, spans, tree_types, IsTypedTree}
 use Rattle.typed_plan.proofs.TypedNames.{then_none}
-use Rattle.scan_exec.specs.Begun.{CanJoin, IsBegun, JoinsRows, numbered_fits, rows_behind, tree_given}
-use Rattle.scan_exec.specs.Given.{first_batches, first_rows, numbered_parts, parts, rows_over}
+use Rattle.scan_exec.specs.Begun.{CanJoin, IsBegun, JoinsRows, numbered_fits, tree_given}
+use Rattle.scan_exec.specs.Given.{first_rows, numbered_parts, parts, rows_over}
 use Rattle.scan_exec.specs.Placed.{numbered_rows}
 use Rattle.scan_exec.specs.Running.{RowsAt}
 use Rattle.scan_exec.proofs.BeginJoin.{fits_over}
@@ -90,9 +90,9 @@ place_append (joined left right on) h some more = cc
 filter_few : (test : Row → Bool) (rows : List Row) → length (filter test rows) ≤ length rows
 filter_few test [] = omega arith
 filter_few test (row ∷ rows) = elim (test row) as (λ b. length (cond b (row ∷ filter test rows) (filter test rows)) ≤ suc (length rows)) [
-    | true ↦ omega (arith, filter_few test rows)
-    | false ↦ omega (arith, filter_few test rows)
-  ]
+  | true ↦ omega (arith, filter_few test rows)
+  | false ↦ omega (arith, filter_few test rows)
+]
 
 place_few : (tree : Tree) → is_place tree ≡ true → (rows : List Row) → length (rows_over tree (rows ∷ [])) ≤ length rows
 place_few (scan table schema columns.All) h rows = omega arith

@@ -1,5 +1,5 @@
 -- What gives the rows of a table, and of a filter.
-use Rattle.std.proofs.Common.{◌≡◌, ◌≤◌, ◌<◌, ℕ, suc, ◌+◌, Bool, true, false, All, List, [], ◌∷◌, ◌++◌, length, map, max, min, nat_lt, refl, sym, ap, ◌∙◌, subst, arith}
+use Rattle.std.proofs.Common.{◌≡◌, ◌<◌, ℕ, ◌+◌, true, All, List, [], ◌∷◌, ◌++◌, length, map, max, min, nat_lt, refl, sym, ap, ◌∙◌, subst, arith}
 use Rattle.std.specs.Prelude.{IsTrue}
 use Rattle.std.proofs.Common.{get_or, take, option_map, unwrap_or, Option}
 use Rattle.std.proofs.lemmas.List.{map-append, take_more}
@@ -9,7 +9,7 @@ use Rattle.scan_base.specs.declared.predicate.Predicate.{Predicate}
 use Rattle.scan_base.specs.View.{pred_of}
 use Rattle.scan_exec.proofs.Cells.{within_at}
 use Rattle.scan_exec.specs.Chosen.{are_within}
-use Rattle.std.specs.List.{filter, flat_map, range_with_len, zip}
+use Rattle.std.specs.List.{filter, flat_map, range_with_len}
 use Rattle.std.proofs.lemmas.List.{length-map}
 use Rattle.std.proofs.lemmas.List.Elements.{All-push}
 use Rattle.arrow_schema.specs.Answer.{answer_type}
@@ -18,17 +18,17 @@ use Rattle.arrow_schema.specs.declared.schema.Field.{Field}
 use Rattle.arrays.specs.Batch.{BatchAt, rows_of}
 use Rattle.arrays.specs.Typed.{AreOfTypes}
 use Rattle.scan_base.specs.Predicate.{Pred, names_only}
-use Rattle.table_versions.specs.Stored.{TableAt, table_of}
+use Rattle.table_versions.specs.Stored.{TableAt}
 use Rattle.table_versions.specs.Table.{Name, Row}
 use Rattle.typed_plan.specs.declared.plan.Columns.{Columns}
-use Rattle.typed_plan.specs.Plan.{Tree, scan, filtered, taken, is_true}
-use Rattle.typed_plan.specs.Typed.{has_columns, type_at, types_of, tree_types, types_taken}
+use Rattle.typed_plan.specs.Plan.{Tree, scan, filtered, is_true}
+use Rattle.typed_plan.specs.Typed.{has_columns, type_at, types_of, tree_types}
 use Rattle.scan_exec.specs.declared.cursor.Cursor.{Cursor}
 use Rattle.scan_exec.specs.Begun.{IsBegun, tree_given, rows_behind}
 use Rattle.scan_exec.specs.Chosen.{numbers_at}
 use Rattle.scan_exec.specs.Given.{rows_over, first_batches, numbered_parts}
 use Rattle.scan_exec.specs.Opened.{batches_in}
-use Rattle.scan_exec.specs.Picking.{PickAt, IsPick, given_numbered}
+use Rattle.scan_exec.specs.Picking.{IsPick, given_numbered}
 use Rattle.scan_exec.specs.Placed.{Begins, rows_ahead}
 use Rattle.scan_exec.specs.Running.{RowsAt, picked_of}
 use Rattle.scan_exec.proofs.Batched.{numbered_from}

@@ -5,7 +5,7 @@ ghost use Rattle.arrow_schema.specs.Answer.{answer_type};
 ghost use Rattle.typed_plan.specs.declared.plan.JoinKey.{JoinKey};
 ghost use Rattle.scan_exec.specs.Begun.{CanJoin, IsSourced, JoinsRows, sourced_at};
 
-use crate::build::{collected, Sourced};
+use crate::build::{Sourced, collected};
 use crate::columns::numbers_below;
 use crate::rows::{Joining, Source};
 use arrow_schema::DataType;
@@ -82,7 +82,10 @@ fn join_sides(
     };
     let right = JoinSide {
         types: right.iter().copied().collect(alloc)?,
-        key: on.iter().map(|key| key.right.saturating_sub(seam)).collect(alloc)?,
+        key: on
+            .iter()
+            .map(|key| key.right.saturating_sub(seam))
+            .collect(alloc)?,
     };
     Ok(JoinSides { left, right })
 }

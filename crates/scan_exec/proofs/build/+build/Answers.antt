@@ -3,7 +3,7 @@ use Rattle.std.specs.Option.{option_to_list}
 use Rattle.std.proofs.lemmas.List.{map-append}
 use Rattle.scan_base.specs.Predicate.{Pred}
 use Rattle.scan_base.specs.View.{pred_of}
-use Rattle.table_versions.specs.Stored.{TableAt, table_of}
+use Rattle.table_versions.specs.Stored.{TableAt}
 use Rattle.typed_plan.specs.declared.plan.Plan.{Plan}
 use Rattle.typed_plan.specs.declared.plan.JoinKey.{JoinKey}
 use Rattle.typed_plan.specs.Held.{tree_schemas}
@@ -11,7 +11,7 @@ use Rattle.typed_plan.specs.Plan.{Tree, filtered, joined}
 use Rattle.typed_plan.specs.Typed.{IsTypedTree, tree_types}
 use Rattle.typed_plan.specs.View.{tree_of}
 use Rattle.scan_exec.specs.declared.build.Sourced.{Sourced}
-use Rattle.scan_exec.specs.Begun.{CanJoin, IsBegun, IsSourced, JoinsRows, sourced_at}
+use Rattle.scan_exec.specs.Begun.{CanJoin, IsBegun, JoinsRows, sourced_at}
 use Rattle.scan_exec.specs.Joined.{source_at}
 use Rattle.scan_exec.specs.Picking.{IsPick}
 use Rattle.scan_exec.specs.Running.{picked_of}
@@ -73,10 +73,13 @@ build-requires-in-Join t c =
     let all = with_last c.args.tables.items popped c.pop-in-Join.result c.in_ok-table-in-Join.table c.pop-in-Join.ensures.items c.in_ok-table-in-Join.ensures.ok_part in
     let sides = sides_tables left right c.args.tables.items popped c.in_ok-table-in-Join.table typed.2 (sym (ap tree_schemas tree) ∙ c.requires.schemas) all in
     let smaller : tree_size (tree_of c.into_inner-in-Join.result) < tree_size (tree_of c.args.plan) =
-    omega (arith, ap (λ (plan : Plan). tree_size (tree_of plan)) c.into_inner-in-Join.ensures, ap tree_size tree) in
-    (first_of (omega (arith, smaller), search (rules, smaller)),
-    (subst (λ (plan : Plan). IsTypedTree (tree_of plan)) (sym c.into_inner-in-Join.ensures) typed.0,
-    ap (λ (plan : Plan). tree_schemas (tree_of plan)) c.into_inner-in-Join.ensures ∙ sides.0))
+    omega (arith, ap (λ (plan : Plan). tree_size (tree_of plan)) c.into_inner-in-Join.ensures, ap tree_size tree) in (
+      omega (arith, smaller),
+      (
+        subst (λ (plan : Plan). IsTypedTree (tree_of plan)) (sym c.into_inner-in-Join.ensures) typed.0,
+        ap (λ (plan : Plan). tree_schemas (tree_of plan)) c.into_inner-in-Join.ensures ∙ sides.0,
+      ),
+    )
 
 pub build-requires-in-Join-2 : goal.build-requires-in-Join-2
 build-requires-in-Join-2 t c =
@@ -90,10 +93,13 @@ build-requires-in-Join-2 t c =
     let sides = sides_tables left right c.args.tables.items popped table typed.2 (sym (ap tree_schemas tree) ∙ c.requires.schemas) all in
     let lasts : c.push-in-Join.new.self.items ≡ table ∷ [] = c.in_ok-push-in-Join.ensures.items ∙ ap (λ (some : List TableAt). some ++ table ∷ []) c.new-last.ensures.items in
     let smaller : tree_size (tree_of c.into_inner-in-Join-2.result) < tree_size (tree_of c.args.plan) =
-    omega (arith, ap (λ (plan : Plan). tree_size (tree_of plan)) c.into_inner-in-Join-2.ensures, ap tree_size tree) in
-    (first_of (omega (arith, smaller), search (rules, smaller)),
-    (subst (λ (plan : Plan). IsTypedTree (tree_of plan)) (sym c.into_inner-in-Join-2.ensures) typed.1,
-    ap (λ (plan : Plan). tree_schemas (tree_of plan)) c.into_inner-in-Join-2.ensures ∙ sides.1 ∙ ap schemas_of (sym lasts)))
+    omega (arith, ap (λ (plan : Plan). tree_size (tree_of plan)) c.into_inner-in-Join-2.ensures, ap tree_size tree) in (
+      omega (arith, smaller),
+      (
+        subst (λ (plan : Plan). IsTypedTree (tree_of plan)) (sym c.into_inner-in-Join-2.ensures) typed.1,
+        ap (λ (plan : Plan). tree_schemas (tree_of plan)) c.into_inner-in-Join-2.ensures ∙ sides.1 ∙ ap schemas_of (sym lasts),
+      ),
+    )
 
 pub join_source-requires-clause-joinable : goal.join_source-requires-clause-joinable
 join_source-requires-clause-joinable t c =

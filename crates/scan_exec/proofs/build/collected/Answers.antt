@@ -1,4 +1,4 @@
-use Rattle.std.proofs.Common.{◌<◌, ◌++◌, List, ap, sym, ◌∙◌, subst, append-nil, All}
+use Rattle.std.proofs.Common.{◌<◌, ◌++◌, List, ap, sym, ◌∙◌, subst, All}
 use Rattle.std.specs.List.{flat_map}
 use Rattle.std.proofs.lemmas.List.Elements.{All-push}
 use Rattle.arrays.specs.Batch.{BatchAt, rows_of}

@@ -1,22 +1,21 @@
-use Rattle.std.proofs.Common.{rules, vec_len, ◌≡◌, ℕ, ◌+◌, true, List, [], ◌∷◌, ◌++◌, length, map, nat_lt, ap, sym, ◌∙◌, subst, arith}
+use Rattle.std.proofs.Common.{rules, vec_len, ◌≡◌, ℕ, true, List, ◌++◌, length, map, nat_lt, ap, sym, ◌∙◌, subst, arith}
 use Rattle.std.specs.Prelude.{◌-◌}
 use Rattle.std.specs.List.{flat_map, list_all, range_with_len}
 use Rattle.std.proofs.lemmas.List.{length-map}
 use Rattle.arrow_schema.specs.declared.data_type.DataType.{DataType}
 use Rattle.arrow_schema.specs.Answer.{answer_type}
-use Rattle.arrays.specs.Batch.{BatchAt, rows_of}
-use Rattle.arrays.specs.Typed.{AreOf}
+use Rattle.arrays.specs.Batch.{rows_of}
 use Rattle.join_batches.specs.Joiner.{JoinerAt, joined_types}
 use Rattle.scan_base.specs.View.{pred_of}
 use Rattle.table_versions.specs.Table.{Row}
 use Rattle.typed_plan.specs.declared.plan.JoinKey.{JoinKey}
 use Rattle.typed_plan.specs.Typed.{type_at}
-use Rattle.scan_exec.specs.Begun.{IsSourced, JoinsRows, sourced_at}
+use Rattle.scan_exec.specs.Begun.{JoinsRows, sourced_at}
 use Rattle.scan_exec.specs.Joined.{IsJoined, joined_at}
 use Rattle.scan_exec.specs.Picking.{IsPick, PickAt}
 use Rattle.scan_exec.specs.Running.{RowsAt, picked_of}
 use Rattle.scan_exec.proofs.BeginJoin.{places_many, batches_few, left_there, right_there, the_joiner, the_pick, all_types_of, joins_begun, joins_source, joins_pick, joiner_is}
-use Rattle.scan_exec.proofs.BeginPick.{all_types, pick_with}
+use Rattle.scan_exec.proofs.BeginPick.{all_types}
 use Rattle.scan_exec.proofs.BeginTree.{pick_is}
 use Rattle.scan_exec.proofs.Collecting.{plain_rows}
 use Rattle.scan_exec.proofs.join_source.join_source.Goals as goal
