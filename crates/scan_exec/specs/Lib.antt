@@ -10,3 +10,4 @@ pub mod Joined
 pub mod Begun
 pub mod Answering
 pub mod Shown
+pub mod Collected

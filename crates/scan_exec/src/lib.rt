@@ -3,6 +3,7 @@
 
 mod answer;
 mod build;
+mod collected;
 mod columns;
 mod cursor;
 mod opened;
