@@ -10,7 +10,7 @@ use Rattle.arrow_schema.specs.declared.data_type.DataType.{DataType}
 use Rattle.table_versions.specs.Table.{Row}
 use Rattle.table_versions.proofs.Rowing.{length-rows_of}
 use Rattle.scan_exec.specs.declared.piece.Piece.{Piece}
-use Rattle.scan_exec.specs.Collected.{plain_rows, IsCollected, AreCollected}
+use Rattle.scan_exec.specs.Collected.{plain_rows, IsBatchOf, AreCollected}
 use Rattle.scan_exec.specs.Running.{RowsAt, GoesOn, FindsPiece, Ends}
 
 numbers_off : (number : ℕ) (rows : List Row) → plain_rows (map (λ row. (number, row)) rows) ≡ rows
@@ -49,9 +49,9 @@ one_more first before after piece batches all finds e is =
 
 -- and it is one of the types
 pub one_typed : (first before after : RowsAt) (piece : Piece) (batches all : List BatchAt) → FindsPiece before piece after → all ≡ batches ++ piece.batch ∷ [] →
-    before.types ≡ first.types → All (IsCollected first.types) batches → All (IsCollected first.types) all
+    before.types ≡ first.types → All (IsBatchOf first.types) batches → All (IsBatchOf first.types) all
 one_typed first before after piece batches all finds e types each =
-    subst (All (IsCollected first.types)) (sym e) (All-push (IsCollected first.types) batches piece.batch each
+    subst (All (IsBatchOf first.types)) (sym e) (All-push (IsBatchOf first.types) batches piece.batch each
     (record { some = finds.some; few = finds.few; typed = subst (λ (some : List DataType). AreOf some piece.batch.columns) types finds.typed }))
 
 -- before the first
@@ -64,7 +64,7 @@ goes_still rows front = record { types = refl; batches = refl; depth = refl; ope
 
 -- behind the last
 pub all_collected : (first before after : RowsAt) (batches : List BatchAt) → GoesOn first before → Ends before after →
-    flat_map rows_of batches ++ plain_rows before.ahead ≡ plain_rows first.ahead → All (IsCollected first.types) batches → AreCollected first batches after
+    flat_map rows_of batches ++ plain_rows before.ahead ≡ plain_rows first.ahead → All (IsBatchOf first.types) batches → AreCollected first batches after
 all_collected first before after batches on ends is each = record {
   rows = sym (append-nil (flat_map rows_of batches)) ∙ ap (λ (rows : List (ℕ × Row)). flat_map rows_of batches ++ plain_rows rows) (sym ends.none) ∙ is;
   each = each;

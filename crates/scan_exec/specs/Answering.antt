@@ -8,6 +8,9 @@ use Rattle.arrays.specs.Typed.{AreOf}
 use Rattle.table_versions.specs.Table.{Row}
 use Rattle.scan_exec.specs.declared.answer.Answer.{Answer}
 use Rattle.scan_exec.specs.declared.answer.Answer.TheVariants as answer
+use Rattle.scan_exec.specs.declared.grouped.Stage.{Stage}
+use Rattle.scan_exec.specs.declared.grouped.Wanted.{Wanted}
+use Rattle.scan_exec.specs.Grouped.{wanted_types, rows_left}
 use Rattle.scan_exec.specs.Running.{RowsAt}
 use Rattle.scan_exec.specs.Scan.{ScanAt, most_scan_rows}
 use Rattle.arrow_schema.specs.declared.schema.Schema.{Schema}
@@ -32,12 +35,23 @@ of_rows rows = record {
   opened = rows.opened;
 }
 
+-- the groups of rows, each of no one batch
+abbrev pub of_groups : RowsAt → Wanted → Stage → GivingAt
+of_groups rows wanted stage = record {
+  types = wanted_types wanted;
+  ahead = map (λ (row : Row). (None, row)) (rows_left rows wanted stage);
+  batches = rows.batches;
+  opened = rows.opened;
+}
+
 abbrev pub giving_at : Answer → GivingAt
 giving_at (answer.Rows rows) = of_rows rows
+giving_at (answer.Groups groups) = groups
 
 -- what was opened is what is first to be opened
 abbrev pub IsGiving : Answer → Type 0
 IsGiving (answer.Rows rows) = take (length rows.opened) rows.batches ≡ rows.opened
+IsGiving (answer.Groups groups) = take (length groups.opened) groups.batches ≡ groups.opened
 
 -- it goes on over the same batches
 pub record GivingOn (before after : GivingAt) : Type 0 where

@@ -13,7 +13,7 @@ abbrev pub plain_rows : List (ℕ × Row) → List Row
 plain_rows rows = map (λ (row : ℕ × Row). row.1) rows
 
 -- a batch of rows, one or more, in columns of the types
-pub record IsCollected (types : List DataType) (batch : BatchAt) : Type 0 where
+pub record IsBatchOf (types : List DataType) (batch : BatchAt) : Type 0 where
   pub some : 0 < batch.rows
   pub few : batch.rows ≤ most_scan_rows
   pub typed : AreOf types batch.columns
@@ -21,5 +21,5 @@ pub record IsCollected (types : List DataType) (batch : BatchAt) : Type 0 where
 -- the batches have all rows, and all batches that were to be opened were
 pub record AreCollected (before : RowsAt) (batches : List BatchAt) (after : RowsAt) : Type 0 where
   pub rows : flat_map rows_of batches ≡ plain_rows before.ahead
-  pub each : All (IsCollected before.types) batches
+  pub each : All (IsBatchOf before.types) batches
   pub all : after.opened ≡ before.batches

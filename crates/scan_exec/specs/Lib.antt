@@ -11,3 +11,4 @@ pub mod Begun
 pub mod Answering
 pub mod Shown
 pub mod Collected
+pub mod Grouped

@@ -3,6 +3,7 @@
 ghost use Rattle.std.specs.Prelude.{◌≡◌, length};
 ghost use Rattle.scan_exec.specs.Answering.{GivesNext, IsGiving, giving_at, of_rows};
 
+use crate::grouped::GroupedRows;
 use crate::rows::Rows;
 use arrays::Batch;
 use std::alloc::{AllocError, Global};
@@ -11,6 +12,7 @@ use std::alloc::{AllocError, Global};
 #[derive(Drop)]
 pub(crate) enum Answer {
     Rows(Rows),
+    Groups(GroupedRows),
 }
 
 impl Answer {
@@ -22,6 +24,7 @@ impl Answer {
     {
         match self {
             Answer::Rows(rows) => next_batch(alloc, rows),
+            Answer::Groups(groups) => groups.next(alloc),
         }
     }
 
@@ -31,6 +34,7 @@ impl Answer {
     {
         match self {
             Answer::Rows(rows) => rows.opened(),
+            Answer::Groups(groups) => groups.opened(),
         }
     }
 }

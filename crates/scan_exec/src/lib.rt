@@ -6,6 +6,7 @@ mod build;
 mod collected;
 mod columns;
 mod cursor;
+mod grouped;
 mod opened;
 mod picker;
 mod piece;

@@ -1,7 +1,7 @@
 use Rattle.std.proofs.Common.{◌≡◌, All, ◌++◌, length}
 use Rattle.std.specs.List.{flat_map}
 use Rattle.arrays.specs.Batch.{rows_of}
-use Rattle.scan_exec.specs.Collected.{plain_rows, IsCollected}
+use Rattle.scan_exec.specs.Collected.{plain_rows, IsBatchOf}
 use Rattle.scan_exec.specs.Running.{GoesOn}
 use Rattle.scan_exec.proofs.collected.collected.Given as goal
 
@@ -9,7 +9,7 @@ use Rattle.scan_exec.proofs.collected.collected.Given as goal
 abbrev pub invariant-loop-batches : goal.invariant-loop-batches
 invariant-loop-batches l = record {
   rows : flat_map rows_of l.batches.items ++ plain_rows l.rows.ahead ≡ plain_rows l.fn.rows.ahead;
-  each : All (IsCollected l.fn.rows.types) l.batches.items;
+  each : All (IsBatchOf l.fn.rows.types) l.batches.items;
   on : GoesOn l.fn.rows l.rows;
 }
 
