@@ -22,9 +22,9 @@ use Rattle.grouping.specs.Fed.{GroupsAt, HasItems, Holds, HasFed, IsAlike, IsAns
 use Rattle.scan_exec.specs.declared.cursor.Part.{Part}
 use Rattle.scan_exec.specs.declared.grouped.Stage.{Stage}
 use Rattle.scan_exec.specs.declared.grouped.Wanted.{Wanted}
-use Rattle.scan_exec.specs.Answering.{GivingAt, GivingOn, GivesBatch, GivesNone, GivesNext, of_groups}
+use Rattle.scan_exec.specs.Giving.{GivingAt, GivingOn, GivesBatch, GivesNone, GivesNext}
 use Rattle.scan_exec.specs.Collected.{AreCollected, IsBatchOf, plain_rows}
-use Rattle.scan_exec.specs.Grouped.{AreFed, AreMade, CanGroup, IsMade, IsWanted, passing, wanted_rows, wanted_types}
+use Rattle.scan_exec.specs.Grouped.{AreFed, AreMade, CanGroup, IsMade, IsWanted, of_groups, passing, wanted_rows, wanted_types}
 use Rattle.scan_exec.specs.Picking.{PickAt, IsPick, holds, chosen_rows, pick_of}
 use Rattle.scan_exec.specs.Running.{RowsAt, GoesOn}
 use Rattle.scan_exec.proofs.Giving.{filter-map}
@@ -138,7 +138,7 @@ module _ (wanted : Wanted) (types : List DataType) (keys : List ℕ) (items : Li
     new_batches = subst (λ (some : List DataType). All (IsBatchOf some) batches) (sym new_types) all.each
 
     pub new_pick : IsPick (length new.types) (pick_of wanted.picker)
-    new_pick = subst (λ (some : List DataType). IsPick (length some) (pick_of wanted.picker)) (sym (is.types_are ∙ t)) can.wanted.pick
+    new_pick = subst (λ (some : List DataType). IsPick (length some) (pick_of wanted.picker)) (sym (is.types_are ∙ t)) can.named.pick
 
     pub new_few : length (flat_map rows_of batches) ≤ most_rows
     new_few =

@@ -13,6 +13,7 @@ use Rattle.scan_exec.specs.declared.grouped.Stage.{Stage}
 use Rattle.scan_exec.specs.declared.grouped.Stage.TheVariants.{Waiting, Made, Refused}
 use Rattle.scan_exec.specs.declared.grouped.Wanted.{Wanted}
 use Rattle.scan_exec.specs.Collected.{plain_rows, IsBatchOf}
+use Rattle.scan_exec.specs.Giving.{GivingAt}
 use Rattle.scan_exec.specs.Picking.{PickAt, IsPick, holds, pick_of}
 use Rattle.scan_exec.specs.Running.{RowsAt}
 
@@ -35,6 +36,15 @@ rows_left rows wanted Waiting = wanted_rows wanted (plain_rows rows.ahead)
 rows_left rows wanted (Made batches) = flat_map rows_of (reverse batches.items)
 rows_left rows wanted Refused = []
 
+-- the groups of rows, each of no one batch
+abbrev pub of_groups : RowsAt → Wanted → Stage → GivingAt
+of_groups rows wanted stage = record {
+  types = wanted_types wanted;
+  ahead = map (λ (row : Row). (None, row)) (rows_left rows wanted stage);
+  batches = rows.batches;
+  opened = rows.opened;
+}
+
 -- what is wanted names columns that are there
 pub record IsWanted (wanted : Wanted) : Type 0 where
   pub has : HasItems wanted.types.items wanted.keys.items wanted.items.items
@@ -42,7 +52,7 @@ pub record IsWanted (wanted : Wanted) : Type 0 where
 
 -- the rows are of the types, and no more than can be grouped
 pub record CanGroup (rows : RowsAt) (wanted : Wanted) : Type 0 where
-  pub wanted : IsWanted wanted
+  pub named : IsWanted wanted
   pub types : rows.types ≡ wanted.types.items
   pub few : length rows.ahead ≤ most_rows
 
@@ -60,7 +70,7 @@ IsStage rows wanted Refused = Unit {0}
 -- what was opened is what is first to be opened
 pub record IsGrouped (rows : RowsAt) (wanted : Wanted) (stage : Stage) : Type 0 where
   pub front : take (length rows.opened) rows.batches ≡ rows.opened
-  pub stage : IsStage rows wanted stage
+  pub holds : IsStage rows wanted stage
 
 -- these rows were fed, and none before
 pub record AreFed (before : GroupsAt) (rows : List Row) (after : GroupsAt) : Type 0 where

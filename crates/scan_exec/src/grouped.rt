@@ -5,7 +5,7 @@ ghost use Rattle.std.specs.List.{flat_map};
 ghost use Rattle.arrays.specs.Batch.{rows_of};
 ghost use Rattle.grouping.specs.Fed.{Holds};
 ghost use Rattle.scan_base.specs.Limits.{most_rows};
-ghost use Rattle.scan_exec.specs.Answering.{GivesNext};
+ghost use Rattle.scan_exec.specs.Giving.{GivesNext};
 ghost use Rattle.scan_exec.specs.Collected.{IsBatchOf};
 ghost use Rattle.scan_exec.specs.Grouped.{AreFed, AreMade, CanGroup, passing};
 ghost use Rattle.scan_exec.specs.Picking.{IsPick, pick_of};
@@ -52,8 +52,8 @@ pub(crate) struct GroupedRows {
 }
 
 impl Model for GroupedRows {
-    ghost use Rattle.scan_exec.specs.Answering.{GivingAt, of_groups};
-    ghost use Rattle.scan_exec.specs.Grouped.{IsGrouped};
+    ghost use Rattle.scan_exec.specs.Giving.{GivingAt};
+    ghost use Rattle.scan_exec.specs.Grouped.{IsGrouped, of_groups};
 
     ghost Value = { GivingAt };
 
