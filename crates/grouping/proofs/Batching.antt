@@ -1,8 +1,8 @@
 -- The rows of a batch, by the cells of its columns.
-use Rattle.std.proofs.Common.{◌≡◌, ◌≤◌, ◌<◌, ℕ, zero, suc, ◌+◌, List, [], ◌∷◌, length, map, get_or, refl, sym, ap, ◌∙◌, arith}
+use Rattle.std.proofs.Common.{◌≡◌, ◌<◌, ℕ, zero, suc, ◌+◌, List, [], ◌∷◌, length, map, get_or, refl, sym, ap, ◌∙◌, arith}
 use Rattle.std.specs.List.{range_with_len}
 use Rattle.scan_base.specs.declared.value.Value.{Value}
-use Rattle.arrays.specs.Batch.{row_of, rows_of, BatchAt}
+use Rattle.arrays.specs.Batch.{row_of, rows_of}
 use Rattle.arrays.specs.Column.{ColumnAt, slot_of}
 
 pub ranged_any : {X Y : Type 0} (xs : List X) (h : ℕ → Y) (f : X → Y) (a : ℕ) → ((i : ℕ) (d : X) → i < length xs → h (a + i) ≡ f (get_or xs i d)) →

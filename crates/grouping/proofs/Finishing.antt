@@ -2,10 +2,10 @@
 use Rattle.std.proofs.Common.{◌≡◌, ◌≤◌, ◌<◌, ℕ, zero, suc, ◌+◌, ◌-◌, pos, Bool, true, false, if◌then◌else◌, nat_lt, List, [], ◌∷◌, ◌++◌, All, length, map, get_or, take, drop, None, Option, Result, Ok, Err, IfOk, refl, sym, ap, ◌∙◌, subst, arith, Vec, ◌⊎◌, inl, inr}
 use Rattle.std.specs.Prelude.{◌==◌}
 use Rattle.std.specs.Global.{Global}
-use Rattle.std.specs.List.{range_with_len, flat_map, list_all}
+use Rattle.std.specs.List.{range_with_len, flat_map}
 use Rattle.std.proofs.lemmas.List.{get_or-map, get_or-take, get_or-drop, get_or_default, get_or_append_left, get_or_push, append-nil, length-take-le, length-drop, length-map}
 use Rattle.std.proofs.lemmas.List.FromFn.{get_or-map-range_with_len}
-use Rattle.std.proofs.lemmas.List.Elements.{All-push, All-take, All-drop}
+use Rattle.std.proofs.lemmas.List.Elements.{All-take, All-drop}
 use Rattle.std.proofs.lemmas.Grind.{flat_map-append}
 use Rattle.std.proofs.lemmas.Option.{unwrap_or-slice_get}
 use borrow.Author.Tests.{ltb-true, ltb-false}
@@ -28,15 +28,15 @@ use Rattle.grouping.specs.declared.batches.Answer.{Answer}
 use Rattle.grouping.specs.declared.key.RowKey.{RowKey}
 use Rattle.grouping.specs.declared.tally.Tally.{Tally}
 use Rattle.grouping.specs.Answered.{cell_at, row_at, answer_rows}
-use Rattle.grouping.specs.Fed.{GroupsAt, HasItems, Holds, IsAnswer, Finishes, AreAnswers}
+use Rattle.grouping.specs.Fed.{GroupsAt, IsAnswer, Finishes}
 use Rattle.grouping.specs.RowKeys.{key_of}
 use Rattle.grouping.specs.Tallies.{no_rows, item_value}
-use Rattle.grouping.specs.inside.Adding.{IsKept, lists_of}
+use Rattle.grouping.specs.inside.Adding.{lists_of}
 use Rattle.grouping.specs.inside.Answering.{first_cell}
 use Rattle.grouping.specs.inside.Counting.{AreWithin}
 use Rattle.grouping.specs.inside.Finishing.{groups_in, CanAnswer, item_cells, IsItemColumn, IsBatchOf}
-use Rattle.grouping.specs.inside.Placing.{found_by, IsFirst}
-use Rattle.grouping.proofs.Batching.{ranged_any, map_alike, rows_of_cells}
+use Rattle.grouping.specs.inside.Placing.{found_by}
+use Rattle.grouping.proofs.Batching.{ranged_any, rows_of_cells}
 use Rattle.grouping.proofs.Feeding.{has_each}
 use Rattle.grouping.proofs.Held.{held_answers}
 

@@ -1,5 +1,4 @@
 use Rattle.std.proofs.Common.{◌-◌, arith}
-use Rattle.arrays.specs.Column.{ColumnAt}
 use Rattle.grouping.proofs.Finishing.{item_tallies, part_few, first_column, counted_column, summed_column, if_ok_three}
 use Rattle.grouping.proofs.batches.Answer.column.Goals as goal
 
