@@ -28,7 +28,7 @@ use Rattle.grouping.specs.declared.batches.Answer.{Answer}
 use Rattle.grouping.specs.declared.key.RowKey.{RowKey}
 use Rattle.grouping.specs.declared.tally.Tally.{Tally}
 use Rattle.grouping.specs.Answered.{cell_at, row_at, answer_rows}
-use Rattle.grouping.specs.Fed.{GroupsAt, IsAnswer, Finishes}
+use Rattle.grouping.specs.Fed.{GroupsAt, most_batch_rows, IsAnswer, Finishes}
 use Rattle.grouping.specs.RowKeys.{key_of}
 use Rattle.grouping.specs.Tallies.{no_rows, item_value}
 use Rattle.grouping.specs.inside.Adding.{lists_of}
@@ -268,7 +268,7 @@ batches_more groups batches batch from to ordered is before =
     ∙ ap (λ (n : ℕ). map (row_at groups) (range_with_len 0 n)) all
 
 -- a batch of some groups is one of the answer
-pub is_answer : (groups : GroupsAt) (batch : BatchAt) (from to : ℕ) → from < to → to ≤ from + 65536 → IsBatchOf groups from (to - from) batch → IsAnswer groups batch
+pub is_answer : (groups : GroupsAt) (batch : BatchAt) (from to : ℕ) → from < to → to ≤ from + most_batch_rows → IsBatchOf groups from (to - from) batch → IsAnswer groups batch
 is_answer groups batch from to some few is = record { some = omega (arith, is.many_rows); few = omega (arith, is.many_rows); typed = is.typed }
 
 -- ---- what finishing answers
