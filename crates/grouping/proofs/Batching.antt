@@ -1,11 +1,11 @@
 -- The rows of a batch, by the cells of its columns.
-use Rattle.std.proofs.Common.{◌≡◌, ◌≤◌, ◌<◌, ℕ, zero, suc, ◌+◌, List, [], ◌∷◌, length, map, get_or, refl, sym, ap, ◌∙◌, arith}
+use Rattle.std.proofs.Common.{◌≡◌, ◌<◌, ℕ, zero, suc, ◌+◌, List, [], ◌∷◌, length, map, get_or, refl, sym, ap, ◌∙◌, arith}
 use Rattle.std.specs.List.{range_with_len}
 use Rattle.scan_base.specs.declared.value.Value.{Value}
-use Rattle.arrays.specs.Batch.{row_of, rows_of, BatchAt}
+use Rattle.arrays.specs.Batch.{row_of, rows_of}
 use Rattle.arrays.specs.Column.{ColumnAt, slot_of}
 
-ranged_any : {X Y : Type 0} (xs : List X) (h : ℕ → Y) (f : X → Y) (a : ℕ) → ((i : ℕ) (d : X) → i < length xs → h (a + i) ≡ f (get_or xs i d)) →
+pub ranged_any : {X Y : Type 0} (xs : List X) (h : ℕ → Y) (f : X → Y) (a : ℕ) → ((i : ℕ) (d : X) → i < length xs → h (a + i) ≡ f (get_or xs i d)) →
     map h (range_with_len a (length xs)) ≡ map f xs
 ranged_any [] h f a same = refl
 ranged_any (x ∷ xs) h f a same =
@@ -13,7 +13,7 @@ ranged_any (x ∷ xs) h f a same =
     ap (λ y. y ∷ map h (range_with_len (a + 1) (length xs))) first
     ∙ ap (λ ys. f x ∷ ys) (ranged_any xs h f (a + 1) (λ i d low. let moved : (a + 1) + i ≡ a + suc i = omega arith in ap h moved ∙ same (suc i) d (omega arith)))
 
-map_alike : {Y : Type 0} (f g : ℕ → Y) (a n : ℕ) → ((j : ℕ) → j < n → f (a + j) ≡ g (a + j)) → map f (range_with_len a n) ≡ map g (range_with_len a n)
+pub map_alike : {Y : Type 0} (f g : ℕ → Y) (a n : ℕ) → ((j : ℕ) → j < n → f (a + j) ≡ g (a + j)) → map f (range_with_len a n) ≡ map g (range_with_len a n)
 map_alike f g a zero same = refl
 map_alike f g a (suc n) same =
     let first : f a ≡ g a = ap f (omega arith) ∙ same 0 (omega arith) ∙ ap g (omega arith) in

@@ -57,7 +57,8 @@ can_count keys types columns (Sum column) are has =
     let parts = and_parts (nat_lt column (length types)) (can_sum (type_at types column)) has in
     (omega (arith, ltb-true _ _ parts.0, as_many types columns are), λ found is. integers_at types columns column found are parts.1 is)
 
-has_each : {X : Type 0} (p : X → Bool) (xs : List X) (k : ℕ) (d : X) → k < length xs → list_all p xs ≡ true → p (get_or xs k d) ≡ true
+-- what is true of each
+pub has_each : {X : Type 0} (p : X → Bool) (xs : List X) (k : ℕ) (d : X) → k < length xs → list_all p xs ≡ true → p (get_or xs k d) ≡ true
 has_each p [] k d low all = absurd (omega arith)
 has_each p (x ∷ xs) zero d low all = (and_parts (p x) (list_all p xs) all).0
 has_each p (x ∷ xs) (suc k) d low all = has_each p xs k d (omega arith) (and_parts (p x) (list_all p xs) all).1

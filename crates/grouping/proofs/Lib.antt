@@ -9,3 +9,4 @@ pub mod Blank
 pub mod Answering
 pub mod Held
 pub mod Batching
+pub mod Finishing

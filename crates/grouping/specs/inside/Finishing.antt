@@ -1,14 +1,12 @@
 -- Inside: what finishing needs, and what it makes, step by step.
 use Rattle.std.specs.Prelude.{◌≡◌, ◌≤◌, ℕ, All, List, length, map, get_or, None}
 use Rattle.std.specs.List.{range_with_len}
-use Rattle.arrow_schema.specs.declared.data_type.DataType.{DataType}
 use Rattle.arrow_schema.specs.Answer.{answer_type}
 use Rattle.arrays.specs.Batch.{BatchAt, rows_of}
 use Rattle.arrays.specs.Column.{ColumnAt, values_of}
 use Rattle.arrays.specs.Typed.{AreOf, IsOfType}
 use Rattle.scan_base.specs.Limits.{most_rows}
 use Rattle.scan_base.specs.declared.value.Value.{Value}
-use Rattle.typed_plan.specs.declared.plan.Aggregate.{Aggregate}
 use Rattle.typed_plan.specs.declared.plan.Aggregate.TheVariants.{Key}
 use Rattle.typed_plan.specs.Typed.{item_type}
 use Rattle.grouping.specs.declared.batches.Answer.{Answer}
