@@ -1,13 +1,38 @@
 //! Which batches a scan opens.
 
-ghost use Rattle.std.specs.Prelude.{◌≡◌, ◌++◌, All, IfOk, OnOk, drop, map};
+ghost use Rattle.std.specs.Prelude.{◌≡◌, ◌<◌, ◌++◌, All, IfOk, OnOk, drop, length, map};
 ghost use Rattle.std.specs.List.{range_with_len};
 ghost use Rattle.scan_exec.specs.Showing.{IsShort};
-ghost use Rattle.scan_exec.specs.Opened.{batches_in, further_batches};
+ghost use Rattle.scan_exec.specs.Opened.{batches_in, first_opened, further_batches};
 
 use std::alloc::{AllocError, Global};
 use table_versions::TableVersion;
 use table_versions::laws::batches_are_rows;
+
+// The batches that are opened, and how many of them are of the further places.
+#[derive(Drop)]
+pub(crate) struct OpenedList {
+    pub(crate) batches: Vec<(usize, usize)>,
+    pub(crate) further: usize,
+}
+
+// The batches that a scan of the rows `from` up to, not with, `to` of the first place opens.
+pub(crate) fn listed(
+    alloc: Global,
+    tables: &[TableVersion],
+    from: usize,
+    to: usize,
+) -> Result<OpenedList, AllocError>
+    requires { 0 < length tables.now }
+    ensures batches { IfOk result (λ listed. listed.batches.items ≡ further_batches tables.now ++ first_opened from to tables.now) }
+    ensures further { IfOk result (λ listed. listed.further ≡ length (further_batches tables.now)) }
+    ensures short { IfOk result (λ _. All IsShort tables.now) }
+{
+    let mut batches = further_list(alloc, tables)?;
+    let further = batches.len();
+    push_first(&mut batches, &tables[0], from, to)?;
+    Ok(OpenedList { batches, further })
+}
 
 // All batches of a place, behind others.
 fn push_all(
@@ -24,7 +49,7 @@ fn push_all(
 }
 
 // All batches of the further places.
-pub(crate) fn further(
+fn further_list(
     alloc: Global,
     tables: &[TableVersion],
 ) -> Result<Vec<(usize, usize)>, AllocError>
@@ -42,7 +67,7 @@ pub(crate) fn further(
 
 // The batches of a table with one of the rows `from` up to, not with, `to`, as those of place 0, behind others. The first is
 // looked for by halves.
-pub(crate) fn push_first(
+fn push_first(
     list: &mut Vec<(usize, usize)>,
     table: &TableVersion,
     from: usize,

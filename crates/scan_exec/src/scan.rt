@@ -13,7 +13,7 @@ ghost use Rattle.scan_exec.specs.Scan.{Gives, IsBeginning, left};
 
 use crate::answer::{Answer, answer_of};
 use crate::build::{Reading, build};
-use crate::opened::{further, push_first};
+use crate::opened::listed;
 use arrays::Batch;
 use arrow_schema::Schema;
 use hash_seed::HashSeed;
@@ -72,15 +72,13 @@ impl Scan {
     {
         let (tables, plan, output, schema) = plan.into_parts();
         let (from, to) = (range.start, range.end);
-        let mut batches = further(alloc, tables.as_slice())?;
-        let further = batches.len();
-        push_first(&mut batches, &tables[0], from, to)?;
+        let listed = listed(alloc, tables.as_slice(), from, to)?;
         let sourced = build(alloc, plan, tables, Reading { seed, from, to })?;
         Ok(Scan {
             schema,
             answer: answer_of(alloc, sourced, output)?,
-            batches,
-            further,
+            batches: listed.batches,
+            further: listed.further,
             given: 0,
             refused: None,
         })

@@ -4,13 +4,13 @@ use Rattle.scan_exec.specs.Opened.{batches_in}
 use Rattle.scan_exec.proofs.opened.push_first.Given as goal
 
 -- those that have one of the rows before this batch
-abbrev pub invariant-loop-list : goal.invariant-loop-list
-invariant-loop-list l = record {
+abbrev pub invariant-loop-start : goal.invariant-loop-start
+invariant-loop-start l = record {
   list : l.list.items ≡ l.fn.list.items ++ map (λ batch. (0, batch)) (batches_in l.from (max (min l.start l.end) l.from) l.table.batches);
   start : l.start ≡ rows_before l.table.batches l.index;
   filled : l.index ≤ l.start;
   low : (l.from ≤ l.start) ⊎ (l.from < rows_before l.table.batches (l.index + 1));
 }
 
-abbrev pub decreases-loop-list : goal.decreases-loop-list
-decreases-loop-list l = l.end - l.start
+abbrev pub decreases-loop-start : goal.decreases-loop-start
+decreases-loop-start l = l.end - l.start

@@ -2,7 +2,7 @@ use Rattle.std.proofs.Common.{◌≡◌, ◌≤◌, ◌<◌, ◌++◌, ℕ, drop
 use Rattle.table_versions.specs.Stored.{TableAt}
 use Rattle.scan_exec.specs.Showing.{IsShort}
 use Rattle.scan_exec.specs.Opened.{numbered_batches, further_batches}
-use Rattle.scan_exec.proofs.opened.further.Given as goal
+use Rattle.scan_exec.proofs.opened.further_list.Given as goal
 
 -- those of the places so far, and then those of the others
 abbrev pub invariant-loop-place : goal.invariant-loop-place

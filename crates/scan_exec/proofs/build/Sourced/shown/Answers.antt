@@ -1,4 +1,4 @@
-use Rattle.scan_exec.proofs.result.Sourced.shown.Goals as goal
+use Rattle.scan_exec.proofs.build.Sourced.shown.Goals as goal
 
 pub invariant_of-result : goal.invariant_of-result
 invariant_of-result c = ?
