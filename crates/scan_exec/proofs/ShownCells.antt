@@ -41,7 +41,7 @@ numbers_there (columns.These numbers) read width h all = each numbers h
     each [] g = refl
     each (number ∷ numbers) g =
         let parts = and_parts (nat_lt number (length read)) (are_within (length read) numbers) g in
-        and_from (lt-ltb (slice_index read number) width (within_at width read number all (ltb-true number (length read) parts.0))) (each numbers parts.1)
+        and_from _ _ (lt-ltb (slice_index read number) width (within_at width read number all (ltb-true number (length read) parts.0))) (each numbers parts.1)
 
 -- and so are their types
 types_are : (columns : Columns) (read : List ℕ) (types : List DataType) → has_columns (length read) columns ≡ true →
