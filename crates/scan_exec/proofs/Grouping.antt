@@ -126,25 +126,7 @@ types_answered types keys items = map answer_type (map (item_type keys types) it
 
 module _ (wanted : Wanted) (types : List DataType) (keys : List ℕ) (items : List Aggregate)
     (t : types ≡ wanted.types.items) (k : keys ≡ wanted.keys.items) (i : items ≡ wanted.items.items) where
-  pub has_items : IsWanted wanted → HasItems types keys items
-  has_items is = rw (t, k, i) is.has
-
-  module _ (before after : RowsAt) (batches : List BatchAt) (new : GroupsAt) (can : CanGroup before wanted) (all : AreCollected before batches after)
-      (is : IsNew types keys items new) where
-    new_types : new.types ≡ before.types
-    new_types = is.types_are ∙ t ∙ sym can.types
-
-    pub new_batches : All (IsBatchOf new.types) batches
-    new_batches = subst (λ (some : List DataType). All (IsBatchOf some) batches) (sym new_types) all.each
-
-    pub new_pick : IsPick (length new.types) (pick_of wanted.picker)
-    new_pick = subst (λ (some : List DataType). IsPick (length some) (pick_of wanted.picker)) (sym (is.types_are ∙ t)) can.named.pick
-
-    pub new_few : length (flat_map rows_of batches) ≤ most_rows
-    new_few =
-        let long = length-map before.ahead (λ (row : ℕ × Row). row.1) in
-        omega (arith, ap length all.rows, long, can.few)
-
+  module _ (before after : RowsAt) (batches : List BatchAt) (new : GroupsAt) (all : AreCollected before batches after) (is : IsNew types keys items new) where
     module _ (fed : GroupsAt) (feeds : AreFed new (passing (pick_of wanted.picker) (flat_map rows_of batches)) fed) where
       keys_are : fed.keys ≡ wanted.keys.items
       keys_are = feeds.alike.keys ∙ is.keys_are ∙ k
