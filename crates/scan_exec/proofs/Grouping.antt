@@ -21,10 +21,11 @@ use Rattle.typed_plan.specs.Typed.{item_type}
 use Rattle.grouping.specs.Fed.{GroupsAt, HasItems, Holds, HasFed, IsAlike, IsAnswer, AreAnswers, IsNew}
 use Rattle.scan_exec.specs.declared.cursor.Part.{Part}
 use Rattle.scan_exec.specs.declared.grouped.Stage.{Stage}
+use Rattle.scan_exec.specs.declared.grouped.Stage.TheVariants.{Waiting}
 use Rattle.scan_exec.specs.declared.grouped.Wanted.{Wanted}
 use Rattle.scan_exec.specs.Giving.{GivingAt, GivingOn, GivesBatch, GivesNone, GivesNext}
 use Rattle.scan_exec.specs.Collected.{AreCollected, IsBatchOf, plain_rows}
-use Rattle.scan_exec.specs.Grouped.{AreFed, AreMade, CanGroup, IsMade, IsWanted, of_groups, passing, wanted_rows, wanted_types}
+use Rattle.scan_exec.specs.Grouped.{AreFed, AreMade, IsMade, of_groups, passing, wanted_rows, wanted_types}
 use Rattle.scan_exec.specs.Picking.{PickAt, IsPick, holds, chosen_rows, pick_of}
 use Rattle.scan_exec.specs.Running.{RowsAt, GoesOn}
 use Rattle.scan_exec.proofs.Giving.{filter-map}
@@ -125,43 +126,43 @@ abbrev types_answered : List DataType → List ℕ → List Aggregate → List D
 types_answered types keys items = map answer_type (map (item_type keys types) items)
 
 module _ (wanted : Wanted) (types : List DataType) (keys : List ℕ) (items : List Aggregate)
-    (t : types ≡ wanted.types.items) (k : keys ≡ wanted.keys.items) (i : items ≡ wanted.items.items) where
-  module _ (before after : RowsAt) (batches : List BatchAt) (new : GroupsAt) (all : AreCollected before batches after) (is : IsNew types keys items new) where
-    module _ (fed : GroupsAt) (feeds : AreFed new (passing (pick_of wanted.picker) (flat_map rows_of batches)) fed) where
-      keys_are : fed.keys ≡ wanted.keys.items
-      keys_are = feeds.alike.keys ∙ is.keys_are ∙ k
+    (t : types ≡ wanted.types.items) (k : keys ≡ wanted.keys.items) (i : items ≡ wanted.items.items)
+    (before after : RowsAt) (batches : List BatchAt) (all : AreCollected before batches after)
+    (new fed : GroupsAt) (is : IsNew types keys items new) (feeds : AreFed new (passing (pick_of wanted.picker) (flat_map rows_of batches)) fed) where
+  keys_are : fed.keys ≡ wanted.keys.items
+  keys_are = feeds.alike.keys ∙ is.keys_are ∙ k
 
-      items_are : fed.items ≡ wanted.items.items
-      items_are = feeds.alike.items ∙ is.items_are ∙ i
+  items_are : fed.items ≡ wanted.items.items
+  items_are = feeds.alike.items ∙ is.items_are ∙ i
 
-      types_are : types_answered fed.types fed.keys fed.items ≡ wanted_types wanted
-      types_are =
-          ap (λ (some : List DataType). types_answered some fed.keys fed.items) (feeds.alike.types ∙ is.types_are ∙ t)
-          ∙ ap (λ (some : List ℕ). types_answered wanted.types.items some fed.items) keys_are
-          ∙ ap (types_answered wanted.types.items wanted.keys.items) items_are
+  types_are : types_answered fed.types fed.keys fed.items ≡ wanted_types wanted
+  types_are =
+      ap (λ (some : List DataType). types_answered some fed.keys fed.items) (feeds.alike.types ∙ is.types_are ∙ t)
+      ∙ ap (λ (some : List ℕ). types_answered wanted.types.items some fed.items) keys_are
+      ∙ ap (types_answered wanted.types.items wanted.keys.items) items_are
 
-      one_answer : (batch : BatchAt) → IsAnswer fed batch → IsBatchOf (wanted_types wanted) batch
-      one_answer batch answer = record {
-        some = answer.some;
-        few = answer.few;
-        typed = subst (λ (some : List DataType). AreOf some batch.columns) types_are answer.typed;
+  one_answer : (batch : BatchAt) → IsAnswer fed batch → IsBatchOf (wanted_types wanted) batch
+  one_answer batch answer = record {
+    some = answer.some;
+    few = answer.few;
+    typed = subst (λ (some : List DataType). AreOf some batch.columns) types_are answer.typed;
+  }
+
+  pub are_made : (answer made : List BatchAt) → made ≡ reverse answer → ((rows : List Row) → Holds fed rows → AreAnswers fed answer rows) →
+      All (IsAnswer fed) answer → AreMade before wanted made after
+  are_made answer made e answers each =
+      let rows = passing (pick_of wanted.picker) (flat_map rows_of batches) in
+      record {
+        rows = ap (λ (some : List BatchAt). flat_map rows_of (reverse some)) e
+            ∙ ap (flat_map rows_of) (reverse-reverse answer)
+            ∙ answers rows feeds.held
+            ∙ ap (λ (some : List Aggregate). map (λ group. map (answered group) some) (groups_by fed.keys rows)) items_are
+            ∙ ap (λ (some : List ℕ). map (λ group. map (answered group) wanted.items.items) (groups_by some rows)) keys_are
+            ∙ ap (wanted_rows wanted) all.rows;
+        each = subst (All (IsBatchOf (wanted_types wanted))) (sym e)
+            (all_reversed (IsBatchOf (wanted_types wanted)) answer (λ j d h. one_answer (get_or answer j d) (each j d h)));
+        all = all.all;
       }
-
-      pub are_made : (answer made : List BatchAt) → made ≡ reverse answer → ((rows : List Row) → Holds fed rows → AreAnswers fed answer rows) →
-          All (IsAnswer fed) answer → AreMade before wanted made after
-      are_made answer made e answers each =
-          let rows = passing (pick_of wanted.picker) (flat_map rows_of batches) in
-          record {
-            rows = ap (λ (some : List BatchAt). flat_map rows_of (reverse some)) e
-                ∙ ap (flat_map rows_of) (reverse-reverse answer)
-                ∙ answers rows feeds.held
-                ∙ ap (λ (some : List Aggregate). map (λ group. map (answered group) some) (groups_by fed.keys rows)) items_are
-                ∙ ap (λ (some : List ℕ). map (λ group. map (answered group) wanted.items.items) (groups_by some rows)) keys_are
-                ∙ ap (wanted_rows wanted) all.rows;
-            each = subst (All (IsBatchOf (wanted_types wanted))) (sym e)
-                (all_reversed (IsBatchOf (wanted_types wanted)) answer (λ j d h. one_answer (get_or answer j d) (each j d h)));
-            all = all.all;
-          }
 
 -- ---- what is given of them
 
@@ -176,6 +177,10 @@ rows_in batches = map of_none (flat_map rows_of (reverse batches))
 -- where rows go on, so do their groups
 pub groups_on : (wanted : Wanted) (before after : RowsAt) (stage then : Stage) → GoesOn before after → GivingOn (of_groups before wanted stage) (of_groups after wanted then)
 groups_on wanted before after stage then on = record { types = refl; batches = on.batches; opening = on.opening; opened = on.opened }
+
+-- the rows that were waited for are those of the batches that were made
+pub made_ahead : (wanted : Wanted) (before after : RowsAt) (all : List BatchAt) → AreMade before wanted all after → (of_groups before wanted Waiting).ahead ≡ rows_in all
+made_ahead wanted before after all made = ap (map of_none) (sym made.rows)
 
 -- a batch that is taken from the end is given
 pub gives_popped : (before after : GivingAt) (all rest : List BatchAt) → before.ahead ≡ rows_in all → after.ahead ≡ rows_in rest → GivingOn before after →

@@ -21,5 +21,5 @@ returns-clause-made c =
     let done : ((rows : List Row) → Holds fed rows → AreAnswers fed answer rows) × All (IsAnswer fed) answer =
     rw feeds.refused at c.in_ok-answer.ensures in
     are_made wanted shape.types.items shape.keys.now shape.items.items copied.types copied.keys copied.items
-    c.args.rows.now c.collected.new.rows batches c.in_ok-groups.groups c.in_ok-batches.ensures.collected c.in_ok-groups.ensures
-    fed feeds answer c.reverse.new.self.items c.reverse.ensures.items done.0 done.1
+    c.args.rows.now c.collected.new.rows batches c.in_ok-batches.ensures.collected c.in_ok-groups.groups fed c.in_ok-groups.ensures feeds
+    answer c.reverse.new.self.items c.reverse.ensures.items done.0 done.1
