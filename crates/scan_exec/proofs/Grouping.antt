@@ -1,13 +1,12 @@
 -- Rows that are grouped, batch by batch, and the batches of their groups.
-use Rattle.std.proofs.Common.{◌≡◌, ◌≤◌, ◌<◌, ◌^◌, ℕ, zero, suc, ◌+◌, ◌-◌, Bool, true, false, cond, List, [], ◌∷◌, ◌++◌, length, map, take, get_or, reverse, Option, Some, None, Ok, MatchOption, refl, sym, ap, ◌∙◌, subst, arith, append-nil, All}
+use Rattle.std.proofs.Common.{◌≡◌, ◌≤◌, ◌<◌, ℕ, suc, ◌+◌, ◌-◌, Bool, true, false, cond, List, [], ◌∷◌, ◌++◌, length, map, take, get_or, reverse, Option, Some, None, Ok, MatchOption, refl, sym, ap, ◌∙◌, subst, arith, append-nil, All}
 use Rattle.std.specs.List.{filter, flat_map, range_with_len}
 use Rattle.std.specs.Option.{option_to_list}
 use Rattle.std.proofs.Math.Seq.{take-suc}
 use Rattle.std.proofs.lemmas.Grind.{flat_map-append}
 use Rattle.std.proofs.lemmas.List.{map-append, length-map, length-reverse, reverse-append, reverse-reverse, get_or-reverse}
-use Rattle.std.proofs.lemmas.List.Elements.{filter-append, All-get_or, All-pop}
+use Rattle.std.proofs.lemmas.List.Elements.{filter-append, All-pop}
 use Rattle.std.proofs.lemmas.List.Folds.{length-flat_map-take}
-use Rattle.std.proofs.lemmas.List.FromFn.{length-range_with_len}
 use Rattle.arrow_schema.specs.Answer.{answer_type}
 use Rattle.arrow_schema.specs.declared.data_type.DataType.{DataType}
 use Rattle.arrays.specs.Batch.{BatchAt, row_of, rows_of}
@@ -18,13 +17,13 @@ use Rattle.table_versions.proofs.Rowing.{length-rows_of}
 use Rattle.typed_plan.specs.declared.plan.Aggregate.{Aggregate}
 use Rattle.typed_plan.specs.Plan.{answered, groups_by}
 use Rattle.typed_plan.specs.Typed.{item_type}
-use Rattle.grouping.specs.Fed.{GroupsAt, HasItems, Holds, HasFed, IsAlike, IsAnswer, AreAnswers, IsNew}
+use Rattle.grouping.specs.Fed.{GroupsAt, Holds, HasFed, IsAnswer, AreAnswers, IsNew}
 use Rattle.scan_exec.specs.declared.cursor.Part.{Part}
 use Rattle.scan_exec.specs.declared.grouped.Stage.{Stage}
 use Rattle.scan_exec.specs.declared.grouped.Stage.TheVariants.{Waiting}
 use Rattle.scan_exec.specs.declared.grouped.Wanted.{Wanted}
-use Rattle.scan_exec.specs.Giving.{GivingAt, GivingOn, GivesBatch, GivesNone, GivesNext}
-use Rattle.scan_exec.specs.Collected.{AreCollected, IsBatchOf, plain_rows}
+use Rattle.scan_exec.specs.Giving.{GivingAt, GivingOn, GivesNext}
+use Rattle.scan_exec.specs.Collected.{AreCollected, IsBatchOf}
 use Rattle.scan_exec.specs.Grouped.{AreFed, AreMade, IsMade, of_groups, passing, wanted_rows, wanted_types}
 use Rattle.scan_exec.specs.Picking.{PickAt, IsPick, holds, chosen_rows, pick_of}
 use Rattle.scan_exec.specs.Running.{RowsAt, GoesOn}
@@ -42,16 +41,12 @@ passing_few test (x ∷ xs) = by (test x) (passing_few test xs)
 
 -- ---- one batch more
 
--- before the first batch
-pub none_fed : (pick : PickAt) (groups : GroupsAt) → groups.refused ≡ None → Holds groups [] → AreFed groups [] groups
-none_fed pick groups none held = record { alike = record { types = refl; keys = refl; items = refl }; refused = none; held = held }
-
 module _ (pick : PickAt) (batches : List BatchAt) (k : ℕ) (batch : BatchAt) (there : k < length batches) (is : batch ≡ get_or batches k batch) where
-  abbrev before : List Row
-  before = passing pick (flat_map rows_of (take k batches))
+  abbrev so_far : List Row
+  so_far = passing pick (flat_map rows_of (take k batches))
 
   -- the rows so far, with those of this batch
-  rows_more : passing pick (flat_map rows_of (take (k + 1) batches)) ≡ before ++ passing pick (rows_of batch)
+  rows_more : passing pick (flat_map rows_of (take (k + 1) batches)) ≡ so_far ++ passing pick (rows_of batch)
   rows_more =
       let next : k + 1 ≡ suc k = omega arith in
       ap (λ (n : ℕ). passing pick (flat_map rows_of (take n batches))) next
@@ -79,7 +74,7 @@ module _ (pick : PickAt) (batches : List BatchAt) (k : ℕ) (batch : BatchAt) (t
         omega (arith, long, few, ap length chosen_are, length-rows_of batch)
 
     -- so they can be fed
-    pub few_enough : (first groups : GroupsAt) (rows : List ℕ) → rows ≡ chosen_rows pick part → AreFed first before groups →
+    pub few_enough : (first groups : GroupsAt) (rows : List ℕ) → rows ≡ chosen_rows pick part → AreFed first so_far groups →
         length (flat_map rows_of batches) ≤ most_rows → groups.count + length rows ≤ most_rows
     few_enough first groups rows e fed few =
         let all = length-flat_map-take rows_of batches k batch there in
@@ -88,7 +83,7 @@ module _ (pick : PickAt) (batches : List BatchAt) (k : ℕ) (batch : BatchAt) (t
         omega (arith, all, mine, size, few, fed.held.count, ap length e, chosen_few, length-rows_of batch)
 
     -- and then the rows so far are fed
-    pub more_fed : (first groups after : GroupsAt) (rows : List ℕ) → rows ≡ chosen_rows pick part → AreFed first before groups →
+    pub more_fed : (first groups after : GroupsAt) (rows : List ℕ) → rows ≡ chosen_rows pick part → AreFed first so_far groups →
         HasFed groups after (map (row_of batch.columns) rows) → AreFed first (passing pick (flat_map rows_of (take (k + 1) batches))) after
     more_fed first groups after rows e fed has = record {
       alike = record {
@@ -97,25 +92,18 @@ module _ (pick : PickAt) (batches : List BatchAt) (k : ℕ) (batch : BatchAt) (t
         items = has.alike.items ∙ fed.alike.items;
       };
       refused = has.refused;
-      held = subst (Holds after) (ap (λ (some : List Row). before ++ some) (ap (map (row_of batch.columns)) e ∙ chosen_are) ∙ sym rows_more) (has.held before fed.held);
+      held = subst (Holds after) (ap (λ (some : List Row). so_far ++ some) (ap (map (row_of batch.columns)) e ∙ chosen_are) ∙ sym rows_more) (has.held so_far fed.held);
     }
 
-  -- the batch is of the types
-  module _ (first groups : GroupsAt) (fed : AreFed first before groups) (each : All (IsBatchOf first.types) batches) where
-    pub batch_is : IsBatchOf first.types batch
-    batch_is = subst (IsBatchOf first.types) (sym is) (each k batch there)
-
-    pub is_typed : AreOf groups.types batch.columns
-    is_typed = subst (λ (types : List DataType). AreOf types batch.columns) (sym fed.alike.types) batch_is.typed
-
-    pub can_pick : IsPick (length first.types) pick → IsPick (length batch.columns) pick
-    can_pick picks = subst (λ (n : ℕ). IsPick n pick) (sym (as_many first.types batch.columns batch_is.typed)) picks
-
-    pub is_small : batch.rows < 2 ^ 32
-    is_small = omega (arith, batch_is.few)
+  -- it has the columns that the filters name
+  pub can_pick : (types : List DataType) → All (IsBatchOf types) batches → IsPick (length types) pick → IsPick (length batch.columns) pick
+  can_pick types each picks =
+      let of : IsBatchOf types batch = subst (IsBatchOf types) (sym is) (each k batch there) in
+      subst (λ (n : ℕ). IsPick n pick) (sym (as_many types batch.columns of.typed)) picks
 
 -- ---- the batches of the groups
 
+-- the other way round
 all_reversed : {X : Type 0} (P : X → Type 0) (xs : List X) → All P xs → All P (reverse xs)
 all_reversed P xs all k d h =
     let long = length-reverse xs in
@@ -129,6 +117,7 @@ module _ (wanted : Wanted) (types : List DataType) (keys : List ℕ) (items : Li
     (t : types ≡ wanted.types.items) (k : keys ≡ wanted.keys.items) (i : items ≡ wanted.items.items)
     (before after : RowsAt) (batches : List BatchAt) (all : AreCollected before batches after)
     (new fed : GroupsAt) (is : IsNew types keys items new) (feeds : AreFed new (passing (pick_of wanted.picker) (flat_map rows_of batches)) fed) where
+  -- what was fed is grouped by what is wanted
   keys_are : fed.keys ≡ wanted.keys.items
   keys_are = feeds.alike.keys ∙ is.keys_are ∙ k
 
@@ -148,6 +137,7 @@ module _ (wanted : Wanted) (types : List DataType) (keys : List ℕ) (items : Li
     typed = subst (λ (some : List DataType). AreOf some batch.columns) types_are answer.typed;
   }
 
+  -- the answer, the other way round
   pub are_made : (answer made : List BatchAt) → made ≡ reverse answer → ((rows : List Row) → Holds fed rows → AreAnswers fed answer rows) →
       All (IsAnswer fed) answer → AreMade before wanted made after
   are_made answer made e answers each =

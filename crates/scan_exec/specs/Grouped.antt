@@ -1,5 +1,5 @@
 -- Inside: rows that are grouped, and the batches of their groups.
-use Rattle.std.specs.Prelude.{◌≡◌, ◌≤◌, All, ℕ, List, [], length, map, take, reverse, None}
+use Rattle.std.specs.Prelude.{◌≡◌, ◌≤◌, All, List, [], length, map, take, reverse, None}
 use Rattle.std.specs.List.{filter, flat_map}
 use Rattle.arrow_schema.specs.Answer.{answer_type}
 use Rattle.arrow_schema.specs.declared.data_type.DataType.{DataType}

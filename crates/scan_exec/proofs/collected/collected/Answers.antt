@@ -1,6 +1,5 @@
-use Rattle.std.proofs.Common.{ap, sym, ◌∙◌, refl}
-use Rattle.scan_exec.specs.Running.{FindsPiece, Ends}
-use Rattle.scan_exec.proofs.Collecting.{fewer_ahead, one_more, one_typed, goes_still, all_collected}
+use Rattle.scan_exec.specs.Running.{FindsPiece}
+use Rattle.scan_exec.proofs.AllRows.{fewer_ahead, one_more, one_typed}
 use Rattle.scan_exec.proofs.JoinSteps.{on_and_on}
 use Rattle.scan_exec.proofs.collected.collected.Goals as goal
 

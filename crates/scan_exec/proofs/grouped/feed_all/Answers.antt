@@ -1,4 +1,4 @@
-use Rattle.std.proofs.Common.{◌≡◌, ◌<◌, ◌-◌, ℕ, Bool, List, All, map, refl, sym, subst, arith}
+use Rattle.std.proofs.Common.{◌<◌, ◌-◌, ℕ, Bool, List, All, map, refl, sym, subst, arith}
 use Rattle.arrays.specs.Batch.{row_of}
 use Rattle.grouping.specs.Fed.{HasFed}
 use Rattle.scan_exec.specs.Picking.{holds, pick_of}
@@ -9,7 +9,7 @@ use Rattle.scan_exec.proofs.grouped.feed_all.Goals as goal
 pub select-requires-clause-pick : goal.select-requires-clause-pick
 select-requires-clause-pick c =
     can_pick (pick_of c.args.picker.now) c.args.batches.now c.loop-batch.batch-index c.batch-item.result c.loop-batch-test.true c.batch-item.is
-    c.args.groups.now c.loop-batch.groups c.loop-batch.invariant c.requires.batches c.requires.pick
+    c.args.groups.now.types c.requires.batches c.requires.pick
 
 pub feed-requires-clause-within : goal.feed-requires-clause-within
 feed-requires-clause-within c =

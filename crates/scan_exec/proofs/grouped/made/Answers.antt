@@ -1,4 +1,4 @@
-use Rattle.std.proofs.Common.{◌≡◌, List, All}
+use Rattle.std.proofs.Common.{List, All}
 use Rattle.arrays.specs.Batch.{rows_of}
 use Rattle.grouping.specs.Fed.{Holds, IsAnswer, AreAnswers}
 use Rattle.std.specs.List.{flat_map}

@@ -1,9 +1,9 @@
-use Rattle.std.proofs.Common.{◌≡◌, Ok, refl, sym, ◌∙◌, subst, arith}
+use Rattle.std.proofs.Common.{Ok, refl, sym, ◌∙◌, subst, arith}
 use Rattle.scan_exec.specs.declared.grouped.Stage.{Stage}
 use Rattle.scan_exec.specs.declared.grouped.Stage.TheVariants.{Waiting, Made}
 use Rattle.scan_exec.specs.Giving.{GivingAt, GivesNext}
 use Rattle.scan_exec.specs.Grouped.{IsMade, of_groups}
-use Rattle.scan_exec.proofs.Collecting.{goes_still}
+use Rattle.scan_exec.proofs.AllRows.{goes_still}
 use Rattle.scan_exec.proofs.Grouping.{gives_popped, groups_on, made_ahead, still_made}
 use Rattle.scan_exec.proofs.grouped.GroupedRows.next.Goals as goal
 
