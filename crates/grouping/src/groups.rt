@@ -117,7 +117,7 @@ impl<'t> Groups<'t> {
     ///
     /// What refused the groups; F21 (`Fault::OutOfMemory`) where memory is refused.
     pub fn finish(self, alloc: Global) -> Result<Vec<Batch>, Fault>
-        ensures { Finishes self result }
+        ensures { Finishes self.entry result }
     {
         if let Some(fault) = self.refused {
             return Err(fault);

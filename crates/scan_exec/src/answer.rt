@@ -6,6 +6,7 @@ ghost use Rattle.scan_exec.specs.Begun.{IsSourced, sourced_at};
 ghost use Rattle.scan_exec.specs.Answering.{GivesNext, IsGiving, answer_for, giving_at, of_rows};
 
 use crate::build::Sourced;
+use crate::grouped::GroupedRows;
 use crate::rows::Rows;
 use arrays::Batch;
 use std::alloc::{AllocError, Global};
@@ -15,6 +16,7 @@ use typed_plan::Output;
 #[derive(Drop)]
 pub(crate) enum Answer {
     Rows(Rows),
+    Groups(GroupedRows),
 }
 
 impl Answer {
@@ -26,6 +28,7 @@ impl Answer {
     {
         match self {
             Answer::Rows(rows) => next_batch(alloc, rows),
+            Answer::Groups(groups) => groups.next(alloc),
         }
     }
 
@@ -35,6 +38,7 @@ impl Answer {
     {
         match self {
             Answer::Rows(rows) => rows.opened(),
+            Answer::Groups(groups) => groups.opened(),
         }
     }
 }

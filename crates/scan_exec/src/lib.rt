@@ -3,8 +3,10 @@
 
 mod answer;
 mod build;
+mod collected;
 mod columns;
 mod cursor;
+mod grouped;
 mod opened;
 mod join_source;
 mod picker;
