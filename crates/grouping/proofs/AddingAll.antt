@@ -1,6 +1,5 @@
 -- Tallies of the items, one item after another.
-use Rattle.std.proofs.Common.{◌≡◌, ◌≢◌, ◌≤◌, ◌<◌, ℕ, ◌+◌, List, [], length, map, get_or, slice_set, refl, sym, ap, ◌∙◌, subst, arith, below_more, get_or-set_other, get_or-set_same}
-use Rattle.std.proofs.Math.ListN.{length-set}
+use Rattle.std.proofs.Common.{◌≡◌, ◌≢◌, ◌<◌, ℕ, ◌+◌, List, [], length, get_or, slice_set, sym, ap, ◌∙◌, subst, arith, below_more, get_or-set_other, get_or-set_same}
 use Rattle.arrays.specs.Column.{ColumnAt}
 use Rattle.typed_plan.specs.declared.plan.Aggregate.{Aggregate}
 use Rattle.typed_plan.specs.declared.plan.Aggregate.TheVariants.{Key}
@@ -21,12 +20,12 @@ step items columns rows groups found fed before after place new so there added w
     let other : (item : ℕ) → item ≢ place → get_or now item [] ≡ get_or after item [] = λ item differs. get_or-set_other after place item new [] differs in
     record {
       added = below_more (λ item. IsAdded (get_or items item (Key 0)) columns rows groups found (get_or before item []) (get_or now item [])) place
-        (λ item low. subst (IsAdded (get_or items item (Key 0)) columns rows groups found (get_or before item [])) (sym (other item (λ (q : item ≡ place). omega arith))) (so.added item low))
-        (subst (IsAdded (get_or items place (Key 0)) columns rows groups found (get_or before place [])) (sym here)
-        (subst (λ old. IsAdded (get_or items place (Key 0)) columns rows groups found old new) (so.left place (omega arith)) added));
+          (λ item low. subst (IsAdded (get_or items item (Key 0)) columns rows groups found (get_or before item [])) (sym (other item (λ (q : item ≡ place). omega arith))) (so.added item low))
+          (subst (IsAdded (get_or items place (Key 0)) columns rows groups found (get_or before place [])) (sym here)
+          (subst (λ old. IsAdded (get_or items place (Key 0)) columns rows groups found old new) (so.left place (omega arith)) added));
       small = below_more (λ item. AreWithin (fed + length rows) (get_or now item [])) place
-        (λ item low. subst (AreWithin (fed + length rows)) (sym (other item (λ (q : item ≡ place). omega arith))) (so.small item low))
-        (subst (AreWithin (fed + length rows)) (sym here) within);
+          (λ item low. subst (AreWithin (fed + length rows)) (sym (other item (λ (q : item ≡ place). omega arith))) (so.small item low))
+          (subst (AreWithin (fed + length rows)) (sym here) within);
       left = λ item high. other item (λ (q : item ≡ place). omega arith) ∙ so.left item (omega arith);
     }
 
@@ -37,6 +36,6 @@ pub kept_after : (items : List Aggregate) (columns : List ColumnAt) (rows groups
 kept_after items columns rows groups found fed before after so many = record {
   many = many;
   long = λ item low. let added = so.added item low in
-    ap length added.stepped ∙ stepped_long (get_or items item (Key 0)) columns groups rows added.padded (length rows) ∙ added.long;
+      ap length added.stepped ∙ stepped_long (get_or items item (Key 0)) columns groups rows added.padded (length rows) ∙ added.long;
   small = so.small;
 }

@@ -1,14 +1,18 @@
 -- Cells of the answer.
-use Rattle.std.proofs.Common.{◌≡◌, ◌≤◌, ◌<◌, ℕ, ℤ, zero, suc, ◌+◌, pos, Bool, true, false, if◌then◌else◌, List, [], ◌∷◌, length, map, get_or, take, Some, None, Option, Result, Ok, Err, IfOk, refl, sym, ap, ◌∙◌, subst, arith}
-use Rattle.std.specs.Prelude.{◌==◌, unwrap_or, slice_get}
-use Rattle.std.proofs.lemmas.List.{take_all}
+use Rattle.std.proofs.Common.{◌≡◌, ◌≤◌, ◌<◌, ℕ, ℤ, zero, suc, ◌+◌, pos, Bool, true, false, if◌then◌else◌, List, [], ◌∷◌, ◌++◌, length, map, get_or, take, Some, None, Option, Result, Ok, Err, IfOk, refl, sym, ap, ◌∙◌, subst, arith}
+use Rattle.std.specs.Prelude.{◌==◌}
+use Rattle.std.proofs.lemmas.List.{take_all, map-append, map_more}
 use Rattle.scan_base.specs.declared.value.Value.{Value}
 use Rattle.scan_base.specs.declared.value.Value.TheVariants.{Null, Int}
 use Rattle.arrow_schema.specs.declared.data_type.DataType.{DataType}
+use Rattle.arrays.specs.declared.of_slots.SlotRef.{SlotRef}
+use Rattle.arrays.specs.Batch.{AreLong}
+use Rattle.arrays.specs.OfSlots.{slot_value}
 use Rattle.arrays.specs.Built.{value_or_null}
 use Rattle.arrays.specs.Column.{ColumnAt}
 use Rattle.arrays.specs.Typed.{AreOf, IsOfType}
 use Rattle.typed_plan.specs.Typed.{type_at}
+use Rattle.grouping.specs.declared.key.RowKey.{RowKey}
 use Rattle.grouping.specs.declared.tally.Tally.{Tally}
 use Rattle.grouping.specs.inside.Answering.{count_or_none, sum_or_none}
 
@@ -59,3 +63,25 @@ pub type_there : (types : List DataType) (place : ℕ) (d : DataType) → place 
 type_there [] place d low = absurd (omega arith)
 type_there (t ∷ types) zero d low = refl
 type_there (t ∷ types) (suc place) d low = type_there types place d (omega arith)
+
+-- a slot of a first row is there, in a column of the type at its place
+pub slot_there : (columns found : List ColumnAt) (rows place row : ℕ) (column : ColumnAt) → found ≡ columns → AreLong rows found →
+    column ≡ get_or found place column → place < length columns → row < rows → (types : List DataType) → AreOf types columns →
+    (row < column.len) × IsOfType (type_at types place) column.layout
+slot_there columns found rows place row column same long is there within types typed =
+    let low : place < length found = omega (arith, ap length same) in
+    let wide : (get_or found place column).len ≡ rows = long place column low in (
+      omega (arith, wide, ap (λ (c : ColumnAt). c.len) is),
+      subst (λ (c : ColumnAt). IsOfType (type_at types place) c.layout) (sym is)
+          (typed_at types found place column (subst (AreOf types) (sym same) typed) low),
+    )
+
+-- the values of slots, and of one more
+pub values_more : (cell : RowKey → Value) (firsts : List RowKey) (index : ℕ) (first : RowKey) (slots : List SlotRef) (slot : SlotRef) →
+    first ≡ get_or firsts index first → index < length firsts → slot_value slot ≡ cell first →
+    map slot_value slots ≡ map cell (take index firsts) → map slot_value (slots ++ slot ∷ []) ≡ map cell (take (index + 1) firsts)
+values_more cell firsts index first slots slot is low value so =
+    map-append slot_value slots (slot ∷ [])
+    ∙ ap (λ values. values ++ slot_value slot ∷ []) so
+    ∙ ap (λ v. map cell (take index firsts) ++ v ∷ []) (value ∙ ap cell is)
+    ∙ sym (map_more cell firsts index first low)

@@ -1,17 +1,16 @@
 -- Groups before any row.
-use Rattle.std.proofs.Common.{◌≡◌, ◌≤◌, ◌<◌, ℕ, zero, suc, ◌+◌, List, [], ◌∷◌, length, map, get_or, None, refl, sym, ap, ◌∙◌, subst, arith, All, Vec}
+use Rattle.std.proofs.Common.{◌≡◌, ◌<◌, ℕ, zero, suc, List, [], ◌∷◌, length, get_or, refl, sym, ap, ◌∙◌, subst, arith, All, Vec}
 use Rattle.std.specs.Global.{Global}
 use Rattle.std.proofs.lemmas.Int.{ints}
 use Rattle.std.proofs.lemmas.List.{length-map}
 use Rattle.typed_plan.specs.declared.plan.Aggregate.{Aggregate}
 use Rattle.typed_plan.specs.declared.plan.Aggregate.TheVariants.{Key}
-use Rattle.grouping.specs.declared.key.RowKey.{RowKey}
 use Rattle.grouping.specs.declared.tally.Tally.{Tally}
 use Rattle.grouping.specs.Fed.{GroupsAt, Holds, AreTallied}
 use Rattle.grouping.specs.Found.{first_found}
 use Rattle.grouping.specs.Tallies.{no_rows}
 use Rattle.grouping.specs.inside.Adding.{IsKept, lists_of}
-use Rattle.grouping.specs.inside.Counting.{IsWithin, AreWithin}
+use Rattle.grouping.specs.inside.Counting.{IsWithin}
 use Rattle.grouping.specs.inside.Kept.{AreBlank}
 use Rattle.grouping.specs.inside.Placing.{found_by}
 
@@ -31,8 +30,8 @@ kept_blank items tallies groups many all = record {
   many = length-map tallies (λ (list : Vec Tally Global). list.items) ∙ many;
   long = λ item low. (blank_at tallies groups all item (omega arith)).long;
   small = λ item low.
-    let blank = blank_at tallies groups all item (omega arith) in
-    record { each = λ group below. subst (IsWithin 0) (sym (blank.each group (omega (arith, blank.long)))) none_within };
+      let blank = blank_at tallies groups all item (omega arith) in
+      record { each = λ group below. subst (IsWithin 0) (sym (blank.each group (omega (arith, blank.long)))) none_within };
 }
 
 -- before any row the keys are those of none
@@ -49,7 +48,7 @@ holds_none groups tallies count found long none is many all = record {
   count = none;
   many = ap length is ∙ length-map tallies (λ (list : Vec Tally Global). list.items) ∙ many;
   tallied = λ item low.
-    let blank = blank_at tallies count all item (omega arith) in
-    subst (λ lists. AreTallied groups.keys groups.found [] (get_or groups.items item (Key 0)) (get_or lists item [])) (sym is)
-    (record { long = blank.long ∙ long; each = λ group below. blank.each group (omega (arith, long)) });
+      let blank = blank_at tallies count all item (omega arith) in
+      subst (λ lists. AreTallied groups.keys groups.found [] (get_or groups.items item (Key 0)) (get_or lists item [])) (sym is)
+      (record { long = blank.long ∙ long; each = λ group below. blank.each group (omega (arith, long)) });
 }

@@ -1,5 +1,5 @@
 -- What feeding leaves, and what it needs.
-use Rattle.std.proofs.Common.{◌≡◌, ◌≤◌, ◌<◌, ℕ, zero, suc, ◌+◌, Bool, true, false, ◌&&◌, List, [], ◌∷◌, ◌++◌, length, map, get_or, slice_get, Some, None, Option, Ok, refl, sym, ap, ◌∙◌, subst, arith, All, IsTrue, nat_lt}
+use Rattle.std.proofs.Common.{◌≡◌, ◌<◌, ℕ, zero, suc, ◌+◌, Bool, true, List, [], ◌∷◌, ◌++◌, length, map, get_or, slice_get, Some, None, Option, Ok, refl, sym, ap, ◌∙◌, subst, arith, nat_lt}
 use Rattle.std.specs.List.{list_all}
 use Rattle.std.proofs.lemmas.Bool.{and_parts}
 use Rattle.std.proofs.lemmas.List.{length-append, length-map}
@@ -15,11 +15,10 @@ use Rattle.typed_plan.specs.Class.{can_sum}
 use Rattle.typed_plan.specs.Typed.{has_item, type_at}
 use Rattle.typed_plan.specs.declared.plan.Aggregate.{Aggregate}
 use Rattle.typed_plan.specs.declared.plan.Aggregate.TheVariants.{Key, CountRows, Count, Sum}
-use Rattle.grouping.specs.declared.tally.Tally.{Tally}
 use Rattle.grouping.specs.Fed.{GroupsAt, Holds, HasItems, AreTallied, HasFed, Feeds}
 use Rattle.grouping.specs.Found.{found_in, found_then, first_found}
 use Rattle.grouping.specs.inside.Counting.{CanCount, IsIntegers}
-use Rattle.grouping.specs.inside.Adding.{CanCountAll, IsGrown, IsKept, IsAdded}
+use Rattle.grouping.specs.inside.Adding.{CanCountAll, IsGrown, IsAdded}
 use Rattle.grouping.specs.inside.Placing.{ArePlaced}
 use Rattle.grouping.proofs.Finding.{found_more}
 use Rattle.grouping.proofs.Sharing.{fed_tallies}
@@ -58,7 +57,8 @@ can_count keys types columns (Sum column) are has =
     let parts = and_parts (nat_lt column (length types)) (can_sum (type_at types column)) has in
     (omega (arith, ltb-true _ _ parts.0, as_many types columns are), λ found is. integers_at types columns column found are parts.1 is)
 
-has_each : {X : Type 0} (p : X → Bool) (xs : List X) (k : ℕ) (d : X) → k < length xs → list_all p xs ≡ true → p (get_or xs k d) ≡ true
+-- what is true of each
+pub has_each : {X : Type 0} (p : X → Bool) (xs : List X) (k : ℕ) (d : X) → k < length xs → list_all p xs ≡ true → p (get_or xs k d) ≡ true
 has_each p [] k d low all = absurd (omega arith)
 has_each p (x ∷ xs) zero d low all = (and_parts (p x) (list_all p xs) all).0
 has_each p (x ∷ xs) (suc k) d low all = has_each p xs k d (omega arith) (and_parts (p x) (list_all p xs) all).1
@@ -67,7 +67,7 @@ pub can_count_all : (types : List DataType) (keys : List ℕ) (items : List Aggr
     HasItems types keys items → AreOf types columns → CanCountAll items columns
 can_count_all types keys items columns has are = record {
   each = λ item low. can_count (length keys) types columns (get_or items item (Key 0)) are
-    (has_each (has_item (length keys) types) items item (Key 0) low has.typed);
+      (has_each (has_item (length keys) types) items item (Key 0) low has.typed);
 }
 
 pub keys_there : (types : List DataType) (keys : List ℕ) (columns : List ColumnAt) → AreOf types columns →
@@ -84,20 +84,20 @@ fed_holds before after columns rows earlier keys items count many grown held =
     let more = map (row_of columns) rows in
     record {
       found = grown.found_is ∙ ap (λ found. found_then before.keys found more) held.found
-        ∙ sym (found_more before.keys (first_found before.keys) earlier more)
-        ∙ ap (λ keys. found_in keys (earlier ++ more)) (sym keys);
+          ∙ sym (found_more before.keys (first_found before.keys) earlier more)
+          ∙ ap (λ keys. found_in keys (earlier ++ more)) (sym keys);
       count = omega (arith, count, held.count, length-append earlier more, length-map rows (row_of columns));
       many = many ∙ ap length (sym items);
       tallied = λ item low.
-        let below : item < length before.items = omega (arith, ap length items) in
-        let placed = subst (λ found. ArePlaced before.keys columns found rows grown.groups (length rows)) grown.found_is grown.placed in
-        let added = subst (λ found. IsAdded (get_or before.items item (Key 0)) columns rows grown.groups (length found) (get_or before.tallies item []) (get_or after.tallies item [])) grown.found_is
+          let below : item < length before.items = omega (arith, ap length items) in
+          let placed = subst (λ found. ArePlaced before.keys columns found rows grown.groups (length rows)) grown.found_is grown.placed in
+          let added = subst (λ found. IsAdded (get_or before.items item (Key 0)) columns rows grown.groups (length found) (get_or before.tallies item []) (get_or after.tallies item [])) grown.found_is
           (grown.added.added item below) in
-        let done = fed_tallies before.keys columns rows grown.groups earlier (get_or before.items item (Key 0)) (get_or before.tallies item []) (get_or after.tallies item [])
+          let done = fed_tallies before.keys columns rows grown.groups earlier (get_or before.items item (Key 0)) (get_or before.tallies item []) (get_or after.tallies item [])
           before.found held.found placed added (held.tallied item below) in
-        subst (λ found. AreTallied after.keys found (earlier ++ more) (get_or after.items item (Key 0)) (get_or after.tallies item [])) (sym grown.found_is)
-        (subst (λ keys. AreTallied keys (found_then before.keys before.found more) (earlier ++ more) (get_or after.items item (Key 0)) (get_or after.tallies item [])) (sym keys)
-        (subst (λ items. AreTallied before.keys (found_then before.keys before.found more) (earlier ++ more) (get_or items item (Key 0)) (get_or after.tallies item [])) (sym items) done));
+          subst (λ found. AreTallied after.keys found (earlier ++ more) (get_or after.items item (Key 0)) (get_or after.tallies item [])) (sym grown.found_is)
+          (subst (λ keys. AreTallied keys (found_then before.keys before.found more) (earlier ++ more) (get_or after.items item (Key 0)) (get_or after.tallies item [])) (sym keys)
+          (subst (λ items. AreTallied before.keys (found_then before.keys before.found more) (earlier ++ more) (get_or items item (Key 0)) (get_or after.tallies item [])) (sym items) done));
     }
 
 -- what was not refused and has fed the rows feeds them

@@ -1,11 +1,11 @@
 -- Groups of rows, as the rows go by.
-use Rattle.std.proofs.Common.{◌≡◌, ◌≤◌, ◌<◌, ℕ, zero, suc, ◌+◌, Bool, true, false, cond, not, ◌||◌, if◌then◌else◌, List, [], ◌∷◌, ◌++◌, length, map, get_or, take, refl, sym, ap, ◌∙◌, subst, arith, All, add-one, below_more}
+use Rattle.std.proofs.Common.{◌≡◌, ◌≤◌, ◌<◌, ℕ, ◌+◌, Bool, true, false, cond, not, ◌||◌, List, [], ◌∷◌, ◌++◌, length, map, get_or, take, refl, sym, ap, ◌∙◌, subst, arith, All, below_more}
 use Rattle.std.specs.Prelude.{nat_eq}
 use Rattle.std.proofs.lemmas.List.{map-append, length-append, map_more, get_or_push, get_or_append_left}
 use Rattle.std.proofs.lemmas.List.Folds.{position_or_len_push}
 use Rattle.std.proofs.lemmas.List.Elements.{All-push}
 use borrow.Author.Tests.{eq-eqb, ne_eqb}
-use Rattle.std.specs.List.{list_any, position_or_len, fold}
+use Rattle.std.specs.List.{list_any, position_or_len}
 use Rattle.indexmap.specs.IndexSet.{insert_key}
 use Rattle.scan_base.specs.declared.value.Value.{Value}
 use Rattle.arrow_schema.specs.declared.data_type.DataType.{DataType}
@@ -118,16 +118,16 @@ more_placed keys columns found rows groups count key is so =
     let last : get_or new count 0 ≡ place_in found key = get_or_push groups (place_in found key) 0 count so.long in
     let inserted = place_inserted found key in
     let early : (k : ℕ) → k < count → get_or new k 0 ≡ get_or groups k 0 =
-      λ k low. get_or_append_left groups (place_in found key ∷ []) 0 k (omega (arith, so.long)) in
+    λ k low. get_or_append_left groups (place_in found key ∷ []) 0 k (omega (arith, so.long)) in
     record {
       long = length-append groups (place_in found key ∷ []) ∙ ap (λ n. n + 1) so.long;
       each = below_more (λ k. get_or new k 0 ≡ place_in after (key_in keys (row_of columns (get_or rows k 0)))) count
-        (λ k low. early k low ∙ so.each k low
+          (λ k low. early k low ∙ so.each k low
           ∙ sym (place_stays found (key_in keys (row_of columns (get_or rows k 0))) key (omega (arith, so.each k low, so.there k low))))
-        (last ∙ sym inserted.0 ∙ ap (place_in after) is);
+          (last ∙ sym inserted.0 ∙ ap (place_in after) is);
       there = below_more (λ k. get_or new k 0 < length after) count
-        (λ k low. omega (arith, early k low, so.there k low, more_there found key))
-        (omega (arith, last, inserted.1));
+          (λ k low. omega (arith, early k low, so.there k low, more_there found key))
+          (omega (arith, last, inserted.1));
     }
 
 -- one row more
@@ -140,16 +140,16 @@ step keys columns rows before count firsts groups first so more same_keys same_c
     let row = row_of columns (get_or rows count 0) in
     let is : key_of first ≡ key_in keys row = rw (same_keys, same_columns, same_row) refl in
     let grown : map (row_of columns) (take (count + 1) rows) ≡ map (row_of columns) (take count rows) ++ row ∷ [] =
-      map_more (row_of columns) rows count 0 more in
+    map_more (row_of columns) rows count 0 more in
     record {
       found = insert_map first firsts ∙ ap (insert_key same_key (map key_of firsts)) is
-        ∙ ap (λ found. insert_key same_key found (key_in keys row)) so.found
-        ∙ sym (ap (found_then keys (map key_of before)) grown
-        ∙ found_more keys (map key_of before) (map (row_of columns) (take count rows)) (row ∷ []));
+          ∙ ap (λ found. insert_key same_key found (key_in keys row)) so.found
+          ∙ sym (ap (found_then keys (map key_of before)) grown
+          ∙ found_more keys (map key_of before) (map (row_of columns) (take count rows)) (row ∷ []));
       placed = subst (λ found. ArePlaced keys columns found rows (groups ++ place_in (map key_of firsts) (key_of first) ∷ []) (count + 1))
-        (sym (insert_map first firsts)) (more_placed keys columns (map key_of firsts) rows groups count (key_of first) is so.placed);
+          (sym (insert_map first firsts)) (more_placed keys columns (map key_of firsts) rows groups count (key_of first) is so.placed);
       kept = λ types typed all. all_inserted (IsFirst types keys) firsts first (so.kept types typed all)
-        (record { typed = subst (AreOf types) (sym same_columns) typed; keyed = same_keys });
+          (record { typed = subst (AreOf types) (sym same_columns) typed; keyed = same_keys });
     }
 
 -- without columns the one key stays

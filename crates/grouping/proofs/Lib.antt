@@ -7,3 +7,6 @@ pub mod AddingAll
 pub mod Feeding
 pub mod Blank
 pub mod Answering
+pub mod Held
+pub mod Batching
+pub mod Finishing

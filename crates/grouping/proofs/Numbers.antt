@@ -1,6 +1,6 @@
 -- Numbers of at most 64 bits.
-use Rattle.std.proofs.Common.{◌≡◌, ◌≤ℤ◌, ◌<ℤ◌, ℕ, ◌<◌, ◌+◌, ◌^◌, ℤ, pos, negsuc, List, length, map, get_or, refl, subst, ◌∙◌, sym, arith, FitsSigned, All}
-use Rattle.std.specs.Int.{w8, w16, w32, w64, FitsUnsigned}
+use Rattle.std.proofs.Common.{◌≡◌, ℕ, ◌<◌, ℤ, length, get_or, subst, arith, FitsSigned}
+use Rattle.std.specs.Int.{w64}
 use Rattle.std.proofs.lemmas.Int.{ints}
 use Rattle.std.proofs.lemmas.List.{length-map}
 use Rattle.std.proofs.lemmas.List.FromFn.{get_or-map-range_with_len, length-range_with_len}
@@ -12,7 +12,7 @@ use Rattle.arrow_schema.specs.declared.data_type.DataType.TheVariants.{Integer}
 use Rattle.scan_base.specs.declared.value.Value.{Value}
 use Rattle.scan_base.specs.declared.value.Value.TheVariants.{Null, Int, Text, Bool as Flag}
 use Rattle.arrays.specs.Column.{ColumnAt, IsColumn, slot_of, values_of}
-use Rattle.arrays.specs.Typed.{IsOfType, IsInteger, IsValueOf, ValuesAreOfTheirType}
+use Rattle.arrays.specs.Typed.{IsInteger, IsValueOf, ValuesAreOfTheirType}
 use Rattle.grouping.specs.inside.Counting.{IsIntegers, IsShort}
 
 signed : (z : ℤ) → FitsSigned w64 z → IsShort z
@@ -46,8 +46,8 @@ pub slot_short : ValuesAreOfTheirType → (column : ColumnAt) → IsColumn colum
 slot_short law column is integers j there =
     let all = law (Integer integers.0) column is integers.1 in
     let at : get_or (values_of column) j Null ≡ slot_of column j =
-      get_or-map-range_with_len (slot_of column) 0 column.len j j Null there (omega arith) in
+    get_or-map-range_with_len (slot_of column) 0 column.len j j Null there (omega arith) in
     let within : j < length (values_of column) =
-      omega (arith, there, length-map (range_with_len 0 column.len) (slot_of column), length-range_with_len 0 column.len) in
+    omega (arith, there, length-map (range_with_len 0 column.len) (slot_of column), length-range_with_len 0 column.len) in
     subst IsShortOrNull at (of_value integers.0 (get_or (values_of column) j Null)
-      (All-get_or (IsValueOf (Integer integers.0)) (values_of column) j Null within all))
+    (All-get_or (IsValueOf (Integer integers.0)) (values_of column) j Null within all))

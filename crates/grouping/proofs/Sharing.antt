@@ -1,12 +1,12 @@
 -- The rows of each group, and their tallies.
-use Rattle.std.proofs.Common.{◌≡◌, ◌≢◌, ◌≤◌, ◌<◌, ℕ, zero, suc, ◌+◌, Bool, true, false, cond, List, [], ◌∷◌, ◌++◌, length, map, get_or, take, slice_set, refl, sym, ap, ◌∙◌, subst, arith, All, add-one, get_or-set_other, get_or-set_same, inl, inr, ◌⊎◌, add_assoc}
+use Rattle.std.proofs.Common.{◌≡◌, ◌≢◌, ◌≤◌, ◌<◌, ℕ, zero, suc, Bool, true, false, cond, List, [], ◌∷◌, ◌++◌, length, map, get_or, take, slice_set, refl, sym, ap, ◌∙◌, subst, arith, All, add-one, get_or-set_other, get_or-set_same}
 use Rattle.std.specs.Prelude.{◌==◌, nat_eq, nat_lt}
 use Rattle.std.specs.List.{fold, filter}
 use Rattle.std.proofs.Math.ListN.{length-set, get_or-eq_default}
-use Rattle.std.proofs.lemmas.List.{map_more, append-nil, take_all}
+use Rattle.std.proofs.lemmas.List.{map_more, take_all}
 use Rattle.std.proofs.lemmas.List.Elements.{filter-append, All-nil, All-cons}
 use Rattle.std.proofs.lemmas.List.Sums.{fold-append}
-use borrow.Author.Tests.{eq-eqb, ne_eqb, eqb-true, eqb-false, ltb-true, ltb-false}
+use borrow.Author.Tests.{ne_eqb, eqb-true, eqb-false, ltb-true, ltb-false}
 use Rattle.indexmap.specs.IndexSet.{insert_key}
 use Rattle.scan_base.specs.declared.value.Value.{Value}
 use Rattle.arrays.specs.Batch.{row_of}
@@ -45,17 +45,17 @@ stepped_share keys columns found rows groups item tallies (suc count) placed lon
     let before = stepped item columns groups rows tallies count in
     let group = get_or groups count 0 in
     let again : get_or before g no_rows ≡ fold (added item) (get_or tallies g no_rows) (share keys found (map (row_of columns) (take count rows)) g) =
-      stepped_share keys columns found rows groups item tallies count placed long (omega arith) g in
+    stepped_share keys columns found rows groups item tallies count placed long (omega arith) g in
     let here : group ≡ place_in found (key_in keys row) = placed.each count (omega arith) in
     let there : group < length before = omega (arith, placed.there count (omega arith), stepped_long item columns groups rows tallies count) in
     let grown : map (row_of columns) (take (suc count) rows) ≡ map (row_of columns) (take count rows) ++ row ∷ [] =
-      ap (λ n. map (row_of columns) (take n rows)) (sym (add-one count)) ∙ map_more (row_of columns) rows count 0 (omega arith) in
+    ap (λ n. map (row_of columns) (take n rows)) (sym (add-one count)) ∙ map_more (row_of columns) rows count 0 (omega arith) in
     let all : fold (added item) (get_or tallies g no_rows) (share keys found (map (row_of columns) (take (suc count) rows)) g)
-        ≡ fold (added item) (get_or before g no_rows) (share keys found (row ∷ []) g) =
-      ap (λ rows. fold (added item) (get_or tallies g no_rows) (share keys found rows g)) grown
-      ∙ ap (fold (added item) (get_or tallies g no_rows)) (share_more keys found (map (row_of columns) (take count rows)) (row ∷ []) g)
-      ∙ fold-append (added item) (get_or tallies g no_rows) (share keys found (map (row_of columns) (take count rows)) g) (share keys found (row ∷ []) g)
-      ∙ ap (λ t. fold (added item) t (share keys found (row ∷ []) g)) (sym again) in
+    ≡ fold (added item) (get_or before g no_rows) (share keys found (row ∷ []) g) =
+    ap (λ rows. fold (added item) (get_or tallies g no_rows) (share keys found rows g)) grown
+    ∙ ap (fold (added item) (get_or tallies g no_rows)) (share_more keys found (map (row_of columns) (take count rows)) (row ∷ []) g)
+    ∙ fold-append (added item) (get_or tallies g no_rows) (share keys found (map (row_of columns) (take count rows)) g) (share keys found (row ∷ []) g)
+    ∙ ap (λ t. fold (added item) t (share keys found (row ∷ []) g)) (sym again) in
     last item found keys row before group g here there ∙ sym all
   where
     last : (item : Aggregate) (found : List (List Value)) (keys : List ℕ) (row : Row) (before : List Tally) (group g : ℕ) →
@@ -113,7 +113,7 @@ filter_none p (x ∷ xs) none =
     ap (λ t. cond t (x ∷ filter p xs) (filter p xs)) first ∙ filter_none p xs (λ k d low. none (suc k) d (omega arith))
 
 -- what is found later changes no share of rows that had their places
-share_kept : (keys : List ℕ) (found : List (List Value)) (more rows : List Row) (group : ℕ) →
+pub share_kept : (keys : List ℕ) (found : List (List Value)) (more rows : List Row) (group : ℕ) →
     All (λ row. place_in found (key_in keys row) < length found) rows →
     share keys (found_then keys found more) rows group ≡ share keys found rows group
 share_kept keys found more rows group all =
@@ -121,7 +121,7 @@ share_kept keys found more rows group all =
     (λ k d low. ap (λ place. place == group) (place_kept keys found more (key_in keys (get_or rows k d)) (all k d low)))
 
 -- a group that opens later has none of the rows before
-share_none : (keys : List ℕ) (found : List (List Value)) (rows : List Row) (group : ℕ) → length found ≤ group →
+pub share_none : (keys : List ℕ) (found : List (List Value)) (rows : List Row) (group : ℕ) → length found ≤ group →
     All (λ row. place_in found (key_in keys row) < length found) rows → share keys found rows group ≡ []
 share_none keys found rows group high all =
     filter_none (λ row. place_in found (key_in keys row) == group) rows
@@ -150,16 +150,16 @@ fed_tallies keys columns rows groups earlier item before after found is placed i
     let more = map (row_of columns) rows in
     let now = found_then keys found more in
     let places : All (λ row. place_in found (key_in keys row) < length found) earlier =
-      subst (λ f. All (λ row. place_in f (key_in keys row) < length f) earlier) (sym is) (all_found keys (first_found keys) earlier) in
+    subst (λ f. All (λ row. place_in f (key_in keys row) < length f) earlier) (sym is) (all_found keys (first_found keys) earlier) in
     let old : (group : ℕ) → get_or before group no_rows ≡ tally_of item (share keys now earlier group) =
-      λ group. old_tally keys found more earlier item before tallied places group in
+    λ group. old_tally keys found more earlier item before tallied places group in
     record {
       long = ap length is_added.stepped ∙ stepped_long item columns groups rows is_added.padded (length rows) ∙ is_added.long;
       each = λ group low.
-        ap (λ ts. get_or ts group no_rows) is_added.stepped
-        ∙ stepped_share keys columns now rows groups item is_added.padded (length rows) placed is_added.long (omega arith) group
-        ∙ ap (λ rs. fold (added item) (get_or is_added.padded group no_rows) (share keys now (map (row_of columns) rs) group)) (take_all (length rows) rows (omega arith))
-        ∙ ap (λ t. fold (added item) t (share keys now more group)) (is_added.same group low ∙ old group)
-        ∙ sym (ap (tally_of item) (share_more keys now earlier more group)
-        ∙ fold-append (added item) no_rows (share keys now earlier group) (share keys now more group));
+          ap (λ ts. get_or ts group no_rows) is_added.stepped
+          ∙ stepped_share keys columns now rows groups item is_added.padded (length rows) placed is_added.long (omega arith) group
+          ∙ ap (λ rs. fold (added item) (get_or is_added.padded group no_rows) (share keys now (map (row_of columns) rs) group)) (take_all (length rows) rows (omega arith))
+          ∙ ap (λ t. fold (added item) t (share keys now more group)) (is_added.same group low ∙ old group)
+          ∙ sym (ap (tally_of item) (share_more keys now earlier more group)
+          ∙ fold-append (added item) no_rows (share keys now earlier group) (share keys now more group));
     }

@@ -1,5 +1,5 @@
 -- Tallies as the rows go by.
-use Rattle.std.proofs.Common.{◌≡◌, ◌≢◌, ◌≤◌, ◌<◌, ℕ, zero, suc, ◌+◌, Bool, true, false, add-one, add_assoc, inl, inr, List, length, get_or, slice_set, refl, sym, ap, ◌∙◌, arith, get_or-set_other, get_or-set_same, subst, ◌⊎◌}
+use Rattle.std.proofs.Common.{◌≡◌, ◌≢◌, ◌<◌, ℕ, ◌+◌, Bool, true, false, add-one, add_assoc, inl, inr, List, length, get_or, slice_set, refl, ap, ◌∙◌, arith, get_or-set_other, get_or-set_same, subst, ◌⊎◌}
 use Rattle.std.proofs.Math.ListN.{length-set}
 use Rattle.std.specs.Prelude.{nat_eq}
 use borrow.Author.Tests.{eqb-true, eqb-false}

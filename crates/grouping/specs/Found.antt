@@ -1,5 +1,5 @@
 -- Keys of rows by first appearance, and the rows that belong to each.
-use Rattle.std.specs.Prelude.{◌≡◌, ◌<◌, ℕ, ◌==◌, List, [], ◌∷◌, length, map, get_or}
+use Rattle.std.specs.Prelude.{ℕ, ◌==◌, List, [], ◌∷◌, map}
 use Rattle.std.specs.List.{filter, fold, position_or_len}
 use Rattle.indexmap.specs.IndexSet.{insert_key}
 use Rattle.scan_base.specs.declared.value.Value.{Value}

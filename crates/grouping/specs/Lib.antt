@@ -1,3 +1,4 @@
+pub mod Answered
 pub mod Fed
 pub mod Found
 pub mod Keys

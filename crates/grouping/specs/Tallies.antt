@@ -1,14 +1,9 @@
 -- Tallies: what is kept of a group's rows for one item.
-use Rattle.std.specs.Prelude.{◌≤◌, ◌<◌, ◌≤ℤ◌, ℕ, zero, suc, ◌+◌, ◌*◌, ◌^◌, ◌==◌, if◌then◌else◌, ℤ, pos, neg_ℤ, List, length, get_or}
+use Rattle.std.specs.Prelude.{◌+◌, ◌==◌, if◌then◌else◌, pos, List}
 use Rattle.std.specs.List.{fold}
-use Rattle.arrow_schema.specs.declared.data_type.IntegerType.{IntegerType}
-use Rattle.arrow_schema.specs.declared.data_type.DataType.TheVariants.{Integer}
 use Rattle.scan_base.specs.declared.value.Value.{Value}
 use Rattle.scan_base.specs.declared.value.Value.TheVariants.{Null, Int}
 use Rattle.scan_base.specs.Predicate.{cell_in}
-use Rattle.arrays.specs.declared.layout.Layout.{Layout}
-use Rattle.arrays.specs.Column.{ColumnAt}
-use Rattle.arrays.specs.Typed.{IsOfType}
 use Rattle.table_versions.specs.Table.{Row}
 use Rattle.typed_plan.specs.declared.plan.Aggregate.{Aggregate}
 use Rattle.typed_plan.specs.declared.plan.Aggregate.TheVariants.{Key, CountRows, Count, Sum}

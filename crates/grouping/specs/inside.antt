@@ -2,5 +2,6 @@
 pub mod Adding
 pub mod Answering
 pub mod Counting
+pub mod Finishing
 pub mod Kept
 pub mod Placing

@@ -6,6 +6,7 @@ ghost use Rattle.arrays.specs.Batch.{row_of};
 ghost use Rattle.arrays.specs.Typed.{AreOf};
 ghost use Rattle.grouping.specs.Fed.{HasItems, IsNew, Feeds, Finishes};
 
+use crate::batches::Answer;
 use crate::kept::{Kept, add, blank, found_count};
 use crate::table::Chosen;
 use arrays::{Batch, Selection};
@@ -45,7 +46,14 @@ impl<'t> Model for Groups<'t> {
     ghost Value = { GroupsAt };
 
     ghost view = { λ g. record {
-      types = g.shape.types.items; keys = g.shape.keys.now; items = g.shape.items.items; found = found_by g.shape.keys.now g.kept.firsts.keys; tallies = lists_of g.kept.tallies.items; count = g.kept.count; refused = g.refused } };
+      types = g.shape.types.items;
+      keys = g.shape.keys.now;
+      items = g.shape.items.items;
+      found = found_by g.shape.keys.now g.kept.firsts.keys;
+      tallies = lists_of g.kept.tallies.items;
+      count = g.kept.count;
+      refused = g.refused;
+    } };
 
     ghost invariant = { λ g. IsGroups g.shape.types.items g.shape.keys.now g.shape.items.items g.kept.firsts.keys (lists_of g.kept.tallies.items) g.kept.count g.refused };
 }
@@ -56,11 +64,7 @@ impl<'t> Groups<'t> {
     /// # Errors
     ///
     /// `AllocError` where memory is refused.
-    pub fn new(
-        alloc: Global,
-        seed: HashSeed,
-        shape: Grouping<'t>,
-    ) -> Result<Groups<'t>, AllocError>
+    pub fn new(alloc: Global, seed: HashSeed, shape: Grouping<'t>) -> Result<Groups<'t>, AllocError>
         requires { HasItems shape.types.items shape.keys.now shape.items.items }
         ensures { IfOk result (IsNew (shape.entry).types.items (shape.entry).keys.now (shape.entry).items.items) }
     {
@@ -122,7 +126,17 @@ impl<'t> Groups<'t> {
         if let Some(fault) = self.refused {
             return Err(fault);
         }
-        let _stub = alloc;
-        Err(Fault::OutOfMemory)
+        let answer = Answer {
+            types: self.shape.types.as_slice(),
+            keys: self.shape.keys,
+            items: self.shape.items.as_slice(),
+            firsts: self.kept.firsts.as_slice(),
+            tallies: self.kept.tallies.as_slice(),
+        };
+        let groups = found_count(self.shape.keys, &self.kept.firsts);
+        match answer.batches(alloc, groups) {
+            Ok(batches) => Ok(batches),
+            Err(_) => Err(Fault::OutOfMemory),
+        }
     }
 }

@@ -2,10 +2,12 @@
 #![tactic(auto)]
 
 mod answer;
+mod batches;
 mod cell;
 pub mod groups;
 mod kept;
 mod key;
+pub mod laws;
 mod part;
 mod table;
 mod tally;

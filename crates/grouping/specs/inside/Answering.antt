@@ -1,6 +1,5 @@
 -- Inside: cells of the answer.
-use Rattle.std.specs.Prelude.{ℕ, ◌==◌, ℤ, pos, if◌then◌else◌, Option, Some, None, List, length, map, get_or, Vec}
-use Rattle.std.specs.List.{range_with_len}
+use Rattle.std.specs.Prelude.{ℕ, ◌==◌, ℤ, pos, if◌then◌else◌, Option, Some, None}
 use Rattle.scan_base.specs.declared.value.Value.{Value}
 use Rattle.scan_base.specs.Predicate.{cell_in}
 use Rattle.arrays.specs.Batch.{row_of}

@@ -1,6 +1,7 @@
 -- Inside: what is true of groups, whatever was fed.
-use Rattle.std.specs.Prelude.{◌≡◌, ◌<◌, ℕ, All, List, [], length, get_or, Option, None}
+use Rattle.std.specs.Prelude.{◌≡◌, ◌<◌, ◌≤◌, ℕ, All, List, length, get_or, Option, None}
 use Rattle.arrow_schema.specs.declared.data_type.DataType.{DataType}
+use Rattle.scan_base.specs.Limits.{most_rows}
 use Rattle.scan_base.specs.declared.fault.Fault.{Fault}
 use Rattle.typed_plan.specs.declared.plan.Aggregate.{Aggregate}
 use Rattle.grouping.specs.declared.key.RowKey.{RowKey}
@@ -14,6 +15,7 @@ use Rattle.grouping.specs.inside.Placing.{found_by, IsFirst}
 pub record IsGroups (types : List DataType) (keys : List ℕ) (items : List Aggregate) (firsts : List RowKey) (tallies : List (List Tally)) (count : ℕ) (refused : Option Fault) : Type 0 where
   pub has : HasItems types keys items
   pub kept : refused ≡ None → IsKept items (length (found_by keys firsts)) count tallies
+  pub few : refused ≡ None → count ≤ most_rows
   pub first : refused ≡ None → All (IsFirst types keys) firsts
 
 -- so many tallies of no rows

@@ -1,4 +1,4 @@
-use Rattle.std.proofs.Common.{◌≡◌, map, take, All, length, get_or}
+use Rattle.std.proofs.Common.{◌≡◌, map, take, All}
 use Rattle.arrays.specs.OfSlots.{slot_value, IsSlotOf}
 use Rattle.typed_plan.specs.Typed.{type_at}
 use Rattle.grouping.specs.inside.Answering.{first_cell}
@@ -7,4 +7,5 @@ use Rattle.grouping.proofs.answer.key_column.Given as goal
 abbrev pub invariant-loop-first : goal.invariant-loop-first
 invariant-loop-first l = record {
   values : map slot_value l.slots.items ≡ map (first_cell l.column) (take l.first-index l.firsts);
-  there : All (IsSlotOf (type_at l.types l.column)) l.slots.items }
+  there : All (IsSlotOf (type_at l.types l.column)) l.slots.items;
+}

@@ -1,4 +1,4 @@
-use Rattle.std.proofs.Common.{◌≡◌, ◌∙◌, ap, map, arith}
+use Rattle.std.proofs.Common.{◌∙◌, ap, map, arith}
 use Rattle.scan_base.specs.declared.value.Value.TheVariants.{Int}
 use Rattle.arrays.specs.Built.{value_or_null}
 use Rattle.grouping.proofs.Answering.{if_ok, sums_of}

@@ -1,4 +1,4 @@
-use Rattle.std.proofs.Common.{◌≡◌, ◌≤◌, length, map, ap, sym, arith}
+use Rattle.std.proofs.Common.{length, map, ap, arith}
 use Rattle.arrays.specs.Batch.{row_of}
 use Rattle.grouping.specs.inside.Placing.{found_by}
 use Rattle.grouping.proofs.Sharing.{found_grows}

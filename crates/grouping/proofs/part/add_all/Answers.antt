@@ -1,8 +1,8 @@
-use Rattle.std.proofs.Common.{◌≡◌, ◌<◌, [], length, get_or, sym, ap, ◌∙◌, arith, subst, Vec}
+use Rattle.std.proofs.Common.{◌≡◌, ◌<◌, [], length, arith, Vec}
 use Rattle.std.specs.Global.{Global}
 use Rattle.std.proofs.lemmas.List.{map-set, get_or-map, length-map}
 use Rattle.grouping.specs.declared.tally.Tally.{Tally}
-use Rattle.grouping.specs.inside.Adding.{IsAdded, lists_of}
+use Rattle.grouping.specs.inside.Adding.{lists_of}
 use Rattle.grouping.proofs.AddingAll.{step, kept_after}
 use Rattle.grouping.proofs.part.add_all.Goals as goal
 
@@ -21,6 +21,6 @@ loop-item-preserved c =
 pub returns-clause-kept : goal.returns-clause-kept
 returns-clause-kept c =
     let long : length (lists_of c.loop-item.tallies) ≡ length c.args.items.now =
-      omega (arith, c.requires.kept.2.many, length-map c.loop-item.tallies (λ (list : Vec Tally Global). list.items), length-map c.args.tallies.now (λ (list : Vec Tally Global). list.items)) in
+    omega (arith, c.requires.kept.2.many, length-map c.loop-item.tallies (λ (list : Vec Tally Global). list.items), length-map c.args.tallies.now (λ (list : Vec Tally Global). list.items)) in
     let all : c.loop-item.item ≡ length c.args.items.now = omega arith in
     kept_after _ _ _ _ _ _ _ _ (rw all at c.loop-item.invariant) long

@@ -1,5 +1,3 @@
-use Rattle.std.proofs.Common.{◌≡◌, ◌+◌, length}
-use Rattle.grouping.specs.inside.Counting.{AreWithin, stepped}
 use Rattle.grouping.proofs.Stepping.{IsStepped}
 use Rattle.grouping.proofs.part.add_rows.Given as goal
 

@@ -1,4 +1,4 @@
-use Rattle.std.proofs.Common.{◌≡◌, sym, ◌∙◌}
+use Rattle.std.proofs.Common.{sym, ◌∙◌}
 use Rattle.typed_plan.specs.Grouped.{same_key}
 use Rattle.grouping.specs.RowKeys.{key_of}
 use Rattle.grouping.proofs.Finding.{position_map}

@@ -1,4 +1,4 @@
-use Rattle.std.proofs.Common.{◌≡◌, refl, rules, arith}
+use Rattle.std.proofs.Common.{refl, arith}
 use Rattle.grouping.proofs.Finding.{step}
 use Rattle.grouping.proofs.table.groups_of.Goals as goal
 

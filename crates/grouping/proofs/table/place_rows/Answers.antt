@@ -1,4 +1,4 @@
-use Rattle.std.proofs.Common.{◌≡◌, map, sym, ◌∙◌}
+use Rattle.std.proofs.Common.{map, sym}
 use Rattle.arrays.specs.Batch.{row_of}
 use Rattle.grouping.proofs.Finding.{found_alone}
 use Rattle.grouping.proofs.table.place_rows.Goals as goal

@@ -1,8 +1,6 @@
-use Rattle.std.proofs.Common.{◌≡◌, ℕ, ◌+◌, List, length, map, None, refl, sym, ap, ◌∙◌, subst, IsTrue, All}
-use Rattle.arrays.specs.Batch.{row_of}
+use Rattle.std.proofs.Common.{ℕ, ◌+◌, List, length, refl, sym, ap, ◌∙◌, subst, arith}
 use Rattle.arrays.specs.Typed.{AreOf}
-use Rattle.grouping.specs.Fed.{GroupsAt, Feeds, HasFed, Holds}
-use Rattle.grouping.specs.inside.Adding.{CanCountAll, IsKept, IsGrown}
+use Rattle.grouping.specs.Fed.{GroupsAt}
 use Rattle.grouping.proofs.Feeding.{can_count_all, keys_there, feeds_all}
 use Rattle.grouping.proofs.groups.Groups.feed.Goals as goal
 
@@ -25,6 +23,7 @@ invariant_of-self c =
     record {
       has = c.self.invariant.has;
       kept = λ none. rw c.as_slice.ensures.value at c.in-Ok.ensures.kept;
+      few = λ none. omega (arith, c.in-Ok.ensures.count, c.requires.few, ap (λ (g : GroupsAt). g.count) c.self.view_is, ap (λ (rows : List ℕ). length rows) c.places.ensures.value);
       first = λ none. c.in-Ok.ensures.firsts shape.types.items typed (c.self.invariant.first none);
     }
 

@@ -14,7 +14,8 @@ invariant_of-result c =
     record {
       has = c.requires;
       kept = λ _. subst (λ groups. IsKept shape.items.items groups 0 (lists_of c.in_ok-tallies.tallies.items)) c.found_count-groups.ensures
-        (kept_blank shape.items.items c.in_ok-tallies.tallies.items c.found_count-groups.result many c.in_ok-tallies.ensures.blank);
+          (kept_blank shape.items.items c.in_ok-tallies.tallies.items c.found_count-groups.result many c.in_ok-tallies.ensures.blank);
+      few = λ _. omega arith;
       first = λ _. subst (λ (firsts : List RowKey). All (IsFirst shape.types.items shape.keys.now) firsts) (sym none) (All-nil (IsFirst shape.types.items shape.keys.now));
     }
 
@@ -30,5 +31,5 @@ returns c =
       refused = refl;
       count = refl;
       held = holds_none _ c.in_ok-tallies.tallies.items c.found_count-groups.result
-        (ap (found_by shape.keys.now) none ∙ found_first shape.keys.now) c.found_count-groups.ensures refl refl many c.in_ok-tallies.ensures.blank;
+          (ap (found_by shape.keys.now) none ∙ found_first shape.keys.now) c.found_count-groups.ensures refl refl many c.in_ok-tallies.ensures.blank;
     }

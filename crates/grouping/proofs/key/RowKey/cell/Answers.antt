@@ -1,4 +1,4 @@
-use Rattle.std.proofs.Common.{◌≡◌, ◌<◌, length, get_or, sym, ap, ◌∙◌}
+use Rattle.std.proofs.Common.{length, sym, ap, ◌∙◌}
 use Rattle.arrays.specs.Column.{slot_of}
 use Rattle.grouping.proofs.KeyCells.{key_slot, key_there}
 use Rattle.grouping.proofs.key.RowKey.cell.Goals as goal

@@ -1,4 +1,4 @@
-use Rattle.std.proofs.Common.{◌≡◌, ◌≢◌, ◌<◌, ℕ, length, get_or, false, true, map, sym, ap, ◌∙◌, arith, below_more}
+use Rattle.std.proofs.Common.{◌≡◌, ◌≢◌, length, get_or, false, true, sym, arith, below_more}
 use Rattle.std.proofs.lemmas.List.{length-map}
 use Rattle.scan_base.specs.Predicate.{cell_in}
 use Rattle.scan_base.specs.declared.value.Value.TheVariants.{Null}
