@@ -32,7 +32,7 @@ use Rattle.scan_exec.proofs.PlanGives.{given_rows}
 use Rattle.scan_exec.proofs.ScanGiven.{scan_given}
 
 -- the type of an answer of a column
-type_answered : (types : List DataType) (number : ℕ) → answer_type (type_at types number) ≡ type_at (map answer_type types) number
+pub type_answered : (types : List DataType) (number : ℕ) → answer_type (type_at types number) ≡ type_at (map answer_type types) number
 type_answered types number = of (slice_get types number) ∙ sym (ap (λ (t : Option DataType). unwrap_or t Utf8) (slice_get-map answer_type types number))
   where
     of : (t : Option DataType) → answer_type (unwrap_or t Utf8) ≡ unwrap_or (option_map answer_type t) Utf8
@@ -72,7 +72,7 @@ items_alike keys (item ∷ items) some others e = rw (one item, items_alike keys
     one (Sum column) = refl
 
 -- all rows of a range, without the numbers of their batches
-plain_given : (bound : BoundAt) (from to : ℕ) →
+pub plain_given : (bound : BoundAt) (from to : ℕ) →
     map (λ (row : ℕ × Row). row.1) (tree_given (plan_of bound).tree bound.tables from to)
     ≡ rows_over (plan_of bound).tree (rows_between from to (flat_map rows_of (first_batches bound.tables)) ∷ further_rows bound)
 plain_given bound from to =

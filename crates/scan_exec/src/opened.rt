@@ -1,7 +1,11 @@
 //! Which batches a scan opens.
 
-ghost use Rattle.std.specs.Prelude.{◌≡◌, ◌<◌, ◌++◌, All, IfOk, OnOk, drop, length, map};
-ghost use Rattle.std.specs.List.{range_with_len};
+ghost use Rattle.std.specs.Prelude.{◌≡◌, ◌<◌, ◌≤◌, ◌++◌, All, IfOk, OnOk, drop, length, map};
+ghost use Rattle.std.specs.List.{flat_map, range_with_len};
+ghost use Rattle.arrays.specs.Batch.{rows_of};
+ghost use Rattle.scan_base.specs.Limits.{most_rows};
+ghost use Rattle.table_versions.specs.Stored.{table_of};
+ghost use Rattle.scan_exec.specs.Given.{first_batches};
 ghost use Rattle.scan_exec.specs.Showing.{IsShort};
 ghost use Rattle.scan_exec.specs.Opened.{batches_in, first_opened, further_batches};
 
@@ -27,6 +31,7 @@ pub(crate) fn listed(
     ensures batches { IfOk result (λ listed. listed.batches.items ≡ further_batches tables.now ++ first_opened from to tables.now) }
     ensures further { IfOk result (λ listed. listed.further ≡ length (further_batches tables.now)) }
     ensures short { IfOk result (λ _. All IsShort tables.now) }
+    ensures few { IfOk result (λ _. length (flat_map rows_of (first_batches tables.now)) ≤ most_rows) }
 {
     let mut batches = further_list(alloc, tables)?;
     let further = batches.len();
@@ -75,6 +80,7 @@ fn push_first(
 ) -> Result<(), AllocError>
     ensures batches { OnOk result (list.new.items ≡ list.old.items ++ map (λ batch. (0, batch)) (batches_in from to table.now.batches)) }
     ensures short { IsShort table.now }
+    ensures few { length (table_of table.now).rows ≤ most_rows }
 {
     batches_are_rows();
     let end = to.min(table.rows());

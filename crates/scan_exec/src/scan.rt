@@ -76,7 +76,7 @@ impl Scan {
         let sourced = build(alloc, plan, tables, Reading { seed, from, to })?;
         Ok(Scan {
             schema,
-            answer: answer_of(alloc, sourced, output)?,
+            answer: answer_of(alloc, sourced, output, seed)?,
             batches: listed.batches,
             further: listed.further,
             given: 0,
