@@ -37,7 +37,7 @@ cell_read columns read row i column all h =
     ∙ cell-map (λ c. slot_of c row) columns (get_or read i 0) column (within_at (length columns) read i all h))
 
 -- all cells in order
-map-cells : (row : Row) → map (cell_in row) (range_with_len 0 (length row)) ≡ row
+pub map-cells : (row : Row) → map (cell_in row) (range_with_len 0 (length row)) ≡ row
 map-cells row = sym (fill_by_all (cell_in row) row (length row) Null refl (λ k h. sym (unwrap_or-slice_get row k Null)))
 
 -- the places of numbers counted from 0

@@ -1,12 +1,14 @@
 -- Inside: what gives rows, before its first one.
-use Rattle.std.specs.Prelude.{◌≡◌, ℕ, All, List, [], ◌∷◌, length, map, drop}
-use Rattle.std.specs.List.{flat_map}
+use Rattle.std.specs.Prelude.{◌≡◌, ◌≤◌, ℕ, ◌+◌, IsTrue, All, List, [], ◌∷◌, ◌++◌, length, map, drop, nat_lt}
+use Rattle.std.specs.List.{filter, flat_map, list_all}
 use Rattle.arrow_schema.specs.Answer.{answer_type}
+use Rattle.scan_base.specs.Limits.{most_rows}
 use Rattle.scan_base.specs.View.{pred_of}
 use Rattle.table_versions.specs.Stored.{TableAt, table_of}
 use Rattle.table_versions.specs.Table.{Row}
-use Rattle.typed_plan.specs.Plan.{Tree}
-use Rattle.typed_plan.specs.Typed.{tree_types}
+use Rattle.typed_plan.specs.declared.plan.JoinKey.{JoinKey}
+use Rattle.typed_plan.specs.Plan.{Tree, fits}
+use Rattle.typed_plan.specs.Typed.{spans, tree_types}
 use Rattle.scan_exec.specs.declared.build.Sourced.{Sourced}
 use Rattle.scan_exec.specs.Given.{rows_over, first_batches, numbered_parts}
 use Rattle.scan_exec.specs.Joined.{source_at, IsSource}
@@ -46,3 +48,26 @@ pub record IsBegun (tree : Tree) (tables : List TableAt) (from to : ℕ) (rows :
   pub wide : All (λ (row : ℕ × Row). length row.1 ≡ length rows.types) rows.ahead
   pub batches : rows.batches ≡ batches_in from to (first_batches tables)
   pub opened : rows.opened ≡ []
+
+-- the joined rows of numbered left rows that fit, in the order of nested loops, each with the number of its left row
+abbrev pub numbered_fits : List JoinKey → List Row → List (ℕ × Row) → List (ℕ × Row)
+numbered_fits on rights lefts =
+    flat_map (λ (left : ℕ × Row). map (λ row. (left.0, row)) (filter (fits on) (map (λ right. left.1 ++ right) rights))) lefts
+
+-- Rows can be joined: no left one was given, each is as wide as there are types, the right ones are few enough to be
+-- counted, and each key has a cell of both sides.
+pub record CanJoin (on : List JoinKey) (left right : RowsAt) : Type 0 where
+  pub left_wide : All (λ (row : ℕ × Row). length row.1 ≡ length left.types) left.ahead
+  pub right_wide : All (λ (row : ℕ × Row). length row.1 ≡ length right.types) right.ahead
+  pub unopened : left.opened ≡ []
+  pub few : length right.ahead ≤ most_rows
+  pub spanned : IsTrue (list_all (spans (length left.types)) on)
+  pub there : IsTrue (list_all (λ (key : JoinKey). nat_lt key.right (length left.types + length right.types)) on)
+
+-- joined rows before the first one: all rows of both sides that fit are to come
+pub record JoinsRows (on : List JoinKey) (left right made : RowsAt) : Type 0 where
+  pub types : made.types ≡ map answer_type (left.types ++ right.types)
+  pub ahead : made.ahead ≡ numbered_fits on (map (λ (row : ℕ × Row). row.1) right.ahead) left.ahead
+  pub wide : All (λ (row : ℕ × Row). length row.1 ≡ length made.types) made.ahead
+  pub batches : made.batches ≡ left.batches
+  pub opened : made.opened ≡ []

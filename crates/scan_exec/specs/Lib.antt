@@ -8,4 +8,9 @@ pub mod Running
 pub mod Sources
 pub mod Joined
 pub mod Begun
+pub mod Giving
+pub mod Answering
 pub mod Shown
+pub mod Showing
+pub mod Collected
+pub mod Grouped

@@ -11,14 +11,17 @@ ghost use Rattle.typed_plan.specs.Typed.{IsTypedTree};
 ghost use Rattle.typed_plan.specs.View.{tree_of};
 ghost use Rattle.scan_exec.specs.Begun.{IsBegun, IsSourced, sourced_at};
 
+use crate::join_source::{join_source, Sides};
+use crate::picker::Picker;
 use crate::rows::{Rows, Source};
-use arrays::Batch;
+use crate::scan_source::scan_source;
+use arrays::{Batch, Selection};
 use arrow_schema::DataType;
 use hash_seed::HashSeed;
 use scan_base::Predicate;
 use std::alloc::{AllocError, Global};
-use std::ops::Range;
 use table_versions::TableVersion;
+use typed_plan::laws::typed_predicates_name_columns;
 use typed_plan::Plan;
 
 // A source, the filters over its rows, and the numbers of its columns that they see and that are given, with their types.
@@ -30,22 +33,49 @@ pub(crate) struct Sourced {
     pub(crate) types: Vec<DataType>,
 }
 
-// What gives the rows of a plan over a range of its first place. The tables are those of its places, in order, and are taken
-// from the end; the further places are read here, and the hashes of their keys begin with the seed.
+// Which rows of the first place are read, `from` up to, not with, `to`, and what the hashes of keys begin with.
+#[derive(Clone, Copy, Drop)]
+pub(crate) struct Reading {
+    pub(crate) seed: HashSeed,
+    pub(crate) from: usize,
+    pub(crate) to: usize,
+}
+
+// What gives the rows of a plan over a range of its first place. The tables are those of its places, in order. The further
+// places are read here.
 pub(crate) fn build(
     alloc: Global,
-    seed: HashSeed,
     plan: Plan,
-    tables: &mut Vec<TableVersion>,
-    range: &Range<usize>,
+    tables: Vec<TableVersion>,
+    reading: Reading,
 ) -> Result<Sourced, AllocError>
     requires typed { IsTypedTree (tree_of plan) }
-    requires schemas { tree_schemas (tree_of plan) ≡ map (λ (table : TableAt). table.schema) tables.old.items }
+    requires schemas { tree_schemas (tree_of plan) ≡ map (λ (table : TableAt). table.schema) tables.items }
     ensures sourced { IfOk result IsSourced }
-    ensures begun { IfOk result (λ made. IsBegun (tree_of plan) tables.old.items range.now.start range.now.end (sourced_at made)) }
+    ensures begun { IfOk result (λ made. IsBegun (tree_of plan) tables.items reading.from reading.to (sourced_at made)) }
 {
-    let _stub = (alloc, seed, plan, tables.len(), range.start);
-    Err(AllocError)
+    typed_predicates_name_columns();
+    let mut tables = tables;
+    match plan {
+        Plan::Scan { columns, .. } => {
+            let table = tables.pop().ok_or(AllocError)?;
+            scan_source(alloc, &columns, table, reading)
+        }
+        Plan::Filter { predicate, input } => {
+            let mut made = build(alloc, Box::into_inner(input), tables, reading)?;
+            made.filters.push(predicate)?;
+            Ok(made)
+        }
+        Plan::Join { left, right, on } => {
+            let table = tables.pop().ok_or(AllocError)?;
+            let left = build(alloc, Box::into_inner(left), tables, reading)?;
+            let (seed, from, to) = (reading.seed, 0, table.rows());
+            let mut last = Vec::new(alloc);
+            last.push(table)?;
+            let right = build(alloc, Box::into_inner(right), last, Reading { seed, from, to })?;
+            join_source(alloc, seed, Sides { left, right }, on.as_slice())
+        }
+    }
 }
 
 impl Sourced {
@@ -54,8 +84,18 @@ impl Sourced {
         requires { IsSourced self }
         ensures { IfOk result (λ rows. rows ≡ sourced_at self) }
     {
-        let _stub = (alloc, self);
-        Err(AllocError)
+        let mut read = Vec::new(alloc);
+        read.extend_from_slice(self.columns.as_slice())?;
+        let picker = Picker {
+            filters: self.filters,
+            read,
+            shown: self.columns,
+        };
+        Ok(Rows {
+            source: self.source,
+            picker,
+            selection: Selection::new(alloc),
+        })
     }
 }
 
@@ -65,6 +105,10 @@ pub(crate) fn collected(alloc: Global, rows: Rows) -> Result<Vec<Batch>, AllocEr
     ensures typed { IfOk result (λ batches. All (λ (batch : BatchAt). AreOf rows.types batch.columns) batches.items) }
     ensures filled { IfOk result (λ batches. All (λ (batch : BatchAt). 0 < batch.rows) batches.items) }
 {
-    let _stub = (alloc, rows);
-    Err(AllocError)
+    let mut rows = rows;
+    let mut batches = Vec::new(alloc);
+    while let Some(piece) = rows.next(alloc)? {
+        batches.push(piece.batch)?;
+    }
+    Ok(batches)
 }

@@ -76,6 +76,18 @@ impl Rows {
     }
 }
 
+impl Rows {
+    // How many batches of the first place were opened.
+    pub(crate) fn opened(&self) -> usize
+        ensures { result ≡ length self.now.opened }
+    {
+        match &self.source {
+            Source::Place(place) => place.cursor.opened,
+            Source::Joined(left, _) => left.opened(),
+        }
+    }
+}
+
 impl Joining {
     // What is picked of the next joined rows, where the left rows are these.
     #[cycle(next)]

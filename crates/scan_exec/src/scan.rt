@@ -1,14 +1,19 @@
 //! Scans.
 
-ghost use Rattle.std.specs.Prelude.{◌≡◌, false, IfOk};
+ghost use Rattle.std.specs.Prelude.{◌≡◌, ◌≤◌, false, IfOk};
 ghost use Rattle.std.specs.List.{list_any};
 ghost use Rattle.table_versions.specs.Stored.{CatalogAt, tables_of};
 ghost use Rattle.table_versions.specs.Table.{is_long_text};
 ghost use Rattle.typed_plan.specs.Held.{HoldsFrom};
 ghost use Rattle.typed_plan.specs.Plan.{plan_rows};
 ghost use Rattle.typed_plan.specs.View.{plan_of};
+ghost use Rattle.scan_base.specs.Limits.{most_answer_rows};
+ghost use Rattle.scan_exec.specs.Answering.{CountsNext, IsGiving, giving_at};
 ghost use Rattle.scan_exec.specs.Scan.{Gives, IsBeginning, left};
 
+use crate::answer::{Answer, answer_of};
+use crate::build::{Reading, build};
+use crate::opened::listed;
 use arrays::Batch;
 use arrow_schema::Schema;
 use hash_seed::HashSeed;
@@ -18,26 +23,32 @@ use std::marker::Model;
 use std::ops::Range;
 use typed_plan::TypedPlan;
 
+// How many rows an answer has at most.
+const MAX_ANSWER_ROWS: usize = 67_108_864;
+
 /// What a plan gives of a range of its first place's rows, still to be given, batch by batch. A contract sees these rows,
 /// each with the batch of the first place of which it comes; which batches are to be opened, and which were; and what
 /// refused the scan.
 #[derive(Drop)]
 pub struct Scan {
-    plan: TypedPlan,
-    opened: Vec<(usize, usize)>,
+    schema: Schema,
+    answer: Answer,
+    // The batches that are to be opened: those of the further places, and then those of the first.
+    batches: Vec<(usize, usize)>,
+    further: usize,
+    given: usize,
     refused: Option<Fault>,
 }
 
 impl Model for Scan {
-    ghost use Rattle.std.specs.Prelude.{[]};
+    ghost use Rattle.scan_exec.specs.Answering.{IsGiving, IsScan, giving_at, scan_at};
     ghost use Rattle.scan_exec.specs.Scan.{ScanAt};
 
     ghost Value = { ScanAt };
 
-    ghost view = { λ s. record {
-      schema = s.plan.schema; types = []; ahead = []; batches = []; opened = s.opened.items; given = 0; refused = s.refused } };
+    ghost view = { λ s. scan_at s.schema (giving_at s.answer) s.batches.items s.further s.given s.refused };
 
-    ghost invariant = { λ s. ⊥ };
+    ghost invariant = { λ s. IsGiving s.answer × IsScan (giving_at s.answer) s.batches.items s.further s.given };
 }
 
 impl Scan {
@@ -59,15 +70,25 @@ impl Scan {
             left scan ≡ plan_rows (plan_of plan) (tables_of catalog) range.start range.end) }
         ensures short { IfOk result (λ scan. list_any (list_any is_long_text) (left scan) ≡ false) }
     {
-        let _stub = (alloc, seed, plan.tables().len(), range.start);
-        Err(AllocError)
+        let (tables, plan, output, schema) = plan.into_parts();
+        let (from, to) = (range.start, range.end);
+        let listed = listed(alloc, tables.as_slice(), from, to)?;
+        let sourced = build(alloc, plan, tables, Reading { seed, from, to })?;
+        Ok(Scan {
+            schema,
+            answer: answer_of(alloc, sourced, output, seed)?,
+            batches: listed.batches,
+            further: listed.further,
+            given: 0,
+            refused: None,
+        })
     }
 
     /// The columns of the result.
     pub fn schema(&self) -> &Schema
         ensures { result.now ≡ self.now.schema }
     {
-        self.plan.schema()
+        &self.schema
     }
 
     /// The next rows, 65,536 or fewer, as a batch. Rows of one place come batch by batch of its table: where they stand
@@ -81,12 +102,14 @@ impl Scan {
     pub fn next(&mut self, alloc: Global) -> Result<Option<Batch>, Fault>
         ensures { Gives self.old result self.new }
     {
-        let _stub = alloc;
-        match self.refused {
-            Some(fault) => Err(fault),
-            None => {
-                self.refused = Some(Fault::OutOfMemory);
-                Err(Fault::OutOfMemory)
+        if let Some(fault) = self.refused {
+            return Err(fault);
+        }
+        match next_counted(alloc, &mut self.answer, &mut self.given) {
+            Ok(found) => Ok(found),
+            Err(fault) => {
+                self.refused = Some(fault);
+                Err(fault)
             }
         }
     }
@@ -95,6 +118,23 @@ impl Scan {
     pub fn opened(&self) -> &[(usize, usize)]
         ensures { result.now ≡ self.now.opened }
     {
-        self.opened.as_slice()
+        &self.batches.as_slice()[..self.further + self.answer.opened()]
     }
+}
+
+// The next batch, where so many rows were given.
+fn next_counted(alloc: Global, answer: &mut Answer, given: &mut usize) -> Result<Option<Batch>, Fault>
+    requires giving { IsGiving answer.old }
+    requires few { given.old ≤ most_answer_rows }
+    ensures giving { IsGiving answer.new }
+    ensures counts { CountsNext (giving_at answer.old) given.old result (giving_at answer.new) given.new }
+{
+    let Some(batch) = answer.next(alloc)? else {
+        return Ok(None);
+    };
+    if batch.rows() > MAX_ANSWER_ROWS - *given {
+        return Err(Fault::ResultTooLarge);
+    }
+    *given += batch.rows();
+    Ok(Some(batch))
 }
