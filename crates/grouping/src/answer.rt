@@ -6,6 +6,7 @@ ghost use Rattle.scan_base.specs.declared.value.Value.TheVariants as value;
 ghost use Rattle.arrow_schema.specs.declared.data_type.DataType.TheVariants as type;
 ghost use Rattle.arrow_schema.specs.declared.data_type.IntegerType.TheVariants as integer;
 ghost use Rattle.arrays.specs.Column.{values_of};
+ghost use Rattle.arrays.specs.OfSlots.{slot_value};
 ghost use Rattle.arrays.specs.Typed.{IsOfType};
 ghost use Rattle.grouping.specs.inside.Answering.{sum_or_none, Fits, has_texts};
 
@@ -36,7 +37,7 @@ pub(crate) fn has_texts(data_type: DataType) -> bool
 pub(crate) fn fitting(slots: &[SlotRef<'_>]) -> Result<usize, AllocError>
     requires there { All (λ slot. slot.place < slot.column.now.len) slots.now }
     requires some { 0 < length slots.now }
-    ensures { IfOk result (λ count. Fits slots.now count) }
+    ensures { IfOk result (Fits (map slot_value slots.now)) }
 {
     let mut count = slots.len();
     while !texts_fit(&slots[..count], MOST_TEXT_BYTES) {
@@ -52,7 +53,7 @@ pub(crate) fn fitting(slots: &[SlotRef<'_>]) -> Result<usize, AllocError>
 fn alone(slots: &[SlotRef<'_>]) -> Result<usize, AllocError>
     requires there { All (λ slot. slot.place < slot.column.now.len) slots.now }
     requires some { 0 < length slots.now }
-    ensures { IfOk result (λ count. Fits slots.now count) }
+    ensures { IfOk result (Fits (map slot_value slots.now)) }
 {
     if texts_fit(&slots[..1], MOST_OFFSET) {
         Ok(1)

@@ -2,9 +2,10 @@
 
 ghost use Rattle.std.specs.Prelude.{◌≡◌, ◌≤◌, IfOk, length, map};
 ghost use Rattle.scan_base.specs.Limits.{most_rows};
-ghost use Rattle.grouping.specs.Answers.{GivesAnswer, IsOver};
+ghost use Rattle.grouping.specs.Answers.{GivesAnswer, IsOver, groups_at};
 ghost use Rattle.grouping.specs.Fed.{HasItems};
 ghost use Rattle.grouping.specs.inside.Adding.{IsKept, lists_of};
+ghost use Rattle.grouping.specs.inside.Finishing.{CanAnswer, groups_in};
 ghost use Rattle.grouping.specs.inside.Placing.{found_by, place_of};
 
 use crate::batches::Answer;
@@ -90,8 +91,9 @@ impl Answers {
         })
     }
 
-    /// The items of the next groups as a batch of one row or more, no more than 65,536, where these are the batches whose
-    /// rows were grouped. `None` where no group is left.
+    /// The items of the next groups as a batch, where these are the batches whose rows were grouped: one row or more, no
+    /// more than 65,536, whose texts have no more than 16 MB in a column where it is more than one. `None` where no group
+    /// is left.
     ///
     /// # Errors
     ///
@@ -101,14 +103,7 @@ impl Answers {
         requires { IsOver batches.now self.old }
         ensures { GivesAnswer batches.now self.old result self.new }
     {
-        let answer = Answer {
-            batches,
-            types: self.types.as_slice(),
-            keys: self.keys.as_slice(),
-            items: self.items.as_slice(),
-            firsts: self.firsts.as_slice(),
-            tallies: self.tallies.as_slice(),
-        };
+        let answer = self.shown(batches);
         let left = answer.groups() - self.given;
         if left == 0 {
             return Ok(None);
@@ -116,6 +111,23 @@ impl Answers {
         let batch = answer.next(alloc, self.given, left.min(MOST_ROWS))?;
         self.given += batch.rows();
         Ok(Some(batch))
+    }
+
+    // The groups that are answered.
+    fn shown<'a>(&'a self, batches: &'a [Batch]) -> Answer<'a>
+        requires { IsOver batches.now self.now }
+        ensures can { CanAnswer result }
+        ensures groups { groups_in result ≡ groups_at batches.now self.now }
+        ensures few { self.now.given ≤ length (groups_in result).found }
+    {
+        Answer {
+            batches,
+            types: self.types.as_slice(),
+            keys: self.keys.as_slice(),
+            items: self.items.as_slice(),
+            firsts: self.firsts.as_slice(),
+            tallies: self.tallies.as_slice(),
+        }
     }
 }
 

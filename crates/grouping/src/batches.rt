@@ -1,11 +1,11 @@
 //! Batches of the answer.
 
-ghost use Rattle.std.specs.Prelude.{◌≡◌, ◌≤◌, ◌<◌, ◌-◌, ◌+◌, All, IfOk, length, map, take, drop};
+ghost use Rattle.std.specs.Prelude.{◌≡◌, ◌≤◌, ◌<◌, ◌-◌, ◌+◌, ℕ, All, IfOk, length, map, take, drop};
 ghost use Rattle.arrays.specs.OfSlots.{slot_value, IsSlotOf};
 ghost use Rattle.typed_plan.specs.Typed.{type_at};
 ghost use Rattle.grouping.specs.Answers.{IsThere};
-ghost use Rattle.grouping.specs.inside.Answering.{first_cell};
-ghost use Rattle.grouping.specs.inside.Finishing.{groups_in, AreShort, CanAnswer, FitsIn, AllFit, IsItemColumn, IsBatchOf, IsNextOf, item_cells};
+ghost use Rattle.grouping.specs.inside.Answering.{AreShort, Fits, first_cell};
+ghost use Rattle.grouping.specs.inside.Finishing.{groups_in, AllFit, CanAnswer, IsItemColumn, IsBatchOf, IsNextOf, item_cells};
 
 use crate::answer::{count_column, fitting, has_texts, sum_column};
 use crate::key::Place;
@@ -76,8 +76,7 @@ impl<'a> Answer<'a> {
         Ok(count)
     }
 
-    // How many of the groups from one on have an item whose texts have room in one batch, of no more than `most`. Only
-    // texts are looked at.
+    // How many of the groups from one on have an item whose texts have room in one batch, of no more than `most`.
     fn how_many_fit_in(
         &self,
         alloc: Global,
@@ -89,16 +88,34 @@ impl<'a> Answer<'a> {
         requires there { item < length self.now.items.now }
         requires some { 0 < most }
         requires within { from + most ≤ length (groups_in self.now).found }
-        ensures { IfOk result (FitsIn (groups_in self.now) item from most) }
+        ensures { IfOk result (Fits (item_cells (groups_in self.now) item from most)) }
     {
-        let Aggregate::Key(place) = self.items[item] else {
-            return Ok(most);
-        };
-        let column = self.keys[place];
-        if !has_texts(self.types[column]) {
-            return Ok(most);
+        match self.items[item] {
+            Aggregate::Key(place) => {
+                let firsts = part(self.firsts, from, from + most);
+                self.how_many_firsts_fit(alloc, self.keys[place], firsts)
+            }
+            Aggregate::CountRows | Aggregate::Count(_) | Aggregate::Sum(_) => Ok(most),
         }
-        let slots = self.slots(alloc, column, part(self.firsts, from, from + most))?;
+    }
+
+    // How many of these first rows have texts in a column that have room in one batch. Only texts are looked at.
+    fn how_many_firsts_fit(
+        &self,
+        alloc: Global,
+        column: usize,
+        firsts: &[Place],
+    ) -> Result<usize, AllocError>
+        requires can { CanAnswer self.now }
+        requires there { column < length self.now.types.now }
+        requires firsts { All (IsThere self.now.batches.now) firsts.now }
+        requires some { 0 < length firsts.now }
+        ensures { IfOk result (Fits (map (first_cell self.now.batches.now column) firsts.now)) }
+    {
+        if !has_texts(self.types[column]) {
+            return Ok(firsts.len());
+        }
+        let slots = self.slots(alloc, column, firsts)?;
         fitting(slots.as_slice())
     }
 
@@ -107,6 +124,7 @@ impl<'a> Answer<'a> {
         requires can { CanAnswer self.now }
         requires ordered { from ≤ to }
         requires within { to ≤ length (groups_in self.now).found }
+        requires short { (item : ℕ) → item < length self.now.items.now → AreShort (item_cells (groups_in self.now) item from (to - from)) }
         ensures { IfOk result (IsBatchOf (groups_in self.now) from (to - from)) }
     {
         let mut columns = Vec::with_capacity(alloc, self.items.len())?;
@@ -128,6 +146,7 @@ impl<'a> Answer<'a> {
         requires there { item < length self.now.items.now }
         requires ordered { from ≤ to }
         requires within { to ≤ length (groups_in self.now).found }
+        requires short { AreShort (item_cells (groups_in self.now) item from (to - from)) }
         ensures { IfOk result (IsItemColumn (groups_in self.now) item from (to - from)) }
     {
         match self.items[item] {

@@ -1,14 +1,12 @@
 -- Inside: cells of the answer.
-use Rattle.std.specs.Prelude.{◌≡◌, ◌≤◌, ◌<◌, ◌^◌, ℕ, ◌==◌, ℤ, pos, if◌then◌else◌, Bool, true, false, List, length, map, take, Option, Some, None}
+use Rattle.std.specs.Prelude.{◌≤◌, ◌<◌, ◌^◌, ℕ, ◌==◌, ℤ, pos, if◌then◌else◌, Bool, true, false, List, length, take, Option, Some, None}
 use Rattle.scan_base.specs.declared.value.Value.{Value}
 use Rattle.scan_base.specs.Predicate.{cell_in}
 use Rattle.arrow_schema.specs.declared.data_type.DataType.{DataType}
 use Rattle.arrow_schema.specs.declared.data_type.DataType.TheVariants.{Utf8, Dictionary}
-use Rattle.arrays.specs.declared.of_slots.SlotRef.{SlotRef}
 use Rattle.arrays.specs.Batch.{BatchAt}
-use Rattle.arrays.specs.OfSlots.{slot_value}
 use Rattle.arrays.specs.Written.{texts_joined}
-use Rattle.grouping.specs.Answers.{row_in}
+use Rattle.grouping.specs.Answers.{most_text_bytes, row_in}
 use Rattle.grouping.specs.declared.key.Place.{Place}
 use Rattle.grouping.specs.declared.tally.Tally.{Tally}
 
@@ -30,17 +28,13 @@ has_texts Utf8 = true
 has_texts (Dictionary encoding) = true
 has_texts _ = false
 
--- as many bytes as the texts of a column of a batch of more than one row have
-abbrev pub most_text_bytes : ℕ
-most_text_bytes = 16777216
-
 -- the texts are so few that offsets name each of their bytes, and of more than one value so few that a message has room
 pub record AreShort (values : List Value) : Type 0 where
   pub named : length (texts_joined values) < 2 ^ 31
   pub light : 1 < length values → length (texts_joined values) ≤ most_text_bytes
 
--- the texts of so many slots, from the first on, are short
-pub record Fits (slots : List SlotRef) (count : ℕ) : Type 0 where
+-- the texts of so many values, from the first on, are short
+pub record Fits (values : List Value) (count : ℕ) : Type 0 where
   pub some : 0 < count
-  pub within : count ≤ length slots
-  pub short : AreShort (map slot_value (take count slots))
+  pub within : count ≤ length values
+  pub short : AreShort (take count values)

@@ -14,7 +14,7 @@ use Rattle.typed_plan.specs.Typed.{item_type}
 use Rattle.grouping.specs.declared.batches.Answer.{Answer}
 use Rattle.grouping.specs.declared.tally.Tally.{Tally}
 use Rattle.grouping.specs.Answered.{cell_at, row_at}
-use Rattle.grouping.specs.Answers.{IsThere, groups_at}
+use Rattle.grouping.specs.Answers.{IsThere, groups_at, most_text_bytes, text_bytes_of}
 use Rattle.grouping.specs.Fed.{AreTyped, GroupsAt, HasItems}
 use Rattle.grouping.specs.inside.Adding.{IsKept, lists_of}
 use Rattle.grouping.specs.inside.Answering.{AreShort}
@@ -57,12 +57,6 @@ pub record CanAnswer (answer : Answer) : Type 0 where
 abbrev pub item_cells : GroupsAt → ℕ → ℕ → ℕ → List Value
 item_cells groups item from many = map (λ group. cell_at groups group item) (range_with_len from many)
 
--- the texts of an item are short of so many groups from one on
-pub record FitsIn (groups : GroupsAt) (item from most count : ℕ) : Type 0 where
-  pub some : 0 < count
-  pub within : count ≤ most
-  pub short : AreShort (item_cells groups item from count)
-
 -- the texts of the first items are short of so many groups from one on
 pub record AllFit (groups : GroupsAt) (from most items count : ℕ) : Type 0 where
   pub some : 0 < count
@@ -80,6 +74,7 @@ pub record IsBatchOf (groups : GroupsAt) (from many : ℕ) (batch : BatchAt) : T
   pub rows : rows_of batch ≡ map (row_at groups) (range_with_len from many)
   pub many_rows : batch.rows ≡ many
   pub typed : AreOf (map answer_type (map (item_type groups.keys groups.types) groups.items)) batch.columns
+  pub light : 1 < many → All (λ (column : ColumnAt). text_bytes_of column ≤ most_text_bytes) batch.columns
 
 -- the batch of groups from one on, one or more
 pub record IsNextOf (groups : GroupsAt) (from most : ℕ) (batch : BatchAt) : Type 0 where
