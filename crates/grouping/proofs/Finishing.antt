@@ -40,6 +40,7 @@ use Rattle.grouping.proofs.Batching.{ranged_any, rows_of_cells}
 use Rattle.grouping.proofs.Feeding.{has_each}
 use Rattle.grouping.proofs.KeyCells.{key_there}
 use Rattle.grouping.proofs.Short.{plain_fit}
+use Rattle.grouping.proofs.Stepping.{one_within}
 
 pub if_ok_three : {T E : Type 0} (P Q R S : T → Type 0) → ((x : T) → P x → Q x → R x → S x) → (r : Result T E) → IfOk r P → IfOk r Q → IfOk r R → IfOk r S
 if_ok_three P Q R S f (Ok x) p q r = f x p q r
@@ -79,10 +80,7 @@ item_tallies answer item list slice can there is =
     record {
       whole = whole;
       long = ap length whole ∙ can.kept.long item there;
-      few = λ k d within.
-          let few = (small.each k within).few in
-          let other : (get_or slice k d).count ≡ (get_or slice k no_rows).count = ap (λ (tally : Tally). tally.count) (get_or_default slice k d no_rows within) in
-          omega (arith, few, other, can.few);
+      few = λ k d within. let few = one_within can.count slice k d small within in omega (arith, few, can.few);
     }
 
 -- so is a part of them

@@ -131,7 +131,7 @@ impl<'t> Groups<'t> {
             self.refused = Some(fault);
             return Err(fault);
         }
-        match join(alloc, self.shape.items.len(), &mut self.kept, &other.kept) {
+        match join(alloc, &self.shape, &mut self.kept, &other.kept) {
             Ok(()) => Ok(()),
             Err(_) => {
                 self.refused = Some(Fault::OutOfMemory);
