@@ -69,7 +69,7 @@ impl<'t> Groups<'t> {
     pub fn new(alloc: Global, seed: HashSeed, shape: Grouping<'t>) -> Result<Groups<'t>, AllocError>
         requires typed { AreTyped shape.types.now shape.batches.now }
         requires has { HasItems shape.types.now shape.keys.now shape.items.now }
-        ensures { IfOk result (IsNew shape.batches.now shape.types.now shape.keys.now shape.items.now) }
+        ensures { IfOk result (IsNew (shape.entry).batches.now (shape.entry).types.now (shape.entry).keys.now (shape.entry).items.now) }
     {
         let firsts = IndexSet::with_hasher(alloc, seed);
         let groups = found_count(shape.keys, &firsts);
@@ -120,8 +120,8 @@ impl<'t> Groups<'t> {
     ///
     /// What refused either; F21 (`Fault::OutOfMemory`) where memory is refused. It is answered from then on.
     pub fn merge(&mut self, alloc: Global, other: Groups<'t>) -> Result<(), Fault>
-        requires alike { IsAlike self.old other.entry }
-        requires few { self.old.count + (other.entry).count ≤ most_rows }
+        requires alike { IsAlike self.old other }
+        requires few { self.old.count + other.count ≤ most_rows }
         ensures { Merges self.old other.entry result self.new }
     {
         if let Some(fault) = self.refused {
