@@ -222,12 +222,12 @@ no_text_sum tally = by (tally.count == 0)
 
 -- whether an item counts or sums
 abbrev pub IsTallied : Aggregate → Type 0
-IsTallied item = ((item ≡ CountRows) ⊎ ((column : ℕ) × (item ≡ Count column))) ⊎ ((column : ℕ) × (item ≡ Sum column))
+IsTallied item = (item ≡ CountRows) ⊎ (((column : ℕ) × (item ≡ Count column)) ⊎ ((column : ℕ) × (item ≡ Sum column)))
 
 no_text_item : (item : Aggregate) → IsTallied item → (key : List Value) (tally : Tally) → text_bytes (item_value key item tally) ≡ []
-no_text_item item (inl (inl is)) key tally = ap (λ (item : Aggregate). text_bytes (item_value key item tally)) is
-no_text_item item (inl (inr (column, is))) key tally = ap (λ (item : Aggregate). text_bytes (item_value key item tally)) is
-no_text_item item (inr (column, is)) key tally = ap (λ (item : Aggregate). text_bytes (item_value key item tally)) is ∙ no_text_sum tally
+no_text_item item (inl is) key tally = ap (λ (item : Aggregate). text_bytes (item_value key item tally)) is
+no_text_item item (inr (inl (column, is))) key tally = ap (λ (item : Aggregate). text_bytes (item_value key item tally)) is
+no_text_item item (inr (inr (column, is))) key tally = ap (λ (item : Aggregate). text_bytes (item_value key item tally)) is ∙ no_text_sum tally
 
 -- all of its groups have room
 pub tallies_fit : (groups : GroupsAt) (item from most : ℕ) → IsTallied (get_or groups.items item (Key 0)) → 0 < most → Fits (item_cells groups item from most) most
