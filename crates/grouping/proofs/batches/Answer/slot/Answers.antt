@@ -1,4 +1,4 @@
-use Rattle.std.proofs.Common.{List, get_or, length, ap, arith}
+use Rattle.std.proofs.Common.{◌<◌, List, get_or, length, ap, arith}
 use Rattle.arrays.specs.Column.{ColumnAt}
 use Rattle.grouping.proofs.Answering.{IsHome, cell_is_slot, home, slot_there}
 use Rattle.grouping.proofs.batches.Answer.slot.Goals as goal
@@ -8,6 +8,12 @@ use Rattle.grouping.proofs.batches.Answer.slot.Goals.{After-index-self-first}
 at : (c : After-index-self-first) → IsHome c.args.self.now.types.now c.args.self.now.batches.now c.args.first.now
     (get_or c.args.self.now.batches.now c.args.first.now.batch c.index-self-first.result)
 at c = home c.args.self.now.types.now c.args.self.now.batches.now c.args.first.now c.index-self-first.result c.requires.can.typed c.requires.first
+
+pub offset_bounds-columns-column : goal.offset_bounds-columns-column
+offset_bounds-columns-column c =
+    let low : c.args.column < length c.columns.result.now =
+    omega (arith, c.requires.there, (at (goal.at.offset_bounds-columns-column c).After-index-self-first).long, ap (λ (columns : List ColumnAt). length columns) c.columns.ensures.columns) in
+    omega (arith, low, c.columns.type_inv)
 
 pub bounds-columns-column : goal.bounds-columns-column
 bounds-columns-column c =
