@@ -1,5 +1,5 @@
 -- Inside: rows that are grouped, and the batches of their groups.
-use Rattle.std.specs.Prelude.{◌≡◌, ◌≤◌, All, List, [], length, map, take, reverse, None}
+use Rattle.std.specs.Prelude.{◌≡◌, ◌≤◌, ℕ, All, List, [], length, map, take, reverse, None}
 use Rattle.std.specs.List.{filter, flat_map}
 use Rattle.arrow_schema.specs.Answer.{answer_type}
 use Rattle.arrow_schema.specs.declared.data_type.DataType.{DataType}
@@ -15,7 +15,11 @@ use Rattle.scan_exec.specs.declared.grouped.Wanted.{Wanted}
 use Rattle.scan_exec.specs.Collected.{plain_rows, IsBatchOf}
 use Rattle.scan_exec.specs.Giving.{GivingAt}
 use Rattle.scan_exec.specs.Picking.{PickAt, IsPick, holds, pick_of}
-use Rattle.scan_exec.specs.Running.{RowsAt}
+use Rattle.scan_exec.specs.Running.{RowsAt, picked_of}
+
+-- these columns of all rows of a source
+abbrev pub unfiltered : List ℕ → RowsAt → RowsAt
+unfiltered columns source = picked_of (record { filters = []; read = columns; shown = columns }) source
 
 -- the rows that the filters let through
 abbrev pub passing : PickAt → List Row → List Row
