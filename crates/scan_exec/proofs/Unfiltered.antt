@@ -92,10 +92,10 @@ module _ (s : Sourced) (keys : List ℕ) (items : List Aggregate) (wanted : Want
 
   -- what is wanted names what is there
   named : HasOutput (Groups keys items) s.types.items → IsWanted wanted
-  named has = rw (p, t, k, i) (record {
-    has = record { keyed = has.0; typed = has.1 };
-    pick = can_choose (map pred_of s.filters.items) s.columns.items s.types.items source is.pick is.types;
-  })
+  named has = record {
+    has = rw (t, k, i) (record { keyed = has.0; typed = has.1 });
+    pick = rw (p, t) (can_choose (map pred_of s.filters.items) s.columns.items s.types.items source is.pick is.types);
+  }
 
   -- so the rows can be grouped
   pub begins : HasOutput (Groups keys items) s.types.items → take (length source.opened) source.batches ≡ source.opened →
