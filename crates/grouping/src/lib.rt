@@ -2,6 +2,7 @@
 #![tactic(auto)]
 
 mod answer;
+pub mod answers;
 mod batches;
 mod cell;
 pub mod groups;
@@ -12,4 +13,5 @@ mod part;
 mod table;
 mod tally;
 
+pub use crate::answers::Answers;
 pub use crate::groups::{Grouping, Groups};
