@@ -45,23 +45,27 @@ module _ (filters : List (Pred ℕ)) (columns : List ℕ) where
       let width = length-map columns (cell_in row) in
       ap (passes filters) (ap (λ (n : ℕ). cells_at (range_with_len 0 n) (cells_at columns row)) (sym width) ∙ map-cells (cells_at columns row))
 
+  -- all rows, and those that the filters let through
+  abbrev every : List (ℕ × Row) → List Row
+  every rows = plain_rows (given_numbered (pick_with [] columns) rows)
+
+  abbrev kept : List (ℕ × Row) → List (ℕ × Row)
+  kept rows = filter (λ (row : ℕ × Row). holds (pick_with filters columns) row.1) rows
+
+  row_more : (row : ℕ × Row) (rows : List (ℕ × Row)) → passing (choosing filters (length columns)) (every rows) ≡ plain_rows (map show (kept rows)) → (b : Bool) →
+      cond b (cells_at columns row.1 ∷ passing (choosing filters (length columns)) (every rows)) (passing (choosing filters (length columns)) (every rows))
+      ≡ plain_rows (map show (cond b (row ∷ kept rows) (kept rows)))
+  row_more row rows rest true = ap (λ (some : List Row). cells_at columns row.1 ∷ some) rest
+  row_more row rows rest false = rest
+
   -- those that are chosen of all rows are those that the filters let through
   pub chosen_later : (rows : List (ℕ × Row)) →
-      passing (choosing filters (length columns)) (plain_rows (given_numbered (pick_with [] columns) rows)) ≡ plain_rows (given_numbered (pick_with filters columns) rows)
+      passing (choosing filters (length columns)) (every rows) ≡ plain_rows (given_numbered (pick_with filters columns) rows)
   chosen_later [] = refl
   chosen_later (row ∷ rows) =
       let pick = choosing filters (length columns) in
-      let rest = plain_rows (given_numbered (pick_with [] columns) rows) in
-      ap (λ (b : Bool). cond b (cells_at columns row.1 ∷ passing pick rest) (passing pick rest)) (sees row.1)
-      ∙ by (holds (pick_with filters columns) row.1)
-    where
-      by : (b : Bool) →
-          cond b (cells_at columns row.1 ∷ passing (choosing filters (length columns)) (plain_rows (given_numbered (pick_with [] columns) rows)))
-          (passing (choosing filters (length columns)) (plain_rows (given_numbered (pick_with [] columns) rows)))
-          ≡ plain_rows (map show (cond b (row ∷ filter (λ (r : ℕ × Row). holds (pick_with filters columns) r.1) rows)
-          (filter (λ (r : ℕ × Row). holds (pick_with filters columns) r.1) rows)))
-      by true = ap (λ (some : List Row). cells_at columns row.1 ∷ some) (chosen_later rows)
-      by false = chosen_later rows
+      ap (λ (b : Bool). cond b (cells_at columns row.1 ∷ passing pick (every rows)) (passing pick (every rows))) (sees row.1)
+      ∙ row_more row rows (chosen_later rows) (holds (pick_with filters columns) row.1)
 
 -- as many rows as the source has
 pub as_many_rows : (columns : List ℕ) (source : RowsAt) → length (unfiltered columns source).ahead ≡ length source.ahead
@@ -85,10 +89,14 @@ can_choose filters columns types source is e =
 
 module _ (s : Sourced) (keys : List ℕ) (items : List Aggregate) (wanted : Wanted) (is : IsSourced s)
     (t : wanted.types.items ≡ s.types.items) (k : wanted.keys.items ≡ keys) (i : wanted.items.items ≡ items)
-    (p : pick_of wanted.picker ≡ choosing (map pred_of s.filters.items) (length s.columns.items))
+    (f : wanted.picker.filters ≡ s.filters) (r : wanted.picker.read.items ≡ range_with_len 0 (length s.columns.items)) (n : wanted.picker.shown.items ≡ [])
     (rows : RowsAt) (all : rows ≡ unfiltered s.columns.items (source_at s.source)) where
   abbrev source : RowsAt
   source = source_at s.source
+
+  -- the filters see all columns
+  p : pick_of wanted.picker ≡ choosing (map pred_of s.filters.items) (length s.columns.items)
+  p = rw (f, r, n) refl
 
   -- what is wanted names what is there
   named : HasOutput (Groups keys items) s.types.items → IsWanted wanted
