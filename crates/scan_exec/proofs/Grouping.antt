@@ -1,6 +1,7 @@
 -- Rows that are grouped, batch by batch, and what is answered of their groups.
 use Rattle.std.proofs.Common.{◌≡◌, ◌≤◌, ◌<◌, ℕ, suc, ◌+◌, ◌-◌, Bool, true, false, cond, List, [], ◌∷◌, ◌++◌, length, map, take, get_or, Option, Some, None, Result, Ok, Err, refl, sym, ap, ◌∙◌, subst, arith, append-nil, All}
 use Rattle.std.specs.List.{filter, flat_map, range_with_len}
+use Rattle.std.specs.Result.{IfOk}
 use Rattle.std.specs.declared.alloc.AllocError.{AllocError}
 use Rattle.std.proofs.Math.Seq.{take-suc}
 use Rattle.std.proofs.lemmas.Grind.{flat_map-append}
@@ -12,12 +13,13 @@ use Rattle.arrow_schema.specs.declared.data_type.DataType.{DataType}
 use Rattle.arrays.specs.Batch.{BatchAt, row_of, rows_of}
 use Rattle.arrays.specs.Typed.{AreOf}
 use Rattle.scan_base.specs.Limits.{most_rows}
+use Rattle.scan_base.specs.declared.fault.Fault.{Fault}
 use Rattle.table_versions.specs.Table.{Row}
 use Rattle.table_versions.proofs.Rowing.{length-rows_of}
 use Rattle.typed_plan.specs.declared.plan.Aggregate.{Aggregate}
 use Rattle.typed_plan.specs.Plan.{answered, groups_by}
 use Rattle.typed_plan.specs.Typed.{item_type}
-use Rattle.grouping.specs.Answers.{AnswersAt, GivesAnswer, IsAnswerOf, IsOver, answer_types, answers_ahead}
+use Rattle.grouping.specs.Answers.{AnswersAt, Finishes, GivesAnswer, IsAnswerOf, IsOver, answer_types, answers_ahead}
 use Rattle.grouping.specs.Fed.{GroupsAt, Holds, HasFed, IsNew, batch_at}
 use Rattle.scan_exec.specs.declared.cursor.Part.{Part}
 use Rattle.scan_exec.specs.declared.grouped.MadeGroups.{MadeGroups}
@@ -135,7 +137,7 @@ module _ (wanted : Wanted) (batches : List BatchAt) (new fed : GroupsAt) (is : I
       ∙ ap (types_answered wanted.types.items wanted.keys.items) items_are
 
   -- so the answer is what is wanted
-  pub answers_all : (answers : AnswersAt) → IsAnswerOf fed answers → AnswersAll batches wanted answers
+  answers_all : (answers : AnswersAt) → IsAnswerOf fed answers → AnswersAll batches wanted answers
   answers_all answers answer =
       let rows = passing (pick_of wanted.picker) (flat_map rows_of batches) in
       record {
@@ -146,6 +148,14 @@ module _ (wanted : Wanted) (batches : List BatchAt) (new fed : GroupsAt) (is : I
             ∙ ap (λ (some : List Aggregate). map (λ group. map (answered group) some) (groups_by fed.keys rows)) items_are
             ∙ ap (λ (some : List ℕ). map (λ group. map (answered group) wanted.items.items) (groups_by some rows)) keys_are;
       }
+
+  -- or it was refused
+  pub finished : (result : Result AnswersAt Fault) → Finishes fed result → IfOk result (AnswersAll batches wanted)
+  finished (Ok answers) finishes =
+      let with : Option Fault → GroupsAt = λ refused. record fed { refused = refused } in
+      let is : IsAnswerOf (with None) answers = subst (λ (refused : Option Fault). Finishes (with refused) (Ok answers)) feeds.refused finishes in
+      answers_all answers (subst (λ (refused : Option Fault). IsAnswerOf (with refused) answers) (sym feeds.refused) is)
+  finished (Err fault) finishes = tt
 
 -- of all rows that were collected
 pub are_made : (wanted : Wanted) (before after : RowsAt) (made : MadeGroups) → AreCollected before made.batches.items after →
