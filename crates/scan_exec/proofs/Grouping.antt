@@ -3,6 +3,8 @@ use Rattle.std.proofs.Common.{◌≡◌, ◌≤◌, ◌<◌, ℕ, suc, ◌+◌, 
 use Rattle.std.specs.List.{filter, flat_map, range_with_len}
 use Rattle.std.specs.Result.{IfOk}
 use Rattle.std.specs.declared.alloc.AllocError.{AllocError}
+use Rattle.std.specs.Global.{Global}
+use Rattle.std.specs.Prelude.{Vec}
 use Rattle.std.proofs.Math.Seq.{take-suc}
 use Rattle.std.proofs.lemmas.Grind.{flat_map-append}
 use Rattle.std.proofs.lemmas.List.{map-append, length-map, get_or_default}
@@ -24,7 +26,7 @@ use Rattle.grouping.specs.Fed.{GroupsAt, Holds, HasFed, IsNew, batch_at}
 use Rattle.scan_exec.specs.declared.cursor.Part.{Part}
 use Rattle.scan_exec.specs.declared.grouped.MadeGroups.{MadeGroups}
 use Rattle.scan_exec.specs.declared.grouped.Stage.{Stage}
-use Rattle.scan_exec.specs.declared.grouped.Stage.TheVariants.{Waiting}
+use Rattle.scan_exec.specs.declared.grouped.Stage.TheVariants.{Waiting, Made}
 use Rattle.scan_exec.specs.declared.grouped.Wanted.{Wanted}
 use Rattle.scan_exec.specs.Giving.{GivingAt, GivingOn, GivesNext}
 use Rattle.scan_exec.specs.Collected.{AreCollected, IsBatchOf}
@@ -182,7 +184,7 @@ pub made_ahead : (wanted : Wanted) (before after : RowsAt) (made : MadeGroups) �
 made_ahead wanted before after made is = ap (map of_none) (sym is.rows)
 
 -- a batch of the answer is given
-pub gives_answer : (before after : GivingAt) (batches : List BatchAt) (answers then : AnswersAt) → answer_types answers ≡ before.types →
+gives_answer : (before after : GivingAt) (batches : List BatchAt) (answers then : AnswersAt) → answer_types answers ≡ before.types →
     before.ahead ≡ map of_none (answers_ahead batches answers) → after.ahead ≡ map of_none (answers_ahead batches then) →
     GivingOn before after → after.opened ≡ before.batches → (result : Result (Option BatchAt) AllocError) →
     GivesAnswer batches answers result then → GivesNext before result after
@@ -203,6 +205,15 @@ gives_answer before after batches answers then types ahead still on opened (Ok N
   on = on;
 }
 gives_answer before after batches answers then types ahead still on opened (Err refused) gives = on
+
+-- and the answer goes on over the same batches
+pub gives_made : (rows : RowsAt) (wanted : Wanted) (before : GivingAt) (made then : MadeGroups) → IsAnswering wanted made → wanted_types wanted ≡ before.types →
+    before.ahead ≡ map of_none (answers_ahead made.batches.items made.answers) → GivingOn before (of_groups rows wanted (Made then)) →
+    rows.opened ≡ before.batches → then.batches ≡ made.batches → (result : Result (Option BatchAt) AllocError) →
+    GivesAnswer made.batches.items made.answers result then.answers → GivesNext before result (of_groups rows wanted (Made then))
+gives_made rows wanted before made then is types ahead on opened same result gives =
+    gives_answer before (of_groups rows wanted (Made then)) made.batches.items made.answers then.answers (is.types ∙ types) ahead
+    (ap (λ (some : Vec BatchAt Global). map of_none (answers_ahead some.items then.answers)) same) on opened result gives
 
 -- where no group was answered the answer is as it was
 unmoved : (wanted : Wanted) (made then : MadeGroups) → IsAnswering wanted made → then.batches ≡ made.batches → then.answers ≡ made.answers → IsAnswering wanted then
