@@ -5,6 +5,7 @@ ghost use Rattle.std.specs.List.{range_with_len};
 ghost use Rattle.scan_base.specs.Limits.{most_rows};
 ghost use Rattle.typed_plan.specs.Typed.{HasOutput, is_grouping};
 ghost use Rattle.scan_exec.specs.Begun.{IsSourced, sourced_at};
+ghost use Rattle.scan_exec.specs.Joined.{source_at};
 ghost use Rattle.scan_exec.specs.Picking.{pick_of};
 ghost use Rattle.scan_exec.specs.Answering.{GivesNext, IsGiving, answer_for, giving_at, of_rows};
 
@@ -69,7 +70,7 @@ pub(crate) fn answer_of(
     requires sourced { IsSourced sourced }
     requires output { HasOutput output sourced.types.items }
     requires front { take (length (sourced_at sourced).opened) (sourced_at sourced).batches ≡ (sourced_at sourced).opened }
-    requires few { is_grouping output ≡ true → length (sourced_at sourced).ahead ≤ most_rows }
+    requires few { is_grouping output ≡ true → length (source_at sourced.source).ahead ≤ most_rows }
     ensures giving { IfOk result IsGiving }
     ensures answer { IfOk result (λ answer. giving_at answer ≡ answer_for output (sourced_at sourced)) }
 {
