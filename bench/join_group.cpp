@@ -2,8 +2,9 @@
 //
 //     join_group QUERY COLUMN..     # the answer, in chunks, to standard output
 //
-// A column is a file of Int64. A chunk is a count of rows and then the values of each column of the answer. The answers
-// have the order of docs/SQL.md. Tables are chained: a bucket has the last row or group that fell into it, and each
+// A column is a file of Int64, in which the least number stands for a null key of the queries "join nullable" and "group
+// nullable". A chunk is a count of rows and then the values of each column of the answer. The answers have the order of
+// docs/SQL.md. Tables are chained: a bucket has the last row or group that fell into it, and each
 // leads to the one before it (a join's go upwards). A bucket is std::hash of the key, modulo their number.
 
 #include <cstdint>
@@ -17,6 +18,7 @@
 using Longs = std::vector<int64_t>;
 constexpr uint32_t none = UINT32_MAX;
 constexpr size_t chunk_rows = 65536;
+constexpr int64_t null_key = INT64_MIN;
 
 [[noreturn]] void fail(const char *said) {
   fprintf(stderr, "join_group: %s\n", said);
@@ -81,18 +83,22 @@ void filter(const Longs &a, const Longs &v, int64_t above) {
 }
 
 // The right is linked from the last row down, so that each chain rises.
+template <bool nullable>
 void join(const Longs &left_key, const Longs &left, const Longs &right_key, const Longs &right) {
   Chains table(right_key.size());
   table.next.resize(right_key.size());
   for (size_t row = right_key.size(); row-- > 0;) {
+    if (nullable && right_key[row] == null_key) continue;
     uint32_t &head = table.head(right_key[row]);
     table.next[row] = head;
     head = uint32_t(row);
   }
   Pairs answer;
-  for (size_t row = 0; row < left_key.size(); row++)
+  for (size_t row = 0; row < left_key.size(); row++) {
+    if (nullable && left_key[row] == null_key) continue;
     for (uint32_t at = table.head(left_key[row]); at != none; at = table.next[at])
       if (right_key[at] == left_key[row]) answer.add(left[row], right[at]);
+  }
   answer.flush();
 }
 
@@ -123,6 +129,8 @@ struct Groups {
   }
 };
 
+// A null key is a key like others. The answer has the keys only where none can be null.
+template <bool nullable>
 void group(const Longs &key, const Longs &value) {
   Groups groups;
   for (size_t row = 0; row < key.size(); row++) {
@@ -132,7 +140,7 @@ void group(const Longs &key, const Longs &value) {
   }
   uint64_t rows = groups.keys.size();
   write_bytes(&rows, sizeof rows);
-  write_bytes(groups.keys.data(), rows * sizeof(int64_t));
+  if (!nullable) write_bytes(groups.keys.data(), rows * sizeof(int64_t));
   write_bytes(groups.counts.data(), rows * sizeof(int64_t));
   write_bytes(groups.sums.data(), rows * sizeof(__int128));
 }
@@ -143,12 +151,13 @@ int main(int count, char **words) {
   std::vector<Longs> columns;
   for (int word = 2; word < count; word++)
     columns.push_back(read_column(words[word]));
-  size_t wanted = query == "join" ? 4 : 2;
+  size_t wanted = query.starts_with("join") ? 4 : 2;
   if (query != "load" && columns.size() != wanted) fail("another number of columns");
-  if (query == "filter half") filter(columns[0], columns[1], 500'000);
-  else if (query == "filter all") filter(columns[0], columns[1], 1'000'000);
-  else if (query == "join") join(columns[0], columns[1], columns[2], columns[3]);
-  else if (query == "group") group(columns[0], columns[1]);
+  if (query.starts_with("filter ")) filter(columns[0], columns[1], std::stoll(query.substr(7)));
+  else if (query == "join") join<false>(columns[0], columns[1], columns[2], columns[3]);
+  else if (query == "join nullable") join<true>(columns[0], columns[1], columns[2], columns[3]);
+  else if (query == "group") group<false>(columns[0], columns[1]);
+  else if (query == "group nullable") group<true>(columns[0], columns[1]);
   else if (query != "load") fail("another query");
   return fflush(stdout) == 0 ? 0 : 1;
 }

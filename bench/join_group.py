@@ -1,14 +1,15 @@
 #!/usr/bin/env python3
 """What filters, joins and groups cost in `flightscan pipe`, beside a plain C++ program over the same arrays.
 
-    python3 bench/join_group.py [--program PATH] [--runs N] [CASE..]
+    python3 bench/join_group.py [--program PATH] [--runs N] [--rows N] [CASE..]
 
-It makes the inputs once for each case: puts of columns of Int64 in batches of 65,536 rows, with and without a fetch
+It makes the inputs once for each case: puts of columns of Int64, and of keys of Bool that are null or FALSE, in batches of
+65,536 rows, with and without a fetch
 behind them, and the same columns as plain files for bench/join_group.cpp, which it compiles (g++, -O3, for baseline
 x86-64). First it reads both answers, which must be the same in every byte of each column, so also in their order. Then
 it measures both: processor time, the least of N runs (5) or of those that a minute takes, and the most memory held.
 "fetch" is the time with the fetch less that of the puts alone, and "C++" its time with the answer less that of reading
-the columns alone; both write to /dev/null. A case of colliding keys has keys that fall into one bucket of the C++
+the columns alone; both write to /dev/null. With --rows the tables have fewer rows, to try the script. A case of colliding keys has keys that fall into one bucket of the C++
 table. The table that is printed is the one of bench/README.md. Build the program first, as for `pipe.py`. It ends with
 1 where the answers of a case differ or one was refused, and says so in place of its figures.
 """
@@ -32,7 +33,7 @@ sys.path[:0] = [str(ROOT / "scripts"), str(ROOT / "vectors/arrow")]
 from built import program  # noqa: E402
 from layout import written  # noqa: E402
 from reader import Table  # noqa: E402
-from trees import batch, field, integer, schema  # noqa: E402
+from trees import BOOL, batch, field, integer, schema  # noqa: E402
 from wire import END, call, chunk, descriptor, fields, packed, query_handle, record_message, record_open  # noqa: E402
 from wire import ticket  # noqa: E402
 
@@ -40,6 +41,7 @@ BATCH_ROWS = 65_536
 ROWS = 1_000_000
 EQUAL = 8_192  # whose square is the most rows that an answer may have
 COLLIDING = 32_768
+NULL_KEY = -(2**63)  # to the C++ program
 
 
 # ---- cases
@@ -57,39 +59,66 @@ class Case:
 
 
 def numbered(name, keys, key="k", value="v"):
-    """A table of keys, and beside each the number of its row."""
-    return {name: {key: array("q", keys), value: array("q", range(len(keys)))}}
+    """A table of keys, and beside each the number of its row. Keys that are null or FALSE are bytes, of which a null is 0."""
+    keys = keys if isinstance(keys, bytes) else array("q", keys)
+    return {name: {key: keys, value: array("q", range(len(keys)))}}
 
 
-def different(seed, count=ROWS):
+def different(seed, count):
     """The numbers below a count, each once, in any order."""
     return Random(seed).sample(range(count), count)
 
 
-def of_few(seed, keys):
-    return Random(seed).choices(range(keys), k=ROWS)
+def of_few(seed, keys, count):
+    return Random(seed).choices(range(keys), k=count)
 
 
-def colliding(seed):
-    return [number << 32 for number in different(seed, COLLIDING)]
+def colliding(seed, count):
+    return [number << 32 for number in different(seed, count)]
+
+
+def null_or_false(seed, count, falses):
+    """Keys of which so many, anywhere among them, are FALSE and the others null."""
+    keys = bytearray(count)
+    for place in Random(seed).sample(range(count), falses):
+        keys[place] = 1
+    return bytes(keys)
 
 
 FILTER = "SELECT k, v FROM t WHERE k < "
 JOIN = "SELECT t.v, u.v FROM t JOIN u ON t.k = u.k"
 GROUP = "SELECT k, COUNT(*), SUM(v) FROM t GROUP BY k"
-GROUP_WIDTHS = (8, 8, 16)
-CASES = [
-    Case("filter, 1 row of 2", FILTER + "500000", "filter half", lambda: numbered("t", different(1))),
-    Case("filter, all rows", FILTER + "1000000", "filter all", lambda: numbered("t", different(1))),
-    Case("join, 100,000 keys", JOIN, "join",
-         lambda: numbered("t", of_few(2, 100_000)) | numbered("u", different(3, 100_000))),
-    Case("join, all keys different", JOIN, "join", lambda: numbered("t", different(4)) | numbered("u", different(5))),
-    Case("join, equal keys", JOIN, "join", lambda: numbered("t", [7] * EQUAL) | numbered("u", [7] * EQUAL)),
-    Case("join, colliding keys", JOIN, "join", lambda: numbered("t", colliding(6)) | numbered("u", colliding(7))),
-    Case("group, 1,000 keys", GROUP, "group", lambda: numbered("t", of_few(8, 1_000)), GROUP_WIDTHS),
-    Case("group, all keys different", GROUP, "group", lambda: numbered("t", different(9)), GROUP_WIDTHS),
-    Case("group, colliding keys", GROUP, "group", lambda: numbered("t", colliding(10)), GROUP_WIDTHS),
-]
+SUMS = "SELECT COUNT(*), SUM(v) FROM t GROUP BY k"
+GROUP_WIDTHS, SUMS_WIDTHS = (8, 8, 16), (8, 16)
+
+
+def of_one(keys):
+    return lambda: numbered("t", keys())
+
+
+def of_both(left, right):
+    return lambda: numbered("t", left()) | numbered("u", right())
+
+
+def cases(rows):
+    """The cases, of tables of so many rows, or of fewer where equal or colliding keys would make too much of them."""
+    few, root, bucket = max(rows // 10, 1), round(rows**0.5), min(rows, COLLIDING)
+    half, equal = rows // 2, EQUAL if rows == ROWS else root
+    rising, nulls = of_one(lambda: different(1, rows)), lambda seed: lambda: null_or_false(seed, rows, root)
+    return [
+        Case("filter, 1 row of 2", f"{FILTER}{half}", f"filter {half}", rising),
+        Case("filter, all rows", f"{FILTER}{rows}", f"filter {rows}", rising),
+        Case("join, 100,000 keys", JOIN, "join", of_both(lambda: of_few(2, few, rows), lambda: different(3, few))),
+        Case("join, all keys different", JOIN, "join", of_both(lambda: different(4, rows), lambda: different(5, rows))),
+        Case("join, equal keys", JOIN, "join", of_both(lambda: [7] * equal, lambda: [7] * equal)),
+        Case("join, keys of NULL and FALSE", JOIN, "join nullable", of_both(nulls(11), nulls(12))),
+        Case("join, colliding keys", JOIN, "join", of_both(lambda: colliding(6, bucket), lambda: colliding(7, bucket))),
+        Case("group, 1,000 keys", GROUP, "group", of_one(lambda: of_few(8, root, rows)), GROUP_WIDTHS),
+        Case("group, all keys different", GROUP, "group", of_one(lambda: different(9, rows)), GROUP_WIDTHS),
+        Case("group, equal keys", GROUP, "group", of_one(lambda: [7] * rows), GROUP_WIDTHS),
+        Case("group, keys of NULL and FALSE", SUMS, "group nullable", of_one(lambda: null_or_false(13, rows, half)), SUMS_WIDTHS),
+        Case("group, colliding keys", GROUP, "group", of_one(lambda: colliding(10, bucket)), GROUP_WIDTHS),
+    ]
 
 
 # ---- inputs
@@ -100,13 +129,32 @@ def put(name, columns):
     ingest = chunk(1, b"\x08\x01") + chunk(2, name.encode())
     front = chunk(1, descriptor(packed(b"CommandStatementIngest", ingest)))
     yield record_open(b"DoPut")
-    head = schema(*(field(column, integer(64, True), False) for column in columns))
+    head = schema(*(field(column, *kind_of(values)) for column, values in columns.items()))
     yield record_message(front + chunk(2, written("Message", head, "spread")))
     for first in range(0, len(columns["v"]), BATCH_ROWS):
         parts = [values[first : first + BATCH_ROWS] for values in columns.values()]
-        tree, body = batch(len(parts[0]), *((0, b"", part.tobytes()) for part in parts))
+        tree, body = batch(len(parts[0]), *map(buffers_of, parts))
         yield record_message(chunk(2, written("Message", tree, "spread")) + chunk(1000, body))
     yield END
+
+
+def kind_of(values):
+    """A column's type, and whether it has nulls."""
+    return (BOOL, True) if isinstance(values, bytes) else (integer(64, True), False)
+
+
+def buffers_of(part):
+    """The number of nulls, the validity bits and the values of a part of a column."""
+    if isinstance(part, bytes):
+        size = (len(part) + 7) // 8
+        valid = int(bytes(48 + flag for flag in reversed(part)), 2)  # by digits, the last row first
+        return part.count(0), valid.to_bytes(size, "little"), bytes(size)
+    return 0, b"", part.tobytes()
+
+
+def plain_column(values):
+    """A column as the C++ program reads it."""
+    return (array("q", (0 if flag else NULL_KEY for flag in values)) if isinstance(values, bytes) else values).tobytes()
 
 
 def make(case, folder):
@@ -118,7 +166,7 @@ def make(case, folder):
                 puts.write(piece)
                 both.write(piece)
             for column, values in columns.items():
-                (folder / f"{name}.{column}").write_bytes(values.tobytes())
+                (folder / f"{name}.{column}").write_bytes(plain_column(values))
         handle = query_handle(len(tables), 0, len(tables["t"]["v"]), case.query.encode())
         both.write(call(b"DoGet", [ticket(handle)]))
         (folder / "tables").write_text(" ".join(tables))
@@ -257,10 +305,11 @@ def main():
     parser = argparse.ArgumentParser(description=__doc__, formatter_class=argparse.RawDescriptionHelpFormatter)
     parser.add_argument("--program", help="the built program (that of the repository)")
     parser.add_argument("--runs", type=int, default=5, help="of how many runs the least is taken (5)")
+    parser.add_argument("--rows", type=int, default=ROWS, help="of a table, at most (1000000)")
     parser.add_argument("case", nargs="*", help="cases whose names begin so (all)")
     words = parser.parse_args()
     path = program(words.program)
-    wanted = [case for case in CASES if not words.case or case.name.startswith(tuple(words.case))]
+    wanted = [case for case in cases(words.rows) if not words.case or case.name.startswith(tuple(words.case))]
     print("| | rows | puts, ms | fetch, ms | C++, ms | times the C++ | peak MB | C++ peak MB |")
     print("|---|---:|---:|---:|---:|---:|---:|---:|")
     with tempfile.TemporaryDirectory() as name:

@@ -5,12 +5,12 @@
 
 What it shows: that the answers are those of a program which shares nothing with ours, wherever both define the same.
 Each of the databases (2,000 if no count is said) has 1 to 4 tables of 1 to 4 columns of any types but floats and dates,
-with nulls, of 0 to 12 rows that come in puts of one or more batches. Between the puts stand queries: joins of 2 to 4
+with nulls, of 0 to 12 rows, or in one database of ten to 200, that come in puts of one or more batches. Between the puts stand queries: joins of 2 to 4
 places, a table with itself too; WHERE with comparisons, BETWEEN, IN, IS NULL, IS TRUE and the like, AND, OR and NOT;
 and groups of one place with COUNT and SUM. `pipe` gets the puts, the infos of all queries, of 1 to 3 parts each, and
 behind them the fetches of all endpoints in any order, so also of versions that are no longer the newest. sqlite3 gets
 the same tables and queries in turn, with an ORDER BY of the order that docs/SQL.md states. Compared are each put's
-count, each info's tickets, the schemas of an info and of its streams, and each query's rows, one by one, in order.
+count, each info's tickets, the schemas of an info and of its streams, and the rows of each endpoint, one by one, in order.
 
 What both define alike, and no more: sqlite3 has its truth values as 1 and 0, names differ by more than their case, and
 numbers are so small that sqlite3's sums of 64 bits do not overflow.
@@ -52,6 +52,7 @@ from reader import Fault, Reader  # noqa: E402
 SECONDS = 60  # that one program may take
 TABLES = ["t", "u", "a b", "select", "\u00e9"]
 COLUMNS = ["a", "b", "c", "k", "order", "a b", "\u00e9\"", "_1"]
+COUNTS = [0, 1, 2, 4, 6, 8, 12]  # of a put's rows; of a large one as many times more
 MARK = "="  # the line behind each answer of sqlite3
 
 
@@ -62,10 +63,10 @@ class Asked:
     query: Query
     text: str
     database: Database
+    ranges: list[tuple[int, int]]
     handles: list[bytes]
-    streams: list[list[Row]] = field(default_factory=list)
-    wanted: list[Row] = field(default_factory=list)
-    given: list[Row] = field(default_factory=list)
+    wanted: list[list[Row]] = field(default_factory=list)  # of each endpoint
+    given: list[list[Row]] = field(default_factory=list)
 
 
 class Case:
@@ -74,7 +75,8 @@ class Case:
     def __init__(self, seed: int, plain: bool):
         self.random, self.seed, self.plain = Random(seed), seed, plain
         self.parts, self.version, self.database = self.random.randint(1, 3), 0, {}
-        self.values = Values(self.random)
+        self.most = 200 if self.random.random() < 0.1 else 12  # rows of a table
+        self.values = Values(self.random, self.most > 12)
         self.calls: list[bytes] = []
         self.counts: list[tuple[int | None, Asked | None]] = []  # of each call, its put's rows or its query
         self.script = [".bail on", ".mode json"]
@@ -102,7 +104,7 @@ class Case:
         columns, nulls = columns or self.database[name].columns, self.random.choice([0, 0.1, 0.4])
         old = len(self.database[name].rows) if there == "APPEND" else 0
         rows = [tuple(None if column.nullable and self.random.random() < nulls else self.values.value(column.type)
-                      for column in columns) for _ in range(self.random.choice([0, 1, 2, 4, 6, 8, 12]))][: 12 - old]
+                      for column in columns) for _ in range(self.random.choice(COUNTS) * self.most // 12)][: self.most - old]
         put = Put(name, "CREATE", there, Table(columns, rows))
         stream, _ = stream_of(self.random, put)
         self.calls.append(wire.call(b"DoPut", messages_of(self.random, ingest(self.random, put, b""), stream)))
@@ -122,14 +124,15 @@ class Case:
 
     def ask(self) -> None:
         """An info of a query, where one was found that binds and is short enough."""
-        query = Joiner(self.random, self.database, self.values, self.plain).joined_query()
+        places = [1] if self.plain else [1, 1, 2] if self.most > 12 else [1, 1, 1, 2, 2, 2, 3, 4]
+        query = Joiner(self.random, self.database, self.values, places).joined_query()
         text = JoinSpeller(self.random).joined_query(query) if query else ""
         if query is None or len(text.encode()) > joined.LONGEST_TEXT:
             return
         rows = len(self.database[query.places[0].table].rows)
         ranges = [(0, rows)] if query.grouped else split(rows, self.parts)
         handles = [wire.query_handle(self.version, first, end, text.encode()) for first, end in ranges]
-        asked = Asked(query, text, self.database, handles, [[] for _ in handles])
+        asked = Asked(query, text, self.database, ranges, handles, [[] for _ in handles], [[] for _ in handles])
         command = wire.descriptor(wire.packed(b"CommandStatementQuery", wire.chunk(1, text.encode())))
         self.calls.append(wire.call(b"GetFlightInfo", [command]))
         self.counts.append((None, asked))
@@ -148,7 +151,7 @@ def run(command: list[str], given: bytes) -> bytes:
 
 
 def sqlite_answers(case: Case) -> list[list[Row]]:
-    """The rows that sqlite3 gives to each query. It prints nothing where there are none."""
+    """The rows that sqlite3 gives to each query, with their last column. It prints nothing where there are none."""
     answers, lines = [], []
     for line in run(["sqlite3", ":memory:"], "\n".join([*case.script, ""]).encode()).decode().split("\n"):
         if line == MARK:
@@ -195,23 +198,33 @@ def pipe_answers(path: str, case: Case) -> None:
             schemas[id(asked)] = look_at_info(asked, wire.answer(source))
     for asked, number in case.fetches:
         case.now = asked
-        columns, asked.streams[number] = stream_of_fetch(wire.answer(source))
+        columns, asked.given[number] = stream_of_fetch(wire.answer(source))
         same("the schema of a stream and that of its info", schemas[id(asked)], columns)
     same("the bytes behind the last answer", 0, len(source.data) - source.place)
-    for asked in case.asked:
-        asked.given = [row for stream in asked.streams for row in stream]
+
+
+def of_endpoints(asked: Asked, rows: list[Row]) -> list[list[Row]]:
+    """The rows of sqlite3 for each endpoint, by their last column. Groups have one endpoint."""
+    if asked.query.grouped:
+        return [[row[:-1] for row in rows]]
+    return [[row[:-1] for row in rows if first < row[-1] <= end] for first, end in asked.ranges]
 
 
 def compare(case: Case, path: str | None) -> None:
     """Compares all answers of a case: of `pipe`, or of the plain model, with those of sqlite3."""
     answers = sqlite_answers(case)
     same("the number of answers of sqlite3", len(case.asked), len(answers))
-    for asked, asked.wanted in zip(case.asked, answers):
-        asked.given = [] if path else query_rows(asked.query, asked.database)
+    for asked, rows in zip(case.asked, answers):
+        asked.wanted = of_endpoints(asked, rows)
+        same("the rows of all endpoints of sqlite3", len(rows), sum(map(len, asked.wanted)))
     if path:
         pipe_answers(path, case)
+    else:
+        for asked in case.asked:
+            asked.given = [query_rows(asked.query, asked.database, first, end) for first, end in asked.ranges]
     for case.now in case.asked:
-        same("the rows, wanted as sqlite3 gives them", case.now.wanted, case.now.given)
+        for number, (wanted, given) in enumerate(zip(case.now.wanted, case.now.given, strict=True)):
+            same(f"the rows of endpoint {number}, wanted as sqlite3 gives them", wanted, given)
 
 
 def tell(case: Case, difference: str, switches: list[str]) -> None:
@@ -223,7 +236,7 @@ def tell(case: Case, difference: str, switches: list[str]) -> None:
             table = asked.database[name]
             columns = ", ".join(f"{one.name!r} {one.type}{' or null' * one.nullable}" for one in table.columns)
             print(f"table {name!r} of {columns}", *table.rows, sep="\n  ")
-        print("rows of its endpoints:", [wire.handle_parts(handle)[1:3] for handle in asked.handles])
+        print("rows of its endpoints:", asked.ranges)
         print(f"ours:    {asked.text}", *asked.given, sep="\n  ")
         print(f"sqlite3: {joined.sqlite_query(asked.query)}", *asked.wanted, sep="\n  ")
     print(" ".join(["again: python3 scripts/sqlite_answers.py --count 1 --seed", str(case.seed), *switches]))
@@ -234,8 +247,8 @@ def count(case: Case, counts: collections.Counter) -> None:
     for asked in case.asked:
         kind = "groups" if asked.query.grouped else f"places: {len(asked.query.places)}"
         counts[kind] += 1
-        counts[kind, "rows"] += len(asked.given)
-        counts[kind, "none"] += not asked.given
+        counts[kind, "rows"] += sum(map(len, asked.given))
+        counts[kind, "none"] += not any(asked.given)
         counts["endpoints"] += len(asked.handles)
 
 

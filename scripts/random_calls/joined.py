@@ -15,7 +15,7 @@ from random_calls.plain_model import (And, Between, Column, Comparison, Database
 from random_calls.puts import RANGES, TEXTS
 from random_calls.queries import Asker, Speller
 
-LARGE = 2**59  # sixteen of these are no sum of more than 64 bits, which sqlite3 would refuse
+LARGE = 2**55  # of 200 of these no sum has more than 64 bits, which sqlite3 would refuse
 NUMBERS = [1, 2, 3, 100, -1, -2, 127, 255, -128, LARGE, -LARGE]
 ALIASES = ["p", "q", "r", "w", "on p", "from"]  # of places; tables have other names
 SUMMED = [name for name in RANGES if name != "Decimal128"]
@@ -71,12 +71,15 @@ class Query:
 
 
 class Values:
-    """The few values that a database has, so that they meet again."""
+    """The values that a database has: a few, so that they meet again; where it is large, some hundred."""
 
-    def __init__(self, random: Random):
+    def __init__(self, random: Random, large: bool):
         self.random = random
         self.numbers = [0, *random.sample(NUMBERS, random.randrange(1, 5))]
         self.texts = random.sample(TEXTS[:-1], random.randrange(1, 5))
+        if large:
+            self.numbers = [*random.sample(range(-100, 100), 80), *random.sample(range(2**40), 20)]
+            self.texts += [f"text {number}" for number in random.sample(range(1000), 100)]
 
     def value(self, kind: str) -> Value:
         match class_of(kind):
@@ -94,11 +97,11 @@ class Values:
 
 
 class Joiner(Asker):
-    """Makes queries of one or more places, which all bind; plain ones have one place and no groups."""
+    """Makes queries of one of these numbers of places, which all bind. Where one place is the only number, no query has groups."""
 
-    def __init__(self, random: Random, database: Database, values: Values, plain: bool):
-        self.random, self.database, self.values, self.plain = random, database, values, plain
-        count = 1 if plain else random.choice([1, 1, 1, 2, 2, 2, 3, 4])
+    def __init__(self, random: Random, database: Database, values: Values, counts: list[int]):
+        self.random, self.database, self.values, self.plain = random, database, values, counts == [1]
+        count = random.choice(counts)
         self.places: tuple[Place, ...] = ()
         for _ in range(count):
             self.places += (self.place(),)
@@ -275,9 +278,11 @@ def sqlite_predicate(predicate: Predicate) -> str:
 
 
 def sqlite_query(query: Query) -> str:
-    """The query with its order. The columns of the answer are named 0, 1 and so on."""
-    items = [f'{sqlite_operand(item)} AS "{number}"' for number, item in enumerate(query.selected())]
-    text = "SELECT " + ", ".join(items)
+    """The query with its order. The columns of the answer are named 0, 1 and so on, and behind them stands the number of the row
+    of the first place, from 1; of groups 1."""
+    rows = [f"{sqlite_name(place.name)}.rowid" for place in query.places]
+    items = [*map(sqlite_operand, query.selected()), "1" if query.grouped else rows[0]]
+    text = "SELECT " + ", ".join(f'{item} AS "{number}"' for number, item in enumerate(items))
     for number, place in enumerate(query.places):
         text += f"{' JOIN ' if number else ' FROM '}{sqlite_name(place.table)} AS {sqlite_name(place.name)}"
         if number:
@@ -287,5 +292,4 @@ def sqlite_query(query: Query) -> str:
         text += " WHERE " + sqlite_predicate(query.where)
     if query.keys:
         text += " GROUP BY " + sqlite_list(query.keys)
-    rows = [f"{sqlite_name(place.name)}.rowid" for place in query.places]
     return text + " ORDER BY " + (f"MIN({rows[0]})" if query.grouped else ", ".join(rows)) + ";"
