@@ -17,7 +17,7 @@ use Rattle.arrays.specs.Written.{text_bytes}
 use Rattle.typed_plan.specs.Typed.{type_at}
 use Rattle.grouping.specs.declared.key.Place.{Place}
 use Rattle.grouping.specs.declared.tally.Tally.{Tally}
-use Rattle.grouping.specs.Answers.{IsThere, row_in}
+use Rattle.grouping.specs.Answers.{IsThere}
 use Rattle.grouping.specs.Fed.{AreTyped, batch_at}
 use Rattle.grouping.specs.inside.Answering.{count_or_none, first_cell, has_texts, sum_or_none}
 use Rattle.grouping.proofs.Feeding.{as_many}

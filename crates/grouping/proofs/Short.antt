@@ -1,6 +1,5 @@
 -- Texts of an item that are short, of fewer groups too.
-use Rattle.std.proofs.Common.{◌≡◌, ◌≤◌, ◌<◌, ℕ, zero, suc, ◌+◌, Bool as Truth, true, false, if◌then◌else◌, Option, List, [], ◌∷◌, All, length, map, take, get_or, refl, sym, ap, ◌∙◌, arith, length-append, length-take, subst, below_more}
-use Rattle.std.specs.List.{range_with_len}
+use Rattle.std.proofs.Common.{◌≡◌, ◌≤◌, ◌<◌, ℕ, zero, suc, ◌+◌, Bool as Truth, true, false, if◌then◌else◌, Option, List, [], ◌∷◌, All, length, map, take, get_or, refl, sym, ap, arith, length-append, length-take, subst, below_more}
 use Rattle.std.proofs.lemmas.List.{length-map, take-map, take_all}
 use Rattle.std.proofs.lemmas.List.Elements.{All-head, All-tail}
 use Rattle.std.proofs.lemmas.List.FromFn.{take-map-range_with_len, length-map-range_with_len}
@@ -13,7 +12,7 @@ use Rattle.arrays.specs.declared.layout.Layout.TheVariants as layout
 use Rattle.arrays.specs.declared.of_slots.SlotRef.{SlotRef}
 use Rattle.arrays.specs.Layout.{layout_slot}
 use Rattle.arrays.specs.Number.{integer_at, decimal_at}
-use Rattle.arrays.specs.OfSlots.{slot_value, IsSlotOf}
+use Rattle.arrays.specs.OfSlots.{slot_value}
 use Rattle.arrays.specs.Typed.{IsOfType}
 use Rattle.arrays.specs.Validity.{is_valid, where_valid}
 use Rattle.arrays.specs.Written.{text_bytes, texts_joined}

@@ -4,5 +4,4 @@ pub mod Answering
 pub mod Counting
 pub mod Finishing
 pub mod Kept
-pub mod Merging
 pub mod Placing

@@ -1,4 +1,4 @@
-use Rattle.std.proofs.Common.{◌∙◌, sym, arith}
+use Rattle.std.proofs.Common.{◌∙◌, sym}
 use borrow.Author.Tests.{leb-true}
 use Rattle.grouping.proofs.Short.{slots_fit}
 use Rattle.grouping.proofs.answer.fitting.Goals as goal

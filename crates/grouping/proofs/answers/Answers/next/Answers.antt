@@ -1,4 +1,4 @@
-use Rattle.std.proofs.Common.{◌≡◌, ◌≤◌, ◌+◌, length, refl, sym, ap, ◌∙◌, subst, arith}
+use Rattle.std.proofs.Common.{◌≡◌, ◌+◌, refl, sym, ap, ◌∙◌, subst, arith}
 use Rattle.grouping.specs.Answers.{AnswersAt, GivesGroups, IsOver, groups_at}
 use Rattle.grouping.specs.inside.Adding.{lists_of}
 use Rattle.grouping.specs.inside.Finishing.{groups_in}
@@ -7,9 +7,11 @@ use Rattle.grouping.proofs.answers.Answers.next.Goals as goal
 
 pub returns-then-left-eq0 : goal.returns-then-left-eq0
 returns-then-left-eq0 c =
-    let given = ap (λ (answers : AnswersAt). answers.given) c.self.view_is in
-    (none_left c.args.batches.now c.args.self.now (groups_in c.shown-answer.result) c.shown-answer.ensures.groups
-    (omega (arith, c.groups.ensures, given, c.if-left-eq0.true)), refl)
+    let given = ap (λ (answers : AnswersAt). answers.given) c.self.view_is in (
+      none_left c.args.batches.now c.args.self.now (groups_in c.shown-answer.result) c.shown-answer.ensures.groups
+          (omega (arith, c.groups.ensures, given, c.if-left-eq0.true)),
+      refl,
+    )
 
 pub returns : goal.returns
 returns c =

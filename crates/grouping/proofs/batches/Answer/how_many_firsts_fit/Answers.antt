@@ -1,4 +1,4 @@
-use Rattle.std.proofs.Common.{◌≡◌, false, IfOk, List, [], length, map, sym, ap, ◌∙◌, subst, arith}
+use Rattle.std.proofs.Common.{◌≡◌, false, IfOk, List, [], map, sym, ap, ◌∙◌, subst, arith}
 use Rattle.std.proofs.lemmas.List.{length-map}
 use Rattle.std.proofs.lemmas.List.Elements.{All-map, All-weaker}
 use Rattle.scan_base.specs.declared.value.Value.{Value}

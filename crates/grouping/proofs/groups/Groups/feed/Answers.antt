@@ -1,6 +1,6 @@
-use Rattle.std.proofs.Common.{◌≡◌, ◌<◌, ℕ, ◌+◌, All, List, length, map, get_or, refl, sym, ap, ◌∙◌, subst, arith}
-use Rattle.arrays.specs.Batch.{BatchAt, row_of}
-use Rattle.grouping.specs.Fed.{Feeds, GroupsAt, batch_at}
+use Rattle.std.proofs.Common.{◌≡◌, ◌<◌, ℕ, ◌+◌, All, List, length, get_or, refl, sym, ap, ◌∙◌, subst, arith}
+use Rattle.arrays.specs.Batch.{BatchAt}
+use Rattle.grouping.specs.Fed.{GroupsAt, batch_at}
 use Rattle.grouping.proofs.Feeding.{IsFed, can_count_all, keys_there, feeds_all, fed_batch}
 use Rattle.grouping.proofs.groups.Groups.feed.Goals as goal
 use Rattle.grouping.proofs.groups.Groups.feed.Goals.{After-index-self-number}
