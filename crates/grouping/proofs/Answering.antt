@@ -17,7 +17,7 @@ use Rattle.arrays.specs.Written.{text_bytes}
 use Rattle.typed_plan.specs.Typed.{type_at}
 use Rattle.grouping.specs.declared.key.Place.{Place}
 use Rattle.grouping.specs.declared.tally.Tally.{Tally}
-use Rattle.grouping.specs.Answers.{IsThere, row_in}
+use Rattle.grouping.specs.Answers.{IsThere}
 use Rattle.grouping.specs.Fed.{AreTyped, batch_at}
 use Rattle.grouping.specs.inside.Answering.{count_or_none, first_cell, has_texts, sum_or_none}
 use Rattle.grouping.proofs.Feeding.{as_many}
@@ -91,15 +91,15 @@ pub record IsHome (types : List DataType) (batches : List BatchAt) (first : Plac
   pub long : length types ≡ length batch.columns
   pub row : first.row < batch.rows
 
-pub home : (types : List DataType) (batches : List BatchAt) (first : Place) (batch : BatchAt) → AreTyped types batches → IsThere batches first →
-    batch ≡ get_or batches first.batch batch → IsHome types batches first batch
-home types batches first batch typed there is =
-    let same : batch ≡ batch_at batches first.batch = is ∙ get_or_default batches first.batch batch (record { columns = []; rows = 0 }) there.batch in
-    let of : AreOf types batch.columns = subst (λ (batch : BatchAt). AreOf types batch.columns) (sym is) (typed first.batch batch there.batch) in
+pub home : (types : List DataType) (batches : List BatchAt) (first : Place) (d : BatchAt) → AreTyped types batches → IsThere batches first →
+    IsHome types batches first (get_or batches first.batch d)
+home types batches first d typed there =
+    let same = get_or_default batches first.batch d (record { columns = []; rows = 0 }) there.batch in
+    let of : AreOf types (get_or batches first.batch d).columns = typed first.batch d there.batch in
     record {
       same = same;
       typed = of;
-      long = as_many types batch.columns of;
+      long = as_many types (get_or batches first.batch d).columns of;
       row = omega (arith, there.row, ap (λ (batch : BatchAt). batch.rows) same);
     }
 
@@ -118,17 +118,17 @@ pub no_text_cell : (types : List DataType) (batches : List BatchAt) (place : ℕ
 no_text_cell types batches place typed low plain first there =
     let none : ColumnAt = record { layout = layout.Bools (record { validity = None; values = [] }); first = 0; len = 0 } in
     let batch = batch_at batches first.batch in
-    let at = home types batches first batch typed there (get_or_default batches first.batch (record { columns = []; rows = 0 }) batch there.batch) in
+    let at = home types batches first (record { columns = []; rows = 0 }) typed there in
     let column = get_or batch.columns place none in
     ap text_bytes (cell_slot batch.columns first.row place none (omega (arith, low, at.long)))
     ∙ no_text (type_at types place) column.layout (column.first + first.row) plain (typed_at types batch.columns place none at.typed (omega (arith, low, at.long)))
 
 -- the values of slots, and of one more
-pub values_more : (cell : Place → Value) (firsts : List Place) (index : ℕ) (first : Place) (slots : List SlotRef) (slot : SlotRef) →
-    first ≡ get_or firsts index first → index < length firsts → slot_value slot ≡ cell first →
+pub values_more : (cell : Place → Value) (firsts : List Place) (index : ℕ) (d : Place) (slots : List SlotRef) (slot : SlotRef) →
+    index < length firsts → slot_value slot ≡ cell (get_or firsts index d) →
     map slot_value slots ≡ map cell (take index firsts) → map slot_value (slots ++ slot ∷ []) ≡ map cell (take (index + 1) firsts)
-values_more cell firsts index first slots slot is low value so =
+values_more cell firsts index d slots slot low value so =
     map-append slot_value slots (slot ∷ [])
     ∙ ap (λ values. values ++ slot_value slot ∷ []) so
-    ∙ ap (λ v. map cell (take index firsts) ++ v ∷ []) (value ∙ ap cell is)
-    ∙ sym (map_more cell firsts index first low)
+    ∙ ap (λ v. map cell (take index firsts) ++ v ∷ []) value
+    ∙ sym (map_more cell firsts index d low)

@@ -40,6 +40,7 @@ use Rattle.grouping.proofs.Batching.{ranged_any, rows_of_cells}
 use Rattle.grouping.proofs.Feeding.{has_each}
 use Rattle.grouping.proofs.KeyCells.{key_there}
 use Rattle.grouping.proofs.Short.{plain_fit}
+use Rattle.grouping.proofs.Stepping.{one_within}
 
 pub if_ok_three : {T E : Type 0} (P Q R S : T → Type 0) → ((x : T) → P x → Q x → R x → S x) → (r : Result T E) → IfOk r P → IfOk r Q → IfOk r R → IfOk r S
 if_ok_three P Q R S f (Ok x) p q r = f x p q r
@@ -79,10 +80,7 @@ item_tallies answer item list slice can there is =
     record {
       whole = whole;
       long = ap length whole ∙ can.kept.long item there;
-      few = λ k d within.
-          let few = (small.each k within).few in
-          let other : (get_or slice k d).count ≡ (get_or slice k no_rows).count = ap (λ (tally : Tally). tally.count) (get_or_default slice k d no_rows within) in
-          omega (arith, few, other, can.few);
+      few = λ k d within. let few = one_within can.count slice k d small within in omega (arith, few, can.few);
     }
 
 -- so is a part of them
@@ -224,12 +222,12 @@ no_text_sum tally = by (tally.count == 0)
 
 -- whether an item counts or sums
 abbrev pub IsTallied : Aggregate → Type 0
-IsTallied item = ((item ≡ CountRows) ⊎ ((column : ℕ) × (item ≡ Count column))) ⊎ ((column : ℕ) × (item ≡ Sum column))
+IsTallied item = (item ≡ CountRows) ⊎ (((column : ℕ) × (item ≡ Count column)) ⊎ ((column : ℕ) × (item ≡ Sum column)))
 
 no_text_item : (item : Aggregate) → IsTallied item → (key : List Value) (tally : Tally) → text_bytes (item_value key item tally) ≡ []
-no_text_item item (inl (inl is)) key tally = ap (λ (item : Aggregate). text_bytes (item_value key item tally)) is
-no_text_item item (inl (inr (column, is))) key tally = ap (λ (item : Aggregate). text_bytes (item_value key item tally)) is
-no_text_item item (inr (column, is)) key tally = ap (λ (item : Aggregate). text_bytes (item_value key item tally)) is ∙ no_text_sum tally
+no_text_item item (inl is) key tally = ap (λ (item : Aggregate). text_bytes (item_value key item tally)) is
+no_text_item item (inr (inl (column, is))) key tally = ap (λ (item : Aggregate). text_bytes (item_value key item tally)) is
+no_text_item item (inr (inr (column, is))) key tally = ap (λ (item : Aggregate). text_bytes (item_value key item tally)) is ∙ no_text_sum tally
 
 -- all of its groups have room
 pub tallies_fit : (groups : GroupsAt) (item from most : ℕ) → IsTallied (get_or groups.items item (Key 0)) → 0 < most → Fits (item_cells groups item from most) most

@@ -1,19 +1,17 @@
 -- Answers, from groups to their last batch.
-use Rattle.std.proofs.Common.{◌≡◌, ◌≤◌, ◌<◌, ℕ, ◌+◌, List, [], ◌∷◌, All, length, map, get_or, drop, Option, None, Ok, refl, sym, ap, ◌∙◌, subst, arith}
-use Rattle.std.proofs.lemmas.List.{length-map}
+use Rattle.std.proofs.Common.{◌≡◌, ◌≤◌, ℕ, suc, ◌+◌, List, [], ◌∷◌, All, length, map, get_or, Option, None, Ok, refl, sym, ap, ◌∙◌, subst, arith}
+use Rattle.std.proofs.lemmas.List.{drop_all, length-map}
+use Rattle.std.proofs.lemmas.List.FromFn.{length-map-range_with_len}
 use Rattle.std.proofs.lemmas.List.Elements.{All-map}
 use Rattle.scan_base.specs.declared.fault.Fault.{Fault}
 use Rattle.scan_base.specs.declared.value.Value.{Value}
 use Rattle.scan_base.specs.Predicate.{cell_in}
 use Rattle.arrays.specs.Batch.{BatchAt, row_of}
-use Rattle.table_versions.specs.Table.{Row}
-use Rattle.typed_plan.specs.Plan.{answered, groups_by}
-use Rattle.grouping.specs.declared.groups.Grouping.{Grouping}
 use Rattle.grouping.specs.declared.key.Place.{Place}
 use Rattle.grouping.specs.declared.key.RowKey.{RowKey}
-use Rattle.grouping.specs.Answered.{answer_rows}
-use Rattle.grouping.specs.Answers.{AnswersAt, Finishes, GivesGroups, IsAnswerOf, IsOver, IsThere, groups_at, keys_at, most_batch_rows, row_in}
-use Rattle.grouping.specs.Fed.{GroupsAt, Holds, AreTyped, batch_at}
+use Rattle.grouping.specs.Answered.{answer_rows, row_at}
+use Rattle.grouping.specs.Answers.{AnswersAt, Finishes, GivesGroups, IsOver, IsThere, answers_ahead, groups_at, keys_at, most_batch_rows, row_in}
+use Rattle.grouping.specs.Fed.{GroupsAt, AreTyped}
 use Rattle.grouping.specs.Found.{key_in}
 use Rattle.grouping.specs.RowKeys.{key_of}
 use Rattle.grouping.specs.inside.Finishing.{IsNextOf, group_count}
@@ -99,3 +97,10 @@ gives batches before groups most batch same over within few next =
       over = record { typed = over.typed; there = over.there };
       types = refl;
     }
+
+-- where all groups were answered nothing is left
+pub none_left : (batches : List BatchAt) (before : AnswersAt) (groups : GroupsAt) → groups ≡ groups_at batches before → length groups.found ≤ before.given →
+    answers_ahead batches before ≡ []
+none_left batches before groups same all =
+    let long = length-map-range_with_len (row_at (groups_at batches before)) 0 (length (groups_at batches before).found) in
+    drop_all before.given (answer_rows (groups_at batches before)) (omega (arith, long, all, ap (λ (groups : GroupsAt). length groups.found) same))

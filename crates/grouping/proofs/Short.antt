@@ -1,7 +1,6 @@
 -- Texts of an item that are short, of fewer groups too.
-use Rattle.std.proofs.Common.{◌≡◌, ◌≤◌, ◌<◌, ℕ, zero, suc, ◌+◌, Bool as Truth, true, false, if◌then◌else◌, Option, List, [], ◌∷◌, All, length, map, take, get_or, refl, sym, ap, ◌∙◌, arith, length-append, length-take, subst, below_more}
-use Rattle.std.specs.List.{range_with_len}
-use Rattle.std.proofs.lemmas.List.{take_all}
+use Rattle.std.proofs.Common.{◌≡◌, ◌≤◌, ◌<◌, ℕ, zero, suc, ◌+◌, Bool as Truth, true, false, if◌then◌else◌, Option, List, [], ◌∷◌, All, length, map, take, get_or, refl, sym, ap, arith, length-append, length-take, subst, below_more}
+use Rattle.std.proofs.lemmas.List.{length-map, take-map, take_all}
 use Rattle.std.proofs.lemmas.List.Elements.{All-head, All-tail}
 use Rattle.std.proofs.lemmas.List.FromFn.{take-map-range_with_len, length-map-range_with_len}
 use Rattle.arrow_schema.specs.declared.data_type.DataType.{DataType}
@@ -13,11 +12,12 @@ use Rattle.arrays.specs.declared.layout.Layout.TheVariants as layout
 use Rattle.arrays.specs.declared.of_slots.SlotRef.{SlotRef}
 use Rattle.arrays.specs.Layout.{layout_slot}
 use Rattle.arrays.specs.Number.{integer_at, decimal_at}
-use Rattle.arrays.specs.OfSlots.{slot_value, IsSlotOf}
+use Rattle.arrays.specs.OfSlots.{slot_value}
 use Rattle.arrays.specs.Typed.{IsOfType}
 use Rattle.arrays.specs.Validity.{is_valid, where_valid}
 use Rattle.arrays.specs.Written.{text_bytes, texts_joined}
 use Rattle.grouping.specs.Answered.{cell_at}
+use Rattle.grouping.specs.Answers.{most_text_bytes}
 use Rattle.grouping.specs.Fed.{GroupsAt}
 use Rattle.grouping.specs.inside.Answering.{AreShort, Fits, has_texts}
 use Rattle.grouping.specs.inside.Finishing.{AllFit, item_cells}
@@ -60,6 +60,15 @@ fit_more groups from most items count fewer fit fits =
           (shorter fewer (item_cells groups item from count) (fit.short item low)))
           (subst AreShort (take-map-range_with_len (λ group. cell_at groups group items) from count fewer within) fits.short);
     }
+
+-- so many slots have room where their texts are short
+pub slots_fit : (slots : List SlotRef) (count : ℕ) → 0 < count → count ≤ length slots → length (texts_joined (map slot_value (take count slots))) ≤ most_text_bytes →
+    Fits (map slot_value slots) count
+slots_fit slots count some within low = record {
+  some = some;
+  within = omega (arith, within, length-map slots slot_value);
+  short = subst AreShort (sym (take-map slot_value count slots)) (record { named = omega (arith, low); light = λ many. low });
+}
 
 -- ---- values that are no texts
 

@@ -35,6 +35,7 @@ pub struct Answers {
 }
 
 impl Model for Answers {
+    ghost use Rattle.std.specs.Prelude.{length};
     ghost use Rattle.grouping.specs.Answers.{AnswersAt};
     ghost use Rattle.grouping.specs.inside.Adding.{lists_of};
     ghost use Rattle.grouping.specs.inside.Finishing.{IsAnswers};

@@ -62,20 +62,6 @@ pub(crate) fn add<'t>(
     Ok(())
 }
 
-/// Takes in what is kept of other rows, of so many items.
-///
-/// # Errors
-///
-/// `AllocError` where memory is refused.
-pub(crate) fn join<'t>(
-    _alloc: Global,
-    _items: usize,
-    _kept: &mut Kept<'t>,
-    _other: &Kept<'t>,
-) -> Result<(), AllocError> {
-    Err(AllocError)
-}
-
 /// How many groups there are.
 pub(crate) fn found_count(columns: &[usize], firsts: &IndexSet<RowKey<'_>, HashSeed>) -> usize
     ensures { result ≡ length (found_by columns.now firsts.now.keys) }

@@ -1,9 +1,6 @@
 use Rattle.grouping.specs.inside.Finishing.{groups_in}
-use Rattle.grouping.proofs.Short.{none_fit, fit_more}
+use Rattle.grouping.proofs.Short.{fit_more}
 use Rattle.grouping.proofs.batches.Answer.how_many_fit.Goals as goal
-
-pub loop-item-initial : goal.loop-item-initial
-loop-item-initial c = none_fit (groups_in c.args.self.now) c.args.from c.args.most c.requires.some
 
 pub loop-item-preserved : goal.loop-item-preserved
 loop-item-preserved c =
