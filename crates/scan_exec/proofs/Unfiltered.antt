@@ -1,7 +1,7 @@
 -- Rows that are read without their filters, which choose among them later.
-use Rattle.std.proofs.Common.{◌≡◌, ◌≤◌, ◌<◌, ℕ, Bool, true, false, cond, All, List, [], ◌∷◌, length, map, take, Option, None, nat_lt, refl, sym, ap, ◌∙◌, subst, arith}
+use Rattle.std.proofs.Common.{◌≡◌, ◌≤◌, ℕ, Bool, true, false, cond, All, List, [], ◌∷◌, length, map, take, Option, None, nat_lt, refl, sym, ap, ◌∙◌, subst, arith}
 use Rattle.std.specs.Prelude.{IsTrue}
-use Rattle.std.specs.List.{filter, list_all, range_with_len}
+use Rattle.std.specs.List.{filter, range_with_len}
 use Rattle.std.proofs.lemmas.List.{length-map}
 use Rattle.std.proofs.lemmas.List.FromFn.{length-range_with_len}
 use Rattle.std.proofs.lemmas.Simd.{map-map}
@@ -26,7 +26,7 @@ use Rattle.scan_exec.specs.Giving.{GivingAt}
 use Rattle.scan_exec.specs.Grouped.{IsGrouped, IsWanted, of_groups, passing, unfiltered, wanted_rows, wanted_types}
 use Rattle.scan_exec.specs.Joined.{source_at}
 use Rattle.scan_exec.specs.Picking.{PickAt, IsPick, cells_at, given_numbered, holds, passes, pick_of}
-use Rattle.scan_exec.specs.Running.{RowsAt, picked_of}
+use Rattle.scan_exec.specs.Running.{RowsAt}
 use Rattle.scan_exec.proofs.BeginPick.{all_within, pick_with}
 use Rattle.scan_exec.proofs.Cells.{map-cells}
 use Rattle.scan_exec.proofs.Giving.{filter-all}
@@ -127,12 +127,12 @@ module _ (s : Sourced) (keys : List ℕ) (items : List Aggregate) (wanted : Want
   pub gives_groups : of_groups rows wanted Waiting ≡ answer_for (Groups keys items) (sourced_at s)
   gives_groups =
       let giving : List DataType → List Row → List ℕ → List ℕ → GivingAt = λ types some batches opened.
-          record { types = types; ahead = map (λ (row : Row). (None, row)) some; batches = batches; opened = opened } in
+      record { types = types; ahead = map (λ (row : Row). (None, row)) some; batches = batches; opened = opened } in
       let made = groups_by keys (plain_rows (sourced_at s).ahead) in
       let types : wanted_types wanted ≡ map answer_type (map (item_type keys (sourced_at s).types) items) =
-          rw (k, t ∙ is.types, i) refl in
+      rw (k, t ∙ is.types, i) refl in
       let groups : wanted_rows wanted (plain_rows rows.ahead) ≡ map (λ group. map (answered group) items) made =
-          rw (k, i, same_rows) refl in
+      rw (k, i, same_rows) refl in
       ap (λ (some : List DataType). giving some (wanted_rows wanted (plain_rows rows.ahead)) rows.batches rows.opened) types
       ∙ ap (λ (some : List Row). giving (map answer_type (map (item_type keys (sourced_at s).types) items)) some rows.batches rows.opened) groups
       ∙ ap (λ (r : RowsAt). giving (map answer_type (map (item_type keys (sourced_at s).types) items)) (map (λ group. map (answered group) items) made) r.batches r.opened) all

@@ -78,7 +78,12 @@ pub(crate) fn answer_of(
     match output {
         Output::Project(columns) => Ok(Answer::Rows(sourced.shown(alloc, &columns)?)),
         Output::Groups { keys, items } => {
-            let Sourced { source, filters, columns, types } = sourced;
+            let Sourced {
+                source,
+                filters,
+                columns,
+                types,
+            } = sourced;
             let picker = Picker {
                 filters,
                 read: numbers_below(alloc, columns.len())?,
