@@ -91,9 +91,9 @@ place_append (joined left right on) h some more = cc
 filter_few : (test : Row → Bool) (rows : List Row) → length (filter test rows) ≤ length rows
 filter_few test [] = omega arith
 filter_few test (row ∷ rows) = elim (test row) as (λ b. length (cond b (row ∷ filter test rows) (filter test rows)) ≤ suc (length rows)) [
-    | true ↦ omega (arith, filter_few test rows)
-    | false ↦ omega (arith, filter_few test rows)
-  ]
+  | true ↦ omega (arith, filter_few test rows)
+  | false ↦ omega (arith, filter_few test rows)
+]
 
 place_few : (tree : Tree) → is_place tree ≡ true → (rows : List Row) → length (rows_over tree (rows ∷ [])) ≤ length rows
 place_few (scan table schema columns.All) h rows = omega arith

@@ -11,7 +11,7 @@ ghost use Rattle.scan_exec.specs.Begun.{IsBegun, IsSourced, sourced_at};
 ghost use Rattle.scan_exec.specs.Given.{first_batches};
 ghost use Rattle.scan_exec.specs.Joined.{source_at};
 
-use crate::join_source::{join_source, Sides};
+use crate::join_source::{Sides, join_source};
 use crate::picker::Picker;
 use crate::rows::{Rows, Source};
 use crate::scan_source::scan_source;
@@ -21,8 +21,8 @@ use hash_seed::HashSeed;
 use scan_base::Predicate;
 use std::alloc::{AllocError, Global};
 use table_versions::TableVersion;
-use typed_plan::laws::typed_predicates_name_columns;
 use typed_plan::Plan;
+use typed_plan::laws::typed_predicates_name_columns;
 
 // A source, the filters over its rows, and the numbers of its columns that they see and that are given, with their types.
 #[derive(Drop)]
@@ -74,7 +74,12 @@ pub(crate) fn build(
             let (seed, from, to) = (reading.seed, 0, table.rows());
             let mut last = Vec::new(alloc);
             last.push(table)?;
-            let right = build(alloc, Box::into_inner(right), last, Reading { seed, from, to })?;
+            let right = build(
+                alloc,
+                Box::into_inner(right),
+                last,
+                Reading { seed, from, to },
+            )?;
             join_source(alloc, seed, Sides { left, right }, on.as_slice())
         }
     }

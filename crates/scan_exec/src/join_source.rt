@@ -76,7 +76,10 @@ fn join_sides(
     };
     let right = JoinSide {
         types: right.iter().copied().collect(alloc)?,
-        key: on.iter().map(|key| key.right.saturating_sub(seam)).collect(alloc)?,
+        key: on
+            .iter()
+            .map(|key| key.right.saturating_sub(seam))
+            .collect(alloc)?,
     };
     Ok(JoinSides { left, right })
 }

@@ -85,10 +85,13 @@ build-requires-in-Join t c =
     let all = with_last c.args.tables.items popped c.pop-in-Join.result c.in_ok-table-in-Join.table c.pop-in-Join.ensures.items c.in_ok-table-in-Join.ensures.ok_part in
     let sides = sides_tables left right c.args.tables.items popped c.in_ok-table-in-Join.table typed.2 (sym (ap tree_schemas tree) ∙ c.requires.schemas) all in
     let smaller : tree_size (tree_of c.into_inner-in-Join.result) < tree_size (tree_of c.args.plan) =
-    omega (arith, ap (λ (plan : Plan). tree_size (tree_of plan)) c.into_inner-in-Join.ensures, ap tree_size tree) in
-    (first_of (omega (arith, smaller), search (rules, smaller)),
-    (subst (λ (plan : Plan). IsTypedTree (tree_of plan)) (sym c.into_inner-in-Join.ensures) typed.0,
-    ap (λ (plan : Plan). tree_schemas (tree_of plan)) c.into_inner-in-Join.ensures ∙ sides.0))
+    omega (arith, ap (λ (plan : Plan). tree_size (tree_of plan)) c.into_inner-in-Join.ensures, ap tree_size tree) in (
+      first_of (omega (arith, smaller), search (rules, smaller)),
+      (
+        subst (λ (plan : Plan). IsTypedTree (tree_of plan)) (sym c.into_inner-in-Join.ensures) typed.0,
+        ap (λ (plan : Plan). tree_schemas (tree_of plan)) c.into_inner-in-Join.ensures ∙ sides.0,
+      ),
+    )
 
 pub build-requires-in-Join-2 : goal.build-requires-in-Join-2
 build-requires-in-Join-2 t c =
@@ -102,10 +105,13 @@ build-requires-in-Join-2 t c =
     let sides = sides_tables left right c.args.tables.items popped table typed.2 (sym (ap tree_schemas tree) ∙ c.requires.schemas) all in
     let lasts : c.push-in-Join.new.self.items ≡ table ∷ [] = c.in_ok-push-in-Join.ensures.items ∙ ap (λ (some : List TableAt). some ++ table ∷ []) c.new-last.ensures.items in
     let smaller : tree_size (tree_of c.into_inner-in-Join-2.result) < tree_size (tree_of c.args.plan) =
-    omega (arith, ap (λ (plan : Plan). tree_size (tree_of plan)) c.into_inner-in-Join-2.ensures, ap tree_size tree) in
-    (first_of (omega (arith, smaller), search (rules, smaller)),
-    (subst (λ (plan : Plan). IsTypedTree (tree_of plan)) (sym c.into_inner-in-Join-2.ensures) typed.1,
-    ap (λ (plan : Plan). tree_schemas (tree_of plan)) c.into_inner-in-Join-2.ensures ∙ sides.1 ∙ ap schemas_of (sym lasts)))
+    omega (arith, ap (λ (plan : Plan). tree_size (tree_of plan)) c.into_inner-in-Join-2.ensures, ap tree_size tree) in (
+      first_of (omega (arith, smaller), search (rules, smaller)),
+      (
+        subst (λ (plan : Plan). IsTypedTree (tree_of plan)) (sym c.into_inner-in-Join-2.ensures) typed.1,
+        ap (λ (plan : Plan). tree_schemas (tree_of plan)) c.into_inner-in-Join-2.ensures ∙ sides.1 ∙ ap schemas_of (sym lasts),
+      ),
+    )
 
 pub join_source-requires-clause-joinable : goal.join_source-requires-clause-joinable
 join_source-requires-clause-joinable t c =
