@@ -78,26 +78,20 @@ pub(crate) fn answer_of(
     match output {
         Output::Project(columns) => Ok(Answer::Rows(sourced.shown(alloc, &columns)?)),
         Output::Groups { keys, items } => {
-            let Sourced {
-                source,
-                filters,
-                columns,
-                types,
-            } = sourced;
             let picker = Picker {
-                filters,
-                read: numbers_below(alloc, columns.len())?,
+                filters: sourced.filters,
+                read: numbers_below(alloc, sourced.columns.len())?,
                 shown: Vec::new(alloc),
             };
             let wanted = Wanted {
                 picker,
                 seed,
-                types,
+                types: sourced.types,
                 keys: keys.into_vec(),
                 items: items.into_vec(),
             };
             Ok(Answer::Groups(GroupedRows {
-                rows: all_rows(alloc, source, columns)?,
+                rows: all_rows(alloc, sourced.source, sourced.columns)?,
                 wanted,
                 stage: Stage::Waiting,
             }))

@@ -137,7 +137,7 @@ impl MadeGroups {
 }
 
 impl GroupedRows {
-    // The next batch of the answer, which is begun at the first call. What refused it then is answered from then on.
+    // The next batch of the answer, whose groups are made at the first call. What refused them is answered from then on.
     pub(crate) fn next(&mut self, alloc: Global) -> Result<Option<Batch>, AllocError>
         ensures { GivesNext self.old result self.new }
     {
