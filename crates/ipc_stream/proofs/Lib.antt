@@ -1,1 +1,4 @@
-
+pub mod Claims
+pub mod Fronts
+pub mod Streams
+pub mod Cuts

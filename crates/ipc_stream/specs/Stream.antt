@@ -20,18 +20,19 @@ end_marker = announced 0 []
 abbrev pub frame : IpcMessage → List ℕ
 frame message = announced (length message.header) (message.header ++ message.body)
 
--- a header claims a body of so many bytes, whatever its version and its kind
+-- A header claims a body of so many bytes, whatever its version and its kind. The number is a signed one of 64 bits,
+-- and not negative.
 pub record ClaimsBody (header : List ℕ) (size : ℕ) : Type 0 where
   pub message : MessageAt
   pub root : root_of header ≡ Ok message.table
   pub claimed : body_length_of message ≡ Ok size
+  pub fits : size < 2 ^ 63
 
 -- A message that may stand in a stream: its header claims just its body. The length of a header is a signed number
--- of 32 bits, that of a body one of 64 bits, and neither is negative.
+-- of 32 bits, and not negative.
 pub record IsMessage (message : IpcMessage) : Type 0 where
   pub claims : ClaimsBody message.header (length message.body)
-  pub header_fits : length message.header < 2 ^ 31
-  pub body_fits : length message.body < 2 ^ 63
+  pub fits : length message.header < 2 ^ 31
 
 -- nothing is left, or the end marker, behind which anything may stand
 abbrev pub IsEnd : List ℕ → Type 0

@@ -12,6 +12,9 @@ const HEADER_START: usize = 8;
 // The most bytes of a header: its length is a signed number of 32 bits.
 const MAX_HEADER_LEN: u32 = 0x7fff_ffff;
 
+// The most bytes of a body: its length is a signed number of 64 bits.
+const MAX_BODY_LEN: u64 = 0x7fff_ffff_ffff_ffff;
+
 /// Where the parts of a message lie, counted from where it begins.
 #[derive(Clone, Copy)]
 pub(crate) struct Frame {
@@ -39,12 +42,16 @@ fn header_len(bytes: &[u8]) -> Result<Option<usize>, Fault>
     Ok(Some(len as usize))
 }
 
-// How many bytes of body a header claims, whatever its kind and version. A negative number is given as 2 to the 63 or
-// more.
+// How many bytes of body a header claims, whatever its kind and version: none where it does not say.
 fn body_len(header: &[u8]) -> Result<u64, Fault>
     ensures { FindsBody header.now result }
 {
-    Buf::root(header)?.scalar(3, Width::Eight, 0)
+    let message = Buf::root(header)?;
+    let len = message.scalar(3, Width::Eight, 0)?;
+    if len > MAX_BODY_LEN {
+        return Err(Fault::BadFlatbuffer);
+    }
+    Ok(len)
 }
 
 /// Where the message in front lies, or nothing where the stream ends.
