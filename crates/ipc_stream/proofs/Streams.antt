@@ -1,14 +1,15 @@
 -- Whole streams.
-use Rattle.std.proofs.Common.{◌≡◌, ℕ, ◌+◌, ◌-◌, ◌<◌, ◌≤◌, ◌^◌, inl, inr, List, [], ◌∷◌, ◌++◌, length, take, drop, slice_range, Ok, refl, sym, ap, ◌∙◌, subst, arith, append_assoc}
+use Rattle.std.proofs.Common.{◌≡◌, ℕ, ◌+◌, ◌-◌, ◌<◌, ◌≤◌, ◌^◌, inl, inr, Option, Result, List, [], ◌∷◌, ◌++◌, length, take, drop, slice_range, refl, sym, ap, ◌∙◌, subst, arith, append_assoc}
 use Rattle.std.specs.List.{All, AllByRecursion, flat_map}
 use Rattle.std.proofs.lemmas.Grind.{flat_map-append}
-use Rattle.std.proofs.lemmas.List.{length-append, length-drop, take_at, drop_at, drop-drop}
+use Rattle.std.proofs.Math.Seq.{take-length}
+use Rattle.std.proofs.lemmas.List.{length-drop, take_at, drop_at, drop-drop}
 use Rattle.std.proofs.lemmas.List.Elements.{recursion_from_All, All-from_recursion, All-append}
-use Rattle.flatbuf.specs.Place.{root_of}
+use Rattle.scan_base.specs.declared.fault.Fault.{Fault}
 use Rattle.ipc_stream.specs.declared.message.IpcMessage.{IpcMessage}
 use Rattle.ipc_stream.specs.declared.frame.Frame.{Frame}
 use Rattle.ipc_stream.specs.Stream.{announced, frame, ClaimsBody, IsMessage, IsEnd, Framed, IsStream}
-use Rattle.ipc_stream.specs.inside.Front.{IsStuck, IsIn, message_at, IsFound}
+use Rattle.ipc_stream.specs.inside.Front.{IsStuck, IsIn, message_at, IsFound, FindsFrame}
 use Rattle.ipc_stream.proofs.Claims.{claims_one}
 use Rattle.ipc_stream.proofs.Fronts.{announced_one}
 
@@ -69,6 +70,13 @@ pub at_most_one : (stream : List ℕ) (messages others : List IpcMessage) (rest 
 at_most_one stream messages others rest left f g =
     one_list messages others rest left (recursion_from_All IsMessage messages f.each) (recursion_from_All IsMessage others g.each) (sym f.whole ∙ g.whole) f.ends g.ends
 
+-- a slice from a place on is what is left behind it
+rest_whole : (bytes : List ℕ) (at : ℕ) → slice_range bytes at (length bytes) ≡ drop at bytes
+rest_whole bytes at = ap (λ (n : ℕ). take n (drop at bytes)) (sym (length-drop at bytes)) ∙ take-length (drop at bytes)
+
+pub rest_long : (bytes : List ℕ) (at : ℕ) → length (slice_range bytes at (length bytes)) ≡ length bytes - at
+rest_long bytes at = ap length (rest_whole bytes at) ∙ length-drop at bytes
+
 -- ---- a stream, cut so far
 
 -- a stream is these messages, and then what is left of it
@@ -98,6 +106,10 @@ reached_more stream messages left found r is =
           ∙ ap (λ (x : List ℕ). x ++ rest) (sym (flat_map-append frame messages (message ∷ [])));
       each = All-append IsMessage messages (message ∷ []) r.each (All-from_recursion IsMessage (message ∷ []) (is.fits, tt));
     }
+
+pub reached_slice : (stream : List ℕ) (messages : List IpcMessage) (left : List ℕ) (found : Frame) → Reached stream messages left → IsFound left found → Reached stream (messages ++ (message_at left 0 found ∷ [])) (slice_range left found.end (length left))
+reached_slice stream messages left found r is =
+    subst (λ (rest : List ℕ). Reached stream (messages ++ (message_at left 0 found ∷ [])) rest) (sym (rest_whole left found.end)) (reached_more stream messages left found r is)
 
 -- where what is left is stuck, there are no messages
 
@@ -138,3 +150,18 @@ pub in_there : (stream : List ℕ) (at : ℕ) (found : Frame) → at ≤ length 
 in_there stream at found le is =
     let w = is.within in
     record { starts = is.starts; ordered = is.ordered; within = omega (arith, length-drop at stream) }
+
+-- what stands in front of a slice stands in front of what is left
+pub finds_there : (slice stream : List ℕ) (at : ℕ) (found : Result (Option Frame) Fault) → slice ≡ stream → FindsFrame (slice_range slice at (length slice)) found → FindsFrame (drop at stream) found
+finds_there slice stream at found same finds =
+    let e : slice_range slice at (length slice) ≡ drop at stream = rest_whole slice at ∙ ap (λ (x : List ℕ). drop at x) same in
+    subst (λ (x : List ℕ). FindsFrame x found) e finds
+
+-- one more message, where it lies in the stream
+pub reached_there : (stream : List ℕ) (messages next : List IpcMessage) (message : IpcMessage) (at : ℕ) (found : Frame) → next ≡ messages ++ (message ∷ []) → message ≡ message_at stream at found
+    → Reached stream messages (drop at stream) → IsFound (drop at stream) found → Reached stream next (drop (at + found.end) stream)
+reached_there stream messages next message at found pushed is r there =
+    let same : messages ++ (message_at (drop at stream) 0 found ∷ []) ≡ next =
+        ap (λ (m : IpcMessage). messages ++ (m ∷ [])) (message_there stream at found ∙ sym is) ∙ sym pushed in
+    let named = subst (λ (all : List IpcMessage). Reached stream all (drop found.end (drop at stream))) same (reached_more stream messages (drop at stream) found r there) in
+    subst (λ (rest : List ℕ). Reached stream next rest) (drop-drop found.end at stream) named

@@ -1,6 +1,6 @@
 //! A whole stream.
 
-ghost use Rattle.std.specs.Prelude.{◌≡◌, ◌≤◌, ◌+◌, length, MatchResult, IfOk, List, ℕ};
+ghost use Rattle.std.specs.Prelude.{◌≡◌, ◌+◌, ◌<◌, ◌^◌, MatchResult, IfOk, List, ℕ};
 ghost use Rattle.scan_base.specs.declared.fault.Fault.TheVariants.{BadFlatbuffer};
 ghost use Rattle.ipc_stream.specs.Stream.{Framed, IsStream, Refuses};
 ghost use Rattle.ipc_stream.specs.inside.Front.{IsIn, message_at};
@@ -26,7 +26,8 @@ fn count_messages(stream: &[u8]) -> Result<usize, Fault>
 
 // The message that lies in the stream from a place on.
 fn message_at(stream: &Bytes, at: usize, frame: Frame) -> Result<IpcMessage, AllocError>
-    requires { IsIn stream.now at frame }
+    requires within { IsIn stream.now at frame }
+    requires fits { at + frame.end < 2 ^ 64 }
     ensures { IfOk result (λ message. message ≡ message_at stream.now at frame) }
 {
     let header_end = at + frame.header_end;
