@@ -1,5 +1,5 @@
 -- How many bytes of body a header claims.
-use Rattle.std.proofs.Common.{◌≡◌, ◌<◌, ◌≤◌, ◌^◌, ℕ, List, Ok, Err, sym, ◌∙◌, subst, arith}
+use Rattle.std.proofs.Common.{◌≡◌, ◌<◌, ◌^◌, ℕ, List, Ok, Err, sym, ◌∙◌, subst}
 use Rattle.scan_base.specs.declared.fault.Fault.{Fault}
 use Rattle.flatbuf.specs.Layout.{TableAt, IsBytes, HasRoot, HasScalar}
 use Rattle.flatbuf.specs.Place.{root_of, scalar_of}

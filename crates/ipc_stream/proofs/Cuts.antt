@@ -6,8 +6,8 @@ use Rattle.flatbuf.specs.Layout.{Stands}
 use Rattle.flatbuf.specs.Block.{little, padded}
 use Rattle.arrow_schema.specs.Written.{encapsulated}
 use Rattle.ipc_stream.specs.declared.message.IpcMessage.{IpcMessage}
-use Rattle.ipc_stream.specs.Stream.{announced, frame, Framed}
-use Rattle.ipc_stream.specs.Laws.{IsCut}
+use Rattle.ipc_stream.specs.Stream.{announced, frame, IsCut}
+use Rattle.ipc_stream.proofs.Streams.{Reached}
 
 -- the parts of the first of some messages
 first_stands : (before : List ℕ) (message : IpcMessage) (behind : List ℕ) → Stands (message.header ++ message.body) (before ++ (frame message ++ behind)) (length (before ++ announced (length message.header) []))
@@ -18,6 +18,7 @@ first_stands before message behind = record {
   place = refl;
 }
 
+-- the parts of each of some messages
 cuts : (before : List ℕ) (messages : List IpcMessage) (rest : List ℕ) → AllByRecursion (IsCut (before ++ (flat_map frame messages ++ rest))) messages
 cuts before [] rest = tt
 cuts before (message ∷ messages) rest =
@@ -25,15 +26,15 @@ cuts before (message ∷ messages) rest =
     let stream = before ++ (flat_map frame (message ∷ messages) ++ rest) in
     let apart : before ++ (frame message ++ behind) ≡ stream = ap (λ (x : List ℕ). before ++ x) (sym (append_assoc (frame message) (flat_map frame messages) rest)) in
     let place = length (before ++ announced (length message.header) []) in
-    let on : (before ++ frame message) ++ behind ≡ stream = append_assoc before (frame message) behind ∙ apart in
-    (
-        record { place = place; stands = subst (λ (s : List ℕ). Stands (message.header ++ message.body) s place) apart (first_stands before message behind) },
-        subst (λ (s : List ℕ). AllByRecursion (IsCut s) messages) on (cuts (before ++ frame message) messages rest),
+    let on : (before ++ frame message) ++ behind ≡ stream = append_assoc before (frame message) behind ∙ apart in (
+      record { place = place; stands = subst (λ (s : List ℕ). Stands (message.header ++ message.body) s place) apart (first_stands before message behind) },
+      subst (λ (s : List ℕ). AllByRecursion (IsCut s) messages) on (cuts (before ++ frame message) messages rest),
     )
 
-pub parts_cut : (stream : List ℕ) (messages : List IpcMessage) (rest : List ℕ) → Framed stream messages rest → All (IsCut stream) messages
-parts_cut stream messages rest f =
-    subst (λ (s : List ℕ). All (IsCut s) messages) (sym f.whole) (All-from_recursion (IsCut (flat_map frame messages ++ rest)) messages (cuts [] messages rest))
+-- each message that was cut so far is a cut of the stream
+pub parts_cut : (stream : List ℕ) (messages : List IpcMessage) (left : List ℕ) → Reached stream messages left → All (IsCut stream) messages
+parts_cut stream messages left r =
+    subst (λ (s : List ℕ). All (IsCut s) messages) (sym r.whole) (All-from_recursion (IsCut (flat_map frame messages ++ left)) messages (cuts [] messages left))
 
 -- a header in IPC form
 pub frame_written : (header body : List ℕ) → encapsulated header ++ body ≡ frame (record { header = padded header; body = body })

@@ -1,12 +1,12 @@
 -- What a message in front says of the bytes.
-use Rattle.std.proofs.Common.{◌≡◌, ℕ, ◌+◌, ◌-◌, ◌<◌, ◌≤◌, ◌^◌, inl, inr, List, [], ◌∷◌, ◌++◌, length, take, drop, slice_range, refl, sym, ap, ◌∙◌, subst, arith, append_assoc}
+use Rattle.std.proofs.Common.{◌≡◌, ℕ, ◌+◌, ◌-◌, ◌<◌, ◌≤◌, ◌^◌, inl, inr, List, [], ◌++◌, length, take, drop, slice_range, refl, sym, ap, ◌∙◌, subst, arith, append_assoc}
 use Rattle.std.specs.Int.{w32, to_le_bytes, from_le_bytes}
 use Rattle.std.proofs.lemmas.Nat.{from_le_bytes-to_le_bytes_4}
 use Rattle.std.proofs.lemmas.List.{length-append, length-drop, take_at, length-take-le, take-append-drop, drop-drop}
 use Rattle.ipc_stream.specs.declared.message.IpcMessage.{IpcMessage}
 use Rattle.ipc_stream.specs.declared.frame.Frame.{Frame}
-use Rattle.ipc_stream.specs.Stream.{announced, end_marker, frame, ClaimsBody, IsMessage, IsEnd}
-use Rattle.ipc_stream.specs.inside.Front.{HasLength, IsStuck, IsIn, message_at, IsFound}
+use Rattle.ipc_stream.specs.Stream.{announced, frame, ClaimsBody, IsMessage, IsEnd}
+use Rattle.ipc_stream.specs.inside.Front.{HasLength, IsStuck, message_at, IsFound}
 use Rattle.ipc_stream.proofs.Claims.{claims_one}
 
 -- one length is announced, and one list of bytes follows
@@ -113,10 +113,10 @@ found_there bytes len size has fits claims room =
     let body_long : length message.body ≡ size = ap length (body_cut bytes len size) ∙ length-take-le size (drop len (drop 8 bytes)) (omega arith) in
     let same : header_in bytes len ≡ message.header = ap (λ (n : ℕ). slice_range bytes 8 n) (omega arith) in
     let joined : (message.header ++ message.body) ++ drop there.end bytes ≡ drop 8 bytes =
-        ap (λ (x : List ℕ). (x ++ message.body) ++ drop there.end bytes) (header_cut bytes len)
-        ∙ ap (λ (x : List ℕ). (take len (drop 8 bytes) ++ x) ++ drop there.end bytes) (body_cut bytes len size)
-        ∙ ap (λ (x : List ℕ). (take len (drop 8 bytes) ++ take size (drop len (drop 8 bytes))) ++ x) (rest_cut bytes len size)
-        ∙ parts_join (drop 8 bytes) len size in
+    ap (λ (x : List ℕ). (x ++ message.body) ++ drop there.end bytes) (header_cut bytes len)
+    ∙ ap (λ (x : List ℕ). (take len (drop 8 bytes) ++ x) ++ drop there.end bytes) (body_cut bytes len size)
+    ∙ ap (λ (x : List ℕ). (take len (drop 8 bytes) ++ take size (drop len (drop 8 bytes))) ++ x) (rest_cut bytes len size)
+    ∙ parts_join (drop 8 bytes) len size in
     let claimed : ClaimsBody message.header size = subst (λ (h : List ℕ). ClaimsBody h size) same claims in
     record {
       within = record { starts = omega arith; ordered = omega arith; within = omega arith };

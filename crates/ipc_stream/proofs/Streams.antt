@@ -1,5 +1,5 @@
 -- Whole streams.
-use Rattle.std.proofs.Common.{◌≡◌, ℕ, ◌+◌, ◌-◌, ◌<◌, ◌≤◌, ◌^◌, inl, inr, Option, Result, List, [], ◌∷◌, ◌++◌, length, take, drop, slice_range, refl, sym, ap, ◌∙◌, subst, arith, append_assoc}
+use Rattle.std.proofs.Common.{◌≡◌, ℕ, ◌+◌, ◌-◌, ◌≤◌, inl, inr, Option, Result, List, [], ◌∷◌, ◌++◌, length, take, drop, slice_range, refl, sym, ap, ◌∙◌, subst, arith, append_assoc}
 use Rattle.std.specs.List.{All, AllByRecursion, flat_map}
 use Rattle.std.proofs.lemmas.Grind.{flat_map-append}
 use Rattle.std.proofs.Math.Seq.{take-length}
@@ -16,8 +16,8 @@ use Rattle.ipc_stream.proofs.Fronts.{announced_one}
 -- two lists that begin with as many elements
 split_one : (a b x y : List ℕ) → length a ≡ length b → a ++ x ≡ b ++ y → (a ≡ b) × (x ≡ y)
 split_one a b x y long e = (
-    sym (take_at a x (length a) refl) ∙ ap (take (length a)) e ∙ take_at b y (length a) (sym long),
-    sym (drop_at a x (length a) refl) ∙ ap (drop (length a)) e ∙ drop_at b y (length a) (sym long),
+  sym (take_at a x (length a) refl) ∙ ap (take (length a)) e ∙ take_at b y (length a) (sym long),
+  sym (drop_at a x (length a) refl) ∙ ap (drop (length a)) e ∙ drop_at b y (length a) (sym long),
 )
 
 -- one message stands in front
@@ -26,13 +26,13 @@ frame_one one other rest more is is' e =
     let both : announced (length one.header) ((one.header ++ one.body) ++ rest) ≡ announced (length other.header) ((other.header ++ other.body) ++ more) = e in
     let said = announced_one (length one.header) (length other.header) _ _ (let f = is.fits in omega arith) (let f = is'.fits in omega arith) both in
     let apart : one.header ++ (one.body ++ rest) ≡ other.header ++ (other.body ++ more) =
-        sym (append_assoc one.header one.body rest) ∙ said.1 ∙ append_assoc other.header other.body more in
+    sym (append_assoc one.header one.body rest) ∙ said.1 ∙ append_assoc other.header other.body more in
     let headers = split_one one.header other.header (one.body ++ rest) (other.body ++ more) said.0 apart in
     let claims = subst (λ (h : List ℕ). ClaimsBody h (length one.body)) headers.0 is.claims in
     let bodies = split_one one.body other.body rest more (claims_one other.header (length one.body) (length other.body) claims is'.claims) headers.1 in
     let same : one ≡ other =
-        ap (λ (h : List ℕ). let m : IpcMessage = record { header = h; body = one.body } in m) headers.0
-        ∙ ap (λ (b : List ℕ). let m : IpcMessage = record { header = other.header; body = b } in m) bodies.0 in
+    ap (λ (h : List ℕ). let m : IpcMessage = record { header = h; body = one.body } in m) headers.0
+    ∙ ap (λ (b : List ℕ). let m : IpcMessage = record { header = other.header; body = b } in m) bodies.0 in
     (same, bodies.1)
 
 -- a header has a byte
@@ -162,6 +162,6 @@ pub reached_there : (stream : List ℕ) (messages next : List IpcMessage) (messa
     → Reached stream messages (drop at stream) → IsFound (drop at stream) found → Reached stream next (drop (at + found.end) stream)
 reached_there stream messages next message at found pushed is r there =
     let same : messages ++ (message_at (drop at stream) 0 found ∷ []) ≡ next =
-        ap (λ (m : IpcMessage). messages ++ (m ∷ [])) (message_there stream at found ∙ sym is) ∙ sym pushed in
+    ap (λ (m : IpcMessage). messages ++ (m ∷ [])) (message_there stream at found ∙ sym is) ∙ sym pushed in
     let named = subst (λ (all : List IpcMessage). Reached stream all (drop found.end (drop at stream))) same (reached_more stream messages (drop at stream) found r there) in
     subst (λ (rest : List ℕ). Reached stream next rest) (drop-drop found.end at stream) named

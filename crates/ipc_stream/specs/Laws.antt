@@ -1,6 +1,5 @@
 -- What holds of all streams.
-use Rattle.std.specs.Prelude.{◌≡◌, ℕ, List, ◌++◌, All}
-use Rattle.flatbuf.specs.Layout.{Stands}
+use Rattle.std.specs.Prelude.{◌≡◌, ℕ, List, ◌++◌}
 use Rattle.flatbuf.specs.Block.{padded}
 use Rattle.arrow_schema.specs.Written.{encapsulated}
 use Rattle.ipc_stream.specs.declared.message.IpcMessage.{IpcMessage}
@@ -12,15 +11,6 @@ AtMostOneList =
     (stream : List ℕ) (messages others : List IpcMessage) (rest left : List ℕ)
     → Framed stream messages rest → Framed stream others left
     → (messages ≡ others) × (rest ≡ left)
-
--- a message's header stands in the stream at a place, with its body right behind it
-pub record IsCut (stream : List ℕ) (message : IpcMessage) : Type 0 where
-  pub place : ℕ
-  pub stands : Stands (message.header ++ message.body) stream place
-
-abbrev pub PartsAreCuts : Type 0
-PartsAreCuts = (stream : List ℕ) (messages : List IpcMessage) (rest : List ℕ)
-    → Framed stream messages rest → All (IsCut stream) messages
 
 -- a header in IPC form with a body behind it is the frame of a message, whose header has its zeros
 abbrev pub FramesAreEncapsulated : Type 0

@@ -4,6 +4,7 @@ use Rattle.std.specs.Int.{w32, to_le_bytes}
 use Rattle.std.specs.List.{flat_map}
 use Rattle.scan_base.specs.declared.fault.Fault.{Fault}
 use Rattle.scan_base.specs.declared.fault.Fault.TheVariants.{BadFlatbuffer, OutOfMemory}
+use Rattle.flatbuf.specs.Layout.{Stands}
 use Rattle.flatbuf.specs.Place.{root_of}
 use Rattle.arrow_schema.specs.Header.{MessageAt, body_length_of}
 use Rattle.ipc_stream.specs.declared.message.IpcMessage.{IpcMessage}
@@ -49,6 +50,11 @@ pub record IsStream (stream : List ℕ) : Type 0 where
   pub messages : List IpcMessage
   pub rest : List ℕ
   pub framed : Framed stream messages rest
+
+-- a message's header stands in the stream, with its body right behind it
+pub record IsCut (stream : List ℕ) (message : IpcMessage) : Type 0 where
+  pub place : ℕ
+  pub stands : Stands (message.header ++ message.body) stream place
 
 -- the faults that answer bytes: BadFlatbuffer just where they are no stream, and want of memory only where they are one
 abbrev pub Refuses : List ℕ → Fault → Type 0

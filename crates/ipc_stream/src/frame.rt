@@ -6,8 +6,8 @@ ghost use Rattle.ipc_stream.specs.inside.Front.{FindsLength, FindsBody, FindsFra
 use flatbuf::{Buf, Width};
 use scan_base::Fault;
 
-// How many bytes stand before a header: four of 255, and the header's length.
-const HEADER_START: usize = 8;
+/// How many bytes stand before a header: four of 255, and the header's length.
+pub(crate) const HEADER_START: usize = 8;
 
 // The most bytes of a header: its length is a signed number of 32 bits.
 const MAX_HEADER_LEN: u32 = 0x7fff_ffff;

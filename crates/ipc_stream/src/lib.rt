@@ -1,7 +1,7 @@
 //! An Arrow IPC stream, cut into its messages.
 #![tactic(auto)]
 
-pub mod frame;
+mod frame;
 pub mod laws;
 pub mod message;
 pub mod stream;

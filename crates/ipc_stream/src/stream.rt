@@ -1,11 +1,11 @@
 //! A whole stream.
 
-ghost use Rattle.std.specs.Prelude.{◌≡◌, ◌+◌, ◌<◌, ◌^◌, MatchResult, IfOk, List, ℕ};
+ghost use Rattle.std.specs.Prelude.{◌≡◌, ◌+◌, ◌<◌, ◌^◌, MatchResult, IfOk, All, List, ℕ};
 ghost use Rattle.scan_base.specs.declared.fault.Fault.TheVariants.{BadFlatbuffer};
-ghost use Rattle.ipc_stream.specs.Stream.{Framed, IsStream, Refuses};
+ghost use Rattle.ipc_stream.specs.Stream.{Framed, IsCut, IsStream, Refuses};
 ghost use Rattle.ipc_stream.specs.inside.Front.{IsIn, message_at};
 
-use crate::frame::{Frame, read_frame};
+use crate::frame::{Frame, HEADER_START, read_frame};
 use crate::message::IpcMessage;
 use bytes::Bytes;
 use scan_base::Fault;
@@ -32,7 +32,7 @@ fn message_at(stream: &Bytes, at: usize, frame: Frame) -> Result<IpcMessage, All
 {
     let header_end = at + frame.header_end;
     Ok(IpcMessage {
-        header: stream.slice(at + 8..header_end)?,
+        header: stream.slice(at + HEADER_START..header_end)?,
         body: stream.slice(header_end..at + frame.end)?,
     })
 }
@@ -49,9 +49,10 @@ fn message_at(stream: &Bytes, at: usize, frame: Frame) -> Result<IpcMessage, All
 ///   read, and an input that ends inside a message.
 /// - F21 (`Fault::OutOfMemory`) where memory is refused, and none of the others is due: the stream is read first.
 pub fn ipc_messages(alloc: Global, stream: &Bytes) -> Result<Vec<IpcMessage>, Fault>
-    ensures { MatchResult result
+    ensures exact { MatchResult result
         (λ messages. (rest : List ℕ) × Framed stream.now messages.items rest)
         (Refuses stream.now) }
+    ensures cuts { IfOk result (λ messages. All (IsCut stream.now) messages.items) }
 {
     let count = count_messages(stream.as_slice())?;
     let mut messages = Vec::with_capacity(alloc, count)?;

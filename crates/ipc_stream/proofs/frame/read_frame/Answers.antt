@@ -1,7 +1,6 @@
 use Rattle.std.proofs.Common.{arith}
 use Rattle.std.proofs.lemmas.Result.{err_from_is_err_and}
-use Rattle.ipc_stream.specs.inside.Front.{FindsLength}
-use Rattle.ipc_stream.proofs.Fronts.{header_too_long, header_unread, body_too_long, found_there}
+use Rattle.ipc_stream.proofs.Fronts.{header_unread, found_there}
 use Rattle.ipc_stream.proofs.frame.read_frame.Goals as goal
 
 pub returns-in_err-body_len : goal.returns-in_err-body_len

@@ -1,11 +1,12 @@
-use Rattle.std.proofs.Common.{◌≡◌, ◌++◌, [], ◌∷◌, Ok, Err, drop, arith}
+use Rattle.std.proofs.Common.{Ok, Err, drop, arith}
 use Rattle.std.proofs.lemmas.List.{length-drop}
 use Rattle.std.proofs.lemmas.Result.{err_from_is_err_and}
+use Rattle.ipc_stream.proofs.Cuts.{parts_cut}
 use Rattle.ipc_stream.proofs.Streams.{reached_stuck, reached_there, finds_there}
 use Rattle.ipc_stream.proofs.stream.ipc_messages.Goals as goal
 
-pub returns-in_err-frame : goal.returns-in_err-frame
-returns-in_err-frame c =
+pub returns-in_err-frame-clause-exact : goal.returns-in_err-frame-clause-exact
+returns-in_err-frame-clause-exact c =
     let stream = c.args.stream.now in
     let slice = c.as_slice-in-loop-messages.result.now in
     let at = c.loop-messages.at in
@@ -26,3 +27,6 @@ loop-messages-preserved c =
       within = omega (arith, c.loop-messages.invariant.within, length-drop at stream);
       reached = reached_there stream c.loop-messages.messages.items c.push.new.self.items c.in_ok-message_at.field-0 at found c.in_ok-push.ensures.items c.in_ok-message_at.ensures c.loop-messages.invariant.reached is;
     }
+
+pub returns-clause-cuts : goal.returns-clause-cuts
+returns-clause-cuts c = parts_cut c.args.stream.now c.loop-messages.messages.items (drop c.loop-messages.at c.args.stream.now) c.loop-messages.invariant.reached
