@@ -3,7 +3,7 @@ use Rattle.std.proofs.Common.{◌≡◌, ◌≤◌, ◌<◌, ℕ, zero, suc, ◌
 use Rattle.std.specs.Prelude.{nat_eq}
 use Rattle.std.specs.List.{list_any}
 use borrow.Author.Tests.{ne_eqb}
-use Rattle.std.proofs.lemmas.List.{get_or-map, get_or_append_left, get_or_push, length-append, length-map, take_all, take_more}
+use Rattle.std.proofs.lemmas.List.{get_or-map, get_or_append_left, get_or_default, get_or_push, length-append, length-map, take_all, take_more}
 use Rattle.std.proofs.lemmas.List.Sums.{fold-append}
 use Rattle.indexmap.specs.IndexSet.{insert_all, insert_key}
 use Rattle.scan_base.specs.declared.value.Value.{Value}
@@ -42,7 +42,7 @@ place_key (k ∷ found) key low = by (λ below. place_key found key below) (same
         rw e (ap (λ place. get_or (k ∷ found) place []) moved ∙ again (omega (arith, below)))
 
 -- keys that were found stay, where they are
-keys_grow : (found keys : List (List Value)) → length found ≤ length (insert_all same_key found keys)
+pub keys_grow : (found keys : List (List Value)) → length found ≤ length (insert_all same_key found keys)
 keys_grow found [] = omega arith
 keys_grow found (key ∷ keys) = omega (arith, more_there found key, keys_grow (insert_key same_key found key) keys)
 
@@ -145,11 +145,16 @@ pub done : (before others : List RowKey) (count : ℕ) (firsts : List RowKey) (g
     × AreJoined (map key_of firsts) (map key_of others) groups (length (map key_of others))
 done before others count firsts groups so all within =
     let long = length-map others key_of in
-    let same : count ≡ length (map key_of others) = omega (arith, long, all, within) in
-    (
+    let same : count ≡ length (map key_of others) = omega (arith, long, all, within) in (
       so.found ∙ ap (insert_all same_key (map key_of before)) (take_all count (map key_of others) (omega (arith, long, all))),
       subst (AreJoined (map key_of firsts) (map key_of others) groups) same so.joined,
     )
+
+-- each of them is there
+pub all_there : (found others : List (List Value)) (groups : List ℕ) → AreJoined found others groups (length others) → All (λ group. group < length found) groups
+all_there found others groups are k d low =
+    let here = are.there k (omega (arith, low, are.long)) in
+    omega (arith, here, get_or_default groups k d 0 low)
 
 -- ---- without columns
 

@@ -89,6 +89,7 @@ split_tally item p q r (row ∷ rows) splits = by (split_tally item p q r rows s
   where
     one : Tally
     one = added item no_rows row
+
     by : tally_of item (filter p rows) ≡ both (tally_of item (filter q rows)) (tally_of item (filter r rows)) →
         (t u v : Bool) → p row ≡ t → q row ≡ u → r row ≡ v → Splits t u v →
         tally_of item (filter p (row ∷ rows)) ≡ both (tally_of item (filter q (row ∷ rows))) (tally_of item (filter r (row ∷ rows)))
@@ -128,9 +129,11 @@ joins_here groups group bound place here = by (cases_lt place bound) (cases_lt b
     inside : (t : Bool) → Splits (t && true) (t && true) false
     inside true = tt
     inside false = tt
+
     outside : (t : Bool) → Splits (t && false) (t && false) false
     outside true = tt
     outside false = tt
+
     by : (place < bound) ⊎ (bound ≤ place) → (bound < place) ⊎ (place ≤ bound) → Splits (joins groups group (suc bound) place) (joins groups group bound place) (nat_eq place bound)
     by (inl low) _ =
         rw (lt-ltb place bound low, lt-ltb place (suc bound) (omega arith), ne_eqb place bound (λ (q : place ≡ bound). omega arith)) (inside (nat_eq (get_or groups place 0) group))
@@ -184,12 +187,16 @@ joined_at item keys found groups others tallies more (suc count) low tallied the
   where
     before : List Tally
     before = joined groups others tallies count
+
     here : ℕ
     here = get_or groups count 0
+
     start : Tally
     start = get_or tallies group no_rows
+
     inside : here < length before
     inside = omega (arith, there count (omega arith), joined_long groups others tallies count)
+
     by : get_or before group no_rows ≡ both start (tally_of item (joining keys found groups more group count)) →
         (t : Bool) → nat_eq here group ≡ t →
         get_or (joined groups others tallies (suc count)) group no_rows ≡ both start (tally_of item (joining keys found groups more group (suc count)))

@@ -27,7 +27,7 @@ pub(crate) struct Others<'p> {
     pub(crate) more: usize,
 }
 
-/// The group that each of these first rows joins, or opens behind all others; without columns there is one group.
+/// The group that each of other first rows joins, or opens behind all others; without columns there is one group.
 ///
 /// # Errors
 ///
@@ -36,19 +36,20 @@ pub(crate) fn join_firsts<'t>(
     alloc: Global,
     columns: &[usize],
     firsts: &mut IndexSet<RowKey<'t>, HashSeed>,
-    others: &[RowKey<'t>],
+    others: &IndexSet<RowKey<'t>, HashSeed>,
 ) -> Result<Vec<usize>, AllocError>
     ensures found { OnOk result (found_by columns.now firsts.new.keys
-        ≡ insert_all same_key (found_by columns.now firsts.old.keys) (found_by columns.now others.now)) }
-    ensures joined { IfOk result (λ groups. AreJoined (found_by columns.now firsts.new.keys) (found_by columns.now others.now) groups.items (length (found_by columns.now others.now))) }
-    ensures firsts { OnOk result (FirstsJoin firsts.old.keys others.now firsts.new.keys) }
+        ≡ insert_all same_key (found_by columns.now firsts.old.keys) (found_by columns.now others.now.keys)) }
+    ensures joined { IfOk result (λ groups. AreJoined (found_by columns.now firsts.new.keys) (found_by columns.now others.now.keys) groups.items
+        (length (found_by columns.now others.now.keys))) }
+    ensures firsts { OnOk result (FirstsJoin firsts.old.keys others.now.keys firsts.new.keys) }
 {
     if columns.is_empty() {
         let mut groups = Vec::with_capacity(alloc, 1)?;
         groups.push(0)?;
         return Ok(groups);
     }
-    join_each(alloc, firsts, others)
+    join_each(alloc, firsts, others.as_slice())
 }
 
 // The group that each of these first rows joins, or opens behind all others.

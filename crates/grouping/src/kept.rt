@@ -86,7 +86,7 @@ pub(crate) fn join<'t>(
     ensures kept { OnOk result (IsKept shape.now.items.now (length (found_by shape.now.keys.now kept.new.firsts.keys)) kept.new.count (lists_of kept.new.tallies.items)) }
     ensures firsts { OnOk result (FirstsJoin kept.old.firsts.keys other.now.firsts.keys kept.new.firsts.keys) }
 {
-    let groups = join_firsts(alloc, shape.keys, &mut kept.firsts, other.firsts.as_slice())?;
+    let groups = join_firsts(alloc, shape.keys, &mut kept.firsts, &other.firsts)?;
     let found = found_count(shape.keys, &kept.firsts);
     let others = Others {
         tallies: other.tallies.as_slice(),

@@ -3,9 +3,9 @@ use Rattle.grouping.proofs.JoinedKeys.{alone_joined}
 use Rattle.grouping.proofs.joined.join_firsts.Goals as goal
 
 pub returns-then-is_empty-clause-found : goal.returns-then-is_empty-clause-found
-returns-then-is_empty-clause-found c = (alone_joined c.args.columns.now c.args.firsts.now.keys c.args.others.now (sym c.if-is_empty.ensures)).0
+returns-then-is_empty-clause-found c = (alone_joined c.args.columns.now c.args.firsts.now.keys c.args.others.now.keys (sym c.if-is_empty.ensures)).0
 
 pub returns-then-is_empty-clause-joined : goal.returns-then-is_empty-clause-joined
 returns-then-is_empty-clause-joined c =
     rw (c.in_ok-push.ensures.items, c.in_ok-groups.ensures.items)
-    (alone_joined c.args.columns.now c.args.firsts.now.keys c.args.others.now (sym c.if-is_empty.ensures)).1
+    (alone_joined c.args.columns.now c.args.firsts.now.keys c.args.others.now.keys (sym c.if-is_empty.ensures)).1
