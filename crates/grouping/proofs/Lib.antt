@@ -15,3 +15,4 @@ pub mod Giving
 pub mod JoinedKeys
 pub mod JoinedTallies
 pub mod JoiningAll
+pub mod Merging
