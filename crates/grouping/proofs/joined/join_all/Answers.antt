@@ -4,7 +4,7 @@ use Rattle.std.proofs.lemmas.List.{map-set, length-map}
 use Rattle.grouping.specs.declared.tally.Tally.{Tally}
 use Rattle.grouping.specs.inside.Adding.{lists_of}
 use Rattle.grouping.specs.inside.Counting.{AreWithin, counted_in}
-use Rattle.grouping.specs.inside.Merging.{AllJoined, IsJoined}
+use Rattle.grouping.specs.inside.Merging.{IsJoined}
 use Rattle.grouping.proofs.JoiningAll.{IsItem, item_at, kept_after, more, within_more, within_own}
 use Rattle.grouping.proofs.joined.join_all.Goals as goal
 use Rattle.grouping.proofs.joined.join_all.Goals.{After-index-tallies-item}

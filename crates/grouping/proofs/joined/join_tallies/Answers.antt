@@ -1,9 +1,6 @@
-use Rattle.std.proofs.Common.{◌<◌, ◌+◌, length, get_or, ap, ◌∙◌, subst, sym, arith, take}
-use Rattle.std.proofs.lemmas.List.{take_all}
+use Rattle.std.proofs.Common.{◌<◌, length, get_or, arith}
 use Rattle.std.proofs.lemmas.List.Elements.{All-get_or}
 use Rattle.scan_base.specs.Limits.{most_rows}
-use Rattle.grouping.specs.Tallies.{no_rows}
-use Rattle.grouping.specs.inside.Counting.{AreWithin, counted_in}
 use Rattle.grouping.proofs.JoiningAll.{few_both, step}
 use Rattle.grouping.proofs.joined.join_tallies.Goals as goal
 use Rattle.grouping.proofs.joined.join_tallies.Goals.{In-loop-k}

@@ -1,4 +1,4 @@
-use Rattle.std.proofs.Common.{◌≡◌, ◌≤◌, ◌<◌, ℕ, List, All, length, get_or, ap, sym, ◌∙◌, subst, arith, Vec}
+use Rattle.std.proofs.Common.{◌<◌, ℕ, List, All, length, ap, sym, subst, arith, Vec}
 use Rattle.std.specs.Global.{Global}
 use Rattle.grouping.specs.declared.tally.Tally.{Tally}
 use Rattle.grouping.specs.inside.Adding.{IsKept, lists_of}
