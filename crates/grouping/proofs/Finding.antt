@@ -95,7 +95,7 @@ more_there found key = by (list_any (same_key key) found) refl
     by false e = rw e (simp length-append (omega arith))
 
 -- what holds of the first rows, and of one more, holds of all
-all_inserted : (P : RowKey → Type 0) (firsts : List RowKey) (first : RowKey) → All P firsts → P first → All P (insert_key same_first firsts first)
+pub all_inserted : (P : RowKey → Type 0) (firsts : List RowKey) (first : RowKey) → All P firsts → P first → All P (insert_key same_first firsts first)
 all_inserted P firsts first all one = by (list_any (same_first first) firsts) refl
   where
     by : (t : Bool) → list_any (same_first first) firsts ≡ t → All P (insert_key same_first firsts first)

@@ -12,3 +12,7 @@ pub mod Batching
 pub mod Short
 pub mod Finishing
 pub mod Giving
+pub mod JoinedKeys
+pub mod JoinedTallies
+pub mod JoiningAll
+pub mod Merging

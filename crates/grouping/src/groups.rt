@@ -4,10 +4,10 @@ ghost use Rattle.std.specs.Prelude.{◌≡◌, ◌≤◌, ◌+◌, ◌<◌, All,
 ghost use Rattle.scan_base.specs.Limits.{most_rows};
 ghost use Rattle.arrays.specs.Batch.{row_of};
 ghost use Rattle.grouping.specs.Answers.{Finishes};
-ghost use Rattle.grouping.specs.Fed.{AreTyped, HasItems, IsNew, Feeds, batch_at};
+ghost use Rattle.grouping.specs.Fed.{AreTyped, HasItems, IsAlike, IsNew, Feeds, Merges, batch_at};
 
 use crate::answers::Answers;
-use crate::kept::{Kept, add, blank, found_count};
+use crate::kept::{Kept, add, blank, found_count, join};
 use crate::table::Chosen;
 use arrays::{Batch, Selection};
 use arrow_schema::DataType;
@@ -106,6 +106,32 @@ impl<'t> Groups<'t> {
             rows: selection.places(),
         };
         match add(alloc, self.shape.items, &mut self.kept, &chosen) {
+            Ok(()) => Ok(()),
+            Err(_) => {
+                self.refused = Some(Fault::OutOfMemory);
+                Err(Fault::OutOfMemory)
+            }
+        }
+    }
+
+    /// Takes the groups of other rows of the same batches behind the own: each joins that of its key, or stands last.
+    ///
+    /// # Errors
+    ///
+    /// What refused either; F21 (`Fault::OutOfMemory`) where memory is refused. It is answered from then on.
+    pub fn merge(&mut self, alloc: Global, other: Groups<'t>) -> Result<(), Fault>
+        requires alike { IsAlike self.old other }
+        requires few { self.old.count + other.count ≤ most_rows }
+        ensures { Merges self.old other.entry result self.new }
+    {
+        if let Some(fault) = self.refused {
+            return Err(fault);
+        }
+        if let Some(fault) = other.refused {
+            self.refused = Some(fault);
+            return Err(fault);
+        }
+        match join(alloc, &self.shape, &mut self.kept, &other.kept) {
             Ok(()) => Ok(()),
             Err(_) => {
                 self.refused = Some(Fault::OutOfMemory);

@@ -7,8 +7,11 @@ ghost use Rattle.arrays.specs.Batch.{row_of};
 ghost use Rattle.grouping.specs.Found.{found_then};
 ghost use Rattle.grouping.specs.inside.Adding.{CanCountAll, IsKept, IsGrown, lists_of};
 ghost use Rattle.grouping.specs.inside.Kept.{AreBlank};
+ghost use Rattle.grouping.specs.inside.Merging.{FirstsJoin, IsMerged};
 ghost use Rattle.grouping.specs.inside.Placing.{found_by, FirstsStay};
 
+use crate::groups::Grouping;
+use crate::joined::{Others, join_all, join_firsts};
 use crate::key::RowKey;
 use crate::part::{Part, add_all};
 use crate::table::{Chosen, place_rows};
@@ -59,6 +62,40 @@ pub(crate) fn add<'t>(
     };
     add_all(kept.tallies.as_mut_slice(), items, &part, found)?;
     kept.count += chosen.rows.len();
+    Ok(())
+}
+
+/// Takes in what is kept of other rows: each group joins that of its key, or stands last.
+///
+/// # Errors
+///
+/// `AllocError` where memory is refused.
+pub(crate) fn join<'t>(
+    alloc: Global,
+    shape: &Grouping<'_>,
+    kept: &mut Kept<'t>,
+    other: &Kept<'t>,
+) -> Result<(), AllocError>
+    requires few { kept.old.count + other.now.count ≤ most_rows }
+    requires kept { IsKept shape.now.items.now (length (found_by shape.now.keys.now kept.old.firsts.keys)) kept.old.count (lists_of kept.old.tallies.items) }
+    requires other { IsKept shape.now.items.now (length (found_by shape.now.keys.now other.now.firsts.keys)) other.now.count (lists_of other.now.tallies.items) }
+    ensures merged { OnOk result (IsMerged (found_by shape.now.keys.now kept.old.firsts.keys) (found_by shape.now.keys.now other.now.firsts.keys)
+        (found_by shape.now.keys.now kept.new.firsts.keys) (length shape.now.items.now) (kept.old.count + other.now.count)
+        (lists_of other.now.tallies.items) (lists_of kept.old.tallies.items) (lists_of kept.new.tallies.items)) }
+    ensures count { OnOk result (kept.new.count ≡ kept.old.count + other.now.count) }
+    ensures kept { OnOk result (IsKept shape.now.items.now (length (found_by shape.now.keys.now kept.new.firsts.keys)) kept.new.count (lists_of kept.new.tallies.items)) }
+    ensures firsts { OnOk result (FirstsJoin kept.old.firsts.keys other.now.firsts.keys kept.new.firsts.keys) }
+{
+    let groups = join_firsts(alloc, shape.keys, &mut kept.firsts, &other.firsts)?;
+    let found = found_count(shape.keys, &kept.firsts);
+    let others = Others {
+        tallies: other.tallies.as_slice(),
+        groups: groups.as_slice(),
+        fed: kept.count,
+        more: other.count,
+    };
+    join_all(kept.tallies.as_mut_slice(), shape.items, &others, found)?;
+    kept.count += other.count;
     Ok(())
 }
 

@@ -6,6 +6,7 @@ pub mod answers;
 mod batches;
 mod cell;
 pub mod groups;
+mod joined;
 mod kept;
 mod key;
 pub mod laws;

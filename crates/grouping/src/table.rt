@@ -76,8 +76,12 @@ pub(crate) fn place_rows<'t>(
     groups_of(alloc, firsts, chosen)
 }
 
-// The group of a row, which is opened where the row's key is new.
-fn group_of<'t>(
+/// The group of a row, which is opened where the row's key is new.
+///
+/// # Errors
+///
+/// `AllocError` where memory is refused.
+pub(crate) fn group_of<'t>(
     firsts: &mut IndexSet<RowKey<'t>, HashSeed>,
     first: RowKey<'t>,
 ) -> Result<usize, AllocError>
