@@ -95,14 +95,14 @@ module _ (s : Sourced) (keys : List ℕ) (items : List Aggregate) (wanted : Want
   source = source_at s.source
 
   -- the filters see all columns
-  p : pick_of wanted.picker ≡ choosing (map pred_of s.filters.items) (length s.columns.items)
-  p = rw (f, r, n) refl
+  pick_is : pick_of wanted.picker ≡ choosing (map pred_of s.filters.items) (length s.columns.items)
+  pick_is = rw (f, r, n) refl
 
   -- what is wanted names what is there
   named : HasOutput (Groups keys items) s.types.items → IsWanted wanted
   named has = record {
     has = rw (t, k, i) (record { keyed = has.0; typed = has.1 });
-    pick = rw (p, t) (can_choose (map pred_of s.filters.items) s.columns.items s.types.items source is.pick is.types);
+    pick = rw (pick_is, t) (can_choose (map pred_of s.filters.items) s.columns.items s.types.items source is.pick is.types);
   }
 
   -- so the rows can be grouped
@@ -120,10 +120,11 @@ module _ (s : Sourced) (keys : List ℕ) (items : List Aggregate) (wanted : Want
   -- the groups are those of the rows that the filters let through
   same_rows : passing (pick_of wanted.picker) (plain_rows rows.ahead) ≡ plain_rows (sourced_at s).ahead
   same_rows =
-      ap (λ (pick : PickAt). passing pick (plain_rows rows.ahead)) p
+      ap (λ (pick : PickAt). passing pick (plain_rows rows.ahead)) pick_is
       ∙ ap (λ (r : RowsAt). passing (choosing (map pred_of s.filters.items) (length s.columns.items)) (plain_rows r.ahead)) all
       ∙ chosen_later (map pred_of s.filters.items) s.columns.items source.ahead
 
+  -- and they are what the output takes
   pub gives_groups : of_groups rows wanted Waiting ≡ answer_for (Groups keys items) (sourced_at s)
   gives_groups =
       let giving : List DataType → List Row → List ℕ → List ℕ → GivingAt = λ types some batches opened.
