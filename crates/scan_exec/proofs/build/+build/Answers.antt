@@ -6,7 +6,7 @@ use Rattle.std.proofs.lemmas.Result.{IfOk-weaker}
 use Rattle.arrays.specs.Batch.{rows_of}
 use Rattle.scan_base.specs.Predicate.{Pred}
 use Rattle.scan_base.specs.View.{pred_of}
-use Rattle.table_versions.specs.Stored.{TableAt, table_of}
+use Rattle.table_versions.specs.Stored.{TableAt}
 use Rattle.typed_plan.specs.declared.plan.Plan.{Plan}
 use Rattle.typed_plan.specs.declared.plan.JoinKey.{JoinKey}
 use Rattle.typed_plan.specs.Held.{tree_schemas}
@@ -14,7 +14,7 @@ use Rattle.typed_plan.specs.Plan.{Tree, filtered, joined}
 use Rattle.typed_plan.specs.Typed.{IsTypedTree, is_place, tree_types}
 use Rattle.typed_plan.specs.View.{tree_of}
 use Rattle.scan_exec.specs.declared.build.Sourced.{Sourced}
-use Rattle.scan_exec.specs.Begun.{CanJoin, IsBegun, IsSourced, JoinsRows, sourced_at}
+use Rattle.scan_exec.specs.Begun.{CanJoin, IsBegun, JoinsRows, sourced_at}
 use Rattle.scan_exec.specs.Given.{first_batches}
 use Rattle.scan_exec.specs.Joined.{source_at}
 use Rattle.scan_exec.specs.Picking.{IsPick}

@@ -1,4 +1,4 @@
-use Rattle.std.proofs.Common.{◌≡◌, ◌++◌, List, length, map, ap, sym, ◌∙◌, subst}
+use Rattle.std.proofs.Common.{◌≡◌, ◌++◌, List, map, ap, sym, ◌∙◌, subst}
 use Rattle.std.proofs.lemmas.Result.{IfOk-weaker}
 use Rattle.arrow_schema.specs.Answer.{answer_type}
 use Rattle.arrow_schema.specs.declared.data_type.DataType.{DataType}
@@ -8,9 +8,8 @@ use Rattle.typed_plan.specs.declared.plan.JoinKey.{JoinKey}
 use Rattle.scan_exec.specs.declared.build.Sourced.{Sourced}
 use Rattle.scan_exec.specs.Begun.{JoinsRows, sourced_at}
 use Rattle.scan_exec.specs.Joined.{IsJoined}
-use Rattle.scan_exec.specs.Joining.{HasKeys, IsSides, all_joined}
-use Rattle.scan_exec.specs.Running.{RowsAt}
-use Rattle.scan_exec.proofs.BeginJoin.{all_types_of, joiner_is, joins_begun, joins_source, keys_there, the_joiner}
+use Rattle.scan_exec.specs.Joining.{IsSides, all_joined}
+use Rattle.scan_exec.proofs.BeginJoin.{joiner_is, joins_begun, joins_source, keys_there}
 use Rattle.scan_exec.proofs.join_source.join_source.Goals as goal
 
 -- the sides are those of the sources

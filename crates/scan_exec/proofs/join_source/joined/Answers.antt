@@ -1,4 +1,4 @@
-use Rattle.std.proofs.Common.{◌≡◌, ℕ, List, length, map, vec_len, ap, sym, ◌∙◌, subst, rules}
+use Rattle.std.proofs.Common.{◌≡◌, length, map, vec_len, ap, sym, ◌∙◌, subst, rules}
 use Rattle.std.specs.List.{range_with_len}
 use Rattle.join_batches.specs.Joiner.{joined_types}
 use Rattle.scan_base.specs.View.{pred_of}
@@ -8,7 +8,7 @@ use Rattle.scan_exec.specs.Joined.{IsJoined, joined_at}
 use Rattle.scan_exec.specs.Picking.{IsPick, PickAt}
 use Rattle.scan_exec.specs.Running.{RowsAt, picked_of}
 use Rattle.scan_exec.proofs.BeginJoin.{all_pick}
-use Rattle.scan_exec.proofs.BeginPick.{all_types, pick_with}
+use Rattle.scan_exec.proofs.BeginPick.{all_types}
 use Rattle.scan_exec.proofs.BeginTree.{pick_is}
 use Rattle.scan_exec.proofs.join_source.joined.Goals as goal
 

@@ -10,7 +10,7 @@ use Rattle.scan_exec.specs.Picking.{PickAt, IsPick}
 use Rattle.scan_exec.specs.Placed.{Begins}
 use Rattle.scan_exec.specs.Running.{picked_of}
 use Rattle.scan_exec.proofs.Batched.{from_few}
-use Rattle.scan_exec.proofs.BeginPick.{pick_with, numbers_within}
+use Rattle.scan_exec.proofs.BeginPick.{numbers_within}
 use Rattle.scan_exec.proofs.BeginTree.{scan_begun, scan_pick, pick_is}
 use Rattle.scan_exec.proofs.Piecing.{place_of}
 use Rattle.std.proofs.lemmas.List.FromFn.{length-range_with_len}
