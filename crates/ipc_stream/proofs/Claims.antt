@@ -1,11 +1,12 @@
 -- How many bytes of body a header claims.
-use Rattle.std.proofs.Common.{◌≡◌, ◌<◌, ◌^◌, ℕ, List, Ok, Err, sym, ◌∙◌, subst}
+use Rattle.std.proofs.Common.{◌↔◌, ◌≡◌, ◌<◌, ◌^◌, ℕ, List, Ok, Err, sym, ◌∙◌, subst}
 use Rattle.scan_base.specs.declared.fault.Fault.{Fault}
 use Rattle.flatbuf.specs.Layout.{TableAt, IsBytes, HasRoot, HasScalar}
 use Rattle.flatbuf.specs.Place.{root_of, scalar_of}
-use Rattle.flatbuf.proofs.Readings.{Seen, seen_root, seen_scalar}
+use Rattle.flatbuf.proofs.Readings.{Seen, seen_finds, seen_root, seen_scalar}
 use Rattle.arrow_schema.specs.declared.header.HeaderKind.TheVariants as kinds
 use Rattle.ipc_stream.specs.Stream.{ClaimsBody}
+use Rattle.ipc_stream.specs.Laws.{SaysBody}
 use Rattle.ipc_stream.specs.inside.Front.{FindsBody}
 
 -- a header claims one number
@@ -36,3 +37,22 @@ unread header table fault are root is =
     let here : IsBytes table.bytes = subst IsBytes (sym rooted.0.same) are in
     let seen : Seen (Err fault) (HasScalar 8 table 3 0) = rw is at (seen_scalar 8 table 3 0 here) in
     (seen.0, λ size claims. let both : Err fault ≡ Ok size = sym is ∙ slot_is header table size root claims in let no : ⊥ = cc in no)
+
+-- ---- in the words of the format
+
+says_claimed : (header : List ℕ) (size : ℕ) → IsBytes header → ClaimsBody header size → SaysBody header size
+says_claimed header size are claims =
+    let rooted : Seen (Ok claims.message.table) (HasRoot header) = rw claims.root at (seen_root header) in
+    let here : IsBytes claims.message.table.bytes = subst IsBytes (sym rooted.0.same) are in
+    let seen : Seen (Ok size) (HasScalar 8 claims.message.table 3 0) = rw claims.claimed at (seen_scalar 8 claims.message.table 3 0 here) in
+    record { table = claims.message.table; root = rooted.0; number = seen.0; fits = claims.fits }
+
+claims_said : (header : List ℕ) (size : ℕ) → IsBytes header → SaysBody header size → ClaimsBody header size
+claims_said header size are says =
+    let here : IsBytes says.table.bytes = subst IsBytes (sym says.root.same) are in
+    let roots = seen_finds (root_of header) (HasRoot header) (seen_root header) in
+    let numbers = seen_finds (scalar_of 8 says.table 3 0) (HasScalar 8 says.table 3 0) (seen_scalar 8 says.table 3 0 here) in
+    reads_body header says.table size ((roots.value says.table).1 says.root) ((numbers.value size).1 says.number) says.fits
+
+pub claims_are_said : (header : List ℕ) (size : ℕ) → IsBytes header → ClaimsBody header size ↔ SaysBody header size
+claims_are_said header size are = (says_claimed header size are, claims_said header size are)

@@ -7,7 +7,6 @@ use Rattle.ipc_stream.specs.declared.message.IpcMessage.{IpcMessage}
 use Rattle.ipc_stream.specs.declared.frame.Frame.{Frame}
 use Rattle.ipc_stream.specs.Stream.{announced, frame, ClaimsBody, IsMessage, IsEnd}
 use Rattle.ipc_stream.specs.inside.Front.{HasLength, IsStuck, message_at, IsFound}
-use Rattle.ipc_stream.proofs.Claims.{claims_one}
 
 -- one length is announced, and one list of bytes follows
 pub announced_one : (len other : ℕ) (rest more : List ℕ) → len < 2 ^ 32 → other < 2 ^ 32 → announced len rest ≡ announced other more → (len ≡ other) × (rest ≡ more)
@@ -46,36 +45,17 @@ says bytes len message rest has is e =
       long = let s = same.0 in let l = has.long in omega (arith, length-drop 8 bytes, all, length-append (message.header ++ message.body) rest, length-append message.header message.body);
     }
 
--- no message is in front whose header is longer than what is left
-pub header_too_long : (bytes : List ℕ) (len : ℕ) → HasLength bytes len → length bytes - 8 < len → IsStuck bytes
-header_too_long bytes len has short = record {
-  no_end = no_end bytes len has;
-  no_message = λ message rest is e. let s = says bytes len message rest has is e in let l = s.long in let h = has.long in omega arith;
-}
-
 -- the header of so many bytes, as it is cut
 abbrev pub header_in : List ℕ → ℕ → List ℕ
 header_in bytes len = slice_range bytes 8 (8 + len)
 
--- nor one whose header does not read
+-- no message is in front whose header does not read
 pub header_unread : (bytes : List ℕ) (len : ℕ) → HasLength bytes len → ((size : ℕ) → ¬ ClaimsBody (header_in bytes len) size) → IsStuck bytes
 header_unread bytes len has none = record {
   no_end = no_end bytes len has;
   no_message = λ message rest is e.
       let s = says bytes len message rest has is e in
       none (length message.body) (subst (λ (h : List ℕ). ClaimsBody h (length message.body)) (sym s.header) is.claims);
-}
-
--- nor one whose body is longer than what is left
-pub body_too_long : (bytes : List ℕ) (len size : ℕ) → HasLength bytes len → ClaimsBody (header_in bytes len) size → length bytes - (8 + len) < size → IsStuck bytes
-body_too_long bytes len size has claims short = record {
-  no_end = no_end bytes len has;
-  no_message = λ message rest is e.
-      let s = says bytes len message rest has is e in
-      let mine : ClaimsBody message.header size = subst (λ (h : List ℕ). ClaimsBody h size) s.header claims in
-      let same = claims_one message.header size (length message.body) mine is.claims in
-      let l = s.long in
-      omega arith;
 }
 
 -- bytes are their first ones, those behind them and the rest

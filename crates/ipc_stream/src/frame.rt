@@ -1,6 +1,5 @@
 //! Where the message in front of a stream lies.
 
-ghost use Rattle.std.specs.Prelude.{◌≡◌, ℕ, List};
 ghost use Rattle.ipc_stream.specs.inside.Front.{FindsLength, FindsBody, FindsFrame};
 
 use flatbuf::{Buf, Width};

@@ -3,7 +3,7 @@
 use bytes::Bytes;
 
 /// A message of an Arrow IPC stream: its header, with the zeros behind it that its length counts, and its body.
-#[derive(Drop)]
+#[derive(Debug, Drop)]
 pub struct IpcMessage {
     pub header: Bytes,
     pub body: Bytes,

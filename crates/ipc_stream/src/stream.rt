@@ -13,7 +13,8 @@ use std::alloc::{AllocError, Global};
 
 // How many messages a stream has. It takes no memory.
 fn count_messages(stream: &[u8]) -> Result<usize, Fault>
-    ensures { MatchResult result (λ _. IsStream stream.now) (λ fault. (fault ≡ BadFlatbuffer) × (¬ IsStream stream.now)) }
+    ensures { MatchResult result (λ _. IsStream stream.now)
+        (λ fault. (fault ≡ BadFlatbuffer) × (¬ IsStream stream.now)) }
 {
     let mut left = stream;
     let mut count = 0;
