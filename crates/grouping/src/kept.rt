@@ -1,10 +1,8 @@
 //! What is kept of the rows that were fed.
 
-ghost use Rattle.std.specs.Prelude.{◌≡◌, ◌≤◌, ◌<◌, ◌+◌, All, IfOk, IsTrue, OnOk, length, map, nat_lt};
+ghost use Rattle.std.specs.Prelude.{◌≡◌, ◌≤◌, ◌<◌, ◌+◌, All, IfOk, IsTrue, OnOk, length, nat_lt};
 ghost use Rattle.std.specs.List.{list_all};
 ghost use Rattle.scan_base.specs.Limits.{most_rows};
-ghost use Rattle.arrays.specs.Batch.{row_of};
-ghost use Rattle.grouping.specs.Found.{found_then};
 ghost use Rattle.grouping.specs.inside.Adding.{CanCountAll, IsKept, IsGrown, lists_of};
 ghost use Rattle.grouping.specs.inside.Kept.{AreBlank};
 ghost use Rattle.grouping.specs.inside.Merging.{FirstsJoin, IsMerged};
