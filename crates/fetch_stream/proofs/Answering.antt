@@ -1,5 +1,5 @@
 -- What the payloads of a stream say, call by call.
-use Rattle.std.proofs.Common.{◌≡◌, ◌≤◌, ◌<◌, ℕ, zero, suc, ◌+◌, Bool, true, false, List, [], ◌∷◌, ◌++◌, length, take, Option, Some, None, Result, Ok, Err, ◌⊎◌, inl, inr, refl, sym, ap, subst, ◌∙◌, append_assoc, append-nil, length-append, arith}
+use Rattle.std.proofs.Common.{◌≡◌, ◌≤◌, ◌<◌, ℕ, ◌+◌, Bool, true, false, List, [], ◌∷◌, ◌++◌, length, take, Option, Some, None, Ok, Err, inl, inr, refl, sym, ap, subst, ◌∙◌, append_assoc, append-nil, length-append, arith}
 use Rattle.scan_base.specs.declared.fault.Fault.{Fault}
 use Rattle.scan_base.specs.declared.fault.Fault.TheVariants.{OutOfMemory, ResultTooLarge}
 use Rattle.scan_base.specs.Limits.{most_answer_rows}
@@ -112,8 +112,7 @@ given_part : (answer : Table) (payloads : List Payload) (stream : StreamAt) → 
 given_part answer payloads stream has begun =
     let n = length has.rows in
     let long : length (has.rows ++ stream.left) ≡ length answer.rows = ap length has.all in
-    let first : take n answer.rows ≡ has.rows = ap (λ (rows : List Row). take n rows) (sym has.all) ∙ take_first has.rows stream.left in
-    (
+    let first : take n answer.rows ≡ has.rows = ap (λ (rows : List Row). take n rows) (sym has.all) ∙ take_first has.rows stream.left in (
       n,
       omega (arith, has.counted, has.within),
       omega (arith, long, length-append has.rows stream.left),

@@ -1,5 +1,5 @@
 -- What a scan gives, as the source of a stream.
-use Rattle.std.proofs.Common.{◌≡◌, ◌<◌, ◌+◌, ℕ, true, false, List, [], ◌∷◌, ◌++◌, length, map, Option, Some, None, Result, Ok, Err, refl, sym, ap, subst, ◌∙◌, arith, ◌⊎◌, inl, inr}
+use Rattle.std.proofs.Common.{◌≡◌, ℕ, true, false, List, [], ◌∷◌, ◌++◌, map, Option, Some, None, Result, Ok, Err, refl, sym, ap, subst, ◌∙◌, arith, inl, inr}
 use Rattle.std.specs.List.{list_any}
 use Rattle.std.proofs.lemmas.List.{length-map}
 use Rattle.std.proofs.lemmas.List.Folds.{list_any-append}
@@ -15,8 +15,7 @@ use Rattle.arrays.specs.Typed.{AreOf, AreOfTypes}
 use Rattle.scan_exec.specs.Scan.{ScanAt, GivesRows, Gives, MayRefuse, left}
 use Rattle.table_versions.specs.Table.{Row, is_long_text}
 use Rattle.table_versions.proofs.Storable.{first_false, second_false}
-use Rattle.fetch_stream.specs.declared.source.Source.{Source}
-use Rattle.fetch_stream.specs.declared.source.Source.TheVariants.{Scanned, Listed}
+use Rattle.fetch_stream.specs.declared.source.Source.TheVariants.{Scanned}
 use Rattle.fetch_stream.specs.inside.Ahead.{IsSource, AnsweredAs}
 use Rattle.fetch_stream.specs.inside.Given.{GoesOn, GivesNext, GivesBatch, MayRefuseSource}
 use Rattle.fetch_stream.specs.inside.Written.{HasAnswerTypes}

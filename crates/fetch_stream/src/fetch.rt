@@ -45,11 +45,7 @@ pub fn version_of(handle: &Handle<'_>) -> u64
 }
 
 // Puts all payloads that a stream gives into an empty list, and says what refused it.
-fn collect(
-    alloc: Global,
-    mut stream: FetchStream,
-    payloads: &mut Vec<Bytes>,
-) -> Result<(), Fault>
+fn collect(alloc: Global, mut stream: FetchStream, payloads: &mut Vec<Bytes>) -> Result<(), Fault>
     requires { payloads.old.items ≡ [] }
     ensures said { (answer : Table) → stream ≡ opened answer → Collects answer payloads.new.items result }
     ensures fits { FitMessages payloads.new.items }

@@ -29,6 +29,12 @@ step items columns rows groups found fed before after place new so there added w
       left = λ item high. other item (λ (q : item ≡ place). omega arith) ∙ so.left item (omega arith);
     }
 
+-- the tallies of the next item are as they were
+pub item_left : (items : List Aggregate) (old fed place : ℕ) (before after : List (List Tally)) → get_or after place [] ≡ get_or before place [] →
+    IsKept items old fed before → place < length items → (length (get_or after place []) ≡ old) × AreWithin fed (get_or after place [])
+item_left items old fed place before after same kept low =
+    (ap length same ∙ kept.long place low, subst (AreWithin fed) (sym same) (kept.small place low))
+
 -- where all items are done, there is a tally of each item for each group
 pub kept_after : (items : List Aggregate) (columns : List ColumnAt) (rows groups : List ℕ) (found fed : ℕ) (before after : List (List Tally)) →
     AreAdded items columns rows groups found fed before after (length items) → length after ≡ length items →

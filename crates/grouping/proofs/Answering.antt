@@ -1,20 +1,28 @@
 -- Cells of the answer.
 use Rattle.std.proofs.Common.{◌≡◌, ◌≤◌, ◌<◌, ℕ, ℤ, zero, suc, ◌+◌, pos, Bool, true, false, if◌then◌else◌, List, [], ◌∷◌, ◌++◌, length, map, get_or, take, Some, None, Option, Result, Ok, Err, IfOk, refl, sym, ap, ◌∙◌, subst, arith}
 use Rattle.std.specs.Prelude.{◌==◌}
-use Rattle.std.proofs.lemmas.List.{take_all, map-append, map_more}
+use Rattle.std.proofs.lemmas.List.{get_or_default, take_all, map-append, map_more}
 use Rattle.scan_base.specs.declared.value.Value.{Value}
 use Rattle.scan_base.specs.declared.value.Value.TheVariants.{Null, Int}
 use Rattle.arrow_schema.specs.declared.data_type.DataType.{DataType}
+use Rattle.scan_base.specs.Predicate.{cell_in}
+use Rattle.arrays.specs.declared.layout.Layout.TheVariants as layout
 use Rattle.arrays.specs.declared.of_slots.SlotRef.{SlotRef}
-use Rattle.arrays.specs.Batch.{AreLong}
+use Rattle.arrays.specs.Batch.{AreLong, BatchAt, row_of}
 use Rattle.arrays.specs.OfSlots.{slot_value}
 use Rattle.arrays.specs.Built.{value_or_null}
-use Rattle.arrays.specs.Column.{ColumnAt}
+use Rattle.arrays.specs.Column.{ColumnAt, slot_of}
 use Rattle.arrays.specs.Typed.{AreOf, IsOfType}
+use Rattle.arrays.specs.Written.{text_bytes}
 use Rattle.typed_plan.specs.Typed.{type_at}
-use Rattle.grouping.specs.declared.key.RowKey.{RowKey}
+use Rattle.grouping.specs.declared.key.Place.{Place}
 use Rattle.grouping.specs.declared.tally.Tally.{Tally}
-use Rattle.grouping.specs.inside.Answering.{count_or_none, sum_or_none}
+use Rattle.grouping.specs.Answers.{IsThere}
+use Rattle.grouping.specs.Fed.{AreTyped, batch_at}
+use Rattle.grouping.specs.inside.Answering.{count_or_none, first_cell, has_texts, sum_or_none}
+use Rattle.grouping.proofs.Feeding.{as_many}
+use Rattle.grouping.proofs.KeyCells.{cell_slot}
+use Rattle.grouping.proofs.Short.{no_text}
 
 pub if_ok : {T E : Type 0} (P Q : T → Type 0) → ((x : T) → P x → Q x) → (r : Result T E) → IfOk r P → IfOk r Q
 if_ok P Q f (Ok x) h = f x h
@@ -76,12 +84,51 @@ slot_there columns found rows place row column same long is there within types t
           (typed_at types found place column (subst (AreOf types) (sym same) typed) low),
     )
 
+-- the batch of a first row
+pub record IsHome (types : List DataType) (batches : List BatchAt) (first : Place) (batch : BatchAt) : Type 0 where
+  pub same : batch ≡ batch_at batches first.batch
+  pub typed : AreOf types batch.columns
+  pub long : length types ≡ length batch.columns
+  pub row : first.row < batch.rows
+
+pub home : (types : List DataType) (batches : List BatchAt) (first : Place) (d : BatchAt) → AreTyped types batches → IsThere batches first →
+    IsHome types batches first (get_or batches first.batch d)
+home types batches first d typed there =
+    let same = get_or_default batches first.batch d (record { columns = []; rows = 0 }) there.batch in
+    let of : AreOf types (get_or batches first.batch d).columns = typed first.batch d there.batch in
+    record {
+      same = same;
+      typed = of;
+      long = as_many types (get_or batches first.batch d).columns of;
+      row = omega (arith, there.row, ap (λ (batch : BatchAt). batch.rows) same);
+    }
+
+-- the cell of a first row is a slot of its column
+pub cell_is_slot : (types : List DataType) (batches : List BatchAt) (first : Place) (place : ℕ) (batch : BatchAt) (found : List ColumnAt) (column : ColumnAt) →
+    IsHome types batches first batch → place < length types → found ≡ batch.columns → column ≡ get_or found place column →
+    slot_of column first.row ≡ first_cell batches place first
+cell_is_slot types batches first place batch found column at low same is =
+    ap (λ (column : ColumnAt). slot_of column first.row) (is ∙ ap (λ (columns : List ColumnAt). get_or columns place column) same)
+    ∙ sym (cell_slot batch.columns first.row place column (omega (arith, low, at.long)))
+    ∙ ap (λ (batch : BatchAt). cell_in (row_of batch.columns first.row) place) at.same
+
+-- and no text where the type has none
+pub no_text_cell : (types : List DataType) (batches : List BatchAt) (place : ℕ) → AreTyped types batches → place < length types →
+    has_texts (type_at types place) ≡ false → (first : Place) → IsThere batches first → text_bytes (first_cell batches place first) ≡ []
+no_text_cell types batches place typed low plain first there =
+    let none : ColumnAt = record { layout = layout.Bools (record { validity = None; values = [] }); first = 0; len = 0 } in
+    let batch = batch_at batches first.batch in
+    let at = home types batches first (record { columns = []; rows = 0 }) typed there in
+    let column = get_or batch.columns place none in
+    ap text_bytes (cell_slot batch.columns first.row place none (omega (arith, low, at.long)))
+    ∙ no_text (type_at types place) column.layout (column.first + first.row) plain (typed_at types batch.columns place none at.typed (omega (arith, low, at.long)))
+
 -- the values of slots, and of one more
-pub values_more : (cell : RowKey → Value) (firsts : List RowKey) (index : ℕ) (first : RowKey) (slots : List SlotRef) (slot : SlotRef) →
-    first ≡ get_or firsts index first → index < length firsts → slot_value slot ≡ cell first →
+pub values_more : (cell : Place → Value) (firsts : List Place) (index : ℕ) (d : Place) (slots : List SlotRef) (slot : SlotRef) →
+    index < length firsts → slot_value slot ≡ cell (get_or firsts index d) →
     map slot_value slots ≡ map cell (take index firsts) → map slot_value (slots ++ slot ∷ []) ≡ map cell (take (index + 1) firsts)
-values_more cell firsts index first slots slot is low value so =
+values_more cell firsts index d slots slot low value so =
     map-append slot_value slots (slot ∷ [])
     ∙ ap (λ values. values ++ slot_value slot ∷ []) so
-    ∙ ap (λ v. map cell (take index firsts) ++ v ∷ []) (value ∙ ap cell is)
-    ∙ sym (map_more cell firsts index first low)
+    ∙ ap (λ v. map cell (take index firsts) ++ v ∷ []) value
+    ∙ sym (map_more cell firsts index d low)

@@ -3,6 +3,7 @@ use Rattle.std.proofs.Common.{◌≡◌, ◌<◌, ℕ, zero, suc, List, [], ◌�
 use Rattle.std.specs.Global.{Global}
 use Rattle.std.proofs.lemmas.Int.{ints}
 use Rattle.std.proofs.lemmas.List.{length-map}
+use Rattle.std.proofs.lemmas.List.Sums.{sum_by-cons}
 use Rattle.typed_plan.specs.declared.plan.Aggregate.{Aggregate}
 use Rattle.typed_plan.specs.declared.plan.Aggregate.TheVariants.{Key}
 use Rattle.grouping.specs.declared.tally.Tally.{Tally}
@@ -10,7 +11,7 @@ use Rattle.grouping.specs.Fed.{GroupsAt, Holds, AreTallied}
 use Rattle.grouping.specs.Found.{first_found}
 use Rattle.grouping.specs.Tallies.{no_rows}
 use Rattle.grouping.specs.inside.Adding.{IsKept, lists_of}
-use Rattle.grouping.specs.inside.Counting.{IsWithin}
+use Rattle.grouping.specs.inside.Counting.{IsSmall, counted_in}
 use Rattle.grouping.specs.inside.Kept.{AreBlank}
 use Rattle.grouping.specs.inside.Placing.{found_by}
 
@@ -20,8 +21,16 @@ blank_at [] groups all item low = absurd (omega arith)
 blank_at (t ∷ tallies) groups all zero low = all 0 t (omega arith)
 blank_at (t ∷ tallies) groups all (suc item) low = blank_at tallies groups (λ k d below. all (suc k) d (omega arith)) item (omega arith)
 
-none_within : IsWithin 0 no_rows
-none_within = record { few = omega arith; small = record { low = omega (arith, ints); high = omega (arith, ints) } }
+none_small : IsSmall no_rows
+none_small = record { low = omega (arith, ints); high = omega (arith, ints) }
+
+none_counted : (tallies : List Tally) (groups : ℕ) → length tallies ≡ groups → ((group : ℕ) → group < groups → get_or tallies group no_rows ≡ no_rows) → counted_in tallies ≡ 0
+none_counted [] groups long each = refl
+none_counted (tally ∷ tallies) groups long each =
+    let first = ap (λ (tally : Tally). tally.count) (each 0 (omega (arith, long))) in
+    let rest = none_counted tallies (length tallies) refl (λ group low. each (suc group) (omega (arith, long))) in
+    let all = sum_by-cons (λ (tally : Tally). tally.count) tally tallies in
+    omega (arith, first, rest, all)
 
 -- tallies of no rows are kept
 pub kept_blank : (items : List Aggregate) (tallies : List (Vec Tally Global)) (groups : ℕ) → length tallies ≡ length items →
@@ -31,7 +40,10 @@ kept_blank items tallies groups many all = record {
   long = λ item low. (blank_at tallies groups all item (omega arith)).long;
   small = λ item low.
       let blank = blank_at tallies groups all item (omega arith) in
-      record { each = λ group below. subst (IsWithin 0) (sym (blank.each group (omega (arith, blank.long)))) none_within };
+      record {
+        few = let none = none_counted (get_or (lists_of tallies) item []) groups blank.long blank.each in omega (arith, none);
+        small = λ group below. subst IsSmall (sym (blank.each group (omega (arith, blank.long)))) none_small;
+      };
 }
 
 -- before any row the keys are those of none

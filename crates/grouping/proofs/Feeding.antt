@@ -2,12 +2,12 @@
 use Rattle.std.proofs.Common.{◌≡◌, ◌<◌, ℕ, zero, suc, ◌+◌, Bool, true, List, [], ◌∷◌, ◌++◌, length, map, get_or, slice_get, Some, None, Option, Ok, refl, sym, ap, ◌∙◌, subst, arith, nat_lt}
 use Rattle.std.specs.List.{list_all}
 use Rattle.std.proofs.lemmas.Bool.{and_parts}
-use Rattle.std.proofs.lemmas.List.{length-append, length-map}
+use Rattle.std.proofs.lemmas.List.{get_or_default, length-append, length-map}
 use borrow.Author.Tests.{ltb-true}
 use Rattle.arrow_schema.specs.declared.data_type.DataType.{DataType}
 use Rattle.scan_base.specs.declared.fault.Fault.{Fault}
 use Rattle.arrow_schema.specs.declared.data_type.DataType.TheVariants.{Integer, Utf8, Bool as Flag, Decimal128, Dictionary}
-use Rattle.arrays.specs.Batch.{row_of}
+use Rattle.arrays.specs.Batch.{BatchAt, row_of}
 use Rattle.arrays.specs.Column.{ColumnAt}
 use Rattle.arrays.specs.Typed.{AreOf, IsOfType}
 use Rattle.table_versions.specs.Table.{Row}
@@ -15,11 +15,11 @@ use Rattle.typed_plan.specs.Class.{can_sum}
 use Rattle.typed_plan.specs.Typed.{has_item, type_at}
 use Rattle.typed_plan.specs.declared.plan.Aggregate.{Aggregate}
 use Rattle.typed_plan.specs.declared.plan.Aggregate.TheVariants.{Key, CountRows, Count, Sum}
-use Rattle.grouping.specs.Fed.{GroupsAt, Holds, HasItems, AreTallied, HasFed, Feeds}
+use Rattle.grouping.specs.Fed.{AreTyped, GroupsAt, Holds, HasItems, AreTallied, HasFed, Feeds}
 use Rattle.grouping.specs.Found.{found_in, found_then, first_found}
 use Rattle.grouping.specs.inside.Counting.{CanCount, IsIntegers}
 use Rattle.grouping.specs.inside.Adding.{CanCountAll, IsGrown, IsAdded}
-use Rattle.grouping.specs.inside.Placing.{ArePlaced}
+use Rattle.grouping.specs.inside.Placing.{ArePlaced, IsBatchAt}
 use Rattle.grouping.proofs.Finding.{found_more}
 use Rattle.grouping.proofs.Sharing.{fed_tallies}
 
@@ -104,7 +104,7 @@ fed_holds before after columns rows earlier keys items count many grown held =
 feeds_ok : (before after : GroupsAt) (rows : List Row) → before.refused ≡ None → HasFed before after rows → Feeds before (Ok tt) after rows
 feeds_ok before after rows none fed =
     let now : HasFed (record before { refused = None }) after rows = record {
-      alike = record { types = fed.alike.types; keys = fed.alike.keys; items = fed.alike.items };
+      alike = record { batches = fed.alike.batches; types = fed.alike.types; keys = fed.alike.keys; items = fed.alike.items };
       refused = fed.refused;
       count = fed.count;
       held = λ earlier h. fed.held earlier (record { found = h.found; count = h.count; many = h.many; tallied = h.tallied });
@@ -112,17 +112,32 @@ feeds_ok before after rows none fed =
     subst (λ (refused : Option Fault). Feeds (record before { refused = refused }) (Ok tt) after rows) (sym none) now
 
 -- rows that are added are fed
-pub feeds_all : (inside before after : GroupsAt) (columns : List ColumnAt) (rows : List ℕ) → inside ≡ before → inside.refused ≡ None →
-    after.types ≡ inside.types → after.keys ≡ inside.keys → after.items ≡ inside.items → after.refused ≡ None →
+pub feeds_all : (inside before after : GroupsAt) (batch fed : BatchAt) (rows : List ℕ) → inside ≡ before → batch ≡ fed → inside.refused ≡ None →
+    after.batches ≡ inside.batches → after.types ≡ inside.types → after.keys ≡ inside.keys → after.items ≡ inside.items → after.refused ≡ None →
     after.count ≡ inside.count + length rows → length after.tallies ≡ length inside.items →
-    IsGrown inside.items columns inside.keys rows inside.found after.found inside.count inside.tallies after.tallies →
-    Feeds before (Ok tt) after (map (row_of columns) rows)
-feeds_all inside before after columns rows is none types keys items still count many grown =
-    let more = map (row_of columns) rows in
-    subst (λ (b : GroupsAt). Feeds b (Ok tt) after more) is
+    IsGrown inside.items batch.columns inside.keys rows inside.found after.found inside.count inside.tallies after.tallies →
+    Feeds before (Ok tt) after (map (row_of fed.columns) rows)
+feeds_all inside before after batch fed rows is same none batches types keys items still count many grown =
+    let more = map (row_of batch.columns) rows in
+    subst (λ (fed : BatchAt). Feeds before (Ok tt) after (map (row_of fed.columns) rows)) same
+    (subst (λ (b : GroupsAt). Feeds b (Ok tt) after more) is
     (feeds_ok inside after more none (record {
-      alike = record { types = types; keys = keys; items = items };
+      alike = record { batches = batches; types = types; keys = keys; items = items };
       refused = still;
-      count = omega (arith, count, length-map rows (row_of columns));
-      held = λ earlier held. fed_holds inside after columns rows earlier keys items count many grown held;
-    }))
+      count = omega (arith, count, length-map rows (row_of batch.columns));
+      held = λ earlier held. fed_holds inside after batch.columns rows earlier keys items count many grown held;
+    })))
+
+-- the batch of a number is of the types
+pub record IsFed (types : List DataType) (batches : List BatchAt) (number : ℕ) (batch : BatchAt) : Type 0 where
+  pub stands : IsBatchAt batches number batch
+  pub typed : AreOf types batch.columns
+
+pub fed_batch : (inside before : GroupsAt) (number : ℕ) (d : BatchAt) → inside ≡ before → AreTyped inside.types inside.batches → number < length before.batches →
+    IsFed inside.types inside.batches number (get_or inside.batches number d)
+fed_batch inside before number d same typed low =
+    let there : number < length inside.batches = omega (arith, low, ap (λ (g : GroupsAt). length g.batches) same) in
+    record {
+      stands = record { there = there; same = get_or_default inside.batches number d (record { columns = []; rows = 0 }) there };
+      typed = typed number d there;
+    }

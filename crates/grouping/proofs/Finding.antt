@@ -8,23 +8,23 @@ use borrow.Author.Tests.{eq-eqb, ne_eqb}
 use Rattle.std.specs.List.{list_any, position_or_len}
 use Rattle.indexmap.specs.IndexSet.{insert_key}
 use Rattle.scan_base.specs.declared.value.Value.{Value}
-use Rattle.arrow_schema.specs.declared.data_type.DataType.{DataType}
 use Rattle.arrays.specs.Batch.{row_of}
 use Rattle.arrays.specs.Column.{ColumnAt}
-use Rattle.arrays.specs.Typed.{AreOf}
 use Rattle.table_versions.specs.Table.{Row}
 use Rattle.typed_plan.specs.Grouped.{same_key}
 use Rattle.grouping.specs.declared.key.RowKey.{RowKey}
+use Rattle.grouping.specs.declared.table.Chosen.{Chosen}
+use Rattle.grouping.specs.Fed.{batch_at}
 use Rattle.grouping.specs.Found.{key_in, place_in, found_then}
 use Rattle.grouping.specs.Keys.{key_self}
-use Rattle.grouping.specs.inside.Placing.{ArePlaced, IsFirst, found_by}
+use Rattle.grouping.specs.inside.Placing.{ArePlaced, FirstsStay, IsFirst, found_by}
 use Rattle.grouping.specs.RowKeys.{key_of, same_first}
 
 -- the invariant of the loop over rows
-pub record IsFinding (keys : List ℕ) (columns : List ColumnAt) (rows : List ℕ) (before : List RowKey) (count : ℕ) (firsts : List RowKey) (groups : List ℕ) : Type 0 where
-  pub found : map key_of firsts ≡ found_then keys (map key_of before) (map (row_of columns) (take count rows))
-  pub placed : ArePlaced keys columns (map key_of firsts) rows groups count
-  pub kept : (types : List DataType) → AreOf types columns → All (IsFirst types keys) before → All (IsFirst types keys) firsts
+pub record IsFinding (chosen : Chosen) (before : List RowKey) (count : ℕ) (firsts : List RowKey) (groups : List ℕ) : Type 0 where
+  pub found : map key_of firsts ≡ found_then chosen.columns.now (map key_of before) (map (row_of chosen.batch.now.columns) (take count chosen.rows.now))
+  pub placed : ArePlaced chosen.columns.now chosen.batch.now.columns (map key_of firsts) chosen.rows.now groups count
+  pub kept : FirstsStay chosen before firsts
 
 any_map : {A B : Type 0} (f : A → B) (p : B → Bool) (xs : List A) → list_any p (map f xs) ≡ list_any (λ x. p (f x)) xs
 any_map f p [] = refl
@@ -95,7 +95,7 @@ more_there found key = by (list_any (same_key key) found) refl
     by false e = rw e (simp length-append (omega arith))
 
 -- what holds of the first rows, and of one more, holds of all
-all_inserted : (P : RowKey → Type 0) (firsts : List RowKey) (first : RowKey) → All P firsts → P first → All P (insert_key same_first firsts first)
+pub all_inserted : (P : RowKey → Type 0) (firsts : List RowKey) (first : RowKey) → All P firsts → P first → All P (insert_key same_first firsts first)
 all_inserted P firsts first all one = by (list_any (same_first first) firsts) refl
   where
     by : (t : Bool) → list_any (same_first first) firsts ≡ t → All P (insert_key same_first firsts first)
@@ -131,14 +131,16 @@ more_placed keys columns found rows groups count key is so =
     }
 
 -- one row more
-pub step : (keys : List ℕ) (columns : List ColumnAt) (rows : List ℕ) (before : List RowKey) (count : ℕ) (firsts : List RowKey) (groups : List ℕ) (first : RowKey) →
-    IsFinding keys columns rows before count firsts groups → count < length rows →
-    first.columns.now ≡ keys → first.batch.now.columns ≡ columns → first.row ≡ get_or rows count 0 →
-    IsFinding keys columns rows before (count + 1) (insert_key same_first firsts first)
-    (groups ++ place_in (map key_of firsts) (key_of first) ∷ [])
-step keys columns rows before count firsts groups first so more same_keys same_columns same_row =
+pub step : (chosen : Chosen) (before : List RowKey) (count : ℕ) (firsts : List RowKey) (groups : List ℕ) (first : RowKey) →
+    IsFinding chosen before count firsts groups → count < length chosen.rows.now → first.columns.now ≡ chosen.columns.now →
+    first.batch.now ≡ chosen.batch.now → first.number ≡ chosen.number → first.row ≡ get_or chosen.rows.now count 0 →
+    IsFinding chosen before (count + 1) (insert_key same_first firsts first) (groups ++ place_in (map key_of firsts) (key_of first) ∷ [])
+step chosen before count firsts groups first so more same_keys same_batch same_number same_row =
+    let keys = chosen.columns.now in
+    let columns = chosen.batch.now.columns in
+    let rows = chosen.rows.now in
     let row = row_of columns (get_or rows count 0) in
-    let is : key_of first ≡ key_in keys row = rw (same_keys, same_columns, same_row) refl in
+    let is : key_of first ≡ key_in keys row = rw (same_keys, same_batch, same_row) refl in
     let grown : map (row_of columns) (take (count + 1) rows) ≡ map (row_of columns) (take count rows) ++ row ∷ [] =
     map_more (row_of columns) rows count 0 more in
     record {
@@ -148,8 +150,11 @@ step keys columns rows before count firsts groups first so more same_keys same_c
           ∙ found_more keys (map key_of before) (map (row_of columns) (take count rows)) (row ∷ []));
       placed = subst (λ found. ArePlaced keys columns found rows (groups ++ place_in (map key_of firsts) (key_of first) ∷ []) (count + 1))
           (sym (insert_map first firsts)) (more_placed keys columns (map key_of firsts) rows groups count (key_of first) is so.placed);
-      kept = λ types typed all. all_inserted (IsFirst types keys) firsts first (so.kept types typed all)
-          (record { typed = subst (AreOf types) (sym same_columns) typed; keyed = same_keys });
+      kept = λ batches at all. all_inserted (IsFirst batches keys) firsts first (so.kept batches at all)
+          (record {
+            stands = record { there = omega (arith, at.there, same_number); same = same_batch ∙ at.same ∙ ap (batch_at batches) (sym same_number) };
+            keyed = same_keys;
+          });
     }
 
 -- without columns the one key stays

@@ -1,44 +1,46 @@
 -- Batches of the answer.
-use Rattle.std.proofs.Common.{◌≡◌, ◌≤◌, ◌<◌, ℕ, zero, suc, ◌+◌, ◌-◌, pos, Bool, true, false, if◌then◌else◌, nat_lt, List, [], ◌∷◌, ◌++◌, All, length, map, get_or, take, drop, None, Option, Result, Ok, Err, IfOk, refl, sym, ap, ◌∙◌, subst, arith, Vec, ◌⊎◌, inl, inr}
+use Rattle.std.proofs.Common.{◌≡◌, ◌≤◌, ◌<◌, ℕ, zero, suc, ◌+◌, ◌-◌, pos, Bool, true, false, if◌then◌else◌, nat_lt, List, [], ◌∷◌, ◌++◌, All, length, map, get_or, take, drop, Result, Ok, Err, IfOk, refl, sym, ap, ◌∙◌, subst, arith, Vec, ◌⊎◌, inl, inr}
 use Rattle.std.specs.Prelude.{◌==◌}
 use Rattle.std.specs.Global.{Global}
-use Rattle.std.specs.List.{range_with_len, flat_map}
-use Rattle.std.proofs.lemmas.List.{get_or-map, get_or-take, get_or-drop, get_or_default, get_or_append_left, get_or_push, append-nil, length-take-le, length-drop, length-map}
-use Rattle.std.proofs.lemmas.List.FromFn.{get_or-map-range_with_len}
-use Rattle.std.proofs.lemmas.List.Elements.{All-take, All-drop}
-use Rattle.std.proofs.lemmas.Grind.{flat_map-append}
+use Rattle.std.specs.List.{range_with_len}
+use Rattle.std.proofs.lemmas.List.{get_or-map, get_or-take, get_or-drop, get_or_default, get_or_append_left, get_or_push, length-take-le, length-drop, length-map}
+use Rattle.std.proofs.lemmas.List.FromFn.{get_or-map-range_with_len, length-map-range_with_len}
+use Rattle.std.proofs.lemmas.List.Elements.{All-map, All-take, All-drop}
 use Rattle.std.proofs.lemmas.Option.{unwrap_or-slice_get}
 use borrow.Author.Tests.{ltb-true, ltb-false}
 use Rattle.scan_base.specs.Limits.{most_rows}
 use Rattle.scan_base.specs.Predicate.{cell_in}
-use Rattle.scan_base.specs.declared.fault.Fault.{Fault}
 use Rattle.scan_base.specs.declared.value.Value.{Value}
 use Rattle.scan_base.specs.declared.value.Value.TheVariants.{Null, Int}
 use Rattle.arrow_schema.specs.Answer.{answer_type}
 use Rattle.arrow_schema.specs.declared.data_type.DataType.{DataType}
 use Rattle.arrow_schema.specs.declared.data_type.DataType.TheVariants.{Integer, Decimal128}
 use Rattle.arrow_schema.specs.declared.data_type.IntegerType.TheVariants.{Int64}
-use Rattle.arrays.specs.Batch.{BatchAt, row_of, rows_of}
+use Rattle.arrays.specs.Batch.{BatchAt, rows_of}
 use Rattle.arrays.specs.Column.{ColumnAt, slot_of, values_of}
 use Rattle.arrays.specs.Typed.{AreOf, IsOfType}
+use Rattle.arrays.specs.Written.{text_bytes, texts_joined}
+use Rattle.table_versions.specs.Table.{Row}
 use Rattle.typed_plan.specs.Typed.{has_item, item_type, type_at}
 use Rattle.typed_plan.specs.declared.plan.Aggregate.{Aggregate}
 use Rattle.typed_plan.specs.declared.plan.Aggregate.TheVariants.{Key, CountRows, Count, Sum}
 use Rattle.grouping.specs.declared.batches.Answer.{Answer}
-use Rattle.grouping.specs.declared.key.RowKey.{RowKey}
+use Rattle.grouping.specs.declared.key.Place.{Place}
 use Rattle.grouping.specs.declared.tally.Tally.{Tally}
 use Rattle.grouping.specs.Answered.{cell_at, row_at, answer_rows}
-use Rattle.grouping.specs.Fed.{GroupsAt, most_batch_rows, IsAnswer, Finishes}
-use Rattle.grouping.specs.RowKeys.{key_of}
+use Rattle.grouping.specs.Answers.{IsThere, keys_at, row_in}
+use Rattle.grouping.specs.Fed.{GroupsAt}
+use Rattle.grouping.specs.Found.{key_in}
 use Rattle.grouping.specs.Tallies.{no_rows, item_value}
 use Rattle.grouping.specs.inside.Adding.{lists_of}
-use Rattle.grouping.specs.inside.Answering.{first_cell}
+use Rattle.grouping.specs.inside.Answering.{AreShort, Fits, first_cell}
 use Rattle.grouping.specs.inside.Counting.{AreWithin}
-use Rattle.grouping.specs.inside.Finishing.{groups_in, CanAnswer, item_cells, IsItemColumn, IsBatchOf}
-use Rattle.grouping.specs.inside.Placing.{found_by}
+use Rattle.grouping.specs.inside.Finishing.{groups_in, CanAnswer, item_cells, IsItemColumn, IsBatchOf, IsNextOf}
 use Rattle.grouping.proofs.Batching.{ranged_any, rows_of_cells}
 use Rattle.grouping.proofs.Feeding.{has_each}
-use Rattle.grouping.proofs.Held.{held_answers}
+use Rattle.grouping.proofs.KeyCells.{key_there}
+use Rattle.grouping.proofs.Short.{plain_fit}
+use Rattle.grouping.proofs.Stepping.{one_within}
 
 pub if_ok_three : {T E : Type 0} (P Q R S : T → Type 0) → ((x : T) → P x → Q x → R x → S x) → (r : Result T E) → IfOk r P → IfOk r Q → IfOk r R → IfOk r S
 if_ok_three P Q R S f (Ok x) p q r = f x p q r
@@ -78,10 +80,7 @@ item_tallies answer item list slice can there is =
     record {
       whole = whole;
       long = ap length whole ∙ can.kept.long item there;
-      few = λ k d within.
-          let few = (small.each k within).few in
-          let other : (get_or slice k d).count ≡ (get_or slice k no_rows).count = ap (λ (tally : Tally). tally.count) (get_or_default slice k d no_rows within) in
-          omega (arith, few, other, can.few);
+      few = λ k d within. let few = one_within can.count slice k d small within in omega (arith, few, can.few);
     }
 
 -- so is a part of them
@@ -145,46 +144,100 @@ summed_column answer item from to summed slice part column are is ordered within
     tally_column (groups_in answer) item from to slice part (λ (tally : Tally). if tally.count == 0 then Null else Int tally.sum) Decimal128 column are.whole are.long ordered within
     (λ key tally. ap (λ (item : Aggregate). item_value key item tally) is) (ap (λ (item : Aggregate). answer_type (item_type answer.keys.now answer.types.now item)) is) cut values typed long
 
+-- ---- the column of a key
+
 -- a cell of a group's key is that of its first row
-key_cell : (keys : List ℕ) (firsts : List RowKey) (place group : ℕ) (d : RowKey) → place < length keys → group < length firsts →
-    (get_or firsts group d).columns.now ≡ keys → cell_in (get_or (found_by keys firsts) group []) place ≡ first_cell (get_or keys place 0) (get_or firsts group d)
-key_cell [] firsts place group d low there keyed = absurd (omega arith)
-key_cell (key ∷ keys) firsts place group d low there keyed =
-    let first = get_or firsts group d in
-    let row = row_of first.batch.now.columns first.row in
-    ap (λ (found : List Value). cell_in found place) (get_or-map key_of firsts group d [] there)
-    ∙ ap (λ (columns : List ℕ). cell_in (map (cell_in row) columns) place) keyed
+key_cell : (batches : List BatchAt) (keys : List ℕ) (firsts : List Place) (place group : ℕ) (d : Place) → place < length keys → group < length firsts →
+    cell_in (get_or (keys_at batches keys firsts) group []) place ≡ first_cell batches (get_or keys place 0) (get_or firsts group d)
+key_cell batches [] firsts place group d low there = absurd (omega arith)
+key_cell batches (key ∷ keys) firsts place group d low there =
+    let row = row_in batches (get_or firsts group d) in
+    ap (λ (found : List Value). cell_in found place) (get_or-map (λ (first : Place). key_in (key ∷ keys) (row_in batches first)) firsts group d [] there)
     ∙ unwrap_or-slice_get (map (cell_in row) (key ∷ keys)) place Null
     ∙ get_or-map (cell_in row) (key ∷ keys) place 0 Null low
 
 -- with a key there is a first row of each group
-firsts_long : (keys : List ℕ) (firsts : List RowKey) (place : ℕ) → place < length keys → length (found_by keys firsts) ≡ length firsts
-firsts_long [] firsts place low = absurd (omega arith)
-firsts_long (key ∷ keys) firsts place low = length-map firsts key_of
+firsts_long : (batches : List BatchAt) (keys : List ℕ) (firsts : List Place) (place : ℕ) → place < length keys → length (keys_at batches keys firsts) ≡ length firsts
+firsts_long batches [] firsts place low = absurd (omega arith)
+firsts_long batches (key ∷ keys) firsts place low = length-map firsts (λ (first : Place). key_in (key ∷ keys) (row_in batches first))
 
--- the column of a key's cells is that of the item
-pub first_column : (answer : Answer) (item place from to : ℕ) (part : List RowKey) (column : ColumnAt) → CanAnswer answer →
-    item < length answer.items.now → get_or answer.items.now item (Key 0) ≡ Key place → from ≤ to → to ≤ length (groups_in answer).found →
-    part ≡ take (to - from) (drop from answer.firsts.now) → values_of column ≡ map (first_cell (get_or answer.keys.now place 0)) part →
-    IsOfType (answer_type (type_at answer.types.now (get_or answer.keys.now place 0))) column.layout → column.len ≡ length part →
-    IsItemColumn (groups_in answer) item from (to - from) column
-first_column answer item place from to part column can there is ordered within cut values typed long =
+-- an item that gives a key gives the cells of first rows in a column that is there
+pub record IsKeyAt (answer : Answer) (item place : ℕ) : Type 0 where
+  pub there : place < length answer.keys.now
+  pub column : get_or answer.keys.now place 0 < length answer.types.now
+  pub long : length (groups_in answer).found ≡ length answer.firsts.now
+  pub cells : (from many : ℕ) → from + many ≤ length answer.firsts.now →
+      map (first_cell answer.batches.now (get_or answer.keys.now place 0)) (take many (drop from answer.firsts.now)) ≡ item_cells (groups_in answer) item from many
+
+pub key_at : (answer : Answer) (item place : ℕ) → CanAnswer answer → item < length answer.items.now → get_or answer.items.now item (Key 0) ≡ Key place →
+    IsKeyAt answer item place
+key_at answer item place can there is =
     let keys = answer.keys.now in
     let firsts = answer.firsts.now in
+    let batches = answer.batches.now in
     let has : has_item (length keys) answer.types.now (Key place) ≡ true =
     subst (λ (item : Aggregate). has_item (length keys) answer.types.now item ≡ true) is
     (has_each (has_item (length keys) answer.types.now) answer.items.now item (Key 0) there can.has.typed) in
     let low : place < length keys = ltb-true place (length keys) has in
-    let all : length (found_by keys firsts) ≡ length firsts = firsts_long keys firsts place low in
-    let inside : from + (to - from) ≤ length firsts = omega (arith, all) in
     record {
-      values = values ∙ ap (map (first_cell (get_or keys place 0))) cut
-          ∙ part_values firsts (λ group. cell_at (groups_in answer) group item) (first_cell (get_or keys place 0)) from (to - from) inside
-          (λ group d below. ap (λ (item_is : Aggregate). item_value (get_or (found_by keys firsts) group []) item_is (get_or (get_or (lists_of answer.tallies.now) item []) group no_rows)) is
-          ∙ key_cell keys firsts place group d low below (can.first group d below).keyed);
+      there = low;
+      column = key_there keys (length answer.types.now) place low can.has.keyed;
+      long = firsts_long batches keys firsts place low;
+      cells = λ from many within.
+          part_values firsts (λ group. cell_at (groups_in answer) group item) (first_cell batches (get_or keys place 0)) from many within
+          (λ group d below. ap (λ (item_is : Aggregate). item_value (get_or (keys_at batches keys firsts) group []) item_is (get_or (get_or (lists_of answer.tallies.now) item []) group no_rows)) is
+          ∙ key_cell batches keys firsts place group d low below);
+    }
+
+-- the column of a key's cells is that of the item
+pub first_column : (answer : Answer) (item place from to : ℕ) (part : List Place) (column : ColumnAt) → IsKeyAt answer item place →
+    get_or answer.items.now item (Key 0) ≡ Key place → from ≤ to → to ≤ length (groups_in answer).found →
+    part ≡ take (to - from) (drop from answer.firsts.now) → values_of column ≡ map (first_cell answer.batches.now (get_or answer.keys.now place 0)) part →
+    IsOfType (answer_type (type_at answer.types.now (get_or answer.keys.now place 0))) column.layout → column.len ≡ length part →
+    IsItemColumn (groups_in answer) item from (to - from) column
+first_column answer item place from to part column key is ordered within cut values typed long =
+    let keys = answer.keys.now in
+    let firsts = answer.firsts.now in
+    let inside : from + (to - from) ≤ length firsts = omega (arith, key.long) in
+    record {
+      values = values ∙ ap (map (first_cell answer.batches.now (get_or keys place 0))) cut ∙ key.cells from (to - from) inside;
       typed = subst (λ (item : Aggregate). IsOfType (answer_type (item_type keys answer.types.now item)) column.layout) (sym is) typed;
       long = long ∙ ap length cut ∙ part_long firsts from (to - from) inside;
     }
+
+-- part of the first rows are there
+pub part_there : (batches : List BatchAt) (firsts part : List Place) (from many : ℕ) → part ≡ take many (drop from firsts) → All (IsThere batches) firsts →
+    All (IsThere batches) part
+part_there batches firsts part from many cut there =
+    subst (λ (part : List Place). All (IsThere batches) part) (sym cut) (All-take (IsThere batches) many (drop from firsts) (All-drop (IsThere batches) from firsts there))
+
+-- ---- items that give no key
+
+no_text_sum : (tally : Tally) → text_bytes (if tally.count == 0 then Null else Int tally.sum) ≡ []
+no_text_sum tally = by (tally.count == 0)
+  where
+    by : (none : Bool) → text_bytes (if none then Null else Int tally.sum) ≡ []
+    by true = refl
+    by false = refl
+
+-- whether an item counts or sums
+abbrev pub IsTallied : Aggregate → Type 0
+IsTallied item = (item ≡ CountRows) ⊎ (((column : ℕ) × (item ≡ Count column)) ⊎ ((column : ℕ) × (item ≡ Sum column)))
+
+no_text_item : (item : Aggregate) → IsTallied item → (key : List Value) (tally : Tally) → text_bytes (item_value key item tally) ≡ []
+no_text_item item (inl is) key tally = ap (λ (item : Aggregate). text_bytes (item_value key item tally)) is
+no_text_item item (inr (inl (column, is))) key tally = ap (λ (item : Aggregate). text_bytes (item_value key item tally)) is
+no_text_item item (inr (inr (column, is))) key tally = ap (λ (item : Aggregate). text_bytes (item_value key item tally)) is ∙ no_text_sum tally
+
+-- all of its groups have room
+pub tallies_fit : (groups : GroupsAt) (item from most : ℕ) → IsTallied (get_or groups.items item (Key 0)) → 0 < most → Fits (item_cells groups item from most) most
+tallies_fit groups item from most is some =
+    let cells = item_cells groups item from most in
+    let long : length cells ≡ most = length-map-range_with_len (λ group. cell_at groups group item) from most in
+    subst (Fits cells) long
+    (plain_fit cells (omega (arith, long, some))
+    (All-map (λ (value : Value). text_bytes value ≡ []) (λ group. cell_at groups group item) (range_with_len from most)
+    (λ k d low. no_text_item (get_or groups.items item (Key 0)) is _ _)))
 
 -- ---- the batch of some groups
 
@@ -222,8 +275,9 @@ are_items h (item ∷ items) [] long each = absurd (omega arith)
 -- the columns of all items are a batch
 pub batch_made : (groups : GroupsAt) (from many : ℕ) (columns : List ColumnAt) → length columns ≡ length groups.items →
     ((i : ℕ) (d : ColumnAt) → i < length groups.items → IsItemColumn groups i from many (get_or columns i d)) →
+    ((i : ℕ) → i < length groups.items → AreShort (item_cells groups i from many)) →
     IsBatchOf groups from many (record { columns = columns; rows = many })
-batch_made groups from many columns long each =
+batch_made groups from many columns long each short =
     let cell : ℕ → ℕ → Value = λ row item. cell_at groups (from + row) item in
     let none : from + 0 ≡ from = omega arith in
     record {
@@ -241,9 +295,15 @@ batch_made groups from many columns long each =
           ∙ ap (λ (a : ℕ). map (row_at groups) (range_with_len a many)) none;
       many_rows = refl;
       typed = are_items (item_type groups.keys groups.types) groups.items columns long (λ i d low. (each i d low).typed);
+      light = λ more i d low.
+          let there : i < length groups.items = omega (arith, long) in
+          let cells = (each i d there).values in
+          let bytes = ap (λ (values : List Value). length (texts_joined values)) cells in
+          let size = length-map-range_with_len (λ group. cell_at groups group i) from many in
+          omega (arith, bytes, (short i there).light (omega (arith, size, more)));
     }
 
--- ---- all batches
+-- ---- the next batch
 
 range_two : {Y : Type 0} (f : ℕ → Y) (a m n k : ℕ) → a + m ≡ k → map f (range_with_len a m) ++ map f (range_with_len k n) ≡ map f (range_with_len a (m + n))
 range_two f a zero n k is =
@@ -254,40 +314,33 @@ range_two f a (suc m) n k is =
     let more : suc (m + n) ≡ suc m + n = omega arith in
     ap (λ ys. f a ∷ ys) (range_two f (a + 1) m n k (omega arith)) ∙ ap (λ (c : ℕ). map f (range_with_len a c)) more
 
--- the rows of batches, and of one more
-pub batches_more : (groups : GroupsAt) (batches : List BatchAt) (batch : BatchAt) (from to : ℕ) → from ≤ to → IsBatchOf groups from (to - from) batch →
-    flat_map rows_of batches ≡ map (row_at groups) (range_with_len 0 from) →
-    flat_map rows_of (batches ++ batch ∷ []) ≡ map (row_at groups) (range_with_len 0 to)
-batches_more groups batches batch from to ordered is before =
-    let all : from + (to - from) ≡ to = omega arith in
+-- the numbers behind the first ones
+range_left : {Y : Type 0} (f : ℕ → Y) (a k n : ℕ) → k ≤ n → drop k (map f (range_with_len a n)) ≡ map f (range_with_len (a + k) (n - k))
+range_left f a zero n low =
+    let same : a ≡ a + 0 = omega arith in
+    let all : n ≡ n - 0 = omega arith in
+    ap (λ (b : ℕ). map f (range_with_len b n)) same ∙ ap (λ (m : ℕ). map f (range_with_len (a + 0) m)) all
+range_left f a (suc k) zero low = absurd (omega arith)
+range_left f a (suc k) (suc n) low =
+    let same : (a + 1) + k ≡ a + suc k = omega arith in
+    let all : n - k ≡ suc n - suc k = omega arith in
+    range_left f (a + 1) k n (omega arith)
+    ∙ ap (λ (b : ℕ). map f (range_with_len b (n - k))) same ∙ ap (λ (m : ℕ). map f (range_with_len (a + suc k) m)) all
+
+-- the batch of the next groups, and the groups behind them
+pub next_given : (groups : GroupsAt) (from most : ℕ) (batch : BatchAt) → from + most ≤ length groups.found → IsNextOf groups from most batch →
+    drop from (answer_rows groups) ≡ rows_of batch ++ drop (from + batch.rows) (answer_rows groups)
+next_given groups from most batch within next =
+    let all = length groups.found in
+    let many = batch.rows in
+    let few : from + many ≤ all = omega (arith, within, next.few) in
+    let low : from ≤ all = omega (arith, few) in
+    let seam : from + many ≡ 0 + (from + many) = omega arith in
+    let rest : many + (all - (from + many)) ≡ all - from = omega (arith, few) in
     let start : 0 + from ≡ from = omega arith in
-    flat_map-append rows_of batches (batch ∷ [])
-    ∙ ap (λ (rows : List (List Value)). rows ++ flat_map rows_of (batch ∷ [])) before
-    ∙ ap (λ (rows : List (List Value)). map (row_at groups) (range_with_len 0 from) ++ rows) (append-nil (rows_of batch) ∙ is.rows)
-    ∙ range_two (row_at groups) 0 from (to - from) from start
-    ∙ ap (λ (n : ℕ). map (row_at groups) (range_with_len 0 n)) all
-
--- a batch of some groups is one of the answer
-pub is_answer : (groups : GroupsAt) (batch : BatchAt) (from to : ℕ) → from < to → to ≤ from + most_batch_rows → IsBatchOf groups from (to - from) batch → IsAnswer groups batch
-is_answer groups batch from to some few is = record { some = omega (arith, is.many_rows); few = omega (arith, is.many_rows); typed = is.typed }
-
--- ---- what finishing answers
-
--- the batches of what was not refused are the answer
-pub finishes : (inside before : GroupsAt) (answer : Answer) (many : ℕ) (batches : Vec BatchAt Global) → inside ≡ before → inside.refused ≡ None →
-    answer.types.now ≡ inside.types → answer.keys.now ≡ inside.keys → answer.items.now ≡ inside.items →
-    found_by answer.keys.now answer.firsts.now ≡ inside.found → lists_of answer.tallies.now ≡ inside.tallies → many ≡ length inside.found →
-    flat_map rows_of batches.items ≡ map (row_at (groups_in answer)) (range_with_len 0 many) → All (IsAnswer (groups_in answer)) batches.items →
-    Finishes before (Ok batches)
-finishes inside before answer many batches is none types keys items found tallies all rows answers =
-    let same : groups_in answer ≡ record inside { count = 0; refused = None } = cc in
-    let alone : GroupsAt = record inside { refused = None } in
-    let answers_here : All (IsAnswer alone) batches.items = λ k d low.
-    let one = subst (λ (groups : GroupsAt). IsAnswer groups (get_or batches.items k d)) same (answers k d low) in
-    record { some = one.some; few = one.few; typed = one.typed } in
-    let rows_here : flat_map rows_of batches.items ≡ answer_rows alone =
-    rows ∙ ap (λ (groups : GroupsAt). map (row_at groups) (range_with_len 0 many)) same
-    ∙ ap (λ (n : ℕ). map (row_at alone) (range_with_len 0 n)) all in
-    let now : Finishes alone (Ok batches) = (λ rows held. rows_here ∙ held_answers alone rows held, answers_here) in
-    subst (λ (groups : GroupsAt). Finishes groups (Ok batches)) is
-    (subst (λ (refused : Option Fault). Finishes (record inside { refused = refused }) (Ok batches)) (sym none) now)
+    range_left (row_at groups) 0 from all low
+    ∙ ap (λ (a : ℕ). map (row_at groups) (range_with_len a (all - from))) start
+    ∙ ap (λ (m : ℕ). map (row_at groups) (range_with_len from m)) (sym rest)
+    ∙ sym (range_two (row_at groups) from many (all - (from + many)) (0 + (from + many)) seam)
+    ∙ ap (λ (rows : List Row). rows ++ map (row_at groups) (range_with_len (0 + (from + many)) (all - (from + many)))) (sym next.is.rows)
+    ∙ ap (λ (rows : List Row). rows_of batch ++ rows) (sym (range_left (row_at groups) 0 (from + many) all few))

@@ -178,7 +178,8 @@ walk_made key keys done (row ∷ rest) =
     ∙ walk_made key keys (done ++ row ∷ []) rest
     ∙ ap (λ rows. made (found_in (key ∷ keys) rows) (share (key ∷ keys) (found_in (key ∷ keys) rows) rows)) (append_assoc done (row ∷ []) rest)
 
-alone_in : (rows : List Row) → ([] ∷ []) ≡ found_in [] rows
+-- without columns the key is found, whatever the rows
+pub alone_in : (rows : List Row) → ([] ∷ []) ≡ found_in [] rows
 alone_in [] = refl
 alone_in (row ∷ rows) = alone_in rows
 

@@ -9,4 +9,10 @@ pub mod Blank
 pub mod Answering
 pub mod Held
 pub mod Batching
+pub mod Short
 pub mod Finishing
+pub mod Giving
+pub mod JoinedKeys
+pub mod JoinedTallies
+pub mod JoiningAll
+pub mod Merging

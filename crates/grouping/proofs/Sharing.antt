@@ -99,14 +99,15 @@ all_found keys found (row ∷ rows) =
     let here : place_in now (key_in keys row) < length now = omega (arith, place_kept keys after rows (key_in keys row) low, low, found_grows keys after rows) in
     All-cons (λ (row : Row). place_in now (key_in keys row) < length now) row rows here (all_found keys after rows)
 
-filter_alike : {X : Type 0} (p q : X → Bool) (xs : List X) → All (λ x. p x ≡ q x) xs → filter p xs ≡ filter q xs
+-- tests that agree keep the same
+pub filter_alike : {X : Type 0} (p q : X → Bool) (xs : List X) → All (λ x. p x ≡ q x) xs → filter p xs ≡ filter q xs
 filter_alike p q [] alike = refl
 filter_alike p q (x ∷ xs) alike =
     let first : p x ≡ q x = alike 0 x (omega arith) in
     ap (λ t. cond t (x ∷ filter p xs) (filter p xs)) first
     ∙ ap (λ rest. cond (q x) (x ∷ rest) rest) (filter_alike p q xs (λ k d low. alike (suc k) d (omega arith)))
 
-filter_none : {X : Type 0} (p : X → Bool) (xs : List X) → All (λ x. p x ≡ false) xs → filter p xs ≡ []
+pub filter_none : {X : Type 0} (p : X → Bool) (xs : List X) → All (λ x. p x ≡ false) xs → filter p xs ≡ []
 filter_none p [] none = refl
 filter_none p (x ∷ xs) none =
     let first : p x ≡ false = none 0 x (omega arith) in
@@ -127,7 +128,8 @@ share_none keys found rows group high all =
     filter_none (λ row. place_in found (key_in keys row) == group) rows
     (λ k d low. ne_eqb _ _ (λ (q : place_in found (key_in keys (get_or rows k d)) ≡ group). omega (arith, all k d low)))
 
-old_tally : (keys : List ℕ) (found : List (List Value)) (more earlier : List Row) (item : Aggregate) (before : List Tally) →
+-- the tally of a group so far is that of its rows so far, whatever is found later
+pub old_tally : (keys : List ℕ) (found : List (List Value)) (more earlier : List Row) (item : Aggregate) (before : List Tally) →
     AreTallied keys found earlier item before → All (λ row. place_in found (key_in keys row) < length found) earlier →
     (group : ℕ) → get_or before group no_rows ≡ tally_of item (share keys (found_then keys found more) earlier group)
 old_tally keys found more earlier item before tallied places group = by (nat_lt group (length found)) refl

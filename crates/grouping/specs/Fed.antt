@@ -1,10 +1,8 @@
 -- Rows that are grouped, and what feeding them gives.
-use Rattle.std.specs.Prelude.{◌≡◌, ◌≤◌, ◌<◌, ℕ, ◌+◌, All, List, [], ◌++◌, length, map, get_or, nat_lt, IsTrue, Option, Some, None, Result, Ok, Err, Vec}
-use Rattle.std.specs.Global.{Global}
-use Rattle.std.specs.List.{list_all, flat_map}
+use Rattle.std.specs.Prelude.{◌≡◌, ◌<◌, ℕ, ◌+◌, All, List, [], ◌++◌, length, get_or, nat_lt, IsTrue, Option, Some, None, Result, Ok, Err}
+use Rattle.std.specs.List.{list_all}
 use Rattle.arrow_schema.specs.declared.data_type.DataType.{DataType}
-use Rattle.arrow_schema.specs.Answer.{answer_type}
-use Rattle.arrays.specs.Batch.{BatchAt, rows_of}
+use Rattle.arrays.specs.Batch.{BatchAt}
 use Rattle.arrays.specs.Typed.{AreOf}
 use Rattle.scan_base.specs.declared.fault.Fault.{Fault}
 use Rattle.scan_base.specs.declared.fault.Fault.TheVariants.{OutOfMemory}
@@ -12,16 +10,16 @@ use Rattle.scan_base.specs.declared.value.Value.{Value}
 use Rattle.table_versions.specs.Table.{Row}
 use Rattle.typed_plan.specs.declared.plan.Aggregate.{Aggregate}
 use Rattle.typed_plan.specs.declared.plan.Aggregate.TheVariants.{Key}
-use Rattle.typed_plan.specs.Plan.{answered, groups_by}
-use Rattle.typed_plan.specs.Typed.{has_item, item_type}
+use Rattle.typed_plan.specs.Typed.{has_item}
 use Rattle.grouping.specs.declared.tally.Tally.{Tally}
 use Rattle.grouping.specs.Found.{found_in, share}
 use Rattle.grouping.specs.Tallies.{no_rows, tally_of}
 
--- The types of the columns of the rows that are grouped, the numbers of those that are the key, the items that are wanted
--- of each group, the keys of the groups so far, for each item the tally of each group, how many rows were fed, and what
--- refused them.
+-- The batches whose rows are grouped, the types of their columns, the numbers of those that are the key, the items that are
+-- wanted of each group, the keys of the groups so far, for each item the tally of each group, how many rows were fed, and
+-- what refused them.
 pub record GroupsAt : Type 0 where
+  pub batches : List BatchAt
   pub types : List DataType
   pub keys : List ℕ
   pub items : List Aggregate
@@ -29,6 +27,14 @@ pub record GroupsAt : Type 0 where
   pub tallies : List (List Tally)
   pub count : ℕ
   pub refused : Option Fault
+
+-- the batch of a number
+abbrev pub batch_at : List BatchAt → ℕ → BatchAt
+batch_at batches number = get_or batches number (record { columns = []; rows = 0 })
+
+-- the columns of each batch are of these types
+abbrev pub AreTyped : List DataType → List BatchAt → Type 0
+AreTyped types batches = All (λ (batch : BatchAt). AreOf types batch.columns) batches
 
 -- keys and items name columns that are there
 pub record HasItems (types : List DataType) (keys : List ℕ) (items : List Aggregate) : Type 0 where
@@ -50,6 +56,7 @@ pub record Holds (groups : GroupsAt) (rows : List Row) : Type 0 where
 
 -- what is grouped, and by what, is as it was
 pub record IsAlike (before after : GroupsAt) : Type 0 where
+  pub batches : after.batches ≡ before.batches
   pub types : after.types ≡ before.types
   pub keys : after.keys ≡ before.keys
   pub items : after.items ≡ before.items
@@ -70,32 +77,26 @@ Feeds before result after rows = going before.refused result
     going None (Ok _) = HasFed before after rows
     going None (Err fault) = (fault ≡ OutOfMemory) × (after.refused ≡ Some fault) × IsAlike before after
 
--- as many rows as a batch of the answer has
-abbrev pub most_batch_rows : ℕ
-most_batch_rows = 65536
+-- the rows of both are grouped, those of the other behind the earlier ones
+pub record HasMerged (before other after : GroupsAt) : Type 0 where
+  pub alike : IsAlike before after
+  pub refused : after.refused ≡ None
+  pub count : after.count ≡ before.count + other.count
+  pub held : (rows more : List Row) → Holds before rows → Holds other more → Holds after (rows ++ more)
 
--- a batch of the answer: one row or more, in columns of the types of the items
-pub record IsAnswer (groups : GroupsAt) (batch : BatchAt) : Type 0 where
-  pub some : 0 < batch.rows
-  pub few : batch.rows ≤ most_batch_rows
-  pub typed : AreOf (map answer_type (map (item_type groups.keys groups.types) groups.items)) batch.columns
-
--- the rows of the batches are the answer over these rows: the items of each group, by first appearance
-abbrev pub AreAnswers : GroupsAt → List BatchAt → List Row → Type 0
-AreAnswers groups batches rows =
-    flat_map rows_of batches ≡ map (λ group. map (answered group) groups.items) (groups_by groups.keys rows)
-
--- The answer, in batches, or what refused it.
-abbrev pub Finishes : GroupsAt → Result (Vec BatchAt Global) Fault → Type 0
-Finishes groups result = going groups.refused result
+-- The rows of both are grouped, or memory was refused. What refused either is answered, and from then on.
+abbrev pub Merges : GroupsAt → GroupsAt → Result (Unit {0}) Fault → GroupsAt → Type 0
+Merges before other result after = going before.refused other.refused result
   where
-    going : Option Fault → Result (Vec BatchAt Global) Fault → Type 0
-    going (Some fault) result = result ≡ Err fault
-    going None (Ok batches) = ((rows : List Row) → Holds groups rows → AreAnswers groups batches.items rows) × All (IsAnswer groups) batches.items
-    going None (Err fault) = fault ≡ OutOfMemory
+    going : Option Fault → Option Fault → Result (Unit {0}) Fault → Type 0
+    going (Some fault) _ result = (result ≡ Err fault) × (after ≡ before)
+    going None (Some fault) result = (result ≡ Err fault) × (after.refused ≡ Some fault) × IsAlike before after
+    going None None (Ok _) = HasMerged before other after
+    going None None (Err fault) = (fault ≡ OutOfMemory) × (after.refused ≡ Some fault) × IsAlike before after
 
 -- no row was fed
-pub record IsNew (types : List DataType) (keys : List ℕ) (items : List Aggregate) (groups : GroupsAt) : Type 0 where
+pub record IsNew (batches : List BatchAt) (types : List DataType) (keys : List ℕ) (items : List Aggregate) (groups : GroupsAt) : Type 0 where
+  pub batches_are : groups.batches ≡ batches
   pub types_are : groups.types ≡ types
   pub keys_are : groups.keys ≡ keys
   pub items_are : groups.items ≡ items

@@ -1,5 +1,5 @@
 -- Keys: when two are the same, and what a hash takes of them.
-use Rattle.std.specs.Prelude.{◌≡◌, ℕ, Bool, true, false, List, [], ◌∷◌, IsTrue}
+use Rattle.std.specs.Prelude.{◌≡◌, ℕ, Bool, true, false, List, [], ◌∷◌, ◌++◌, IsTrue}
 use Rattle.std.specs.Cmp.{IsEquivalence}
 use Rattle.std.specs.List.{flat_map}
 use Rattle.std.specs.Hash as fed
@@ -12,12 +12,12 @@ use Rattle.scan_base.specs.declared.value.Value.TheVariants.{Null, Bool as Flag,
 use Rattle.scan_base.specs.Value.{same_flag}
 use Rattle.typed_plan.specs.Grouped.{same_value, same_key}
 
--- what a hash takes of a value
+-- what a hash takes of a value: first a byte that tells its kind
 abbrev pub value_input : Value → List (List ℕ)
 value_input Null = fed.u8 0
-value_input (Flag flag) = fed.bool flag
-value_input (Int number) = fed.i128 number
-value_input (Text bytes) = fed.str bytes
+value_input (Flag flag) = fed.u8 1 ++ fed.bool flag
+value_input (Int number) = fed.u8 2 ++ fed.i128 number
+value_input (Text bytes) = fed.u8 3 ++ fed.str bytes
 
 flag_sound : (a b : Bool) → same_flag a b ≡ true → a ≡ b
 flag_sound true b h = sym h

@@ -1,4 +1,5 @@
 pub mod Answered
+pub mod Answers
 pub mod Fed
 pub mod Found
 pub mod Keys

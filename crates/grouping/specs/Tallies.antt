@@ -1,5 +1,5 @@
 -- Tallies: what is kept of a group's rows for one item.
-use Rattle.std.specs.Prelude.{◌+◌, ◌==◌, if◌then◌else◌, pos, List}
+use Rattle.std.specs.Prelude.{◌+◌, ◌+ℤ◌, ◌==◌, if◌then◌else◌, pos, List}
 use Rattle.std.specs.List.{fold}
 use Rattle.scan_base.specs.declared.value.Value.{Value}
 use Rattle.scan_base.specs.declared.value.Value.TheVariants.{Null, Int}
@@ -34,6 +34,10 @@ added (Sum column) tally row = summed tally (cell_in row column)
 -- the tally of rows
 abbrev pub tally_of : Aggregate → List Row → Tally
 tally_of item rows = fold (added item) no_rows rows
+
+-- of the rows of both
+abbrev pub both : Tally → Tally → Tally
+both a b = record { count = a.count + b.count; sum = a.sum +ℤ b.sum }
 
 -- what an item gives of a group of this key and this tally
 abbrev pub item_value : List Value → Aggregate → Tally → Value

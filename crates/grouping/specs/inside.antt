@@ -4,4 +4,5 @@ pub mod Answering
 pub mod Counting
 pub mod Finishing
 pub mod Kept
+pub mod Merging
 pub mod Placing

@@ -1,65 +1,64 @@
 //! Columns of the answer.
 
-ghost use Rattle.std.specs.Prelude.{◌≡◌, ◌≤◌, ◌<◌, ◌==◌, pos, List, All, IfOk, length, map, None, Some, if◌then◌else◌};
+ghost use Rattle.std.specs.Prelude.{◌≡◌, ◌≤◌, ◌<◌, ◌==◌, pos, All, IfOk, length, map, if◌then◌else◌};
 ghost use Rattle.scan_base.specs.Limits.{most_rows};
-ghost use Rattle.scan_base.specs.Predicate.{cell_in};
 ghost use Rattle.scan_base.specs.declared.value.Value.TheVariants as value;
-ghost use Rattle.arrow_schema.specs.Answer.{answer_type};
-ghost use Rattle.arrow_schema.specs.declared.data_type.DataType.{DataType};
 ghost use Rattle.arrow_schema.specs.declared.data_type.DataType.TheVariants as type;
 ghost use Rattle.arrow_schema.specs.declared.data_type.IntegerType.TheVariants as integer;
-ghost use Rattle.arrays.specs.Batch.{row_of};
 ghost use Rattle.arrays.specs.Column.{values_of};
-ghost use Rattle.arrays.specs.OfSlots.{slot_value, IsSlotOf};
-ghost use Rattle.arrays.specs.Typed.{AreOf, IsOfType};
-ghost use Rattle.typed_plan.specs.Typed.{type_at};
-ghost use Rattle.grouping.specs.inside.Answering.{count_or_none, sum_or_none, first_cell};
+ghost use Rattle.arrays.specs.OfSlots.{slot_value};
+ghost use Rattle.arrays.specs.Typed.{IsOfType};
+ghost use Rattle.grouping.specs.inside.Answering.{sum_or_none, Fits, has_texts};
 
-use crate::key::RowKey;
 use crate::tally::Tally;
 use arrays::{Column, SlotRef, texts_fit};
 use arrow_schema::DataType;
 use std::alloc::{AllocError, Global};
 
-// As many bytes as the texts of a column may have in all.
-const MOST_BYTES: usize = 2_147_483_647;
+// As many bytes as the texts of a column of a batch of more than one row have.
+const MOST_TEXT_BYTES: usize = 16_777_216;
 
-/// The column of a key: the cells of the first rows of groups.
+// The last byte that an offset can name.
+const MOST_OFFSET: usize = 2_147_483_647;
+
+/// Whether a type's values are texts.
+pub(crate) fn has_texts(data_type: DataType) -> bool
+    ensures { result ≡ has_texts data_type }
+{
+    matches!(data_type, DataType::Utf8 | DataType::Dictionary(_))
+}
+
+/// How many of the slots, from the first on, stand in one column of a batch: all of them, halved until their texts have no
+/// more than 16 MB. The texts of one are as many as they are, and more than offsets can name are a want of memory.
 ///
 /// # Errors
 ///
-/// `AllocError` where memory is refused.
-pub(crate) fn key_column(
-    alloc: Global,
-    types: &[DataType],
-    column: usize,
-    firsts: &[RowKey<'_>],
-) -> Result<Column, AllocError>
-    requires there { column < length types.now }
-    requires typed { All (λ first. AreOf types.now first.batch.now.columns) firsts.now }
-    ensures values { IfOk result (λ made. values_of made ≡ map (first_cell column) firsts.now) }
-    ensures typed { IfOk result (λ made. IsOfType (answer_type (type_at types.now column)) made.layout) }
-    ensures long { IfOk result (λ made. made.len ≡ length firsts.now) }
+/// `AllocError` where the first text has too many bytes.
+pub(crate) fn fitting(slots: &[SlotRef<'_>]) -> Result<usize, AllocError>
+    requires there { All (λ slot. slot.place < slot.column.now.len) slots.now }
+    requires some { 0 < length slots.now }
+    ensures { IfOk result (Fits (map slot_value slots.now)) }
 {
-    let mut slots = Vec::with_capacity(alloc, firsts.len())?;
-    for first in firsts {
-        slots.push(slot_at(first, column))?;
+    let mut count = slots.len();
+    while !texts_fit(&slots[..count], MOST_TEXT_BYTES) {
+        if count == 1 {
+            return alone(slots);
+        }
+        count /= 2;
     }
-    if !texts_fit(slots.as_slice(), MOST_BYTES) {
-        return Err(AllocError);
-    }
-    Column::of_slots(alloc, types[column], slots.as_slice())
+    Ok(count)
 }
 
-// The slot of a first row in a column.
-fn slot_at<'t>(first: &RowKey<'t>, column: usize) -> SlotRef<'t>
-    requires { column < length first.now.batch.now.columns }
-    ensures value { slot_value result ≡ first_cell column first.now }
-    ensures there { (types : List DataType) → AreOf types first.now.batch.now.columns → IsSlotOf (type_at types column) result }
+// The first slot alone, if offsets can name each byte of its text.
+fn alone(slots: &[SlotRef<'_>]) -> Result<usize, AllocError>
+    requires there { All (λ slot. slot.place < slot.column.now.len) slots.now }
+    requires some { 0 < length slots.now }
+    ensures { IfOk result (Fits (map slot_value slots.now)) }
 {
-    SlotRef {
-        column: &first.batch.columns()[column],
-        place: first.row,
+    if texts_fit(&slots[..1], MOST_OFFSET) {
+        Ok(1)
+    } else {
+        Err(AllocError)
     }
 }
 

@@ -22,14 +22,23 @@ pub(crate) fn are_same(a: ValueRef<'_>, b: ValueRef<'_>) -> bool
     }
 }
 
-/// Takes a value into a hash.
+/// Takes a value into a hash: first a byte that tells its kind, so that no value takes as another kind's does.
 pub(crate) fn hash_value<H: Hasher>(value: ValueRef<'_>, state: &mut H)
     ensures { state.new ≡ fold H.write state.old (value_input (value_of value.entry)) }
 {
     match value {
         ValueRef::Null => state.write_u8(0),
-        ValueRef::Bool(flag) => flag.hash(state),
-        ValueRef::Int(number) => number.hash(state),
-        ValueRef::Text(text) => text.hash(state),
+        ValueRef::Bool(flag) => {
+            state.write_u8(1);
+            flag.hash(state);
+        }
+        ValueRef::Int(number) => {
+            state.write_u8(2);
+            number.hash(state);
+        }
+        ValueRef::Text(text) => {
+            state.write_u8(3);
+            text.hash(state);
+        }
     }
 }

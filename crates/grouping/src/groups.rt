@@ -3,11 +3,11 @@
 ghost use Rattle.std.specs.Prelude.{◌≡◌, ◌≤◌, ◌+◌, ◌<◌, All, IfOk, length, map};
 ghost use Rattle.scan_base.specs.Limits.{most_rows};
 ghost use Rattle.arrays.specs.Batch.{row_of};
-ghost use Rattle.arrays.specs.Typed.{AreOf};
-ghost use Rattle.grouping.specs.Fed.{HasItems, IsNew, Feeds, Finishes};
+ghost use Rattle.grouping.specs.Answers.{Finishes};
+ghost use Rattle.grouping.specs.Fed.{AreTyped, HasItems, IsAlike, IsNew, Feeds, Merges, batch_at};
 
-use crate::batches::Answer;
-use crate::kept::{Kept, add, blank, found_count};
+use crate::answers::Answers;
+use crate::kept::{Kept, add, blank, found_count, join};
 use crate::table::Chosen;
 use arrays::{Batch, Selection};
 use arrow_schema::DataType;
@@ -18,13 +18,14 @@ use std::alloc::{AllocError, Global};
 use std::marker::Model;
 use typed_plan::Aggregate;
 
-/// What is grouped: the types of the columns of the rows, the numbers of those that are the key, and the items that are
+/// What is grouped: batches, the types of their columns, the numbers of those that are the key, and the items that are
 /// wanted of each group.
-#[derive(Drop)]
+#[derive(Clone, Copy, Drop)]
 pub struct Grouping<'t> {
-    pub types: Vec<DataType>,
+    pub batches: &'t [Batch],
+    pub types: &'t [DataType],
     pub keys: &'t [usize],
-    pub items: Vec<Aggregate>,
+    pub items: &'t [Aggregate],
 }
 
 /// Groups of rows that have the same values in some columns, by first appearance; without such a column there is one
@@ -46,16 +47,17 @@ impl<'t> Model for Groups<'t> {
     ghost Value = { GroupsAt };
 
     ghost view = { λ g. record {
-      types = g.shape.types.items;
+      batches = g.shape.batches.now;
+      types = g.shape.types.now;
       keys = g.shape.keys.now;
-      items = g.shape.items.items;
+      items = g.shape.items.now;
       found = found_by g.shape.keys.now g.kept.firsts.keys;
       tallies = lists_of g.kept.tallies.items;
       count = g.kept.count;
       refused = g.refused;
     } };
 
-    ghost invariant = { λ g. IsGroups g.shape.types.items g.shape.keys.now g.shape.items.items g.kept.firsts.keys (lists_of g.kept.tallies.items) g.kept.count g.refused };
+    ghost invariant = { λ g. IsGroups g.shape g.kept.firsts.keys (lists_of g.kept.tallies.items) g.kept.count g.refused };
 }
 
 impl<'t> Groups<'t> {
@@ -65,8 +67,9 @@ impl<'t> Groups<'t> {
     ///
     /// `AllocError` where memory is refused.
     pub fn new(alloc: Global, seed: HashSeed, shape: Grouping<'t>) -> Result<Groups<'t>, AllocError>
-        requires { HasItems shape.types.items shape.keys.now shape.items.items }
-        ensures { IfOk result (IsNew (shape.entry).types.items (shape.entry).keys.now (shape.entry).items.items) }
+        requires typed { AreTyped shape.types.now shape.batches.now }
+        requires has { HasItems shape.types.now shape.keys.now shape.items.now }
+        ensures { IfOk result (IsNew (shape.entry).batches.now (shape.entry).types.now (shape.entry).keys.now (shape.entry).items.now) }
     {
         let firsts = IndexSet::with_hasher(alloc, seed);
         let groups = found_count(shape.keys, &firsts);
@@ -82,31 +85,27 @@ impl<'t> Groups<'t> {
         })
     }
 
-    /// Feeds the rows of a batch that are selected, in order.
+    /// Feeds the selected rows of the batch of a number, in order.
     ///
     /// # Errors
     ///
     /// F21 (`Fault::OutOfMemory`) where memory is refused. What refused the groups is answered from then on.
-    pub fn feed(
-        &mut self,
-        alloc: Global,
-        batch: &'t Batch,
-        selection: &Selection,
-    ) -> Result<(), Fault>
-        requires typed { AreOf self.old.types batch.now.columns }
-        requires within { All (λ row. row < batch.now.rows) selection.now }
+    pub fn feed(&mut self, alloc: Global, number: usize, selection: &Selection) -> Result<(), Fault>
+        requires there { number < length self.old.batches }
+        requires within { All (λ row. row < (batch_at self.old.batches number).rows) selection.now }
         requires few { self.old.count + length selection.now ≤ most_rows }
-        ensures { Feeds self.old result self.new (map (row_of batch.now.columns) selection.now) }
+        ensures { Feeds self.old result self.new (map (row_of (batch_at self.old.batches number).columns) selection.now) }
     {
         if let Some(fault) = self.refused {
             return Err(fault);
         }
         let chosen = Chosen {
-            batch,
+            number,
+            batch: &self.shape.batches[number],
             columns: self.shape.keys,
             rows: selection.places(),
         };
-        match add(alloc, self.shape.items.as_slice(), &mut self.kept, &chosen) {
+        match add(alloc, self.shape.items, &mut self.kept, &chosen) {
             Ok(()) => Ok(()),
             Err(_) => {
                 self.refused = Some(Fault::OutOfMemory);
@@ -115,27 +114,50 @@ impl<'t> Groups<'t> {
         }
     }
 
-    /// The items of each group, in order, in batches of one to 65,536 rows.
+    /// Takes the groups of other rows of the same batches behind the own: each joins that of its key, or stands last.
     ///
     /// # Errors
     ///
-    /// What refused the groups; F21 (`Fault::OutOfMemory`) where memory is refused.
-    pub fn finish(self, alloc: Global) -> Result<Vec<Batch>, Fault>
-        ensures { Finishes self.entry result }
+    /// What refused either; F21 (`Fault::OutOfMemory`) where memory is refused. It is answered from then on.
+    pub fn merge(&mut self, alloc: Global, other: Groups<'t>) -> Result<(), Fault>
+        requires alike { IsAlike self.old other }
+        requires few { self.old.count + other.count ≤ most_rows }
+        ensures { Merges self.old other.entry result self.new }
     {
         if let Some(fault) = self.refused {
             return Err(fault);
         }
-        let answer = Answer {
-            types: self.shape.types.as_slice(),
-            keys: self.shape.keys,
-            items: self.shape.items.as_slice(),
-            firsts: self.kept.firsts.as_slice(),
-            tallies: self.kept.tallies.as_slice(),
-        };
-        let groups = found_count(self.shape.keys, &self.kept.firsts);
-        match answer.batches(alloc, groups) {
-            Ok(batches) => Ok(batches),
+        if let Some(fault) = other.refused {
+            self.refused = Some(fault);
+            return Err(fault);
+        }
+        match join(alloc, &self.shape, &mut self.kept, &other.kept) {
+            Ok(()) => Ok(()),
+            Err(_) => {
+                self.refused = Some(Fault::OutOfMemory);
+                Err(Fault::OutOfMemory)
+            }
+        }
+    }
+
+    /// The answer, which is given batch by batch. It is as long as the groups, and borrows nothing.
+    ///
+    /// # Errors
+    ///
+    /// What refused the groups; F21 (`Fault::OutOfMemory`) where memory is refused.
+    pub fn finish(self, alloc: Global) -> Result<Answers, Fault>
+        ensures { Finishes self.entry result }
+    {
+        let Groups {
+            shape,
+            kept,
+            refused,
+        } = self;
+        if let Some(fault) = refused {
+            return Err(fault);
+        }
+        match Answers::new(alloc, &shape, kept) {
+            Ok(answers) => Ok(answers),
             Err(_) => Err(Fault::OutOfMemory),
         }
     }

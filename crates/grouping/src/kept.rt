@@ -1,16 +1,17 @@
 //! What is kept of the rows that were fed.
 
-ghost use Rattle.std.specs.Prelude.{◌≡◌, ◌≤◌, ◌<◌, ◌+◌, List, All, IfOk, IsTrue, OnOk, length, map, nat_lt};
+ghost use Rattle.std.specs.Prelude.{◌≡◌, ◌≤◌, ◌<◌, ◌+◌, All, IfOk, IsTrue, OnOk, length, map, nat_lt};
 ghost use Rattle.std.specs.List.{list_all};
 ghost use Rattle.scan_base.specs.Limits.{most_rows};
-ghost use Rattle.arrow_schema.specs.declared.data_type.DataType.{DataType};
 ghost use Rattle.arrays.specs.Batch.{row_of};
-ghost use Rattle.arrays.specs.Typed.{AreOf};
 ghost use Rattle.grouping.specs.Found.{found_then};
 ghost use Rattle.grouping.specs.inside.Adding.{CanCountAll, IsKept, IsGrown, lists_of};
 ghost use Rattle.grouping.specs.inside.Kept.{AreBlank};
-ghost use Rattle.grouping.specs.inside.Placing.{found_by, IsFirst};
+ghost use Rattle.grouping.specs.inside.Merging.{FirstsJoin, IsMerged};
+ghost use Rattle.grouping.specs.inside.Placing.{found_by, FirstsStay};
 
+use crate::groups::Grouping;
+use crate::joined::{Others, join_all, join_firsts};
 use crate::key::RowKey;
 use crate::part::{Part, add_all};
 use crate::table::{Chosen, place_rows};
@@ -49,8 +50,7 @@ pub(crate) fn add<'t>(
         kept.old.count (lists_of kept.old.tallies.items) (lists_of kept.new.tallies.items)) }
     ensures count { OnOk result (kept.new.count ≡ kept.old.count + length chosen.now.rows.now) }
     ensures kept { OnOk result (IsKept items.now (length (found_by chosen.now.columns.now kept.new.firsts.keys)) kept.new.count (lists_of kept.new.tallies.items)) }
-    ensures firsts { OnOk result ((types : List DataType) → AreOf types chosen.now.batch.now.columns →
-        All (IsFirst types chosen.now.columns.now) kept.old.firsts.keys → All (IsFirst types chosen.now.columns.now) kept.new.firsts.keys) }
+    ensures firsts { OnOk result (FirstsStay chosen.now kept.old.firsts.keys kept.new.firsts.keys) }
 {
     let groups = place_rows(alloc, &mut kept.firsts, chosen)?;
     let found = found_count(chosen.columns, &kept.firsts);
@@ -62,6 +62,40 @@ pub(crate) fn add<'t>(
     };
     add_all(kept.tallies.as_mut_slice(), items, &part, found)?;
     kept.count += chosen.rows.len();
+    Ok(())
+}
+
+/// Takes in what is kept of other rows: each group joins that of its key, or stands last.
+///
+/// # Errors
+///
+/// `AllocError` where memory is refused.
+pub(crate) fn join<'t>(
+    alloc: Global,
+    shape: &Grouping<'_>,
+    kept: &mut Kept<'t>,
+    other: &Kept<'t>,
+) -> Result<(), AllocError>
+    requires few { kept.old.count + other.now.count ≤ most_rows }
+    requires kept { IsKept shape.now.items.now (length (found_by shape.now.keys.now kept.old.firsts.keys)) kept.old.count (lists_of kept.old.tallies.items) }
+    requires other { IsKept shape.now.items.now (length (found_by shape.now.keys.now other.now.firsts.keys)) other.now.count (lists_of other.now.tallies.items) }
+    ensures merged { OnOk result (IsMerged (found_by shape.now.keys.now kept.old.firsts.keys) (found_by shape.now.keys.now other.now.firsts.keys)
+        (found_by shape.now.keys.now kept.new.firsts.keys) (length shape.now.items.now) (kept.old.count + other.now.count)
+        (lists_of other.now.tallies.items) (lists_of kept.old.tallies.items) (lists_of kept.new.tallies.items)) }
+    ensures count { OnOk result (kept.new.count ≡ kept.old.count + other.now.count) }
+    ensures kept { OnOk result (IsKept shape.now.items.now (length (found_by shape.now.keys.now kept.new.firsts.keys)) kept.new.count (lists_of kept.new.tallies.items)) }
+    ensures firsts { OnOk result (FirstsJoin kept.old.firsts.keys other.now.firsts.keys kept.new.firsts.keys) }
+{
+    let groups = join_firsts(alloc, shape.keys, &mut kept.firsts, &other.firsts)?;
+    let found = found_count(shape.keys, &kept.firsts);
+    let others = Others {
+        tallies: other.tallies.as_slice(),
+        groups: groups.as_slice(),
+        fed: kept.count,
+        more: other.count,
+    };
+    join_all(kept.tallies.as_mut_slice(), shape.items, &others, found)?;
+    kept.count += other.count;
     Ok(())
 }
 

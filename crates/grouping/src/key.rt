@@ -9,9 +9,17 @@ use arrays::{Batch, Cells};
 use scan_base::ValueRef;
 use std::hash::{Hash, Hasher};
 
-/// A row, and the columns whose values in it are its key: no value is copied.
+/// Where a row stands: the number of its batch, and its own in it.
+#[derive(Clone, Copy, Drop)]
+pub(crate) struct Place {
+    pub(crate) batch: usize,
+    pub(crate) row: u32,
+}
+
+/// A row, with the number of its batch, and the columns whose values in it are its key: no value is copied.
 #[derive(Clone, Copy, Drop)]
 pub(crate) struct RowKey<'t> {
+    pub(crate) number: usize,
     pub(crate) batch: &'t Batch,
     pub(crate) columns: &'t [usize],
     pub(crate) row: u32,

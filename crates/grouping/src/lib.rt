@@ -2,9 +2,11 @@
 #![tactic(auto)]
 
 mod answer;
+pub mod answers;
 mod batches;
 mod cell;
 pub mod groups;
+mod joined;
 mod kept;
 mod key;
 pub mod laws;
@@ -12,4 +14,5 @@ mod part;
 mod table;
 mod tally;
 
+pub use crate::answers::Answers;
 pub use crate::groups::{Grouping, Groups};

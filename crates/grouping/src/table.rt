@@ -1,13 +1,11 @@
 //! The group of each row.
 
-ghost use Rattle.std.specs.Prelude.{◌≡◌, ◌<◌, List, All, IfOk, IsTrue, OnOk, length, map, nat_lt};
+ghost use Rattle.std.specs.Prelude.{◌≡◌, ◌<◌, All, IfOk, IsTrue, OnOk, length, map, nat_lt};
 ghost use Rattle.std.specs.List.{list_all};
 ghost use Rattle.indexmap.specs.IndexSet.{insert_key};
-ghost use Rattle.arrow_schema.specs.declared.data_type.DataType.{DataType};
 ghost use Rattle.arrays.specs.Batch.{row_of};
-ghost use Rattle.arrays.specs.Typed.{AreOf};
 ghost use Rattle.grouping.specs.Found.{found_then, place_in};
-ghost use Rattle.grouping.specs.inside.Placing.{found_by, ArePlaced, IsFirst};
+ghost use Rattle.grouping.specs.inside.Placing.{found_by, ArePlaced, FirstsStay};
 ghost use Rattle.grouping.specs.RowKeys.{key_of, same_first};
 
 use crate::key::RowKey;
@@ -16,9 +14,10 @@ use hash_seed::HashSeed;
 use indexmap::IndexSet;
 use std::alloc::{AllocError, Global};
 
-/// Rows of a batch, and the columns whose values are their keys.
+/// Rows of a batch, its number, and the columns whose values are their keys.
 #[derive(Clone, Copy, Drop)]
 pub(crate) struct Chosen<'t, 'r> {
+    pub(crate) number: usize,
     pub(crate) batch: &'t Batch,
     pub(crate) columns: &'t [usize],
     pub(crate) rows: &'r [u32],
@@ -36,12 +35,12 @@ fn groups_of<'t>(
         ≡ found_then chosen.now.columns.now (map key_of firsts.old.keys) (map (row_of chosen.now.batch.now.columns) chosen.now.rows.now)) }
     ensures placed { IfOk result (λ groups. ArePlaced chosen.now.columns.now chosen.now.batch.now.columns (map key_of firsts.new.keys)
         chosen.now.rows.now groups.items (length chosen.now.rows.now)) }
-    ensures firsts { OnOk result ((types : List DataType) → AreOf types chosen.now.batch.now.columns →
-        All (IsFirst types chosen.now.columns.now) firsts.old.keys → All (IsFirst types chosen.now.columns.now) firsts.new.keys) }
+    ensures firsts { OnOk result (FirstsStay chosen.now firsts.old.keys firsts.new.keys) }
 {
     let mut groups = Vec::with_capacity(alloc, chosen.rows.len())?;
     for row in chosen.rows {
         let first = RowKey {
+            number: chosen.number,
             batch: chosen.batch,
             columns: chosen.columns,
             row: *row,
@@ -67,8 +66,7 @@ pub(crate) fn place_rows<'t>(
         ≡ found_then chosen.now.columns.now (found_by chosen.now.columns.now firsts.old.keys) (map (row_of chosen.now.batch.now.columns) chosen.now.rows.now)) }
     ensures placed { IfOk result (λ groups. ArePlaced chosen.now.columns.now chosen.now.batch.now.columns (found_by chosen.now.columns.now firsts.new.keys)
         chosen.now.rows.now groups.items (length chosen.now.rows.now)) }
-    ensures firsts { OnOk result ((types : List DataType) → AreOf types chosen.now.batch.now.columns →
-        All (IsFirst types chosen.now.columns.now) firsts.old.keys → All (IsFirst types chosen.now.columns.now) firsts.new.keys) }
+    ensures firsts { OnOk result (FirstsStay chosen.now firsts.old.keys firsts.new.keys) }
 {
     if chosen.columns.is_empty() {
         let mut groups = Vec::new(alloc);
@@ -78,8 +76,12 @@ pub(crate) fn place_rows<'t>(
     groups_of(alloc, firsts, chosen)
 }
 
-// The group of a row, which is opened where the row's key is new.
-fn group_of<'t>(
+/// The group of a row, which is opened where the row's key is new.
+///
+/// # Errors
+///
+/// `AllocError` where memory is refused.
+pub(crate) fn group_of<'t>(
     firsts: &mut IndexSet<RowKey<'t>, HashSeed>,
     first: RowKey<'t>,
 ) -> Result<usize, AllocError>

@@ -21,7 +21,7 @@ pub(crate) struct Tally {
 }
 
 impl Tally {
-    ghost use Rattle.grouping.specs.Tallies.{no_rows, added};
+    ghost use Rattle.grouping.specs.Tallies.{no_rows, added, both};
     ghost use Rattle.grouping.specs.inside.Counting.{IsSmall, IsShort, CanCount};
 
     /// Of no rows.
@@ -52,6 +52,20 @@ impl Tally {
                 None => self,
                 Some(number) => self.with_number(number),
             },
+        }
+    }
+
+    /// With the rows of another.
+    pub(crate) fn with(self, other: Tally) -> Tally
+        requires few { self.count + other.count ≤ most_rows }
+        requires small { IsSmall self }
+        requires other { IsSmall other }
+        ensures both { result ≡ both self other }
+        ensures small { IsSmall result }
+    {
+        Tally {
+            count: self.count + other.count,
+            sum: self.sum + other.sum,
         }
     }
 

@@ -13,7 +13,7 @@ use Rattle.scan_exec.specs.declared.piece.Piece.{Piece}
 use Rattle.scan_exec.specs.Collected.{plain_rows, IsBatchOf, AreCollected}
 use Rattle.scan_exec.specs.Running.{RowsAt, GoesOn, FindsPiece, Ends}
 
-numbers_off : (number : ℕ) (rows : List Row) → plain_rows (map (λ row. (number, row)) rows) ≡ rows
+pub numbers_off : (number : ℕ) (rows : List Row) → plain_rows (map (λ row. (number, row)) rows) ≡ rows
 numbers_off number [] = refl
 numbers_off number (row ∷ rows) = ap (λ (rest : List Row). row ∷ rest) (numbers_off number rows)
 

@@ -1,8 +1,8 @@
 -- The rows of a range, batch by batch.
 use Rattle.std.proofs.Common.{◌≡◌, ◌≤◌, ◌<◌, ℕ, zero, suc, ◌+◌, ◌-◌, List, [], ◌∷◌, ◌++◌, length, map, take, drop, max, min, append_assoc}
-use Rattle.std.proofs.Common.{slice_get, Some, refl, sym, ap, ◌∙◌, arith, length-drop, length-take-le, zip, take-add, drop-drop}
+use Rattle.std.proofs.Common.{slice_get, Some, refl, sym, ap, ◌∙◌, arith, length-append, length-drop, length-take, length-take-le, zip, take-add, drop-drop}
 use Rattle.std.specs.List.{flat_map, range_with_len}
-use Rattle.std.proofs.lemmas.List.{take-append-drop, drop_all, map-append}
+use Rattle.std.proofs.lemmas.List.{take-append-drop, drop_all, length-map, map-append}
 use Rattle.arrays.specs.Batch.{BatchAt, rows_of}
 use Rattle.table_versions.specs.Standing.{rows_before}
 use Rattle.table_versions.specs.Table.{Row}
@@ -37,6 +37,19 @@ between_parts a b c rows low high =
 -- the batches counted from some number on
 abbrev pub numbered_from : ℕ → ℕ → ℕ → List BatchAt → List (ℕ × Row)
 numbered_from n from to batches = numbered_rows (zip (range_with_len n (length batches)) (parts from to batches))
+
+-- a range has no more rows than there are
+pub from_few : (n from to : ℕ) (batches : List BatchAt) → length (numbered_from n from to batches) ≤ length (flat_map rows_of batches)
+from_few n from to [] = omega arith
+from_few n from to (batch ∷ batches) =
+    let some = rows_between from to (rows_of batch) in
+    let with_number : Row → ℕ × Row = λ row. (n, row) in
+    let rest = numbered_from (n + 1) (from - batch.rows) (to - batch.rows) batches in
+    let both = length-append (map with_number some) rest in
+    let size = length-map some with_number in
+    let cut = length-take (to - from) (drop from (rows_of batch)) in
+    let behind = from_few (n + 1) (from - batch.rows) (to - batch.rows) batches in
+    omega (arith, both, size, cut, length-drop from (rows_of batch), length-append (rows_of batch) (flat_map rows_of batches), behind)
 
 -- no rows of no range
 pub none_from : (n from to : ℕ) (batches : List BatchAt) → to ≤ from → numbered_from n from to batches ≡ []

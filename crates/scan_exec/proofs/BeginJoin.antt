@@ -13,6 +13,7 @@ use Rattle.arrow_schema.specs.Answer.{answer_type}
 use Rattle.arrow_schema.specs.declared.data_type.DataType.{DataType}
 use Rattle.arrays.specs.Batch.{BatchAt, rows_of}
 use Rattle.hash_join.specs.Pairs.{places, key_in, keys_join}
+use Rattle.join_batches.specs.declared.joiner.JoinSides.{JoinSides}
 use Rattle.join_batches.specs.Joiner.{JoinerAt, joined_types, joined_with}
 use Rattle.scan_base.specs.declared.comparison.Comparison.TheVariants.{Equal}
 use Rattle.scan_base.specs.declared.value.Value.{Value}
@@ -28,10 +29,11 @@ use Rattle.typed_plan.specs.Plan.{fits, joined_rows}
 use Rattle.typed_plan.specs.Typed.{spans, type_at}
 use Rattle.scan_exec.specs.Begun.{CanJoin, JoinsRows, numbered_fits}
 use Rattle.scan_exec.specs.Joined.{IsJoined, joined_at, numbered_joined}
+use Rattle.scan_exec.specs.Joining.{HasKeys, IsSides, all_joined, joiner_with}
 use Rattle.scan_exec.specs.Picking.{IsPick, PickAt, given_numbered}
 use Rattle.scan_exec.specs.Running.{RowsAt, picked_of}
 use Rattle.scan_exec.proofs.BeginPick.{all_given, all_types, all_within, given_wide, pick_with}
-use Rattle.scan_exec.proofs.Collecting.{plain_rows}
+use Rattle.scan_exec.specs.Collected.{plain_rows}
 use Rattle.scan_exec.specs.Placed.{numbered_rows}
 use Rattle.scan_exec.proofs.Giving.{filter-map}
 
@@ -184,9 +186,6 @@ module _ (on : List JoinKey) (left right : RowsAt) (can : CanJoin on left right)
   abbrev pub the_pick : PickAt
   the_pick = pick_with [] (range_with_len 0 (length all_types_of))
 
-  abbrev pub joined_begin : RowsAt
-  joined_begin = picked_of the_pick (joined_at left the_joiner 0)
-
   as_wide : length left.types + length right.types ≡ length all_types_of
   as_wide = sym (length-map (left.types ++ right.types) answer_type ∙ length-append left.types right.types)
 
@@ -196,27 +195,44 @@ module _ (on : List JoinKey) (left right : RowsAt) (can : CanJoin on left right)
       (fits_wide on (length left.types) (length right.types) (plain_rows right.ahead) left.ahead
       (All-map (λ (row : Row). length row ≡ length right.types) (λ (row : ℕ × Row). row.1) right.ahead can.right_wide) can.left_wide)
 
-  pub joins_begun : JoinsRows on left right joined_begin
+  pub joins_begun : JoinsRows on left right (all_joined left the_joiner)
   joins_begun = record {
     types = all_types all_types_of;
     ahead = ap (given_numbered the_pick) (fits_joined on the_joiner (length left.types) left.ahead can.spanned refl refl can.left_wide)
         ∙ all_given (length all_types_of) (numbered_fits on (plain_rows right.ahead) left.ahead) rows_wide;
-    wide = given_wide the_pick (length joined_begin.types) (sym (length-map the_pick.shown (type_at all_types_of))) (joined_at left the_joiner 0).ahead;
+    wide = given_wide the_pick (length (all_joined left the_joiner).types) (sym (length-map the_pick.shown (type_at all_types_of))) (joined_at left the_joiner 0).ahead;
     batches = refl;
-    opened = can.unopened;
+    opened = can.left_unopened;
   }
 
   pub joins_source : IsJoined left the_joiner 0
   joins_source = record {
     typed = refl;
-    front = subst (λ (opened : List ℕ). take (length opened) left.batches ≡ opened) (sym can.unopened) refl;
+    front = subst (λ (opened : List ℕ). take (length opened) left.batches ≡ opened) (sym can.left_unopened) refl;
     latest = inl refl;
   }
 
-  pub joins_pick : IsPick (length all_types_of) the_pick
-  joins_pick = record { read = all_within (length all_types_of); shown = all_within (length all_types_of); named = λ k d h. absurd (omega (arith, h)) }
+  made_is : (lefts rights : List DataType) (left_key right_key : List ℕ) → lefts ≡ left.types → rights ≡ right.types →
+      left_key ≡ map (λ (key : JoinKey). key.left) on → right_key ≡ map (λ (key : JoinKey). key.right - length left.types) on →
+      record { left_types = lefts; right_types = rights; left_key = left_key; right_key = right_key; rights = plain_rows right.ahead; ahead = [] } ≡ the_joiner
+  made_is lefts rights left_key right_key a b c d = rw (a, b, c, d) refl
 
-  pub joiner_is : (lefts rights : List DataType) (left_key right_key : List ℕ) (rows : List Row) → lefts ≡ left.types → rights ≡ right.types →
-      left_key ≡ map (λ (key : JoinKey). key.left) on → right_key ≡ map (λ (key : JoinKey). key.right - length left.types) on → rows ≡ plain_rows right.ahead →
-      record { left_types = lefts; right_types = rights; left_key = left_key; right_key = right_key; rights = rows; ahead = [] } ≡ the_joiner
-  joiner_is lefts rights left_key right_key rows a b c d e = rw (a, b, c, d, e) refl
+  module _ (sides : JoinSides) (is : IsSides on left.types right.types sides) where
+    pub joiner_is : joiner_with sides (plain_rows right.ahead) ≡ the_joiner
+    joiner_is =
+        made_is sides.left.types.items sides.right.types.items sides.left.key.items sides.right.key.items is.left_types is.right_types is.left_key is.right_key
+
+    pub keys_there : HasKeys sides
+    keys_there = record {
+      alike = ap length is.left_key ∙ length-map on (λ (key : JoinKey). key.left) ∙ sym (length-map on (λ (key : JoinKey). key.right - length left.types)) ∙ sym (ap length is.right_key);
+      left = subst (λ (key : List ℕ). list_all (λ column. nat_lt column (length sides.left.types.items)) key ≡ true) (sym is.left_key)
+          (subst (λ (some : List DataType). list_all (λ column. nat_lt column (length some)) (map (λ (key : JoinKey). key.left) on) ≡ true) (sym is.left_types)
+          (left_there (length left.types) on can.spanned));
+      right = subst (λ (key : List ℕ). list_all (λ column. nat_lt column (length sides.right.types.items)) key ≡ true) (sym is.right_key)
+          (subst (λ (some : List DataType). list_all (λ column. nat_lt column (length some)) (map (λ (key : JoinKey). key.right - length left.types) on) ≡ true) (sym is.right_types)
+          (right_there (length left.types) (length right.types) on can.spanned can.there));
+    }
+
+-- all columns are there
+pub all_pick : (width : ℕ) → IsPick width (pick_with [] (range_with_len 0 width))
+all_pick width = record { read = all_within width; shown = all_within width; named = λ k d h. absurd (omega (arith, h)) }

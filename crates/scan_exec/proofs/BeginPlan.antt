@@ -27,11 +27,12 @@ use Rattle.typed_plan.specs.Plan.{Tree, scan, filtered, joined, is_true, joined_
 use Rattle.typed_plan.specs.Typed.{class_if_there, class_of_number, is_place, key_fault, spans, tree_types, IsTypedTree}
 use Rattle.typed_plan.proofs.TypedNames.{then_none}
 use Rattle.scan_exec.specs.Begun.{CanJoin, IsBegun, JoinsRows, numbered_fits, rows_behind, tree_given}
+use Rattle.scan_exec.specs.Collected.{plain_rows}
 use Rattle.scan_exec.specs.Given.{first_batches, first_rows, numbered_parts, parts, rows_over}
 use Rattle.scan_exec.specs.Placed.{numbered_rows}
 use Rattle.scan_exec.specs.Running.{RowsAt}
 use Rattle.scan_exec.proofs.BeginJoin.{fits_over}
-use Rattle.scan_exec.proofs.Collecting.{plain_rows, numbers_off}
+use Rattle.scan_exec.proofs.AllRows.{numbers_off}
 
 -- ---- the tables of both sides
 
@@ -90,9 +91,9 @@ place_append (joined left right on) h some more = cc
 filter_few : (test : Row → Bool) (rows : List Row) → length (filter test rows) ≤ length rows
 filter_few test [] = omega arith
 filter_few test (row ∷ rows) = elim (test row) as (λ b. length (cond b (row ∷ filter test rows) (filter test rows)) ≤ suc (length rows)) [
-    | true ↦ omega (arith, filter_few test rows)
-    | false ↦ omega (arith, filter_few test rows)
-  ]
+  | true ↦ omega (arith, filter_few test rows)
+  | false ↦ omega (arith, filter_few test rows)
+]
 
 place_few : (tree : Tree) → is_place tree ≡ true → (rows : List Row) → length (rows_over tree (rows ∷ [])) ≤ length rows
 place_few (scan table schema columns.All) h rows = omega arith
@@ -242,7 +243,8 @@ can_join left right on lefts last from to rows a b typed l r counted few =
     record {
       left_wide = l.wide;
       right_wide = r.wide;
-      unopened = l.opened;
+      left_unopened = l.opened;
+      right_unopened = r.opened;
       few = omega (arith, size, all, fewer, counted, few);
       spanned = subst (λ (n : ℕ). list_all (spans n) on ≡ true) (sym one) typed.4;
       there = subst (λ (n : ℕ). list_all (λ (key : JoinKey). nat_lt key.right n) on ≡ true) (sym both) (keys_there (tree_types left ++ tree_types right) on typed.3);

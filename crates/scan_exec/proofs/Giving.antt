@@ -1,12 +1,9 @@
 -- What is given of a part of a batch.
 use Rattle.std.proofs.Common.{◌≡◌, ◌<◌, ℕ, ◌-◌, List, [], ◌∷◌, length, map, refl, sym, ap, ◌∙◌, arith}
-use Rattle.std.specs.List.{range_with_len}
 use Rattle.std.proofs.lemmas.List.FromFn.{length-range_with_len}
 use Rattle.std.proofs.lemmas.Simd.{map-map}
 use Rattle.arrays.specs.Batch.{BatchAt, row_of, cut_batch}
 use Rattle.arrays.specs.Column.{ColumnAt}
-use Rattle.table_versions.specs.Table.{Row}
-use Rattle.scan_base.specs.Predicate.{cell_in}
 use Rattle.scan_exec.specs.declared.cursor.Part.{Part}
 use Rattle.scan_exec.specs.Chosen.{columns_at}
 use Rattle.scan_exec.specs.Picking.{PickAt, IsPick, cells_at, holds, given, rows_of_part, chosen_rows, HasRowsAt, IsPicked, given_of_part}

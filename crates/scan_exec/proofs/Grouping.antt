@@ -1,30 +1,36 @@
--- Rows that are grouped, batch by batch, and the batches of their groups.
-use Rattle.std.proofs.Common.{◌≡◌, ◌≤◌, ◌<◌, ℕ, suc, ◌+◌, ◌-◌, Bool, true, false, cond, List, [], ◌∷◌, ◌++◌, length, map, take, get_or, reverse, Option, Some, None, Ok, MatchOption, refl, sym, ap, ◌∙◌, subst, arith, append-nil, All}
+-- Rows that are grouped, batch by batch, and what is answered of their groups.
+use Rattle.std.proofs.Common.{◌≡◌, ◌≤◌, ◌<◌, ℕ, suc, ◌+◌, ◌-◌, Bool, true, false, cond, List, [], ◌∷◌, ◌++◌, length, map, take, get_or, Option, Some, None, Result, Ok, Err, refl, sym, ap, ◌∙◌, subst, arith, append-nil, All}
 use Rattle.std.specs.List.{filter, flat_map, range_with_len}
-use Rattle.std.specs.Option.{option_to_list}
+use Rattle.std.specs.Result.{IfOk}
+use Rattle.std.specs.declared.alloc.AllocError.{AllocError}
+use Rattle.std.specs.Global.{Global}
+use Rattle.std.specs.Prelude.{Vec}
 use Rattle.std.proofs.Math.Seq.{take-suc}
 use Rattle.std.proofs.lemmas.Grind.{flat_map-append}
-use Rattle.std.proofs.lemmas.List.{map-append, length-map, length-reverse, reverse-append, reverse-reverse, get_or-reverse}
-use Rattle.std.proofs.lemmas.List.Elements.{filter-append, All-pop}
+use Rattle.std.proofs.lemmas.List.{map-append, length-map, get_or_default}
+use Rattle.std.proofs.lemmas.List.Elements.{filter-append}
 use Rattle.std.proofs.lemmas.List.Folds.{length-flat_map-take}
 use Rattle.arrow_schema.specs.Answer.{answer_type}
 use Rattle.arrow_schema.specs.declared.data_type.DataType.{DataType}
 use Rattle.arrays.specs.Batch.{BatchAt, row_of, rows_of}
 use Rattle.arrays.specs.Typed.{AreOf}
 use Rattle.scan_base.specs.Limits.{most_rows}
+use Rattle.scan_base.specs.declared.fault.Fault.{Fault}
 use Rattle.table_versions.specs.Table.{Row}
 use Rattle.table_versions.proofs.Rowing.{length-rows_of}
 use Rattle.typed_plan.specs.declared.plan.Aggregate.{Aggregate}
 use Rattle.typed_plan.specs.Plan.{answered, groups_by}
 use Rattle.typed_plan.specs.Typed.{item_type}
-use Rattle.grouping.specs.Fed.{GroupsAt, Holds, HasFed, IsAnswer, AreAnswers, IsNew}
+use Rattle.grouping.specs.Answers.{AnswersAt, Finishes, GivesAnswer, IsAnswerOf, IsOver, answer_types, answers_ahead}
+use Rattle.grouping.specs.Fed.{GroupsAt, Holds, HasFed, IsNew, batch_at}
 use Rattle.scan_exec.specs.declared.cursor.Part.{Part}
+use Rattle.scan_exec.specs.declared.grouped.MadeGroups.{MadeGroups}
 use Rattle.scan_exec.specs.declared.grouped.Stage.{Stage}
-use Rattle.scan_exec.specs.declared.grouped.Stage.TheVariants.{Waiting}
+use Rattle.scan_exec.specs.declared.grouped.Stage.TheVariants.{Waiting, Made}
 use Rattle.scan_exec.specs.declared.grouped.Wanted.{Wanted}
 use Rattle.scan_exec.specs.Giving.{GivingAt, GivingOn, GivesNext}
 use Rattle.scan_exec.specs.Collected.{AreCollected, IsBatchOf}
-use Rattle.scan_exec.specs.Grouped.{AreFed, AreMade, IsMade, of_groups, passing, wanted_rows, wanted_types}
+use Rattle.scan_exec.specs.Grouped.{AnswersAll, AreFed, AreMade, IsAnswering, of_groups, passing, wanted_rows, wanted_types}
 use Rattle.scan_exec.specs.Picking.{PickAt, IsPick, holds, chosen_rows, pick_of}
 use Rattle.scan_exec.specs.Running.{RowsAt, GoesOn}
 use Rattle.scan_exec.proofs.Giving.{filter-map}
@@ -87,6 +93,7 @@ module _ (pick : PickAt) (batches : List BatchAt) (k : ℕ) (batch : BatchAt) (t
         HasFed groups after (map (row_of batch.columns) rows) → AreFed first (passing pick (flat_map rows_of (take (k + 1) batches))) after
     more_fed first groups after rows e fed has = record {
       alike = record {
+        batches = has.alike.batches ∙ fed.alike.batches;
         types = has.alike.types ∙ fed.alike.types;
         keys = has.alike.keys ∙ fed.alike.keys;
         items = has.alike.items ∙ fed.alike.items;
@@ -95,117 +102,130 @@ module _ (pick : PickAt) (batches : List BatchAt) (k : ℕ) (batch : BatchAt) (t
       held = subst (Holds after) (ap (λ (some : List Row). so_far ++ some) (ap (map (row_of batch.columns)) e ∙ chosen_are) ∙ sym rows_more) (has.held so_far fed.held);
     }
 
+  -- it is the batch of its number
+  pub is_at : (all : List BatchAt) → all ≡ batches → batch_at all k ≡ batch
+  is_at all e =
+      let blank : BatchAt = record { columns = []; rows = 0 } in
+      ap (λ (some : List BatchAt). batch_at some k) e ∙ get_or_default batches k blank batch there ∙ sym is
+
   -- it has the columns that the filters name
   pub can_pick : (types : List DataType) → All (IsBatchOf types) batches → IsPick (length types) pick → IsPick (length batch.columns) pick
   can_pick types each picks =
       let of : IsBatchOf types batch = subst (IsBatchOf types) (sym is) (each k batch there) in
       subst (λ (n : ℕ). IsPick n pick) (sym (as_many types batch.columns of.typed)) picks
 
--- ---- the batches of the groups
-
--- the other way round
-all_reversed : {X : Type 0} (P : X → Type 0) (xs : List X) → All P xs → All P (reverse xs)
-all_reversed P xs all k d h =
-    let long = length-reverse xs in
-    subst P (sym (get_or-reverse xs k d (omega (arith, h, long)))) (all (length xs - 1 - k) d (omega (arith, h, long)))
+-- ---- the answer
 
 -- the types of what groups answer
 abbrev types_answered : List DataType → List ℕ → List Aggregate → List DataType
 types_answered types keys items = map answer_type (map (item_type keys types) items)
 
-module _ (wanted : Wanted) (types : List DataType) (keys : List ℕ) (items : List Aggregate)
-    (t : types ≡ wanted.types.items) (k : keys ≡ wanted.keys.items) (i : items ≡ wanted.items.items)
-    (before after : RowsAt) (batches : List BatchAt) (all : AreCollected before batches after)
-    (new fed : GroupsAt) (is : IsNew types keys items new) (feeds : AreFed new (passing (pick_of wanted.picker) (flat_map rows_of batches)) fed) where
+module _ (wanted : Wanted) (batches : List BatchAt) (new fed : GroupsAt) (is : IsNew batches wanted.types.items wanted.keys.items wanted.items.items new)
+    (feeds : AreFed new (passing (pick_of wanted.picker) (flat_map rows_of batches)) fed) where
   -- what was fed is grouped by what is wanted
+  batches_are : fed.batches ≡ batches
+  batches_are = feeds.alike.batches ∙ is.batches_are
+
   keys_are : fed.keys ≡ wanted.keys.items
-  keys_are = feeds.alike.keys ∙ is.keys_are ∙ k
+  keys_are = feeds.alike.keys ∙ is.keys_are
 
   items_are : fed.items ≡ wanted.items.items
-  items_are = feeds.alike.items ∙ is.items_are ∙ i
+  items_are = feeds.alike.items ∙ is.items_are
 
   types_are : types_answered fed.types fed.keys fed.items ≡ wanted_types wanted
   types_are =
-      ap (λ (some : List DataType). types_answered some fed.keys fed.items) (feeds.alike.types ∙ is.types_are ∙ t)
+      ap (λ (some : List DataType). types_answered some fed.keys fed.items) (feeds.alike.types ∙ is.types_are)
       ∙ ap (λ (some : List ℕ). types_answered wanted.types.items some fed.items) keys_are
       ∙ ap (types_answered wanted.types.items wanted.keys.items) items_are
 
-  one_answer : (batch : BatchAt) → IsAnswer fed batch → IsBatchOf (wanted_types wanted) batch
-  one_answer batch answer = record {
-    some = answer.some;
-    few = answer.few;
-    typed = subst (λ (some : List DataType). AreOf some batch.columns) types_are answer.typed;
-  }
-
-  -- the answer, the other way round
-  pub are_made : (answer made : List BatchAt) → made ≡ reverse answer → ((rows : List Row) → Holds fed rows → AreAnswers fed answer rows) →
-      All (IsAnswer fed) answer → AreMade before wanted made after
-  are_made answer made e answers each =
+  -- so the answer is what is wanted
+  answers_all : (answers : AnswersAt) → IsAnswerOf fed answers → AnswersAll batches wanted answers
+  answers_all answers answer =
       let rows = passing (pick_of wanted.picker) (flat_map rows_of batches) in
       record {
-        rows = ap (λ (some : List BatchAt). flat_map rows_of (reverse some)) e
-            ∙ ap (flat_map rows_of) (reverse-reverse answer)
-            ∙ answers rows feeds.held
+        over = subst (λ (some : List BatchAt). IsOver some answers) batches_are answer.over;
+        types = answer.types ∙ types_are;
+        rows = ap (λ (some : List BatchAt). answers_ahead some answers) (sym batches_are)
+            ∙ answer.ahead rows feeds.held
             ∙ ap (λ (some : List Aggregate). map (λ group. map (answered group) some) (groups_by fed.keys rows)) items_are
-            ∙ ap (λ (some : List ℕ). map (λ group. map (answered group) wanted.items.items) (groups_by some rows)) keys_are
-            ∙ ap (wanted_rows wanted) all.rows;
-        each = subst (All (IsBatchOf (wanted_types wanted))) (sym e)
-            (all_reversed (IsBatchOf (wanted_types wanted)) answer (λ j d h. one_answer (get_or answer j d) (each j d h)));
-        all = all.all;
+            ∙ ap (λ (some : List ℕ). map (λ group. map (answered group) wanted.items.items) (groups_by some rows)) keys_are;
       }
 
--- ---- what is given of them
+  -- or it was refused
+  pub finished : (result : Result AnswersAt Fault) → Finishes fed result → IfOk result (AnswersAll batches wanted)
+  finished (Ok answers) finishes =
+      let with : Option Fault → GroupsAt = λ refused. record fed { refused = refused } in
+      let is : IsAnswerOf (with None) answers = subst (λ (refused : Option Fault). Finishes (with refused) (Ok answers)) feeds.refused finishes in
+      answers_all answers (subst (λ (refused : Option Fault). IsAnswerOf (with refused) answers) (sym feeds.refused) is)
+  finished (Err fault) finishes = tt
+
+-- of all rows that were collected
+pub are_made : (wanted : Wanted) (before after : RowsAt) (made : MadeGroups) → AreCollected before made.batches.items after →
+    AnswersAll made.batches.items wanted made.answers → AreMade before wanted made after
+are_made wanted before after made all answers = record {
+  rows = answers.rows ∙ ap (wanted_rows wanted) all.rows;
+  answering = record { over = answers.over; types = answers.types };
+  all = all.all;
+}
+
+-- ---- what is given of it
 
 -- rows of groups come of no batch
 abbrev of_none : Row → Option ℕ × Row
 of_none row = (None, row)
 
--- the groups of batches, the last batch first
-abbrev pub rows_in : List BatchAt → List (Option ℕ × Row)
-rows_in batches = map of_none (flat_map rows_of (reverse batches))
-
 -- where rows go on, so do their groups
 pub groups_on : (wanted : Wanted) (before after : RowsAt) (stage then : Stage) → GoesOn before after → GivingOn (of_groups before wanted stage) (of_groups after wanted then)
 groups_on wanted before after stage then on = record { types = refl; batches = on.batches; opening = on.opening; opened = on.opened }
 
--- the rows that were waited for are those of the batches that were made
-pub made_ahead : (wanted : Wanted) (before after : RowsAt) (all : List BatchAt) → AreMade before wanted all after → (of_groups before wanted Waiting).ahead ≡ rows_in all
-made_ahead wanted before after all made = ap (map of_none) (sym made.rows)
+-- the rows that were waited for are those of the answer
+pub made_ahead : (wanted : Wanted) (before after : RowsAt) (made : MadeGroups) → AreMade before wanted made after →
+    (of_groups before wanted Waiting).ahead ≡ map of_none (answers_ahead made.batches.items made.answers)
+made_ahead wanted before after made is = ap (map of_none) (sym is.rows)
 
--- a batch that is taken from the end is given
-pub gives_popped : (before after : GivingAt) (all rest : List BatchAt) → before.ahead ≡ rows_in all → after.ahead ≡ rows_in rest → GivingOn before after →
-    after.opened ≡ before.batches → All (IsBatchOf before.types) all → (found : Option BatchAt) → all ≡ rest ++ option_to_list found → (len less : ℕ) → length all ≡ len →
-    MatchOption found ((len ≡ 0) × (less ≡ 0)) (λ _. less + 1 ≡ len) → GivesNext before (Ok found) after
-gives_popped before after all rest ahead then on opened each (Some batch) e len less ok cases =
-    let is : IsBatchOf before.types batch = (All-pop (IsBatchOf before.types) all rest (Some batch) e each).1 in
-    record {
-      number = None;
-      next = ahead ∙ ap rows_in e ∙ ap (λ (some : List BatchAt). map of_none (flat_map rows_of some)) (reverse-append rest (batch ∷ []))
-          ∙ map-append of_none (rows_of batch) (flat_map rows_of (reverse rest)) ∙ ap (λ (some : List (Option ℕ × Row)). map of_none (rows_of batch) ++ some) (sym then);
-      latest = tt;
-      some = is.some;
-      few = is.few;
-      typed = is.typed;
-      on = on;
-    }
-gives_popped before after all rest ahead then on opened each None e len less ok cases =
-    let empty : all ≡ [] = none all (ok ∙ cases.0) in
-    let bare : rest ≡ [] = sym (append-nil rest) ∙ sym e ∙ empty in
-    record {
-      none = ahead ∙ ap rows_in empty;
-      still = then ∙ ap rows_in bare;
-      all = opened;
-      on = on;
-    }
-  where
-    none : (xs : List BatchAt) → length xs ≡ 0 → xs ≡ []
-    none [] long = refl
-    none (x ∷ xs) long = absurd (omega (arith, long))
-
--- what holds of those that are left
-pub still_made : (rows : RowsAt) (wanted : Wanted) (all rest : List BatchAt) (found : Option BatchAt) → all ≡ rest ++ option_to_list found →
-    All (IsBatchOf (wanted_types wanted)) all → rows.opened ≡ rows.batches → IsMade rows wanted rest
-still_made rows wanted all rest found e each opened = record {
-  each = (All-pop (IsBatchOf (wanted_types wanted)) all rest found e each).0;
-  all = opened;
+-- a batch of the answer is given
+gives_answer : (before after : GivingAt) (batches : List BatchAt) (answers then : AnswersAt) → answer_types answers ≡ before.types →
+    before.ahead ≡ map of_none (answers_ahead batches answers) → after.ahead ≡ map of_none (answers_ahead batches then) →
+    GivingOn before after → after.opened ≡ before.batches → (result : Result (Option BatchAt) AllocError) →
+    GivesAnswer batches answers result then → GivesNext before result after
+gives_answer before after batches answers then types ahead still on opened (Ok (Some batch)) gives = record {
+  number = None;
+  next = ahead ∙ ap (map of_none) gives.next ∙ map-append of_none (rows_of batch) (answers_ahead batches then)
+      ∙ ap (λ (some : List (Option ℕ × Row)). map of_none (rows_of batch) ++ some) (sym still);
+  latest = tt;
+  some = gives.some;
+  few = gives.few;
+  typed = subst (λ (some : List DataType). AreOf some batch.columns) types gives.typed;
+  on = on;
 }
+gives_answer before after batches answers then types ahead still on opened (Ok None) gives = record {
+  none = ahead ∙ ap (map of_none) gives.0;
+  still = still ∙ ap (λ (some : AnswersAt). map of_none (answers_ahead batches some)) gives.1 ∙ ap (map of_none) gives.0;
+  all = opened;
+  on = on;
+}
+gives_answer before after batches answers then types ahead still on opened (Err refused) gives = on
+
+-- and the answer goes on over the same batches
+pub gives_made : (rows : RowsAt) (wanted : Wanted) (before : GivingAt) (made then : MadeGroups) → IsAnswering wanted made → wanted_types wanted ≡ before.types →
+    before.ahead ≡ map of_none (answers_ahead made.batches.items made.answers) → GivingOn before (of_groups rows wanted (Made then)) →
+    rows.opened ≡ before.batches → then.batches ≡ made.batches → (result : Result (Option BatchAt) AllocError) →
+    GivesAnswer made.batches.items made.answers result then.answers → GivesNext before result (of_groups rows wanted (Made then))
+gives_made rows wanted before made then is types ahead on opened same result gives =
+    gives_answer before (of_groups rows wanted (Made then)) made.batches.items made.answers then.answers (is.types ∙ types) ahead
+    (ap (λ (some : Vec BatchAt Global). map of_none (answers_ahead some.items then.answers)) same) on opened result gives
+
+-- where no group was answered the answer is as it was
+unmoved : (wanted : Wanted) (made then : MadeGroups) → IsAnswering wanted made → then.batches ≡ made.batches → then.answers ≡ made.answers → IsAnswering wanted then
+unmoved wanted made then is same still = record {
+  over = rw (same, still) is.over;
+  types = ap answer_types still ∙ is.types;
+}
+
+-- what holds of the answer then
+pub still_answering : (wanted : Wanted) (made then : MadeGroups) → IsAnswering wanted made → then.batches ≡ made.batches →
+    (result : Result (Option BatchAt) AllocError) → GivesAnswer made.batches.items made.answers result then.answers → IsAnswering wanted then
+still_answering wanted made then is same (Ok (Some batch)) gives =
+    record { over = rw same gives.over; types = gives.types ∙ is.types }
+still_answering wanted made then is same (Ok None) gives = unmoved wanted made then is same gives.1
+still_answering wanted made then is same (Err refused) gives = unmoved wanted made then is same gives

@@ -1,13 +1,10 @@
 -- What a result takes of columns that are alike.
-use Rattle.std.proofs.Common.{◌≡◌, ◌≤◌, ◌<◌, ℕ, zero, suc, ◌-◌, Bool, true, false, ◌&&◌, cond, List, [], ◌∷◌, length, map, take, drop, nat_lt, refl, sym, ap, ◌∙◌, subst, arith, length-take, length-drop}
-use Rattle.std.specs.Prelude.{IsTrue}
-use Rattle.std.specs.List.{list_all, filter, flat_map}
+use Rattle.std.proofs.Common.{◌≡◌, ℕ, Bool, ◌&&◌, List, [], ◌∷◌, length, map, take, nat_lt, refl, sym, ap, ◌∙◌, subst}
+use Rattle.std.specs.List.{list_all}
 use Rattle.std.proofs.lemmas.List.{length-map}
 use Rattle.arrow_schema.specs.Answer.{answer_type}
 use Rattle.arrow_schema.specs.declared.data_type.DataType.{DataType}
 use Rattle.arrow_schema.specs.declared.data_type.DataType.TheVariants.{Integer, Utf8, Bool as Flag, Decimal128, Dictionary}
-use Rattle.arrays.specs.Batch.{rows_of}
-use Rattle.table_versions.specs.Table.{Row}
 use Rattle.typed_plan.specs.Class.{can_sum}
 use Rattle.typed_plan.specs.declared.plan.Aggregate.{Aggregate}
 use Rattle.typed_plan.specs.declared.plan.Aggregate.TheVariants.{Key, CountRows, Count, Sum}
@@ -15,14 +12,11 @@ use Rattle.typed_plan.specs.declared.plan.Columns.{Columns}
 use Rattle.typed_plan.specs.declared.plan.Columns.TheVariants as columns
 use Rattle.typed_plan.specs.declared.plan.Output.{Output}
 use Rattle.typed_plan.specs.declared.plan.Output.TheVariants.{Project, Groups}
-use Rattle.typed_plan.specs.Joined.{rows_between}
-use Rattle.typed_plan.specs.Plan.{Tree, scan, filtered, joined, taken}
-use Rattle.typed_plan.specs.Typed.{HasOutput, IsTyped, has_columns, has_item, is_grouping, is_place, type_at, tree_types}
-use Rattle.typed_plan.specs.View.{BoundAt, plan_of}
-use Rattle.scan_exec.specs.Begun.{IsBegun}
-use Rattle.scan_exec.specs.Given.{first_batches, further_rows, rows_over}
-use Rattle.scan_exec.specs.Running.{RowsAt}
-use Rattle.scan_exec.proofs.Beginning.{type_answered, plain_given}
+use Rattle.typed_plan.specs.Typed.{HasOutput, IsTyped, has_columns, has_item, tree_types, type_at}
+use Rattle.typed_plan.specs.View.{BoundAt, plan_of, tree_of}
+use Rattle.scan_exec.specs.declared.build.Sourced.{Sourced}
+use Rattle.scan_exec.specs.Begun.{IsBegun, IsSourced, sourced_at}
+use Rattle.scan_exec.proofs.Beginning.{type_answered}
 
 -- what is summed is no dictionary
 sum_answered : (t : DataType) → can_sum (answer_type t) ≡ can_sum t
@@ -57,34 +51,13 @@ module _ (some others : List DataType) (e : map answer_type some ≡ map answer_
   output_alike (Groups keys items) has =
       (ap (λ (n : ℕ). list_all (λ key. nat_lt key n) keys) long ∙ has.0, items_same (length keys) items ∙ has.1)
 
--- one place gives no more rows than it has
-filter_few : {X : Type 0} (test : X → Bool) (xs : List X) → length (filter test xs) ≤ length xs
-filter_few test [] = omega arith
-filter_few test (x ∷ xs) = by (test x) (filter_few test xs)
-  where
-    by : (b : Bool) → length (filter test xs) ≤ length xs → length (cond b (x ∷ filter test xs) (filter test xs)) ≤ suc (length xs)
-    by true rest = omega (arith, rest)
-    by false rest = omega (arith, rest)
+-- what a result takes of a source that begins is there
+module _ (bound : BoundAt) (from to : ℕ) (typed : IsTyped (plan_of bound)) (sourced : Sourced) (is : IsSourced sourced)
+    (begun : IsBegun (tree_of bound.plan) bound.tables from to (sourced_at sourced)) where
+  pub output_there : HasOutput bound.output sourced.types.items
+  output_there =
+      subst (HasOutput bound.output) (sym is.types)
+      (output_alike (sourced_at sourced).types (tree_types (tree_of bound.plan)) begun.types bound.output typed.output)
 
-taken_few : (columns : Columns) (rows : List Row) → length (taken columns rows) ≡ length rows
-taken_few columns.All rows = refl
-taken_few (columns.These numbers) rows = length-map rows _
-
-place_few : (tree : Tree) (rows : List Row) (places : List (List Row)) → is_place tree ≡ true → length (rows_over tree (rows ∷ places)) ≤ length rows
-place_few (scan table schema columns) rows places is = let e = taken_few columns rows in omega (arith, e)
-place_few (filtered predicate tree) rows places is =
-    let before = place_few tree rows places is in
-    let fewer = filter_few _ (rows_over tree (rows ∷ places)) in
-    omega (arith, before, fewer)
-place_few (joined left right on) rows places is = cc
-
--- a plan that makes groups has no more rows to group than its table has
-pub grouped_few : (bound : BoundAt) (from to : ℕ) (rows : RowsAt) → IsTyped (plan_of bound) → IsBegun (plan_of bound).tree bound.tables from to rows →
-    is_grouping bound.output ≡ true → length rows.ahead ≤ length (flat_map rows_of (first_batches bound.tables))
-grouped_few bound from to rows typed begun grouping =
-    let all = flat_map rows_of (first_batches bound.tables) in
-    let range = rows_between from to all in
-    let few = place_few (plan_of bound).tree range (further_rows bound) (typed.alone grouping) in
-    let plain = ap length (ap (map (λ (row : ℕ × Row). row.1)) begun.ahead ∙ plain_given bound from to) in
-    let same = length-map rows.ahead (λ (row : ℕ × Row). row.1) in
-    omega (arith, few, plain, same, length-take (to - from) (drop from all), length-drop from all)
+  pub none_opened : take (length (sourced_at sourced).opened) (sourced_at sourced).batches ≡ (sourced_at sourced).opened
+  none_opened = subst (λ (opened : List ℕ). take (length opened) (sourced_at sourced).batches ≡ opened) (sym begun.opened) refl

@@ -123,7 +123,7 @@ module _ (schema : Schema) (batches : List (ℕ × ℕ)) (further : ℕ) (before
       scan_at schema after batches further now None ≡ record (scan_at schema before batches further given None) { opened = batches }
   ends_is ends same =
       let made : List DataType → List (Option ℕ × Row) → List (ℕ × ℕ) → ℕ → ScanAt = λ types ahead opened given.
-          record { schema = schema; types = types; ahead = ahead; batches = batches; opened = opened; given = given; refused = None } in
+      record { schema = schema; types = types; ahead = ahead; batches = batches; opened = opened; given = given; refused = None } in
       ap (λ (types : List DataType). made types after.ahead (front ++ map of_first after.opened) now) ends.on.types
       ∙ ap (λ (ahead : List (Option ℕ × Row)). made before.types ahead (front ++ map of_first after.opened) now) (ends.still ∙ sym ends.none)
       ∙ ap (λ (opened : List (ℕ × ℕ)). made before.types before.ahead opened now) (ap (λ (some : List ℕ). front ++ map of_first some) ends.all ∙ all_are)

@@ -54,12 +54,13 @@ abbrev pub numbered_fits : List JoinKey → List Row → List (ℕ × Row) → L
 numbered_fits on rights lefts =
     flat_map (λ (left : ℕ × Row). map (λ row. (left.0, row)) (filter (fits on) (map (λ right. left.1 ++ right) rights))) lefts
 
--- Rows can be joined: no left one was given, each is as wide as there are types, the right ones are few enough to be
+-- Rows can be joined: no batch of them was opened, each is as wide as there are types, the right ones are few enough to be
 -- counted, and each key has a cell of both sides.
 pub record CanJoin (on : List JoinKey) (left right : RowsAt) : Type 0 where
   pub left_wide : All (λ (row : ℕ × Row). length row.1 ≡ length left.types) left.ahead
   pub right_wide : All (λ (row : ℕ × Row). length row.1 ≡ length right.types) right.ahead
-  pub unopened : left.opened ≡ []
+  pub left_unopened : left.opened ≡ []
+  pub right_unopened : right.opened ≡ []
   pub few : length right.ahead ≤ most_rows
   pub spanned : IsTrue (list_all (spans (length left.types)) on)
   pub there : IsTrue (list_all (λ (key : JoinKey). nat_lt key.right (length left.types + length right.types)) on)

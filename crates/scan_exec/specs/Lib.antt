@@ -7,6 +7,7 @@ pub mod Placed
 pub mod Running
 pub mod Sources
 pub mod Joined
+pub mod Joining
 pub mod Begun
 pub mod Giving
 pub mod Answering

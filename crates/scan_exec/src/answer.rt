@@ -1,22 +1,23 @@
 //! What a scan gives: rows, or groups of them.
 
-ghost use Rattle.std.specs.Prelude.{◌≡◌, ◌≤◌, true, [], IfOk, length, take};
-ghost use Rattle.std.specs.List.{range_with_len};
+ghost use Rattle.std.specs.Prelude.{◌≡◌, ◌≤◌, IsTrue, true, IfOk, length, take};
 ghost use Rattle.scan_base.specs.Limits.{most_rows};
 ghost use Rattle.typed_plan.specs.Typed.{HasOutput, is_grouping};
-ghost use Rattle.scan_exec.specs.Begun.{IsSourced, sourced_at};
-ghost use Rattle.scan_exec.specs.Picking.{pick_of};
 ghost use Rattle.scan_exec.specs.Answering.{GivesNext, IsGiving, answer_for, giving_at, of_rows};
+ghost use Rattle.scan_exec.specs.Begun.{IsSourced, sourced_at};
+ghost use Rattle.scan_exec.specs.Chosen.{are_within};
+ghost use Rattle.scan_exec.specs.Grouped.{unfiltered};
+ghost use Rattle.scan_exec.specs.Joined.{IsSource, source_at};
 
 use crate::build::Sourced;
 use crate::columns::numbers_below;
 use crate::grouped::{GroupedRows, Stage, Wanted};
 use crate::picker::Picker;
-use crate::rows::Rows;
-use arrays::Batch;
+use crate::rows::{Rows, Source};
+use arrays::{Batch, Selection};
 use hash_seed::HashSeed;
 use std::alloc::{AllocError, Global};
-use typed_plan::{Aggregate, Output};
+use typed_plan::Output;
 
 // What is still to be given.
 #[derive(Drop)]
@@ -59,7 +60,8 @@ fn next_batch(alloc: Global, rows: &mut Rows) -> Result<Option<Batch>, AllocErro
     }
 }
 
-// What a result takes of the rows of a source.
+// What a result takes of the rows of a source. Rows that are grouped are read without their filters, as slices; which of
+// them are grouped is for the filters to choose then.
 pub(crate) fn answer_of(
     alloc: Global,
     sourced: Sourced,
@@ -69,16 +71,27 @@ pub(crate) fn answer_of(
     requires sourced { IsSourced sourced }
     requires output { HasOutput output sourced.types.items }
     requires front { take (length (sourced_at sourced).opened) (sourced_at sourced).batches ≡ (sourced_at sourced).opened }
-    requires few { is_grouping output ≡ true → length (sourced_at sourced).ahead ≤ most_rows }
+    requires few { is_grouping output ≡ true → length (source_at sourced.source).ahead ≤ most_rows }
     ensures giving { IfOk result IsGiving }
     ensures answer { IfOk result (λ answer. giving_at answer ≡ answer_for output (sourced_at sourced)) }
 {
     match output {
         Output::Project(columns) => Ok(Answer::Rows(sourced.shown(alloc, &columns)?)),
         Output::Groups { keys, items } => {
-            let wanted = wanted(alloc, &sourced, keys.as_slice(), items.as_slice(), seed)?;
+            let picker = Picker {
+                filters: sourced.filters,
+                read: numbers_below(alloc, sourced.columns.len())?,
+                shown: Vec::new(alloc),
+            };
+            let wanted = Wanted {
+                picker,
+                seed,
+                types: sourced.types,
+                keys: keys.into_vec(),
+                items: items.into_vec(),
+            };
             Ok(Answer::Groups(GroupedRows {
-                rows: sourced.rows(alloc)?,
+                rows: all_rows(alloc, sourced.source, sourced.columns)?,
                 wanted,
                 stage: Stage::Waiting,
             }))
@@ -86,35 +99,22 @@ pub(crate) fn answer_of(
     }
 }
 
-// What is wanted of the groups of a source's rows, which its filters let through already.
-fn wanted(
-    alloc: Global,
-    sourced: &Sourced,
-    keys: &[usize],
-    items: &[Aggregate],
-    seed: HashSeed,
-) -> Result<Wanted, AllocError>
-    ensures seen { IfOk result (λ wanted. pick_of wanted.picker
-        ≡ record { filters = []; read = range_with_len 0 (length sourced.now.types.items); shown = [] }) }
-    ensures types { IfOk result (λ wanted. wanted.types.items ≡ sourced.now.types.items) }
-    ensures keys { IfOk result (λ wanted. wanted.keys.items ≡ keys.now) }
-    ensures items { IfOk result (λ wanted. wanted.items.items ≡ items.now) }
+// What gives these columns of all rows of a source.
+fn all_rows(alloc: Global, source: Source, columns: Vec<usize>) -> Result<Rows, AllocError>
+    requires source { IsSource source }
+    requires there { IsTrue (are_within (length (source_at source).types) columns.items) }
+    ensures { IfOk result (λ rows. rows ≡ unfiltered columns.items (source_at source)) }
 {
-    let (mut types, mut columns) = (Vec::new(alloc), Vec::new(alloc));
-    types.extend_from_slice(sourced.types.as_slice())?;
-    columns.extend_from_slice(keys)?;
-    let mut list = Vec::new(alloc);
-    list.extend_from_slice(items)?;
+    let mut read = Vec::new(alloc);
+    read.extend_from_slice(columns.as_slice())?;
     let picker = Picker {
         filters: Vec::new(alloc),
-        read: numbers_below(alloc, types.len())?,
-        shown: Vec::new(alloc),
+        read,
+        shown: columns,
     };
-    Ok(Wanted {
+    Ok(Rows {
+        source,
         picker,
-        seed,
-        types,
-        keys: columns,
-        items: list,
+        selection: Selection::new(alloc),
     })
 }

@@ -1,28 +1,28 @@
 //! A plan made ready to give its rows.
 
-ghost use Rattle.std.specs.Prelude.{◌≡◌, ◌<◌, ℕ, All, IfOk, map};
+ghost use Rattle.std.specs.Prelude.{◌≡◌, ◌≤◌, true, IfOk, length, map};
 ghost use Rattle.std.specs.List.{flat_map};
-ghost use Rattle.arrays.specs.Batch.{BatchAt, rows_of};
-ghost use Rattle.arrays.specs.Typed.{AreOf};
+ghost use Rattle.arrays.specs.Batch.{rows_of};
 ghost use Rattle.table_versions.specs.Stored.{TableAt};
-ghost use Rattle.table_versions.specs.Table.{Row};
 ghost use Rattle.typed_plan.specs.Held.{tree_schemas};
-ghost use Rattle.typed_plan.specs.Typed.{IsTypedTree};
+ghost use Rattle.typed_plan.specs.Typed.{IsTypedTree, is_place};
 ghost use Rattle.typed_plan.specs.View.{tree_of};
 ghost use Rattle.scan_exec.specs.Begun.{IsBegun, IsSourced, sourced_at};
+ghost use Rattle.scan_exec.specs.Given.{first_batches};
+ghost use Rattle.scan_exec.specs.Joined.{source_at};
 
-use crate::join_source::{join_source, Sides};
+use crate::join_source::{Sides, join_source};
 use crate::picker::Picker;
 use crate::rows::{Rows, Source};
 use crate::scan_source::scan_source;
-use arrays::{Batch, Selection};
+use arrays::Selection;
 use arrow_schema::DataType;
 use hash_seed::HashSeed;
 use scan_base::Predicate;
 use std::alloc::{AllocError, Global};
 use table_versions::TableVersion;
-use typed_plan::laws::typed_predicates_name_columns;
 use typed_plan::Plan;
+use typed_plan::laws::typed_predicates_name_columns;
 
 // A source, the filters over its rows, and the numbers of its columns that they see and that are given, with their types.
 #[derive(Drop)]
@@ -53,6 +53,8 @@ pub(crate) fn build(
     requires schemas { tree_schemas (tree_of plan) ≡ map (λ (table : TableAt). table.schema) tables.items }
     ensures sourced { IfOk result IsSourced }
     ensures begun { IfOk result (λ made. IsBegun (tree_of plan) tables.items reading.from reading.to (sourced_at made)) }
+    ensures few { IfOk result (λ made. is_place (tree_of plan) ≡ true →
+        length (source_at made.source).ahead ≤ length (flat_map rows_of (first_batches tables.items))) }
 {
     typed_predicates_name_columns();
     let mut tables = tables;
@@ -72,7 +74,12 @@ pub(crate) fn build(
             let (seed, from, to) = (reading.seed, 0, table.rows());
             let mut last = Vec::new(alloc);
             last.push(table)?;
-            let right = build(alloc, Box::into_inner(right), last, Reading { seed, from, to })?;
+            let right = build(
+                alloc,
+                Box::into_inner(right),
+                last,
+                Reading { seed, from, to },
+            )?;
             join_source(alloc, seed, Sides { left, right }, on.as_slice())
         }
     }
@@ -97,18 +104,4 @@ impl Sourced {
             selection: Selection::new(alloc),
         })
     }
-}
-
-// All rows, batch by batch.
-pub(crate) fn collected(alloc: Global, rows: Rows) -> Result<Vec<Batch>, AllocError>
-    ensures rows { IfOk result (λ batches. flat_map rows_of batches.items ≡ map (λ (row : ℕ × Row). row.1) rows.ahead) }
-    ensures typed { IfOk result (λ batches. All (λ (batch : BatchAt). AreOf rows.types batch.columns) batches.items) }
-    ensures filled { IfOk result (λ batches. All (λ (batch : BatchAt). 0 < batch.rows) batches.items) }
-{
-    let mut rows = rows;
-    let mut batches = Vec::new(alloc);
-    while let Some(piece) = rows.next(alloc)? {
-        batches.push(piece.batch)?;
-    }
-    Ok(batches)
 }

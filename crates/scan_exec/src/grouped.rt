@@ -3,11 +3,12 @@
 ghost use Rattle.std.specs.Prelude.{◌≡◌, ◌≤◌, [], All, IfOk, None, OnOk, length, take};
 ghost use Rattle.std.specs.List.{flat_map};
 ghost use Rattle.arrays.specs.Batch.{rows_of};
+ghost use Rattle.grouping.specs.Answers.{GivesAnswer, IsOver};
 ghost use Rattle.grouping.specs.Fed.{Holds};
 ghost use Rattle.scan_base.specs.Limits.{most_rows};
 ghost use Rattle.scan_exec.specs.Giving.{GivesNext};
 ghost use Rattle.scan_exec.specs.Collected.{IsBatchOf};
-ghost use Rattle.scan_exec.specs.Grouped.{AreFed, AreMade, CanGroup, passing};
+ghost use Rattle.scan_exec.specs.Grouped.{AreFed, AreMade, AnswersAll, CanGroup, IsWanted, passing};
 ghost use Rattle.scan_exec.specs.Picking.{IsPick, pick_of};
 ghost use Rattle.scan_exec.specs.Running.{GoesOn};
 
@@ -17,7 +18,7 @@ use crate::picker::Picker;
 use crate::rows::Rows;
 use arrays::{Batch, Selection};
 use arrow_schema::DataType;
-use grouping::{Grouping, Groups};
+use grouping::{Answers, Grouping, Groups};
 use hash_seed::HashSeed;
 use scan_base::Fault;
 use std::alloc::{AllocError, Global};
@@ -35,11 +36,18 @@ pub(crate) struct Wanted {
     pub(crate) items: Vec<Aggregate>,
 }
 
-// How far the answer is: not begun; made, with the batches that are still to be given, the last one first; or refused.
+// The batches of all rows, and what is still to be answered of their groups.
+#[derive(Drop)]
+pub(crate) struct MadeGroups {
+    pub(crate) batches: Vec<Batch>,
+    pub(crate) answers: Answers,
+}
+
+// How far the answer is: not begun; made, with what is still to be given; or refused.
 #[derive(Drop)]
 pub(crate) enum Stage {
     Waiting,
-    Made(Vec<Batch>),
+    Made(MadeGroups),
     Refused,
 }
 
@@ -62,75 +70,87 @@ impl Model for GroupedRows {
     ghost invariant = { λ g. IsGrouped g.rows g.wanted g.stage };
 }
 
-impl Wanted {
-    // What is grouped: the types and the items are copied.
-    fn shape(&self, alloc: Global) -> Result<Grouping<'_>, AllocError>
-        ensures types { IfOk result (λ shape. shape.types.items ≡ self.now.types.items) }
-        ensures keys { IfOk result (λ shape. shape.keys.now ≡ self.now.keys.items) }
-        ensures items { IfOk result (λ shape. shape.items.items ≡ self.now.items.items) }
-    {
-        let (mut types, mut items) = (Vec::new(alloc), Vec::new(alloc));
-        types.extend_from_slice(self.types.as_slice())?;
-        items.extend_from_slice(self.items.as_slice())?;
-        let keys = self.keys.as_slice();
-        Ok(Grouping { types, keys, items })
-    }
-}
-
-// Feeds those rows of batches that the filters let through to groups that have none.
-fn feed_all<'t>(
+// Feeds those rows that the filters let through to groups of these batches that have none.
+fn feed_all(
     alloc: Global,
-    groups: &mut Groups<'t>,
-    batches: &'t [Batch],
+    groups: &mut Groups<'_>,
+    batches: &[Batch],
     picker: &Picker,
 ) -> Result<(), Fault>
     requires ready { groups.old.refused ≡ None }
     requires none { Holds groups.old [] }
+    requires same { groups.old.batches ≡ batches.now }
     requires batches { All (IsBatchOf groups.old.types) batches.now }
     requires pick { IsPick (length groups.old.types) (pick_of picker.now) }
     requires few { length (flat_map rows_of batches.now) ≤ most_rows }
     ensures { OnOk result (AreFed groups.old (passing (pick_of picker.now) (flat_map rows_of batches.now)) groups.new) }
 {
     let mut selection = Selection::new(alloc);
-    for batch in batches {
+    for (number, batch) in batches.iter().enumerate() {
         let (from, to) = (0, batch.rows());
         selection.clear();
         picker.select(&Part { batch, from, to }, &mut selection)?;
-        groups.feed(alloc, batch, &selection)?;
+        groups.feed(alloc, number, &selection)?;
     }
     Ok(())
 }
 
-// The groups of all rows that are still to be given, in batches, the last one first.
-fn made(alloc: Global, rows: &mut Rows, wanted: &Wanted) -> Result<Vec<Batch>, Fault>
+// What is wanted of the groups of batches.
+fn answers_of(alloc: Global, batches: &[Batch], wanted: &Wanted) -> Result<Answers, Fault>
+    requires named { IsWanted wanted.now }
+    requires batches { All (IsBatchOf wanted.now.types.items) batches.now }
+    requires few { length (flat_map rows_of batches.now) ≤ most_rows }
+    ensures { IfOk result (AnswersAll batches.now wanted.now) }
+{
+    let shape = Grouping {
+        batches,
+        types: wanted.types.as_slice(),
+        keys: wanted.keys.as_slice(),
+        items: wanted.items.as_slice(),
+    };
+    let mut groups = Groups::new(alloc, wanted.seed, shape)?;
+    feed_all(alloc, &mut groups, batches, &wanted.picker)?;
+    groups.finish(alloc)
+}
+
+// The groups of all rows that are still to be given.
+fn made(alloc: Global, rows: &mut Rows, wanted: &Wanted) -> Result<MadeGroups, Fault>
     requires can { CanGroup rows.old wanted.now }
     requires front { take (length rows.old.opened) rows.old.batches ≡ rows.old.opened }
     ensures on { GoesOn rows.old rows.new }
-    ensures made { IfOk result (λ batches. AreMade rows.old wanted.now batches.items rows.new) }
+    ensures made { IfOk result (λ made. AreMade rows.old wanted.now made rows.new) }
 {
     let batches = collected(alloc, rows)?;
-    let mut groups = Groups::new(alloc, wanted.seed, wanted.shape(alloc)?)?;
-    feed_all(alloc, &mut groups, batches.as_slice(), &wanted.picker)?;
-    let mut answer = groups.finish(alloc)?;
-    answer.reverse();
-    Ok(answer)
+    let answers = answers_of(alloc, batches.as_slice(), wanted)?;
+    Ok(MadeGroups { batches, answers })
+}
+
+impl MadeGroups {
+    // The next batch of the answer, which is made here.
+    fn next(&mut self, alloc: Global) -> Result<Option<Batch>, AllocError>
+        requires { IsOver self.old.batches.items self.old.answers }
+        ensures batches { self.new.batches ≡ self.old.batches }
+        ensures gives { GivesAnswer self.old.batches.items self.old.answers result self.new.answers }
+    {
+        self.answers.next(alloc, self.batches.as_slice())
+    }
 }
 
 impl GroupedRows {
-    // The next batch of the answer, which is made at the first call. What refused it is answered from then on.
+    // The next batch of the answer, whose groups are made at the first call. What refused them is answered from then on.
     pub(crate) fn next(&mut self, alloc: Global) -> Result<Option<Batch>, AllocError>
         ensures { GivesNext self.old result self.new }
     {
         match &mut self.stage {
-            Stage::Made(batches) => return Ok(batches.pop()),
+            Stage::Made(made) => return made.next(alloc),
             Stage::Refused => return Err(AllocError),
             Stage::Waiting => {}
         }
         match made(alloc, &mut self.rows, &self.wanted) {
-            Ok(mut batches) => {
-                let first = batches.pop();
-                self.stage = Stage::Made(batches);
-                Ok(first)
+            Ok(mut made) => {
+                let first = made.next(alloc);
+                self.stage = Stage::Made(made);
+                first
             }
             Err(_) => {
                 self.stage = Stage::Refused;

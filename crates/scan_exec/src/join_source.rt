@@ -1,11 +1,16 @@
 //! What gives joined rows.
 
-ghost use Rattle.std.specs.Prelude.{◌≡◌, ◌-◌, ◌++◌, IfOk, length, map};
+ghost use Rattle.std.specs.Prelude.{◌≡◌, ◌≤◌, [], ◌++◌, IfOk, length, map};
 ghost use Rattle.arrow_schema.specs.Answer.{answer_type};
-ghost use Rattle.typed_plan.specs.declared.plan.JoinKey.{JoinKey};
+ghost use Rattle.join_batches.specs.Joiner.{joined_types};
+ghost use Rattle.scan_base.specs.Limits.{most_rows};
 ghost use Rattle.scan_exec.specs.Begun.{CanJoin, IsSourced, JoinsRows, sourced_at};
+ghost use Rattle.scan_exec.specs.Collected.{plain_rows};
+ghost use Rattle.scan_exec.specs.Joined.{IsJoined};
+ghost use Rattle.scan_exec.specs.Joining.{HasKeys, IsSides, all_joined, joiner_with};
 
-use crate::build::{collected, Sourced};
+use crate::build::Sourced;
+use crate::collected::collected;
 use crate::columns::numbers_below;
 use crate::rows::{Joining, Source};
 use arrow_schema::DataType;
@@ -36,17 +41,9 @@ pub(crate) fn join_source(
 {
     let Sides { left, right } = sides;
     let types = answered_types(alloc, left.types.as_slice(), right.types.as_slice())?;
-    let columns = numbers_below(alloc, types.len())?;
     let sides = join_sides(alloc, left.types.as_slice(), right.types.as_slice(), on)?;
-    let batches = collected(alloc, right.rows(alloc)?)?;
-    let joiner = Joiner::new(alloc, seed, sides, batches)?;
-    let left = Box::new(alloc, left.rows(alloc)?)?;
-    Ok(Sourced {
-        source: Source::Joined(left, Joining { joiner, number: 0 }),
-        filters: Vec::new(alloc),
-        columns,
-        types,
-    })
+    let joiner = joiner_of(alloc, seed, sides, right)?;
+    joined(alloc, left, joiner, types)
 }
 
 // The types of joined rows: those of dictionaries are texts.
@@ -70,10 +67,7 @@ fn join_sides(
     right: &[DataType],
     on: &[JoinKey],
 ) -> Result<JoinSides, AllocError>
-    ensures left_types { IfOk result (λ sides. sides.left.types.items ≡ left.now) }
-    ensures right_types { IfOk result (λ sides. sides.right.types.items ≡ right.now) }
-    ensures left_key { IfOk result (λ sides. sides.left.key.items ≡ map (λ (key : JoinKey). key.left) on.now) }
-    ensures right_key { IfOk result (λ sides. sides.right.key.items ≡ map (λ (key : JoinKey). key.right - length left.now) on.now) }
+    ensures { IfOk result (λ sides. IsSides on.now left.now right.now sides) }
 {
     let seam = left.len();
     let left = JoinSide {
@@ -82,7 +76,52 @@ fn join_sides(
     };
     let right = JoinSide {
         types: right.iter().copied().collect(alloc)?,
-        key: on.iter().map(|key| key.right.saturating_sub(seam)).collect(alloc)?,
+        key: on
+            .iter()
+            .map(|key| key.right.saturating_sub(seam))
+            .collect(alloc)?,
     };
     Ok(JoinSides { left, right })
+}
+
+// The join with all rows of the right side, which are read here.
+fn joiner_of(
+    alloc: Global,
+    seed: HashSeed,
+    sides: JoinSides,
+    right: Sourced,
+) -> Result<Joiner, AllocError>
+    requires right { IsSourced right }
+    requires unopened { (sourced_at right).opened ≡ [] }
+    requires few { length (sourced_at right).ahead ≤ most_rows }
+    requires typed { sides.right.types.items ≡ (sourced_at right).types }
+    requires keys { HasKeys sides }
+    ensures { IfOk result (λ joiner. joiner ≡ joiner_with sides (plain_rows (sourced_at right).ahead)) }
+{
+    let mut rows = right.rows(alloc)?;
+    let batches = collected(alloc, &mut rows)?;
+    Joiner::new(alloc, seed, sides, batches)
+}
+
+// What gives the joined rows of left ones, in columns of these types.
+fn joined(
+    alloc: Global,
+    left: Sourced,
+    joiner: Joiner,
+    types: Vec<DataType>,
+) -> Result<Sourced, AllocError>
+    requires left { IsSourced left }
+    requires joined { IsJoined (sourced_at left) joiner 0 }
+    requires types { types.items ≡ joined_types joiner }
+    ensures sourced { IfOk result IsSourced }
+    ensures joined { IfOk result (λ made. sourced_at made ≡ all_joined (sourced_at left) joiner) }
+{
+    let columns = numbers_below(alloc, types.len())?;
+    let left = Box::new(alloc, left.rows(alloc)?)?;
+    Ok(Sourced {
+        source: Source::Joined(left, Joining { joiner, number: 0 }),
+        filters: Vec::new(alloc),
+        columns,
+        types,
+    })
 }

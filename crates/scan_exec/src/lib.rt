@@ -7,15 +7,15 @@ mod collected;
 mod columns;
 mod cursor;
 mod grouped;
-mod opened;
 mod join_source;
+mod opened;
 mod picker;
 mod piece;
 mod place;
+mod result;
 mod row;
 mod rows;
 pub mod scan;
-mod result;
 mod scan_source;
 
 pub use crate::scan::Scan;

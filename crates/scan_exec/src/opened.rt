@@ -40,11 +40,7 @@ pub(crate) fn listed(
 }
 
 // All batches of a place, behind others.
-fn push_all(
-    list: &mut Vec<(usize, usize)>,
-    place: usize,
-    count: usize,
-) -> Result<(), AllocError>
+fn push_all(list: &mut Vec<(usize, usize)>, place: usize, count: usize) -> Result<(), AllocError>
     ensures { OnOk result (list.new.items ≡ list.old.items ++ map (λ batch. (place, batch)) (range_with_len 0 count)) }
 {
     for batch in 0..count {
@@ -54,10 +50,7 @@ fn push_all(
 }
 
 // All batches of the further places.
-fn further_list(
-    alloc: Global,
-    tables: &[TableVersion],
-) -> Result<Vec<(usize, usize)>, AllocError>
+fn further_list(alloc: Global, tables: &[TableVersion]) -> Result<Vec<(usize, usize)>, AllocError>
     ensures batches { IfOk result (λ list. list.items ≡ further_batches tables.now) }
     ensures short { IfOk result (λ _. All IsShort (drop 1 tables.now)) }
 {

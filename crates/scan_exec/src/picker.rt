@@ -57,7 +57,11 @@ impl Picker {
     }
 
     // The rows of a part that the filters let through, into an empty selection.
-    pub(crate) fn select(&self, part: &Part<'_>, selection: &mut Selection) -> Result<(), AllocError>
+    pub(crate) fn select(
+        &self,
+        part: &Part<'_>,
+        selection: &mut Selection,
+    ) -> Result<(), AllocError>
         requires pick { IsPick (length part.now.batch.now.columns) (pick_of self.now) }
         requires ordered { part.now.from ≤ part.now.to }
         requires within { part.now.to ≤ part.now.batch.now.rows }

@@ -109,7 +109,11 @@ impl Joining {
         loop {
             if let Some(batch) = self.joiner.next(alloc)? {
                 let (from, to) = (0, batch.rows());
-                let part = Part { batch: &batch, from, to };
+                let part = Part {
+                    batch: &batch,
+                    from,
+                    to,
+                };
                 if let Some(batch) = picker.pick(alloc, &part, selection)? {
                     let number = self.number;
                     return Ok(Some(Piece { batch, number }));

@@ -123,7 +123,11 @@ impl Scan {
 }
 
 // The next batch, where so many rows were given.
-fn next_counted(alloc: Global, answer: &mut Answer, given: &mut usize) -> Result<Option<Batch>, Fault>
+fn next_counted(
+    alloc: Global,
+    answer: &mut Answer,
+    given: &mut usize,
+) -> Result<Option<Batch>, Fault>
     requires giving { IsGiving answer.old }
     requires few { given.old ≤ most_answer_rows }
     ensures giving { IsGiving answer.new }

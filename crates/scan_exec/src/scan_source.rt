@@ -1,11 +1,14 @@
 //! What gives columns of the rows of a table.
 
-ghost use Rattle.std.specs.Prelude.{◌≡◌, [], ◌∷◌, IfOk, IsTrue, length, map};
+ghost use Rattle.std.specs.Prelude.{◌≡◌, ◌≤◌, [], ◌∷◌, IfOk, IsTrue, length, map};
+ghost use Rattle.std.specs.List.{flat_map};
+ghost use Rattle.arrays.specs.Batch.{rows_of};
 ghost use Rattle.table_versions.specs.Table.{Name};
 ghost use Rattle.typed_plan.specs.Plan.{scan};
 ghost use Rattle.typed_plan.specs.Typed.{has_columns, type_at, types_of};
 ghost use Rattle.scan_exec.specs.Begun.{IsBegun, IsSourced, sourced_at};
 ghost use Rattle.scan_exec.specs.Chosen.{are_within};
+ghost use Rattle.scan_exec.specs.Joined.{source_at};
 
 use crate::build::{Reading, Sourced};
 use crate::columns::{numbers_below, picked};
@@ -28,6 +31,7 @@ pub(crate) fn scan_source(
     ensures sourced { IfOk result IsSourced }
     ensures begun { IfOk result (λ made. (name : Name) →
         IsBegun (scan name table.schema columns.now) (table ∷ []) reading.from reading.to (sourced_at made)) }
+    ensures few { IfOk result (λ made. length (source_at made.source).ahead ≤ length (flat_map rows_of table.batches)) }
 {
     let fields = table.schema().fields.as_slice();
     let numbers = numbers_below(alloc, fields.len())?;

@@ -1,5 +1,5 @@
 -- Inside: rows that are still to be cut into messages.
-use Rattle.std.specs.Prelude.{◌≡◌, ◌≤◌, ◌<◌, ◌-◌, ℕ, false, List, ◌++◌, [], map, None, Option, Some}
+use Rattle.std.specs.Prelude.{◌≡◌, ◌≤◌, ◌<◌, ◌-◌, ℕ, false, List, [], map, None, Option}
 use Rattle.std.specs.List.{list_any}
 use Rattle.arrow_schema.specs.declared.schema.Schema.{Schema}
 use Rattle.arrow_schema.specs.declared.schema.Field.{Field}

@@ -1,5 +1,6 @@
 -- Inside: tallies that are small, and tallies as the rows go by.
 use Rattle.std.specs.Prelude.{◌≡◌, ◌≤◌, ◌<◌, ◌≤ℤ◌, ℕ, zero, suc, ◌*◌, ◌^◌, ℤ, pos, neg_ℤ, List, length, get_or, slice_get, slice_set, Some}
+use Rattle.std.specs.List.{sum_by}
 use Rattle.arrow_schema.specs.declared.data_type.IntegerType.{IntegerType}
 use Rattle.arrow_schema.specs.declared.data_type.DataType.TheVariants.{Integer}
 use Rattle.arrays.specs.declared.layout.Layout.{Layout}
@@ -25,14 +26,14 @@ pub record IsSmall (tally : Tally) : Type 0 where
   pub low : neg_ℤ (pos (2 ^ 64 * tally.count)) ≤ℤ tally.sum
   pub high : tally.sum ≤ℤ pos (2 ^ 64 * tally.count)
 
--- no more than so many rows were counted, and the sum is small
-pub record IsWithin (most : ℕ) (tally : Tally) : Type 0 where
-  pub few : tally.count ≤ most
-  pub small : IsSmall tally
+-- how many rows or values the tallies count in all
+abbrev pub counted_in : List Tally → ℕ
+counted_in tallies = sum_by (λ (tally : Tally). tally.count) tallies
 
--- each tally is
+-- the tallies count no more than so many in all, and each sum is small
 pub record AreWithin (most : ℕ) (tallies : List Tally) : Type 0 where
-  pub each : (group : ℕ) → group < length tallies → IsWithin most (get_or tallies group no_rows)
+  pub few : counted_in tallies ≤ most
+  pub small : (group : ℕ) → group < length tallies → IsSmall (get_or tallies group no_rows)
 
 -- the column that an item reads is there, and a sum's has whole numbers of at most 64 bits
 abbrev pub CanCount : Aggregate → List ColumnAt → Type 0

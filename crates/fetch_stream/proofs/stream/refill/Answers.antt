@@ -1,5 +1,5 @@
-use Rattle.std.proofs.Common.{◌≡◌, ◌≤◌, arith}
-use Rattle.fetch_stream.proofs.Ahead.{next_batch, no_batch, batch_refused}
+use Rattle.std.proofs.Common.{arith}
+use Rattle.fetch_stream.proofs.Ahead.{next_batch}
 use Rattle.fetch_stream.proofs.stream.refill.Goals as goal
 
 pub returns : goal.returns

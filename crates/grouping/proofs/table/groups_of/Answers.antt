@@ -6,4 +6,4 @@ pub loop-row-preserved : goal.loop-row-preserved
 loop-row-preserved c =
     let done = c.in_ok-group_of.ensures in
     rw (c.in_ok-push.ensures.items, done.place, done.inserted)
-    (step _ _ _ _ _ _ _ _ c.loop-row.invariant (omega arith) refl refl refl)
+    (step _ _ _ _ _ _ c.loop-row.invariant (omega arith) refl refl refl refl)

@@ -1,17 +1,21 @@
-use Rattle.std.proofs.Common.{◌≡◌, ◌<◌, ℕ, List, [], ◌∷◌, ◌++◌, length, map, Option, Some, Result, Ok, Err, ap, sym, ◌∙◌, subst, arith, rules, IfOk}
+use Rattle.std.proofs.Common.{◌≡◌, ◌≤◌, ◌<◌, ℕ, List, [], ◌∷◌, ◌++◌, length, map, Option, Some, ap, sym, ◌∙◌, subst, arith, rules, true, false}
+use Rattle.std.specs.List.{flat_map}
 use Rattle.std.specs.Option.{option_to_list}
 use Rattle.std.proofs.lemmas.List.{map-append}
+use Rattle.std.proofs.lemmas.Result.{IfOk-weaker}
+use Rattle.arrays.specs.Batch.{rows_of}
 use Rattle.scan_base.specs.Predicate.{Pred}
 use Rattle.scan_base.specs.View.{pred_of}
-use Rattle.table_versions.specs.Stored.{TableAt, table_of}
+use Rattle.table_versions.specs.Stored.{TableAt}
 use Rattle.typed_plan.specs.declared.plan.Plan.{Plan}
 use Rattle.typed_plan.specs.declared.plan.JoinKey.{JoinKey}
 use Rattle.typed_plan.specs.Held.{tree_schemas}
 use Rattle.typed_plan.specs.Plan.{Tree, filtered, joined}
-use Rattle.typed_plan.specs.Typed.{IsTypedTree, tree_types}
+use Rattle.typed_plan.specs.Typed.{IsTypedTree, is_place, tree_types}
 use Rattle.typed_plan.specs.View.{tree_of}
 use Rattle.scan_exec.specs.declared.build.Sourced.{Sourced}
-use Rattle.scan_exec.specs.Begun.{CanJoin, IsBegun, IsSourced, JoinsRows, sourced_at}
+use Rattle.scan_exec.specs.Begun.{CanJoin, IsBegun, JoinsRows, sourced_at}
+use Rattle.scan_exec.specs.Given.{first_batches}
 use Rattle.scan_exec.specs.Joined.{source_at}
 use Rattle.scan_exec.specs.Picking.{IsPick}
 use Rattle.scan_exec.specs.Running.{picked_of}
@@ -59,6 +63,14 @@ returns-in-Filter-clause-begun t c =
     (filter_begun (source_at made.source) filters predicate made.columns.items (tree_of input) c.args.tables.items c.args.reading.from c.args.reading.to
     c.in_ok-made-in-Filter.ensures.begun))
 
+pub returns-in-Filter-clause-few : goal.returns-in-Filter-clause-few
+returns-in-Filter-clause-few t c place =
+    let input = c.into_inner.result in
+    let predicate : Pred ℕ = pred_of c.in-Filter.predicate in
+    let tree : tree_of c.args.plan ≡ filtered predicate (tree_of input) =
+    ap tree_of c.in-Filter.is ∙ ap (λ (plan : Plan). filtered predicate (tree_of plan)) (sym c.into_inner.ensures) in
+    c.in_ok-made-in-Filter.ensures.few (sym (ap is_place tree) ∙ place)
+
 -- all tables, where the last one was taken
 with_last : (all popped : List TableAt) (found : Option TableAt) (last : TableAt) → all ≡ popped ++ option_to_list found → found ≡ Some last → all ≡ popped ++ last ∷ []
 with_last all popped found last e is = e ∙ ap (λ (some : Option TableAt). popped ++ option_to_list some) is
@@ -73,10 +85,13 @@ build-requires-in-Join t c =
     let all = with_last c.args.tables.items popped c.pop-in-Join.result c.in_ok-table-in-Join.table c.pop-in-Join.ensures.items c.in_ok-table-in-Join.ensures.ok_part in
     let sides = sides_tables left right c.args.tables.items popped c.in_ok-table-in-Join.table typed.2 (sym (ap tree_schemas tree) ∙ c.requires.schemas) all in
     let smaller : tree_size (tree_of c.into_inner-in-Join.result) < tree_size (tree_of c.args.plan) =
-    omega (arith, ap (λ (plan : Plan). tree_size (tree_of plan)) c.into_inner-in-Join.ensures, ap tree_size tree) in
-    (first_of (omega (arith, smaller), search (rules, smaller)),
-    (subst (λ (plan : Plan). IsTypedTree (tree_of plan)) (sym c.into_inner-in-Join.ensures) typed.0,
-    ap (λ (plan : Plan). tree_schemas (tree_of plan)) c.into_inner-in-Join.ensures ∙ sides.0))
+    omega (arith, ap (λ (plan : Plan). tree_size (tree_of plan)) c.into_inner-in-Join.ensures, ap tree_size tree) in (
+      first_of (omega (arith, smaller), search (rules, smaller)),
+      (
+        subst (λ (plan : Plan). IsTypedTree (tree_of plan)) (sym c.into_inner-in-Join.ensures) typed.0,
+        ap (λ (plan : Plan). tree_schemas (tree_of plan)) c.into_inner-in-Join.ensures ∙ sides.0,
+      ),
+    )
 
 pub build-requires-in-Join-2 : goal.build-requires-in-Join-2
 build-requires-in-Join-2 t c =
@@ -90,10 +105,13 @@ build-requires-in-Join-2 t c =
     let sides = sides_tables left right c.args.tables.items popped table typed.2 (sym (ap tree_schemas tree) ∙ c.requires.schemas) all in
     let lasts : c.push-in-Join.new.self.items ≡ table ∷ [] = c.in_ok-push-in-Join.ensures.items ∙ ap (λ (some : List TableAt). some ++ table ∷ []) c.new-last.ensures.items in
     let smaller : tree_size (tree_of c.into_inner-in-Join-2.result) < tree_size (tree_of c.args.plan) =
-    omega (arith, ap (λ (plan : Plan). tree_size (tree_of plan)) c.into_inner-in-Join-2.ensures, ap tree_size tree) in
-    (first_of (omega (arith, smaller), search (rules, smaller)),
-    (subst (λ (plan : Plan). IsTypedTree (tree_of plan)) (sym c.into_inner-in-Join-2.ensures) typed.1,
-    ap (λ (plan : Plan). tree_schemas (tree_of plan)) c.into_inner-in-Join-2.ensures ∙ sides.1 ∙ ap schemas_of (sym lasts)))
+    omega (arith, ap (λ (plan : Plan). tree_size (tree_of plan)) c.into_inner-in-Join-2.ensures, ap tree_size tree) in (
+      first_of (omega (arith, smaller), search (rules, smaller)),
+      (
+        subst (λ (plan : Plan). IsTypedTree (tree_of plan)) (sym c.into_inner-in-Join-2.ensures) typed.1,
+        ap (λ (plan : Plan). tree_schemas (tree_of plan)) c.into_inner-in-Join-2.ensures ∙ sides.1 ∙ ap schemas_of (sym lasts),
+      ),
+    )
 
 pub join_source-requires-clause-joinable : goal.join_source-requires-clause-joinable
 join_source-requires-clause-joinable t c =
@@ -115,11 +133,6 @@ join_source-requires-clause-joinable t c =
     subst (λ (on : List JoinKey). CanJoin on a b) (sym c.as_slice.ensures)
     (can_join left right c.in-Join.on popped table from to c.rows-to.result a b typed l r kept.counted kept.few)
 
--- what holds of a result that is there
-if_ok : {X E : Type 0} (P Q : X → Type 0) (result : Result X E) → ((x : X) → P x → Q x) → IfOk result P → IfOk result Q
-if_ok P Q (Ok x) f h = f x h
-if_ok P Q (Err e) f h = tt
-
 pub returns-clause-begun : goal.returns-clause-begun
 returns-clause-begun t c =
     let left = tree_of c.in-Join.left.value in
@@ -139,11 +152,23 @@ returns-clause-begun t c =
     let l = subst (λ (plan : Plan). IsBegun (tree_of plan) popped from to a) c.into_inner-in-Join.ensures c.in_ok-left-in-Join.ensures.begun in
     let r = subst (λ (some : List TableAt). IsBegun right some 0 c.rows-to.result b) lasts
     (subst (λ (plan : Plan). IsBegun (tree_of plan) c.push-in-Join.new.self.items 0 c.rows-to.result b) c.into_inner-in-Join-2.ensures c.in_ok-right-in-Join.ensures.begun) in
-    if_ok (λ (made : Sourced). JoinsRows c.as_slice.result.now a b (sourced_at made)) (λ (made : Sourced). IsBegun (tree_of c.args.plan) c.args.tables.items from to (sourced_at made))
-    c.join_source.result
+    IfOk-weaker c.join_source.result (λ (made : Sourced). JoinsRows c.as_slice.result.now a b (sourced_at made))
+    (λ (made : Sourced). IsBegun (tree_of c.args.plan) c.args.tables.items from to (sourced_at made))
     (λ (made : Sourced) joins.
     subst (λ (some : Tree). IsBegun some c.args.tables.items from to (sourced_at made)) (sym tree)
     (subst (λ (tables : List TableAt). IsBegun (joined left right c.in-Join.on) tables from to (sourced_at made)) (sym all)
     (joined_begun left right c.in-Join.on popped table from to c.rows-to.result a b (sourced_at made) l r kept.counted typed.2 sides.0
     (subst (λ (on : List JoinKey). JoinsRows on a b (sourced_at made)) c.as_slice.ensures joins))))
+    c.join_source.ensures.joins
+
+-- a join is no place
+pub returns-clause-few : goal.returns-clause-few
+returns-clause-few t c =
+    let left = tree_of c.in-Join.left.value in
+    let right = tree_of c.in-Join.right.value in
+    let tree : tree_of c.args.plan ≡ joined left right c.in-Join.on = ap tree_of c.in-Join.is in
+    let none : is_place (tree_of c.args.plan) ≡ false = ap is_place tree in
+    IfOk-weaker c.join_source.result (λ (made : Sourced). JoinsRows c.as_slice.result.now (sourced_at c.in_ok-left-in-Join.left) (sourced_at c.in_ok-right-in-Join.right) (sourced_at made))
+    (λ (made : Sourced). is_place (tree_of c.args.plan) ≡ true → length (source_at made.source).ahead ≤ length (flat_map rows_of (first_batches c.args.tables.items)))
+    (λ (made : Sourced) joins place. absurd cc)
     c.join_source.ensures.joins

@@ -6,5 +6,5 @@ use Rattle.scan_exec.specs.Picking.{pick_of}
 use Rattle.scan_exec.proofs.grouped.feed_all.Given as goal
 
 -- those rows of the batches so far that the filters let through were fed
-abbrev pub invariant-loop-batch : goal.invariant-loop-batch
-invariant-loop-batch l = AreFed l.fn.groups (passing (pick_of l.picker) (flat_map rows_of (take l.batch-index l.batches))) l.groups
+abbrev pub invariant-loop-number : goal.invariant-loop-number
+invariant-loop-number l = AreFed l.fn.groups (passing (pick_of l.picker) (flat_map rows_of (take l.number l.batches))) l.groups

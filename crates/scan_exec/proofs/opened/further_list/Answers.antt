@@ -1,4 +1,4 @@
-use Rattle.std.proofs.Common.{◌+◌, ℕ, List, ◌++◌, map, length, ap, sym, ◌∙◌}
+use Rattle.std.proofs.Common.{◌+◌, ℕ, List, ◌++◌, map, ap, ◌∙◌}
 use Rattle.std.specs.List.{range_with_len}
 use Rattle.scan_exec.specs.Opened.{numbered_batches, further_batches}
 use Rattle.std.proofs.Common.{drop}

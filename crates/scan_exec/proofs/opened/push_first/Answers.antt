@@ -1,7 +1,7 @@
-use Rattle.std.proofs.Common.{◌≡◌, ◌≤◌, ◌<◌, ◌+◌, ℕ, List, [], ◌++◌, length, map, min, max, inl, inr, sym, ap, ◌∙◌, append-nil, arith}
+use Rattle.std.proofs.Common.{◌≤◌, ◌<◌, ◌+◌, ℕ, List, ◌++◌, length, map, min, max, inl, inr, sym, ap, ◌∙◌, append-nil, arith}
 use Rattle.table_versions.specs.Stored.{table_of}
 use Rattle.scan_exec.specs.Opened.{batches_in}
-use Rattle.scan_exec.proofs.Listing.{batch_is, start_next, start_few, low_next, pushed_more, none_opened, first_list, all_listed}
+use Rattle.scan_exec.proofs.Listing.{start_next, start_few, low_next, pushed_more, none_opened, first_list, all_listed}
 use Rattle.scan_exec.proofs.opened.push_first.Goals as goal
 
 pub returns-then-from-end-clause-batches : goal.returns-then-from-end-clause-batches

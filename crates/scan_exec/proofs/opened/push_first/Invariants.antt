@@ -1,4 +1,4 @@
-use Rattle.std.proofs.Common.{◌≡◌, ◌≤◌, ◌<◌, ◌⊎◌, ◌+◌, ◌-◌, ◌++◌, length, map, max, min}
+use Rattle.std.proofs.Common.{◌≡◌, ◌≤◌, ◌<◌, ◌⊎◌, ◌+◌, ◌-◌, ◌++◌, map, max, min}
 use Rattle.table_versions.specs.Standing.{rows_before}
 use Rattle.scan_exec.specs.Opened.{batches_in}
 use Rattle.scan_exec.proofs.opened.push_first.Given as goal

@@ -1,8 +1,8 @@
-use Rattle.std.proofs.Common.{◌≡◌, ◌<◌, ◌+◌, ℕ, List, [], length, refl, sym, ap, ◌∙◌, subst, arith}
+use Rattle.std.proofs.Common.{◌≡◌, ℕ, [], length, refl, sym, ap, ◌∙◌, subst, arith}
 use Rattle.join_batches.specs.Joiner.{JoinerAt, joined_types, joined_of, GivesJoined}
-use Rattle.scan_exec.specs.Joined.{joined_at, IsJoined, source_at}
-use Rattle.scan_exec.specs.Picking.{IsPick, pick_of, given_of_part}
-use Rattle.scan_exec.specs.Running.{RowsAt, FindsPiece, GoesOn, picked_of}
+use Rattle.scan_exec.specs.Joined.{joined_at, IsJoined}
+use Rattle.scan_exec.specs.Picking.{IsPick, pick_of}
+use Rattle.scan_exec.specs.Running.{RowsAt, FindsPiece, GoesOn}
 use Rattle.scan_exec.specs.declared.piece.Piece.{Piece}
 use Rattle.arrays.specs.Batch.{rows_of}
 use Rattle.scan_exec.specs.Picking.{given_numbered}

@@ -1,4 +1,4 @@
-use Rattle.std.proofs.Common.{◌≡◌, ◌+◌, ◌*◌, length}
+use Rattle.std.proofs.Common.{◌≡◌, ◌+◌, length}
 use Rattle.scan_exec.specs.Joined.{joined_at, IsJoined}
 use Rattle.scan_exec.specs.Picking.{pick_of, given_numbered}
 use Rattle.scan_exec.specs.Running.{GoesOn}

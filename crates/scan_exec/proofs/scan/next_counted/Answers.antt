@@ -1,4 +1,4 @@
-use Rattle.std.proofs.Common.{refl, inr, ap, arith}
+use Rattle.std.proofs.Common.{refl, inr, arith}
 use Rattle.scan_exec.specs.Answering.{GivesBatch, giving_at}
 use Rattle.scan_exec.proofs.Scanning.{batch_few}
 use Rattle.scan_exec.proofs.scan.next_counted.Goals as goal

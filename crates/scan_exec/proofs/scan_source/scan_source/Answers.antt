@@ -9,7 +9,8 @@ use Rattle.scan_exec.specs.Chosen.{are_within, numbers_at}
 use Rattle.scan_exec.specs.Picking.{PickAt, IsPick}
 use Rattle.scan_exec.specs.Placed.{Begins}
 use Rattle.scan_exec.specs.Running.{picked_of}
-use Rattle.scan_exec.proofs.BeginPick.{pick_with, numbers_within}
+use Rattle.scan_exec.proofs.Batched.{from_few}
+use Rattle.scan_exec.proofs.BeginPick.{numbers_within}
 use Rattle.scan_exec.proofs.BeginTree.{scan_begun, scan_pick, pick_is}
 use Rattle.scan_exec.proofs.Piecing.{place_of}
 use Rattle.std.proofs.lemmas.List.FromFn.{length-range_with_len}
@@ -67,3 +68,6 @@ returns-clause-begun c name =
     let begins = subst (λ (n : ℕ). Begins c.args.reading.from n c.new-cursor.result) range c.new-cursor.ensures.begins in
     subst (λ (p : PickAt). IsBegun (scan name table.schema c.args.columns.now) (table ∷ []) c.args.reading.from c.args.reading.to (picked_of p (place_of table c.new-cursor.result))) (sym pick)
     (scan_begun table c.args.columns.now c.args.reading.from c.args.reading.to c.rows.result c.requires kept.counted kept.storable.typed c.new-cursor.result begins name)
+
+pub returns-clause-few : goal.returns-clause-few
+returns-clause-few c = from_few 0 c.new-cursor.result.at c.new-cursor.result.to c.args.table.batches

@@ -1,7 +1,6 @@
-use Rattle.std.proofs.Common.{◌++◌, ◌∷◌, [], List, map, ap, sym, ◌∙◌, arith}
+use Rattle.std.proofs.Common.{◌++◌, ◌∷◌, [], List, ap, sym, ◌∙◌}
 use Rattle.arrow_schema.specs.declared.data_type.DataType.{DataType}
 use Rattle.arrow_schema.specs.declared.schema.Field.{Field}
-use Rattle.typed_plan.specs.Typed.{type_at, types_of}
 use Rattle.scan_exec.proofs.BeginTree.{types_more}
 use Rattle.scan_exec.proofs.scan_source.types_at.Goals as goal
 

@@ -1,4 +1,4 @@
-use Rattle.std.proofs.Common.{◌≡◌, true, None, Ok, refl, sym, subst, ◌∙◌}
+use Rattle.std.proofs.Common.{◌≡◌, true, Ok, refl, sym, subst, ◌∙◌}
 use Rattle.arrow_schema.specs.declared.schema.Schema.{Schema}
 use Rattle.fetch_stream.specs.Streams.{StreamAt}
 use Rattle.fetch_stream.specs.inside.Ahead.{schema_behind, rows_cut}

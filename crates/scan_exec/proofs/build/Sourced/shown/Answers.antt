@@ -17,8 +17,7 @@ invariant_of-result c =
     let columns = c.args.columns.now in
     let read = c.args.self.columns.items in
     let width = length (source_at c.args.self.source).types in
-    let items = items_are columns c.in_ok-shown.shown.items c.as_slice.result.now read c.in_ok-shown.ensures c.as_slice.ensures.value in
-    (
+    let items = items_are columns c.in_ok-shown.shown.items c.as_slice.result.now read c.in_ok-shown.ensures c.as_slice.ensures.value in (
       is.source,
       record {
         read = is.pick.read;

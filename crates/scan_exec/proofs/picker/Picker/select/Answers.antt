@@ -6,7 +6,7 @@ use Rattle.arrays.specs.Column.{ColumnAt}
 use Rattle.scan_base.specs.declared.predicate.Predicate.{Predicate}
 use Rattle.scan_base.specs.Predicate.{cell_in, names_only}
 use Rattle.scan_base.specs.View.{pred_of}
-use Rattle.scan_exec.specs.Picking.{holds, passes, cells_at, pick_of}
+use Rattle.scan_exec.specs.Picking.{holds, passes, pick_of}
 use Rattle.scan_exec.proofs.Passing.{all_named}
 use Rattle.scan_exec.proofs.Selecting.{chosen_more, chosen_same, chosen_below}
 use Rattle.scan_exec.proofs.picker.Picker.select.Goals as goal

@@ -1,7 +1,7 @@
-use Rattle.std.proofs.Common.{◌≡◌, ◌≤◌, [], ap, sym, ◌∙◌, subst, arith}
+use Rattle.std.proofs.Common.{◌≡◌, [], ◌∙◌, subst, arith}
 use Rattle.std.proofs.lemmas.Result.{err_from_is_err_and}
 use Rattle.table_versions.specs.Stored.{TableAt}
-use Rattle.scan_exec.specs.Picking.{Picks, pick_of, given_of_part}
+use Rattle.scan_exec.specs.Picking.{pick_of, given_of_part}
 use Rattle.scan_exec.specs.Running.{GoesOn, FindsPiece, Ends, picked_of}
 use Rattle.scan_exec.proofs.Piecing.{place_of, goes, over, found, ends_is}
 use Rattle.scan_exec.proofs.place.PlaceRows.next.Goals as goal
