@@ -18,6 +18,7 @@ came, the time and the most memory that the program held, and ends with 1 where 
 import argparse
 import os
 import pathlib
+import signal
 import subprocess
 import sys
 import tempfile
@@ -146,7 +147,7 @@ def read_answer(stream, answer):
         message = stream.read(int.from_bytes(stream.read(5)[1:], "big"))
         if answer is not None:
             answer.add(message)
-    demand(kind == b"\x04", f"a record of kind {kind.hex()}")
+    demand(kind == b"\x04", f"a record of kind {kind.hex()}" if kind else "no answer")
     stream.read(1)
     return stream.read(int.from_bytes(stream.read(2), "big")).decode()
 
@@ -180,7 +181,7 @@ def measure(case, path, folder):
             total, said = look(case, child.stdout)
         except Wrong as wrong:
             why = str(wrong)
-            child.kill()
+            os.kill(child.pid, signal.SIGKILL)
         _, status, usage = os.wait4(child.pid, 0)
         child.returncode = os.waitstatus_to_exitcode(status)
     seconds, held = time.monotonic() - start, usage.ru_maxrss * 1024 / 1e6

@@ -13,6 +13,7 @@ the program first, as for `pipe.py`.
 import argparse
 import os
 import pathlib
+import signal
 import subprocess
 import sys
 import tempfile
@@ -94,7 +95,7 @@ def main():
                 look(child.stdout, words.groups)
             except Wrong as wrong:
                 why = str(wrong)
-                child.kill()
+                os.kill(child.pid, signal.SIGKILL)
             _, status, usage = os.wait4(child.pid, 0)
             child.returncode = os.waitstatus_to_exitcode(status)
     seconds, held = time.monotonic() - start, usage.ru_maxrss * 1024 / 1e6
