@@ -75,6 +75,36 @@ past k from to n i (batch ∷ front) rest e h place =
     (past (k + 1) (from - batch.rows) (to - batch.rows) m i front rest refl (omega (arith, e, long, h)) (omega (arith, place))
     ∙ ap (λ (a : ℕ). numbered_from i a (to - batch.rows - m) rest) one ∙ ap (λ (b : ℕ). numbered_from i (from - n) b rest) other)
 
+same_at : (i a b c x y z : ℕ) (batch : BatchAt) (behind : List BatchAt) → x ≡ a → y ≡ b → z ≡ c →
+    map (λ row. (i, row)) (rows_between x z (rows_of batch)) ++ numbered_from (i + 1) y (z - batch.rows) behind
+    ≡ map (λ row. (i, row)) (rows_between a c (rows_of batch)) ++ numbered_from (i + 1) b (c - batch.rows) behind
+same_at i a b c x y z batch behind e f g = rw (e, f, g) refl
+
+-- a range that begins in a batch
+in_batch : (from to start i a b c : ℕ) (batches : List BatchAt) (batch : BatchAt) → slice_get batches i ≡ Some batch → i < length batches →
+    start ≡ rows_before batches i → start ≤ from → from - start ≡ a → from - start - batch.rows ≡ b → to - start ≡ c →
+    numbered_from 0 from to batches
+    ≡ map (λ row. (i, row)) (rows_between a c (rows_of batch)) ++ numbered_from (i + 1) b (c - batch.rows) (drop (i + 1) batches)
+in_batch from to start i a b c batches batch there within s low e f g =
+    let split = split_at batches i batch there in
+    let before = length-take-le i batches (omega (arith, within)) in
+    let whole : take i batches ++ (batch ∷ drop (i + 1) batches) ≡ batches =
+    ap (λ (some : List BatchAt). take i batches ++ some) (sym split.0) ∙ take-append-drop i batches in
+    ap (numbered_from 0 from to) (sym whole)
+    ∙ past 0 from to start i (take i batches) (batch ∷ drop (i + 1) batches) s low (omega (arith, before))
+    ∙ same_at i a b c (from - start) (from - start - batch.rows) (to - start) batch (drop (i + 1) batches) e f g
+
+-- the rows of a range are its first ones and then the others
+cut_next : (i a b c : ℕ) (rows first : List Row) (rest : List (ℕ × Row)) → a ≤ b → b ≤ c → first ≡ rows_between a b rows →
+    map (λ row. (i, row)) (rows_between a c rows) ++ rest
+    ≡ map (λ row. (i, row)) first ++ (map (λ row. (i, row)) (rows_between b c rows) ++ rest)
+cut_next i a b c rows first rest low high r =
+    let with_number : Row → ℕ × Row = λ row. (i, row) in
+    ap (λ (some : List Row). map with_number some ++ rest)
+    (between_parts a b c rows low high ∙ ap (λ (one : List Row). one ++ rows_between b c rows) (sym r))
+    ∙ ap (λ (some : List (ℕ × Row)). some ++ rest) (map-append with_number first (rows_between b c rows))
+    ∙ append_assoc (map with_number first) (map with_number (rows_between b c rows)) rest
+
 -- the first rows of what is left of a batch are next
 pub rows_next : (from to start i : ℕ) (batches : List BatchAt) (batch : BatchAt) → slice_get batches i ≡ Some batch → i < length batches →
     start ≡ rows_before batches i → start ≤ from → from < start + batch.rows →
@@ -82,28 +112,9 @@ pub rows_next : (from to start i : ℕ) (batches : List BatchAt) (batch : BatchA
     (rows : List Row) → rows ≡ rows_between (from - start) last (rows_of batch) →
     numbered_from 0 from to batches ≡ map (λ row. (i, row)) rows ++ numbered_from 0 (start + last) to batches
 rows_next from to start i batches batch there within s low high last l more rows r =
-    let split = split_at batches i batch there in
-    let front = take i batches in
-    let behind = drop (i + 1) batches in
-    let before : length front ≡ i = length-take-le i batches (omega (arith, within)) in
-    let whole : front ++ (batch ∷ behind) ≡ batches = ap (λ (some : List BatchAt). front ++ some) (sym split.0) ∙ take-append-drop i batches in
-    let to_here = λ (at : ℕ) (h : start ≤ at). ap (numbered_from 0 at to) (sym whole)
-    ∙ past 0 at to start i front (batch ∷ behind) s h (omega (arith, before)) in
-    let a = from - start in
     let c = to - start in
-    let with_rows : List Row → List (ℕ × Row) = λ some. map (λ row. (i, row)) some in
-    let rest = numbered_from (i + 1) 0 (c - batch.rows) behind in
-    let here : a - batch.rows ≡ 0 = omega (arith, high) in
-    let next : start + last - start ≡ last = omega arith in
-    let later : last - batch.rows ≡ 0 = omega (arith, l) in
-    let after : numbered_from 0 (start + last) to batches ≡ with_rows (rows_between last c (rows_of batch)) ++ rest =
-    to_here (start + last) (omega arith)
-    ∙ ap (λ (n : ℕ). with_rows (rows_between n c (rows_of batch)) ++ numbered_from (i + 1) (n - batch.rows) (c - batch.rows) behind) next
-    ∙ ap (λ (n : ℕ). with_rows (rows_between last c (rows_of batch)) ++ numbered_from (i + 1) n (c - batch.rows) behind) later in
-    let cut = between_parts a last c (rows_of batch) (omega (arith, l, high, low, more)) (omega (arith, l)) in
-    to_here from low
-    ∙ ap (λ (n : ℕ). with_rows (rows_between a c (rows_of batch)) ++ numbered_from (i + 1) n (c - batch.rows) behind) here
-    ∙ ap (λ (some : List Row). with_rows some ++ rest) (cut ∙ ap (λ (one : List Row). one ++ rows_between last c (rows_of batch)) (sym r))
-    ∙ ap (λ (some : List (ℕ × Row)). some ++ rest) (map-append (λ row. (i, row)) rows (rows_between last c (rows_of batch)))
-    ∙ append_assoc (with_rows rows) (with_rows (rows_between last c (rows_of batch))) rest
-    ∙ ap (λ (some : List (ℕ × Row)). with_rows rows ++ some) (sym after)
+    let rest = numbered_from (i + 1) 0 (c - batch.rows) (drop (i + 1) batches) in
+    in_batch from to start i (from - start) 0 c batches batch there within s low refl (omega (arith, high)) refl
+    ∙ cut_next i (from - start) last c (rows_of batch) rows rest (omega (arith, l, high, low, more)) (omega (arith, l)) r
+    ∙ ap (λ (some : List (ℕ × Row)). map (λ row. (i, row)) rows ++ some)
+    (sym (in_batch (start + last) to start i last 0 c batches batch there within s (omega arith) (omega arith) (omega (arith, l)) refl))

@@ -1,4 +1,4 @@
-use Rattle.std.proofs.Common.{◌++◌, ◌∷◌, [], ℕ, List, length, map, get_or, take, slice_index, ap, sym, ◌∙◌}
+use Rattle.std.proofs.Common.{◌≡◌, ◌+◌, ◌<◌, ◌++◌, ◌∷◌, [], ℕ, List, length, map, get_or, take, slice_index, ap, sym, ◌∙◌}
 use Rattle.std.proofs.lemmas.List.{map-append, take_more}
 use Rattle.typed_plan.specs.Typed.{has_columns}
 use Rattle.scan_exec.specs.Chosen.{are_within}
@@ -13,13 +13,16 @@ bounds-numbers-place c =
     (ap (are_within width) c.as_slice-place-items.ensures ∙ sym (ap (has_columns width) c.in-These.is) ∙ c.requires)
     c.loop-place-test.true
 
+-- one number more
+one_more : (numbers places before after : List ℕ) (i : ℕ) → i < length places → before ≡ map (slice_index numbers) (take i places) →
+    after ≡ before ++ slice_index numbers (get_or places i 0) ∷ [] → after ≡ map (slice_index numbers) (take (i + 1) places)
+one_more numbers places before after i h is pushed =
+    let place = get_or places i 0 in
+    pushed
+    ∙ ap (λ (some : List ℕ). some ++ slice_index numbers place ∷ []) is
+    ∙ sym (ap (map (slice_index numbers)) (take_more places i 0 h) ∙ map-append (slice_index numbers) (take i places) (place ∷ []))
+
 pub loop-place-preserved : goal.loop-place-preserved
 loop-place-preserved c =
-    let numbers = c.args.numbers.now in
-    let items = c.as_slice-place-items.result.now in
-    let i = c.loop-place.place-index in
-    let place = get_or items i 0 in
-    c.in_ok-push-in-These.ensures.items
-    ∙ ap (λ (some : List ℕ). some ++ slice_index numbers place ∷ []) c.loop-place.invariant
-    ∙ sym (map-append (slice_index numbers) (take i items) (place ∷ []))
-    ∙ sym (ap (map (slice_index numbers)) (take_more items i 0 c.loop-place-test.true))
+    one_more c.args.numbers.now c.as_slice-place-items.result.now c.loop-place.picked.items c.push.new.self.items c.loop-place.place-index
+    c.loop-place-test.true c.loop-place.invariant c.in_ok-push-in-These.ensures.items
