@@ -461,7 +461,15 @@ fn refused_command_lines(rt: HostRuntime) -> Result<(), Fail> {
         let mut writer = MemoryOutput::new(rt.alloc()).failing_after(0);
         let mut faults = MemoryOutput::new(rt.alloc());
         let seed = HashSeed::new(&rt)?;
-        let status = run(rt.alloc(), seed, &words, &mut reader, &mut writer, &mut faults).number();
+        let status = run(
+            rt.alloc(),
+            seed,
+            &words,
+            &mut reader,
+            &mut writer,
+            &mut faults,
+        )
+        .number();
         assert!(rt; status == 2);
         assert!(rt; reader.failures() == 0 && writer.failures() == 0);
         assert!(rt; faults.as_slice().starts_with(text));
@@ -476,7 +484,15 @@ fn the_command_pipe(rt: HostRuntime) -> Result<(), Fail> {
     let mut writer = MemoryOutput::new(rt.alloc());
     let mut faults = MemoryOutput::new(rt.alloc());
     let seed = HashSeed::new(&rt)?;
-    let status = run(rt.alloc(), seed, &words, &mut reader, &mut writer, &mut faults).number();
+    let status = run(
+        rt.alloc(),
+        seed,
+        &words,
+        &mut reader,
+        &mut writer,
+        &mut faults,
+    )
+    .number();
     assert!(rt; status == 0);
     assert!(rt; writer.as_slice() == PUT_ANSWER);
     assert!(rt; faults.as_slice() == NOTHING);

@@ -9,8 +9,8 @@ use crate::answer::{write_answer, write_last_status};
 use crate::call::{Arrival, read_call};
 use crate::setting::Options;
 use flight_core::Plain;
-use hash_seed::HashSeed;
 use grpc_frame::{Inbox, Input, Outbox, Output};
+use hash_seed::HashSeed;
 use scan_base::Fault;
 use std::alloc::Global;
 

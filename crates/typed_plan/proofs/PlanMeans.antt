@@ -60,9 +60,10 @@ are_there database earlier (place ∷ places) e =
     let parts = then_none (place_fault database earlier place)
     (places_fault database (earlier ++ place_name place ∷ []) places) e in
     let own = then_none (must (is_some (table_at database place.table)) TableMissing)
-    (must (not (list_any (bytes_eq (place_name place)) earlier)) UnknownName) parts.0 in
-    (there (is_some (table_at database place.table)) own.0,
-        are_there database (earlier ++ place_name place ∷ []) places parts.1)
+    (must (not (list_any (bytes_eq (place_name place)) earlier)) UnknownName) parts.0 in (
+      there (is_some (table_at database place.table)) own.0,
+      are_there database (earlier ++ place_name place ∷ []) places parts.1,
+    )
   where
     there : (is_there : Bool) → must is_there TableMissing ≡ None → is_there ≡ true
     there true f = refl
@@ -97,7 +98,7 @@ plan_over query database is =
     let all = are_there database [] (query.first ∷ map (λ join. join.place) query.joins) is.places in
     where_over (numbered_filter (scope_of query database) query.filter) (from_tree query database) database
     (joins_over database (place_columns database query.first) (place_tree database query.first) query.joins
-        (place_over database query.first all.0) all.1)
+    (place_over database query.first all.0) all.1)
 
 -- ---- the plan
 

@@ -155,8 +155,8 @@ key_found scope row number (name ∷ names) e =
   where
     at : (here : Bool) → (numbered scope name == number) ≡ here →
         (list_any (λ name. number == numbered scope name) names ≡ true →
-            cell_in (map (cell_of scope row) names) (key_place (map (numbered scope) names) number)
-            ≡ cell_in row number) →
+        cell_in (map (cell_of scope row) names) (key_place (map (numbered scope) names) number)
+        ≡ cell_in row number) →
         cell_in (map (cell_of scope row) (name ∷ names))
         (if here then 0 else 1 + key_place (map (numbered scope) names) number) ≡ cell_in row number
     at true is later = ap (cell_in row) (eqb-true (numbered scope name) number is)
@@ -174,6 +174,7 @@ column_is_key query scope name grouped e = named (column_of scope name) e
     allowed true f = refl
     allowed false f =
         let refused = ap (λ grouped. must (not grouped || false) NotInSubset) (sym grouped) ∙ f in cc
+
     named : (meant : Result ℕ Fault) →
         found meant (λ number. must (may_select query scope number) NotInSubset) ≡ None →
         list_any (λ other. number_in meant == numbered scope other) query.group_by ≡ true
@@ -257,7 +258,7 @@ output_is query scope rows e = at (is_grouped query) refl
     at : (grouped : Bool) → is_grouped query ≡ grouped →
         output_rows
         (if grouped then Groups (map (numbered scope) query.group_by)
-            (aggregates scope (map (numbered scope) query.group_by) query.select)
+        (aggregates scope (map (numbered scope) query.group_by) query.select)
         else Project (chosen scope query.select)) rows
         ≡ (if grouped then map (summed scope query.select) (groups_of scope query.group_by rows)
         else map (selected scope query.select) rows)
@@ -267,8 +268,8 @@ output_is query scope rows e = at (is_grouped query) refl
         ap (map answer) (groups_are scope query.group_by rows)
         ∙ map_agree answer (summed scope query.select) (groups_of scope query.group_by rows)
         (all_mapped (HasKeyOf scope query.group_by) (λ group. answer group ≡ summed scope query.select group)
-            (λ group has. group_is query scope query.select group is e has) (groups_of scope query.group_by rows)
-            (groups_have scope query.group_by rows))
+        (λ group has. group_is query scope query.select group is e has) (groups_of scope query.group_by rows)
+        (groups_have scope query.group_by rows))
     at false is =
         taken_are scope query.select rows
         (or_parts (has_aggregate query.select) (not (length query.group_by == 0)) is).0

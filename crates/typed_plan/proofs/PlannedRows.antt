@@ -74,7 +74,7 @@ key_is seam one other row = ordered (nat_lt one seam)
   where
     ordered : (earlier : Bool) →
         (let key : JoinKey =
-            if earlier then record { left = one; right = other } else record { left = other; right = one } in
+        if earlier then record { left = one; right = other } else record { left = other; right = one } in
         are_equal row key.left key.right) ≡ are_equal row one other
     ordered true = refl
     ordered false = equal_both_ways (cell_in row other) (cell_in row one)
@@ -102,7 +102,7 @@ join_is scope seam on lefts rights =
     flat_map_agree (λ left. filter (fits (keys_of seam scope on)) (map (λ right. left ++ right) rights))
     (extensions scope on rights)
     (λ left. filter_agree (fits (keys_of seam scope on)) (fits_on scope on) (on_is scope seam on)
-        (map (λ right. left ++ right) rights))
+    (map (λ right. left ++ right) rights))
     lefts
 
 -- the joins of a tree give the rows after these joins
@@ -175,4 +175,4 @@ rows_are query database a b =
     where_are scope query.filter (from_tree query database) database (rows_between a b)
     ∙ ap (filter (passes scope query.filter))
     (joins_are database (place_columns database query.first) (place_tree database query.first) query.joins
-        (rows_between a b))
+    (rows_between a b))
