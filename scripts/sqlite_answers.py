@@ -49,7 +49,7 @@ from random_calls.plain_model import Column, Database, Put, Row, Table, after, c
 from random_calls.puts import TREES, ingest, messages_of, stream_of  # noqa: E402
 from reader import Fault, Reader  # noqa: E402
 
-SECONDS = 60  # that one program may take
+SECONDS = 300  # that one program may take
 TABLES = ["t", "u", "a b", "select", "\u00e9"]
 COLUMNS = ["a", "b", "c", "k", "order", "a b", "\u00e9\"", "_1"]
 COUNTS = [0, 1, 2, 4, 6, 8, 12]  # of a put's rows; of a large one as many times more
