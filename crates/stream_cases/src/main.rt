@@ -14,11 +14,7 @@ fn push_hex(alloc: Global, line: &mut String, part: &Bytes) -> Result<(), AllocE
     line.push_str(&digits)
 }
 
-fn push_message(
-    alloc: Global,
-    line: &mut String,
-    message: &IpcMessage,
-) -> Result<(), AllocError> {
+fn push_message(alloc: Global, line: &mut String, message: &IpcMessage) -> Result<(), AllocError> {
     line.push(' ')?;
     push_hex(alloc, line, &message.header)?;
     line.push('/')?;
