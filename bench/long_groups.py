@@ -12,7 +12,6 @@ the program first, as for `pipe.py`.
 
 import argparse
 import os
-import pathlib
 import signal
 import subprocess
 import sys
