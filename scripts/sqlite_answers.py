@@ -21,7 +21,7 @@ It ends with 1 at the first difference, and prints the query and both answers. I
 with 3.40), and the program is built as for bench/pipe.py.
 
 What it found: no difference. 2,000 databases with 11,074 queries, of which 6,245 had joins and 3,422 groups, and 16,798
-endpoints, on a program built with checks before its proofs were whole.
+endpoints, on the proved program.
 """
 
 from __future__ import annotations
