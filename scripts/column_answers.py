@@ -10,6 +10,10 @@ is written anew from those values. It shares nothing with the program.
 
 A line `Built Int64 65 3` has a column that is built of 65 values of a rule, every third of them null, and none where the
 last word is 0. Under a null of fixed width such a column has zeros.
+
+A line `Slots 5 20 Int8 9 ..` has a column of 40 slots of the column that stands behind it: for each of 20 turns one of all
+its slots and one of those that are kept, the next turn's five further on, and from the front again behind the last. Under
+a null of fixed width it has zeros, and where the column has a dictionary it is one of texts.
 """
 
 import sys
@@ -154,21 +158,38 @@ RULES = {
 }
 
 
+def anew(kind, slots):
+    """The buffers of slots, with zeros under the nulls."""
+    if kind == "Utf8":
+        return written(kind, "-", "-", range(len(slots)), slots)
+    bitmap = packed([slot is not None for slot in slots]) if None in slots else b""
+    if kind == "Bool":
+        return [bitmap, packed([slot or False for slot in slots])]
+    signed = not kind.startswith("U")
+    return [bitmap, b"".join((slot or 0).to_bytes(WIDTHS[kind], "little", signed=signed) for slot in slots)]
+
+
 def built(kind, count, nulls):
     """The slots of a column that is built, and its buffers."""
     slots = [None if nulls and place % nulls == nulls - 1 else RULES[kind](place) for place in range(count)]
-    if kind == "Utf8":
-        return slots, written(kind, "-", "-", range(count), slots)
-    bitmap = packed([slot is not None for slot in slots]) if None in slots else b""
-    if kind == "Bool":
-        return slots, [bitmap, packed([slot or False for slot in slots])]
-    return slots, [bitmap, b"".join((slot or 0).to_bytes(WIDTHS[kind], "little", signed=True) for slot in slots)]
+    return slots, anew(kind, slots)
+
+
+def picked(step, turns, kind, count, validity, values, behind, first, to):
+    """The slots of all turns, and their buffers."""
+    whole = slots_of(kind, int(count), validity, values, behind)
+    kept = whole[int(first):int(to)]
+    slots = [part[step * turn % len(part)] for turn in range(turns) for part in (whole, kept)]
+    return slots, anew(kind if behind == "-" or kind == "Utf8" else "Utf8", slots)
 
 
 def answer(line):
     if line.startswith("Built "):
         _, kind, count, nulls = line.split()
         return told(*built(kind, int(count), int(nulls)))
+    if line.startswith("Slots "):
+        _, step, turns, *words = line.split()
+        return told(*picked(int(step), int(turns), *words))
     kind, count, validity, values, behind, first, to, *step = line.split()
     places = range(int(first), int(to), int(step[0]) if step else 1)
     try:

@@ -326,14 +326,15 @@ def fetches():
     fetch(ticket(1, 0, 4, "SELECT a, a FROM t WHERE a = 1;"), f"{A}{A} 1,1;")
     fetch(ticket(1, 0, 1, "SELECT a AS b FROM t"), "b Integer(Int64) or null; 1;")
     fetch(ticket(1, 0, 1, 'SELECT a, a AS "A" FROM t'), f"{A}A Integer(Int64) or null; 1,1;")
-    for (begin, end), query in [
-            *(((0, 4), query) for query in [
-                "", "SELECT a FROM", "SELECT a FROM t,", "SELECT a FROM t ORDER BY a", "SELECT a FROM t WHERE a =", "SELECT a,, b FROM t",
-                "SELECT a FROM t WHERE a BETWEEN 1 2", "SELECT a FROM t WHERE a + 1 = 2", "SELECT a FROM t WHERE 'x", "SELECT a FROM t;;",
-                "SELECT a FROM t WHERE a = --1", "SELECT a FROM t WHERE a", "SELECT * FROM u", "SELECT b FROM t", "SELECT A FROM t",
-                "SELECT a FROM t WHERE a = 'x'", "SELECT COUNT(*) FROM t", "SELECT t.a FROM t JOIN t u ON t.a = u.a"]),
-            ((2, 1), "SELECT a FROM t"), ((0, 5), "SELECT a FROM t WHERE a = 1")]:
-        fetch(ticket(1, begin, end, query), "F17")
+    for query in ["", "SELECT a FROM", "SELECT a FROM t,", "SELECT a FROM t ORDER BY a", "SELECT a FROM t WHERE a =", "SELECT a,, b FROM t",
+                  "SELECT a FROM t WHERE a BETWEEN 1 2", "SELECT a FROM t WHERE a + 1 = 2", "SELECT a FROM t WHERE 'x", "SELECT a FROM t;;",
+                  "SELECT a FROM t WHERE a = --1", "SELECT a FROM t WHERE a", "SELECT * FROM u", "SELECT b FROM t", "SELECT A FROM t",
+                  "SELECT a FROM t WHERE a = 'x'"]:
+        fetch(ticket(1, 0, 4, query), "F17")
+    fetch(ticket(1, 0, 4, "SELECT COUNT(*) FROM t"), "col1 Integer(Int64); 4;")
+    fetch(ticket(1, 0, 4, "SELECT t.a FROM t JOIN t u ON t.a = u.a"), f"{A} 1;2;2;2;2;")
+    fetch(ticket(1, 2, 1, "SELECT a FROM t"), "F17")
+    fetch(ticket(1, 0, 5, "SELECT a FROM t WHERE a = 1"), "F17")
     long_queries()
     other_queries()
 

@@ -4,6 +4,16 @@ reads back.
 t      two nullable columns of Int64, a and b, in three batches of two rows
 types  a column of every type, in six rows
 large  a column of every type, in 70,000 rows, of which all but two are the same
+
+and some of few rows for joins and groups:
+
+p, q    a nullable column a of Int64
+least   a column a of Int8, of which each row has the least number
+most    a column a of UInt64, of which each row has the greatest number
+nulls   a nullable column a of Int64, in two rows; none  the same, of no rows
+words   a nullable column s of texts and a column a of Int64
+twice   a column c of a dictionary in which one text stands twice
+pairs   two columns of Int64, a and i
 """
 import json
 import pathlib
@@ -106,6 +116,37 @@ def many_rows():
     return "large", columns, [(schema(*fields(columns)), b""), entries, rows]
 
 
+def few_rows(name, *columns):
+    """The put of a table without a dictionary."""
+    count = len(columns[0][2])
+    return name, columns, [(schema(*fields(columns)), b""), batch(count, *(column(of, values, []) for _, of, values in columns))]
+
+
+def no_rows(name, column_name, of):
+    """The put of a table of one nullable column and no rows."""
+    return name, [(column_name, of, [])], [(schema(field(column_name, of, True)), b""), batch(0, column(of, [], []))]
+
+
+def one_text_twice():
+    """The put of `twice`."""
+    columns = [("c", None, ["x", "x"])]
+    entries = dictionary(7, batch(2, (0, b"", *texts_of(["x", "x"]))))
+    return "twice", columns, [(schema(*fields(columns)), b""), entries, batch(2, column(None, ["x", "x"], [0, 1]))]
+
+
+def for_joins_and_groups():
+    i64 = integer(64, True)
+    yield few_rows("p", ("a", i64, [1, None, 1]))
+    yield few_rows("q", ("a", i64, [1, 1, None]))
+    yield few_rows("least", ("a", integer(8, True), [-128, -128]))
+    yield few_rows("most", ("a", integer(64, False), [2**64 - 1, 2**64 - 1]))
+    yield few_rows("nulls", ("a", i64, [None, None]))
+    yield no_rows("none", "a", i64)
+    yield few_rows("words", ("s", UTF8, ["b", None, "a", None, "b"]), ("a", i64, [1, 2, 3, 4, 5]))
+    yield one_text_twice()
+    yield few_rows("pairs", ("a", i64, [1, 1]), ("i", i64, [10, 20]))
+
+
 def hexed(data):
     """Hexadecimal digits, in which what is repeated is written once behind its number."""
     found, place = "", 0
@@ -142,4 +183,4 @@ def put(name, columns, messages):
 
 
 def puts():
-    return [put(*one) for one in [*two_columns(), six_rows(), many_rows()]]
+    return [put(*one) for one in [*two_columns(), six_rows(), many_rows(), *for_joins_and_groups()]]

@@ -359,13 +359,41 @@ CLASHES = [
     "SELECT a FROM t WHERE a = 1 AND (b = 1 OR a = 'x') AND z = 1",
 ]
 
-# Until joins and groups are built these are left out, before all else.
-UNBUILT = [
-    "SELECT COUNT(*) FROM t",
-    "SELECT z, SUM(z) FROM u WHERE z = 'x'",
-    "SELECT a FROM t WHERE a = 'x' GROUP BY z",
-    "SELECT z FROM u GROUP BY a",
-    "SELECT z FROM u JOIN u ON z = z",
+# Rows of joins and of groups. A null is equal to nothing in a join, and to a null in a key. Rows that are joined come in the
+# order of nested loops, and groups in that of their first rows. A sum is exact, however large.
+JOINED_OR_GROUPED = [
+    ("SELECT * FROM p JOIN q ON p.a = q.a", [(1, 1)] * 4),
+    ("SELECT * FROM p JOIN none ON p.a = none.a", []),
+    ("SELECT * FROM none JOIN p ON p.a = none.a", []),
+    ("SELECT x.i, y.i FROM pairs AS x JOIN pairs AS y ON x.a = y.a", [(10, 10), (10, 20), (20, 10), (20, 20)]),
+    ("SELECT x.i, y.i FROM pairs x JOIN pairs y ON y.a = x.a AND x.i = y.i", [(10, 10), (20, 20)]),
+    ("SELECT x.i, y.i FROM pairs x JOIN pairs y ON x.a = y.a WHERE x.i < y.i", [(10, 20)]),
+    ("SELECT x.a, y.i, z.i FROM q x JOIN pairs y ON x.a = y.a JOIN pairs z ON y.i = z.i", [(1, 10, 10), (1, 20, 20)] * 2),
+    ("SELECT COUNT(*) FROM t", [6]),
+    ("SELECT SUM(a) FROM least", [-256]),
+    ("SELECT SUM(a) FROM most", [36893488147419103230]),
+    ("SELECT COUNT(*), COUNT(a), SUM(a) FROM nulls", [(2, 0, None)]),
+    ("SELECT COUNT(*), COUNT(a), SUM(a) FROM none", [(0, 0, None)]),
+    ("SELECT COUNT(*) FROM none GROUP BY a", []),
+    ("SELECT s, COUNT(*) FROM words GROUP BY s", [("'b'", 2), (None, 2), ("'a'", 1)]),
+    ("SELECT SUM(a), COUNT(s) FROM words WHERE a > 1 GROUP BY s", [(6, 0), (3, 1), (5, 1)]),
+    ("SELECT c, COUNT(*) FROM twice GROUP BY c", [("'x'", 2)]),
+]
+
+# The table comes first, then ON, WHERE, GROUP BY and the list.
+OF_JOINS_AND_GROUPS = [
+    (MISSING, "SELECT z, SUM(z) FROM u WHERE z = 'x'"),
+    (MISSING, "SELECT z FROM u GROUP BY a"),
+    (MISSING, "SELECT z FROM u JOIN u ON z = z"),
+    (NAME, "SELECT a FROM p JOIN q ON p.a = q.a"),
+    (NAME, "SELECT t.a FROM t JOIN t ON t.a = t.a"),
+    (NAME, "SELECT a FROM t GROUP BY z"),
+    (CLASH, "SELECT a FROM t WHERE a = 'x' GROUP BY z"),
+    (CLASH, "SELECT SUM(s) FROM words"),
+    (CLASH, "SELECT p.a FROM p JOIN words ON p.a = words.s"),
+    (LEFT_OUT, "SELECT p.a FROM p JOIN q ON p.a = p.a"),
+    (LEFT_OUT, "SELECT s, COUNT(*) FROM words GROUP BY a"),
+    (LEFT_OUT, "SELECT COUNT(*) FROM p JOIN q ON p.a = q.a"),
 ]
 
 # The columns a and b of a range of the rows of `t`, how many batches are given, and of how many that are opened.
@@ -387,11 +415,20 @@ RANGES = [
     (0, 3, "SELECT a FROM t WHERE a NOT IN (1)", [3], 1, 2),
     (0, 3, "SELECT a FROM t WHERE (a = 1) IS UNKNOWN", [None], 1, 2),
     (2, 3, "SELECT a FROM t WHERE a NOT IN (1, b)", [], 0, 1),
+    # of a join the other place is opened whole
+    (0, 1, "SELECT x.i, y.i FROM pairs AS x JOIN pairs AS y ON x.a = y.a", [(10, 10), (10, 20)], 1, 2),
+    (1, 2, "SELECT x.i, y.i FROM pairs AS x JOIN pairs AS y ON x.a = y.a", [(20, 10), (20, 20)], 1, 2),
 ]
 
 # The columns of a result: names as they are written, the types of answers, and whether they may be null.
 COLUMNS = [
     ("SELECT b AS c FROM t WHERE a > 5", "c Integer(Int64) true;"),
+    (
+        "SELECT COUNT(*), COUNT(a), SUM(a) FROM nulls",
+        "col1 Integer(Int64) false;col2 Integer(Int64) false;col3 Decimal128 true;",
+    ),
+    ("SELECT s, COUNT(*) AS n FROM words GROUP BY s", "s Utf8 true;n Integer(Int64) false;"),
+    ("SELECT * FROM p JOIN q ON p.a = q.a", "a Integer(Int64) true;a Integer(Int64) true;"),
     ('SELECT a AS "x""y", a "Ab", b Cd FROM t', 'x"y Integer(Int64) true;Ab Integer(Int64) true;Cd Integer(Int64) true;'),
     (
         "SELECT * FROM types",
@@ -432,7 +469,7 @@ def refused():
     yield "rows SELECT * FROM T", MISSING
     yield from ((f"rows {query}", NAME) for query in UNKNOWN_NAMES)
     yield from ((f"rows {query}", CLASH) for query in CLASHES)
-    yield from ((f"rows {query}", LEFT_OUT) for query in UNBUILT)
+    yield from ((f"rows {query}", fault) for fault, query in OF_JOINS_AND_GROUPS)
     yield from ((f"rows SELECT k FROM types WHERE {predicate}", CLASH) for predicate in CLASHES_OF_TYPES)
 
 
@@ -461,6 +498,7 @@ def cases():
             yield from (rows("SELECT k FROM types WHERE " + filled(predicate, one), wanted) for predicate, wanted in predicates)
     for predicate, wanted in NUMBERS + TEXTS + TRUTH_VALUES:
         yield rows(f"SELECT k FROM types WHERE {predicate}", wanted)
+    yield from (rows(query, wanted) for query, wanted in JOINED_OR_GROUPED)
     yield from ((f"columns {query}", wanted) for query, wanted in COLUMNS)
     yield from refused()
     yield from large()

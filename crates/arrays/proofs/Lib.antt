@@ -25,5 +25,6 @@ mod Gathered
 mod GatheredTexts
 mod ValidSlots
 mod GatheredValues
-mod BuiltSlots
-mod BuiltTexts
+pub mod Fitting
+mod FilledSlots
+mod Textless

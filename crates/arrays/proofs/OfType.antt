@@ -50,7 +50,7 @@ utf8_text (Text bytes) is = is
 utf8_text (Bool flag) is = absurd is
 utf8_text (Int number) is = absurd is
 
-of_type : (data_type : DataType) (known : Layout) (first len : ℕ) → IsColumn (record { layout = known; first = first; len = len }) → IsOfType data_type known →
+pub of_type : (data_type : DataType) (known : Layout) (first len : ℕ) → IsColumn (record { layout = known; first = first; len = len }) → IsOfType data_type known →
     (j : ℕ) → j < len → IsValueOf data_type (slot_of (record { layout = known; first = first; len = len }) j)
 of_type (type.Integer integer) (layout.Integers cells) first len stands of j low =
     slot_is (type.Integer integer) cells.validity (λ at. Int (integer_at cells.integer cells.values at)) (first + j) tt (rw (← of) (integer_in cells.integer cells.values (first + j) stands.stands.bytes))

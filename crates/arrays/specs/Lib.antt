@@ -16,3 +16,4 @@ pub mod Typed
 pub mod Nulls
 pub mod Written
 pub mod inside
+pub mod OfSlots

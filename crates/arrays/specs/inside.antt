@@ -4,6 +4,6 @@ pub mod Nulls
 pub mod Placed
 pub mod Runs
 pub mod Gathered
-pub mod Built
 pub mod TextCuts
 pub mod Slots
+pub mod Filled

@@ -150,7 +150,7 @@ impl Column {
     }
 
     // The bytes of a slot's text, and none where it holds no text.
-    fn text_at(&self, place: usize) -> &[u8]
+    pub(crate) fn text_at(&self, place: usize) -> &[u8]
         requires { place < (self.now).len }
         ensures { result.now ≡ text_bytes (slot_of self.now place) }
     {

@@ -1,6 +1,6 @@
 //! The answers of a connection, one after another.
 
-use crate::said::{push_digits, push_info, push_rows, push_schema_result};
+use crate::said::{push_body, push_digits, push_info, push_rows, push_schema_result};
 use bytes::Bytes;
 use grpc_frame::{Inbox, Record};
 use scan_base::Fault;
@@ -20,6 +20,7 @@ fn push_messages(
         match kind {
             "info" => push_info(alloc, told, message.as_slice())?,
             "schema" => push_schema_result(alloc, told, message.as_slice())?,
+            "bodies" => push_body(alloc, told, message)?,
             _ => push_digits(alloc, told, message.as_slice())?,
         }
         told.push(';')?;

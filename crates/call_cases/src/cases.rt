@@ -3,6 +3,7 @@
 use crate::answers::push_answer;
 use commands::run::run;
 use grpc_frame::{Inbox, MemoryInput, MemoryOutput};
+use hash_seed::HashSeed;
 use scan_base::Fault;
 use std::alloc::{AllocError, Global};
 
@@ -13,10 +14,11 @@ struct Named {
     records: Vec<u8>,
 }
 
-/// The calls that were named.
+/// The calls that were named, and the seed of each `pipe`.
 #[derive(Drop)]
 pub struct Cases {
     calls: Vec<Named>,
+    seed: HashSeed,
 }
 
 // The parts before and behind the first delimiter, or all and nothing.
@@ -51,9 +53,10 @@ fn push_piece(alloc: Global, records: &mut Vec<u8>, piece: &str) -> Result<(), F
 
 impl Cases {
     /// No call.
-    pub fn new(alloc: Global) -> Cases {
+    pub fn new(alloc: Global, seed: HashSeed) -> Cases {
         Cases {
             calls: Vec::new(alloc),
+            seed,
         }
     }
 
@@ -95,7 +98,15 @@ impl Cases {
         let mut reader = MemoryInput::new(&input);
         let mut writer = MemoryOutput::new(alloc);
         let mut faults = MemoryOutput::new(alloc);
-        let status = run(alloc, &words, &mut reader, &mut writer, &mut faults).number();
+        let status = run(
+            alloc,
+            self.seed,
+            &words,
+            &mut reader,
+            &mut writer,
+            &mut faults,
+        )
+        .number();
         let mut inbox = Inbox::of_client(alloc);
         inbox.feed(writer.as_slice())?;
         let mut told = String::new(alloc);

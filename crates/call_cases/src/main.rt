@@ -1,11 +1,11 @@
 //! Connections through `flightscan pipe`, and what each call of them is answered.
 //!
 //! The cases come line by line. `bytes NAME PIECE+PIECE ..` names the records of a call, and prints nothing; a PIECE is DIGITS
-//! or `N*DIGITS`. `pipe OPTIONS |
-//! KIND:NAME KIND:NAME ..` gives them to one `pipe` with these options, and prints a line for each answer and one for the
-//! end: of an answer its status, and what its messages say, which for the KIND `info` is a FlightInfo, for `schema` a
-//! SchemaResult, for `rows` FlightData and else bytes; of the end the exit status and what was printed. Any other line is
-//! printed as it is. `vectors/calls/make.py` writes the cases, and what has to be printed.
+//! or `N*DIGITS`. `pipe OPTIONS | KIND:NAME KIND:NAME ..` gives them to one `pipe` with these options, and prints a line for
+//! each answer and one for the end: of an answer its status, and what its messages say, which for the KIND `info` is a
+//! FlightInfo, for `schema` a SchemaResult, for `rows` FlightData, for `bodies` the bodies of FlightData, and else bytes; of the
+//! end the exit status and what was printed. Any other line is printed as it is. `vectors/calls/make.py` writes the cases, and
+//! what has to be printed.
 #![tactic(auto)]
 
 mod answers;
@@ -13,11 +13,12 @@ mod cases;
 mod said;
 
 use crate::cases::Cases;
+use hash_seed::HashSeed;
 use std::io;
 
 fn main(rt: HostRuntime) -> io::Result<()> {
     let alloc = rt.alloc();
-    let mut cases = Cases::new(alloc);
+    let mut cases = Cases::new(alloc, HashSeed::new(&rt)?);
     for line in rt.lines(alloc) {
         match cases.answer(alloc, line?.as_str()) {
             Ok(Some(answer)) => println!(rt; "{answer}")?,

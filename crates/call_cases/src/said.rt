@@ -87,6 +87,12 @@ pub fn push_schema_result(alloc: Global, told: &mut String, message: &[u8]) -> R
     push_described(alloc, told, message, form)
 }
 
+/// Adds the body of a FlightData, each byte by two digits.
+pub fn push_body(alloc: Global, told: &mut String, message: &Bytes) -> Result<(), Fault> {
+    let data = FlightData::read(message)?;
+    Ok(push_digits(alloc, told, data.data_body.as_slice())?)
+}
+
 /// Adds the columns that FlightData say, and their rows.
 pub fn push_rows(alloc: Global, told: &mut String, messages: &[Bytes]) -> Result<(), Fault> {
     let mut reader = Reader::new();

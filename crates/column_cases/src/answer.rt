@@ -6,6 +6,7 @@ ghost use Rattle.arrays.specs.Written.{buffers_written};
 use crate::built::built;
 use crate::case::Case;
 use crate::made::layout;
+use crate::picked::picked;
 use crate::places::gathered;
 use arrays::{Batch, Cells, Column};
 use scan_base::{Fault, ValueRef};
@@ -20,10 +21,13 @@ pub(crate) fn answer(rt: &impl Print, alloc: Global, line: &str) -> io::Result<(
     }
 }
 
-// The slots that a line builds, keeps, or gathers of those, as a batch of one column.
+// The slots that a line builds, picks, keeps, or gathers of those, as a batch of one column.
 fn kept(alloc: Global, line: &str) -> Result<Batch, Fault> {
     if let Some(words) = line.strip_prefix("Built ") {
         return built(alloc, words);
+    }
+    if let Some(words) = line.strip_prefix("Slots ") {
+        return picked(alloc, words);
     }
     let case = Case::read(line).ok_or(Fault::UnknownCommand)?;
     let column = Column::new(layout(alloc, &case)?);

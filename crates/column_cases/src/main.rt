@@ -6,6 +6,7 @@ mod buffers;
 mod built;
 mod case;
 mod made;
+mod picked;
 mod places;
 
 use crate::answer::answer;

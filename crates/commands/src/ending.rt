@@ -10,7 +10,7 @@ use grpc_frame::Output;
 use scan_base::Fault;
 
 /// Prints the fault in a line, as far as `faults` takes it.
-pub(crate) fn end_by_fault<E: Output>(faults: &mut E, fault: Fault) -> ExitStatus
+pub fn end_by_fault<E: Output>(faults: &mut E, fault: Fault) -> ExitStatus
     requires { E.failures faults.old < 18446744073709551615 }
     ensures status { result ≡ FaultAtThisEnd }
     ensures line { Prints (fault_line fault)

@@ -4,7 +4,7 @@
 #![tactic(auto)]
 
 pub mod arguments;
-mod ending;
+pub mod ending;
 pub mod exit_status;
 pub mod pipe;
 pub mod run;

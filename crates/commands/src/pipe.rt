@@ -9,12 +9,14 @@ use crate::ending::end_by_fault;
 use crate::exit_status::ExitStatus;
 use flight_calls::{Options, serve_alone};
 use grpc_frame::{Input, Output};
+use hash_seed::HashSeed;
 use std::alloc::Global;
 
-/// Serves one connection, from the reader to the writer, on a catalog that is empty at first. It is done at the
-/// input's end. A fault of this end is printed on `faults` in a line, as far as that takes it.
+/// Serves one connection, from the reader to the writer, on a catalog that is empty at first, of whose values hashes begin
+/// with the seed. It is done at the input's end. A fault of this end is printed on `faults` in a line, as far as that takes it.
 pub fn pipe<R: Input, W: Output, E: Output>(
     alloc: Global,
+    seed: HashSeed,
     reader: &mut R,
     writer: &mut W,
     faults: &mut E,
@@ -31,7 +33,7 @@ pub fn pipe<R: Input, W: Output, E: Output>(
         (record { bytes = E.contents faults.old; failures = E.failures faults.old })
         (record { bytes = E.contents faults.new; failures = E.failures faults.new }) }
 {
-    match serve_alone(alloc, reader, writer, options) {
+    match serve_alone(alloc, seed, reader, writer, options) {
         Ok(()) => ExitStatus::Done,
         Err(fault) => end_by_fault(faults, fault),
     }

@@ -16,14 +16,16 @@ use clap::error::ErrorKind;
 use command_line::Task;
 use flight_calls::Options;
 use grpc_frame::{Input, Output};
+use hash_seed::HashSeed;
 use scan_base::Fault;
 use std::alloc::{AllocError, Global};
 
 /// Runs the program with these words, whose first is its name. Where they do not parse or ask for help, the text
 /// of clap's error is printed on `faults`, and where memory is refused for reading them the fault F21, as far as
-/// `faults` takes it; `reader` and `writer` stay as they are. Else it is `pipe`, in the parts that `--parts` says.
+/// `faults` takes it; `reader` and `writer` stay as they are. Else it is `pipe` with this seed, in the parts that `--parts` says.
 pub fn run<R: Input, W: Output, E: Output>(
     alloc: Global,
+    seed: HashSeed,
     words: &[String],
     reader: &mut R,
     writer: &mut W,
@@ -45,7 +47,7 @@ pub fn run<R: Input, W: Output, E: Output>(
     match command_line::options(alloc, words) {
         Ok(Task::Pipe { parts }) => {
             let options = Options { parts, workers: 1 };
-            pipe(alloc, reader, writer, faults, options)
+            pipe(alloc, seed, reader, writer, faults, options)
         }
         Err(error) => refuse(alloc, faults, &error),
     }

@@ -4,6 +4,7 @@ use crate::first_run::{PUT, PUT_ANSWER};
 use flight_calls::{Options, serve};
 use flight_core::Plain;
 use grpc_frame::{Counted, MemoryInput, MemoryOutput, Output};
+use hash_seed::HashSeed;
 use scan_base::Fault;
 use std::alloc::Global;
 use std::io;
@@ -34,7 +35,7 @@ fn put_alone(alloc: Global, plain: &mut Plain) -> MemoryOutput {
 
 #[test]
 fn two_connections(rt: HostRuntime) -> Result<(), Fail> {
-    let mut plain = Plain::new(rt.alloc())?;
+    let mut plain = Plain::new(rt.alloc(), HashSeed::new(&rt)?)?;
     let first = put_alone(rt.alloc(), &mut plain);
     assert!(rt; first.as_slice() == PUT_ANSWER);
     let second = put_alone(rt.alloc(), &mut plain);
@@ -66,7 +67,7 @@ impl Write for Unflushed {
 #[test]
 fn a_flush_that_fails(rt: HostRuntime) -> Result<(), Fail> {
     for flushes in 0..2u32 {
-        let mut plain = Plain::new(rt.alloc())?;
+        let mut plain = Plain::new(rt.alloc(), HashSeed::new(&rt)?)?;
         let mut writer = Counted::new(Unflushed { flushes });
         let ended = serve(
             rt.alloc(),

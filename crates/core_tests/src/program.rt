@@ -12,14 +12,44 @@ use commands::pipe::pipe;
 use commands::run::run;
 use flight_calls::Options;
 use grpc_frame::{Input, MemoryInput, MemoryOutput, Output};
+use hash_seed::HashSeed;
 use std::alloc::{AllocError, Global};
+use std::io;
 use std::io::ErrorKind;
+use std::random::RandomSource;
 use std::test::Fail;
 
 const OPTIONS: Options = Options {
     parts: 1,
     workers: 1,
 };
+
+// Bytes that are always the same.
+struct FixedSource;
+
+impl RandomSource for FixedSource {
+    fn fill_bytes(&self, buf: &mut [u8]) -> io::Result<()> {
+        buf.fill(7);
+        Ok(())
+    }
+}
+
+// The exit status of `pipe` with a seed of those bytes; 255 where there is none.
+fn pipe_status<R: Input, W: Output, E: Output>(
+    alloc: Global,
+    reader: &mut R,
+    writer: &mut W,
+    faults: &mut E,
+) -> u8
+    requires reads { R.failures reader.old < 18446744073709551615 }
+    requires writes { W.failures writer.old < 18446744073709551615 }
+    requires prints { E.failures faults.old < 18446744073709551615 }
+{
+    match HashSeed::new(&FixedSource) {
+        Ok(seed) => pipe(alloc, seed, reader, writer, faults, OPTIONS).number(),
+        Err(_) => u8::MAX,
+    }
+}
 
 // The exit status, and what is written and printed.
 fn piped(alloc: Global, bytes: &[u8], most: usize) -> (u8, MemoryOutput, MemoryOutput)
@@ -28,7 +58,7 @@ fn piped(alloc: Global, bytes: &[u8], most: usize) -> (u8, MemoryOutput, MemoryO
     let mut reader = MemoryInput::new(bytes).in_pieces_of(most);
     let mut writer = MemoryOutput::new(alloc);
     let mut faults = MemoryOutput::new(alloc);
-    let status = pipe(alloc, &mut reader, &mut writer, &mut faults, OPTIONS).number();
+    let status = pipe_status(alloc, &mut reader, &mut writer, &mut faults);
     (status, writer, faults)
 }
 
@@ -323,7 +353,7 @@ fn a_fault_before_a_failed_read(rt: HostRuntime) {
     let mut reader = MemoryInput::new(b"\x05").failing_after(1);
     let mut writer = MemoryOutput::new(rt.alloc());
     let mut faults = MemoryOutput::new(rt.alloc());
-    let status = pipe(rt.alloc(), &mut reader, &mut writer, &mut faults, OPTIONS).number();
+    let status = pipe_status(rt.alloc(), &mut reader, &mut writer, &mut faults);
     assert!(rt; status == 3);
     assert!(rt; reader.failures() == 0);
     assert!(rt; writer.as_slice() == BAD_FRAME);
@@ -341,7 +371,7 @@ fn each_read(rt: HostRuntime) -> Result<(), Fail> {
             .failing_after(calls);
         let mut writer = MemoryOutput::new(rt.alloc());
         let mut faults = MemoryOutput::new(rt.alloc());
-        let status = pipe(rt.alloc(), &mut reader, &mut writer, &mut faults, OPTIONS).number();
+        let status = pipe_status(rt.alloc(), &mut reader, &mut writer, &mut faults);
         let want = match calls {
             0 | 1 => NOTHING,
             2 => PUT_ANSWER,
@@ -363,7 +393,7 @@ fn each_write(rt: HostRuntime) -> Result<(), Fail> {
         let mut reader = MemoryInput::new(&bytes);
         let mut writer = MemoryOutput::new(rt.alloc()).failing_after(calls);
         let mut faults = MemoryOutput::new(rt.alloc());
-        let status = pipe(rt.alloc(), &mut reader, &mut writer, &mut faults, OPTIONS).number();
+        let status = pipe_status(rt.alloc(), &mut reader, &mut writer, &mut faults);
         assert!(rt; whole.as_slice().starts_with(writer.as_slice()));
         assert!(rt; (writer.as_slice() == whole.as_slice()) == (calls == 2));
         assert!(rt; status == if calls < 2 { 3 } else { 0 });
@@ -379,7 +409,7 @@ fn a_fault_that_cannot_be_printed(rt: HostRuntime) {
         let mut reader = MemoryInput::new(b"\x05");
         let mut writer = MemoryOutput::new(rt.alloc());
         let mut faults = MemoryOutput::new(rt.alloc()).failing_after(calls);
-        let status = pipe(rt.alloc(), &mut reader, &mut writer, &mut faults, OPTIONS).number();
+        let status = pipe_status(rt.alloc(), &mut reader, &mut writer, &mut faults);
         assert!(rt; status == 3);
         assert!(rt; writer.as_slice() == BAD_FRAME);
         assert!(rt; BAD_FRAME_LINE.starts_with(faults.as_slice()));
@@ -430,7 +460,16 @@ fn refused_command_lines(rt: HostRuntime) -> Result<(), Fail> {
         let mut reader = MemoryInput::new(b"\x05").failing_after(0);
         let mut writer = MemoryOutput::new(rt.alloc()).failing_after(0);
         let mut faults = MemoryOutput::new(rt.alloc());
-        let status = run(rt.alloc(), &words, &mut reader, &mut writer, &mut faults).number();
+        let seed = HashSeed::new(&rt)?;
+        let status = run(
+            rt.alloc(),
+            seed,
+            &words,
+            &mut reader,
+            &mut writer,
+            &mut faults,
+        )
+        .number();
         assert!(rt; status == 2);
         assert!(rt; reader.failures() == 0 && writer.failures() == 0);
         assert!(rt; faults.as_slice().starts_with(text));
@@ -444,7 +483,16 @@ fn the_command_pipe(rt: HostRuntime) -> Result<(), Fail> {
     let mut reader = MemoryInput::new(PUT);
     let mut writer = MemoryOutput::new(rt.alloc());
     let mut faults = MemoryOutput::new(rt.alloc());
-    let status = run(rt.alloc(), &words, &mut reader, &mut writer, &mut faults).number();
+    let seed = HashSeed::new(&rt)?;
+    let status = run(
+        rt.alloc(),
+        seed,
+        &words,
+        &mut reader,
+        &mut writer,
+        &mut faults,
+    )
+    .number();
     assert!(rt; status == 0);
     assert!(rt; writer.as_slice() == PUT_ANSWER);
     assert!(rt; faults.as_slice() == NOTHING);

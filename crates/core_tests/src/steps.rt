@@ -6,8 +6,9 @@ use flight_core::laws::{
     runs_meet_headline,
 };
 use flight_core::{Event, Reply, run};
-use scan_base::Fault;
+use hash_seed::HashSeed;
 use std::alloc::{AllocError, Global};
+use std::test::Fail;
 
 /// The first FlightData of a put that creates table `t`: its command and the header of a schema of one nullable Int64
 /// column `a`.
@@ -62,8 +63,8 @@ fn ends_with(reply: &Reply, count: usize, end: &[u8]) -> bool {
 
 // Two rows are put and counted, and their values are fetched.
 #[test]
-fn first_run(rt: HostRuntime) -> Result<(), Fault> {
-    let replies = run(rt.alloc(), &events(rt.alloc())?)?;
+fn first_run(rt: HostRuntime) -> Result<(), Fail> {
+    let replies = run(rt.alloc(), HashSeed::new(&rt)?, &events(rt.alloc())?)?;
     let [put, fetch] = replies.as_slice() else {
         panic!(rt; "two replies are wanted");
     };

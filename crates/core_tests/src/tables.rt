@@ -5,9 +5,11 @@ use crate::first_run::{joined, part, rest};
 use crate::steps::{FIRST, SECOND};
 use bytes::Bytes;
 use flight_core::read_put;
+use hash_seed::HashSeed;
 use scan_base::{Fault, Text};
 use std::alloc::{AllocError, Global};
 use std::sync::Arc;
+use std::test::Fail;
 use table_versions::laws::{
     accepted_puts_are_few, accepted_puts_keep_databases, batches_are_rows, logs_grow,
     logs_hold_accepted_puts, names_are_in_order, tables_are_found, versions_are_databases,
@@ -83,8 +85,8 @@ fn zeros(alloc: Global, rows: usize) -> Result<Bytes, AllocError> {
 }
 
 // The version of no tables, of this number.
-fn bare(alloc: Global, number: u64) -> Result<Snapshot, Fault> {
-    let catalog = CatalogVersion::empty(alloc);
+fn bare(alloc: Global, seed: HashSeed, number: u64) -> Result<Snapshot, Fault> {
+    let catalog = CatalogVersion::empty(alloc, seed);
     Ok(Snapshot::new(number, Arc::new(alloc, catalog)?))
 }
 
@@ -96,8 +98,8 @@ fn after(alloc: Global, snapshot: &Snapshot, put: Put) -> Result<Snapshot, Fault
 }
 
 // So many appends of two rows each.
-fn appended(alloc: Global, appends: u16) -> Result<Snapshot, Fault> {
-    let mut snapshot = bare(alloc, 0)?;
+fn appended(alloc: Global, seed: HashSeed, appends: u16) -> Result<Snapshot, Fault> {
+    let mut snapshot = bare(alloc, seed, 0)?;
     for _ in 0..appends {
         snapshot = after(alloc, &snapshot, two(alloc, b't')?)?;
     }
@@ -115,8 +117,8 @@ fn counts(alloc: Global, snapshot: &Snapshot, name: &str) -> Result<(usize, usiz
 
 // Appends over several pages of batches, and then a table of a lower name before it.
 #[test]
-fn appends(rt: HostRuntime) -> Result<(), Fault> {
-    let snapshot = appended(rt.alloc(), 600)?;
+fn appends(rt: HostRuntime) -> Result<(), Fail> {
+    let snapshot = appended(rt.alloc(), HashSeed::new(&rt)?, 600)?;
     assert!(rt; snapshot.number() == 600 && snapshot.catalog().len() == 1);
     let (batches, rows) = counts(rt.alloc(), &snapshot, "t")?;
     assert!(rt; batches == 600 && rows == 1_200);
@@ -145,9 +147,9 @@ fn fault_of(
 }
 
 // The version of a table of the most rows.
-fn full_table(alloc: Global) -> Result<Snapshot, Fault> {
+fn full_table(alloc: Global, seed: HashSeed) -> Result<Snapshot, Fault> {
     let all = put(alloc, first(alloc, b't', true)?, zeros(alloc, MAX_ROWS)?)?;
-    after(alloc, &bare(alloc, 0)?, all)
+    after(alloc, &bare(alloc, seed, 0)?, all)
 }
 
 // Whether it is an append, how many rows are put to a full table, and the fault.
@@ -160,8 +162,8 @@ static PUTS_TO_FULL: [(bool, usize, Option<Fault>); 4] = [
 
 // 16,777,216 rows are taken and one more is not, put at once or appended.
 #[test]
-fn most_rows(rt: HostRuntime) -> Result<(), Fault> {
-    let full = full_table(rt.alloc())?;
+fn most_rows(rt: HostRuntime) -> Result<(), Fail> {
+    let full = full_table(rt.alloc(), HashSeed::new(&rt)?)?;
     for (is_append, rows, wanted) in &PUTS_TO_FULL {
         assert!(rt; fault_of(rt.alloc(), &full, *is_append, *rows)? == *wanted);
     }
@@ -170,8 +172,8 @@ fn most_rows(rt: HostRuntime) -> Result<(), Fault> {
 
 // The 65,536th put is taken and the one behind it is not.
 #[test]
-fn most_commits(rt: HostRuntime) -> Result<(), Fault> {
-    let before = bare(rt.alloc(), 65_535)?;
+fn most_commits(rt: HostRuntime) -> Result<(), Fail> {
+    let before = bare(rt.alloc(), HashSeed::new(&rt)?, 65_535)?;
     let last = after(rt.alloc(), &before, two(rt.alloc(), b't')?)?;
     let past = refusal(&last, &two(rt.alloc(), b't')?);
     assert!(rt; past == Some(Fault::LimitReached));

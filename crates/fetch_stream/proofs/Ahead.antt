@@ -1,6 +1,7 @@
 -- A stream goes on: the next batch, and the next rows of it.
-use Rattle.std.proofs.Common.{◌≡◌, ◌≤◌, ◌<◌, ℕ, zero, suc, ◌+◌, ◌/◌, false, List, [], ◌++◌, length, refl, sym, ap, subst, ◌∙◌, append_assoc, arith, inr}
+use Rattle.std.proofs.Common.{◌≡◌, ◌≤◌, ◌<◌, ℕ, zero, suc, ◌+◌, ◌/◌, false, List, [], ◌++◌, length, None, Ok, refl, sym, ap, subst, ◌∙◌, append_assoc, arith, inl, inr}
 use Rattle.std.specs.List.{list_any}
+use Rattle.scan_base.specs.declared.fault.Fault.{Fault}
 use Rattle.scan_base.specs.Limits.{most_columns}
 use Rattle.ipc_batch.specs.Written.{body_length}
 use Rattle.arrays.specs.Batch.{BatchAt, BatchSlicesKeepRows, rows_of, cut_batch}
@@ -9,10 +10,10 @@ use Rattle.flight_info.specs.Payloads.{Payload}
 use Rattle.fetch_stream.specs.Streams.{most_body_bytes}
 use Rattle.fetch_stream.specs.declared.cutter.Cutter.{Cutter}
 use Rattle.fetch_stream.specs.declared.source.Source.{Source}
-use Rattle.fetch_stream.specs.inside.Ahead.{IsCutter, IsGoing, AnsweredAs, schema_behind, left_behind, uncut}
+use Rattle.fetch_stream.specs.inside.Ahead.{IsCutter, IsGoing, AnsweredAs, schema_behind, left_behind, rows_taken, rows_cut, uncut}
 use Rattle.fetch_stream.specs.inside.Cut.{Cuts, ReachesFar}
-use Rattle.fetch_stream.specs.inside.Given.{GivesNext}
-use Rattle.fetch_stream.specs.inside.Steps.{HasNext, SaysNext, rows_left}
+use Rattle.fetch_stream.specs.inside.Given.{GivesNext, GivesBatch, MayRefuseSource}
+use Rattle.fetch_stream.specs.inside.Steps.{Ends, Fails, HasNext, SaysNext, rows_left}
 use Rattle.fetch_stream.proofs.Parts.{slice_none, slice_whole, cuts_join, length_cut}
 use Rattle.fetch_stream.proofs.Sizes.{one_row_fits}
 use Rattle.fetch_stream.proofs.Streaming.{cut_answered}
@@ -26,6 +27,9 @@ all_cut keep cutter is high =
 -- and all of one that was not begun
 pub none_cut : BatchSlicesKeepRows → (batch : BatchAt) (most : ℕ) → uncut (record { batch = batch; at = 0; most = most }) ≡ rows_of batch
 none_cut keep batch most = slice_whole keep batch batch.rows refl
+
+pub none_taken : (batch : BatchAt) (most : ℕ) (source : Source) → rows_taken batch source ≡ batch.rows → rows_cut (record { batch = batch; at = 0; most = most }) source ≡ 0
+none_taken batch most source all = omega (arith, all)
 
 -- a cutter before the first row of a batch
 pub new_cutter : (batch : BatchAt) → list_any (list_any is_long_text) (rows_of batch) ≡ false → IsCutter (record { batch = batch; at = 0; most = 65536 })
@@ -69,14 +73,40 @@ module _ (keep : BatchSlicesKeepRows) (cutter : Cutter) (source new : Source) (i
     keeps = record {
       going = record {
         placed = new_cutter batch gives.short;
+        counted = omega (arith, gives.counted cutter.batch);
+        within = gives.within;
         behind = gives.on.source;
         columns = λ some. subst (λ schema. AnsweredAs schema batch.columns) (sym gives.on.schema) gives.columns;
       };
       schema = gives.on.schema;
     };
     rows = ap (λ (rows : List Row). rows ++ left_behind new) (none_cut keep batch 65536) ∙ gives.rows ∙ sym behind;
+    same = omega (arith, gives.counted cutter.batch, high);
     more = gives.some;
   }
+
+  -- there is none
+  pub no_batch : GivesBatch source (Ok None) new → Ends cutter source cutter new
+  no_batch gives = (
+    record {
+      going = record {
+        placed = is.placed;
+        counted = omega (arith, is.counted, gives.3 cutter.batch);
+        within = omega (arith, is.within, gives.3 cutter.batch);
+        behind = gives.0.source;
+        columns = λ more. absurd (omega (arith, more, high));
+      };
+      schema = gives.0.schema;
+    },
+    behind ∙ gives.1,
+    ap (λ (rows : List Row). rows ++ left_behind new) (all_cut keep cutter is.placed high) ∙ gives.2,
+    omega (arith, gives.3 cutter.batch),
+  )
+
+  -- or it is refused
+  pub batch_refused : (fault : Fault) → MayRefuseSource source fault → Fails cutter source fault
+  batch_refused fault (inl memory) = inl memory
+  batch_refused fault (inr large) = inr (large.0, omega (arith, large.1 cutter.batch, ap length behind, high))
 
 -- ---- the next rows
 
@@ -90,6 +120,8 @@ says_next keep cutter source mid_cutter mid payload after next cuts =
     let there : end ≤ batch.rows = subst (λ (b : BatchAt). end ≤ b.rows) cuts.batch cuts.placed.within in
     let cut = cut_batch batch at end in
     let answers : AnsweredAs (schema_behind mid) batch.columns = going.columns next.more in
+    let taken : rows_taken after.batch mid ≡ rows_taken batch mid = ap (λ (b : BatchAt). rows_taken b mid) cuts.batch in
+    let many : after.batch.rows ≡ batch.rows = ap (λ (b : BatchAt). b.rows) cuts.batch in
     let rest : uncut after ≡ rows_of (cut_batch batch end batch.rows) = ap (λ (b : BatchAt). rows_of (cut_batch b end b.rows)) cuts.batch in
     let join : rows_of cut ++ uncut after ≡ uncut mid_cutter = ap (λ (rows : List Row). rows_of cut ++ rows) rest ∙ cuts_join keep batch at end batch.rows (omega (arith, cuts.forth)) there (omega arith) in
     record {
@@ -97,12 +129,15 @@ says_next keep cutter source mid_cutter mid payload after next cuts =
       said = cuts.said;
       columns = subst (λ schema. AnsweredAs schema cut.columns) next.keeps.schema (cut_answered (schema_behind mid) batch.columns at end answers);
       rows = sym (append_assoc (rows_of cut) (uncut after) (left_behind mid)) ∙ ap (λ (rows : List Row). rows ++ left_behind mid) join ∙ next.rows;
+      counted = omega (arith, next.same, going.counted, taken, many, there, cuts.forth, length_cut batch at end);
       some = omega (arith, cuts.forth, length_cut batch at end);
       few = omega (arith, cuts.few, length_cut batch at end);
       fits = cuts.fits;
       keeps = record {
         going = record {
           placed = cuts.placed;
+          counted = omega (arith, taken, many, going.counted);
+          within = omega (arith, taken, going.within);
           behind = going.behind;
           columns = λ more. subst (λ (b : BatchAt). AnsweredAs (schema_behind mid) b.columns) (sym cuts.batch) answers;
         };

@@ -1,38 +1,47 @@
 -- What the payloads of a stream say, call by call.
-use Rattle.std.proofs.Common.{◌≡◌, ◌≢◌, ◌≤◌, ◌<◌, ℕ, zero, suc, ◌+◌, Bool, true, false, List, [], ◌∷◌, ◌++◌, length, take, Option, Some, None, Result, Ok, Err, ◌⊎◌, inl, inr, refl, sym, ap, subst, ◌∙◌, append_assoc, append-nil, length-append, arith}
+use Rattle.std.proofs.Common.{◌≡◌, ◌≤◌, ◌<◌, ℕ, ◌+◌, Bool, true, false, List, [], ◌∷◌, ◌++◌, length, take, Option, Some, None, Ok, Err, inl, inr, refl, sym, ap, subst, ◌∙◌, append_assoc, append-nil, length-append, arith}
 use Rattle.scan_base.specs.declared.fault.Fault.{Fault}
-use Rattle.scan_base.specs.declared.fault.Fault.TheVariants.{OutOfMemory}
-use Rattle.scan_base.specs.Limits.{most_answer_rows, most_message_bytes}
+use Rattle.scan_base.specs.declared.fault.Fault.TheVariants.{OutOfMemory, ResultTooLarge}
+use Rattle.scan_base.specs.Limits.{most_answer_rows}
 use Rattle.arrow_schema.specs.declared.schema.Schema.{Schema}
 use Rattle.endpoint_split.specs.Handle.{HandleAt}
-use Rattle.arrays.specs.Batch.{rows_of}
 use Rattle.table_versions.specs.Table.{Row, Table}
 use Rattle.table_versions.specs.Database.{Database}
 use Rattle.flight_info.specs.Payloads.{Payload, PayloadsSay}
 use Rattle.fetch_stream.specs.Fetches.{HandleMeans, SayBeginning, FetchAt}
-use Rattle.fetch_stream.specs.Streams.{StreamAt, SaySoFar, GivesPayload, Gives, HasGiven, Opens, StreamsAnswer, opened}
-use Rattle.fetch_stream.specs.inside.Ahead.{AnsweredAs}
-use Rattle.fetch_stream.specs.inside.Written.{SaysSchema, SaysBatchBehind}
-use Rattle.fetch_stream.proofs.Streaming.{say_first, say_more, carried_short}
+use Rattle.fetch_stream.specs.Streams.{StreamAt, SaySoFar, GivesPayload, Gives, MayRefuse, HasGiven, StreamsAnswer, opened}
+use Rattle.fetch_stream.specs.inside.Collected.{Collects}
 
 -- ---- one call
 
 -- what a call gave
 pub gave : (before after : StreamAt) (payload : Payload) → Gives before (Ok (Some payload)) after → GivesPayload before payload after
-gave before after payload gives = by before.schema before.begun before.left before.refused gives
+gave before after payload gives = by before.schema before.begun before.left before.given before.refused gives
   where
-    by : (schema : Schema) (begun : Bool) (left : List Row) (refused : Option Fault) → Gives (record { schema = schema; begun = begun; left = left; refused = refused }) (Ok (Some payload)) after
-        → GivesPayload (record { schema = schema; begun = begun; left = left; refused = refused }) payload after
-    by schema begun left None gives = gives
-    by schema begun left (Some fault) gives = absurd (let e = gives.0 in cc)
+    by : (schema : Schema) (begun : Bool) (left : List Row) (count : ℕ) (refused : Option Fault)
+        → Gives (record { schema = schema; begun = begun; left = left; given = count; refused = refused }) (Ok (Some payload)) after
+        → GivesPayload (record { schema = schema; begun = begun; left = left; given = count; refused = refused }) payload after
+    by schema begun left count None gives = gives
+    by schema begun left count (Some fault) gives = absurd (let e = gives.0 in cc)
 
 pub ended : (before after : StreamAt) → Gives before (Ok None) after → (before.begun ≡ true) × (before.left ≡ []) × (after ≡ before)
-ended before after gives = by before.schema before.begun before.left before.refused gives
+ended before after gives = by before.schema before.begun before.left before.given before.refused gives
   where
-    by : (schema : Schema) (begun : Bool) (left : List Row) (refused : Option Fault) → Gives (record { schema = schema; begun = begun; left = left; refused = refused }) (Ok None) after
-        → (begun ≡ true) × (left ≡ []) × (after ≡ record { schema = schema; begun = begun; left = left; refused = refused })
-    by schema begun left None gives = gives
-    by schema begun left (Some fault) gives = absurd (let e = gives.0 in cc)
+    by : (schema : Schema) (begun : Bool) (left : List Row) (count : ℕ) (refused : Option Fault)
+        → Gives (record { schema = schema; begun = begun; left = left; given = count; refused = refused }) (Ok None) after
+        → (begun ≡ true) × (left ≡ []) × (after ≡ record { schema = schema; begun = begun; left = left; given = count; refused = refused })
+    by schema begun left count None gives = gives
+    by schema begun left count (Some fault) gives = absurd (let e = gives.0 in cc)
+
+-- why a stream was refused that was not before
+pub was_refused : (before after : StreamAt) (fault : Fault) → before.refused ≡ None → Gives before (Err fault) after → MayRefuse before fault
+was_refused before after fault none gives = by before.schema before.begun before.left before.given before.refused none gives
+  where
+    by : (schema : Schema) (begun : Bool) (left : List Row) (count : ℕ) (refused : Option Fault) → refused ≡ None
+        → Gives (record { schema = schema; begun = begun; left = left; given = count; refused = refused }) (Err fault) after
+        → MayRefuse (record { schema = schema; begun = begun; left = left; given = count; refused = refused }) fault
+    by schema begun left count None none gives = gives.0
+    by schema begun left count (Some other) none gives = absurd cc
 
 -- whether the schema is still to come, as a number
 abbrev to_begin : Bool → ℕ
@@ -61,13 +70,15 @@ fewer_turns before after payload gives =
 -- ---- all calls
 
 pub given_none : (answer : Table) → HasGiven answer [] (opened answer)
-given_none answer = record { rows = []; said = (refl, refl); all = refl; schema = refl }
+given_none answer = record { rows = []; said = (refl, refl); counted = refl; within = omega arith; all = refl; schema = refl }
 
 pub given_more : (answer : Table) (payloads : List Payload) (before after : StreamAt) (payload : Payload) → HasGiven answer payloads before → GivesPayload before payload after
     → HasGiven answer (payloads ++ payload ∷ []) after
 given_more answer payloads before after payload has gives = record {
   rows = has.rows ++ gives.rows;
   said = gives.said payloads has.rows has.said;
+  counted = omega (arith, has.counted, gives.counted, length-append has.rows gives.rows);
+  within = gives.within;
   all = append_assoc has.rows gives.rows after.left ∙ ap (λ (rows : List Row). has.rows ++ rows) gives.left ∙ has.all;
   schema = gives.schema ∙ has.schema;
 }
@@ -77,7 +88,7 @@ said_begun : (answer : Table) (payloads : List Payload) (stream : StreamAt) (has
 said_begun answer payloads stream has begun =
     subst (λ (schema : Schema). PayloadsSay payloads schema has.rows) has.schema (by stream.begun begun has.said)
   where
-    by : (begun : Bool) → begun ≡ true → SaySoFar (record { schema = stream.schema; begun = begun; left = stream.left; refused = stream.refused }) payloads has.rows
+    by : (begun : Bool) → begun ≡ true → SaySoFar (record { schema = stream.schema; begun = begun; left = stream.left; given = stream.given; refused = stream.refused }) payloads has.rows
         → PayloadsSay payloads stream.schema has.rows
     by true e said = said
     by false e said = absurd cc
@@ -87,49 +98,77 @@ given_all answer payloads stream has begun none =
     subst (λ (rows : List Row). PayloadsSay payloads answer.schema rows)
     (sym (append-nil has.rows) ∙ ap (λ (rows : List Row). has.rows ++ rows) (sym none) ∙ has.all) (said_begun answer payloads stream has begun)
 
--- all that a stream gave answers its handle
-pub fetched : (database : Database) (handle : HandleAt) (stream : StreamAt) (payloads : List Payload) → Opens database handle (Ok stream)
-    → ((answer : Table) → stream ≡ opened answer → PayloadsSay payloads answer.schema answer.rows) → FetchAt database handle payloads None
-fetched database handle stream payloads opens said = (opens.0, opens.1, opens.2, said opens.0 opens.3)
+-- and an answer of which all was given is no larger than it may be
+all_few : (answer : Table) (payloads : List Payload) (stream : StreamAt) → HasGiven answer payloads stream → stream.left ≡ [] → length answer.rows ≤ most_answer_rows
+all_few answer payloads stream has none =
+    omega (arith, has.counted, has.within, ap length none, ap length has.all, length-append has.rows stream.left)
 
 take_first : {X : Type 0} (xs ys : List X) → take (length xs) (xs ++ ys) ≡ xs
 take_first [] ys = refl
 take_first (x ∷ xs) ys = ap (λ (rest : List _). x ∷ rest) (take_first xs ys)
 
-some_left : (rows : List Row) → rows ≢ [] → 0 < length rows
-some_left [] not = absurd (not refl)
-some_left (row ∷ rows) not = omega arith
+-- where a payload said the schema, they say a beginning of the answer
+given_part : (answer : Table) (payloads : List Payload) (stream : StreamAt) → HasGiven answer payloads stream → stream.begun ≡ true → SayBeginning payloads answer
+given_part answer payloads stream has begun =
+    let n = length has.rows in
+    let long : length (has.rows ++ stream.left) ≡ length answer.rows = ap length has.all in
+    let first : take n answer.rows ≡ has.rows = ap (λ (rows : List Row). take n rows) (sym has.all) ∙ take_first has.rows stream.left in (
+      n,
+      omega (arith, has.counted, has.within),
+      omega (arith, long, length-append has.rows stream.left),
+      subst (λ (rows : List Row). PayloadsSay payloads answer.schema rows) (sym first) (said_begun answer payloads stream has begun),
+    )
 
-pub given_part : (database : Database) (handle : HandleAt) (answer : Table) (payloads : List Payload) (stream : StreamAt) → HandleMeans database handle answer → length answer.rows ≤ most_answer_rows
-    → HasGiven answer payloads stream → (stream.begun ≡ false) ⊎ (stream.left ≢ []) → FetchAt database handle payloads (Some OutOfMemory)
-given_part database handle answer payloads stream means few has more = by stream.begun refl has.said
+-- where none did, there is no payload
+none_given : (answer : Table) (payloads : List Payload) (stream : StreamAt) (has : HasGiven answer payloads stream) → stream.begun ≡ false → payloads ≡ []
+none_given answer payloads stream has begun = by stream.begun begun has.said
   where
-    some_more : (stream.begun ≡ false) ⊎ (stream.left ≢ []) → stream.begun ≡ true → 0 < length stream.left
-    some_more (inl first) e = absurd (let both = sym first ∙ e in cc)
-    some_more (inr some) e = some_left stream.left some
+    by : (begun : Bool) → begun ≡ false → SaySoFar (record { schema = stream.schema; begun = begun; left = stream.left; given = stream.given; refused = stream.refused }) payloads has.rows
+        → payloads ≡ []
+    by true e said = absurd cc
+    by false e said = said.0
 
-    by : (begun : Bool) → stream.begun ≡ begun → SaySoFar (record { schema = stream.schema; begun = begun; left = stream.left; refused = stream.refused }) payloads has.rows
-        → FetchAt database handle payloads (Some OutOfMemory)
-    by false e said = inl said.0
-    by true e said =
-        let n = length has.rows in
-        let long : length (has.rows ++ stream.left) ≡ length answer.rows = ap length has.all in
-        let first : take n answer.rows ≡ has.rows = ap (λ (rows : List Row). take n rows) (sym has.all) ∙ take_first has.rows stream.left in
-        inr (
-          answer,
-          means,
-          (
-            n,
-            omega (arith, few, long, length-append has.rows stream.left),
-            (let some = some_more more e in omega (arith, some, long, length-append has.rows stream.left)),
-            subst (λ (rows : List Row). PayloadsSay payloads answer.schema rows) (sym first) (said_begun answer payloads stream has e),
-          ),
-        )
+module _ (database : Database) (handle : HandleAt) (answer : Table) (payloads : List Payload) (stream : StreamAt) (means : HandleMeans database handle answer)
+    (has : HasGiven answer payloads stream) where
+  short_of_memory : FetchAt database handle payloads (Some OutOfMemory)
+  short_of_memory = by stream.begun refl
+    where
+      by : (begun : Bool) → stream.begun ≡ begun → FetchAt database handle payloads (Some OutOfMemory)
+      by false e = inl (none_given answer payloads stream has e)
+      by true e = inr (answer, means, given_part answer payloads stream has e)
+
+  too_large : stream.begun ≡ true → most_answer_rows < stream.given + length stream.left → FetchAt database handle payloads (Some ResultTooLarge)
+  too_large begun large =
+      let long : length (has.rows ++ stream.left) ≡ length answer.rows = ap length has.all in
+      (answer, means, omega (arith, large, has.counted, long, length-append has.rows stream.left), given_part answer payloads stream has begun)
+
+  all_given : stream.begun ≡ true → stream.left ≡ [] → FetchAt database handle payloads None
+  all_given begun none = (answer, means, all_few answer payloads stream has none, given_all answer payloads stream has begun none)
+
+  stopped : (fault : Fault) → MayRefuse stream fault → FetchAt database handle payloads (Some fault)
+  stopped fault (inl memory) = rw memory short_of_memory
+  stopped fault (inr large) = rw large.0 (too_large large.1 large.2)
 
 pub streams_answer : StreamsAnswer
 streams_answer = record {
   begin = given_none;
   go_on = given_more;
-  end = λ database handle answer payloads stream means few has begun none. (answer, means, few, given_all answer payloads stream has begun none);
-  refused = given_part;
+  end = all_given;
+  refused = λ database handle answer payloads stream fault means has why. stopped database handle answer payloads stream means has fault why;
 }
+
+-- ---- the payloads of an answer, all together
+
+-- up to where a stream is refused
+pub collected_before : (answer : Table) (payloads : List Payload) (before after : StreamAt) (fault : Fault) → (before.refused ≡ None) × HasGiven answer payloads before
+    → Gives before (Err fault) after → Collects answer payloads (Err fault)
+collected_before answer payloads before after fault has gives = record { stream = before; given = has.1; stops = was_refused before after fault has.0 gives }
+
+pub collected_whole : (database : Database) (handle : HandleAt) (answer : Table) (payloads : List Payload) (done : Unit {0}) → HandleMeans database handle answer
+    → Collects answer payloads (Ok done) → FetchAt database handle payloads None
+collected_whole database handle answer payloads done means all = all_given database handle answer payloads all.stream means all.given all.stops.0 all.stops.1
+
+pub collected_large : (database : Database) (handle : HandleAt) (answer : Table) (payloads : List Payload) (fault : Fault) → fault ≡ ResultTooLarge → HandleMeans database handle answer
+    → Collects answer payloads (Err fault) → FetchAt database handle payloads (Some ResultTooLarge)
+collected_large database handle answer payloads fault is means all =
+    subst (λ (f : Fault). FetchAt database handle payloads (Some f)) is (stopped database handle answer payloads all.stream means all.given fault all.stops)

@@ -1,7 +1,7 @@
 -- What a call of a stream gives, by what the parts of the stream give.
-use Rattle.std.proofs.Common.{◌≡◌, ◌≤◌, ◌<◌, Bool, true, false, List, [], ◌∷◌, ◌++◌, length, Option, Some, None, Result, Ok, Err, refl, sym, ap, subst, ◌∙◌, append-nil, arith}
+use Rattle.std.proofs.Common.{◌≡◌, ◌≤◌, ◌<◌, ◌+◌, ℕ, Bool, true, false, List, [], ◌∷◌, ◌++◌, length, Option, Some, None, Result, Ok, refl, sym, ap, subst, ◌∙◌, append-nil, arith}
 use Rattle.scan_base.specs.declared.fault.Fault.{Fault}
-use Rattle.scan_base.specs.Limits.{most_message_bytes}
+use Rattle.scan_base.specs.Limits.{most_answer_rows, most_message_bytes}
 use Rattle.arrow_schema.specs.declared.schema.Schema.{Schema}
 use Rattle.arrays.specs.Batch.{rows_of}
 use Rattle.table_versions.specs.Table.{Row, Table}
@@ -9,36 +9,42 @@ use Rattle.flight_info.specs.Payloads.{Payload, PayloadsSay}
 use Rattle.fetch_stream.specs.Streams.{StreamAt, GivesPayload, Gives, opened}
 use Rattle.fetch_stream.specs.declared.cutter.Cutter.{Cutter}
 use Rattle.fetch_stream.specs.declared.source.Source.{Source}
-use Rattle.fetch_stream.specs.inside.Ahead.{IsGoing, schema_behind}
+use Rattle.fetch_stream.specs.inside.Ahead.{IsGoing, schema_behind, rows_cut}
 use Rattle.fetch_stream.specs.inside.Steps.{GivesFirst, GivesRows, rows_left}
 use Rattle.fetch_stream.specs.inside.Written.{SaysSchema, SaysBatchBehind}
 use Rattle.fetch_stream.proofs.Streaming.{say_first, say_more, carried_short}
 
-abbrev pub stream_of : Schema → Bool → List Row → StreamAt
-stream_of schema begun left = record { schema = schema; begun = begun; left = left; refused = None }
+abbrev pub stream_of : Schema → Bool → List Row → ℕ → StreamAt
+stream_of schema begun left count = record { schema = schema; begun = begun; left = left; given = count; refused = None }
 
 -- ---- before the first call
 
 -- a stream of rows, of which none stands before those that are left
-pub opens_behind : (schema : Schema) (none left : List Row) (answer : Table) → schema ≡ answer.schema → none ≡ [] → left ≡ answer.rows → stream_of schema false (none ++ left) ≡ opened answer
+pub opens_behind : (schema : Schema) (none left : List Row) (answer : Table) → schema ≡ answer.schema → none ≡ [] → left ≡ answer.rows → stream_of schema false (none ++ left) 0 ≡ opened answer
 opens_behind schema none left answer same nothing all = rw (same, nothing, all) refl
 
+-- a stream of a batch of which nothing was cut
+pub starts : (schema : Schema) (cut whole left : List Row) (count : ℕ) → cut ≡ whole → count ≡ 0 → stream_of schema false (cut ++ left) count ≡ stream_of schema false (whole ++ left) 0
+starts schema cut whole left count same none = rw (same, none) refl
+
 -- a stream of rows alone
-pub opens_all : (schema : Schema) (rows : List Row) (answer : Table) → schema ≡ answer.schema → rows ≡ answer.rows → stream_of schema false (rows ++ []) ≡ opened answer
+pub opens_all : (schema : Schema) (rows : List Row) (answer : Table) → schema ≡ answer.schema → rows ≡ answer.rows → stream_of schema false (rows ++ []) 0 ≡ opened answer
 opens_all schema rows answer same all = rw (append-nil rows, same, all) refl
 
 -- ---- one call
 
 -- the schema's payload
-pub gives_schema : (schema : Schema) (begun : Bool) (left : List Row) (payload : Payload) → begun ≡ false → SaysSchema payload schema → length payload ≤ most_message_bytes
-    → GivesPayload (stream_of schema begun left) payload (stream_of schema true left)
-gives_schema schema true left payload first s fits = absurd cc
-gives_schema schema false left payload first s fits = record {
+pub gives_schema : (schema : Schema) (begun : Bool) (left : List Row) (count : ℕ) (payload : Payload) → begun ≡ false → count ≤ most_answer_rows → SaysSchema payload schema
+    → length payload ≤ most_message_bytes → GivesPayload (stream_of schema begun left count) payload (stream_of schema true left count)
+gives_schema schema true left count payload first within s fits = absurd cc
+gives_schema schema false left count payload first within s fits = record {
   rows = [];
   said = λ payloads given so.
       subst (λ (p : List Payload). PayloadsSay (p ++ payload ∷ []) schema (given ++ [])) (sym so.0)
       (subst (λ (r : List Row). PayloadsSay (payload ∷ []) schema (r ++ [])) (sym so.1) (say_first payload schema s));
   left = refl;
+  counted = omega arith;
+  within = within;
   some = λ e. absurd cc;
   few = omega arith;
   short = carried_short payload s.message s.carries s.short;
@@ -49,15 +55,17 @@ gives_schema schema false left payload first s fits = record {
 }
 
 -- the payload of rows
-pub gives_rows : (schema new : Schema) (begun : Bool) (left rest rows : List Row) (payload : Payload) → begun ≡ true → new ≡ schema
+pub gives_rows : (schema new : Schema) (begun : Bool) (left rest rows : List Row) (count more : ℕ) (payload : Payload) → begun ≡ true → new ≡ schema
     → ((payloads : List Payload) (given : List Row) → PayloadsSay payloads schema given → PayloadsSay (payloads ++ payload ∷ []) schema (given ++ rows))
-    → rows ++ rest ≡ left → 0 < length rows → length rows ≤ 65536 → (batch : _) → SaysBatchBehind payload batch → length payload ≤ most_message_bytes
-    → GivesPayload (stream_of schema begun left) payload (stream_of new true rest)
-gives_rows schema new false left rest rows payload on same say join some few batch s fits = absurd cc
-gives_rows schema new true left rest rows payload on same say join some few batch s fits = record {
+    → rows ++ rest ≡ left → more ≡ count + length rows → more ≤ most_answer_rows → 0 < length rows → length rows ≤ 65536 → (batch : _) → SaysBatchBehind payload batch
+    → length payload ≤ most_message_bytes → GivesPayload (stream_of schema begun left count) payload (stream_of new true rest more)
+gives_rows schema new false left rest rows count more payload on same say join counted within some few batch s fits = absurd cc
+gives_rows schema new true left rest rows count more payload on same say join counted within some few batch s fits = record {
   rows = rows;
   said = λ payloads given so. subst (λ (sch : Schema). PayloadsSay (payloads ++ payload ∷ []) sch (given ++ rows)) (sym same) (say payloads given so);
   left = join;
+  counted = counted;
+  within = within;
   some = λ e. some;
   few = few;
   short = carried_short payload s.message s.carries s.short;
@@ -68,25 +76,31 @@ gives_rows schema new true left rest rows payload on same say join some few batc
 }
 
 -- the same stream, of which nothing is left
-same_end : (schema new : Schema) (left rest : List Row) → new ≡ schema → left ≡ [] → rest ≡ [] → stream_of new true rest ≡ stream_of schema true left
-same_end schema new left rest same none nothing = rw (same, none, nothing) refl
+same_end : (schema new : Schema) (left rest : List Row) (count more : ℕ) → new ≡ schema → left ≡ [] → rest ≡ [] → more ≡ count → stream_of new true rest more ≡ stream_of schema true left count
+same_end schema new left rest count more same none nothing counted = rw (same, none, nothing, counted) refl
+
+-- a stream has given no more rows than an answer has
+pub cut_few : (cutter : Cutter) (source : Source) → IsGoing cutter source → rows_cut cutter source ≤ most_answer_rows
+cut_few cutter source is = omega (arith, is.within)
 
 -- a call behind the first one
 pub gives_next : (cutter : Cutter) (source : Source) (given : Option Payload) (new_cutter : Cutter) (new : Source) (begun : Bool) → begun ≡ true → GivesRows cutter source (Ok given) new_cutter new
-    → Gives (stream_of (schema_behind source) begun (rows_left cutter source)) (Ok given) (stream_of (schema_behind new) true (rows_left new_cutter new))
+    → Gives (stream_of (schema_behind source) begun (rows_left cutter source) (rows_cut cutter source)) (Ok given)
+    (stream_of (schema_behind new) true (rows_left new_cutter new) (rows_cut new_cutter new))
 gives_next cutter source (Some payload) new_cutter new begun on next =
-    gives_rows (schema_behind source) (schema_behind new) begun (rows_left cutter source) (rows_left new_cutter new) (rows_of next.batch) payload on next.keeps.schema
+    gives_rows (schema_behind source) (schema_behind new) begun (rows_left cutter source) (rows_left new_cutter new) (rows_of next.batch) (rows_cut cutter source) (rows_cut new_cutter new)
+    payload on next.keeps.schema
     (λ payloads given said. say_more payloads payload next.batch (schema_behind source) given next.said next.columns said)
-    next.rows next.some next.few next.batch next.said next.fits
+    next.rows next.counted (cut_few new_cutter new next.keeps.going) next.some next.few next.batch next.said next.fits
 gives_next cutter source None new_cutter new false on ends = absurd cc
 gives_next cutter source None new_cutter new true on ends =
-    (refl, ends.1, same_end (schema_behind source) (schema_behind new) (rows_left cutter source) (rows_left new_cutter new) ends.0.schema ends.1 ends.2)
+    (refl, ends.1, same_end (schema_behind source) (schema_behind new) (rows_left cutter source) (rows_left new_cutter new) (rows_cut cutter source) (rows_cut new_cutter new) ends.0.schema ends.1 ends.2 ends.3)
 
 -- the first one
-pub gives_first : (schema : Schema) (given : Option Payload) (left : List Row) (begun : Bool) → begun ≡ false → GivesFirst schema (Ok given)
-    → Gives (stream_of schema begun left) (Ok given) (stream_of schema true left)
-gives_first schema (Some payload) left begun first s = gives_schema schema begun left payload first s.0 s.1
-gives_first schema None left begun first s = absurd s
+pub gives_first : (schema : Schema) (given : Option Payload) (left : List Row) (count : ℕ) (begun : Bool) → begun ≡ false → count ≤ most_answer_rows → GivesFirst schema (Ok given)
+    → Gives (stream_of schema begun left count) (Ok given) (stream_of schema true left count)
+gives_first schema (Some payload) left count begun first within s = gives_schema schema begun left count payload first within s.0 s.1
+gives_first schema None left count begun first within s = absurd s
 
 -- what is left of a stream that goes on
 pub goes_on : (cutter : Cutter) (source : Source) (given : Option Payload) (new_cutter : Cutter) (new : Source) → GivesRows cutter source (Ok given) new_cutter new → IsGoing new_cutter new
@@ -94,15 +108,15 @@ goes_on cutter source (Some payload) new_cutter new next = next.keeps.going
 goes_on cutter source None new_cutter new ends = ends.0.going
 
 -- a stream as it is, by its parts
-abbrev stream_by : Schema → Bool → List Row → Option Fault → StreamAt
-stream_by schema begun left refused = record { schema = schema; begun = begun; left = left; refused = refused }
+abbrev stream_by : Schema → Bool → List Row → ℕ → Option Fault → StreamAt
+stream_by schema begun left count refused = record { schema = schema; begun = begun; left = left; given = count; refused = refused }
 
 -- a call of a stream that nothing refused gives this, whatever names it has
 pub gives_so : (before one after other : StreamAt) (result : Result (Option Payload) Fault) (given : Option Payload) → before ≡ one → result ≡ Ok given → after ≡ other
-    → one.refused ≡ None → other.refused ≡ None → Gives (stream_of one.schema one.begun one.left) (Ok given) (stream_of other.schema other.begun other.left) → Gives before result after
+    → one.refused ≡ None → other.refused ≡ None → Gives (stream_of one.schema one.begun one.left one.given) (Ok given) (stream_of other.schema other.begun other.left other.given) → Gives before result after
 gives_so before one after other result given first is last none still gives =
-    let begins : before ≡ stream_of one.schema one.begun one.left = first ∙ ap (λ refused. stream_by one.schema one.begun one.left refused) none in
-    let ends : after ≡ stream_of other.schema other.begun other.left = last ∙ ap (λ refused. stream_by other.schema other.begun other.left refused) still in
+    let begins : before ≡ stream_of one.schema one.begun one.left one.given = first ∙ ap (λ refused. stream_by one.schema one.begun one.left one.given refused) none in
+    let ends : after ≡ stream_of other.schema other.begun other.left other.given = last ∙ ap (λ refused. stream_by other.schema other.begun other.left other.given refused) still in
     subst (λ (s : StreamAt). Gives s result after) (sym begins)
-    (subst (λ (s : StreamAt). Gives (stream_of one.schema one.begun one.left) result s) (sym ends)
-    (subst (λ (r : Result (Option Payload) Fault). Gives (stream_of one.schema one.begun one.left) r (stream_of other.schema other.begun other.left)) (sym is) gives))
+    (subst (λ (s : StreamAt). Gives (stream_of one.schema one.begun one.left one.given) result s) (sym ends)
+    (subst (λ (r : Result (Option Payload) Fault). Gives (stream_of one.schema one.begun one.left one.given) r (stream_of other.schema other.begun other.left other.given)) (sym is) gives))

@@ -5,5 +5,6 @@ pub mod Meaning
 pub mod Padding
 pub mod Parts
 pub mod Scanned
+pub mod Short
 pub mod Sizes
 pub mod Streaming

@@ -1,11 +1,7 @@
 -- What a handle means: none where it is refused, and the rows of its plan.
-use Rattle.std.proofs.Common.{◌≡◌, ◌≢◌, ◌≤◌, ◌<◌, ◌-◌, ℕ, List, length, map, drop, Ok, Err, sym, ap, ◌∙◌, arith, ◌⊎◌, inl, inr}
-use Rattle.std.proofs.lemmas.List.{length-map, length-take}
-use Rattle.std.proofs.lemmas.List.Sums.{length-filter, count_by-le-length}
+use Rattle.std.proofs.Common.{◌≡◌, ◌≢◌, ◌≤◌, ◌<◌, ◌-◌, ℕ, Bool, true, false, List, length, map, Ok, Err, refl, sym, ap, subst, ◌∙◌, arith, ◌⊎◌, inl, inr}
 use Rattle.scan_base.specs.declared.fault.Fault.{Fault}
 use Rattle.scan_base.specs.declared.fault.Fault.TheVariants.{OutOfMemory}
-use Rattle.scan_base.specs.Limits.{most_rows, most_answer_rows}
-use Rattle.scan_base.specs.Predicate.{cell_in}
 use Rattle.arrow_schema.specs.declared.schema.Schema.{Schema}
 use Rattle.sql_text.specs.Standard.{Lexeme}
 use Rattle.sql_text.specs.Reading.{tokens_in}
@@ -14,18 +10,13 @@ use Rattle.sql_parse.specs.Parse.{Refuses, Parsed}
 use Rattle.sql_parse.specs.Tokens.{mark_of}
 use Rattle.sql_parse.proofs.OneAnswer.{not_both}
 use Rattle.table_versions.specs.Table.{Row, Table}
-use Rattle.table_versions.specs.Database.{Database, table_at}
-use Rattle.typed_plan.specs.declared.plan.Columns.{Columns}
-use Rattle.typed_plan.specs.declared.plan.Columns.TheVariants.{All, These}
-use Rattle.typed_plan.specs.declared.plan.Output.{Output}
-use Rattle.typed_plan.specs.declared.plan.Output.TheVariants.{Project}
+use Rattle.table_versions.specs.Database.{Database}
 use Rattle.typed_plan.specs.Bound.{fault_of}
-use Rattle.typed_plan.specs.Joined.{rows_in, rows_between}
-use Rattle.typed_plan.specs.Plan.{PlanAt, Tree, scan, filtered, taken, is_true, tree_rows, output_rows, plan_rows}
+use Rattle.typed_plan.specs.Plan.{PlanAt, plan_rows}
 use Rattle.flight_proto.specs.Wanted.{rows_of}
-use Rattle.flight_info.specs.Meant.{Meant, Misses, first_rows, result_over}
+use Rattle.flight_info.specs.Meant.{IsRange, Meant, Misses, first_rows, result_over}
 use Rattle.flight_info.specs.Planned.{IsPlanned}
-use Rattle.flight_info.proofs.Meaning.{Says, same_ok, one_sentence, ungrouped}
+use Rattle.flight_info.proofs.Meaning.{Says, same_ok, one_sentence}
 
 -- ---- what refuses a text
 
@@ -48,12 +39,22 @@ misses_mean_nothing database from to text fault other (inr q) answer meant =
     let both = sym meant.asks.bound ∙ ap (λ (s : Sentence). fault_of s database) same ∙ q.2 in cc
 
 -- nor does one over a range that its first place does not have
-pub out_of_range : (database : Database) (from to rows : ℕ) (text : List ℕ) (plan : PlanAt) → IsPlanned database text plan rows
+pub out_of_range : (database : Database) (from to rows : ℕ) (grouped : Bool) (text : List ℕ) (plan : PlanAt) → IsPlanned database text plan rows grouped
     → rows < to → (answer : Table) → Meant database from to text answer → ⊥
-out_of_range database from to rows text plan is high answer meant =
+out_of_range database from to rows grouped text plan is high answer meant =
     let same = one_sentence text meant.query is.query meant.asks.says is.asks.says in
     let within : to ≤ first_rows database is.query = rw same at meant.range.within in
     omega (arith, high, within, is.counted)
+
+-- nor one that is grouped, over less than all
+pub part_of_groups : (database : Database) (from to rows least : ℕ) (grouped : Bool) (text : List ℕ) (plan : PlanAt) → IsPlanned database text plan rows grouped
+    → (grouped ≡ true → least ≡ rows) → (grouped ≡ false → least ≡ 0) → to - from < least → (answer : Table) → Meant database from to text answer → ⊥
+part_of_groups database from to rows least false text plan is all none few answer meant = omega (arith, few, none refl)
+part_of_groups database from to rows least true text plan is all none few answer meant =
+    let same = one_sentence text meant.query is.query meant.asks.says is.asks.says in
+    let range : IsRange database is.query from to = subst (λ (query : Sentence). IsRange database query from to) same meant.range in
+    let whole = range.whole (sym is.groups) in
+    omega (arith, few, all refl, whole.0, whole.1, is.counted)
 
 -- the answer of a plan over a range
 abbrev pub plan_answer : PlanAt → Database → ℕ → ℕ → Table
@@ -66,34 +67,20 @@ same_table one other a b =
     table : Schema → List Row → Table
     table schema rows = record { schema = schema; rows = rows }
 
-pub meant : (database : Database) (from to rows : ℕ) (text : List ℕ) (plan : PlanAt) → IsPlanned database text plan rows → from ≤ to → to ≤ rows → Meant database from to text (plan_answer plan database from to)
-meant database from to rows text plan is ordered within =
-    let plain = ungrouped is.query database is.asks.bound in
-    record {
-      query = is.query;
-      asks = is.asks;
-      range = record { ordered = ordered; within = omega (arith, within, is.counted); whole = λ grouped. absurd (let both = sym plain ∙ grouped in cc) };
-      is = same_table (plan_answer plan database from to) (result_over is.query database from to) is.of.schema (is.of.means from to);
-    }
+-- a range within the rows, and of a query that is grouped all of them
+pub range_is : (database : Database) (from to rows : ℕ) (grouped : Bool) (text : List ℕ) (plan : PlanAt) (is : IsPlanned database text plan rows grouped) → from ≤ to → to ≤ rows
+    → (grouped ≡ true → rows ≤ to - from) → IsRange database is.query from to
+range_is database from to rows grouped text plan is ordered within whole = record {
+  ordered = ordered;
+  within = omega (arith, within, is.counted);
+  whole = λ groups. (let all = whole (is.groups ∙ groups) in (omega (arith, all, within, ordered), omega (arith, all, within, ordered, is.counted)));
+}
 
--- ---- how many rows a plan gives
-
-taken_few : (columns : Columns) (rows : List Row) → length (taken columns rows) ≤ length rows
-taken_few All rows = omega arith
-taken_few (These columns) rows = omega (arith, length-map rows (λ (row : Row). map (cell_in row) columns))
-
-tree_few : (tree : Tree) (database : Database) (from to : ℕ) → length (tree_rows tree database (rows_between from to)) ≤ to - from
-tree_few (scan table schema columns) database from to =
-    let rows = rows_in (table_at database table) in
-    omega (arith, taken_few columns (rows_between from to rows), length-take (to - from) (drop from rows))
-tree_few (filtered predicate tree) database from to =
-    let rows = tree_rows tree database (rows_between from to) in
-    omega (arith, length-filter (is_true predicate) rows, count_by-le-length (is_true predicate) rows, tree_few tree database from to)
-
-output_few : (output : Output) (rows : List Row) → length (output_rows output rows) ≤ length rows
-output_few (Project columns) rows = taken_few columns rows
-
-pub few_given : (plan : PlanAt) (database : Database) (from to rows : ℕ) → to ≤ rows → rows ≤ most_rows → length (plan_rows plan database from to) ≤ most_answer_rows
-few_given plan database from to rows within few =
-    let tree = tree_rows plan.tree database (rows_between from to) in
-    omega (arith, within, few, output_few plan.output tree, tree_few plan.tree database from to)
+pub meant : (database : Database) (from to rows : ℕ) (grouped : Bool) (text : List ℕ) (plan : PlanAt) (is : IsPlanned database text plan rows grouped) → IsRange database is.query from to
+    → Meant database from to text (plan_answer plan database from to)
+meant database from to rows grouped text plan is range = record {
+  query = is.query;
+  asks = is.asks;
+  range = range;
+  is = same_table (plan_answer plan database from to) (result_over is.query database from to) is.of.schema (is.of.means from to);
+}

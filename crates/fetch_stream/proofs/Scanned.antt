@@ -1,9 +1,9 @@
 -- What a scan gives, as the source of a stream.
-use Rattle.std.proofs.Common.{◌≡◌, ◌≢◌, ◌<◌, ℕ, true, false, List, [], ◌∷◌, ◌++◌, length, map, Option, Some, None, Result, Ok, Err, refl, sym, ap, subst, ◌∙◌}
-use Rattle.std.specs.List.{list_any, flat_map}
+use Rattle.std.proofs.Common.{◌≡◌, ℕ, true, false, List, [], ◌∷◌, ◌++◌, map, Option, Some, None, Result, Ok, Err, refl, sym, ap, subst, ◌∙◌, arith, inl, inr}
+use Rattle.std.specs.List.{list_any}
+use Rattle.std.proofs.lemmas.List.{length-map}
 use Rattle.std.proofs.lemmas.List.Folds.{list_any-append}
 use Rattle.scan_base.specs.declared.fault.Fault.{Fault}
-use Rattle.scan_base.specs.declared.fault.Fault.TheVariants.{OutOfMemory}
 use Rattle.arrow_schema.specs.declared.data_type.DataType.{DataType}
 use Rattle.arrow_schema.specs.declared.schema.Field.{Field}
 use Rattle.arrow_schema.specs.declared.schema.Schema.{Schema}
@@ -12,13 +12,12 @@ use Rattle.arrow_schema.specs.Schema.{IsSchema}
 use Rattle.arrays.specs.Batch.{BatchAt, rows_of}
 use Rattle.arrays.specs.Column.{ColumnAt}
 use Rattle.arrays.specs.Typed.{AreOf, AreOfTypes}
-use Rattle.scan_exec.specs.Scan.{ScanAt, GivesRows, Gives, left}
+use Rattle.scan_exec.specs.Scan.{ScanAt, GivesRows, Gives, MayRefuse, left}
 use Rattle.table_versions.specs.Table.{Row, is_long_text}
 use Rattle.table_versions.proofs.Storable.{first_false, second_false}
-use Rattle.fetch_stream.specs.declared.source.Source.{Source}
-use Rattle.fetch_stream.specs.declared.source.Source.TheVariants.{Scanned, Listed}
+use Rattle.fetch_stream.specs.declared.source.Source.TheVariants.{Scanned}
 use Rattle.fetch_stream.specs.inside.Ahead.{IsSource, AnsweredAs}
-use Rattle.fetch_stream.specs.inside.Given.{GoesOn, GivesNext, GivesBatch}
+use Rattle.fetch_stream.specs.inside.Given.{GoesOn, GivesNext, GivesBatch, MayRefuseSource}
 use Rattle.fetch_stream.specs.inside.Written.{HasAnswerTypes}
 
 -- ---- columns of types, as those of fields
@@ -50,9 +49,16 @@ both_short rows rest all e short =
     let both = sym (list_any-append long rows rest) ∙ ap (list_any long) e ∙ short in
     (first_false (list_any long rows) (list_any long rest) both, second_false (list_any long rows) (list_any long rest) both)
 
+-- the rows of a batch, each with its batch's number, and then others
+ahead_rows : (number : Option ℕ) (rows : List Row) (rest : List (Option ℕ × Row))
+    → map (λ (given : Option ℕ × Row). given.1) (map (λ (row : Row). (number, row)) rows ++ rest) ≡ rows ++ map (λ (given : Option ℕ × Row). given.1) rest
+ahead_rows number [] rest = refl
+ahead_rows number (row ∷ rows) rest = ap (λ (more : List Row). row ∷ more) (ahead_rows number rows rest)
+
 gives_batch : (before after : ScanAt) (batch : BatchAt) → IsSource (Scanned before) → GivesRows before batch after → GivesNext (Scanned before) batch (Scanned after)
 gives_batch before after batch is gives =
-    let rows : rows_of batch ++ left after ≡ left before = sym (ap (flat_map (λ (some : ℕ × List Row). some.1)) gives.source) in
+    let rows : rows_of batch ++ left after ≡ left before =
+    sym (ap (map (λ (given : Option ℕ × Row). given.1)) gives.next ∙ ahead_rows gives.number (rows_of batch) after.ahead) in
     let short = both_short (rows_of batch) (left after) (left before) rows is.short in
     let typed : HasAnswerTypes after.schema after.types =
     subst (λ (s : Schema). HasAnswerTypes s after.types) (sym gives.on.schema) (subst (λ (t : List DataType). HasAnswerTypes before.schema t) (sym gives.on.types) is.typed) in
@@ -63,24 +69,34 @@ gives_batch before after batch is gives =
       };
       some = gives.some;
       rows = rows;
+      counted = λ last. gives.counted;
+      within = gives.within;
       columns = answered before.schema before.types batch.columns is.typed gives.typed;
       short = short.0;
     }
 
+-- why a scan was refused, its source was
+refused_scan : (before : ScanAt) (fault : Fault) → MayRefuse before fault → MayRefuseSource (Scanned before) fault
+refused_scan before fault (inl memory) = inl memory
+refused_scan before fault (inr large) =
+    inr (large.0, λ last. omega (arith, large.1, length-map before.ahead (λ (given : Option ℕ × Row). given.1)))
+
 pub scan_gives : (before after : ScanAt) (result : Result (Option BatchAt) Fault) → IsSource (Scanned before) → Gives before result after → GivesBatch (Scanned before) result (Scanned after)
-scan_gives before after result is gives = by before.schema before.types before.by_batch before.batches before.opened before.refused is.begins result is gives
+scan_gives before after result is gives = by before.schema before.types before.ahead before.batches before.opened before.given before.refused is.begins result is gives
   where
-    by : (schema : Schema) (types : List DataType) (by_batch : List (ℕ × List Row)) (batches opened : List ℕ) (refused : Option Fault) → refused ≡ None → (result : Result (Option BatchAt) Fault)
-        → IsSource (Scanned (record { schema = schema; types = types; by_batch = by_batch; batches = batches; opened = opened; refused = refused }))
-        → Gives (record { schema = schema; types = types; by_batch = by_batch; batches = batches; opened = opened; refused = refused }) result after
-        → GivesBatch (Scanned (record { schema = schema; types = types; by_batch = by_batch; batches = batches; opened = opened; refused = refused })) result (Scanned after)
-    by schema types by_batch batches opened (Some fault) none result is gives = absurd cc
-    by schema types by_batch batches opened None none (Ok (Some batch)) is gives =
-        gives_batch (record { schema = schema; types = types; by_batch = by_batch; batches = batches; opened = opened; refused = None }) after batch is gives
-    by schema types by_batch batches opened None none (Ok None) is gives =
-        let scan : ScanAt = record { schema = schema; types = types; by_batch = by_batch; batches = batches; opened = opened; refused = None } in
-        let same : record { schema = schema; types = types; by_batch = by_batch; batches = batches; opened = batches; refused = None } ≡ after = sym gives.1 in
-        let nothing : left scan ≡ [] = ap (flat_map (λ some. some.1)) gives.0 in
-        subst (λ (end : ScanAt). GoesOn (Scanned scan) (Scanned end) × (left scan ≡ []) × (left end ≡ [])) same
-        (record { source = record { schema = is.schema; typed = is.typed; short = is.short; begins = refl }; schema = refl }, nothing, nothing)
-    by schema types by_batch batches opened None none (Err fault) is gives = (gives.0, gives.2)
+    by : (schema : Schema) (types : List DataType) (ahead : List (Option ℕ × Row)) (batches opened : List (ℕ × ℕ)) (given : ℕ) (refused : Option Fault) → refused ≡ None
+        → (result : Result (Option BatchAt) Fault)
+        → IsSource (Scanned (record { schema = schema; types = types; ahead = ahead; batches = batches; opened = opened; given = given; refused = refused }))
+        → Gives (record { schema = schema; types = types; ahead = ahead; batches = batches; opened = opened; given = given; refused = refused }) result after
+        → GivesBatch (Scanned (record { schema = schema; types = types; ahead = ahead; batches = batches; opened = opened; given = given; refused = refused })) result (Scanned after)
+    by schema types ahead batches opened given (Some fault) none result is gives = absurd cc
+    by schema types ahead batches opened given None none (Ok (Some batch)) is gives =
+        gives_batch (record { schema = schema; types = types; ahead = ahead; batches = batches; opened = opened; given = given; refused = None }) after batch is gives
+    by schema types ahead batches opened given None none (Ok None) is gives =
+        let scan : ScanAt = record { schema = schema; types = types; ahead = ahead; batches = batches; opened = opened; given = given; refused = None } in
+        let same : record { schema = schema; types = types; ahead = ahead; batches = batches; opened = batches; given = given; refused = None } ≡ after = sym gives.1 in
+        let nothing : left scan ≡ [] = ap (map (λ (some : Option ℕ × Row). some.1)) gives.0 in
+        subst (λ (end : ScanAt). GoesOn (Scanned scan) (Scanned end) × (left scan ≡ []) × (left end ≡ []) × ((last : BatchAt) → end.given ≡ given)) same
+        (record { source = record { schema = is.schema; typed = is.typed; short = is.short; begins = refl }; schema = refl }, nothing, nothing, λ last. refl)
+    by schema types ahead batches opened given None none (Err fault) is gives =
+        refused_scan (record { schema = schema; types = types; ahead = ahead; batches = batches; opened = opened; given = given; refused = None }) fault gives.0

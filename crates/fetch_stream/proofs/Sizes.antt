@@ -26,7 +26,7 @@ use Rattle.ipc_batch.proofs.WriterLoops.{buffer_more, length_more}
 use Rattle.scan_base.specs.Limits.{most_message_bytes, most_text_bytes}
 use Rattle.table_versions.specs.Table.{is_long_text}
 use Rattle.table_versions.proofs.Storable.{first_false, second_false}
-use Rattle.scan_exec.proofs.Short.{none-take, none-drop}
+use Rattle.fetch_stream.proofs.Short.{none-take, none-drop}
 use Rattle.fetch_stream.specs.Streams.{most_body_bytes}
 use Rattle.flight_info.proofs.Sizes.{short_varint, short_chunk, short_set}
 

@@ -49,13 +49,13 @@ HandleMeans database (Tables number) answer = answer ≡ tables_listed database
 abbrev pub MeansNothing : Database → HandleAt → Type 0
 MeansNothing database handle = (answer : Table) → HandleMeans database handle answer → ⊥
 
--- payloads say a beginning of an answer, not all of it, and no more rows than an answer may have
+-- payloads say a beginning of an answer, or all of it, but no more rows than an answer may have
 abbrev pub SayBeginning : List Payload → Table → Type 0
-SayBeginning payloads answer = (n : ℕ) × (n ≤ most_answer_rows) × (n < length answer.rows)
+SayBeginning payloads answer = (n : ℕ) × (n ≤ most_answer_rows) × (n ≤ length answer.rows)
     × PayloadsSay payloads answer.schema (take n answer.rows)
 
 -- The answer to a handle at its version: what it means, its rows cut into batches freely. Of an answer of too many rows
--- it is a beginning, and where memory is refused before its last row there may be one. A handle that means nothing is a bad ticket.
+-- it is a beginning, and where memory is refused there may be one. A handle that means nothing is a bad ticket.
 abbrev pub FetchAt : Database → HandleAt → List Payload → Option Fault → Type 0
 FetchAt database handle payloads None = (answer : Table) × HandleMeans database handle answer
     × (length answer.rows ≤ most_answer_rows) × PayloadsSay payloads answer.schema answer.rows

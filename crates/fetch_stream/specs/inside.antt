@@ -1,5 +1,6 @@
 -- What contracts of this crate's private functions alone cite.
 pub mod Ahead
+pub mod Collected
 pub mod Cut
 pub mod Given
 pub mod Steps

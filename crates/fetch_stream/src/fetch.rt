@@ -1,16 +1,17 @@
 //! Answering a fetch at a version.
 
-ghost use Rattle.std.specs.Prelude.{◌≡◌, ◌≢◌, [], false, None, IfOk};
-ghost use Rattle.scan_base.specs.declared.fault.Fault.TheVariants.{BadTicket};
+ghost use Rattle.std.specs.Prelude.{◌≡◌, ◌≢◌, [], false, None, Some};
+ghost use Rattle.scan_base.specs.declared.fault.Fault.TheVariants.{BadTicket, ResultTooLarge};
 ghost use Rattle.scan_base.specs.Reading.{Gives};
 ghost use Rattle.endpoint_split.specs.Seen.{handle_seen};
 ghost use Rattle.table_versions.specs.Table.{Table};
 ghost use Rattle.table_versions.specs.Stored.{tables_of};
 ghost use Rattle.flight_info.specs.Replies.{refusal};
 ghost use Rattle.flight_info.specs.Infos.{handle_asked};
-ghost use Rattle.flight_info.specs.Payloads.{PayloadsSay, FitMessages};
+ghost use Rattle.flight_info.specs.Payloads.{FitMessages};
 ghost use Rattle.fetch_stream.specs.Fetches.{version_of, may_mean, FetchAt};
 ghost use Rattle.fetch_stream.specs.Streams.{opened};
+ghost use Rattle.fetch_stream.specs.inside.Collected.{Collects};
 
 use crate::stream::FetchStream;
 use bytes::Bytes;
@@ -43,17 +44,16 @@ pub fn version_of(handle: &Handle<'_>) -> u64
     }
 }
 
-// All payloads that a stream gives.
-fn collected(alloc: Global, mut stream: FetchStream) -> Result<Vec<Bytes>, Fault>
-    ensures said { (answer : Table) → stream ≡ opened answer →
-        IfOk result (λ payloads. PayloadsSay payloads.items answer.schema answer.rows) }
-    ensures fits { IfOk result (λ payloads. FitMessages payloads.items) }
+// Puts all payloads that a stream gives into an empty list, and says what refused it.
+fn collect(alloc: Global, mut stream: FetchStream, payloads: &mut Vec<Bytes>) -> Result<(), Fault>
+    requires { payloads.old.items ≡ [] }
+    ensures said { (answer : Table) → stream ≡ opened answer → Collects answer payloads.new.items result }
+    ensures fits { FitMessages payloads.new.items }
 {
-    let mut payloads = Vec::new(alloc);
     while let Some(payload) = stream.next(alloc)? {
         payloads.push(payload.into_bytes()?)?;
     }
-    Ok(payloads)
+    Ok(())
 }
 
 /// The answer to a handle at a version of the catalog: what a [`FetchStream`] of it gives. Each payload is a FlightData,
@@ -61,22 +61,29 @@ fn collected(alloc: Global, mut stream: FetchStream) -> Result<Vec<Bytes>, Fault
 ///
 /// # Errors
 ///
-/// The reply's fault, and then no payload: F17 (`Fault::BadTicket`) where the query does not parse or is not bound
-/// at this version, and where the range is not within the rows of its first place, so never for the list of tables; F21
-/// (`Fault::OutOfMemory`) where memory is refused, but neither for a query of more than 16,384 bytes nor for a range that
-/// ends before it begins.
+/// The reply's fault: F20 (`Fault::ResultTooLarge`) where the answer has more than 67,108,864 rows, behind a beginning of
+/// it; else no payload, and F17 (`Fault::BadTicket`) where the query does not parse or is not bound at this version, where
+/// the range is not within the rows of its first place, and where the query makes groups and the range is not all of them,
+/// so never for the list of tables; F21 (`Fault::OutOfMemory`) where memory is refused, but neither for a query of more than
+/// 16,384 bytes nor for a range that ends before it begins.
 pub fn answer_fetch(alloc: Global, snapshot: &Snapshot, handle: &Handle<'_>) -> Reply
     ensures answer { FetchAt (tables_of snapshot.now.catalog) (handle_seen handle.now)
         result.payloads result.fault }
     ensures first { may_mean (handle_seen handle.now) ≡ false → result ≡ refusal BadTicket }
-    ensures none { result.fault ≢ None → result.payloads ≡ [] }
+    ensures none { result.fault ≢ None → result.fault ≢ Some ResultTooLarge → result.payloads ≡ [] }
     ensures fits { FitMessages result.payloads }
 {
-    match FetchStream::new(alloc, snapshot, handle, 1) {
-        Ok(stream) => match collected(alloc, stream) {
-            Ok(payloads) => Reply::whole(payloads),
-            Err(_) => Reply::refusal(alloc, Fault::OutOfMemory),
+    let stream = match FetchStream::new(alloc, snapshot, handle, 1) {
+        Ok(stream) => stream,
+        Err(fault) => return Reply::refusal(alloc, fault),
+    };
+    let mut payloads = Vec::new(alloc);
+    match collect(alloc, stream, &mut payloads) {
+        Ok(()) => Reply::whole(payloads),
+        Err(Fault::ResultTooLarge) => Reply {
+            payloads,
+            fault: Some(Fault::ResultTooLarge),
         },
-        Err(fault) => Reply::refusal(alloc, fault),
+        Err(_) => Reply::refusal(alloc, Fault::OutOfMemory),
     }
 }

@@ -34,7 +34,8 @@ impl Source {
     ///
     /// # Errors
     ///
-    /// F21 (`Fault::OutOfMemory`) where memory is refused, and from then on.
+    /// F20 (`Fault::ResultTooLarge`) where the answer has more than 67,108,864 rows, and F21 (`Fault::OutOfMemory`) where
+    /// memory is refused; and from then on.
     pub(crate) fn next(&mut self, alloc: Global) -> Result<Option<Batch>, Fault>
         requires { IsSource self.old }
         ensures { GivesBatch self.old result self.new }

@@ -1,6 +1,6 @@
 //! Streams: an answer, one payload at a time.
 
-ghost use Rattle.std.specs.Prelude.{◌≡◌, ◌≢◌, ◌≤◌, ◌<◌, ◌++◌, false, None, length, nat_le, Err, IfOk, IfErr};
+ghost use Rattle.std.specs.Prelude.{◌≡◌, ◌≢◌, ◌≤◌, ◌<◌, ◌++◌, true, false, None, length, nat_le, Err, IfOk, IfErr};
 ghost use Rattle.std.specs.List.{list_any};
 ghost use Rattle.scan_base.specs.declared.fault.Fault.TheVariants.{BadTicket, LimitReached, OutOfMemory};
 ghost use Rattle.scan_base.specs.Limits.{most_answer_rows, most_query_bytes};
@@ -14,7 +14,7 @@ ghost use Rattle.flight_info.specs.Meant.{Meant};
 ghost use Rattle.flight_info.specs.Tables.{tables_listed};
 ghost use Rattle.fetch_stream.specs.Fetches.{may_mean};
 ghost use Rattle.fetch_stream.specs.Streams.{Gives, Opens, opened};
-ghost use Rattle.fetch_stream.specs.inside.Ahead.{IsGoing, IsSource, AnsweredAs, schema_behind, left_behind};
+ghost use Rattle.fetch_stream.specs.inside.Ahead.{IsGoing, IsSource, AnsweredAs, schema_behind, left_behind, rows_taken};
 ghost use Rattle.fetch_stream.specs.inside.Steps.{GivesFirst, Refills, GivesRows};
 
 use crate::cutter::Cutter;
@@ -25,7 +25,7 @@ use arrays::Batch;
 use arrays::laws::batch_slices_keep_rows;
 use arrow_schema::Schema;
 use endpoint_split::{Handle, Range};
-use flight_info::{plan_text, tables_batch, tables_schema};
+use flight_info::{Planned, plan_text, tables_batch, tables_schema};
 use scan_base::Fault;
 use scan_exec::Scan;
 use std::alloc::{AllocError, Global};
@@ -45,7 +45,7 @@ pub struct FetchStream {
 impl Model for FetchStream {
     ghost use Rattle.std.specs.Prelude.{◌≡◌, ◌++◌, None};
     ghost use Rattle.fetch_stream.specs.Streams.{StreamAt};
-    ghost use Rattle.fetch_stream.specs.inside.Ahead.{IsGoing, schema_behind, left_behind, uncut};
+    ghost use Rattle.fetch_stream.specs.inside.Ahead.{IsGoing, schema_behind, left_behind, rows_cut, uncut};
 
     ghost Value = { StreamAt };
 
@@ -53,6 +53,7 @@ impl Model for FetchStream {
       schema = schema_behind s.source;
       begun = s.begun;
       left = uncut s.cutter ++ left_behind s.source;
+      given = rows_cut s.cutter s.source;
       refused = s.refused;
     } };
 
@@ -65,10 +66,13 @@ impl FetchStream {
         requires source { IsSource source }
         requires columns { 0 < batch.rows → AnsweredAs (schema_behind source) batch.columns }
         requires short { list_any (list_any is_long_text) (rows_of batch) ≡ false }
+        requires all { rows_taken batch source ≡ batch.rows }
+        requires few { batch.rows ≤ most_answer_rows }
         ensures { result ≡ record {
           schema = schema_behind source;
           begun = false;
           left = rows_of batch ++ left_behind source;
+          given = 0;
           refused = None;
         } }
     {
@@ -86,8 +90,9 @@ impl FetchStream {
     ///
     /// # Errors
     ///
-    /// F17 (`Fault::BadTicket`) where the query does not parse or is not bound at this version, and where the range is not
-    /// within the rows of its first place, so never for the list of tables; F21 (`Fault::OutOfMemory`) where memory is
+    /// F17 (`Fault::BadTicket`) where the query does not parse or is not bound at this version, where the range is not
+    /// within the rows of its first place, and where the query makes groups and the range is not all of them, so never for
+    /// the list of tables; F21 (`Fault::OutOfMemory`) where memory is
     /// refused, but neither for a query of more than 16,384 bytes nor for a range that ends before it begins.
     pub fn new(
         alloc: Global,
@@ -114,7 +119,8 @@ impl FetchStream {
     ///
     /// # Errors
     ///
-    /// F21 (`Fault::OutOfMemory`) where memory is refused.
+    /// F20 (`Fault::ResultTooLarge`) where the answer has more than 67,108,864 rows, behind a beginning of it; F21
+    /// (`Fault::OutOfMemory`) where memory is refused.
     pub fn next(&mut self, alloc: Global) -> Result<Option<Payload>, Fault>
         ensures { Gives self.old result self.new }
     {
@@ -174,6 +180,14 @@ fn next_rows(
     Ok(Some(cutter.next(alloc)?))
 }
 
+// How many rows a range of a query has at least: all of the first place, where the query makes groups.
+fn least_rows(planned: &Planned) -> usize
+    ensures whole { planned.now.grouped ≡ true → result ≡ planned.now.rows }
+    ensures part { planned.now.grouped ≡ false → result ≡ 0 }
+{
+    if planned.grouped { planned.rows } else { 0 }
+}
+
 // The stream of what a query means over a range of its first place, which does not end before it begins.
 fn open_query(
     alloc: Global,
@@ -183,8 +197,7 @@ fn open_query(
 ) -> Result<FetchStream, Fault>
     requires ordered { range.from ≤ range.to }
     ensures opened { IfOk result (λ stream. (answer : Table)
-        × Meant (tables_of catalog.now) range.from range.to text.now answer
-        × (length answer.rows ≤ most_answer_rows) × (stream ≡ opened answer)) }
+        × Meant (tables_of catalog.now) range.from range.to text.now answer × (stream ≡ opened answer)) }
     ensures refused { IfErr result (λ fault. fault ≢ OutOfMemory →
         (answer : Table) → Meant (tables_of catalog.now) range.from range.to text.now answer → ⊥) }
     ensures first { RefusesFirst result (demand (nat_le (length text.now) most_query_bytes) LimitReached) }
@@ -194,15 +207,19 @@ fn open_query(
     if to > planned.rows {
         return Err(Fault::BadTicket);
     }
-    let scan = Scan::new(alloc, planned.plan, from, to)?;
+    let count = to - from;
+    let least = least_rows(&planned);
+    if count < least {
+        return Err(Fault::BadTicket);
+    }
+    let scan = Scan::new(alloc, catalog.seed(), planned.plan, from..to)?;
     let nothing = Batch::new(Vec::new(alloc), 0);
     Ok(FetchStream::of(nothing, Source::Scanned(scan)))
 }
 
 // The stream of the list of tables.
 fn open_tables(alloc: Global, catalog: &CatalogVersion) -> Result<FetchStream, AllocError>
-    ensures { IfOk result (λ stream. (length (tables_listed (tables_of catalog.now)).rows ≤ most_answer_rows)
-        × (stream ≡ opened (tables_listed (tables_of catalog.now)))) }
+    ensures { IfOk result (λ stream. stream ≡ opened (tables_listed (tables_of catalog.now))) }
 {
     let schema = tables_schema(alloc)?;
     let batch = tables_batch(alloc, catalog)?;

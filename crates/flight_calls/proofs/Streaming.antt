@@ -1,5 +1,5 @@
 -- A stream as it is sent.
-use Rattle.std.proofs.Common.{◌≡◌, ◌≢◌, ◌≤◌, ℕ, false, List, [], ◌∷◌, ◌++◌, length, Option, Some, None, Result, Ok, Err, ◌⊎◌, inr, refl, sym, ap, subst, ◌∙◌}
+use Rattle.std.proofs.Common.{◌≡◌, ◌≤◌, ℕ, List, [], ◌∷◌, ◌++◌, length, Option, Some, None, Result, Ok, Err, inl, refl, sym, ap, subst}
 use Rattle.std.proofs.lemmas.List.Elements.{All-append, All-cons, All-nil}
 use Rattle.scan_base.specs.declared.fault.Fault.{Fault}
 use Rattle.scan_base.specs.declared.fault.Fault.TheVariants.{OutOfMemory}
@@ -14,8 +14,8 @@ use Rattle.table_versions.specs.Database.{Database}
 use Rattle.flight_info.specs.Payloads.{Payload, FitMessages}
 use Rattle.flight_info.specs.Replies.{ReplyAt}
 use Rattle.fetch_stream.specs.Fetches.{FetchAt}
-use Rattle.fetch_stream.specs.Streams.{StreamAt, Opens, Gives, GivesPayload, HasGiven, StreamsAnswer, opened}
-use Rattle.fetch_stream.proofs.Answering.{gave, ended}
+use Rattle.fetch_stream.specs.Streams.{StreamAt, Opens, Gives, HasGiven, StreamsAnswer, opened}
+use Rattle.fetch_stream.proofs.Answering.{gave, ended, was_refused}
 use Rattle.flight_calls.specs.Answered.{SendsReply}
 use Rattle.flight_calls.proofs.Writing.{messages_bytes, none_sent, payload_sent, payload_not_sent, status_sent}
 
@@ -65,24 +65,16 @@ module _ (law : StreamsAnswer) where
         sent = payload_sent a b c before mid after has.payloads payload has.sent more;
       }
 
-  -- or not: it was the last one, or what went before it and it are a beginning of an answer that memory cut short
+  -- or not: what went before it and it are a beginning of an answer that memory cut short
   pub stream_fails : (fault : Fault) (first stream next : StreamAt) (payload : Payload) (a b c : Option (List ℕ)) (before mid after : List ℕ) → HasSent first stream a b before mid
       → Gives stream (Ok (Some payload)) next → NotSent b c mid after (spelling (Message payload)) → (database : Database) (handle : HandleAt) → Opens database handle (Ok first)
       → SendsFetch database handle (Err fault) a c before after
   stream_fails fault first stream next payload a b c before mid after has gives failed database handle opens =
       let one = gave stream next payload gives in
-      by one (law.go_on opens.0 has.payloads stream next payload (has.given opens.0 opens.3) one) next.left refl
-    where
-      by : GivesPayload stream payload next → HasGiven opens.0 (has.payloads ++ payload ∷ []) next → (left : List Row) → next.left ≡ left → SendsFetch database handle (Err fault) a c before after
-      by one all [] none = record {
-        reply = record { payloads = has.payloads ++ payload ∷ []; fault = None };
-        right = law.end database handle opens.0 (has.payloads ++ payload ∷ []) next opens.1 opens.2 all one.begun none;
-        fits = one_fits has.payloads payload has.fits one.fits;
-        sent = payload_not_sent a b c before mid after has.payloads payload (status_of None) has.sent failed;
-      }
-      by one all (row ∷ rows) more = record {
+      let all = law.go_on opens.0 has.payloads stream next payload (has.given opens.0 opens.2) one in
+      record {
         reply = record { payloads = has.payloads ++ payload ∷ []; fault = Some OutOfMemory };
-        right = law.refused database handle opens.0 (has.payloads ++ payload ∷ []) next opens.1 opens.2 all (inr (λ none. let both = sym more ∙ none in cc));
+        right = law.refused database handle opens.0 (has.payloads ++ payload ∷ []) next OutOfMemory opens.1 all (inl refl);
         fits = one_fits has.payloads payload has.fits one.fits;
         sent = payload_not_sent a b c before mid after has.payloads payload (status_of (Some OutOfMemory)) has.sent failed;
       }
@@ -94,37 +86,21 @@ module _ (law : StreamsAnswer) where
       let end = ended stream next gives in
       record {
         reply = record { payloads = has.payloads; fault = None };
-        right = law.end database handle opens.0 has.payloads stream opens.1 opens.2 (has.given opens.0 opens.3) end.0 end.1;
+        right = law.end database handle opens.0 has.payloads stream opens.1 (has.given opens.0 opens.2) end.0 end.1;
         fits = has.fits;
         sent = status_sent r a b c before mid after has.payloads (status_of None) has.sent last;
       }
 
-  -- memory refused the stream
-  refused_so : (fault : Fault) (stream next : StreamAt) → stream.refused ≡ None → Gives stream (Err fault) next → fault ≡ OutOfMemory
-  refused_so fault stream next none gives = by stream.refused none gives
-    where
-      by : (refused : Option Fault) → refused ≡ None → Gives (record stream { refused = refused }) (Err fault) next → fault ≡ OutOfMemory
-      by None is gives = gives.0
-      by (Some other) is gives = absurd cc
-
-  -- which it does only where something is left
-  refused_left : (fault : Fault) (stream next : StreamAt) → stream.refused ≡ None → Gives stream (Err fault) next → (stream.begun ≡ false) ⊎ (stream.left ≢ [])
-  refused_left fault stream next none gives = by stream.refused none gives
-    where
-      by : (refused : Option Fault) → refused ≡ None → Gives (record stream { refused = refused }) (Err fault) next → (stream.begun ≡ false) ⊎ (stream.left ≢ [])
-      by None is gives = gives.2
-      by (Some other) is gives = absurd cc
-
+  -- the stream was refused
   pub stream_refused : (r : Result (Unit {0}) Fault) (fault : Fault) (first stream next : StreamAt) (a b c : Option (List ℕ)) (before mid after : List ℕ) → HasSent first stream a b before mid
       → Gives stream (Err fault) next → Sends r b c mid after (spelling (status_of (Some fault))) → (database : Database) (handle : HandleAt) → Opens database handle (Ok first)
       → SendsFetch database handle r a c before after
   stream_refused r fault first stream next a b c before mid after has gives last database handle opens =
-      let none : first.refused ≡ None = ap (λ (s : StreamAt). s.refused) opens.3 in
-      let memory : fault ≡ OutOfMemory = refused_so fault stream next (has.going none) gives in
+      let none : first.refused ≡ None = ap (λ (s : StreamAt). s.refused) opens.2 in
+      let why = was_refused stream next fault (has.going none) gives in
       record {
         reply = record { payloads = has.payloads; fault = Some fault };
-        right = subst (λ (f : Fault). FetchAt database handle has.payloads (Some f)) (sym memory)
-            (law.refused database handle opens.0 has.payloads stream opens.1 opens.2 (has.given opens.0 opens.3) (refused_left fault stream next (has.going none) gives));
+        right = law.refused database handle opens.0 has.payloads stream fault opens.1 (has.given opens.0 opens.2) why;
         fits = has.fits;
         sent = status_sent r a b c before mid after has.payloads (status_of (Some fault)) has.sent last;
       }

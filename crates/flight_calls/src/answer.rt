@@ -117,7 +117,7 @@ fn send_payload<W: Output>(
     Ok(())
 }
 
-// Sends what a stream gives, and then the Status. Where memory refuses the stream, a beginning is sent, and F21.
+// Sends what a stream gives, and then the Status. Where the stream is refused, a beginning is sent, and the fault: F20 or F21.
 fn send_stream<W: Output>(
     alloc: Global,
     writer: &mut W,

@@ -10,6 +10,7 @@ use crate::call::{Arrival, read_call};
 use crate::setting::Options;
 use flight_core::Plain;
 use grpc_frame::{Inbox, Input, Outbox, Output};
+use hash_seed::HashSeed;
 use scan_base::Fault;
 use std::alloc::Global;
 
@@ -58,13 +59,14 @@ pub fn serve<R: Input, W: Output>(
     }
 }
 
-/// Serves a connection on a catalog of its own, which is empty at first.
+/// Serves a connection on a catalog of its own, which is empty at first. Hashes of its values begin with the seed.
 ///
 /// # Errors
 ///
 /// Those of `serve`, and `Fault::OutOfMemory` (F21) where memory for the catalog is refused.
 pub fn serve_alone<R: Input, W: Output>(
     alloc: Global,
+    seed: HashSeed,
     reader: &mut R,
     writer: &mut W,
     options: Options,
@@ -77,7 +79,7 @@ pub fn serve_alone<R: Input, W: Output>(
         (connection_of (R.remaining reader.new) (W.contents writer.new)
         (R.failures reader.new) (W.failures writer.new) log) }
 {
-    match Plain::new(alloc) {
+    match Plain::new(alloc, seed) {
         Ok(mut plain) => serve(alloc, reader, writer, &mut plain, options),
         Err(fault) => refuse(writer, &mut Outbox::new(alloc), fault),
     }

@@ -23,6 +23,7 @@ use bytes::Bytes;
 use fetch_stream::{FetchStream, answer_fetch, read_ticket, version_of};
 use flight_info::{Reply, answer_info, answer_schema, answer_tables, payload_of};
 use flight_proto::put_rows_put;
+use hash_seed::HashSeed;
 use scan_base::Fault;
 use std::alloc::{AllocError, Global};
 use table_versions::{MAX_ROWS, Put};
@@ -131,18 +132,18 @@ pub fn step(alloc: Global, plain: &mut Plain, event: &Event) -> Reply
 /// The replies to a list of events, from the empty log on: one for each. Every version of the log that they leave
 /// has tables alone. What is refused changes nothing. If every endpoint of an info was fetched to its end, the rows
 /// that the fetches say, joined in the order of the endpoints, are those that the query means on the tables as they
-/// stood when the info was given.
+/// stood when the info was given. They are these whatever the seed is, with which hashes of values begin.
 ///
 /// # Errors
 ///
 /// F21 (`Fault::OutOfMemory`) where memory is refused for the list itself, and no other.
-pub fn run(alloc: Global, events: &[Event]) -> Result<Vec<Reply>, Fault>
+pub fn run(alloc: Global, seed: HashSeed, events: &[Event]) -> Result<Vec<Reply>, Fault>
     ensures ok { IfOk result (λ replies. (log : Log) × Run [] (map asked_in events.now) replies.items log
         × HasDatabases log × RefusedLeaveNothing (map asked_in events.now) replies.items log) }
     ensures headline { IfOk result (λ replies. Headline (map asked_in events.now) replies.items) }
     ensures err { IfErr result (λ fault. fault ≡ OutOfMemory) }
 {
-    let mut plain = Plain::new(alloc)?;
+    let mut plain = Plain::new(alloc, seed)?;
     let mut replies = Vec::new(alloc);
     for event in events {
         let reply = step(alloc, &mut plain, event);

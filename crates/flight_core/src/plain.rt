@@ -9,6 +9,7 @@ ghost use Rattle.table_versions.specs.Database.{after, put_faults};
 ghost use Rattle.table_versions.specs.Stored.{put_of, tables_of};
 ghost use Rattle.table_versions.specs.Valid.{IsPut};
 
+use hash_seed::HashSeed;
 use scan_base::Fault;
 use std::alloc::Global;
 use std::marker::Model;
@@ -46,17 +47,17 @@ impl Model for Plain {
 }
 
 impl Plain {
-    /// Version 0 alone.
+    /// Version 0 alone. Hashes of values begin with the seed.
     ///
     /// # Errors
     ///
     /// F21 (`Fault::OutOfMemory`) where memory is refused.
     #[tactic(auto, unfolding(crate::specs::Versions::versions_of))]
-    pub fn new(alloc: Global) -> Result<Plain, Fault>
+    pub fn new(alloc: Global, seed: HashSeed) -> Result<Plain, Fault>
         ensures ok { IfOk result (λ plain. plain ≡ []) }
         ensures err { IfErr result (λ fault. fault ≡ OutOfMemory) }
     {
-        let catalog = Arc::new(alloc, CatalogVersion::empty(alloc))?;
+        let catalog = Arc::new(alloc, CatalogVersion::empty(alloc, seed))?;
         Ok(Plain {
             empty: Snapshot::new(0, catalog),
             later: Vec::new(alloc),

@@ -1,5 +1,5 @@
 -- What an info is made of, from what was found.
-use Rattle.std.proofs.Common.{◌≡◌, ◌≤◌, ◌<◌, ◌^◌, ◌++◌, ℕ, zero, suc, nat_le, Bool, true, false, List, [], ◌∷◌, length, map, replicate, All, Ok, refl, sym, ap, subst, ◌∙◌, arith, rules, length-append}
+use Rattle.std.proofs.Common.{◌≡◌, ◌≤◌, ◌<◌, ◌^◌, ◌++◌, ◌+◌, ◌*◌, ◌/◌, ℕ, zero, suc, nat_le, Bool, true, false, List, [], ◌∷◌, length, map, replicate, All, Ok, refl, sym, ap, subst, ◌∙◌, arith, rules, length-append}
 use Rattle.std.specs.Prelude.{IsUtf8}
 use Rattle.std.proofs.lemmas.List.{length-map, length-replicate}
 use Rattle.std.proofs.lemmas.List.Elements.{All-nil, All-cons}
@@ -20,14 +20,14 @@ use Rattle.proto_wire.specs.Calls.{chunk_entry}
 use Rattle.proto_wire.specs.Writing.{spelling}
 use Rattle.flight_proto.specs.Wanted.{rows_of, tables}
 use Rattle.flight_proto.specs.Wrapped.{wrapped_bytes}
+use Rattle.sql_query.specs.Sentence.{is_grouped}
 use Rattle.table_versions.specs.Database.{Database}
 use Rattle.typed_plan.specs.Plan.{PlanAt}
 use Rattle.flight_info.specs.Meant.{first_rows, result_over}
 use Rattle.flight_info.specs.Planned.{IsPlanned}
 use Rattle.flight_info.specs.Tables.{tables_schema, tables_listed}
-use Rattle.flight_info.specs.Infos.{ranges_asked, IsSchemaForm}
+use Rattle.flight_info.specs.Infos.{ranges_over, ranges_asked, IsSchemaForm}
 use Rattle.flight_info.specs.inside.Described.{ticket_bytes, text_in, most_form_bytes, HasForm, Describes}
-use Rattle.flight_info.proofs.Meaning.{ungrouped}
 use Rattle.flight_info.proofs.Sizes.{short_chunk, short_set}
 
 -- ---- a schema in IPC form
@@ -100,7 +100,24 @@ text_short {X} x text first = by (nat_le (length text) most_query_bytes) refl fi
     by true e first = search (rules, e)
     by false e first = absurd cc
 
-module _ (database : Database) (text : List ℕ) (plan : PlanAt) (rows : ℕ) (planned : IsPlanned database text plan rows)
+-- of so many rows one part is the whole
+pub one_range : (rows : ℕ) → ranges_of rows 1 ≡ record { from = 0; to = rows } ∷ []
+unfolding ranges_of
+one_range rows =
+    let one : count_of rows 1 ≡ 1 = omega arith in
+    let begin : 0 * rows / 1 ≡ 0 = omega arith in
+    let end : (0 + 1) * rows / 1 ≡ rows = omega arith in
+    rw (one, begin, end) refl
+
+parts_are : (grouped : Bool) (rows parts : ℕ) → IsPartition 0 rows (ranges_over grouped rows parts)
+parts_are true rows parts = (refl, omega arith, refl)
+parts_are false rows parts = ranges_are_partition rows parts
+
+few_parts : (grouped : Bool) (rows parts : ℕ) → length (ranges_over grouped rows parts) ≤ most_endpoints
+few_parts true rows parts = omega arith
+few_parts false rows parts = few_ranges rows parts
+
+module _ (database : Database) (text : List ℕ) (plan : PlanAt) (rows : ℕ) (grouped : Bool) (planned : IsPlanned database text plan rows grouped)
     (form : List ℕ) (is : IsSchemaForm form plan.schema) (small : length form ≤ most_form_bytes) where
   formed : IsSchemaForm form (result_over planned.query database 0 (first_rows database planned.query)).schema
   formed = subst (IsSchemaForm form) planned.of.schema is
@@ -114,13 +131,13 @@ module _ (database : Database) (text : List ℕ) (plan : PlanAt) (rows : ℕ) (p
   }
 
   -- the ranges of the rows are those that the query is asked for
-  same_ranges : (parts : ℕ) → ranges_asked planned.query database parts ≡ ranges_of rows parts
-  same_ranges parts = rw (ungrouped planned.query database planned.asks.bound) (ap (λ (n : ℕ). ranges_of n parts) (sym planned.counted))
+  same_ranges : (parts : ℕ) → ranges_asked planned.query database parts ≡ ranges_over grouped rows parts
+  same_ranges parts = ap (λ (n : ℕ). ranges_over (is_grouped planned.query) n parts) (sym planned.counted) ∙ ap (λ (g : Bool). ranges_over g rows parts) (sym planned.groups)
 
   pub query_described : (n parts : ℕ) (tickets : List (List ℕ)) → n < 2 ^ 64 → IsUtf8 text → length text ≤ most_query_bytes
-      → tickets ≡ map (λ (range : Range). ticket_bytes (query_at n text range)) (ranges_of rows parts) → Describes database n parts (rows_of text) form tickets
+      → tickets ≡ map (λ (range : Range). ticket_bytes (query_at n text range)) (ranges_over grouped rows parts) → Describes database n parts (rows_of text) form tickets
   query_described n parts tickets here utf8 short are =
-      let ranges = ranges_of rows parts in
+      let ranges = ranges_over grouped rows parts in
       record {
         answer = result_over planned.query database 0 (first_rows database planned.query);
         answers = (planned.query, planned.asks, refl);
@@ -128,9 +145,9 @@ module _ (database : Database) (text : List ℕ) (plan : PlanAt) (rows : ℕ) (p
         handles = map (query_at n text) ranges;
         right = (planned.query, planned.asks, ap (map (query_at n text)) (sym (same_ranges parts)));
         written = are ∙ tickets_are n text ranges;
-        sound = sound_handles n text here utf8 0 rows ranges (ranges_are_partition rows parts) (omega (arith, planned.few));
+        sound = sound_handles n text here utf8 0 rows ranges (parts_are grouped rows parts) (omega (arith, planned.few));
         short = short_handles n text short ranges;
-        few = omega (arith, few_ranges rows parts, length-map ranges (query_at n text));
+        few = omega (arith, few_parts grouped rows parts, length-map ranges (query_at n text));
         small = small;
       }
 

@@ -1,9 +1,8 @@
 -- What a text says, and what is planned of it.
-use Rattle.std.proofs.Common.{◌≡◌, ◌≤◌, ◌==◌, ◌||◌, not, ℕ, Bool, true, false, List, length, map, Option, Some, None, Result, Ok, refl, sym, ap, ◌∙◌}
+use Rattle.std.proofs.Common.{◌≡◌, ◌≤◌, ℕ, Bool, get_or, List, [], ◌∷◌, map, Option, Some, None, Result, Ok, sym, ap, ◌∙◌}
 use Rattle.std.specs.Prelude.{IfSome}
 use Rattle.std.proofs.lemmas.List.Elements.{All-weaker}
 use Rattle.scan_base.specs.declared.fault.Fault.{Fault}
-use Rattle.scan_base.specs.declared.fault.Fault.TheVariants.{NotInSubset}
 use Rattle.scan_base.specs.Limits.{most_rows}
 use Rattle.arrow_schema.specs.Schema.{IsSchema}
 use Rattle.sql_text.specs.Reading.{tokens_in}
@@ -22,8 +21,7 @@ use Rattle.table_versions.specs.Database.{Database, table_at}
 use Rattle.table_versions.specs.Stored.{CatalogAt, TableAt, plain, tables_of}
 use Rattle.table_versions.proofs.Stores.{table_at-tables_of}
 use Rattle.typed_plan.specs.Binding.{IsPlanOf}
-use Rattle.typed_plan.specs.Bound.{fault_of, rules_fault}
-use Rattle.typed_plan.specs.Faults.{must, ◌then◌}
+use Rattle.typed_plan.specs.Bound.{fault_of}
 use Rattle.typed_plan.specs.Joined.{place_rows, rows_in}
 use Rattle.typed_plan.specs.Named.{IsNameIfThere, HasNames}
 use Rattle.typed_plan.specs.Plan.{PlanAt}
@@ -46,25 +44,18 @@ one_sentence text s other a b =
 
 -- ---- what is planned
 
-pub planned : (database : Database) (text : List ℕ) (query : ParsedQuery) (plan : PlanAt) (rows : ℕ) → Parsed sentence_of text (Ok query) → fault_of (sentence_of query) database ≡ None
-    → IsPlanOf (sentence_of query) database plan → rows ≡ first_rows database (sentence_of query) → rows ≤ most_rows → IsSchema plan.schema → IsPlanned database text plan rows
-planned database text query plan rows says bound of counted few schema = record {
+pub planned : (database : Database) (text : List ℕ) (query : ParsedQuery) (plan : PlanAt) (rows : ℕ) (grouped : Bool) → Parsed sentence_of text (Ok query)
+    → fault_of (sentence_of query) database ≡ None → IsPlanOf (sentence_of query) database plan → rows ≡ first_rows database (sentence_of query) → rows ≤ most_rows
+    → grouped ≡ is_grouped (sentence_of query) → IsSchema plan.schema → IsPlanned database text plan rows grouped
+planned database text query plan rows grouped says bound of counted few groups schema = record {
   query = sentence_of query;
   asks = record { says = says; bound = bound };
   of = of;
   counted = counted;
   few = few;
+  groups = groups;
   schema = schema;
 }
-
--- until groups are built, no query that is bound is grouped
-first_none : (joined grouped : Bool) (rest : Option Fault) → (must (not (joined || grouped)) NotInSubset then rest) ≡ None → grouped ≡ false
-first_none true grouped rest e = absurd cc
-first_none false true rest e = absurd cc
-first_none false false rest e = refl
-
-pub ungrouped : (query : Sentence) (database : Database) → fault_of query database ≡ None → is_grouped query ≡ false
-ungrouped query database bound = first_none (not (length query.joins == 0)) (is_grouped query) (rules_fault query database) bound
 
 -- the names of a query that was parsed are names
 alias_is : (alias : Option Name) → IfSome alias IsQueryName → IsNameIfThere alias
@@ -77,6 +68,16 @@ names_are (select.List items) named =
     (named.0, All-weaker ItemHasNames (λ (item : SelectItem). IsNameIfThere item.alias) (λ item has. alias_is item.alias has.alias) items named.1)
 
 -- ---- the first place
+
+-- the first table that a plan holds is the one of the first place
+pub first_held : (catalog : CatalogAt) (name : Name) (names all : List Name) (tables : List TableAt) → map (table_at catalog) all ≡ map (λ (table : TableAt). Some table) tables
+    → all ≡ name ∷ names → (table : TableAt) → table ≡ get_or tables 0 table → table_at catalog name ≡ Some table
+first_held catalog name names all [] held is table there =
+    let both : table_at catalog name ∷ map (table_at catalog) names ≡ [] = ap (map (table_at catalog)) (sym is) ∙ held in cc
+first_held catalog name names all (first ∷ rest) held is table there =
+    let both : table_at catalog name ∷ map (table_at catalog) names ≡ Some first ∷ map (λ (table : TableAt). Some table) rest = ap (map (table_at catalog)) (sym is) ∙ held in
+    let same : table ≡ first = there in
+    cc
 
 pub place_is : (catalog : CatalogAt) (place : Place) (found : Option TableAt) → table_at catalog place.table ≡ found → place_rows (tables_of catalog) place ≡ rows_in (plain found)
 place_is catalog place found e = ap rows_in (table_at-tables_of catalog place.table ∙ ap plain e)

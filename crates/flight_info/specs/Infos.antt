@@ -1,5 +1,5 @@
 -- What a flight info and a schema answer.
-use Rattle.std.specs.Prelude.{◌≡◌, ◌≢◌, ℕ, negsuc, true, false, nat_le, List, [], ◌∷◌, length, map, All, Option, Some, None, Result, Ok, Err, if◌then◌else◌}
+use Rattle.std.specs.Prelude.{◌≡◌, ◌≢◌, ℕ, negsuc, Bool, true, false, nat_le, List, [], ◌∷◌, length, map, All, Option, Some, None, Result, Ok, Err, if◌then◌else◌}
 use Rattle.scan_base.specs.declared.fault.Fault.{Fault}
 use Rattle.scan_base.specs.declared.fault.Fault.TheVariants.{OutOfMemory, UnknownCommand, LimitReached}
 use Rattle.scan_base.specs.Limits.{most_query_bytes}
@@ -52,11 +52,13 @@ schema_wanted payload = wanted_in payload >>= short_enough
 
 -- ---- the endpoints
 
--- the ranges of a query in so many parts; one that is grouped has one range, the whole
+-- the ranges of so many rows in so many parts; of a query that is grouped there is one, the whole
+abbrev pub ranges_over : Bool → ℕ → ℕ → List Range
+ranges_over grouped rows parts = if grouped then record { from = 0; to = rows } ∷ [] else ranges_of rows parts
+
+-- the ranges of a query in so many parts
 abbrev pub ranges_asked : Sentence → Database → ℕ → List Range
-ranges_asked query database parts =
-    let rows = first_rows database query in
-    if is_grouped query then record { from = 0; to = rows } ∷ [] else ranges_of rows parts
+ranges_asked query database parts = ranges_over (is_grouped query) (first_rows database query) parts
 
 -- the handles of what is wanted, pinned to version n, in so many parts; the list of tables has one
 abbrev pub HasHandles : Database → ℕ → ℕ → Wanted → List HandleAt → Type 0

@@ -12,7 +12,7 @@ ghost use Rattle.flight_proto.specs.Wanted.{rows_of, tables, wanted_said};
 ghost use Rattle.flight_proto.specs.Wrapped.{wrapped_bytes};
 ghost use Rattle.table_versions.specs.Stored.{tables_of};
 ghost use Rattle.flight_info.specs.inside.Described.{ticket_bytes, most_form_bytes, HasForm, Describes};
-ghost use Rattle.flight_info.specs.Infos.{rows_wanted, tables_wanted, schema_wanted, short_enough, IsSchemaForm, InfoAt, SchemaAt};
+ghost use Rattle.flight_info.specs.Infos.{rows_wanted, tables_wanted, schema_wanted, short_enough, ranges_over, IsSchemaForm, InfoAt, SchemaAt};
 ghost use Rattle.flight_info.specs.Meant.{Misses};
 ghost use Rattle.flight_info.specs.Payloads.{FitMessages};
 
@@ -21,7 +21,7 @@ use crate::reply::{Reply, payload_of};
 use crate::tables::tables_schema;
 use arrow_schema::{Schema, encapsulate, write_schema};
 use bytes::Bytes;
-use endpoint_split::{Handle, Range, split, write_handle};
+use endpoint_split::{Handle, Range, Ranges, split, write_handle};
 use flight_proto::{Wanted, put_flight_info, put_statement_ticket, put_wrapped, read_wanted};
 use scan_base::Fault;
 use std::alloc::{AllocError, Global};
@@ -86,6 +86,18 @@ fn query_tickets(
     Ok(tickets)
 }
 
+// The ranges of a query's endpoints, where its first place has so many rows: as many as there are parts, but one where the
+// query makes groups.
+fn endpoint_ranges(rows: u32, grouped: bool, parts: u32) -> Ranges
+    ensures { result ≡ ranges_over grouped rows parts }
+{
+    if grouped {
+        split(rows, 1)
+    } else {
+        split(rows, parts)
+    }
+}
+
 // What the info of a query says: its schema, and a Ticket for each part.
 fn describe_query(
     alloc: Global,
@@ -100,7 +112,7 @@ fn describe_query(
     ensures first { RefusesFirst result (short_enough (rows_of text.now)) }
 {
     let planned = plan_text(alloc, snapshot.catalog(), text)?;
-    let ranges = split(planned.rows as u32, parts);
+    let ranges = endpoint_ranges(planned.rows as u32, planned.grouped, parts);
     Ok(Described {
         form: result_form(alloc, &planned.plan)?,
         tickets: query_tickets(alloc, snapshot.number(), text, ranges.as_slice())?,
@@ -164,8 +176,8 @@ fn query_info(
 
 /// The answer to a GetFlightInfo of a query, at a version of the catalog: one FlightInfo, with the schema of the
 /// query's result, the payload as it came, and a ticket of this version for each part of the rows of the query's
-/// first place: as many as `parts`, but no more than 64, nor than rows, and at least one. The query is parsed and
-/// bound once, and no row is read.
+/// first place: as many as `parts`, but no more than 64, nor than rows, and at least one; of a query that makes groups
+/// there is one, over all rows. The query is parsed and bound once, and no row is read.
 ///
 /// # Errors
 ///

@@ -17,11 +17,12 @@ use std::alloc::Global;
 use table_versions::CatalogVersion;
 use typed_plan::{TypedPlan, bind};
 
-/// The plan of a query, and how many rows its first place has.
+/// The plan of a query, how many rows its first place has, and whether the query makes groups.
 #[derive(Drop)]
 pub struct Planned {
     pub plan: TypedPlan,
     pub rows: usize,
+    pub grouped: bool,
 }
 
 /// Parses and binds a query's text at a version of the catalog.
@@ -31,7 +32,7 @@ pub struct Planned {
 /// The faults of [`parse`], and then those of [`bind`].
 pub fn plan_text(alloc: Global, catalog: &CatalogVersion, text: &str) -> Result<Planned, Fault>
     ensures planned { IfOk result (λ planned. IsPlanned (tables_of catalog.now) text.now
-        (plan_of planned.plan) planned.rows) }
+        (plan_of planned.plan) planned.rows planned.grouped) }
     ensures missed { IfErr result (λ fault. fault ≢ OutOfMemory →
         Misses (tables_of catalog.now) (rows_of text.now) fault) }
     ensures first { RefusesFirst result (demand (nat_le (length text.now) most_query_bytes) LimitReached) }
@@ -39,6 +40,11 @@ pub fn plan_text(alloc: Global, catalog: &CatalogVersion, text: &str) -> Result<
 {
     let query = parse(alloc, text)?;
     let plan = bind(alloc, &query, catalog)?;
-    let rows = plan.table().rows();
-    Ok(Planned { plan, rows })
+    let rows = plan.tables()[0].rows();
+    let grouped = query.is_grouped();
+    Ok(Planned {
+        plan,
+        rows,
+        grouped,
+    })
 }

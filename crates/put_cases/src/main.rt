@@ -12,11 +12,12 @@ mod runs;
 mod script;
 
 use crate::script::Script;
+use hash_seed::HashSeed;
 use std::io;
 
 fn main(rt: HostRuntime) -> io::Result<()> {
     let alloc = rt.alloc();
-    let Ok(mut script) = Script::new(alloc) else {
+    let Ok(mut script) = Script::new(alloc, HashSeed::new(&rt)?) else {
         return println!(rt; "no memory for a log");
     };
     for line in rt.lines(alloc) {

@@ -5,6 +5,7 @@ use crate::pieces::{Named, bytes_of};
 use crate::runs::rows_in_runs;
 use bytes::Bytes;
 use flight_core::{Event, Plain, Reply, step};
+use hash_seed::HashSeed;
 use scan_base::Fault;
 use std::alloc::Global;
 
@@ -13,14 +14,16 @@ use std::alloc::Global;
 pub struct Script {
     names: Vec<Named>,
     plain: Plain,
+    seed: HashSeed,
 }
 
 impl Script {
     /// No names, and the empty log.
-    pub fn new(alloc: Global) -> Result<Script, Fault> {
+    pub fn new(alloc: Global, seed: HashSeed) -> Result<Script, Fault> {
         Ok(Script {
             names: Vec::new(alloc),
-            plain: Plain::new(alloc)?,
+            plain: Plain::new(alloc, seed)?,
+            seed,
         })
     }
 
@@ -75,7 +78,7 @@ impl Script {
             "put" => self.put(alloc, rest)?,
             "fetch" | "cut" | "bits" | "runs" => self.fetch(alloc, rest)?,
             "log" => {
-                self.plain = Plain::new(alloc)?;
+                self.plain = Plain::new(alloc, self.seed)?;
                 return Ok(Some(String::from_str(alloc, "log")?));
             }
             _ => return Ok(Some(String::from_str(alloc, line)?)),

@@ -9,6 +9,7 @@ mod sentences;
 mod texts;
 mod written;
 
+use hash_seed::HashSeed;
 use scan_base::Fault;
 use std::alloc::Global;
 use std::io;
@@ -25,7 +26,8 @@ fn after_put(alloc: Global, snapshot: Snapshot, case: &str) -> (Snapshot, Option
 
 fn main(rt: HostRuntime) -> io::Result<()> {
     let alloc = rt.alloc();
-    let mut snapshot = Snapshot::new(0, Arc::new(alloc, CatalogVersion::empty(alloc))?);
+    let catalog = CatalogVersion::empty(alloc, HashSeed::new(&rt)?);
+    let mut snapshot = Snapshot::new(0, Arc::new(alloc, catalog)?);
     for line in rt.lines(alloc) {
         let line = written::plain(alloc, line?.as_str())?;
         let (kind, case) = line.as_str().split_once(' ').unwrap_or((line.as_str(), ""));

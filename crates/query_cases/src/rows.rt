@@ -47,11 +47,11 @@ fn scanned(
     (from, to): (usize, usize),
 ) -> Result<Given, Fault> {
     let plan = bind(alloc, &parse(alloc, sql)?, catalog)?;
-    let mut scan = Scan::new(alloc, plan, from, to)?;
+    let mut scan = Scan::new(alloc, catalog.seed(), plan, from..to)?;
     let mut cells = String::new(alloc);
     for batches in 0..usize::MAX {
         let Some(batch) = scan.next(alloc)? else {
-            let opened = scan.opened();
+            let opened = scan.opened().len();
             return Ok(Given {
                 cells,
                 batches,
@@ -71,7 +71,7 @@ pub fn all(alloc: Global, catalog: &CatalogVersion, sql: &str) -> Result<String,
 /// How many rows there are.
 pub fn count(alloc: Global, catalog: &CatalogVersion, sql: &str) -> Result<String, Fault> {
     let plan = bind(alloc, &parse(alloc, sql)?, catalog)?;
-    let mut scan = Scan::new(alloc, plan, 0, usize::MAX)?;
+    let mut scan = Scan::new(alloc, catalog.seed(), plan, 0..usize::MAX)?;
     let mut rows = 0_usize;
     for _ in 0..usize::MAX {
         let Some(batch) = scan.next(alloc)? else {

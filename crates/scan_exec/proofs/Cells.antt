@@ -13,13 +13,7 @@ use Rattle.scan_base.specs.declared.value.Value.TheVariants.{Null}
 use Rattle.scan_base.specs.Predicate.{cell_in}
 use Rattle.table_versions.specs.Table.{Row}
 use Rattle.table_versions.proofs.ListTests.{all_at}
-use Rattle.typed_plan.specs.declared.plan.Columns.{Columns}
-use Rattle.typed_plan.specs.declared.plan.Columns.TheVariants as columns
-use Rattle.typed_plan.specs.Typed.{has_columns}
-use Rattle.scan_exec.specs.Chosen.{are_within, numbers_at, listed, columns_at}
-use Rattle.typed_plan.specs.Plan.{Tree}
-use Rattle.scan_exec.specs.Given.{cells, tree_columns, passes, holds}
-use Rattle.scan_exec.specs.Reading.{IsRead}
+use Rattle.scan_exec.specs.Chosen.{are_within, listed, columns_at}
 
 -- the cell of a row that is made number by number
 pub cell-map : {X : Type 0} (f : X → Value) (xs : List X) (i : ℕ) (d : X) → i < length xs →
@@ -43,7 +37,7 @@ cell_read columns read row i column all h =
     ∙ cell-map (λ c. slot_of c row) columns (get_or read i 0) column (within_at (length columns) read i all h))
 
 -- all cells in order
-map-cells : (row : Row) → map (cell_in row) (range_with_len 0 (length row)) ≡ row
+pub map-cells : (row : Row) → map (cell_in row) (range_with_len 0 (length row)) ≡ row
 map-cells row = sym (fill_by_all (cell_in row) row (length row) Null refl (λ k h. sym (unwrap_or-slice_get row k Null)))
 
 -- the places of numbers counted from 0
@@ -55,25 +49,6 @@ places width (number ∷ numbers) h =
     let first : slice_index (range_with_len 0 width) number ≡ number =
     get_or-range_with_len 0 width number 0 (ltb-true number width parts.0) ∙ omega arith in
     rw (first, places width numbers parts.1) refl
-
--- the cells that are read of a row
-pub cells_read : (columns : Columns) (row : Row) → has_columns (length row) columns ≡ true →
-    map (cell_in row) (numbers_at columns (range_with_len 0 (length row))) ≡ cells columns row
-cells_read columns.All row h = map-cells row
-cells_read (columns.These numbers) row h = ap (map (cell_in row)) (places (length row) numbers h)
-
--- the cells that are taken of those
-pub cells_taken : (columns : Columns) (read : List ℕ) (row : Row) → has_columns (length read) columns ≡ true →
-    map (cell_in row) (numbers_at columns read) ≡ cells columns (map (cell_in row) read)
-cells_taken columns.All read row h = refl
-cells_taken (columns.These numbers) read row h = each numbers h
-  where
-    each : (numbers : List ℕ) → are_within (length read) numbers ≡ true →
-        map (cell_in row) (map (slice_index read) numbers) ≡ map (cell_in (map (cell_in row) read)) numbers
-    each [] g = refl
-    each (number ∷ numbers) g =
-        let parts = and_parts (nat_lt number (length read)) (are_within (length read) numbers) g in
-        rw (cell-map (cell_in row) read number 0 (ltb-true number (length read) parts.0), each numbers parts.1) refl
 
 -- one number more
 pub range_more : (a n j : ℕ) → a + n ≡ j → range_with_len a (n + 1) ≡ range_with_len a n ++ j ∷ []
@@ -100,21 +75,3 @@ columns_more numbers columns i column h all is =
     ap (λ some. columns_at some columns) (take_more numbers i 0 h)
     ∙ columns_at-append (take i numbers) (get_or numbers i 0 ∷ []) columns
     ∙ ap (λ found. columns_at (take i numbers) columns ++ (listed found ++ [])) there
-
--- whether a plan gives a row of a batch, by the cells that it reads
-pub held_is : (tree : Tree) (columns : List ColumnAt) (read : List ℕ) (row : ℕ) → IsRead tree (length columns) read →
-    passes tree (map (cell_in (row_of columns row)) read) ≡ holds tree (row_of columns row)
-held_is tree columns read row is =
-    let wide : length (row_of columns row) ≡ length columns = length-map columns (λ column. slot_of column row) in
-    ap (λ numbers. passes tree (map (cell_in (row_of columns row)) numbers))
-    (is.numbers ∙ ap (λ n. numbers_at (tree_columns tree) (range_with_len 0 n)) (sym wide))
-    ∙ ap (passes tree) (cells_read (tree_columns tree) (row_of columns row)
-    (ap (λ n. has_columns n (tree_columns tree)) wide ∙ is.taken))
-
--- whether the filters let a row through that was looked at
-pub looked_at : (tree : Tree) (columns found : List ColumnAt) (read : List ℕ) (row : ℕ) (result : Bool) →
-    IsRead tree (length columns) read → found ≡ columns →
-    result ≡ passes tree (map (cell_in (row_of found row)) read) → holds tree (row_of columns row) ≡ result
-looked_at tree columns found read row result is e h =
-    sym (h ∙ ap (λ (some : List ColumnAt). passes tree (map (cell_in (row_of some row)) read)) e
-    ∙ held_is tree columns read row is)

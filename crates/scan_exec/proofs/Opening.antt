@@ -192,7 +192,7 @@ module _ (from a b : ℕ) (batches : List BatchAt) (i : ℕ) (there : i < length
       le-ltb (max (rows_before batches k) from) (min (rows_before batches (k + 1)) to) (omega (arith, begins, high, h))
 
   -- the first row of it that is in the range opens it
-  opens : a ≡ max (rows_before batches i) from → batches_in from b batches ≡ batches_in from a batches ++ i ∷ []
+  pub opens : a ≡ max (rows_before batches i) from → batches_in from b batches ≡ batches_in from a batches ++ i ∷ []
   opens e =
       let before = le-ltb (max (rows_before batches i) from) (min (rows_before batches (i + 1)) a) (omega (arith, e)) in
       filter_more (has_row_in from a batches) (has_row_in from b batches) 0 (length batches) i (omega arith)

@@ -15,7 +15,7 @@ use Rattle.arrays.specs.Typed.{AreOf}
 use Rattle.scan_base.specs.declared.value.Value.{Value}
 use Rattle.scan_base.specs.declared.value.Value.TheVariants.{Null}
 use Rattle.table_versions.specs.Table.{Row}
-use Rattle.scan_exec.specs.Selected.{HasSlotsAt}
+use Rattle.scan_exec.specs.Picking.{HasSlotsAt}
 use Rattle.scan_exec.proofs.Cells.{range_more}
 
 -- ---- the numbers of a range that pass a test

@@ -5,14 +5,15 @@ use Rattle.std.proofs.lemmas.Bool.{ltb-true, and_parts}
 use Rattle.std.proofs.lemmas.Option.{slice_get-map}
 use Rattle.arrays.specs.Batch.{row_of}
 use Rattle.arrays.specs.Column.{ColumnAt, slot_of}
-use Rattle.arrays.specs.Typed.{AreOf, IsOfType, AreOfTypes}
+use Rattle.arrays.specs.Typed.{AreOf, AreOfTypes, IsOfType}
 use Rattle.arrow_schema.specs.declared.schema.Field.{Field}
+use Rattle.arrow_schema.specs.declared.data_type.DataType.{DataType}
 use Rattle.scan_base.specs.declared.value.Value.{Value}
 use Rattle.scan_base.specs.declared.value.Value.TheVariants.{Null}
 use Rattle.scan_base.specs.Predicate.{cell_in}
 use Rattle.table_versions.specs.Table.{Row}
-use Rattle.typed_plan.specs.Typed.{types_of}
-use Rattle.scan_exec.specs.Chosen.{are_within, type_at, listed, columns_at}
+use Rattle.typed_plan.specs.Typed.{type_at, types_of}
+use Rattle.scan_exec.specs.Chosen.{are_within, listed, columns_at}
 
 -- an item of a list
 item_at : {X : Type 0} (xs : List X) (i : ℕ) → i < length xs → (x : X) × (slice_get xs i ≡ Some x)
@@ -45,24 +46,30 @@ columns_cells (number ∷ numbers) columns j h =
     ∙ ap (λ (rest : Row). cell_in (row_of columns j) number ∷ rest) (columns_cells numbers columns j parts.1)
 
 -- chosen columns are of the chosen types
-type_there : (fields : List Field) (columns : List ColumnAt) (number : ℕ) (column : ColumnAt) →
-    AreOfTypes fields columns → slice_get columns number ≡ Some column →
-    IsOfType (type_at (types_of fields) number) column.layout
+type_there : (types : List DataType) (columns : List ColumnAt) (number : ℕ) (column : ColumnAt) →
+    AreOf types columns → slice_get columns number ≡ Some column → IsOfType (type_at types number) column.layout
 type_there [] [] number column typed e = cc
 type_there [] (first ∷ columns) number column typed e = absurd typed
-type_there (field ∷ fields) [] number column typed e = absurd typed
-type_there (field ∷ fields) (first ∷ columns) zero column typed e =
+type_there (data_type ∷ types) [] number column typed e = absurd typed
+type_there (data_type ∷ types) (first ∷ columns) zero column typed e =
     let same : first ≡ column = cc in
-    subst (λ (c : ColumnAt). IsOfType field.data_type c.layout) same typed.0
-type_there (field ∷ fields) (first ∷ columns) (suc number) column typed e =
-    type_there fields columns number column typed.1 e
+    subst (λ (c : ColumnAt). IsOfType data_type c.layout) same typed.0
+type_there (data_type ∷ types) (first ∷ columns) (suc number) column typed e =
+    type_there types columns number column typed.1 e
 
-pub chosen_typed : (fields : List Field) (columns : List ColumnAt) (numbers : List ℕ) → AreOfTypes fields columns →
-    are_within (length columns) numbers ≡ true → AreOf (map (type_at (types_of fields)) numbers) (columns_at numbers columns)
-chosen_typed fields columns [] typed h = tt
-chosen_typed fields columns (number ∷ numbers) typed h =
+pub chosen_typed : (types : List DataType) (columns : List ColumnAt) (numbers : List ℕ) → AreOf types columns →
+    are_within (length columns) numbers ≡ true → AreOf (map (type_at types) numbers) (columns_at numbers columns)
+chosen_typed types columns [] typed h = tt
+chosen_typed types columns (number ∷ numbers) typed h =
     let parts = and_parts (nat_lt number (length columns)) (are_within (length columns) numbers) h in
     let there = item_at columns number (ltb-true number (length columns) parts.0) in
-    subst (λ (found : Option ColumnAt). AreOf (map (type_at (types_of fields)) (number ∷ numbers)) (listed found ++ columns_at numbers columns))
+    subst (λ (found : Option ColumnAt). AreOf (map (type_at types) (number ∷ numbers)) (listed found ++ columns_at numbers columns))
     (sym there.1)
-    (type_there fields columns number there.0 typed there.1, chosen_typed fields columns numbers typed parts.1)
+    (type_there types columns number there.0 typed there.1, chosen_typed types columns numbers typed parts.1)
+
+-- columns of fields are of their types
+pub of_types : (fields : List Field) (columns : List ColumnAt) → AreOfTypes fields columns → AreOf (types_of fields) columns
+of_types [] [] typed = tt
+of_types [] (column ∷ columns) typed = absurd typed
+of_types (field ∷ fields) [] typed = absurd typed
+of_types (field ∷ fields) (column ∷ columns) typed = (typed.0, of_types fields columns typed.1)

@@ -4,7 +4,8 @@ use Rattle.std.specs.List.{flat_map, last_or}
 use Rattle.std.proofs.lemmas.Bool.{cases_eq, cases_lt}
 use Rattle.std.proofs.lemmas.List.{take_all}
 use Rattle.arrays.specs.Batch.{BatchAt, rows_of, cut_batch, BatchSlicesKeepRows}
-use Rattle.arrays.specs.Typed.{AreOfTypes}
+use Rattle.arrays.specs.Typed.{AreOf}
+use Rattle.typed_plan.specs.Typed.{types_of}
 use Rattle.scan_base.specs.Limits.{most_rows}
 use Rattle.table_versions.specs.declared.table.BatchPlace.{BatchPlace}
 use Rattle.table_versions.specs.Stored.{TableAt, table_of}
@@ -12,10 +13,10 @@ use Rattle.table_versions.specs.Standing.{rows_before, BatchesAreRows, StandsIn}
 use Rattle.typed_plan.specs.Joined.{rows_between}
 use Rattle.scan_exec.specs.declared.cursor.Cursor.{Cursor}
 use Rattle.scan_exec.specs.declared.cursor.Part.{Part}
-use Rattle.scan_exec.specs.Given.{given, most_scan_rows}
+use Rattle.scan_exec.specs.Scan.{most_scan_rows}
 use Rattle.scan_exec.specs.Opened.{batches_in}
 use Rattle.scan_exec.specs.Placed.{IsPlaced, IsPart, Opens}
-use Rattle.scan_exec.proofs.Batched.{given_next}
+use Rattle.scan_exec.proofs.Batched.{rows_next}
 use Rattle.scan_exec.proofs.Opening.{in_all, in_few, none_in, opens_one, opens_last}
 
 module _ (table : TableAt) (cursor : Cursor) (is : IsPlaced table cursor) (more : cursor.at < cursor.to) where
@@ -143,20 +144,21 @@ module _ (table : TableAt) (cursor : Cursor) (is : IsPlaced table cursor) (more 
         from = refl;
         to = refl;
         forth = forth;
-        rows = λ plan.
-            given_next plan cursor.at cursor.to cursor.start cursor.batch table.batches batch there batch_there is.start behind high last l more
-            (given plan (rows_of (cut_batch part.batch.now part.from part.to)))
-            (rw (b, f, t) (ap (given plan) (part_rows keep)));
+        rows =
+            rows_next cursor.at cursor.to cursor.start cursor.batch table.batches batch there batch_there is.start behind high last l more
+            (rows_of (cut_batch part.batch.now part.from part.to))
+            (rw (b, f, t) (part_rows keep));
         latest = latest_is;
       }
 
-      pub is_part : (part : Part) → length (table_of table).rows ≤ most_rows → length batch.columns ≡ length table.schema.fields → AreOfTypes table.schema.fields batch.columns →
+      pub is_part : (part : Part) → length (table_of table).rows ≤ most_rows → length batch.columns ≡ length table.schema.fields → AreOf (types_of table.schema.fields) batch.columns →
           part.batch.now ≡ batch → part.from ≡ cursor.at - cursor.start → part.to ≡ last → IsPart table part
       is_part part few wide typed b f t =
           let low : part.from < part.to = omega (arith, f, t, forth, behind) in
           record {
             some = low;
             within = rw b (omega (arith, t, within_batch));
+            short = omega (arith, f, t, l);
             few = rw b (omega (arith, ends, few));
             wide = rw b wide;
             typed = rw b typed;

@@ -18,10 +18,6 @@ abbrev pub numbers_at : Columns → List ℕ → List ℕ
 numbers_at All numbers = numbers
 numbers_at (These places) numbers = map (slice_index numbers) places
 
--- the type that stands at a place of a list of types, if there is one
-abbrev pub type_at : List DataType → ℕ → DataType
-type_at types number = unwrap_or (slice_get types number) Utf8
-
 abbrev pub listed : Option ColumnAt → List ColumnAt
 listed (Some column) = column ∷ []
 listed None = []

@@ -1,47 +1,39 @@
--- What a plan makes of the rows of its table.
-use Rattle.std.specs.Prelude.{ℕ, ◌-◌, Bool, true, ◌&&◌, List, [], ◌∷◌, length, map, nat_lt, zip}
+-- The rows that a plan gives of the rows of its places.
+use Rattle.std.specs.Prelude.{ℕ, ◌-◌, if◌then◌else◌, List, [], ◌∷◌, length, map, drop, Option, Some, None, zip}
 use Rattle.std.specs.List.{filter, flat_map, range_with_len}
-use Rattle.std.specs.Simd.{first_chunks}
-use Rattle.scan_base.specs.Predicate.{cell_in}
 use Rattle.arrays.specs.Batch.{BatchAt, rows_of}
+use Rattle.table_versions.specs.Stored.{TableAt, table_of}
 use Rattle.table_versions.specs.Table.{Row}
+use Rattle.typed_plan.specs.Held.{tree_schemas}
 use Rattle.typed_plan.specs.Joined.{rows_between}
-use Rattle.typed_plan.specs.declared.plan.Columns.{Columns}
-use Rattle.typed_plan.specs.declared.plan.Columns.TheVariants.{All, These}
-use Rattle.typed_plan.specs.declared.plan.Output.{Output}
-use Rattle.typed_plan.specs.declared.plan.Output.TheVariants.{Project}
-use Rattle.typed_plan.specs.Plan.{Tree, scan, filtered, PlanAt, is_true}
+use Rattle.typed_plan.specs.Plan.{Tree, scan, filtered, joined, PlanAt, taken, is_true, joined_rows, output_rows}
+use Rattle.typed_plan.specs.Typed.{is_grouping}
+use Rattle.typed_plan.specs.View.{BoundAt, plan_of}
 
--- the cells that a tree takes of a row of its table
-abbrev pub tree_columns : Tree → Columns
-tree_columns (scan table schema columns) = columns
-tree_columns (filtered predicate tree) = tree_columns tree
+-- the rows of the first place, where there is one
+abbrev pub first_rows : List (List Row) → List Row
+first_rows [] = []
+first_rows (rows ∷ places) = rows
 
--- the numbers of the columns that a plan puts out
-abbrev pub output_columns : Output → Columns
-output_columns (Project columns) = columns
+-- the rows of a tree, where these are the rows of its places in order
+abbrev pub rows_over : Tree → List (List Row) → List Row
+rows_over (scan table schema columns) places = taken columns (first_rows places)
+rows_over (filtered predicate tree) places = filter (is_true predicate) (rows_over tree places)
+rows_over (joined left right on) places =
+    joined_rows on (rows_over left places) (rows_over right (drop (length (tree_schemas left)) places))
 
--- these cells of a row
-abbrev pub cells : Columns → Row → Row
-cells All row = row
-cells (These columns) row = map (cell_in row) columns
+-- all rows of the further places
+abbrev pub further_rows : BoundAt → List (List Row)
+further_rows bound = map (λ (table : TableAt). (table_of table).rows) (drop 1 bound.tables)
 
--- whether all filters of a tree are true in a row of its input
-abbrev pub passes : Tree → Row → Bool
-passes (scan table schema columns) row = true
-passes (filtered predicate tree) row = passes tree row && is_true predicate row
+-- the rows of a plan, where these are the rows of its first place
+abbrev pub rows_from : BoundAt → List Row → List Row
+rows_from bound rows = output_rows bound.output (rows_over (plan_of bound).tree (rows ∷ further_rows bound))
 
--- whether a plan gives a row of its table
-abbrev pub holds : Tree → Row → Bool
-holds tree row = passes tree (cells (tree_columns tree) row)
-
--- what it gives of that row
-abbrev pub shown : PlanAt → Row → Row
-shown plan row = cells (output_columns plan.output) (cells (tree_columns plan.tree) row)
-
--- what a plan gives of rows of its table
-abbrev pub given : PlanAt → List Row → List Row
-given plan rows = map (shown plan) (filter (holds plan.tree) rows)
+-- the batches of the first place
+abbrev pub first_batches : List TableAt → List BatchAt
+first_batches [] = []
+first_batches (table ∷ tables) = table.batches
 
 -- the rows `from` up to, not with, `to` of batches that stand in order, by batch
 abbrev pub parts : ℕ → ℕ → List BatchAt → List (List Row)
@@ -49,22 +41,15 @@ parts from to [] = []
 parts from to (batch ∷ batches) =
     rows_between from to (rows_of batch) ∷ parts (from - batch.rows) (to - batch.rows) batches
 
--- whether there is a row
-abbrev pub has_any : List Row → Bool
-has_any rows = nat_lt 0 (length rows)
+-- the parts with rows `from` up to, not with, `to` of batches, each with the number of its batch, counted from 0
+abbrev pub numbered_parts : ℕ → ℕ → List BatchAt → List (ℕ × List Row)
+numbered_parts from to batches = zip (range_with_len 0 (length batches)) (parts from to batches)
 
--- as many rows as are looked at at once
-abbrev pub most_scan_rows : ℕ
-most_scan_rows = 65536
-
--- rows cut into pieces of so many rows; behind the last row pieces are empty
-abbrev pub pieces : List Row → List (List Row)
-pieces rows = first_chunks most_scan_rows (length rows) rows
-
--- What a plan gives of the rows `from` up to, not with, `to` of its table: of each piece of a batch of the table of which
--- it gives a row, the number of that batch, counted from 0, and the rows.
-abbrev pub given_by_batch : PlanAt → ℕ → ℕ → List BatchAt → List (ℕ × List Row)
-given_by_batch plan from to batches =
-    filter (λ given. has_any given.1)
-    (flat_map (λ part. map (λ piece. (part.0, given plan piece)) (pieces part.1))
-    (zip (range_with_len 0 (length batches)) (parts from to batches)))
+-- What a plan gives of the rows `from` up to, not with, `to` of its first place: each row with the number of the batch of
+-- that place of which it comes. A group comes of no one batch.
+abbrev pub given_of : BoundAt → ℕ → ℕ → List (Option ℕ × Row)
+given_of bound from to =
+    let batches = first_batches bound.tables in
+    if is_grouping bound.output
+    then map (λ row. (None, row)) (rows_from bound (rows_between from to (flat_map rows_of batches)))
+    else flat_map (λ part. map (λ row. (Some part.0, row)) (rows_from bound part.1)) (numbered_parts from to batches)

@@ -1,79 +1,94 @@
 -- What a scan gives, and what it opens.
-use Rattle.std.specs.Prelude.{◌≡◌, ◌≢◌, ◌<◌, ℕ, List, [], ◌∷◌, length, Option, Some, None, Result, Ok, Err}
-use Rattle.std.specs.Io.{StartsWith}
-use Rattle.std.specs.List.{flat_map, last_or}
+use Rattle.std.specs.Prelude.{◌≡◌, ◌≤◌, ◌<◌, ◌⊎◌, ℕ, ◌+◌, List, [], ◌∷◌, ◌++◌, length, map, take, Option, Some, None, Result, Ok, Err}
+use Rattle.std.specs.List.{last_or}
 use Rattle.arrays.specs.Batch.{BatchAt, rows_of}
 use Rattle.arrays.specs.Typed.{AreOf}
+use Rattle.arrow_schema.specs.Answer.{answer_type}
 use Rattle.arrow_schema.specs.declared.data_type.DataType.{DataType}
 use Rattle.arrow_schema.specs.declared.schema.Schema.{Schema}
+use Rattle.scan_base.specs.Limits.{most_answer_rows}
 use Rattle.scan_base.specs.declared.fault.Fault.{Fault}
-use Rattle.scan_base.specs.declared.fault.Fault.TheVariants.{OutOfMemory}
+use Rattle.scan_base.specs.declared.fault.Fault.TheVariants.{OutOfMemory, ResultTooLarge}
 use Rattle.table_versions.specs.Table.{Row}
-use Rattle.typed_plan.specs.Plan.{PlanAt}
-use Rattle.typed_plan.specs.Typed.{tree_types, types_taken}
-use Rattle.typed_plan.specs.View.{BoundAt, plan_of}
-use Rattle.scan_exec.specs.Given.{output_columns, given_by_batch}
-use Rattle.scan_exec.specs.Opened.{batches_in}
+use Rattle.typed_plan.specs.Typed.{types_of}
+use Rattle.typed_plan.specs.View.{BoundAt}
+use Rattle.scan_exec.specs.Given.{given_of}
+use Rattle.scan_exec.specs.Opened.{further_batches, first_opened}
 
--- The columns of the result, and the types of the table's columns that it takes; what is still to be given, by batches of
--- the table, with their numbers; the numbers of the table's batches that have a row in the range, and of those that were
--- opened; and what refused the scan.
+-- The columns of the result; the types of the columns of its batches; the rows that are still to be given, each with the
+-- number of the batch of the first place of which it comes, if it is one; the batches that are to be opened, each by its
+-- place and its number there, in that order, and those that were; how many rows were given; and what refused the scan.
 pub record ScanAt : Type 0 where
   pub schema : Schema
   pub types : List DataType
-  pub by_batch : List (ℕ × List Row)
-  pub batches : List ℕ
-  pub opened : List ℕ
+  pub ahead : List (Option ℕ × Row)
+  pub batches : List (ℕ × ℕ)
+  pub opened : List (ℕ × ℕ)
+  pub given : ℕ
   pub refused : Option Fault
 
 -- the rows that are still to be given
 abbrev pub left : ScanAt → List Row
-left scan = flat_map (λ given. given.1) scan.by_batch
+left scan = map (λ given. given.1) scan.ahead
 
--- A scan goes on over the same batches. Those opened are the first ones of the table's batches that have a row in the
--- range, and go on from those opened before.
+-- as many rows as a batch of an answer has
+abbrev pub most_scan_rows : ℕ
+most_scan_rows = 65536
+
+-- what was opened, and what is to be, begins with this
+abbrev pub BeginsWith : List (ℕ × ℕ) → List (ℕ × ℕ) → Type 0
+BeginsWith whole begin = take (length begin) whole ≡ begin
+
+-- A scan goes on over the same batches. Those opened are the first ones of those that are to be, and go on from those
+-- opened before.
 pub record Continues (before after : ScanAt) : Type 0 where
   pub schema : after.schema ≡ before.schema
   pub types : after.types ≡ before.types
   pub batches : after.batches ≡ before.batches
-  pub opening : StartsWith after.opened before.opened
-  pub opened : StartsWith before.batches after.opened
+  pub opening : BeginsWith after.opened before.opened
+  pub opened : BeginsWith before.batches after.opened
 
--- A batch has the next rows, one or more, in columns of the types: all that are given of a piece of one batch of the
--- table, the last one that was opened.
+-- rows that come of a batch of the first place come of the one that was opened last
+abbrev pub IsLatest : Option ℕ → List (ℕ × ℕ) → Type 0
+IsLatest None opened = Unit {0}
+IsLatest (Some number) opened = last_or None opened ≡ Some (0, number)
+
+-- A batch has the next rows, one or more, in columns of the types; an answer has no more rows than it may.
 pub record GivesRows (before : ScanAt) (batch : BatchAt) (after : ScanAt) : Type 0 where
-  pub number : ℕ
-  pub source : before.by_batch ≡ (number, rows_of batch) ∷ after.by_batch
-  pub latest : last_or None after.opened ≡ Some number
+  pub number : Option ℕ
+  pub next : before.ahead ≡ map (λ row. (number, row)) (rows_of batch) ++ after.ahead
+  pub latest : IsLatest number after.opened
   pub some : 0 < batch.rows
+  pub few : batch.rows ≤ most_scan_rows
   pub wide : length batch.columns ≡ length before.types
   pub typed : AreOf before.types batch.columns
+  pub counted : after.given ≡ before.given + batch.rows
+  pub within : after.given ≤ most_answer_rows
   pub on : Continues before after
   pub refused : after.refused ≡ None
 
--- What a call gives. At the end exactly the batches that have a row in the range were opened, each once. Memory refuses
--- a scan only where something is left, and what refused it is answered from then on.
+-- why a scan may be refused: memory, or more rows than an answer has
+abbrev pub MayRefuse : ScanAt → Fault → Type 0
+MayRefuse before fault =
+    (fault ≡ OutOfMemory) ⊎ ((fault ≡ ResultTooLarge) × (most_answer_rows < before.given + length before.ahead))
+
+-- What a call gives. At the end exactly the batches that were to be opened were, each once. What refused a scan is answered
+-- from then on.
 abbrev pub Gives : ScanAt → Result (Option BatchAt) Fault → ScanAt → Type 0
 Gives before result after = going before.refused result
   where
     going : Option Fault → Result (Option BatchAt) Fault → Type 0
     going (Some fault) result = (result ≡ Err fault) × (after ≡ before)
     going None (Ok (Some batch)) = GivesRows before batch after
-    going None (Ok None) = (before.by_batch ≡ []) × (after ≡ record before { opened = before.batches })
-    going None (Err fault) = (fault ≡ OutOfMemory) × (after.refused ≡ Some fault) × (left before ≢ []) × Continues before after
+    going None (Ok None) = (before.ahead ≡ []) × (after ≡ record before { opened = before.batches })
+    going None (Err fault) = MayRefuse before fault × (after.refused ≡ Some fault) × Continues before after
 
--- the types of the table's columns that a plan gives; its schema has those of answers
-abbrev pub plan_types : PlanAt → List DataType
-plan_types plan = types_taken (output_columns plan.output) (tree_types plan.tree)
-
--- a scan of a plan over the rows `from` up to, not with, `to` of its table, before its first batch
-abbrev pub scan_of : BoundAt → ℕ → ℕ → ScanAt
-scan_of bound from to =
-    record {
-      schema = bound.schema;
-      types = plan_types (plan_of bound);
-      by_batch = given_by_batch (plan_of bound) from to bound.table.batches;
-      batches = batches_in from to bound.table.batches;
-      opened = [];
-      refused = None;
-    }
+-- a scan of a plan over the rows `from` up to, not with, `to` of its first place, before its first batch
+pub record IsBeginning (bound : BoundAt) (from to : ℕ) (scan : ScanAt) : Type 0 where
+  pub schema : scan.schema ≡ bound.schema
+  pub types : map answer_type scan.types ≡ types_of bound.schema.fields
+  pub ahead : scan.ahead ≡ given_of bound from to
+  pub batches : scan.batches ≡ further_batches bound.tables ++ first_opened from to bound.tables
+  pub opened : scan.opened ≡ further_batches bound.tables
+  pub given : scan.given ≡ 0
+  pub refused : scan.refused ≡ None

@@ -4,7 +4,7 @@ ghost use Rattle.std.specs.Prelude.{◌≡◌, ◌≤◌, ◌<◌, All, IfOk, Is
 ghost use Rattle.std.specs.List.{range_with_len};
 ghost use Rattle.typed_plan.specs.Typed.{has_columns};
 ghost use Rattle.scan_exec.specs.Chosen.{are_within, numbers_at};
-ghost use Rattle.scan_exec.specs.Selected.{rows_of_part, HasRowsAt};
+ghost use Rattle.scan_exec.specs.Picking.{rows_of_part, HasRowsAt};
 
 use crate::cursor::Part;
 use arrays::{Batch, Selection};

@@ -19,7 +19,7 @@ impl<'a> Model for BatchRow<'a> {
     ghost use Rattle.scan_base.specs.declared.value.Value.{Value as Cell};
     ghost use Rattle.scan_base.specs.Predicate.{cell_in};
     ghost use Rattle.arrays.specs.Batch.{row_of};
-    ghost use Rattle.scan_exec.specs.Reading.{IsInBatch};
+    ghost use Rattle.scan_exec.specs.Picking.{IsInBatch};
 
     ghost Value = { List Cell };
 

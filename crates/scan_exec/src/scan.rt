@@ -1,81 +1,85 @@
 //! Scans.
 
-ghost use Rattle.std.specs.Prelude.{◌≡◌, false, IfOk, length, map};
+ghost use Rattle.std.specs.Prelude.{◌≡◌, ◌≤◌, false, IfOk};
 ghost use Rattle.std.specs.List.{list_any};
-ghost use Rattle.arrow_schema.specs.Answer.{answer_type};
 ghost use Rattle.table_versions.specs.Stored.{CatalogAt, tables_of};
 ghost use Rattle.table_versions.specs.Table.{is_long_text};
 ghost use Rattle.typed_plan.specs.Held.{HoldsFrom};
 ghost use Rattle.typed_plan.specs.Plan.{plan_rows};
-ghost use Rattle.typed_plan.specs.Typed.{types_of};
 ghost use Rattle.typed_plan.specs.View.{plan_of};
-ghost use Rattle.scan_exec.specs.Placed.{IsPlaced, Finds};
-ghost use Rattle.scan_exec.specs.Scan.{Gives, left, plan_types, scan_of};
+ghost use Rattle.scan_base.specs.Limits.{most_answer_rows};
+ghost use Rattle.scan_exec.specs.Answering.{CountsNext, IsGiving, giving_at};
+ghost use Rattle.scan_exec.specs.Scan.{Gives, IsBeginning, left};
 
-use crate::cursor::Cursor;
-use crate::reader::Reader;
-use arrays::{Batch, Selection};
+use crate::answer::{Answer, answer_of};
+use crate::build::{Reading, build};
+use crate::opened::listed;
+use arrays::Batch;
 use arrow_schema::Schema;
+use hash_seed::HashSeed;
 use scan_base::Fault;
 use std::alloc::{AllocError, Global};
 use std::marker::Model;
+use std::ops::Range;
 use typed_plan::TypedPlan;
 
-/// What a plan gives of a range of its table's rows, still to be given, batch by batch. A contract sees these rows, with
-/// the batches of the table that they come from; which of these have a row in the range, which were opened, and what
+// How many rows an answer has at most.
+const MAX_ANSWER_ROWS: usize = 67_108_864;
+
+/// What a plan gives of a range of its first place's rows, still to be given, batch by batch. A contract sees these rows,
+/// each with the batch of the first place of which it comes; which batches are to be opened, and which were; and what
 /// refused the scan.
 #[derive(Drop)]
 pub struct Scan {
-    reader: Reader,
-    cursor: Cursor,
-    // The rows that were chosen last. Its memory is used again.
-    selection: Selection,
+    schema: Schema,
+    answer: Answer,
+    // The batches that are to be opened: those of the further places, and then those of the first.
+    batches: Vec<(usize, usize)>,
+    further: usize,
+    given: usize,
     refused: Option<Fault>,
 }
 
 impl Model for Scan {
-    ghost use Rattle.typed_plan.specs.View.{plan_of};
-    ghost use Rattle.scan_exec.specs.Given.{given_by_batch};
-    ghost use Rattle.scan_exec.specs.Opened.{batches_in};
-    ghost use Rattle.scan_exec.specs.Placed.{IsPlaced};
-    ghost use Rattle.scan_exec.specs.Scan.{ScanAt, plan_types};
+    ghost use Rattle.scan_exec.specs.Answering.{IsGiving, IsScan, giving_at, scan_at};
+    ghost use Rattle.scan_exec.specs.Scan.{ScanAt};
 
     ghost Value = { ScanAt };
 
-    ghost view = { λ s. record {
-      schema = s.reader.schema;
-      types = plan_types (plan_of s.reader);
-      by_batch = given_by_batch (plan_of s.reader) s.cursor.at s.cursor.to s.reader.table.batches;
-      batches = batches_in s.cursor.from s.cursor.to s.reader.table.batches;
-      opened = batches_in s.cursor.from s.cursor.at s.reader.table.batches;
-      refused = s.refused;
-    } };
+    ghost view = { λ s. scan_at s.schema (giving_at s.answer) s.batches.items s.further s.given s.refused };
 
-    ghost invariant = { λ s. IsPlaced s.reader.table s.cursor };
+    ghost invariant = { λ s. IsGiving s.answer × IsScan (giving_at s.answer) s.batches.items s.further s.given };
 }
 
 impl Scan {
-    /// The scan of a plan over the rows `from` up to, not with, `to` of its table. Rows that the table does not have
-    /// are none. The first row is looked for by halves.
+    /// The scan of a plan over the rows `range.start` up to, not with, `range.end` of its first place. Rows that the place
+    /// does not have are none. The first row is looked for by halves. The further places are opened here, and the hashes of
+    /// their keys begin with the seed.
     ///
     /// # Errors
     ///
     /// `AllocError` where memory is refused.
-    pub fn new(alloc: Global, plan: TypedPlan, from: usize, to: usize) -> Result<Scan, AllocError>
-        ensures scan { IfOk result (λ scan. scan ≡ scan_of plan from to) }
+    pub fn new(
+        alloc: Global,
+        seed: HashSeed,
+        plan: TypedPlan,
+        range: Range<usize>,
+    ) -> Result<Scan, AllocError>
+        ensures begins { IfOk result (IsBeginning plan range.start range.end) }
         ensures rows { IfOk result (λ scan. (catalog : CatalogAt) → HoldsFrom catalog plan →
-            left scan ≡ plan_rows (plan_of plan) (tables_of catalog) from to) }
+            left scan ≡ plan_rows (plan_of plan) (tables_of catalog) range.start range.end) }
         ensures short { IfOk result (λ scan. list_any (list_any is_long_text) (left scan) ≡ false) }
-        ensures typed { types_of plan.schema.fields ≡ map answer_type (plan_types (plan_of plan)) }
     {
-        let reader = Reader::new(alloc, plan)?;
-        let table = reader.plan().table();
-        let end = to.min(table.rows()).max(from);
-        let cursor = Cursor::new(table, from, end);
+        let (tables, plan, output, schema) = plan.into_parts();
+        let (from, to) = (range.start, range.end);
+        let listed = listed(alloc, tables.as_slice(), from, to)?;
+        let sourced = build(alloc, plan, tables, Reading { seed, from, to })?;
         Ok(Scan {
-            reader,
-            cursor,
-            selection: Selection::new(alloc),
+            schema,
+            answer: answer_of(alloc, sourced, output, seed)?,
+            batches: listed.batches,
+            further: listed.further,
+            given: 0,
             refused: None,
         })
     }
@@ -84,57 +88,57 @@ impl Scan {
     pub fn schema(&self) -> &Schema
         ensures { result.now ≡ self.now.schema }
     {
-        self.reader.plan().schema()
+        &self.schema
     }
 
-    /// What the plan gives of the next 65,536 rows, or those that are left, of a batch of the table of which it gives a
-    /// row: one or more rows, of the batch that was opened last. Where these stand next to each other they are slices of
-    /// the table's columns, and no value is copied; else they are gathered into buffers of their own. `None` where no row
-    /// is left. What refuses a scan is answered from then on.
+    /// The next rows, 65,536 or fewer, as a batch. Rows of one place come batch by batch of its table: where they stand
+    /// next to each other they are slices of the table's columns, and no value is copied; else they are gathered into
+    /// buffers of their own. `None` where no row is left. What refuses a scan is answered from then on.
     ///
     /// # Errors
     ///
-    /// F21 (`Fault::OutOfMemory`) where memory is refused.
+    /// F20 (`Fault::ResultTooLarge`) where the answer has more than 67,108,864 rows, behind a beginning of it. F21
+    /// (`Fault::OutOfMemory`) where memory is refused.
     pub fn next(&mut self, alloc: Global) -> Result<Option<Batch>, Fault>
         ensures { Gives self.old result self.new }
     {
         if let Some(fault) = self.refused {
             return Err(fault);
         }
-        match next_batch(alloc, &self.reader, &mut self.cursor, &mut self.selection) {
+        match next_counted(alloc, &mut self.answer, &mut self.given) {
             Ok(found) => Ok(found),
-            Err(_) => {
-                self.refused = Some(Fault::OutOfMemory);
-                Err(Fault::OutOfMemory)
+            Err(fault) => {
+                self.refused = Some(fault);
+                Err(fault)
             }
         }
     }
 
-    /// How many batches of the table were opened: those with a row in the range that was looked at.
-    pub fn opened(&self) -> usize
-        ensures { result ≡ length self.now.opened }
+    /// The batches that were opened, in order, each by the number of its place and its own number there, both from 0.
+    pub fn opened(&self) -> &[(usize, usize)]
+        ensures { result.now ≡ self.now.opened }
     {
-        self.cursor.opened
+        &self.batches.as_slice()[..self.further + self.answer.opened()]
     }
 }
 
-// What a plan gives of the next piece of a batch of its table of which it gives a row.
-fn next_batch(
+// The next batch, where so many rows were given.
+fn next_counted(
     alloc: Global,
-    reader: &Reader,
-    cursor: &mut Cursor,
-    selection: &mut Selection,
-) -> Result<Option<Batch>, AllocError>
-    requires placed { IsPlaced reader.now.table cursor.old }
-    ensures placed { IsPlaced reader.now.table cursor.new }
-    ensures found { Finds reader.now cursor.old result cursor.new }
+    answer: &mut Answer,
+    given: &mut usize,
+) -> Result<Option<Batch>, Fault>
+    requires giving { IsGiving answer.old }
+    requires few { given.old ≤ most_answer_rows }
+    ensures giving { IsGiving answer.new }
+    ensures counts { CountsNext (giving_at answer.old) given.old result (giving_at answer.new) given.new }
 {
-    let table = reader.plan().table();
-    while cursor.at < cursor.to {
-        let part = cursor.open(table);
-        if let Some(batch) = reader.pick(alloc, &part, selection)? {
-            return Ok(Some(batch));
-        }
+    let Some(batch) = answer.next(alloc)? else {
+        return Ok(None);
+    };
+    if batch.rows() > MAX_ANSWER_ROWS - *given {
+        return Err(Fault::ResultTooLarge);
     }
-    Ok(None)
+    *given += batch.rows();
+    Ok(Some(batch))
 }

@@ -11,6 +11,7 @@ ghost use Rattle.table_versions.specs.Valid.{IsName};
 
 use crate::handles::spliced;
 use crate::table::TableVersion;
+use hash_seed::HashSeed;
 use scan_base::Text;
 use std::alloc::{AllocError, Global};
 use std::cmp::Ordering;
@@ -23,6 +24,8 @@ use std::sync::Arc;
 #[derive(Drop)]
 pub struct CatalogVersion {
     tables: Vec<Arc<(Text, TableVersion)>>,
+    // With what hashes of its values begin. No contract sees it.
+    seed: HashSeed,
 }
 
 impl Model for CatalogVersion {
@@ -39,13 +42,20 @@ impl Model for CatalogVersion {
 }
 
 impl CatalogVersion {
-    /// No tables: version 0. It takes no memory.
-    pub fn empty(alloc: Global) -> CatalogVersion
+    /// No tables: version 0. Hashes of the values of this catalog, and of those that come after it, begin with the seed. It
+    /// takes no memory.
+    pub fn empty(alloc: Global, seed: HashSeed) -> CatalogVersion
         ensures { result ≡ [] }
     {
         CatalogVersion {
             tables: Vec::new(alloc),
+            seed,
         }
+    }
+
+    /// With what hashes of its values begin.
+    pub fn seed(&self) -> HashSeed {
+        self.seed
     }
 
     /// How many tables there are: at most 256. Their names are in byte order, and each stands once. A name has
@@ -97,6 +107,7 @@ impl CatalogVersion {
         let entry = Arc::new(alloc, (name, table)).map_err(|_| AllocError)?;
         Ok(CatalogVersion {
             tables: spliced(alloc, old, place, entry)?,
+            seed: self.seed,
         })
     }
 }

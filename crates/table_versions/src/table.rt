@@ -6,7 +6,7 @@ ghost use Rattle.arrow_schema.specs.Schema.{IsSchema};
 ghost use Rattle.arrays.specs.Batch.{rows_of};
 ghost use Rattle.arrays.specs.Typed.{AreOfTypes};
 ghost use Rattle.scan_base.specs.Limits.{most_columns, most_rows};
-ghost use Rattle.table_versions.specs.Kept.{AreSound};
+ghost use Rattle.table_versions.specs.Kept.{AreSound, IsKept};
 ghost use Rattle.table_versions.specs.Standing.{StandsIn};
 ghost use Rattle.table_versions.specs.Stored.{table_of};
 
@@ -61,6 +61,7 @@ impl TableVersion {
         ensures rows { result ≡ length (table_of self.now).rows }
         ensures few { result ≤ most_rows }
         ensures sound { AreSound self.now.schema.fields (table_of self.now).rows }
+        ensures kept { IsKept self.now result }
     {
         self.rows
     }

@@ -304,12 +304,12 @@ sum_of_texts = refl
 sum_of_decimals : rules_fault (from_t (select.List (item (Sum a) ∷ []))) (t_of Decimal128 []) ≡ Some TypeClash
 sum_of_decimals = refl
 
--- until they are built
-no_join : fault_of t_join_u t_and_u ≡ Some NotInSubset
-no_join = refl
+-- joins and groups are bound
+a_join : fault_of t_join_u t_and_u ≡ None
+a_join = refl
 
-no_aggregate : fault_of totals [] ≡ Some NotInSubset
-no_aggregate = refl
+an_aggregate : fault_of totals three ≡ None
+an_aggregate = refl
 
 -- ---- groups: their keys, and the rows that have none
 

@@ -11,9 +11,12 @@ use Rattle.scan_base.specs.declared.predicate.Operand.TheVariants.{Column, Liter
 use Rattle.scan_base.specs.Predicate.{conjunction, disjunction, negation, truth_test, comparing, between, membership}
 use Rattle.scan_base.specs.Predicate.{null_test, operand_names, names_only}
 use Rattle.typed_plan.specs.declared.class.Class.{Class}
-use Rattle.typed_plan.specs.Faults.{fault_in, operand_class, compare_fault, items_fault, predicate_fault}
+use Rattle.typed_plan.specs.Faults.{◌then◌, fault_in, operand_class, compare_fault, items_fault, predicate_fault}
 use Rattle.typed_plan.specs.Typed.{class_if_there, class_of_number, TypedPredicatesNameColumns}
-use Rattle.typed_plan.proofs.PlainTyped.{then_none}
+
+pub then_none : (a b : Option Fault) → (a then b) ≡ None → (a ≡ None) × (b ≡ None)
+then_none None b e = (refl, e)
+then_none (Some fault) b e = cc
 
 -- whether there are so many columns
 abbrev is_there : List DataType → ℕ → Bool

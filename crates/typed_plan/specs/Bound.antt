@@ -15,7 +15,7 @@ use Rattle.sql_query.specs.declared.query.Expression.{Expression}
 use Rattle.sql_query.specs.declared.query.Expression.TheVariants as expression
 use Rattle.sql_query.specs.declared.query.Select.{Select}
 use Rattle.sql_query.specs.declared.query.Select.TheVariants as select
-use Rattle.sql_query.specs.Sentence.{Sentence, place_name, is_grouped}
+use Rattle.sql_query.specs.Sentence.{Sentence, place_name, is_grouped, is_left_out_whole}
 use Rattle.table_versions.specs.Table.{Name}
 use Rattle.table_versions.specs.Database.{Database, table_at}
 use Rattle.typed_plan.specs.Class.{can_sum}
@@ -86,16 +86,12 @@ rules_fault query database =
     then first_in (λ name. fault_in (column_of scope name)) query.group_by
     then select_fault query scope query.select
 
--- until joins and groups are built: whether a query has a JOIN, an aggregate or GROUP BY
-abbrev pub is_unbuilt : Sentence → Bool
-is_unbuilt query = not (length query.joins == 0) || is_grouped query
-
--- why a query is refused; until joins and groups are built, these are left out before all else
+-- why a query is refused: what is left out comes before the rules
 abbrev pub fault_of : Sentence → Database → Option Fault
-fault_of query database = must (not (is_unbuilt query)) NotInSubset then rules_fault query database
+fault_of query database = must (not (is_left_out_whole query)) NotInSubset then rules_fault query database
 
--- what a query shows before any memory is taken: whether it is built, then whether its first table is there
+-- what a query shows before any memory is taken: whether it is left out, then whether its first table is there
 abbrev pub glance_of : Sentence → Database → Result (Unit {0}) Fault
 glance_of query database =
-    demand (not (is_unbuilt query)) NotInSubset
+    demand (not (is_left_out_whole query)) NotInSubset
     >>= λ _. demand (is_some (table_at database query.first.table)) TableMissing

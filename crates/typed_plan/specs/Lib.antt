@@ -15,4 +15,6 @@ pub mod View
 pub mod Held
 pub mod Typed
 pub mod Binding
-pub mod Plain
+pub mod Planned
+pub mod Over
+pub mod Listed

@@ -5,7 +5,10 @@ mod answer;
 pub mod binding;
 mod chain;
 pub mod class;
+mod grouped;
+mod joining;
 pub mod laws;
+mod places;
 pub mod plan;
 mod predicate;
 mod scope;
@@ -13,5 +16,7 @@ mod selection;
 
 pub use crate::binding::bind;
 pub use crate::class::Class;
-pub use crate::plan::{Columns, Output, Plan, TypedPlan};
-pub use crate::selection::MAX_COLUMNS;
+pub use crate::plan::{Aggregate, Columns, JoinKey, Output, Plan, TypedPlan};
+
+/// How many columns a result may have.
+pub const MAX_COLUMNS: usize = 64;

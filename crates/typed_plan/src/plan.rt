@@ -1,7 +1,8 @@
 //! Plans: what gives the rows of a bound query.
 
-ghost use Rattle.std.specs.Prelude.{◌≡◌};
-ghost use Rattle.typed_plan.specs.Held.{tree_schema};
+ghost use Rattle.std.specs.Prelude.{◌≡◌, ◌<◌, length, map};
+ghost use Rattle.table_versions.specs.Stored.{TableAt};
+ghost use Rattle.typed_plan.specs.Held.{tree_schemas};
 ghost use Rattle.typed_plan.specs.Typed.{IsTyped};
 ghost use Rattle.typed_plan.specs.View.{tree_of, plan_of};
 
@@ -33,6 +34,34 @@ pub enum Plan {
         predicate: Predicate<usize>,
         input: Box<Plan>,
     },
+    /// Each row of the left with each row of the right for which both cells of each key are equal, in the order of nested
+    /// loops, the left outermost. The right reads one place alone.
+    Join {
+        left: Box<Plan>,
+        right: Box<Plan>,
+        on: Items<JoinKey>,
+    },
+}
+
+/// Two cells of a joined row that are to be equal: one of its left part, and one of its right part. Both are counted from
+/// the row's begin.
+#[derive(Clone, Copy, Drop)]
+pub struct JoinKey {
+    pub left: usize,
+    pub right: usize,
+}
+
+/// What an item of a grouped result gives of a group.
+#[derive(Clone, Copy, Drop)]
+pub enum Aggregate {
+    /// The value at a place of the group's key.
+    Key(usize),
+    /// How many rows there are.
+    CountRows,
+    /// How many values of a column are not null.
+    Count(usize),
+    /// The sum of a column's values that are not null; null where there is none.
+    Sum(usize),
 }
 
 /// What a result is made of.
@@ -40,13 +69,19 @@ pub enum Plan {
 pub enum Output {
     /// Cells of each row.
     Project(Columns),
+    /// Items of each group of rows that have the same values in these columns, by first appearance. Without a column there
+    /// is one group of all rows, also of none.
+    Groups {
+        keys: Items<usize>,
+        items: Items<Aggregate>,
+    },
 }
 
-/// A bound query: its table, what gives its rows, and the columns of its result. It is well typed: each column is
-/// there, what is compared is of one class, and the result has the types that its schema says.
+/// A bound query: the tables of its places, what gives its rows, and the columns of its result. It is well typed: each
+/// column is there, what is compared is of one class, and the result has the types that its schema says.
 #[derive(Drop)]
 pub struct TypedPlan {
-    pub(crate) table: TableVersion,
+    pub(crate) tables: Vec<TableVersion>,
     pub(crate) plan: Plan,
     pub(crate) output: Output,
     pub(crate) schema: Schema,
@@ -55,8 +90,9 @@ pub struct TypedPlan {
 impl Model for TypedPlan {
     ghost use Rattle.std.specs.Coded.{codes};
     ghost use Rattle.typed_plan.specs.contracts.plan.Plan as tree;
-    ghost use Rattle.std.specs.Prelude.{◌≡◌};
-    ghost use Rattle.typed_plan.specs.Held.{tree_schema};
+    ghost use Rattle.std.specs.Prelude.{◌≡◌, map};
+    ghost use Rattle.table_versions.specs.Stored.{TableAt};
+    ghost use Rattle.typed_plan.specs.Held.{tree_schemas};
     ghost use Rattle.typed_plan.specs.Typed.{IsTyped};
     ghost use Rattle.typed_plan.specs.View.{BoundAt, tree_of, plan_of};
 
@@ -64,20 +100,21 @@ impl Model for TypedPlan {
 
     ghost coded = { Prim.hlevel (codes, tree.the_row.coded) };
 
-    ghost view = { λ t. record { table = t.table; plan = t.plan; output = t.output; schema = t.schema } };
+    ghost view = { λ t. record { tables = t.tables.items; plan = t.plan; output = t.output; schema = t.schema } };
 
     ghost invariant = { λ t.
-        IsTyped (plan_of (record { table = t.table; plan = t.plan; output = t.output; schema = t.schema }))
-        × (tree_schema (tree_of t.plan) ≡ t.table.schema) };
+        IsTyped (plan_of (record { tables = t.tables.items; plan = t.plan; output = t.output; schema = t.schema }))
+        × (tree_schemas (tree_of t.plan) ≡ map (λ (table : TableAt). table.schema) t.tables.items) };
 }
 
 impl TypedPlan {
-    /// The table that the plan reads, with the columns that it says.
-    pub fn table(&self) -> &TableVersion
-        ensures table { result.now ≡ self.now.table }
-        ensures columns { tree_schema (tree_of self.now.plan) ≡ self.now.table.schema }
+    /// The tables of the places, in their order, with the columns that the plan says; there is one or more.
+    pub fn tables(&self) -> &[TableVersion]
+        ensures tables { result.now ≡ self.now.tables }
+        ensures columns { tree_schemas (tree_of self.now.plan) ≡ map (λ (table : TableAt). table.schema) self.now.tables }
+        ensures some { 0 < length self.now.tables }
     {
-        &self.table
+        self.tables.as_slice()
     }
 
     /// What gives the rows.
@@ -100,5 +137,37 @@ impl TypedPlan {
         ensures { result.now ≡ self.now.schema }
     {
         &self.schema
+    }
+
+    /// The tables, what gives the rows, what the result takes of them, and the columns of the result, apart.
+    pub fn into_parts(self) -> (Vec<TableVersion>, Plan, Output, Schema)
+        ensures tables { result.0.items ≡ self.tables }
+        ensures plan { result.1 ≡ self.plan }
+        ensures output { result.2 ≡ self.output }
+        ensures schema { result.3 ≡ self.schema }
+        ensures typed { IsTyped (plan_of self) }
+        ensures columns { tree_schemas (tree_of self.plan) ≡ map (λ (table : TableAt). table.schema) self.tables }
+    {
+        let TypedPlan {
+            tables,
+            plan,
+            output,
+            schema,
+        } = self;
+        (tables, plan, output, schema)
+    }
+
+    /// A plan of these parts.
+    pub fn new(tables: Vec<TableVersion>, plan: Plan, output: Output, schema: Schema) -> TypedPlan
+        requires typed { IsTyped (plan_of (record { tables = tables.items; plan = plan; output = output; schema = schema })) }
+        requires columns { tree_schemas (tree_of plan) ≡ map (λ (table : TableAt). table.schema) tables.items }
+        ensures { result ≡ record { tables = tables.items; plan = plan; output = output; schema = schema } }
+    {
+        TypedPlan {
+            tables,
+            plan,
+            output,
+            schema,
+        }
     }
 }

@@ -1,7 +1,7 @@
 //! The columns that the names of a query may stand for.
 
-ghost use Rattle.std.specs.Prelude.{◌≡◌, ◌<◌, IfOk, Some, length, option_map, slice_get};
-ghost use Rattle.typed_plan.specs.Scope.{columns_in, stands_for as is_named, column_of, numbers_of};
+ghost use Rattle.std.specs.Prelude.{◌≡◌, ◌<◌, ◌++◌, IfOk, OnOk, Some, length, option_map, slice_get};
+ghost use Rattle.typed_plan.specs.Scope.{columns_in, stands_for as is_named, column_of};
 ghost use Rattle.typed_plan.specs.ResultSchema.{select_fields};
 ghost use Rattle.sql_query.specs.declared.query.Select.TheVariants.{All};
 
@@ -56,6 +56,20 @@ impl<'a> Scope<'a> {
             columns.push(PlacedColumn { place, field })?;
         }
         Ok(Scope { columns })
+    }
+
+    // The columns of one place more, behind the others.
+    pub(crate) fn push_place(
+        &mut self,
+        place: &'a Text,
+        fields: &'a [Field],
+    ) -> Result<(), AllocError>
+        ensures { OnOk result (self.new ≡ self.old ++ columns_in place.now fields.now) }
+    {
+        for field in fields {
+            self.columns.push(PlacedColumn { place, field })?;
+        }
+        Ok(())
     }
 
     // How many columns there are.

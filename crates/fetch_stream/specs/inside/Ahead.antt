@@ -1,15 +1,16 @@
 -- Inside: rows that are still to be cut into messages.
-use Rattle.std.specs.Prelude.{◌≡◌, ◌≤◌, ◌<◌, false, List, ◌++◌, [], map, None, Option, Some}
+use Rattle.std.specs.Prelude.{◌≡◌, ◌≤◌, ◌<◌, ◌-◌, ℕ, false, List, [], map, None, Option}
 use Rattle.std.specs.List.{list_any}
 use Rattle.arrow_schema.specs.declared.schema.Schema.{Schema}
 use Rattle.arrow_schema.specs.declared.schema.Field.{Field}
 use Rattle.arrow_schema.specs.Answer.{answer_type}
 use Rattle.arrow_schema.specs.Schema.{IsSchema}
-use Rattle.arrays.specs.Batch.{rows_of, cut_batch}
+use Rattle.arrays.specs.Batch.{BatchAt, rows_of, cut_batch}
 use Rattle.arrays.specs.Column.{ColumnAt}
 use Rattle.arrays.specs.Typed.{AreOfTypes}
 use Rattle.scan_exec.specs.Scan.{left}
 use Rattle.scan_base.specs.declared.fault.Fault.{Fault}
+use Rattle.scan_base.specs.Limits.{most_answer_rows}
 use Rattle.table_versions.specs.Table.{Row, is_long_text}
 use Rattle.fetch_stream.specs.Streams.{most_message_rows}
 use Rattle.fetch_stream.specs.declared.cutter.Cutter.{Cutter}
@@ -61,8 +62,19 @@ pub record IsSource (source : Source) : Type 0 where
   pub short : list_any (list_any is_long_text) (left_behind source) ≡ false
   pub begins : refused_behind source ≡ None
 
+-- how many rows a source has given, where the last batch is this one; the list of tables is one batch
+abbrev pub rows_taken : BatchAt → Source → ℕ
+rows_taken batch (Scanned scan) = scan.given
+rows_taken batch (Listed schema) = batch.rows
+
+-- how many of them were cut into messages
+abbrev pub rows_cut : Cutter → Source → ℕ
+rows_cut cutter source = rows_taken cutter.batch source - (cutter.batch.rows - cutter.at)
+
 -- a batch that is being cut, and the source of those behind it
 pub record IsGoing (cutter : Cutter) (source : Source) : Type 0 where
   pub placed : IsCutter cutter
+  pub counted : cutter.batch.rows ≤ rows_taken cutter.batch source
+  pub within : rows_taken cutter.batch source ≤ most_answer_rows
   pub behind : IsSource source
   pub columns : cutter.at < cutter.batch.rows → AnsweredAs (schema_behind source) cutter.batch.columns

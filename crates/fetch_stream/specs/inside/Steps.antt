@@ -1,8 +1,8 @@
 -- Inside: how a stream goes on that was not refused.
-use Rattle.std.specs.Prelude.{◌≡◌, ◌≢◌, ◌≤◌, ◌<◌, true, false, Bool, List, [], ◌++◌, length, Option, Some, None, Result, Ok, Err}
+use Rattle.std.specs.Prelude.{◌≡◌, ◌≤◌, ◌<◌, ◌⊎◌, ◌+◌, true, false, Bool, List, [], ◌++◌, length, Option, Some, None, Result, Ok, Err}
 use Rattle.scan_base.specs.declared.fault.Fault.{Fault}
-use Rattle.scan_base.specs.declared.fault.Fault.TheVariants.{OutOfMemory}
-use Rattle.scan_base.specs.Limits.{most_message_bytes}
+use Rattle.scan_base.specs.declared.fault.Fault.TheVariants.{OutOfMemory, ResultTooLarge}
+use Rattle.scan_base.specs.Limits.{most_answer_rows, most_message_bytes}
 use Rattle.arrow_schema.specs.declared.schema.Schema.{Schema}
 use Rattle.arrays.specs.Batch.{BatchAt, rows_of}
 use Rattle.table_versions.specs.Table.{Row}
@@ -10,7 +10,7 @@ use Rattle.flight_info.specs.Payloads.{Payload}
 use Rattle.fetch_stream.specs.Streams.{most_message_rows}
 use Rattle.fetch_stream.specs.declared.cutter.Cutter.{Cutter}
 use Rattle.fetch_stream.specs.declared.source.Source.{Source}
-use Rattle.fetch_stream.specs.inside.Ahead.{IsGoing, AnsweredAs, uncut, schema_behind, left_behind}
+use Rattle.fetch_stream.specs.inside.Ahead.{IsGoing, AnsweredAs, uncut, schema_behind, left_behind, rows_cut}
 use Rattle.fetch_stream.specs.inside.Written.{SaysSchema, SaysBatchBehind}
 
 -- the first payload says the schema
@@ -32,15 +32,18 @@ pub record Keeps (source : Source) (new_cutter : Cutter) (new : Source) : Type 0
 abbrev pub Ends : Cutter → Source → Cutter → Source → Type 0
 Ends cutter source new_cutter new =
     Keeps source new_cutter new × (rows_left cutter source ≡ []) × (rows_left new_cutter new ≡ [])
+    × (rows_cut new_cutter new ≡ rows_cut cutter source)
 
--- memory is refused, where a row is left
+-- why the next rows may be refused: memory, or more rows than an answer has
 abbrev pub Fails : Cutter → Source → Fault → Type 0
-Fails cutter source fault = (fault ≡ OutOfMemory) × (rows_left cutter source ≢ [])
+Fails cutter source fault = (fault ≡ OutOfMemory)
+    ⊎ ((fault ≡ ResultTooLarge) × (most_answer_rows < rows_cut cutter source + length (rows_left cutter source)))
 
 -- the next row stands in the batch that is being cut
 pub record HasNext (cutter : Cutter) (source : Source) (new_cutter : Cutter) (new : Source) : Type 0 where
   pub keeps : Keeps source new_cutter new
   pub rows : rows_left new_cutter new ≡ rows_left cutter source
+  pub same : rows_cut new_cutter new ≡ rows_cut cutter source
   pub more : new_cutter.at < new_cutter.batch.rows
 
 -- the next batch is there where the last one was given whole
@@ -55,6 +58,7 @@ pub record SaysNext (cutter : Cutter) (source : Source) (payload : Payload) (new
   pub said : SaysBatchBehind payload batch
   pub columns : AnsweredAs (schema_behind source) batch.columns
   pub rows : rows_of batch ++ rows_left new_cutter new ≡ rows_left cutter source
+  pub counted : rows_cut new_cutter new ≡ rows_cut cutter source + length (rows_of batch)
   pub some : 0 < length (rows_of batch)
   pub few : length (rows_of batch) ≤ most_message_rows
   pub fits : length payload ≤ most_message_bytes

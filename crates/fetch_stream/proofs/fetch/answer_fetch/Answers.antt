@@ -1,8 +1,16 @@
-use Rattle.fetch_stream.proofs.Answering.{fetched}
+use Rattle.fetch_stream.proofs.Answering.{collected_whole, collected_large}
 use Rattle.table_versions.specs.Stored.{tables_of}
 use Rattle.endpoint_split.specs.Seen.{handle_seen}
 use Rattle.fetch_stream.proofs.fetch.answer_fetch.Goals as goal
 
-pub returns-in-Ok-collected-clause-answer : goal.returns-in-Ok-collected-clause-answer
-returns-in-Ok-collected-clause-answer c =
-    rw c.whole.ensures (fetched (tables_of c.args.snapshot.now.catalog) (handle_seen c.args.handle.now) c.in-Ok.stream c.in-Ok-collected.payloads.items c.in-Ok.ensures.opens c.in-Ok-collected.ensures.said)
+pub returns-in-Ok-collect-clause-answer : goal.returns-in-Ok-collect-clause-answer
+returns-in-Ok-collect-clause-answer c =
+    let opens = c.in-Ok.ensures.opens in
+    rw c.whole.ensures (collected_whole (tables_of c.args.snapshot.now.catalog) (handle_seen c.args.handle.now) opens.0 c.collect.new.payloads.items c.in-Ok-collect.field-0 opens.1
+    (c.in-Ok-collect.ensures.said opens.0 opens.2))
+
+pub returns-in-Err-ResultTooLarge-clause-answer : goal.returns-in-Err-ResultTooLarge-clause-answer
+returns-in-Err-ResultTooLarge-clause-answer c =
+    let opens = c.in-Ok.ensures.opens in
+    collected_large (tables_of c.args.snapshot.now.catalog) (handle_seen c.args.handle.now) opens.0 c.collect.new.payloads.items c.in-Err-ResultTooLarge.field-0
+    c.in-Err-ResultTooLarge.field-0-is opens.1 (c.in-Err-ResultTooLarge.ensures.said opens.0 opens.2)

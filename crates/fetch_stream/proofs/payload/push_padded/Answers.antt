@@ -1,6 +1,4 @@
-use Rattle.std.proofs.Common.{◌≡◌, ◌++◌, ◌∷◌, [], ℕ, List, ◌-◌, ◌%◌, length, replicate, refl, sym, ap, ◌∙◌, append_assoc, append-nil, arith, rules}
-use Rattle.std.specs.List.{flat_map}
-use Rattle.std.proofs.lemmas.Grind.{flat_map-append}
+use Rattle.std.proofs.Common.{◌≡◌, ◌++◌, ◌∷◌, [], ℕ, ◌-◌, ◌%◌, length, replicate, sym, ap, ◌∙◌, arith, rules}
 use Rattle.flatbuf.specs.Block.{padding}
 use Rattle.fetch_stream.proofs.Padding.{zeros_taken, parts_padded, part_padded}
 use Rattle.fetch_stream.proofs.payload.push_padded.Goals as goal

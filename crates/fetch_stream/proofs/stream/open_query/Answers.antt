@@ -6,7 +6,7 @@ use Rattle.table_versions.specs.Stored.{tables_of}
 use Rattle.typed_plan.specs.Plan.{plan_rows}
 use Rattle.typed_plan.specs.View.{plan_of}
 use Rattle.fetch_stream.proofs.Going.{opens_behind}
-use Rattle.fetch_stream.proofs.Meaning.{misses_mean_nothing, out_of_range, meant, few_given, plan_answer}
+use Rattle.fetch_stream.proofs.Meaning.{misses_mean_nothing, out_of_range, part_of_groups, range_is, meant, plan_answer}
 use Rattle.fetch_stream.proofs.stream.open_query.Goals as goal
 
 pub returns-in_err-planned-clause-refused : goal.returns-in_err-planned-clause-refused
@@ -17,8 +17,14 @@ returns-in_err-planned-clause-refused c =
 pub returns-then-to-planned-clause-refused : goal.returns-then-to-planned-clause-refused
 returns-then-to-planned-clause-refused c other =
     let planned = c.in_ok-planned.planned in
-    out_of_range (tables_of c.args.catalog.now) c.args.range.from c.args.range.to planned.rows c.args.text.now (plan_of planned.plan) c.in_ok-planned.ensures.planned
+    out_of_range (tables_of c.args.catalog.now) c.args.range.from c.args.range.to planned.rows planned.grouped c.args.text.now (plan_of planned.plan) c.in_ok-planned.ensures.planned
     (omega (arith, c.if-to-planned.true))
+
+pub returns-then-count-least-clause-refused : goal.returns-then-count-least-clause-refused
+returns-then-count-least-clause-refused c other =
+    let planned = c.in_ok-planned.planned in
+    part_of_groups (tables_of c.args.catalog.now) c.args.range.from c.args.range.to planned.rows c.least_rows-least.result planned.grouped c.args.text.now (plan_of planned.plan)
+    c.in_ok-planned.ensures.planned c.least_rows-least.ensures.whole c.least_rows-least.ensures.part (omega (arith, c.if-count-least.true))
 
 pub returns-clause-opened : goal.returns-clause-opened
 returns-clause-opened c =
@@ -30,9 +36,11 @@ returns-clause-opened c =
     let to = c.args.range.to in
     let scan = c.in_ok-scan.scan in
     let within : to ≤ planned.rows = omega (arith, c.if-to-planned.false) in
-    let means = meant database from to planned.rows c.args.text.now plan c.in_ok-planned.ensures.planned (omega (arith, c.requires)) within in
-    let few = few_given plan database from to planned.rows within c.in_ok-planned.ensures.planned.few in
+    let is = c.in_ok-planned.ensures.planned in
+    let range = range_is database from to planned.rows planned.grouped c.args.text.now plan is (omega (arith, c.requires)) within
+    (λ groups. omega (arith, c.least_rows-least.ensures.whole groups, c.if-count-least.false)) in
+    let means = meant database from to planned.rows planned.grouped c.args.text.now plan is range in
     let rows : left scan ≡ plan_rows plan database from to = c.in_ok-scan.ensures.rows catalog c.in_ok-planned.ensures.held in
-    let schema : scan.schema ≡ plan.schema = rw c.in_ok-scan.ensures.scan refl in
+    let schema : scan.schema ≡ plan.schema = c.in_ok-scan.ensures.begins.schema in
     let nothing : rows_of c.new-nothing.result ≡ [] = rw c.new-nothing.ensures refl in
-    (plan_answer plan database from to, means, few, c.of.ensures ∙ opens_behind scan.schema (rows_of c.new-nothing.result) (left scan) (plan_answer plan database from to) schema nothing rows)
+    (plan_answer plan database from to, means, c.of.ensures ∙ opens_behind scan.schema (rows_of c.new-nothing.result) (left scan) (plan_answer plan database from to) schema nothing rows)

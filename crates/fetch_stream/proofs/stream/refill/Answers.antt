@@ -1,4 +1,4 @@
-use Rattle.std.proofs.Common.{◌≡◌, ◌≤◌, arith}
+use Rattle.std.proofs.Common.{arith}
 use Rattle.fetch_stream.proofs.Ahead.{next_batch}
 use Rattle.fetch_stream.proofs.stream.refill.Goals as goal
 

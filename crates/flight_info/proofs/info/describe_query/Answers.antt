@@ -19,7 +19,7 @@ returns-in_err-planned-clause-missed c =
 pub returns-clause-described : goal.returns-clause-described
 returns-clause-described c =
     let planned = c.in_ok-planned.planned in
-    query_described (tables_of c.args.snapshot.now.catalog) c.args.text.now (plan_of planned.plan) planned.rows (rw c.catalog.ensures at c.in_ok-planned.ensures.planned)
+    query_described (tables_of c.args.snapshot.now.catalog) c.args.text.now (plan_of planned.plan) planned.rows planned.grouped (rw c.catalog.ensures at c.in_ok-planned.ensures.planned)
     c.in_ok-result_form.field-0.items c.in_ok-result_form.ensures.form c.in_ok-result_form.ensures.small
     c.args.snapshot.now.number c.args.parts _ (omega (arith, c.number.ensures)) c.utf8.text (text_short planned c.args.text.now c.in_ok-planned.ensures.first)
-    (rw (c.number.ensures, c.as_slice.ensures, c.split-ranges.ensures.exact) at c.in_ok-query_tickets.ensures)
+    (rw (c.number.ensures, c.as_slice.ensures, c.endpoint_ranges-ranges.ensures) at c.in_ok-query_tickets.ensures)

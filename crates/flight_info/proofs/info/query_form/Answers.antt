@@ -19,5 +19,5 @@ returns-in_err-planned-clause-missed c =
 pub returns-clause-form : goal.returns-clause-form
 returns-clause-form c =
     let planned = c.in_ok-planned.planned in
-    query_form (tables_of c.args.snapshot.now.catalog) c.args.text.now (plan_of planned.plan) planned.rows (rw c.catalog.ensures at c.in_ok-planned.ensures.planned)
+    query_form (tables_of c.args.snapshot.now.catalog) c.args.text.now (plan_of planned.plan) planned.rows planned.grouped (rw c.catalog.ensures at c.in_ok-planned.ensures.planned)
     c.in_ok-result_form.field-0.items c.in_ok-result_form.ensures.form c.in_ok-result_form.ensures.small

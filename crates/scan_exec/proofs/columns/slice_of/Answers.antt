@@ -4,7 +4,7 @@ use Rattle.std.proofs.lemmas.List.{take_all}
 use Rattle.std.proofs.lemmas.List.FromFn.{length-range_with_len}
 use Rattle.arrays.specs.Batch.{AreLong}
 use Rattle.scan_exec.specs.Chosen.{columns_at}
-use Rattle.scan_exec.specs.Selected.{rows_of_part, HasSlotsAt}
+use Rattle.scan_exec.specs.Picking.{rows_of_part, HasSlotsAt}
 use Rattle.scan_exec.proofs.Cells.{columns_more}
 use Rattle.scan_exec.proofs.Selecting.{all_long, cut_has, more_has}
 use Rattle.scan_exec.proofs.columns.slice_of.Goals as goal

@@ -1,7 +1,7 @@
 use Rattle.std.proofs.Common.{take}
 use Rattle.std.specs.List.{AllZip}
 use Rattle.scan_exec.specs.Chosen.{columns_at}
-use Rattle.scan_exec.specs.Selected.{rows_of_part, HasSlotsAt}
+use Rattle.scan_exec.specs.Picking.{rows_of_part, HasSlotsAt}
 use Rattle.scan_exec.proofs.columns.slice_of.Given as goal
 
 abbrev pub invariant-loop-number : goal.invariant-loop-number

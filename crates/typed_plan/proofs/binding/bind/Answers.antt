@@ -1,44 +1,104 @@
-use Rattle.std.proofs.Common.{◌≡◌, false, ap, ◌∙◌, sym, rules}
+use Rattle.std.proofs.Common.{◌≡◌, ◌-◌, ◌∷◌, false, length, map, take, drop, refl, sym, ap, subst, ◌∙◌, rules}
+use Rattle.std.proofs.lemmas.Result.{err_from_is_err_and}
 use Rattle.std.specs.Option.{option_copied}
-use Rattle.sql_query.specs.Sentence.{sentence_of}
-use Rattle.table_versions.specs.Stored.{tables_of, plain, table_of}
+use Rattle.sql_query.specs.Sentence.{sentence_of, is_left_out_whole}
+use Rattle.table_versions.specs.Stored.{TableAt, tables_of, plain}
+use Rattle.typed_plan.specs.Over.{AreTablesOf, places_of}
+use Rattle.table_versions.specs.Database.{table_at}
 use Rattle.table_versions.proofs.Stores.{table_at-tables_of}
-use Rattle.typed_plan.specs.Bound.{is_unbuilt}
-use Rattle.typed_plan.proofs.Bound.{bound}
-use Rattle.typed_plan.proofs.Held.{holds}
-use Rattle.typed_plan.proofs.Plain.{missing}
+use Rattle.typed_plan.specs.Binding.{IsPlanOf}
+use Rattle.typed_plan.specs.Held.{tree_tables, tree_schemas}
+use Rattle.typed_plan.specs.Plan.{PlanAt}
+use Rattle.typed_plan.specs.Typed.{IsTyped}
+use Rattle.typed_plan.proofs.Over.{others_are, fault_is, bound_over, schemas_are, names_hold}
+use Rattle.typed_plan.proofs.PlanMeans.{plan_means, plan_reads}
+use Rattle.typed_plan.proofs.PlannedTypes.{plan_typed}
 use Rattle.typed_plan.proofs.binding.bind.Goals as goal
 
 pub returns-in_default-clause-bound : goal.returns-in_default-clause-bound
 returns-in_default-clause-bound c other =
     let query = sentence_of c.args.query.now in
-    let is_built : is_unbuilt query ≡ false =
-    search (rules, c.is_empty.ensures, c.if-not-is_empty.false, c.is_grouped.ensures, c.if-is_grouped.false) in
-    missing query (tables_of c.args.catalog.now) is_built
-    (table_at-tables_of c.args.catalog.now query.first.table
-    ∙ ap plain (sym c.get.ensures ∙ ap option_copied c.in_default.is))
+    let going : is_left_out_whole query ≡ false = sym c.is_left_out.ensures ∙ c.if-is_left_out.false in
+    let absent = table_at-tables_of c.args.catalog.now query.first.table
+    ∙ ap plain (sym c.get.ensures ∙ ap option_copied c.in_default.is) in
+    rw (going, absent) refl
+
+pub returns-in_err-tables-clause-first : goal.returns-in_err-tables-clause-first
+returns-in_err-tables-clause-first c =
+    let query = sentence_of c.args.query.now in
+    let going : is_left_out_whole query ≡ false = sym c.is_left_out.ensures ∙ c.if-is_left_out.false in
+    let there = table_at-tables_of c.args.catalog.now query.first.table
+    ∙ ap plain (sym c.get.ensures ∙ ap option_copied c.in-Some.is) in
+    rw (going, there) tt
+
+pub returns-in_err-plan-clause-bound : goal.returns-in_err-plan-clause-bound
+returns-in_err-plan-clause-bound c =
+    let query = sentence_of c.args.query.now in
+    let catalog = c.args.catalog.now in
+    let tables = c.deref.result.now in
+    let same : c.in_ok-tables.tables.items ≡ tables = search (rules, c.deref.ensures.value) in
+    let are = subst (AreTablesOf catalog (places_of query.first query.joins)) same c.in_ok-tables.ensures.1 in
+    let others = take (length tables - 1) (drop 1 tables) in
+    let first = c.in-Some.first.now in
+    let tail = others_are catalog query.first query.joins tables are in
+    let is = fault_is query catalog first others (sym c.is_left_out.ensures ∙ c.if-is_left_out.false)
+    (sym c.get.ensures ∙ ap option_copied c.in-Some.is) tail c.in_ok-tables.ensures.0 in
+    let p = err_from_is_err_and c.from_residual-in_err-plan.result c.from_residual-in_err-plan.ensures.1 in
+    rw (p.1, p.2) (λ apart. is ∙ c.in_err-plan.ensures.bound apart)
+
+pub invariant_of-result : goal.invariant_of-result
+invariant_of-result c =
+    let query = sentence_of c.args.query.now in
+    let catalog = c.args.catalog.now in
+    let tables = c.deref.result.now in
+    let same : c.in_ok-tables.tables.items ≡ tables = search (rules, c.deref.ensures.value) in
+    let are = subst (AreTablesOf catalog (places_of query.first query.joins)) same c.in_ok-tables.ensures.1 in
+    let others = take (length tables - 1) (drop 1 tables) in
+    let first = c.in-Some.first.now in
+    let head = sym c.get.ensures ∙ ap option_copied c.in-Some.is in
+    let tail = others_are catalog query.first query.joins tables are in
+    let parts = c.in_ok-plan.ensures.bound in
+    let bound = bound_over query catalog first others _ (sym c.is_left_out.ensures ∙ c.if-is_left_out.false)
+    head tail c.in_ok-tables.ensures.0 parts.0 parts.1 in (
+      subst IsTyped (sym bound.1) (plan_typed query (tables_of catalog) bound.0),
+      ap (λ (plan : PlanAt). tree_schemas plan.tree) parts.1
+          ∙ schemas_are query catalog first tables head are
+          ∙ ap (map (λ (table : TableAt). table.schema)) (sym same),
+    )
 
 pub returns-clause-bound : goal.returns-clause-bound
 returns-clause-bound c =
     let query = sentence_of c.args.query.now in
-    let is_built : is_unbuilt query ≡ false =
-    search (rules, c.is_empty.ensures, c.if-not-is_empty.false, c.is_grouped.ensures, c.if-is_grouped.false) in
-    let there = table_at-tables_of c.args.catalog.now query.first.table
-    ∙ ap plain (sym c.get.ensures ∙ ap option_copied c.in-Some.is) in
-    bound query (tables_of c.args.catalog.now)
-    (table_of c.in-Some.table.now) is_built there c.bind_place.result c.bind_place.ensures.bound
+    let catalog = c.args.catalog.now in
+    let tables = c.deref.result.now in
+    let same : c.in_ok-tables.tables.items ≡ tables = search (rules, c.deref.ensures.value) in
+    let are = subst (AreTablesOf catalog (places_of query.first query.joins)) same c.in_ok-tables.ensures.1 in
+    let others = take (length tables - 1) (drop 1 tables) in
+    let tail = others_are catalog query.first query.joins tables are in
+    let parts = c.in_ok-plan.ensures.bound in
+    bound_over query catalog c.in-Some.first.now others _ (sym c.is_left_out.ensures ∙ c.if-is_left_out.false)
+    (sym c.get.ensures ∙ ap option_copied c.in-Some.is) tail c.in_ok-tables.ensures.0 parts.0 parts.1
 
-pub returns-clause-first : goal.returns-clause-first
-returns-clause-first c =
+pub returns-clause-means : goal.returns-clause-means
+returns-clause-means c =
     let query = sentence_of c.args.query.now in
-    let is_built : is_unbuilt query ≡ false =
-    search (rules, c.is_empty.ensures, c.if-not-is_empty.false, c.is_grouped.ensures, c.if-is_grouped.false) in
-    let there = table_at-tables_of c.args.catalog.now query.first.table
-    ∙ ap plain (sym c.get.ensures ∙ ap option_copied c.in-Some.is) in
-    rw (is_built, there) tt
+    let database = tables_of c.args.catalog.now in
+    let bound = returns-clause-bound c in
+    subst (IsPlanOf query database) (sym bound.1) (plan_means query database bound.0)
+
+pub returns-clause-named : goal.returns-clause-named
+returns-clause-named c names = c.in_ok-plan.ensures.named names
+
+pub returns-clause-places : goal.returns-clause-places
+returns-clause-places c =
+    let query = sentence_of c.args.query.now in
+    let database = tables_of c.args.catalog.now in
+    ap (λ (plan : PlanAt). tree_tables plan.tree) (returns-clause-bound c).1 ∙ plan_reads query database
 
 pub returns-clause-held : goal.returns-clause-held
 returns-clause-held c =
-    let there = sym c.get.ensures ∙ ap option_copied c.in-Some.is in
-    holds c.args.catalog.now c.args.query.now.first.table c.in-Some.table.now c.bind_place.result there c.bind_place.ensures.held
-    c.bind_place.ensures.place
+    let query = sentence_of c.args.query.now in
+    let catalog = c.args.catalog.now in
+    ap (map (table_at catalog)) (returns-clause-places c)
+    ∙ ap (λ rest. table_at catalog query.first.table ∷ rest) (names_hold catalog query.joins)
+    ∙ c.in_ok-tables.ensures.1

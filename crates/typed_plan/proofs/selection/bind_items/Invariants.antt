@@ -1,5 +1,7 @@
 use Rattle.std.proofs.Common.{◌≡◌, ◌+◌, ◌++◌, take, drop, map}
-use Rattle.typed_plan.specs.Plain.{columns_fault, number_of_item}
+use Rattle.typed_plan.specs.Faults.{first_in}
+use Rattle.typed_plan.specs.Listed.{column_fault}
+use Rattle.typed_plan.specs.Planned.{number_of_item}
 use Rattle.typed_plan.specs.ResultSchema.{list_fields}
 use Rattle.typed_plan.proofs.selection.bind_items.Given as goal
 
@@ -8,5 +10,6 @@ invariant-loop-item l = record {
   numbers : l.numbers ≡ map (number_of_item l.scope) (take l.item-index l.items);
   fields : list_fields l.scope 1 l.items
       ≡ l.fields ++ list_fields l.scope (1 + l.item-index) (drop l.item-index l.items);
-  left : columns_fault l.scope l.items ≡ columns_fault l.scope (drop l.item-index l.items);
+  left : first_in (λ item. column_fault l.scope item.expression) l.items
+      ≡ first_in (λ item. column_fault l.scope item.expression) (drop l.item-index l.items);
 }

@@ -1,4 +1,3 @@
-use Rattle.std.proofs.Common.{◌≡◌}
 use Rattle.fetch_stream.proofs.Scanned.{scan_gives}
 use Rattle.fetch_stream.proofs.source.Source.next.Goals as goal
 

@@ -6,4 +6,4 @@ use Rattle.fetch_stream.proofs.stream.FetchStream.new.Goals as goal
 pub returns-in_ok-open_tables-in-Tables-clause-opens : goal.returns-in_ok-open_tables-in-Tables-clause-opens
 returns-in_ok-open_tables-in-Tables-clause-opens c =
     let said = rw c.catalog-catalog.ensures at c.in_ok-open_tables-in-Tables.ensures in
-    rw c.in-Tables.is (tables_listed (tables_of c.args.snapshot.now.catalog), refl, said.0, said.1)
+    rw c.in-Tables.is (tables_listed (tables_of c.args.snapshot.now.catalog), refl, said)

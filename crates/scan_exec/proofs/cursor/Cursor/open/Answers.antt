@@ -1,10 +1,11 @@
 use Rattle.std.proofs.Common.{◌≡◌, ◌≤◌, ◌<◌, ◌-◌, ◌+◌, ◌⊎◌, ℕ, length, max, min, refl, sym, ap, subst, ◌∙◌, inl, inr, arith}
 use Rattle.scan_base.specs.Limits.{most_rows}
 use Rattle.table_versions.specs.Stored.{table_of}
-use Rattle.scan_exec.specs.Given.{most_scan_rows}
+use Rattle.scan_exec.specs.Scan.{most_scan_rows}
 use Rattle.scan_exec.specs.Placed.{IsPlaced, Opens}
 use Rattle.scan_exec.specs.declared.cursor.Cursor.{Cursor}
 use Rattle.scan_exec.specs.declared.cursor.Part.{Part}
+use Rattle.scan_exec.proofs.Shown.{of_types}
 use Rattle.scan_exec.proofs.Stepping.{opened_few, placed_after, is_part, opens}
 use Rattle.scan_exec.proofs.cursor.Cursor.open.Goals as goal
 use Rattle.scan_exec.proofs.cursor.Cursor.open.Goals.{then-self-max, else-self-max, then-to-rows, else-to-rows}
@@ -66,7 +67,8 @@ returns-clause-part c =
     is_part c.args.table.now c.args.self.now c.requires.placed c.requires.more c.batches_are_rows.ensures c.batch-batch.result.now
     c.batch-batch.ensures.batch c.batch-batch.ensures.filled c.min-to.result (last_is c)
     (record { batch = c.batch-batch.result; from = c.args.self.now.at - c.args.self.now.start; to = c.min-to.result })
-    few c.batch-batch.ensures.wide c.batch-batch.ensures.typed refl refl refl
+    few c.batch-batch.ensures.wide
+    (of_types c.args.table.now.schema.fields c.batch-batch.result.now.columns c.batch-batch.ensures.typed) refl refl refl
 
 pub returns-clause-opened : goal.returns-clause-opened
 returns-clause-opened c =

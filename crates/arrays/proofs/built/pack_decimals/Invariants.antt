@@ -1,6 +1,0 @@
-use Rattle.arrays.specs.Number.{signed_from}
-use Rattle.arrays.specs.inside.Built.{AreNumbersOf}
-use Rattle.arrays.proofs.built.pack_decimals.Given as goal
-
-abbrev pub invariant-loop-value : goal.invariant-loop-value
-invariant-loop-value l = AreNumbersOf 16 (signed_from 128) l.packed.items l.values l.value-index

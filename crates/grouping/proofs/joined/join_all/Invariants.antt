@@ -1,0 +1,8 @@
+use Rattle.std.proofs.Common.{◌+◌}
+use Rattle.grouping.specs.inside.Adding.{lists_of}
+use Rattle.grouping.specs.inside.Merging.{AllJoined}
+use Rattle.grouping.proofs.joined.join_all.Given as goal
+
+abbrev pub invariant-loop-item : goal.invariant-loop-item
+invariant-loop-item l = AllJoined l.others.groups.now (lists_of l.others.tallies.now) l.found (l.others.fed + l.others.more)
+    (lists_of l.initial.tallies) (lists_of l.tallies) l.item

@@ -1,0 +1,8 @@
+pub mod Answered
+pub mod Answers
+pub mod Fed
+pub mod Found
+pub mod Keys
+pub mod RowKeys
+pub mod Tallies
+pub mod inside

@@ -1,0 +1,8 @@
+-- Inside: what proofs say of tallies and of places.
+pub mod Adding
+pub mod Answering
+pub mod Counting
+pub mod Finishing
+pub mod Kept
+pub mod Merging
+pub mod Placing

@@ -1,0 +1,156 @@
+//! The answer of groups, batch by batch.
+
+ghost use Rattle.std.specs.Prelude.{◌≡◌, ◌≤◌, IfOk, length, map};
+ghost use Rattle.scan_base.specs.Limits.{most_rows};
+ghost use Rattle.grouping.specs.Answers.{GivesAnswer, IsOver, groups_at};
+ghost use Rattle.grouping.specs.Fed.{HasItems};
+ghost use Rattle.grouping.specs.inside.Adding.{IsKept, lists_of};
+ghost use Rattle.grouping.specs.inside.Finishing.{CanAnswer, groups_in};
+ghost use Rattle.grouping.specs.inside.Placing.{found_by, place_of};
+
+use crate::batches::Answer;
+use crate::groups::Grouping;
+use crate::kept::Kept;
+use crate::key::{Place, RowKey};
+use crate::tally::Tally;
+use arrays::Batch;
+use arrow_schema::DataType;
+use std::alloc::{AllocError, Global};
+use std::marker::Model;
+use typed_plan::Aggregate;
+
+// As many groups as a batch has.
+const MOST_ROWS: usize = 65_536;
+
+/// The answer of groups: the items of each, in order. It holds where the first rows of groups stand, and is given the
+/// batches anew for each batch of it. A contract sees the groups, and how many of them were answered.
+#[derive(Drop)]
+pub struct Answers {
+    types: Vec<DataType>,
+    keys: Vec<usize>,
+    items: Vec<Aggregate>,
+    firsts: Vec<Place>,
+    tallies: Vec<Vec<Tally>>,
+    given: usize,
+}
+
+impl Model for Answers {
+    ghost use Rattle.std.specs.Prelude.{length};
+    ghost use Rattle.grouping.specs.Answers.{AnswersAt};
+    ghost use Rattle.grouping.specs.inside.Adding.{lists_of};
+    ghost use Rattle.grouping.specs.inside.Finishing.{IsAnswers};
+
+    ghost Value = { AnswersAt };
+
+    ghost view = { λ a. record {
+      types = a.types.items;
+      keys = a.keys.items;
+      items = a.items.items;
+      firsts = a.firsts.items;
+      tallies = lists_of a.tallies.items;
+      given = a.given;
+    } };
+
+    ghost invariant = { λ a. IsAnswers a.types.items a.keys.items a.items.items (length a.firsts.items) (lists_of a.tallies.items) a.given };
+}
+
+impl Answers {
+    /// Of what is kept of groups, of which none was answered.
+    ///
+    /// # Errors
+    ///
+    /// `AllocError` where memory is refused.
+    pub(crate) fn new(
+        alloc: Global,
+        shape: &Grouping<'_>,
+        kept: Kept<'_>,
+    ) -> Result<Answers, AllocError>
+        requires has { HasItems shape.now.types.now shape.now.keys.now shape.now.items.now }
+        requires kept { IsKept shape.now.items.now (length (found_by shape.now.keys.now kept.firsts.keys)) kept.count (lists_of kept.tallies.items) }
+        requires few { kept.count ≤ most_rows }
+        ensures { IfOk result (λ answers. answers ≡ record {
+          types = shape.now.types.now;
+          keys = shape.now.keys.now;
+          items = shape.now.items.now;
+          firsts = map place_of (kept.entry).firsts.keys;
+          tallies = lists_of (kept.entry).tallies.items;
+          given = 0;
+        }) }
+    {
+        let Kept {
+            firsts,
+            tallies,
+            ..
+        } = kept;
+        Ok(Answers {
+            types: copied(alloc, shape.types)?,
+            keys: copied(alloc, shape.keys)?,
+            items: copied(alloc, shape.items)?,
+            firsts: places(alloc, firsts.as_slice())?,
+            tallies,
+            given: 0,
+        })
+    }
+
+    /// The items of the next groups as a batch, where these are the batches whose rows were grouped: one row or more, no
+    /// more than 65,536, whose texts have no more than 16 MB in a column where it is more than one. `None` where no group
+    /// is left.
+    ///
+    /// # Errors
+    ///
+    /// `AllocError` where memory is refused, or where one text has so many bytes that no offset names the last: 2 to the 31
+    /// or more. The same groups come next.
+    pub fn next(&mut self, alloc: Global, batches: &[Batch]) -> Result<Option<Batch>, AllocError>
+        requires { IsOver batches.now self.old }
+        ensures { GivesAnswer batches.now self.old result self.new }
+    {
+        let answer = self.shown(batches);
+        let left = answer.groups() - self.given;
+        if left == 0 {
+            return Ok(None);
+        }
+        let batch = answer.next(alloc, self.given, left.min(MOST_ROWS))?;
+        self.given += batch.rows();
+        Ok(Some(batch))
+    }
+
+    // The groups that are answered.
+    fn shown<'a>(&'a self, batches: &'a [Batch]) -> Answer<'a>
+        requires { IsOver batches.now self.now }
+        ensures can { CanAnswer result }
+        ensures groups { groups_in result ≡ groups_at batches.now self.now }
+        ensures few { self.now.given ≤ length (groups_in result).found }
+    {
+        Answer {
+            batches,
+            types: self.types.as_slice(),
+            keys: self.keys.as_slice(),
+            items: self.items.as_slice(),
+            firsts: self.firsts.as_slice(),
+            tallies: self.tallies.as_slice(),
+        }
+    }
+}
+
+// The elements of a list.
+fn copied<T: Copy>(alloc: Global, elements: &[T]) -> Result<Vec<T>, AllocError>
+    ensures { IfOk result (λ copy. copy.items ≡ elements.now) }
+{
+    let mut copy = Vec::with_capacity(alloc, elements.len())?;
+    copy.extend_from_slice(elements)?;
+    Ok(copy)
+}
+
+// Where first rows stand.
+fn places(alloc: Global, firsts: &[RowKey<'_>]) -> Result<Vec<Place>, AllocError>
+    ensures { IfOk result (λ places. places.items ≡ map place_of firsts.now) }
+{
+    let mut places = Vec::with_capacity(alloc, firsts.len())?;
+    for first in firsts {
+        places.push(Place {
+            batch: first.number,
+            row: first.row,
+        })?;
+    }
+    Ok(places)
+}

@@ -1,0 +1,164 @@
+//! Groups of rows.
+
+ghost use Rattle.std.specs.Prelude.{◌≤◌, ◌+◌, ◌<◌, All, IfOk, length, map};
+ghost use Rattle.scan_base.specs.Limits.{most_rows};
+ghost use Rattle.arrays.specs.Batch.{row_of};
+ghost use Rattle.grouping.specs.Answers.{Finishes};
+ghost use Rattle.grouping.specs.Fed.{AreTyped, HasItems, IsAlike, IsNew, Feeds, Merges, batch_at};
+
+use crate::answers::Answers;
+use crate::kept::{Kept, add, blank, found_count, join};
+use crate::table::Chosen;
+use arrays::{Batch, Selection};
+use arrow_schema::DataType;
+use hash_seed::HashSeed;
+use indexmap::IndexSet;
+use scan_base::Fault;
+use std::alloc::{AllocError, Global};
+use std::marker::Model;
+use typed_plan::Aggregate;
+
+/// What is grouped: batches, the types of their columns, the numbers of those that are the key, and the items that are
+/// wanted of each group.
+#[derive(Clone, Copy, Drop)]
+pub struct Grouping<'t> {
+    pub batches: &'t [Batch],
+    pub types: &'t [DataType],
+    pub keys: &'t [usize],
+    pub items: &'t [Aggregate],
+}
+
+/// Groups of rows that have the same values in some columns, by first appearance; without such a column there is one
+/// group of all rows, also of none. Keys stay in the batches that they came in: no value is copied for a row. A contract
+/// sees the keys and the tallies of the groups; `Holds` says of which rows they are.
+#[derive(Drop)]
+pub struct Groups<'t> {
+    shape: Grouping<'t>,
+    kept: Kept<'t>,
+    refused: Option<Fault>,
+}
+
+impl<'t> Model for Groups<'t> {
+    ghost use Rattle.grouping.specs.Fed.{GroupsAt};
+    ghost use Rattle.grouping.specs.inside.Adding.{lists_of};
+    ghost use Rattle.grouping.specs.inside.Kept.{IsGroups};
+    ghost use Rattle.grouping.specs.inside.Placing.{found_by};
+
+    ghost Value = { GroupsAt };
+
+    ghost view = { λ g. record {
+      batches = g.shape.batches.now;
+      types = g.shape.types.now;
+      keys = g.shape.keys.now;
+      items = g.shape.items.now;
+      found = found_by g.shape.keys.now g.kept.firsts.keys;
+      tallies = lists_of g.kept.tallies.items;
+      count = g.kept.count;
+      refused = g.refused;
+    } };
+
+    ghost invariant = { λ g. IsGroups g.shape g.kept.firsts.keys (lists_of g.kept.tallies.items) g.kept.count g.refused };
+}
+
+impl<'t> Groups<'t> {
+    /// No row yet. The hashes of keys begin with the seed.
+    ///
+    /// # Errors
+    ///
+    /// `AllocError` where memory is refused.
+    pub fn new(alloc: Global, seed: HashSeed, shape: Grouping<'t>) -> Result<Groups<'t>, AllocError>
+        requires typed { AreTyped shape.types.now shape.batches.now }
+        requires has { HasItems shape.types.now shape.keys.now shape.items.now }
+        ensures { IfOk result (IsNew (shape.entry).batches.now (shape.entry).types.now (shape.entry).keys.now (shape.entry).items.now) }
+    {
+        let firsts = IndexSet::with_hasher(alloc, seed);
+        let groups = found_count(shape.keys, &firsts);
+        let tallies = blank(alloc, shape.items.len(), groups)?;
+        Ok(Groups {
+            shape,
+            kept: Kept {
+                firsts,
+                tallies,
+                count: 0,
+            },
+            refused: None,
+        })
+    }
+
+    /// Feeds the selected rows of the batch of a number, in order.
+    ///
+    /// # Errors
+    ///
+    /// F21 (`Fault::OutOfMemory`) where memory is refused. What refused the groups is answered from then on.
+    pub fn feed(&mut self, alloc: Global, number: usize, selection: &Selection) -> Result<(), Fault>
+        requires there { number < length self.old.batches }
+        requires within { All (λ row. row < (batch_at self.old.batches number).rows) selection.now }
+        requires few { self.old.count + length selection.now ≤ most_rows }
+        ensures { Feeds self.old result self.new (map (row_of (batch_at self.old.batches number).columns) selection.now) }
+    {
+        if let Some(fault) = self.refused {
+            return Err(fault);
+        }
+        let chosen = Chosen {
+            number,
+            batch: &self.shape.batches[number],
+            columns: self.shape.keys,
+            rows: selection.places(),
+        };
+        match add(alloc, self.shape.items, &mut self.kept, &chosen) {
+            Ok(()) => Ok(()),
+            Err(_) => {
+                self.refused = Some(Fault::OutOfMemory);
+                Err(Fault::OutOfMemory)
+            }
+        }
+    }
+
+    /// Takes the groups of other rows of the same batches behind the own: each joins that of its key, or stands last.
+    ///
+    /// # Errors
+    ///
+    /// What refused either; F21 (`Fault::OutOfMemory`) where memory is refused. It is answered from then on.
+    pub fn merge(&mut self, alloc: Global, other: Groups<'t>) -> Result<(), Fault>
+        requires alike { IsAlike self.old other }
+        requires few { self.old.count + other.count ≤ most_rows }
+        ensures { Merges self.old other.entry result self.new }
+    {
+        if let Some(fault) = self.refused {
+            return Err(fault);
+        }
+        if let Some(fault) = other.refused {
+            self.refused = Some(fault);
+            return Err(fault);
+        }
+        match join(alloc, &self.shape, &mut self.kept, &other.kept) {
+            Ok(()) => Ok(()),
+            Err(_) => {
+                self.refused = Some(Fault::OutOfMemory);
+                Err(Fault::OutOfMemory)
+            }
+        }
+    }
+
+    /// The answer, which is given batch by batch. It is as long as the groups, and borrows nothing.
+    ///
+    /// # Errors
+    ///
+    /// What refused the groups; F21 (`Fault::OutOfMemory`) where memory is refused.
+    pub fn finish(self, alloc: Global) -> Result<Answers, Fault>
+        ensures { Finishes self.entry result }
+    {
+        let Groups {
+            shape,
+            kept,
+            refused,
+        } = self;
+        if let Some(fault) = refused {
+            return Err(fault);
+        }
+        match Answers::new(alloc, &shape, kept) {
+            Ok(answers) => Ok(answers),
+            Err(_) => Err(Fault::OutOfMemory),
+        }
+    }
+}

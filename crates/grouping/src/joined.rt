@@ -1,0 +1,133 @@
+//! Groups of other rows, and which groups they join.
+
+ghost use Rattle.std.specs.Prelude.{◌≡◌, ◌≤◌, ◌<◌, ℕ, ◌+◌, All, IfOk, OnOk, length, map};
+ghost use Rattle.indexmap.specs.IndexSet.{insert_all};
+ghost use Rattle.scan_base.specs.Limits.{most_rows};
+ghost use Rattle.typed_plan.specs.Grouped.{same_key};
+ghost use Rattle.grouping.specs.RowKeys.{key_of};
+ghost use Rattle.grouping.specs.inside.Adding.{IsKept, lists_of};
+ghost use Rattle.grouping.specs.inside.Counting.{AreWithin, counted_in};
+ghost use Rattle.grouping.specs.inside.Merging.{AllJoined, AreJoined, FirstsJoin, IsJoined, joined};
+ghost use Rattle.grouping.specs.inside.Placing.{found_by};
+
+use crate::key::RowKey;
+use crate::table::group_of;
+use crate::tally::Tally;
+use hash_seed::HashSeed;
+use indexmap::IndexSet;
+use std::alloc::{AllocError, Global};
+use typed_plan::Aggregate;
+
+/// The tallies of other groups, the group that each joins, and how many rows were fed here and there.
+#[derive(Clone, Copy, Drop)]
+pub(crate) struct Others<'p> {
+    pub(crate) tallies: &'p [Vec<Tally>],
+    pub(crate) groups: &'p [usize],
+    pub(crate) fed: usize,
+    pub(crate) more: usize,
+}
+
+/// The group that each of other first rows joins, or opens behind all others; without columns there is one group.
+///
+/// # Errors
+///
+/// `AllocError` where memory is refused.
+pub(crate) fn join_firsts<'t>(
+    alloc: Global,
+    columns: &[usize],
+    firsts: &mut IndexSet<RowKey<'t>, HashSeed>,
+    others: &IndexSet<RowKey<'t>, HashSeed>,
+) -> Result<Vec<usize>, AllocError>
+    ensures found { OnOk result (found_by columns.now firsts.new.keys
+        ≡ insert_all same_key (found_by columns.now firsts.old.keys) (found_by columns.now others.now.keys)) }
+    ensures joined { IfOk result (λ groups. AreJoined (found_by columns.now firsts.new.keys) (found_by columns.now others.now.keys) groups.items
+        (length (found_by columns.now others.now.keys))) }
+    ensures firsts { OnOk result (FirstsJoin firsts.old.keys others.now.keys firsts.new.keys) }
+{
+    if columns.is_empty() {
+        let mut groups = Vec::with_capacity(alloc, 1)?;
+        groups.push(0)?;
+        return Ok(groups);
+    }
+    join_each(alloc, firsts, others.as_slice())
+}
+
+// The group that each of these first rows joins, or opens behind all others.
+fn join_each<'t>(
+    alloc: Global,
+    firsts: &mut IndexSet<RowKey<'t>, HashSeed>,
+    others: &[RowKey<'t>],
+) -> Result<Vec<usize>, AllocError>
+    ensures found { OnOk result (map key_of firsts.new.keys ≡ insert_all same_key (map key_of firsts.old.keys) (map key_of others.now)) }
+    ensures joined { IfOk result (λ groups. AreJoined (map key_of firsts.new.keys) (map key_of others.now) groups.items (length (map key_of others.now))) }
+    ensures firsts { OnOk result (FirstsJoin firsts.old.keys others.now firsts.new.keys) }
+{
+    let mut groups = Vec::with_capacity(alloc, others.len())?;
+    for other in others {
+        groups.push(group_of(firsts, *other)?)?;
+    }
+    Ok(groups)
+}
+
+/// Adds each of other tallies to the tally of its group, of so many groups that were found, for each item.
+///
+/// # Errors
+///
+/// `AllocError` where memory is refused.
+pub(crate) fn join_all(
+    tallies: &mut [Vec<Tally>],
+    items: &[Aggregate],
+    others: &Others<'_>,
+    found: usize,
+) -> Result<(), AllocError>
+    requires grouped { All (λ group. group < found) others.now.groups.now }
+    requires few { others.now.fed + others.now.more ≤ most_rows }
+    requires kept { (before : ℕ) × (before ≤ found) × IsKept items.now before others.now.fed (lists_of tallies.old) }
+    requires others { IsKept items.now (length others.now.groups.now) others.now.more (lists_of others.now.tallies.now) }
+    ensures joined { OnOk result (AllJoined others.now.groups.now (lists_of others.now.tallies.now) found (others.now.fed + others.now.more)
+        (lists_of tallies.old) (lists_of tallies.new) (length items.now)) }
+    ensures kept { OnOk result (IsKept items.now found (others.now.fed + others.now.more) (lists_of tallies.new)) }
+{
+    for item in 0..items.len() {
+        let more = others.tallies[item].as_slice();
+        join_item(&mut tallies[item], more, others.groups, found)?;
+    }
+    Ok(())
+}
+
+// Adds each of other tallies to the tally of its group, of so many groups that were found.
+fn join_item(
+    tallies: &mut Vec<Tally>,
+    others: &[Tally],
+    groups: &[usize],
+    found: usize,
+) -> Result<(), AllocError>
+    requires grouped { All (λ group. group < found) groups.now }
+    requires long { length groups.now ≡ length others.now }
+    requires grown { length tallies.old.items ≤ found }
+    requires few { counted_in tallies.old.items + counted_in others.now ≤ most_rows }
+    requires small { AreWithin (counted_in tallies.old.items) tallies.old.items }
+    requires others { AreWithin (counted_in others.now) others.now }
+    ensures joined { OnOk result (IsJoined groups.now others.now found tallies.old.items tallies.new.items) }
+    ensures small { OnOk result (AreWithin (counted_in tallies.old.items + counted_in others.now) tallies.new.items) }
+{
+    tallies.resize(found, Tally::new())?;
+    join_tallies(tallies.as_mut_slice(), others, groups);
+    Ok(())
+}
+
+// Adds each of other tallies to the tally of its group.
+fn join_tallies(tallies: &mut [Tally], others: &[Tally], groups: &[usize])
+    requires grouped { All (λ group. group < length tallies.old) groups.now }
+    requires long { length groups.now ≡ length others.now }
+    requires few { counted_in tallies.old + counted_in others.now ≤ most_rows }
+    requires small { AreWithin (counted_in tallies.old) tallies.old }
+    requires others { AreWithin (counted_in others.now) others.now }
+    ensures joined { tallies.new ≡ joined groups.now others.now tallies.old (length groups.now) }
+    ensures small { AreWithin (counted_in tallies.old + counted_in others.now) tallies.new }
+{
+    for k in 0..groups.len() {
+        let group = groups[k];
+        tallies[group] = tallies[group].with(others[k]);
+    }
+}

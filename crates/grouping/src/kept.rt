@@ -1,0 +1,130 @@
+//! What is kept of the rows that were fed.
+
+ghost use Rattle.std.specs.Prelude.{◌≡◌, ◌≤◌, ◌<◌, ◌+◌, All, IfOk, IsTrue, OnOk, length, nat_lt};
+ghost use Rattle.std.specs.List.{list_all};
+ghost use Rattle.scan_base.specs.Limits.{most_rows};
+ghost use Rattle.grouping.specs.inside.Adding.{CanCountAll, IsKept, IsGrown, lists_of};
+ghost use Rattle.grouping.specs.inside.Kept.{AreBlank};
+ghost use Rattle.grouping.specs.inside.Merging.{FirstsJoin, IsMerged};
+ghost use Rattle.grouping.specs.inside.Placing.{found_by, FirstsStay};
+
+use crate::groups::Grouping;
+use crate::joined::{Others, join_all, join_firsts};
+use crate::key::RowKey;
+use crate::part::{Part, add_all};
+use crate::table::{Chosen, place_rows};
+use crate::tally::Tally;
+use hash_seed::HashSeed;
+use indexmap::IndexSet;
+use std::alloc::{AllocError, Global};
+use typed_plan::Aggregate;
+
+/// The first row of each group, for each item the tally of each group, and how many rows were fed.
+#[derive(Drop)]
+pub(crate) struct Kept<'t> {
+    pub(crate) firsts: IndexSet<RowKey<'t>, HashSeed>,
+    pub(crate) tallies: Vec<Vec<Tally>>,
+    pub(crate) count: usize,
+}
+
+/// Feeds the chosen rows.
+///
+/// # Errors
+///
+/// `AllocError` where memory is refused.
+pub(crate) fn add<'t>(
+    alloc: Global,
+    items: &[Aggregate],
+    kept: &mut Kept<'t>,
+    chosen: &Chosen<'t, '_>,
+) -> Result<(), AllocError>
+    requires keys { IsTrue (list_all (λ column. nat_lt column (length chosen.now.batch.now.columns)) chosen.now.columns.now) }
+    requires there { CanCountAll items.now chosen.now.batch.now.columns }
+    requires within { All (λ row. row < chosen.now.batch.now.rows) chosen.now.rows.now }
+    requires few { kept.old.count + length chosen.now.rows.now ≤ most_rows }
+    requires kept { IsKept items.now (length (found_by chosen.now.columns.now kept.old.firsts.keys)) kept.old.count (lists_of kept.old.tallies.items) }
+    ensures grown { OnOk result (IsGrown items.now chosen.now.batch.now.columns chosen.now.columns.now chosen.now.rows.now
+        (found_by chosen.now.columns.now kept.old.firsts.keys) (found_by chosen.now.columns.now kept.new.firsts.keys)
+        kept.old.count (lists_of kept.old.tallies.items) (lists_of kept.new.tallies.items)) }
+    ensures count { OnOk result (kept.new.count ≡ kept.old.count + length chosen.now.rows.now) }
+    ensures kept { OnOk result (IsKept items.now (length (found_by chosen.now.columns.now kept.new.firsts.keys)) kept.new.count (lists_of kept.new.tallies.items)) }
+    ensures firsts { OnOk result (FirstsStay chosen.now kept.old.firsts.keys kept.new.firsts.keys) }
+{
+    let groups = place_rows(alloc, &mut kept.firsts, chosen)?;
+    let found = found_count(chosen.columns, &kept.firsts);
+    let part = Part {
+        batch: chosen.batch,
+        rows: chosen.rows,
+        groups: groups.as_slice(),
+        fed: kept.count,
+    };
+    add_all(kept.tallies.as_mut_slice(), items, &part, found)?;
+    kept.count += chosen.rows.len();
+    Ok(())
+}
+
+/// Takes in what is kept of other rows: each group joins that of its key, or stands last.
+///
+/// # Errors
+///
+/// `AllocError` where memory is refused.
+pub(crate) fn join<'t>(
+    alloc: Global,
+    shape: &Grouping<'_>,
+    kept: &mut Kept<'t>,
+    other: &Kept<'t>,
+) -> Result<(), AllocError>
+    requires few { kept.old.count + other.now.count ≤ most_rows }
+    requires kept { IsKept shape.now.items.now (length (found_by shape.now.keys.now kept.old.firsts.keys)) kept.old.count (lists_of kept.old.tallies.items) }
+    requires other { IsKept shape.now.items.now (length (found_by shape.now.keys.now other.now.firsts.keys)) other.now.count (lists_of other.now.tallies.items) }
+    ensures merged { OnOk result (IsMerged (found_by shape.now.keys.now kept.old.firsts.keys) (found_by shape.now.keys.now other.now.firsts.keys)
+        (found_by shape.now.keys.now kept.new.firsts.keys) (length shape.now.items.now) (kept.old.count + other.now.count)
+        (lists_of other.now.tallies.items) (lists_of kept.old.tallies.items) (lists_of kept.new.tallies.items)) }
+    ensures count { OnOk result (kept.new.count ≡ kept.old.count + other.now.count) }
+    ensures kept { OnOk result (IsKept shape.now.items.now (length (found_by shape.now.keys.now kept.new.firsts.keys)) kept.new.count (lists_of kept.new.tallies.items)) }
+    ensures firsts { OnOk result (FirstsJoin kept.old.firsts.keys other.now.firsts.keys kept.new.firsts.keys) }
+{
+    let groups = join_firsts(alloc, shape.keys, &mut kept.firsts, &other.firsts)?;
+    let found = found_count(shape.keys, &kept.firsts);
+    let others = Others {
+        tallies: other.tallies.as_slice(),
+        groups: groups.as_slice(),
+        fed: kept.count,
+        more: other.count,
+    };
+    join_all(kept.tallies.as_mut_slice(), shape.items, &others, found)?;
+    kept.count += other.count;
+    Ok(())
+}
+
+/// How many groups there are.
+pub(crate) fn found_count(columns: &[usize], firsts: &IndexSet<RowKey<'_>, HashSeed>) -> usize
+    ensures { result ≡ length (found_by columns.now firsts.now.keys) }
+{
+    if columns.is_empty() {
+        return 1;
+    }
+    firsts.len()
+}
+
+/// For each of so many items the tallies of no rows, one for each group.
+///
+/// # Errors
+///
+/// `AllocError` where memory is refused.
+pub(crate) fn blank(
+    alloc: Global,
+    items: usize,
+    groups: usize,
+) -> Result<Vec<Vec<Tally>>, AllocError>
+    ensures many { IfOk result (λ tallies. length tallies.items ≡ items) }
+    ensures blank { IfOk result (λ tallies. All (λ list. AreBlank groups list.items) tallies.items) }
+{
+    let mut tallies = Vec::with_capacity(alloc, items)?;
+    for _item in 0..items {
+        let mut list = Vec::new(alloc);
+        list.resize(groups, Tally::new())?;
+        tallies.push(list)?;
+    }
+    Ok(tallies)
+}

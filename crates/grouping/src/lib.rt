@@ -1,0 +1,18 @@
+//! Groups of rows by first appearance, with their counts and sums.
+#![tactic(auto)]
+
+mod answer;
+pub mod answers;
+mod batches;
+mod cell;
+pub mod groups;
+mod joined;
+mod kept;
+mod key;
+pub mod laws;
+mod part;
+mod table;
+mod tally;
+
+pub use crate::answers::Answers;
+pub use crate::groups::{Grouping, Groups};

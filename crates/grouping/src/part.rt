@@ -1,0 +1,90 @@
+//! Rows that are fed, and their groups.
+
+ghost use Rattle.std.specs.Prelude.{◌≡◌, ◌≤◌, ◌<◌, ℕ, ◌+◌, All, OnOk, length};
+ghost use Rattle.scan_base.specs.Limits.{most_rows};
+ghost use Rattle.grouping.specs.inside.Adding.{IsAdded, AreAdded, CanCountAll, IsKept, lists_of};
+ghost use Rattle.grouping.specs.inside.Counting.{AreWithin, CanCount, stepped};
+
+use crate::tally::Tally;
+use arrays::Batch;
+use std::alloc::AllocError;
+use typed_plan::Aggregate;
+
+/// Rows of a batch, the group of each, and how many rows were fed before them.
+#[derive(Clone, Copy, Drop)]
+pub(crate) struct Part<'p> {
+    pub(crate) batch: &'p Batch,
+    pub(crate) rows: &'p [u32],
+    pub(crate) groups: &'p [usize],
+    pub(crate) fed: usize,
+}
+
+/// Adds each row to the tally of its group.
+pub(crate) fn add_rows(tallies: &mut [Tally], item: Aggregate, part: &Part<'_>)
+    requires there { CanCount item part.now.batch.now.columns }
+    requires within { All (λ row. row < part.now.batch.now.rows) part.now.rows.now }
+    requires grouped { All (λ group. group < length tallies.old) part.now.groups.now }
+    requires long { length part.now.groups.now ≡ length part.now.rows.now }
+    requires few { part.now.fed + length part.now.rows.now ≤ most_rows }
+    requires small { AreWithin part.now.fed tallies.old }
+    ensures stepped { tallies.new ≡ stepped item part.now.batch.now.columns part.now.groups.now part.now.rows.now tallies.old (length part.now.rows.now) }
+    ensures small { AreWithin (part.now.fed + length part.now.rows.now) tallies.new }
+{
+    for k in 0..part.rows.len() {
+        let group = part.groups[k];
+        tallies[group] = tallies[group].with_row(item, part.batch, part.rows[k] as usize);
+    }
+}
+
+/// Adds each row to the tally of its group, of so many groups that were found.
+///
+/// # Errors
+///
+/// `AllocError` where memory is refused.
+pub(crate) fn add_to(
+    tallies: &mut Vec<Tally>,
+    item: Aggregate,
+    part: &Part<'_>,
+    found: usize,
+) -> Result<(), AllocError>
+    requires there { CanCount item part.now.batch.now.columns }
+    requires within { All (λ row. row < part.now.batch.now.rows) part.now.rows.now }
+    requires grouped { All (λ group. group < found) part.now.groups.now }
+    requires long { length part.now.groups.now ≡ length part.now.rows.now }
+    requires few { part.now.fed + length part.now.rows.now ≤ most_rows }
+    requires grown { length tallies.old.items ≤ found }
+    requires small { AreWithin part.now.fed tallies.old.items }
+    ensures added { OnOk result (IsAdded item part.now.batch.now.columns part.now.rows.now part.now.groups.now found tallies.old.items tallies.new.items) }
+    ensures small { OnOk result (AreWithin (part.now.fed + length part.now.rows.now) tallies.new.items) }
+{
+    tallies.resize(found, Tally::new())?;
+    add_rows(tallies.as_mut_slice(), item, part);
+    Ok(())
+}
+
+/// Adds each row to the tallies of its group, one for each item.
+///
+/// # Errors
+///
+/// `AllocError` where memory is refused.
+pub(crate) fn add_all(
+    tallies: &mut [Vec<Tally>],
+    items: &[Aggregate],
+    part: &Part<'_>,
+    found: usize,
+) -> Result<(), AllocError>
+    requires there { CanCountAll items.now part.now.batch.now.columns }
+    requires within { All (λ row. row < part.now.batch.now.rows) part.now.rows.now }
+    requires grouped { All (λ group. group < found) part.now.groups.now }
+    requires long { length part.now.groups.now ≡ length part.now.rows.now }
+    requires few { part.now.fed + length part.now.rows.now ≤ most_rows }
+    requires kept { (before : ℕ) × (before ≤ found) × IsKept items.now before part.now.fed (lists_of tallies.old) }
+    ensures added { OnOk result (AreAdded items.now part.now.batch.now.columns part.now.rows.now part.now.groups.now found part.now.fed
+        (lists_of tallies.old) (lists_of tallies.new) (length items.now)) }
+    ensures kept { OnOk result (IsKept items.now found (part.now.fed + length part.now.rows.now) (lists_of tallies.new)) }
+{
+    for item in 0..items.len() {
+        add_to(&mut tallies[item], items[item], part, found)?;
+    }
+    Ok(())
+}

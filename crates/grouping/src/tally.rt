@@ -1,0 +1,100 @@
+//! Tallies of groups.
+
+ghost use Rattle.std.specs.Prelude.{◌≡◌, ◌≤◌, ◌<◌, ◌+◌, ◌+ℤ◌, IfSome};
+ghost use Rattle.scan_base.specs.Limits.{most_rows};
+ghost use Rattle.scan_base.specs.declared.value.Value.TheVariants as value;
+ghost use Rattle.arrays.specs.Batch.{row_of};
+ghost use Rattle.arrays.specs.Built.{value_or_null};
+ghost use Rattle.arrays.specs.Column.{slot_of};
+ghost use Rattle.grouping.specs.inside.Counting.{IsIntegers, IsShort};
+
+use arrays::laws::values_are_of_their_type;
+use arrays::{Batch, Cells, Column};
+use scan_base::ValueRef;
+use typed_plan::Aggregate;
+
+/// What is kept of a group's rows for one item: how many rows or values it counts, and the sum of the values.
+#[derive(Clone, Copy, Drop)]
+pub(crate) struct Tally {
+    pub(crate) count: u64,
+    pub(crate) sum: i128,
+}
+
+impl Tally {
+    ghost use Rattle.grouping.specs.Tallies.{no_rows, added, both};
+    ghost use Rattle.grouping.specs.inside.Counting.{IsSmall, IsShort, CanCount};
+
+    /// Of no rows.
+    pub(crate) fn new() -> Tally
+        ensures { result ≡ no_rows }
+    {
+        Tally { count: 0, sum: 0 }
+    }
+
+    /// With a row of a batch more.
+    pub(crate) fn with_row(self, item: Aggregate, batch: &Batch, row: usize) -> Tally
+        requires there { CanCount item batch.now.columns }
+        requires within { row < batch.now.rows }
+        requires few { self.count < most_rows }
+        requires small { IsSmall self }
+        ensures added { result ≡ added item self (row_of batch.now.columns row) }
+        ensures few { result.count ≤ self.count + 1 }
+        ensures small { IsSmall result }
+    {
+        match item {
+            Aggregate::Key(_) => self,
+            Aggregate::CountRows => self.with_number(0),
+            Aggregate::Count(column) => match batch.columns()[column].value_at(row) {
+                ValueRef::Null => self,
+                _ => self.with_number(0),
+            },
+            Aggregate::Sum(column) => match integer_at(&batch.columns()[column], row) {
+                None => self,
+                Some(number) => self.with_number(number),
+            },
+        }
+    }
+
+    /// With the rows of another.
+    pub(crate) fn with(self, other: Tally) -> Tally
+        requires few { self.count + other.count ≤ most_rows }
+        requires small { IsSmall self }
+        requires other { IsSmall other }
+        ensures both { result ≡ both self other }
+        ensures small { IsSmall result }
+    {
+        Tally {
+            count: self.count + other.count,
+            sum: self.sum + other.sum,
+        }
+    }
+
+    // With a number more.
+    fn with_number(self, number: i128) -> Tally
+        requires few { self.count < most_rows }
+        requires small { IsSmall self }
+        requires short { IsShort number }
+        ensures added { result ≡ record { count = self.count + 1; sum = self.sum +ℤ number } }
+        ensures small { IsSmall result }
+    {
+        Tally {
+            count: self.count + 1,
+            sum: self.sum + number,
+        }
+    }
+}
+
+// The number of a slot, if it is not null.
+fn integer_at(column: &Column, place: usize) -> Option<i128>
+    requires there { place < column.now.len }
+    requires integers { IsIntegers column.now.layout }
+    ensures value { value_or_null value.Int result ≡ slot_of column.now place }
+    ensures short { IfSome result IsShort }
+{
+    let _len = column.len();
+    values_are_of_their_type();
+    match column.value_at(place) {
+        ValueRef::Int(number) => Some(number),
+        _ => None,
+    }
+}

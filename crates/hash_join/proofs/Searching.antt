@@ -1,0 +1,97 @@
+-- The pairs of a left batch are those of one left row after another.
+use Rattle.std.proofs.Common.{◌≡◌, ◌≤◌, ◌<◌, ◌+◌, ◌-◌, ◌==◌, ℕ, zero, suc, Bool, true, false, List, [], ◌++◌, length, map, drop, if◌then◌else◌, inl, inr, refl, sym, ap, ◌∙◌, arith, append_assoc}
+use Rattle.std.specs.List.{filter, flat_map, range_with_len}
+use Rattle.std.proofs.Math.ListN.{drop_of_length-le}
+use Rattle.std.proofs.lemmas.Bool.{eq-eqb}
+use Rattle.std.proofs.lemmas.Bool.Decides.{eqb_tells}
+use Rattle.hash_join.specs.declared.build.Probe.{Probe}
+use Rattle.hash_join.specs.declared.pair.Pair.{Pair}
+use Rattle.hash_join.specs.declared.search.Search.{Search}
+use Rattle.hash_join.specs.declared.walk.Walk.{Walk}
+use Rattle.hash_join.specs.Pairs.{pairs_of}
+use Rattle.hash_join.specs.Walks.{joins_at, pair_at, pairs_past, IsWalk}
+use Rattle.hash_join.specs.Searches.{build_of, ahead_of, IsSearch, Searches}
+
+module _ (pairs : ℕ → ℕ → List Pair) where
+  -- rows after the left one look from the first right row on
+  later : (n a left from : ℕ) → left < a →
+      flat_map (λ row. pairs row (if row == left then from else 0)) (range_with_len a n) ≡ flat_map (λ row. pairs row 0) (range_with_len a n)
+  later zero a left from h = refl
+  later (suc n) a left from h =
+      let other : (a == left) ≡ false = elim (eqb_tells a left) [ inl same ↦ absurd (omega (arith, same.1)) | inr apart ↦ apart.0 ] in
+      rw (other, later n (a + 1) left from (omega arith)) refl
+
+  from_none : (b : Bool) → ◌≡◌ {A = ℕ} (if b then 0 else 0) 0
+  from_none true = refl
+  from_none false = refl
+
+  -- all rows look from the first right row on
+  anew : (n a left : ℕ) → flat_map (λ row. pairs row (if row == left then 0 else 0)) (range_with_len a n) ≡ flat_map (λ row. pairs row 0) (range_with_len a n)
+  anew zero a left = refl
+  anew (suc n) a left = rw (from_none (a == left), anew n (a + 1) left) refl
+
+  -- the first left row by itself
+  first_left : (rows left from : ℕ) → left < rows →
+      flat_map (λ row. pairs row (if row == left then from else 0)) (range_with_len left (rows - left))
+      ≡ pairs left from ++ flat_map (λ row. pairs row (if row == left + 1 then 0 else 0)) (range_with_len (left + 1) (rows - (left + 1)))
+  first_left rows left from h =
+      let e : rows - left ≡ suc (rows - (left + 1)) = omega arith in
+      let here : (left == left) ≡ true = eq-eqb left left refl in
+      rw (e, here) (ap (λ rest. pairs left from ++ rest)
+      (later (rows - (left + 1)) (left + 1) left from (omega arith) ∙ sym (anew (rows - (left + 1)) (left + 1) (left + 1))))
+
+-- a left row of the batch
+abbrev pub walk_at : Search → ℕ → Walk
+walk_at search row = record { rights = search.rights; chains = search.chains; left = record { batch = search.left.batch; key = search.left.key; row = row } }
+
+-- a place that is looked from
+abbrev pub probe_at : ℕ → ℕ → Probe
+probe_at left from = record { left = left; from = from }
+
+module _ (search : Search) (is : IsSearch search) where
+  -- a left row can walk
+  pub can_walk : (row : ℕ) → row < search.left.batch.now.rows → IsWalk (walk_at search row)
+  can_walk row h = record {
+    whole = is.built.whole;
+    linked = is.built.linked;
+    left = record { row = h; columns = is.columns };
+    alike = is.alike;
+    small = omega (arith, is.small);
+  }
+
+  past_is : (row from : ℕ) → pairs_past (walk_at search row) from ≡ pairs_of (build_of search.rights.now) search.left.batch.now search.left.key.now row from
+  past_is row from = ap (λ (places : List (ℕ × ℕ)). map (pair_at (walk_at search row)) (filter (joins_at (walk_at search row)) (drop from places))) is.built.whole.places
+
+  -- the pairs of one left row, and of those after it
+  ahead_first : (row from : ℕ) → row < search.left.batch.now.rows →
+      ahead_of search (probe_at row from) ≡ pairs_past (walk_at search row) from ++ ahead_of search (probe_at (row + 1) 0)
+  ahead_first row from h =
+      first_left (pairs_of (build_of search.rights.now) search.left.batch.now search.left.key.now) search.left.batch.now.rows row from h
+      ∙ ap (λ first. first ++ ahead_of search (probe_at (row + 1) 0)) (sym (past_is row from))
+
+  -- none are left behind the last left row
+  pub none_ahead : (row from : ℕ) → search.left.batch.now.rows ≤ row → ahead_of search (probe_at row from) ≡ []
+  none_ahead row from h = let e : search.left.batch.now.rows - row ≡ 0 = omega arith in rw e refl
+
+  module _ (row from stop most : ℕ) (made more whole : List Pair) (h : row < search.left.batch.now.rows)
+      (had : Searches search (probe_at row from) made whole most)
+      (walked : more ++ pairs_past (walk_at search row) stop ≡ made ++ pairs_past (walk_at search row) from) where
+    -- a walk that stops before the last right row
+    pub stopped : more ++ ahead_of search (probe_at row stop) ≡ whole
+    stopped =
+        let rest = ahead_of search (probe_at (row + 1) 0) in
+        ap (λ ahead. more ++ ahead) (ahead_first row stop h)
+        ∙ sym (append_assoc more (pairs_past (walk_at search row) stop) rest)
+        ∙ ap (λ some. some ++ rest) walked
+        ∙ append_assoc made (pairs_past (walk_at search row) from) rest
+        ∙ ap (λ ahead. made ++ ahead) (sym (ahead_first row from h))
+        ∙ had.all
+
+    -- a walk to the end
+    pub passed : length search.rights.now.places.items ≤ stop → more ++ ahead_of search (probe_at (row + 1) 0) ≡ whole
+    passed past =
+        let rest = ahead_of search (probe_at (row + 1) 0) in
+        let none : pairs_past (walk_at search row) stop ≡ [] =
+        ap (λ (places : List (ℕ × ℕ)). map (pair_at (walk_at search row)) (filter (joins_at (walk_at search row)) places))
+        (drop_of_length-le search.rights.now.places.items past) in
+        ap (λ ahead. more ++ ahead) (sym (ap (λ first. first ++ rest) none) ∙ sym (ahead_first row stop h)) ∙ stopped

@@ -1,0 +1,44 @@
+-- Inside: a left row that looks for its partners along a chain.
+use Rattle.std.specs.Prelude.{◌≡◌, ◌≤◌, ◌<◌, ◌^◌, ◌++◌, ℕ, Bool, true, List, Option, length, map, drop}
+use Rattle.std.specs.List.{filter}
+use Rattle.hash_join.specs.declared.pair.Pair.{Pair}
+use Rattle.hash_join.specs.declared.walk.Walk.{Walk}
+use Rattle.hash_join.specs.Pairs.{keys_join}
+use Rattle.hash_join.specs.Hashes.{bucket_of}
+use Rattle.hash_join.specs.KeyRows.{key_of, IsKeyRow}
+use Rattle.hash_join.specs.Rights.{key_from, bucket_at, AreRights}
+use Rattle.hash_join.specs.Chains.{stands, HasLinked}
+
+-- whether the left row joins the right row at a place
+abbrev pub joins_at : Walk → ℕ × ℕ → Bool
+joins_at walk place = keys_join (key_of walk.left) (key_from walk.rights.now place)
+
+-- the pair of the left row with the right row at a place
+abbrev pub pair_at : Walk → ℕ × ℕ → Pair
+pair_at walk place = record { left = walk.left.row; batch = place.0; row = place.1 }
+
+-- the pairs with right rows from a row on
+abbrev pub pairs_past : Walk → ℕ → List Pair
+pairs_past walk from = map (pair_at walk) (filter (joins_at walk) (drop from walk.rights.now.places.items))
+
+-- the bucket of the left row
+abbrev pub bucket_left : Walk → Option ℕ
+bucket_left walk = bucket_of walk.rights.now.buckets.begun walk.rights.now.buckets.mask (key_of walk.left)
+
+-- whether a right row stands in the left row's chain
+abbrev pub in_chain : Walk → ℕ → Bool
+in_chain walk row = stands (bucket_left walk) (bucket_at walk.rights.now row)
+
+-- the right rows are linked, and the left row has a key of as many parts
+pub record IsWalk (walk : Walk) : Type 0 where
+  pub whole : AreRights walk.rights.now
+  pub linked : HasLinked walk.rights.now walk.chains.now.heads.items walk.chains.now.links.items 0
+  pub left : IsKeyRow walk.left
+  pub alike : length walk.left.key.now ≡ length walk.rights.now.key.items
+  pub small : walk.left.row < 2 ^ 32
+
+-- the pairs that are found, and those that are still to be found with right rows from a row of the chain on, are all
+pub record Follows (walk : Walk) (at : ℕ) (made whole : List Pair) (most : ℕ) : Type 0 where
+  pub all : made ++ pairs_past walk at ≡ whole
+  pub there : at < length walk.rights.now.places.items → in_chain walk at ≡ true
+  pub few : length made ≤ most

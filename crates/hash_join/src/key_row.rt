@@ -1,0 +1,88 @@
+//! A row of a batch by its key.
+
+ghost use Rattle.std.specs.Prelude.{◌≡◌, ◌<◌, get_or, length, not};
+ghost use Rattle.scan_base.specs.Comparison.{compared};
+ghost use Rattle.scan_base.specs.Truth.{keeps};
+ghost use Rattle.scan_base.specs.Value.{value_of, is_null};
+ghost use Rattle.scan_base.specs.declared.comparison.Comparison.TheVariants.{Equal};
+ghost use Rattle.scan_base.specs.declared.value.Value.TheVariants.{Null};
+ghost use Rattle.hash_join.specs.Pairs.{keys_join};
+ghost use Rattle.hash_join.specs.Hashes.{fed, hash_of};
+ghost use Rattle.hash_join.specs.KeyRows.{key_of, IsKeyRow};
+
+use arrays::{Batch, Cells};
+use scan_base::{Comparison, Truth, ValueRef};
+use std::hash::{DefaultHasher, Hash, Hasher};
+
+// A row of a batch, and the numbers of the columns that are its key.
+#[derive(Clone, Copy, Drop)]
+pub(crate) struct KeyRow<'a> {
+    pub(crate) batch: &'a Batch,
+    pub(crate) key: &'a [usize],
+    pub(crate) row: usize,
+}
+
+impl<'a> KeyRow<'a> {
+    // The value of a part of the key, where it lies.
+    fn part(&self, number: usize) -> ValueRef<'_>
+        requires row { IsKeyRow self.now }
+        requires there { number < length self.now.key.now }
+        ensures { value_of result ≡ get_or (key_of self.now) number Null }
+    {
+        let columns = self.batch.columns();
+        columns[self.key[number]].value_at(self.row)
+    }
+
+    // The hash of the key's values, begun with what a hasher has taken in; none where one is null.
+    pub(crate) fn hash_from(&self, begun: DefaultHasher) -> Option<u64>
+        requires { IsKeyRow self.now }
+        ensures { result ≡ hash_of begun (key_of self.now) }
+    {
+        let mut hasher = begun;
+        for number in 0..self.key.len() {
+            if !feed(&mut hasher, self.part(number)) {
+                return None;
+            }
+        }
+        Some(hasher.finish())
+    }
+
+    // Whether the two keys are equal part by part. A null is equal to nothing.
+    pub(crate) fn joins(&self, other: &KeyRow<'_>) -> bool
+        requires row { IsKeyRow self.now }
+        requires other { IsKeyRow other.now }
+        requires alike { length self.now.key.now ≡ length other.now.key.now }
+        ensures { result ≡ keys_join (key_of self.now) (key_of other.now) }
+    {
+        for number in 0..self.key.len() {
+            if !are_equal(self.part(number), other.part(number)) {
+                return false;
+            }
+        }
+        true
+    }
+}
+
+// Feeds a value to a hasher; false where it is null.
+fn feed(hasher: &mut DefaultHasher, value: ValueRef<'_>) -> bool
+    ensures there { result ≡ not (is_null (value_of value.entry)) }
+    ensures fed { hasher.new ≡ fed hasher.old (value_of value.entry) }
+{
+    match value {
+        ValueRef::Null => return false,
+        ValueRef::Bool(flag) => flag.hash(hasher),
+        ValueRef::Int(number) => number.hash(hasher),
+        ValueRef::Text(text) => text.hash(hasher),
+    }
+    true
+}
+
+// Whether two values are equal in SQL.
+fn are_equal(left: ValueRef<'_>, right: ValueRef<'_>) -> bool
+    ensures { result ≡ keeps (compared Equal (value_of left.entry) (value_of right.entry)) }
+{
+    match left.compare(Comparison::Equal, right) {
+        Truth::True => true,
+        _ => false,
+    }
+}

@@ -1,0 +1,13 @@
+//! Joins of batches by equal keys: pairs of rows in the order of nested loops.
+#![tactic(auto)]
+
+pub mod build;
+mod chains;
+mod key_row;
+pub mod pair;
+mod rights;
+mod search;
+mod walk;
+
+pub use crate::build::{Build, LeftSide, Probe};
+pub use crate::pair::Pair;

@@ -1,0 +1,126 @@
+//! The rows of the right side of a join, by their numbers over all batches.
+
+ghost use Rattle.std.specs.Prelude.{◌≡◌, ◌≤◌, ◌<◌, ◌++◌, ◌^◌, All, IfOk, IfSome, IsTrue, OnOk, length, map, nat_lt};
+ghost use Rattle.std.specs.List.{list_all, range_with_len};
+ghost use Rattle.scan_base.specs.Limits.{most_rows};
+ghost use Rattle.arrays.specs.Batch.{BatchAt};
+ghost use Rattle.hash_join.specs.Pairs.{places};
+ghost use Rattle.hash_join.specs.Hashes.{bucket_of};
+ghost use Rattle.hash_join.specs.KeyRows.{key_of, IsKeyRow};
+ghost use Rattle.hash_join.specs.Rights.{key_at, bucket_at, AreRights};
+
+use crate::key_row::KeyRow;
+use arrays::Batch;
+use hash_seed::HashSeed;
+use std::alloc::{AllocError, Global};
+use std::hash::{BuildHasher, DefaultHasher};
+
+// How keys are parted into buckets: by the last bits, which the mask has, of a hash that begins with the hasher.
+#[derive(Clone, Copy, Drop)]
+pub(crate) struct Buckets {
+    pub(crate) begun: DefaultHasher,
+    pub(crate) mask: usize,
+}
+
+impl Buckets {
+    // The bucket of a row's key; none where a part of it is null.
+    pub(crate) fn bucket(&self, row: &KeyRow<'_>) -> Option<usize>
+        requires { IsKeyRow row.now }
+        ensures bucket { result ≡ bucket_of self.now.begun self.now.mask (key_of row.now) }
+        ensures within { IfSome result (λ bucket. bucket ≤ self.now.mask) }
+    {
+        match row.hash_from(self.begun) {
+            None => None,
+            Some(hash) => Some(hash as usize & self.mask),
+        }
+    }
+}
+
+// The batches of the right side, the numbers of the columns that are the key, and for the number of each row, counted over
+// all batches, its place: the number of its batch and its own in it.
+#[derive(Drop)]
+pub(crate) struct Rights {
+    pub(crate) batches: Vec<Batch>,
+    pub(crate) key: Vec<usize>,
+    pub(crate) places: Vec<(u32, u32)>,
+    pub(crate) buckets: Buckets,
+}
+
+impl Rights {
+    // The rows of these batches, parted into as many buckets as there are rows, or up to twice as many.
+    pub(crate) fn new(
+        alloc: Global,
+        seed: HashSeed,
+        batches: Vec<Batch>,
+        key: Vec<usize>,
+    ) -> Result<Rights, AllocError>
+        requires there { All (λ (batch : BatchAt). IsTrue (list_all (λ column. nat_lt column (length batch.columns)) key.items)) batches.items }
+        requires few { length (places batches.items) ≤ most_rows }
+        requires counted { length batches.items ≤ most_rows }
+        ensures batches { IfOk result (λ rights. rights.batches.items ≡ batches.items) }
+        ensures key { IfOk result (λ rights. rights.key.items ≡ key.items) }
+        ensures whole { IfOk result (λ rights. AreRights rights) }
+    {
+        let places = places_of(alloc, &batches)?;
+        let buckets = Buckets {
+            begun: seed.build_hasher(),
+            mask: (places.len() + 1).next_power_of_two() - 1,
+        };
+        Ok(Rights {
+            batches,
+            key,
+            places,
+            buckets,
+        })
+    }
+
+    // A row by its number, and its key.
+    pub(crate) fn key_row(&self, number: usize) -> KeyRow<'_>
+        requires whole { AreRights self.now }
+        requires within { number < length self.now.places.items }
+        ensures row { IsKeyRow result }
+        ensures key { key_of result ≡ key_at self.now number }
+        ensures parts { length result.key.now ≡ length self.now.key.items }
+    {
+        let (batch, row) = self.places[number];
+        KeyRow {
+            batch: &self.batches[batch as usize],
+            key: self.key.as_slice(),
+            row: row as usize,
+        }
+    }
+
+    // The bucket of the row of this number; none where a part of its key is null.
+    pub(crate) fn bucket(&self, number: usize) -> Option<usize>
+        requires whole { AreRights self.now }
+        requires within { number < length self.now.places.items }
+        ensures bucket { result ≡ bucket_at self.now number }
+        ensures within { IfSome result (λ bucket. bucket ≤ self.now.buckets.mask) }
+    {
+        self.buckets.bucket(&self.key_row(number))
+    }
+}
+
+// The places of all rows, in order.
+fn places_of(alloc: Global, batches: &[Batch]) -> Result<Vec<(u32, u32)>, AllocError>
+    requires few { length (places batches.now) ≤ most_rows }
+    requires counted { length batches.now ≤ most_rows }
+    ensures { IfOk result (λ all. all.items ≡ places batches.now) }
+{
+    let mut all = Vec::new(alloc);
+    for (number, batch) in batches.iter().enumerate() {
+        push_places(&mut all, number as u32, batch.rows())?;
+    }
+    Ok(all)
+}
+
+// Adds the places of the rows of one batch.
+fn push_places(all: &mut Vec<(u32, u32)>, batch: u32, rows: usize) -> Result<(), AllocError>
+    requires { rows < 2 ^ 32 }
+    ensures { OnOk result (all.new.items ≡ all.old.items ++ map (λ row. (batch, row)) (range_with_len 0 rows)) }
+{
+    for row in 0..rows {
+        all.push((batch, row as u32))?;
+    }
+    Ok(())
+}

@@ -1,0 +1,107 @@
+//! A left row that looks for its partners.
+
+ghost use Rattle.std.specs.Prelude.{◌≡◌, ◌≤◌, ◌<◌, ◌++◌, [], ◌∷◌, IfOk, OnOk, Some, if◌then◌else◌, length, true};
+ghost use Rattle.hash_join.specs.Rights.{place_at};
+ghost use Rattle.hash_join.specs.Chains.{Leads};
+ghost use Rattle.hash_join.specs.Walks.{bucket_left, in_chain, joins_at, pair_at, pairs_past, IsWalk};
+
+use crate::chains::Chains;
+use crate::key_row::KeyRow;
+use crate::pair::Pair;
+use crate::rights::Rights;
+use std::alloc::AllocError;
+
+// A left row, and the right rows with their chains.
+#[derive(Clone, Copy, Drop)]
+pub(crate) struct Walk<'a> {
+    pub(crate) rights: &'a Rights,
+    pub(crate) chains: &'a Chains,
+    pub(crate) left: KeyRow<'a>,
+}
+
+impl<'a> Walk<'a> {
+    // Adds the pairs with right rows from one on, until there are `most`, and gives the right row where it stopped: before
+    // the last row only where there are.
+    pub(crate) fn push_pairs(
+        &self,
+        from: usize,
+        most: usize,
+        pairs: &mut Vec<Pair>,
+    ) -> Result<usize, AllocError>
+        requires whole { IsWalk self.now }
+        requires few { length pairs.old.items ≤ most }
+        ensures given { IfOk result (λ stop. pairs.new.items ++ pairs_past self.now stop ≡ pairs.old.items ++ pairs_past self.now from) }
+        ensures few { IfOk result (λ _. length pairs.new.items ≤ most) }
+        ensures stop { IfOk result (λ stop. stop < length (self.now).rights.now.places.items → most ≤ length pairs.new.items) }
+    {
+        match self.rights.buckets.bucket(&self.left) {
+            None => Ok(self.rights.places.len()),
+            Some(bucket) => self.follow(self.first_in(bucket, from), most, pairs),
+        }
+    }
+
+    // The first right row from one on that stands in the left row's chain. Where a walk has stopped, that is the row itself.
+    fn first_in(&self, bucket: usize, from: usize) -> usize
+        requires whole { IsWalk self.now }
+        requires bucket { bucket_left self.now ≡ Some bucket }
+        requires within { bucket ≤ (self.now).rights.now.buckets.mask }
+        ensures { Leads (in_chain self.now) (length (self.now).rights.now.places.items) from result }
+    {
+        if from == 0 {
+            return self.chains.heads[bucket] as usize;
+        }
+        let mut at = from;
+        'rows: while at < self.rights.places.len() && !self.stands_in(bucket, at) {
+            at += 1;
+        }
+        at
+    }
+
+    // Whether a right row stands in the chain of a bucket.
+    fn stands_in(&self, bucket: usize, at: usize) -> bool
+        requires whole { IsWalk self.now }
+        requires bucket { bucket_left self.now ≡ Some bucket }
+        requires within { at < length (self.now).rights.now.places.items }
+        ensures { result ≡ in_chain self.now at }
+    {
+        match self.rights.bucket(at) {
+            None => false,
+            Some(found) => found == bucket,
+        }
+    }
+
+    // Adds the pairs with the rows of the chain from one of them on, until there are `most`.
+    fn follow(&self, first: usize, most: usize, pairs: &mut Vec<Pair>) -> Result<usize, AllocError>
+        requires whole { IsWalk self.now }
+        requires there { first < length (self.now).rights.now.places.items → in_chain self.now first ≡ true }
+        requires few { length pairs.old.items ≤ most }
+        ensures given { IfOk result (λ stop. pairs.new.items ++ pairs_past self.now stop ≡ pairs.old.items ++ pairs_past self.now first) }
+        ensures few { IfOk result (λ _. length pairs.new.items ≤ most) }
+        ensures stop { IfOk result (λ stop. stop < length (self.now).rights.now.places.items → most ≤ length pairs.new.items) }
+    {
+        let mut at = first;
+        'chain: while at < self.rights.places.len() && pairs.len() < most {
+            self.push_pair(at, pairs)?;
+            at = self.chains.links[at] as usize;
+        }
+        Ok(at)
+    }
+
+    // Adds the pair with a right row, where the two join.
+    fn push_pair(&self, at: usize, pairs: &mut Vec<Pair>) -> Result<(), AllocError>
+        requires whole { IsWalk self.now }
+        requires within { at < length (self.now).rights.now.places.items }
+        ensures { OnOk result (pairs.new.items ≡ pairs.old.items
+            ++ (if joins_at self.now (place_at (self.now).rights.now at) then pair_at self.now (place_at (self.now).rights.now at) ∷ [] else [])) }
+    {
+        if self.left.joins(&self.rights.key_row(at)) {
+            let (batch, row) = self.rights.places[at];
+            pairs.push(Pair {
+                left: self.left.row as u32,
+                batch,
+                row,
+            })?;
+        }
+        Ok(())
+    }
+}

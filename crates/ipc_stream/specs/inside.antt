@@ -1,0 +1,2 @@
+-- Inside: what only contracts of private functions cite.
+pub mod Front

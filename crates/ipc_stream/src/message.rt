@@ -1,0 +1,10 @@
+//! A message of a stream.
+
+use bytes::Bytes;
+
+/// A message of an Arrow IPC stream: its header, with the zeros behind it that its length counts, and its body.
+#[derive(Debug, Drop)]
+pub struct IpcMessage {
+    pub header: Bytes,
+    pub body: Bytes,
+}

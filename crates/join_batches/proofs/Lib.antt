@@ -1,0 +1,9 @@
+pub mod Typed
+pub mod Cells
+pub mod Short
+pub mod Plain
+pub mod Made
+pub mod Numbered
+pub mod Looping
+pub mod There
+pub mod Giving

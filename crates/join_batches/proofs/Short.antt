@@ -1,0 +1,76 @@
+-- Texts that are short, of fewer values too.
+use Rattle.std.proofs.Common.{◌≡◌, ◌≤◌, ◌<◌, ℕ, zero, suc, ◌+◌, List, [], ◌∷◌, length, take, sym, ap, ◌∙◌, arith, length-append, length-take, subst, below_more}
+use Rattle.std.proofs.lemmas.List.{take-map, take-take}
+use Rattle.scan_base.specs.declared.value.Value.{Value}
+use Rattle.scan_base.specs.Predicate.{cell_in}
+use Rattle.arrays.specs.declared.of_slots.SlotRef.{SlotRef}
+use Rattle.arrays.specs.OfSlots.{slot_value}
+use Rattle.arrays.specs.Written.{text_bytes, texts_joined}
+use Rattle.hash_join.specs.declared.pair.Pair.{Pair}
+use Rattle.join_batches.specs.declared.sides.Sides.{Sides}
+use Rattle.join_batches.specs.Rows.{pair_row}
+use Rattle.join_batches.specs.Sides.{HoldCells, rows_at, cells_of, AreShort, Fits, FitsIn, AllFit}
+use Rattle.join_batches.proofs.Cells.{held_values, held_long}
+
+-- the first texts have no more bytes than all
+fewer_bytes : (n : ℕ) (values : List Value) → length (texts_joined (take n values)) ≤ length (texts_joined values)
+fewer_bytes zero values = omega arith
+fewer_bytes (suc n) [] = omega arith
+fewer_bytes (suc n) (value ∷ values) =
+    let some = length-append (text_bytes value) (texts_joined (take n values)) in
+    let all = length-append (text_bytes value) (texts_joined values) in
+    omega (arith, some, all, fewer_bytes n values)
+
+shorter : (n : ℕ) (values : List Value) → AreShort values → AreShort (take n values)
+shorter n values short = record {
+  named = let less = fewer_bytes n values in omega (arith, less, short.named);
+  light = λ many.
+      let less = fewer_bytes n values in
+      let size = length-take n values in
+      let all = short.light (omega (arith, many, size)) in
+      omega (arith, less, all);
+}
+
+-- the cells of fewer rows
+first_cells : (sides : Sides) (pairs : List Pair) (number n : ℕ) →
+    take n (cells_of (rows_at sides pairs) number) ≡ cells_of (rows_at sides (take n pairs)) number
+first_cells sides pairs number n =
+    take-map (λ (row : List Value). cell_in row number) n (rows_at sides pairs)
+    ∙ ap (λ (rows : List (List Value)). cells_of rows number) (take-map (pair_row sides.rights.now sides.left.now) n pairs)
+
+taken : (sides : Sides) (pairs : List Pair) (number n count : ℕ) → n ≤ count →
+    take n (cells_of (rows_at sides (take count pairs)) number) ≡ cells_of (rows_at sides (take n pairs)) number
+taken sides pairs number n count h =
+    first_cells sides (take count pairs) number n ∙ ap (λ (some : List Pair). cells_of (rows_at sides some) number) (take-take n count pairs h)
+
+-- one column more, which may leave fewer rows
+pub fit_more : (sides : Sides) (pairs : List Pair) (number count fewer : ℕ) → AllFit sides pairs number count →
+    FitsIn sides (take count pairs) number fewer → AllFit sides pairs (number + 1) fewer
+fit_more sides pairs number count fewer fit fits =
+    let size = length-take count pairs in
+    let within = fits.within in
+    let less : fewer ≤ count = omega (arith, within, size) in
+    let few = fit.within in
+    record {
+      some = fits.some;
+      within = omega (arith, less, few);
+      short = below_more (λ k. AreShort (cells_of (rows_at sides (take fewer pairs)) k)) number
+          (λ k h. subst AreShort (taken sides pairs k fewer count less) (shorter fewer (cells_of (rows_at sides (take count pairs)) k) (fit.short k h)))
+          (subst (λ (some : List Pair). AreShort (cells_of (rows_at sides some) number)) (take-take fewer count pairs less) fits.short);
+    }
+
+-- what fits of slots fits of the rows whose cells they have
+pub fits_in : (sides : Sides) (pairs : List Pair) (slots : List SlotRef) (number count : ℕ) → HoldCells sides number pairs slots → Fits slots count →
+    FitsIn sides pairs number count
+fits_in sides pairs slots number count hold fits =
+    let within = fits.within in
+    record {
+      some = fits.some;
+      within = let long = held_long sides number pairs slots hold in omega (arith, within, long);
+      short = subst AreShort
+          (sym (take-map slot_value count slots) ∙ ap (take count) (held_values sides number pairs slots hold) ∙ first_cells sides pairs number count) fits.short;
+    }
+
+-- of no column all do
+pub none_fit : (sides : Sides) (pairs : List Pair) → 0 < length pairs → AllFit sides pairs 0 (length pairs)
+none_fit sides pairs some = record { some = some; within = omega arith; short = λ k h. absurd (omega (arith, h)) }

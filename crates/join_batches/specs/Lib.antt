@@ -1,0 +1,4 @@
+pub mod Joiner
+pub mod Rows
+pub mod Sides
+pub mod Held

@@ -1,0 +1,94 @@
+-- Inside: the columns of the rows that pairs stand for.
+use Rattle.std.specs.Prelude.{◌≡◌, ◌≤◌, ◌<◌, ◌+◌, ◌^◌, ℕ, All, List, ◌++◌, length, map, take, get_or, Bool, true, false}
+use Rattle.std.specs.List.{AllZip}
+use Rattle.arrow_schema.specs.declared.data_type.DataType.{DataType}
+use Rattle.arrow_schema.specs.declared.data_type.DataType.TheVariants.{Utf8, Dictionary}
+use Rattle.arrow_schema.specs.Answer.{answer_type}
+use Rattle.scan_base.specs.declared.value.Value.{Value}
+use Rattle.scan_base.specs.Predicate.{cell_in}
+use Rattle.arrays.specs.declared.of_slots.SlotRef.{SlotRef}
+use Rattle.arrays.specs.Batch.{BatchAt, rows_of}
+use Rattle.arrays.specs.Column.{ColumnAt, values_of}
+use Rattle.arrays.specs.OfSlots.{slot_value, IsSlotOf}
+use Rattle.arrays.specs.Typed.{AreOf}
+use Rattle.arrays.specs.Written.{texts_joined}
+use Rattle.hash_join.specs.declared.pair.Pair.{Pair}
+use Rattle.join_batches.specs.declared.sides.Sides.{Sides}
+use Rattle.join_batches.specs.Joiner.{most_joined_bytes, text_bytes_of}
+use Rattle.join_batches.specs.Rows.{pair_row, IsPair}
+
+-- the types of a joined row's cells, as they come
+abbrev pub types_of : Sides → List DataType
+types_of sides = sides.left_types.now ++ sides.right_types.now
+
+-- how many cells a joined row has
+abbrev pub width_of : Sides → ℕ
+width_of sides = length sides.left_types.now + length sides.right_types.now
+
+-- the columns of both sides are of their types
+pub record AreSides (sides : Sides) : Type 0 where
+  pub left : AreOf sides.left_types.now sides.left.now.columns
+  pub rights : All (λ (batch : BatchAt). AreOf sides.right_types.now batch.columns) sides.rights.now
+
+-- the rows that pairs stand for
+abbrev pub rows_at : Sides → List Pair → List (List Value)
+rows_at sides pairs = map (pair_row sides.rights.now sides.left.now) pairs
+
+-- each pair's places are there
+abbrev pub ArePairs : Sides → List Pair → Type 0
+ArePairs sides pairs = All (IsPair sides.rights.now sides.left.now) pairs
+
+-- a slot of a column's type has a cell of the row that a pair stands for
+pub record HoldsCell (sides : Sides) (number : ℕ) (pair : Pair) (slot : SlotRef) : Type 0 where
+  pub value : slot_value slot ≡ cell_in (pair_row sides.rights.now sides.left.now pair) number
+  pub there : IsSlotOf (get_or (types_of sides) number Utf8) slot
+
+-- there is a slot for each pair
+abbrev pub HoldCells : Sides → ℕ → List Pair → List SlotRef → Type 0
+HoldCells sides number pairs slots = AllZip (HoldsCell sides number) pairs slots
+
+-- a column of rows
+abbrev pub cells_of : List (List Value) → ℕ → List Value
+cells_of rows number = map (λ row. cell_in row number) rows
+
+-- the texts are so few that offsets name each of their bytes, and of more than one value so few that a message has room
+pub record AreShort (values : List Value) : Type 0 where
+  pub named : length (texts_joined values) < 2 ^ 31
+  pub light : 1 < length values → length (texts_joined values) ≤ most_joined_bytes
+
+-- the texts of so many slots, from the first on, are short
+pub record Fits (slots : List SlotRef) (count : ℕ) : Type 0 where
+  pub some : 0 < count
+  pub within : count ≤ length slots
+  pub short : AreShort (map slot_value (take count slots))
+
+-- whether a type's values are texts
+abbrev pub has_texts : DataType → Bool
+has_texts Utf8 = true
+has_texts (Dictionary encoding) = true
+has_texts _ = false
+
+-- the texts of a column of so many rows, from the first on, are short
+pub record FitsIn (sides : Sides) (pairs : List Pair) (number count : ℕ) : Type 0 where
+  pub some : 0 < count
+  pub within : count ≤ length pairs
+  pub short : AreShort (cells_of (rows_at sides (take count pairs)) number)
+
+-- the texts of the first columns of so many rows are short
+pub record AllFit (sides : Sides) (pairs : List Pair) (columns count : ℕ) : Type 0 where
+  pub some : 0 < count
+  pub within : count ≤ length pairs
+  pub short : (number : ℕ) → number < columns → AreShort (cells_of (rows_at sides (take count pairs)) number)
+
+-- a column is that of rows
+pub record IsColumnOf (rows : List (List Value)) (number : ℕ) (column : ColumnAt) : Type 0 where
+  pub values : values_of column ≡ cells_of rows number
+  pub long : column.len ≡ length rows
+
+-- a batch has the rows of the first of these pairs
+pub record IsBatchOf (sides : Sides) (pairs : List Pair) (batch : BatchAt) : Type 0 where
+  pub some : 0 < batch.rows
+  pub few : batch.rows ≤ length pairs
+  pub rows_are : rows_of batch ≡ rows_at sides (take batch.rows pairs)
+  pub typed : AreOf (map answer_type (types_of sides)) batch.columns
+  pub light : 1 < batch.rows → All (λ (column : ColumnAt). text_bytes_of column ≤ most_joined_bytes) batch.columns

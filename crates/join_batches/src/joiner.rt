@@ -1,0 +1,175 @@
+//! Joins of left batches with the rows of a right side.
+
+ghost use Rattle.std.specs.Prelude.{◌≡◌, ◌≤◌, ◌<◌, ◌++◌, [], All, IfOk, IsTrue, OnErr, length, nat_lt};
+ghost use Rattle.std.specs.List.{list_all, flat_map};
+ghost use Rattle.scan_base.specs.Limits.{most_rows};
+ghost use Rattle.arrays.specs.Batch.{BatchAt, rows_of};
+ghost use Rattle.arrays.specs.Typed.{AreOf};
+ghost use Rattle.hash_join.specs.Pairs.{places, pairs_ahead};
+ghost use Rattle.join_batches.specs.Joiner.{JoinsNext, joined_of, most_joined_rows};
+ghost use Rattle.join_batches.specs.Rows.{IsPair};
+
+use crate::sides::Sides;
+use arrays::Batch;
+use arrow_schema::DataType;
+use hash_join::{Build, LeftSide, Pair, Probe};
+use hash_seed::HashSeed;
+use std::alloc::{AllocError, Global};
+use std::marker::Model;
+
+// As many pairs as are looked for at once, and as many rows as a joined batch has.
+const MOST_ROWS: usize = 65_536;
+
+/// The types of the columns of a side of a join, and the numbers of those that are the key.
+#[derive(Drop)]
+pub struct JoinSide {
+    pub types: Vec<DataType>,
+    pub key: Vec<usize>,
+}
+
+/// Both sides of a join. The keys are equal part by part.
+#[derive(Drop)]
+pub struct JoinSides {
+    pub left: JoinSide,
+    pub right: JoinSide,
+}
+
+/// The right side of a join, and the left batch whose joined rows are given. A contract sees the right rows, and the joined
+/// rows that are still to be given.
+#[derive(Drop)]
+pub struct Joiner {
+    left: JoinSide,
+    right_types: Vec<DataType>,
+    build: Build,
+    batch: Batch,
+    probe: Probe,
+    // The next pairs, and how many of them were given.
+    pairs: Vec<Pair>,
+    given: usize,
+}
+
+impl Model for Joiner {
+    ghost use Rattle.join_batches.specs.Joiner.{JoinerAt};
+
+    ghost Value = { JoinerAt };
+
+    ghost use Rattle.join_batches.specs.Held.{joiner_of, IsJoiner};
+
+    ghost view = { joiner_of };
+
+    ghost invariant = { IsJoiner };
+}
+
+impl Joiner {
+    /// The join of left batches with the rows of the right batches, in order, by the keys of both sides. No left batch
+    /// is there yet. The hashes begin with the seed.
+    ///
+    /// # Errors
+    ///
+    /// `AllocError` where memory is refused.
+    pub fn new(
+        alloc: Global,
+        seed: HashSeed,
+        sides: JoinSides,
+        batches: Vec<Batch>,
+    ) -> Result<Joiner, AllocError>
+        requires typed { All (λ (batch : BatchAt). AreOf sides.right.types.items batch.columns) batches.items }
+        requires few { length (places batches.items) ≤ most_rows }
+        requires counted { length batches.items ≤ most_rows }
+        requires alike { length sides.left.key.items ≡ length sides.right.key.items }
+        requires left { IsTrue (list_all (λ column. nat_lt column (length sides.left.types.items)) sides.left.key.items) }
+        requires right { IsTrue (list_all (λ column. nat_lt column (length sides.right.types.items)) sides.right.key.items) }
+        ensures { IfOk result (λ joiner. joiner ≡ record {
+          left_types = sides.left.types.items;
+          right_types = sides.right.types.items;
+          left_key = sides.left.key.items;
+          right_key = sides.right.key.items;
+          rights = flat_map rows_of batches.items;
+          ahead = [];
+        }) }
+    {
+        let JoinSides { left, right } = sides;
+        let JoinSide { types, key } = right;
+        let build = Build::new(alloc, seed, batches, key)?;
+        Ok(Joiner {
+            left,
+            right_types: types,
+            build,
+            batch: Batch::new(Vec::new(alloc), 0),
+            probe: Probe::new(),
+            pairs: Vec::new(alloc),
+            given: 0,
+        })
+    }
+
+    /// Joins a left batch next: all joined rows of the one before were given.
+    pub fn feed(&mut self, batch: Batch)
+        requires typed { AreOf self.old.left_types batch.columns }
+        requires few { batch.rows ≤ most_joined_rows }
+        requires ended { self.old.ahead ≡ [] }
+        ensures { self.new ≡ record self.old { ahead = joined_of self.old (rows_of batch) } }
+    {
+        self.batch = batch;
+        self.probe = Probe::new();
+        self.pairs.clear();
+        self.given = 0;
+    }
+
+    /// The next joined rows of the left batch as a batch: one row or more, no more than 65,536, whose texts have no more
+    /// than 16 MB in a column where it is more than one. `None` where no row is left.
+    ///
+    /// # Errors
+    ///
+    /// `AllocError` where memory is refused, or where one text has so many bytes that no offset names the last: 2 to the 31
+    /// or more. The same rows come next.
+    pub fn next(&mut self, alloc: Global) -> Result<Option<Batch>, AllocError>
+        ensures { JoinsNext self.old result self.new }
+    {
+        if self.given == self.pairs.len() {
+            let left = LeftSide {
+                batch: &self.batch,
+                key: self.left.key.as_slice(),
+            };
+            self.pairs = next_pairs(alloc, &self.build, &left, &mut self.probe)?;
+            self.given = 0;
+        }
+        let pairs = &self.pairs.as_slice()[self.given..];
+        if pairs.is_empty() {
+            return Ok(None);
+        }
+        let sides = Sides {
+            left: &self.batch,
+            left_types: self.left.types.as_slice(),
+            rights: self.build.batches(),
+            right_types: self.right_types.as_slice(),
+        };
+        let joined = sides.joined(alloc, pairs)?;
+        self.given += joined.rows();
+        Ok(Some(joined))
+    }
+}
+
+// The next pairs of a left batch that are to be found: none where the batch has no row.
+fn next_pairs(
+    alloc: Global,
+    build: &Build,
+    left: &LeftSide<'_>,
+    probe: &mut Probe,
+) -> Result<Vec<Pair>, AllocError>
+    requires alike { length left.now.key.now ≡ length build.now.key }
+    requires key { 0 < left.now.batch.now.rows →
+        IsTrue (list_all (λ column. nat_lt column (length left.now.batch.now.columns)) left.now.key.now) }
+    requires few { left.now.batch.now.rows ≤ most_joined_rows }
+    ensures next { IfOk result (λ pairs. pairs.items ++ pairs_ahead build.now left.now.batch.now left.now.key.now probe.new
+        ≡ pairs_ahead build.now left.now.batch.now left.now.key.now probe.old) }
+    ensures there { IfOk result (λ pairs. All (IsPair build.now.batches left.now.batch.now) pairs.items) }
+    ensures few { IfOk result (λ pairs. length pairs.items ≤ most_joined_rows) }
+    ensures some { IfOk result
+        (λ pairs. pairs.items ≡ [] → pairs_ahead build.now left.now.batch.now left.now.key.now probe.old ≡ []) }
+    ensures kept { OnErr result (probe.new ≡ probe.old) }
+{
+    if left.batch.rows() == 0 {
+        return Ok(Vec::new(alloc));
+    }
+    build.next(alloc, left, probe, MOST_ROWS)
+}

@@ -1,0 +1,7 @@
+//! Joined rows, batch by batch.
+#![tactic(auto)]
+
+pub mod joiner;
+mod sides;
+
+pub use crate::joiner::{JoinSide, JoinSides, Joiner};

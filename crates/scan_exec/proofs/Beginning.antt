@@ -1,0 +1,163 @@
+-- A scan before its first batch.
+use Rattle.std.proofs.Common.{◌≡◌, ◌<◌, ℕ, zero, suc, false, All, List, [], ◌∷◌, ◌++◌, length, map, take, drop, unwrap_or, slice_get, Option, Some, None, option_map, refl, sym, ap, ◌∙◌, subst, arith, append-nil, length-append, get_or, if◌then◌else◌}
+use Rattle.std.specs.List.{flat_map}
+use Rattle.std.proofs.lemmas.Option.{slice_get-map}
+use Rattle.std.proofs.lemmas.Simd.{map-map}
+use Rattle.arrow_schema.specs.Answer.{answer_type}
+use Rattle.arrow_schema.specs.declared.data_type.DataType.{DataType}
+use Rattle.arrow_schema.specs.declared.data_type.DataType.TheVariants.{Integer, Utf8, Bool as Flag, Decimal128, Dictionary}
+use Rattle.table_versions.specs.Stored.{TableAt}
+use Rattle.table_versions.specs.Table.{Row}
+use Rattle.typed_plan.specs.declared.plan.Columns.{Columns}
+use Rattle.typed_plan.specs.declared.plan.Columns.TheVariants as columns
+use Rattle.typed_plan.specs.declared.plan.Aggregate.{Aggregate}
+use Rattle.typed_plan.specs.declared.plan.Aggregate.TheVariants.{Key, CountRows, Count, Sum}
+use Rattle.typed_plan.specs.declared.plan.Output.{Output}
+use Rattle.typed_plan.specs.declared.plan.Output.TheVariants.{Project, Groups}
+use Rattle.typed_plan.specs.Grouped.{Group}
+use Rattle.typed_plan.specs.Joined.{rows_between}
+use Rattle.arrays.specs.Batch.{rows_of}
+use Rattle.typed_plan.specs.Plan.{answered, groups_by, output_rows}
+use Rattle.typed_plan.specs.Typed.{IsTyped, type_at, types_taken, types_of, tree_types, output_types, item_type, is_grouping}
+use Rattle.typed_plan.specs.View.{BoundAt, plan_of}
+use Rattle.scan_exec.specs.Answering.{GivingAt, IsScan, answer_for, of_rows, scan_at}
+use Rattle.scan_exec.specs.Begun.{IsBegun, tree_given}
+use Rattle.scan_exec.specs.Showing.{shown_of}
+use Rattle.scan_exec.specs.Given.{given_of, first_batches, further_rows, numbered_parts, rows_over}
+use Rattle.scan_exec.specs.Opened.{batches_in, further_batches, first_opened}
+use Rattle.scan_exec.specs.Running.{RowsAt}
+use Rattle.scan_exec.specs.Scan.{ScanAt, IsBeginning}
+use Rattle.scan_exec.specs.Shown.{cells}
+use Rattle.scan_exec.proofs.PlanGives.{given_rows}
+use Rattle.scan_exec.proofs.ScanGiven.{scan_given}
+
+-- the type of an answer of a column
+pub type_answered : (types : List DataType) (number : ℕ) → answer_type (type_at types number) ≡ type_at (map answer_type types) number
+type_answered types number = of (slice_get types number) ∙ sym (ap (λ (t : Option DataType). unwrap_or t Utf8) (slice_get-map answer_type types number))
+  where
+    of : (t : Option DataType) → answer_type (unwrap_or t Utf8) ≡ unwrap_or (option_map answer_type t) Utf8
+    of (Some t) = refl
+    of None = refl
+
+-- the types of answers of chosen columns, where those of all are alike
+types_alike : (columns : Columns) (some others : List DataType) → map answer_type some ≡ map answer_type others →
+    map answer_type (types_taken columns some) ≡ map answer_type (types_taken columns others)
+types_alike columns.All some others e = e
+types_alike (columns.These numbers) some others e = each numbers
+  where
+    each : (numbers : List ℕ) → map answer_type (map (type_at some) numbers) ≡ map answer_type (map (type_at others) numbers)
+    each [] = refl
+    each (number ∷ numbers) =
+        rw (type_answered some number, type_answered others number, e, each numbers) refl
+
+-- the types of answers are those of answers
+same_answer : (t : DataType) → answer_type (answer_type t) ≡ answer_type t
+same_answer (Integer integer) = refl
+same_answer Utf8 = refl
+same_answer Flag = refl
+same_answer Decimal128 = refl
+same_answer (Dictionary encoding) = refl
+
+items_alike : (keys : List ℕ) (items : List Aggregate) (some others : List DataType) → map answer_type some ≡ map answer_type others →
+    map answer_type (map answer_type (map (item_type keys some) items)) ≡ map answer_type (map (item_type keys others) items)
+items_alike keys [] some others e = refl
+items_alike keys (item ∷ items) some others e = rw (one item, items_alike keys items some others e) refl
+  where
+    one : (item : Aggregate) → answer_type (answer_type (item_type keys some item)) ≡ answer_type (item_type keys others item)
+    one (Key place) =
+        same_answer (type_at some (get_or keys place 0)) ∙ type_answered some (get_or keys place 0) ∙ ap (λ (types : List DataType). type_at types (get_or keys place 0)) e
+        ∙ sym (type_answered others (get_or keys place 0))
+    one CountRows = refl
+    one (Count column) = refl
+    one (Sum column) = refl
+
+-- all rows of a range, without the numbers of their batches
+pub plain_given : (bound : BoundAt) (from to : ℕ) →
+    map (λ (row : ℕ × Row). row.1) (tree_given (plan_of bound).tree bound.tables from to)
+    ≡ rows_over (plan_of bound).tree (rows_between from to (flat_map rows_of (first_batches bound.tables)) ∷ further_rows bound)
+plain_given bound from to =
+    let all : BoundAt = record bound { output = Project columns.All } in
+    sym (ap (map (λ (given : Option ℕ × Row). given.1)) (scan_given all columns.All from to refl)
+    ∙ map-map (λ (given : Option ℕ × Row). given.1) (λ (row : ℕ × Row). (Some row.0, row.1)) (tree_given (plan_of bound).tree bound.tables from to))
+    ∙ given_rows all from to
+
+-- what gives the result of a plan
+module _ (bound : BoundAt) (from to : ℕ) (typed : IsTyped (plan_of bound)) (rows : RowsAt) (begun : IsBegun (plan_of bound).tree bound.tables from to rows) where
+  types_is : (output : Output) → bound.output ≡ output → map answer_type (answer_for output rows).types ≡ types_of bound.schema.fields
+  types_is (Project columns) e = types_alike columns rows.types (tree_types (plan_of bound).tree) begun.types
+      ∙ sym (typed.types ∙ ap (λ (o : Output). map answer_type (output_types o (tree_types (plan_of bound).tree))) e)
+  types_is (Groups keys items) e = items_alike keys items rows.types (tree_types (plan_of bound).tree) begun.types
+      ∙ sym (typed.types ∙ ap (λ (o : Output). map answer_type (output_types o (tree_types (plan_of bound).tree))) e)
+
+  ahead_is : (output : Output) → bound.output ≡ output → (answer_for output rows).ahead ≡ given_of bound from to
+  ahead_is (Project columns) e =
+      let some : ℕ × Row → Option ℕ × Row = λ row. (Some row.0, row.1) in
+      let show : ℕ × Row → ℕ × Row = λ row. (row.0, cells columns row.1) in
+      map-map some show rows.ahead
+      ∙ ap (map (λ (row : ℕ × Row). (Some row.0, cells columns row.1))) begun.ahead
+      ∙ sym (scan_given bound columns from to e)
+  ahead_is (Groups keys items) e =
+      let plain = ap (map (λ (row : ℕ × Row). row.1)) begun.ahead ∙ plain_given bound from to in
+      let none : Row → Option ℕ × Row = λ row. (None, row) in
+      ap (λ (some : List Row). map (λ (group : Group). (None, map (answered group) items)) (groups_by keys some)) plain
+      ∙ sym (map-map none (λ (group : Group). map (answered group) items) (groups_by keys
+      (rows_over (plan_of bound).tree (rows_between from to (flat_map rows_of (first_batches bound.tables)) ∷ further_rows bound))))
+      ∙ sym (ap (λ (o : Output). given_as o) e)
+    where
+      given_as : Output → List (Option ℕ × Row)
+      given_as output =
+          let batches = first_batches bound.tables in
+          let give = λ (some : List Row). output_rows output (rows_over (plan_of bound).tree (some ∷ further_rows bound)) in
+          if is_grouping output
+          then map (λ row. (None, row)) (give (rows_between from to (flat_map rows_of batches)))
+          else flat_map (λ (part : ℕ × List Row). map (λ row. (Some part.0, row)) (give part.1)) (numbered_parts from to batches)
+
+  opened_is : (output : Output) → (answer_for output rows).opened ≡ []
+  opened_is (Project columns) = begun.opened
+  opened_is (Groups keys items) = begun.opened
+
+  batches_is : (output : Output) → (answer_for output rows).batches ≡ batches_in from to (first_batches bound.tables)
+  batches_is (Project columns) = begun.batches
+  batches_is (Groups keys items) = begun.batches
+
+  pub begins_is : (giving : GivingAt) (batches : List (ℕ × ℕ)) (further : ℕ) → giving ≡ answer_for bound.output rows →
+      batches ≡ further_batches bound.tables ++ first_opened from to bound.tables →
+      further ≡ length (further_batches bound.tables) → IsBeginning bound from to (scan_at bound.schema giving batches further 0 None)
+  begins_is giving batches further is all count = record {
+    schema = refl;
+    types = ap (λ (g : GivingAt). map answer_type g.types) is ∙ types_is bound.output refl;
+    ahead = ap (λ (g : GivingAt). g.ahead) is ∙ ahead_is bound.output refl;
+    batches = all;
+    opened = ap (λ (g : GivingAt). take further batches ++ map (λ batch. (0, batch)) g.opened) is
+        ∙ ap (λ (opened : List ℕ). take further batches ++ map (λ batch. (0, batch)) opened) (opened_is bound.output) ∙ append-nil (take further batches)
+        ∙ ap (take further) all ∙ ap (λ (n : ℕ). take n (further_batches bound.tables ++ first_opened from to bound.tables)) count
+        ∙ take_front (further_batches bound.tables) (first_opened from to bound.tables);
+    given = refl;
+    refused = refl;
+  }
+    where
+      take_front : (xs ys : List (ℕ × ℕ)) → take (length xs) (xs ++ ys) ≡ xs
+      take_front [] ys = refl
+      take_front (x ∷ xs) ys = ap (λ rest. x ∷ rest) (take_front xs ys)
+
+  -- and what holds of the scan
+  pub is_scan : (giving : GivingAt) (batches : List (ℕ × ℕ)) (further : ℕ) → giving ≡ answer_for bound.output rows →
+      batches ≡ further_batches bound.tables ++ first_opened from to bound.tables →
+      further ≡ length (further_batches bound.tables) → IsScan giving batches further 0
+  is_scan giving batches further is all count =
+      let long = ap length all ∙ length-append (further_batches bound.tables) (first_opened from to bound.tables) in
+      record {
+        there = omega (arith, long, count);
+        first = ap (drop further) all ∙ ap (λ (n : ℕ). drop n (further_batches bound.tables ++ first_opened from to bound.tables)) count
+            ∙ drop_front (further_batches bound.tables) (first_opened from to bound.tables)
+            ∙ ap (map (λ batch. (0, batch))) (sym (ap (λ (g : GivingAt). g.batches) is ∙ batches_is bound.output));
+        front = ap (λ (opened : List ℕ). take (length opened) giving.batches) none ∙ sym none;
+        few = omega arith;
+      }
+    where
+      none : giving.opened ≡ []
+      none = ap (λ (g : GivingAt). g.opened) is ∙ opened_is bound.output
+
+      drop_front : (xs ys : List (ℕ × ℕ)) → drop (length xs) (xs ++ ys) ≡ ys
+      drop_front [] ys = refl
+      drop_front (x ∷ xs) ys = drop_front xs ys

@@ -1,0 +1,231 @@
+-- Rows that are grouped, batch by batch, and what is answered of their groups.
+use Rattle.std.proofs.Common.{◌≡◌, ◌≤◌, ◌<◌, ℕ, suc, ◌+◌, ◌-◌, Bool, true, false, cond, List, [], ◌∷◌, ◌++◌, length, map, take, get_or, Option, Some, None, Result, Ok, Err, refl, sym, ap, ◌∙◌, subst, arith, append-nil, All}
+use Rattle.std.specs.List.{filter, flat_map, range_with_len}
+use Rattle.std.specs.Result.{IfOk}
+use Rattle.std.specs.declared.alloc.AllocError.{AllocError}
+use Rattle.std.specs.Global.{Global}
+use Rattle.std.specs.Prelude.{Vec}
+use Rattle.std.proofs.Math.Seq.{take-suc}
+use Rattle.std.proofs.lemmas.Grind.{flat_map-append}
+use Rattle.std.proofs.lemmas.List.{map-append, length-map, get_or_default}
+use Rattle.std.proofs.lemmas.List.Elements.{filter-append}
+use Rattle.std.proofs.lemmas.List.Folds.{length-flat_map-take}
+use Rattle.arrow_schema.specs.Answer.{answer_type}
+use Rattle.arrow_schema.specs.declared.data_type.DataType.{DataType}
+use Rattle.arrays.specs.Batch.{BatchAt, row_of, rows_of}
+use Rattle.arrays.specs.Typed.{AreOf}
+use Rattle.scan_base.specs.Limits.{most_rows}
+use Rattle.scan_base.specs.declared.fault.Fault.{Fault}
+use Rattle.table_versions.specs.Table.{Row}
+use Rattle.table_versions.proofs.Rowing.{length-rows_of}
+use Rattle.typed_plan.specs.declared.plan.Aggregate.{Aggregate}
+use Rattle.typed_plan.specs.Plan.{answered, groups_by}
+use Rattle.typed_plan.specs.Typed.{item_type}
+use Rattle.grouping.specs.Answers.{AnswersAt, Finishes, GivesAnswer, IsAnswerOf, IsOver, answer_types, answers_ahead}
+use Rattle.grouping.specs.Fed.{GroupsAt, Holds, HasFed, IsNew, batch_at}
+use Rattle.scan_exec.specs.declared.cursor.Part.{Part}
+use Rattle.scan_exec.specs.declared.grouped.MadeGroups.{MadeGroups}
+use Rattle.scan_exec.specs.declared.grouped.Stage.{Stage}
+use Rattle.scan_exec.specs.declared.grouped.Stage.TheVariants.{Waiting, Made}
+use Rattle.scan_exec.specs.declared.grouped.Wanted.{Wanted}
+use Rattle.scan_exec.specs.Giving.{GivingAt, GivingOn, GivesNext}
+use Rattle.scan_exec.specs.Collected.{AreCollected, IsBatchOf}
+use Rattle.scan_exec.specs.Grouped.{AnswersAll, AreFed, AreMade, IsAnswering, of_groups, passing, wanted_rows, wanted_types}
+use Rattle.scan_exec.specs.Picking.{PickAt, IsPick, holds, chosen_rows, pick_of}
+use Rattle.scan_exec.specs.Running.{RowsAt, GoesOn}
+use Rattle.scan_exec.proofs.Giving.{filter-map}
+use Rattle.scan_exec.proofs.JoinSteps.{as_many}
+
+-- no more pass than there are
+passing_few : {X : Type 0} (test : X → Bool) (xs : List X) → length (filter test xs) ≤ length xs
+passing_few test [] = omega arith
+passing_few test (x ∷ xs) = by (test x) (passing_few test xs)
+  where
+    by : (b : Bool) → length (filter test xs) ≤ length xs → length (cond b (x ∷ filter test xs) (filter test xs)) ≤ suc (length xs)
+    by true few = omega (arith, few)
+    by false few = omega (arith, few)
+
+-- ---- one batch more
+
+module _ (pick : PickAt) (batches : List BatchAt) (k : ℕ) (batch : BatchAt) (there : k < length batches) (is : batch ≡ get_or batches k batch) where
+  abbrev so_far : List Row
+  so_far = passing pick (flat_map rows_of (take k batches))
+
+  -- the rows so far, with those of this batch
+  rows_more : passing pick (flat_map rows_of (take (k + 1) batches)) ≡ so_far ++ passing pick (rows_of batch)
+  rows_more =
+      let next : k + 1 ≡ suc k = omega arith in
+      ap (λ (n : ℕ). passing pick (flat_map rows_of (take n batches))) next
+      ∙ ap (λ (some : List BatchAt). passing pick (flat_map rows_of some)) (take-suc batches k batch there)
+      ∙ ap (λ (b : BatchAt). passing pick (flat_map rows_of (take k batches ++ b ∷ []))) (sym is)
+      ∙ ap (passing pick) (flat_map-append rows_of (take k batches) (batch ∷ []))
+      ∙ ap (λ (some : List Row). passing pick (flat_map rows_of (take k batches) ++ some)) (append-nil (rows_of batch))
+      ∙ filter-append (holds pick) (flat_map rows_of (take k batches)) (rows_of batch)
+
+  module _ (part : Part) (of : part.batch.now ≡ batch) (from : part.from ≡ 0) (to : part.to ≡ batch.rows) where
+    -- the rows of the whole batch that pass are those chosen of it
+    chosen_are : map (row_of batch.columns) (chosen_rows pick part) ≡ passing pick (rows_of batch)
+    chosen_are =
+        let test : ℕ → Bool = λ row. holds pick (row_of batch.columns row) in
+        let size : batch.rows - 0 ≡ batch.rows = omega arith in
+        rw (of, from, to)
+        (ap (λ (n : ℕ). map (row_of batch.columns) (filter test (range_with_len 0 n))) size
+        ∙ sym (filter-map (holds pick) (row_of batch.columns) (range_with_len 0 batch.rows)))
+
+    -- no more are chosen than it has rows
+    chosen_few : length (chosen_rows pick part) ≤ batch.rows
+    chosen_few =
+        let long = length-map (chosen_rows pick part) (row_of batch.columns) in
+        let few = passing_few (holds pick) (rows_of batch) in
+        omega (arith, long, few, ap length chosen_are, length-rows_of batch)
+
+    -- so they can be fed
+    pub few_enough : (first groups : GroupsAt) (rows : List ℕ) → rows ≡ chosen_rows pick part → AreFed first so_far groups →
+        length (flat_map rows_of batches) ≤ most_rows → groups.count + length rows ≤ most_rows
+    few_enough first groups rows e fed few =
+        let all = length-flat_map-take rows_of batches k batch there in
+        let mine : length (rows_of batch) ≡ length (rows_of (get_or batches k batch)) = ap (λ (b : BatchAt). length (rows_of b)) is in
+        let size = passing_few (holds pick) (flat_map rows_of (take k batches)) in
+        omega (arith, all, mine, size, few, fed.held.count, ap length e, chosen_few, length-rows_of batch)
+
+    -- and then the rows so far are fed
+    pub more_fed : (first groups after : GroupsAt) (rows : List ℕ) → rows ≡ chosen_rows pick part → AreFed first so_far groups →
+        HasFed groups after (map (row_of batch.columns) rows) → AreFed first (passing pick (flat_map rows_of (take (k + 1) batches))) after
+    more_fed first groups after rows e fed has = record {
+      alike = record {
+        batches = has.alike.batches ∙ fed.alike.batches;
+        types = has.alike.types ∙ fed.alike.types;
+        keys = has.alike.keys ∙ fed.alike.keys;
+        items = has.alike.items ∙ fed.alike.items;
+      };
+      refused = has.refused;
+      held = subst (Holds after) (ap (λ (some : List Row). so_far ++ some) (ap (map (row_of batch.columns)) e ∙ chosen_are) ∙ sym rows_more) (has.held so_far fed.held);
+    }
+
+  -- it is the batch of its number
+  pub is_at : (all : List BatchAt) → all ≡ batches → batch_at all k ≡ batch
+  is_at all e =
+      let blank : BatchAt = record { columns = []; rows = 0 } in
+      ap (λ (some : List BatchAt). batch_at some k) e ∙ get_or_default batches k blank batch there ∙ sym is
+
+  -- it has the columns that the filters name
+  pub can_pick : (types : List DataType) → All (IsBatchOf types) batches → IsPick (length types) pick → IsPick (length batch.columns) pick
+  can_pick types each picks =
+      let of : IsBatchOf types batch = subst (IsBatchOf types) (sym is) (each k batch there) in
+      subst (λ (n : ℕ). IsPick n pick) (sym (as_many types batch.columns of.typed)) picks
+
+-- ---- the answer
+
+-- the types of what groups answer
+abbrev types_answered : List DataType → List ℕ → List Aggregate → List DataType
+types_answered types keys items = map answer_type (map (item_type keys types) items)
+
+module _ (wanted : Wanted) (batches : List BatchAt) (new fed : GroupsAt) (is : IsNew batches wanted.types.items wanted.keys.items wanted.items.items new)
+    (feeds : AreFed new (passing (pick_of wanted.picker) (flat_map rows_of batches)) fed) where
+  -- what was fed is grouped by what is wanted
+  batches_are : fed.batches ≡ batches
+  batches_are = feeds.alike.batches ∙ is.batches_are
+
+  keys_are : fed.keys ≡ wanted.keys.items
+  keys_are = feeds.alike.keys ∙ is.keys_are
+
+  items_are : fed.items ≡ wanted.items.items
+  items_are = feeds.alike.items ∙ is.items_are
+
+  types_are : types_answered fed.types fed.keys fed.items ≡ wanted_types wanted
+  types_are =
+      ap (λ (some : List DataType). types_answered some fed.keys fed.items) (feeds.alike.types ∙ is.types_are)
+      ∙ ap (λ (some : List ℕ). types_answered wanted.types.items some fed.items) keys_are
+      ∙ ap (types_answered wanted.types.items wanted.keys.items) items_are
+
+  -- so the answer is what is wanted
+  answers_all : (answers : AnswersAt) → IsAnswerOf fed answers → AnswersAll batches wanted answers
+  answers_all answers answer =
+      let rows = passing (pick_of wanted.picker) (flat_map rows_of batches) in
+      record {
+        over = subst (λ (some : List BatchAt). IsOver some answers) batches_are answer.over;
+        types = answer.types ∙ types_are;
+        rows = ap (λ (some : List BatchAt). answers_ahead some answers) (sym batches_are)
+            ∙ answer.ahead rows feeds.held
+            ∙ ap (λ (some : List Aggregate). map (λ group. map (answered group) some) (groups_by fed.keys rows)) items_are
+            ∙ ap (λ (some : List ℕ). map (λ group. map (answered group) wanted.items.items) (groups_by some rows)) keys_are;
+      }
+
+  -- or it was refused
+  pub finished : (result : Result AnswersAt Fault) → Finishes fed result → IfOk result (AnswersAll batches wanted)
+  finished (Ok answers) finishes =
+      let with : Option Fault → GroupsAt = λ refused. record fed { refused = refused } in
+      let is : IsAnswerOf (with None) answers = subst (λ (refused : Option Fault). Finishes (with refused) (Ok answers)) feeds.refused finishes in
+      answers_all answers (subst (λ (refused : Option Fault). IsAnswerOf (with refused) answers) (sym feeds.refused) is)
+  finished (Err fault) finishes = tt
+
+-- of all rows that were collected
+pub are_made : (wanted : Wanted) (before after : RowsAt) (made : MadeGroups) → AreCollected before made.batches.items after →
+    AnswersAll made.batches.items wanted made.answers → AreMade before wanted made after
+are_made wanted before after made all answers = record {
+  rows = answers.rows ∙ ap (wanted_rows wanted) all.rows;
+  answering = record { over = answers.over; types = answers.types };
+  all = all.all;
+}
+
+-- ---- what is given of it
+
+-- rows of groups come of no batch
+abbrev of_none : Row → Option ℕ × Row
+of_none row = (None, row)
+
+-- where rows go on, so do their groups
+pub groups_on : (wanted : Wanted) (before after : RowsAt) (stage then : Stage) → GoesOn before after → GivingOn (of_groups before wanted stage) (of_groups after wanted then)
+groups_on wanted before after stage then on = record { types = refl; batches = on.batches; opening = on.opening; opened = on.opened }
+
+-- the rows that were waited for are those of the answer
+pub made_ahead : (wanted : Wanted) (before after : RowsAt) (made : MadeGroups) → AreMade before wanted made after →
+    (of_groups before wanted Waiting).ahead ≡ map of_none (answers_ahead made.batches.items made.answers)
+made_ahead wanted before after made is = ap (map of_none) (sym is.rows)
+
+-- a batch of the answer is given
+gives_answer : (before after : GivingAt) (batches : List BatchAt) (answers then : AnswersAt) → answer_types answers ≡ before.types →
+    before.ahead ≡ map of_none (answers_ahead batches answers) → after.ahead ≡ map of_none (answers_ahead batches then) →
+    GivingOn before after → after.opened ≡ before.batches → (result : Result (Option BatchAt) AllocError) →
+    GivesAnswer batches answers result then → GivesNext before result after
+gives_answer before after batches answers then types ahead still on opened (Ok (Some batch)) gives = record {
+  number = None;
+  next = ahead ∙ ap (map of_none) gives.next ∙ map-append of_none (rows_of batch) (answers_ahead batches then)
+      ∙ ap (λ (some : List (Option ℕ × Row)). map of_none (rows_of batch) ++ some) (sym still);
+  latest = tt;
+  some = gives.some;
+  few = gives.few;
+  typed = subst (λ (some : List DataType). AreOf some batch.columns) types gives.typed;
+  on = on;
+}
+gives_answer before after batches answers then types ahead still on opened (Ok None) gives = record {
+  none = ahead ∙ ap (map of_none) gives.0;
+  still = still ∙ ap (λ (some : AnswersAt). map of_none (answers_ahead batches some)) gives.1 ∙ ap (map of_none) gives.0;
+  all = opened;
+  on = on;
+}
+gives_answer before after batches answers then types ahead still on opened (Err refused) gives = on
+
+-- and the answer goes on over the same batches
+pub gives_made : (rows : RowsAt) (wanted : Wanted) (before : GivingAt) (made then : MadeGroups) → IsAnswering wanted made → wanted_types wanted ≡ before.types →
+    before.ahead ≡ map of_none (answers_ahead made.batches.items made.answers) → GivingOn before (of_groups rows wanted (Made then)) →
+    rows.opened ≡ before.batches → then.batches ≡ made.batches → (result : Result (Option BatchAt) AllocError) →
+    GivesAnswer made.batches.items made.answers result then.answers → GivesNext before result (of_groups rows wanted (Made then))
+gives_made rows wanted before made then is types ahead on opened same result gives =
+    gives_answer before (of_groups rows wanted (Made then)) made.batches.items made.answers then.answers (is.types ∙ types) ahead
+    (ap (λ (some : Vec BatchAt Global). map of_none (answers_ahead some.items then.answers)) same) on opened result gives
+
+-- where no group was answered the answer is as it was
+unmoved : (wanted : Wanted) (made then : MadeGroups) → IsAnswering wanted made → then.batches ≡ made.batches → then.answers ≡ made.answers → IsAnswering wanted then
+unmoved wanted made then is same still = record {
+  over = rw (same, still) is.over;
+  types = ap answer_types still ∙ is.types;
+}
+
+-- what holds of the answer then
+pub still_answering : (wanted : Wanted) (made then : MadeGroups) → IsAnswering wanted made → then.batches ≡ made.batches →
+    (result : Result (Option BatchAt) AllocError) → GivesAnswer made.batches.items made.answers result then.answers → IsAnswering wanted then
+still_answering wanted made then is same (Ok (Some batch)) gives =
+    record { over = rw same gives.over; types = gives.types ∙ is.types }
+still_answering wanted made then is same (Ok None) gives = unmoved wanted made then is same gives.1
+still_answering wanted made then is same (Err refused) gives = unmoved wanted made then is same gives

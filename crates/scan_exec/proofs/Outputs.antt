@@ -1,0 +1,63 @@
+-- What a result takes of columns that are alike.
+use Rattle.std.proofs.Common.{◌≡◌, ℕ, Bool, ◌&&◌, List, [], ◌∷◌, length, map, take, nat_lt, refl, sym, ap, ◌∙◌, subst}
+use Rattle.std.specs.List.{list_all}
+use Rattle.std.proofs.lemmas.List.{length-map}
+use Rattle.arrow_schema.specs.Answer.{answer_type}
+use Rattle.arrow_schema.specs.declared.data_type.DataType.{DataType}
+use Rattle.arrow_schema.specs.declared.data_type.DataType.TheVariants.{Integer, Utf8, Bool as Flag, Decimal128, Dictionary}
+use Rattle.typed_plan.specs.Class.{can_sum}
+use Rattle.typed_plan.specs.declared.plan.Aggregate.{Aggregate}
+use Rattle.typed_plan.specs.declared.plan.Aggregate.TheVariants.{Key, CountRows, Count, Sum}
+use Rattle.typed_plan.specs.declared.plan.Columns.{Columns}
+use Rattle.typed_plan.specs.declared.plan.Columns.TheVariants as columns
+use Rattle.typed_plan.specs.declared.plan.Output.{Output}
+use Rattle.typed_plan.specs.declared.plan.Output.TheVariants.{Project, Groups}
+use Rattle.typed_plan.specs.Typed.{HasOutput, IsTyped, has_columns, has_item, tree_types, type_at}
+use Rattle.typed_plan.specs.View.{BoundAt, plan_of, tree_of}
+use Rattle.scan_exec.specs.declared.build.Sourced.{Sourced}
+use Rattle.scan_exec.specs.Begun.{IsBegun, IsSourced, sourced_at}
+use Rattle.scan_exec.proofs.Beginning.{type_answered}
+
+-- what is summed is no dictionary
+sum_answered : (t : DataType) → can_sum (answer_type t) ≡ can_sum t
+sum_answered (Integer integer) = refl
+sum_answered Utf8 = refl
+sum_answered Flag = refl
+sum_answered Decimal128 = refl
+sum_answered (Dictionary encoding) = refl
+
+module _ (some others : List DataType) (e : map answer_type some ≡ map answer_type others) where
+  long : length some ≡ length others
+  long = sym (length-map some answer_type) ∙ ap length e ∙ length-map others answer_type
+
+  sum_same : (column : ℕ) → can_sum (type_at some column) ≡ can_sum (type_at others column)
+  sum_same column =
+      sym (sum_answered (type_at some column)) ∙ ap can_sum (type_answered some column ∙ ap (λ (types : List DataType). type_at types column) e
+      ∙ sym (type_answered others column)) ∙ sum_answered (type_at others column)
+
+  item_same : (keys : ℕ) (item : Aggregate) → has_item keys some item ≡ has_item keys others item
+  item_same keys (Key place) = refl
+  item_same keys CountRows = refl
+  item_same keys (Count column) = ap (nat_lt column) long
+  item_same keys (Sum column) = ap (λ (n : ℕ). nat_lt column n && can_sum (type_at some column)) long ∙ ap (λ (b : Bool). nat_lt column (length others) && b) (sum_same column)
+
+  items_same : (keys : ℕ) (items : List Aggregate) → list_all (has_item keys some) items ≡ list_all (has_item keys others) items
+  items_same keys [] = refl
+  items_same keys (item ∷ items) = rw (item_same keys item, items_same keys items) refl
+
+  -- an output that is there for the ones is there for the others
+  pub output_alike : (output : Output) → HasOutput output others → HasOutput output some
+  output_alike (Project columns) has = ap (λ (n : ℕ). has_columns n columns) long ∙ has
+  output_alike (Groups keys items) has =
+      (ap (λ (n : ℕ). list_all (λ key. nat_lt key n) keys) long ∙ has.0, items_same (length keys) items ∙ has.1)
+
+-- what a result takes of a source that begins is there
+module _ (bound : BoundAt) (from to : ℕ) (typed : IsTyped (plan_of bound)) (sourced : Sourced) (is : IsSourced sourced)
+    (begun : IsBegun (tree_of bound.plan) bound.tables from to (sourced_at sourced)) where
+  pub output_there : HasOutput bound.output sourced.types.items
+  output_there =
+      subst (HasOutput bound.output) (sym is.types)
+      (output_alike (sourced_at sourced).types (tree_types (tree_of bound.plan)) begun.types bound.output typed.output)
+
+  pub none_opened : take (length (sourced_at sourced).opened) (sourced_at sourced).batches ≡ (sourced_at sourced).opened
+  none_opened = subst (λ (opened : List ℕ). take (length opened) (sourced_at sourced).batches ≡ opened) (sym begun.opened) refl

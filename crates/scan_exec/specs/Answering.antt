@@ -1,0 +1,65 @@
+-- Inside: what a scan still has to give, of rows or of groups.
+use Rattle.std.specs.Prelude.{◌≡◌, ◌≤◌, ◌<◌, ◌⊎◌, ℕ, ◌+◌, List, ◌++◌, length, map, take, drop, Option, Some, None, Result, Ok, Err}
+use Rattle.arrays.specs.Batch.{BatchAt}
+use Rattle.arrow_schema.specs.Answer.{answer_type}
+use Rattle.typed_plan.specs.declared.plan.Output.{Output}
+use Rattle.typed_plan.specs.declared.plan.Output.TheVariants.{Project, Groups}
+use Rattle.typed_plan.specs.Plan.{answered, groups_by}
+use Rattle.typed_plan.specs.Typed.{item_type}
+use Rattle.table_versions.specs.Table.{Row}
+use Rattle.scan_exec.specs.Running.{RowsAt}
+use Rattle.scan_exec.specs.Showing.{shown_of}
+use Rattle.arrow_schema.specs.declared.schema.Schema.{Schema}
+use Rattle.scan_base.specs.Limits.{most_answer_rows}
+use Rattle.scan_base.specs.declared.fault.Fault.{Fault}
+use Rattle.scan_base.specs.declared.fault.Fault.TheVariants.{OutOfMemory, ResultTooLarge}
+use Rattle.scan_exec.specs.declared.answer.Answer.{Answer}
+use Rattle.scan_exec.specs.declared.answer.Answer.TheVariants as answer
+pub use Rattle.scan_exec.specs.Giving.{GivingAt, of_rows, GivingOn, IsOfLast, GivesBatch, GivesNone, GivesNext}
+use Rattle.scan_exec.specs.Scan.{ScanAt}
+
+-- what an answer still has to give
+abbrev pub giving_at : Answer → GivingAt
+giving_at (answer.Rows rows) = of_rows rows
+giving_at (answer.Groups groups) = groups
+
+-- what was opened is what is first to be opened
+abbrev pub IsGiving : Answer → Type 0
+IsGiving (answer.Rows rows) = take (length rows.opened) rows.batches ≡ rows.opened
+IsGiving (answer.Groups groups) = take (length groups.opened) groups.batches ≡ groups.opened
+
+-- What the next batch is, where so many rows were given: one more than an answer may have refuses it.
+abbrev pub CountsNext : GivingAt → ℕ → Result (Option BatchAt) Fault → GivingAt → ℕ → Type 0
+CountsNext before given (Ok (Some batch)) after now = GivesBatch before batch after × (now ≡ given + batch.rows) × (now ≤ most_answer_rows)
+CountsNext before given (Ok None) after now = GivesNone before after × (now ≡ given)
+CountsNext before given (Err fault) after now = GivingOn before after × (now ≤ most_answer_rows)
+    × ((fault ≡ OutOfMemory) ⊎ ((fault ≡ ResultTooLarge) × (most_answer_rows < given + length before.ahead)))
+
+-- a scan as contracts see it, over the batches that it opens: those of the further places are the first `further` ones
+abbrev pub scan_at : Schema → GivingAt → List (ℕ × ℕ) → ℕ → ℕ → Option Fault → ScanAt
+scan_at schema giving batches further given refused = record {
+  schema = schema;
+  types = giving.types;
+  ahead = giving.ahead;
+  batches = batches;
+  opened = take further batches ++ map (λ batch. (0, batch)) giving.opened;
+  given = given;
+  refused = refused;
+}
+
+-- what holds of a scan: its list of batches ends with those of the first place, and no more rows were given than may be
+pub record IsScan (giving : GivingAt) (batches : List (ℕ × ℕ)) (further given : ℕ) : Type 0 where
+  pub there : further ≤ length batches
+  pub first : drop further batches ≡ map (λ batch. (0, batch)) giving.batches
+  pub front : take (length giving.opened) giving.batches ≡ giving.opened
+  pub few : given ≤ most_answer_rows
+
+-- What a result takes of rows: columns of them, or the items of their groups by first appearance.
+abbrev pub answer_for : Output → RowsAt → GivingAt
+answer_for (Project columns) rows = of_rows (shown_of columns rows)
+answer_for (Groups keys items) rows = record {
+  types = map answer_type (map (item_type keys rows.types) items);
+  ahead = map (λ group. (None, map (answered group) items)) (groups_by keys (map (λ (row : ℕ × Row). row.1) rows.ahead));
+  batches = rows.batches;
+  opened = rows.opened;
+}

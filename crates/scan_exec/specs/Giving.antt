@@ -1,0 +1,61 @@
+-- Inside: what is still to be given, batch by batch.
+use Rattle.std.specs.Prelude.{◌≡◌, ◌≤◌, ◌<◌, ℕ, List, [], ◌++◌, length, map, take, Option, Some, None, Result, Ok, Err}
+use Rattle.std.specs.List.{last_or}
+use Rattle.std.specs.declared.alloc.AllocError.{AllocError}
+use Rattle.arrow_schema.specs.declared.data_type.DataType.{DataType}
+use Rattle.arrays.specs.Batch.{BatchAt, rows_of}
+use Rattle.arrays.specs.Typed.{AreOf}
+use Rattle.table_versions.specs.Table.{Row}
+use Rattle.scan_exec.specs.Running.{RowsAt}
+use Rattle.scan_exec.specs.Scan.{most_scan_rows}
+
+-- The types of the columns; the rows that are still to be given, each with the number of the batch of the first place of
+-- which it comes, if it is one; and the numbers of the batches of that place that are to be opened, and of those that were.
+pub record GivingAt : Type 0 where
+  pub types : List DataType
+  pub ahead : List (Option ℕ × Row)
+  pub batches : List ℕ
+  pub opened : List ℕ
+
+-- rows of one batch, each with its number
+abbrev pub of_rows : RowsAt → GivingAt
+of_rows rows = record {
+  types = rows.types;
+  ahead = map (λ (row : ℕ × Row). (Some row.0, row.1)) rows.ahead;
+  batches = rows.batches;
+  opened = rows.opened;
+}
+
+-- it goes on over the same batches
+pub record GivingOn (before after : GivingAt) : Type 0 where
+  pub types : after.types ≡ before.types
+  pub batches : after.batches ≡ before.batches
+  pub opening : take (length before.opened) after.opened ≡ before.opened
+  pub opened : take (length after.opened) after.batches ≡ after.opened
+
+-- rows that come of a batch come of the one that was opened last
+abbrev pub IsOfLast : Option ℕ → List ℕ → Type 0
+IsOfLast None opened = Unit {0}
+IsOfLast (Some number) opened = last_or None opened ≡ Some number
+
+-- a batch has the next rows, one or more
+pub record GivesBatch (before : GivingAt) (batch : BatchAt) (after : GivingAt) : Type 0 where
+  pub number : Option ℕ
+  pub next : before.ahead ≡ map (λ row. (number, row)) (rows_of batch) ++ after.ahead
+  pub latest : IsOfLast number after.opened
+  pub some : 0 < batch.rows
+  pub few : batch.rows ≤ most_scan_rows
+  pub typed : AreOf before.types batch.columns
+  pub on : GivingOn before after
+
+-- at the end all batches that were to be opened were
+pub record GivesNone (before after : GivingAt) : Type 0 where
+  pub none : before.ahead ≡ []
+  pub still : after.ahead ≡ []
+  pub all : after.opened ≡ before.batches
+  pub on : GivingOn before after
+
+abbrev pub GivesNext : GivingAt → Result (Option BatchAt) AllocError → GivingAt → Type 0
+GivesNext before (Ok (Some batch)) after = GivesBatch before batch after
+GivesNext before (Ok None) after = GivesNone before after
+GivesNext before (Err _) after = GivingOn before after

@@ -1,0 +1,17 @@
+-- Inside: the sources of rows.
+use Rattle.std.specs.Prelude.{ℕ, List}
+use Rattle.typed_plan.specs.Typed.{types_of}
+use Rattle.scan_exec.specs.declared.place.PlaceRows.{PlaceRows}
+use Rattle.scan_exec.specs.Opened.{batches_in}
+use Rattle.scan_exec.specs.Placed.{rows_ahead}
+use Rattle.scan_exec.specs.Running.{RowsAt}
+
+-- the rows of a place, before its filters
+abbrev pub place_at : PlaceRows → RowsAt
+place_at place = record {
+  types = types_of place.table.schema.fields;
+  ahead = rows_ahead place.table place.cursor;
+  batches = batches_in place.cursor.from place.cursor.to place.table.batches;
+  opened = batches_in place.cursor.from place.cursor.at place.table.batches;
+  depth = 0;
+}

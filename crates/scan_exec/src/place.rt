@@ -1,0 +1,47 @@
+//! The rows of one place.
+
+ghost use Rattle.std.specs.Prelude.{◌≡◌, length};
+ghost use Rattle.scan_exec.specs.Picking.{IsPick, pick_of};
+ghost use Rattle.scan_exec.specs.Placed.{IsPlaced};
+ghost use Rattle.scan_exec.specs.Running.{FindsNext, picked_of};
+ghost use Rattle.scan_exec.specs.Sources.{place_at};
+
+use crate::cursor::Cursor;
+use crate::picker::Picker;
+use crate::piece::Piece;
+use arrays::Selection;
+use std::alloc::{AllocError, Global};
+use table_versions::TableVersion;
+
+// A table, and where a scan of a range of its rows has come to.
+#[derive(Drop)]
+pub(crate) struct PlaceRows {
+    pub(crate) table: TableVersion,
+    pub(crate) cursor: Cursor,
+}
+
+impl PlaceRows {
+    // What is picked of the next piece of a batch of the table of which a row is.
+    pub(crate) fn next(
+        &mut self,
+        alloc: Global,
+        picker: &Picker,
+        selection: &mut Selection,
+    ) -> Result<Option<Piece>, AllocError>
+        requires placed { IsPlaced self.old.table self.old.cursor }
+        requires pick { IsPick (length self.old.table.schema.fields) (pick_of picker.now) }
+        ensures placed { IsPlaced self.new.table self.new.cursor }
+        ensures table { self.new.table ≡ self.old.table }
+        ensures found { FindsNext (picked_of (pick_of picker.now) (place_at self.old)) result
+            (picked_of (pick_of picker.now) (place_at self.new)) }
+    {
+        while self.cursor.at < self.cursor.to {
+            let number = self.cursor.batch;
+            let part = self.cursor.open(&self.table);
+            if let Some(batch) = picker.pick(alloc, &part, selection)? {
+                return Ok(Some(Piece { batch, number }));
+            }
+        }
+        Ok(None)
+    }
+}

@@ -1,0 +1,129 @@
+//! Rows, piece by piece: those of a place, or joined ones.
+
+ghost use Rattle.std.specs.Prelude.{◌≡◌, length};
+ghost use Rattle.join_batches.specs.Joiner.{joined_types};
+ghost use Rattle.scan_exec.specs.Joined.{IsJoined, joined_at};
+ghost use Rattle.scan_exec.specs.Picking.{IsPick, pick_of};
+ghost use Rattle.scan_exec.specs.Running.{FindsNext, picked_of};
+
+use crate::cursor::Part;
+use crate::picker::Picker;
+use crate::piece::Piece;
+use crate::place::PlaceRows;
+use arrays::Selection;
+use join_batches::Joiner;
+use std::alloc::{AllocError, Global};
+use std::marker::Model;
+
+// Rows of a source that are still to be given, and what is given of them.
+#[cycle(rows)]
+#[derive(Drop)]
+pub(crate) struct Rows {
+    pub(crate) source: Source,
+    pub(crate) picker: Picker,
+    // The rows that were chosen last. Its memory is used again.
+    pub(crate) selection: Selection,
+}
+
+// What rows are picked of: a place, or a join of the rows of others with a place.
+#[cycle(rows)]
+#[derive(Drop)]
+pub(crate) enum Source {
+    Place(PlaceRows),
+    Joined(Box<Rows>, Joining),
+}
+
+// The right side of a join with the left batch that it joins, and the number of the batch of the first place of which the
+// left batch comes.
+#[derive(Drop)]
+pub(crate) struct Joining {
+    pub(crate) joiner: Joiner,
+    pub(crate) number: usize,
+}
+
+impl Model for Rows {
+    ghost use Rattle.std.specs.Prelude.{length};
+    ghost use Rattle.scan_exec.specs.Picking.{IsPick, pick_of};
+    ghost use Rattle.scan_exec.specs.Running.{RowsAt, picked_of};
+
+    ghost Value = { RowsAt };
+
+    ghost use Rattle.scan_exec.specs.Joined.{source_at, IsSource};
+
+    ghost view = { λ r. picked_of (pick_of r.picker) (source_at r.source) };
+
+    ghost invariant = { λ r. IsSource r.source × IsPick (length (source_at r.source).types) (pick_of r.picker) };
+
+    ghost size = { λ r. r.depth };
+
+    ghost use Rattle.std.proofs.Common.{arith};
+
+    ghost size_decreases = { λ a h. Prim.grind arith };
+}
+
+impl Rows {
+    // The next piece, of one batch of the first place.
+    #[cycle(next)]
+    pub(crate) fn next(&mut self, alloc: Global) -> Result<Option<Piece>, AllocError>
+        ensures { FindsNext self.old result self.new }
+    {
+        match &mut self.source {
+            Source::Place(place) => place.next(alloc, &self.picker, &mut self.selection),
+            Source::Joined(left, joining) => {
+                joining.next(alloc, left, &self.picker, &mut self.selection)
+            }
+        }
+    }
+}
+
+impl Rows {
+    // How many batches of the first place were opened.
+    pub(crate) fn opened(&self) -> usize
+        ensures { result ≡ length self.now.opened }
+    {
+        match &self.source {
+            Source::Place(place) => place.cursor.opened,
+            Source::Joined(left, _) => left.opened(),
+        }
+    }
+}
+
+impl Joining {
+    // What is picked of the next joined rows, where the left rows are these.
+    #[cycle(next)]
+    fn next(
+        &mut self,
+        alloc: Global,
+        left: &mut Rows,
+        picker: &Picker,
+        selection: &mut Selection,
+    ) -> Result<Option<Piece>, AllocError>
+        requires joined { IsJoined left.old self.old.joiner self.old.number }
+        requires pick { IsPick (length (joined_types self.old.joiner)) (pick_of picker.now) }
+        ensures joined { IsJoined left.new self.new.joiner self.new.number }
+        ensures types { joined_types self.new.joiner ≡ joined_types self.old.joiner }
+        ensures depth { left.new.depth ≡ left.old.depth }
+        ensures found { FindsNext (picked_of (pick_of picker.now) (joined_at left.old self.old.joiner self.old.number)) result
+            (picked_of (pick_of picker.now) (joined_at left.new self.new.joiner self.new.number)) }
+    {
+        loop {
+            if let Some(batch) = self.joiner.next(alloc)? {
+                let (from, to) = (0, batch.rows());
+                let part = Part {
+                    batch: &batch,
+                    from,
+                    to,
+                };
+                if let Some(batch) = picker.pick(alloc, &part, selection)? {
+                    let number = self.number;
+                    return Ok(Some(Piece { batch, number }));
+                }
+            } else if let Some(piece) = left.next(alloc)? {
+                self.number = piece.number;
+                self.joiner.feed(piece.batch);
+            } else {
+                return Ok(None);
+            }
+        }
+    }
+}

@@ -1,0 +1,284 @@
+#!/usr/bin/env python3
+"""Random joins and groups over small random tables, through `flightscan pipe` and through sqlite3, compared.
+
+    python3 scripts/sqlite_answers.py [--count N] [--seed S] [--program PATH] [--plain] [--without-program]
+
+What it shows: that the answers are those of a program which shares nothing with ours, wherever both define the same.
+Each of the databases (2,000 if no count is said) has 1 to 4 tables of 1 to 4 columns of any types but floats and dates,
+with nulls, of 0 to 12 rows, or in one database of ten to 200, that come in puts of one or more batches. Between the puts stand queries: joins of 2 to 4
+places, a table with itself too; WHERE with comparisons, BETWEEN, IN, IS NULL, IS TRUE and the like, AND, OR and NOT;
+and groups of one place with COUNT and SUM. `pipe` gets the puts, the infos of all queries, of 1 to 3 parts each, and
+behind them the fetches of all endpoints in any order, so also of versions that are no longer the newest. sqlite3 gets
+the same tables and queries in turn, with an ORDER BY of the order that docs/SQL.md states. Compared are each put's
+count, each info's tickets, the schemas of an info and of its streams, and the rows of each endpoint, one by one, in order.
+
+What both define alike, and no more: sqlite3 has its truth values as 1 and 0, names differ by more than their case, and
+numbers are so small that sqlite3's sums of 64 bits do not overflow.
+
+With --plain no query has a join or groups. With --without-program the answers of sqlite3 are compared with those of the
+plain model in random_calls, which needs no built program. Seeds are S, S + 1, ..; of one seed all is always the same.
+It ends with 1 at the first difference, and prints the query and both answers. It needs `sqlite3` on the path (tried
+with 3.40), and the program is built as for bench/pipe.py.
+
+What it found: no difference. 2,000 databases with 11,074 queries, of which 6,245 had joins and 3,422 groups, and 16,798
+endpoints, on the proved program.
+"""
+
+from __future__ import annotations
+
+import argparse
+import collections
+import json
+import pathlib
+import subprocess
+import sys
+from dataclasses import dataclass, field
+from random import Random
+
+sys.dont_write_bytecode = True
+ROOT = pathlib.Path(__file__).resolve().parent.parent
+sys.path += [str(ROOT / "vectors" / folder) for folder in ("arrow", "flight", "queries")]
+
+import wire  # noqa: E402
+from built import program  # noqa: E402
+from random_calls import joined  # noqa: E402
+from random_calls.answers import Difference, PutCount, columns_of, only_message, same  # noqa: E402
+from random_calls.joined import Joiner, JoinSpeller, Query, Values  # noqa: E402
+from random_calls.joined_model import query_rows  # noqa: E402
+from random_calls.plain_model import Column, Database, Put, Row, Table, after, class_of, split  # noqa: E402
+from random_calls.puts import TREES, ingest, messages_of, stream_of  # noqa: E402
+from reader import Fault, Reader  # noqa: E402
+
+SECONDS = 300  # that one program may take
+TABLES = ["t", "u", "a b", "select", "\u00e9"]
+COLUMNS = ["a", "b", "c", "k", "order", "a b", "\u00e9\"", "_1"]
+COUNTS = [0, 1, 2, 4, 6, 8, 12]  # of a put's rows; of a large one as many times more
+MARK = "="  # the line behind each answer of sqlite3
+
+
+@dataclass
+class Asked:
+    """A query with its text, the database that it is asked of, its tickets' handles, and both answers."""
+
+    query: Query
+    text: str
+    database: Database
+    ranges: list[tuple[int, int]]
+    handles: list[bytes]
+    wanted: list[list[Row]] = field(default_factory=list)  # of each endpoint
+    given: list[list[Row]] = field(default_factory=list)
+
+
+class Case:
+    """A database, its queries, and the calls and the script that say both."""
+
+    def __init__(self, seed: int, plain: bool):
+        self.random, self.seed, self.plain = Random(seed), seed, plain
+        self.parts, self.version, self.database = self.random.randint(1, 3), 0, {}
+        self.most = 200 if self.random.random() < 0.1 else 12  # rows of a table
+        self.values = Values(self.random, self.most > 12)
+        self.calls: list[bytes] = []
+        self.counts: list[tuple[int | None, Asked | None]] = []  # of each call, its put's rows or its query
+        self.script = [".bail on", ".mode json"]
+        self.asked: list[Asked] = []
+        self.now: Asked | None = None  # the query whose answers are looked at
+        for name in self.random.sample(TABLES, self.random.randint(1, 4)):
+            self.put(name, self.columns())
+        for _ in range(self.random.randint(2, 4)):
+            for _ in range(self.random.randint(1, 3)):
+                self.ask()
+            name = self.random.choice(list(self.database))
+            self.put(name, self.columns() if self.random.random() < 0.2 else None)
+        self.fetches = [(asked, number) for asked in self.asked for number in range(len(asked.handles))]
+        self.random.shuffle(self.fetches)
+        for asked, number in self.fetches:
+            self.calls.append(wire.call(b"DoGet", [wire.ticket(asked.handles[number])]))
+
+    def columns(self) -> tuple[Column, ...]:
+        names = self.random.sample(COLUMNS, self.random.randint(1, 4))
+        return tuple(Column(name, self.random.choice(list(TREES)), self.random.random() < 0.7) for name in names)
+
+    def put(self, name: str, columns: tuple[Column, ...] | None) -> None:
+        """A put of new columns, in place of a table that is there; without them, of more rows."""
+        there = "APPEND" if columns is None else "REPLACE"
+        columns, nulls = columns or self.database[name].columns, self.random.choice([0, 0.1, 0.4])
+        old = len(self.database[name].rows) if there == "APPEND" else 0
+        rows = [tuple(None if column.nullable and self.random.random() < nulls else self.values.value(column.type)
+                      for column in columns) for _ in range(self.random.choice(COUNTS) * self.most // 12)][: self.most - old]
+        put = Put(name, "CREATE", there, Table(columns, rows))
+        stream, _ = stream_of(self.random, put)
+        self.calls.append(wire.call(b"DoPut", messages_of(self.random, ingest(self.random, put, b""), stream)))
+        self.counts.append((len(rows), None))
+        self.tell_sqlite(put)
+        self.database, self.version = after(self.database, put), self.version + 1
+
+    def tell_sqlite(self, put: Put) -> None:
+        """The put as statements of sqlite3."""
+        name = joined.sqlite_name(put.name)
+        if put.if_there == "REPLACE":
+            kinds = [f"{joined.sqlite_name(column.name)} {'TEXT' if class_of(column.type) == 'text' else 'INTEGER'}"
+                     for column in put.table.columns]
+            self.script += [f"DROP TABLE IF EXISTS {name};", f"CREATE TABLE {name} ({', '.join(kinds)});"]
+        for row in put.table.rows:
+            self.script.append(f"INSERT INTO {name} VALUES ({', '.join(map(joined.sqlite_value, row))});")
+
+    def ask(self) -> None:
+        """An info of a query, where one was found that binds and is short enough."""
+        places = [1] if self.plain else [1, 1, 2] if self.most > 12 else [1, 1, 1, 2, 2, 2, 3, 4]
+        query = Joiner(self.random, self.database, self.values, places).joined_query()
+        text = JoinSpeller(self.random).joined_query(query) if query else ""
+        if query is None or len(text.encode()) > joined.LONGEST_TEXT:
+            return
+        rows = len(self.database[query.places[0].table].rows)
+        ranges = [(0, rows)] if query.grouped else split(rows, self.parts)
+        handles = [wire.query_handle(self.version, first, end, text.encode()) for first, end in ranges]
+        asked = Asked(query, text, self.database, ranges, handles, [[] for _ in handles], [[] for _ in handles])
+        command = wire.descriptor(wire.packed(b"CommandStatementQuery", wire.chunk(1, text.encode())))
+        self.calls.append(wire.call(b"GetFlightInfo", [command]))
+        self.counts.append((None, asked))
+        self.asked.append(asked)
+        self.script += [joined.sqlite_query(query), f".print {MARK}"]
+
+
+# ---- runs
+
+
+def run(command: list[str], given: bytes) -> bytes:
+    """What a program writes, which has to end with 0 and say nothing else."""
+    done = subprocess.run(command, input=given, capture_output=True, timeout=SECONDS)
+    same(f"the exit status and standard error of {command[0]}", (0, b""), (done.returncode, done.stderr))
+    return done.stdout
+
+
+def sqlite_answers(case: Case) -> list[list[Row]]:
+    """The rows that sqlite3 gives to each query, with their last column. It prints nothing where there are none."""
+    answers, lines = [], []
+    for line in run(["sqlite3", ":memory:"], "\n".join([*case.script, ""]).encode()).decode().split("\n"):
+        if line == MARK:
+            rows = json.loads("".join(lines) or "[]")
+            answers.append([tuple(row.values()) for row in rows])
+            lines = []
+        else:
+            lines.append(line)
+    return answers
+
+
+def look_at_info(asked: Asked, answer: wire.Answer) -> list[Column]:
+    """The tickets of an info, compared, and its schema."""
+    parts = wire.fields(only_message(answer))
+    tickets = [wire.one_field(content, 1) for number, content in parts if number == 3]
+    handles = [wire.handle_parts(wire.handle_of(ticket)) for ticket in tickets]
+    same("the handles of the info", [*map(wire.handle_parts, asked.handles)], handles)
+    same("the tickets of the info", [*map(wire.ticket, asked.handles)], tickets)
+    reader = Reader()
+    reader.message(wire.schema_header(parts[0][1]), b"")
+    return columns_of(reader)
+
+
+def stream_of_fetch(answer: wire.Answer) -> tuple[list[Column], list[Row]]:
+    """The schema and the rows of a fetch."""
+    same("the status", (0, ""), (answer.code, answer.text))
+    reader = Reader()
+    for message in answer.messages:
+        _, contents = zip(*wire.fields(message))
+        reader.message(contents[0], b"".join(contents[1:]))
+    same("a schema is there", True, reader.fields is not None)
+    return columns_of(reader), [tuple(row) for row in reader.total]
+
+
+def pipe_answers(path: str, case: Case) -> None:
+    """Looks at the answers of `pipe`. A query's rows are those of its endpoints, joined in their order."""
+    source = wire.Bytes(run([path, "pipe", "--parts", str(case.parts)], b"".join(case.calls)))
+    schemas: dict[int, list[Column]] = {}
+    for rows, asked in case.counts:
+        if asked is None:
+            PutCount(rows).look(wire.answer(source))
+        else:
+            case.now = asked
+            schemas[id(asked)] = look_at_info(asked, wire.answer(source))
+    for asked, number in case.fetches:
+        case.now = asked
+        columns, asked.given[number] = stream_of_fetch(wire.answer(source))
+        same("the schema of a stream and that of its info", schemas[id(asked)], columns)
+    same("the bytes behind the last answer", 0, len(source.data) - source.place)
+
+
+def of_endpoints(asked: Asked, rows: list[Row]) -> list[list[Row]]:
+    """The rows of sqlite3 for each endpoint, by their last column. Groups have one endpoint."""
+    if asked.query.grouped:
+        return [[row[:-1] for row in rows]]
+    return [[row[:-1] for row in rows if first < row[-1] <= end] for first, end in asked.ranges]
+
+
+def compare(case: Case, path: str | None) -> None:
+    """Compares all answers of a case: of `pipe`, or of the plain model, with those of sqlite3."""
+    answers = sqlite_answers(case)
+    same("the number of answers of sqlite3", len(case.asked), len(answers))
+    for asked, rows in zip(case.asked, answers):
+        asked.wanted = of_endpoints(asked, rows)
+        same("the rows of all endpoints of sqlite3", len(rows), sum(map(len, asked.wanted)))
+    if path:
+        pipe_answers(path, case)
+    else:
+        for asked in case.asked:
+            asked.given = [query_rows(asked.query, asked.database, first, end) for first, end in asked.ranges]
+    for case.now in case.asked:
+        for number, (wanted, given) in enumerate(zip(case.now.wanted, case.now.given, strict=True)):
+            same(f"the rows of endpoint {number}, wanted as sqlite3 gives them", wanted, given)
+
+
+def tell(case: Case, difference: str, switches: list[str]) -> None:
+    """Prints a difference with the query, the tables and how to run it again."""
+    print(f"seed {case.seed}, {case.parts} parts: {difference}")
+    asked = case.now
+    if asked is not None:
+        for name in dict.fromkeys(place.table for place in asked.query.places):
+            table = asked.database[name]
+            columns = ", ".join(f"{one.name!r} {one.type}{' or null' * one.nullable}" for one in table.columns)
+            print(f"table {name!r} of {columns}", *table.rows, sep="\n  ")
+        print("rows of its endpoints:", asked.ranges)
+        print(f"ours:    {asked.text}", *asked.given, sep="\n  ")
+        print(f"sqlite3: {joined.sqlite_query(asked.query)}", *asked.wanted, sep="\n  ")
+    print(" ".join(["again: python3 scripts/sqlite_answers.py --count 1 --seed", str(case.seed), *switches]))
+
+
+def count(case: Case, counts: collections.Counter) -> None:
+    """Adds a case that went well to the counts."""
+    for asked in case.asked:
+        kind = "groups" if asked.query.grouped else f"places: {len(asked.query.places)}"
+        counts[kind] += 1
+        counts[kind, "rows"] += sum(map(len, asked.given))
+        counts[kind, "none"] += not any(asked.given)
+        counts["endpoints"] += len(asked.handles)
+
+
+def options() -> argparse.Namespace:
+    parser = argparse.ArgumentParser(description=__doc__, formatter_class=argparse.RawDescriptionHelpFormatter)
+    parser.add_argument("--count", type=int, default=2000, help="how many databases (2000)")
+    parser.add_argument("--seed", type=int, default=1, help="the seed of the first (1)")
+    parser.add_argument("--program", help="the built program (that of the repository)")
+    parser.add_argument("--plain", action="store_true", help="ask no joins and no groups")
+    parser.add_argument("--without-program", action="store_true", help="compare sqlite3 with the plain model")
+    return parser.parse_args()
+
+
+def main() -> int:
+    words, counts = options(), collections.Counter()
+    path = None if words.without_program else program(words.program)
+    switches = ["--plain"] * words.plain + ["--without-program"] * words.without_program
+    for seed in range(words.seed, words.seed + words.count):
+        case = Case(seed, words.plain)
+        try:
+            compare(case, path)
+            count(case, counts)
+        except (Difference, wire.Unreadable, Fault, ValueError, IndexError, subprocess.TimeoutExpired) as found:
+            tell(case, str(found) if isinstance(found, Difference) else repr(found), switches)
+            return 1
+    print(f"{words.count} databases, and no difference; {counts['endpoints']} endpoints")
+    for kind in ["groups", *(f"places: {number}" for number in range(1, 5))]:
+        print(f"{counts[kind]:7} queries of {kind}, {counts[kind, 'none']} without rows; {counts[kind, 'rows']} rows")
+    return 0
+
+
+if __name__ == "__main__":
+    sys.exit(main())
