@@ -1,4 +1,7 @@
 pub mod Calls
+pub mod Counts
+pub mod Seats
+pub mod Reacts
 pub mod Owed
 pub mod Ending
 pub mod Requests
