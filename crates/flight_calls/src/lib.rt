@@ -11,6 +11,7 @@ pub mod laws;
 mod request;
 mod server;
 mod setting;
+mod step;
 
 pub use crate::backend::{Alone, Backend};
 pub use crate::server::{serve, serve_alone};
