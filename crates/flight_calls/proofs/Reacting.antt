@@ -1,6 +1,6 @@
 -- Steps over a backend.
 use Rattle.std.proofs.Common.{◌≡◌, ◌≢◌, ◌<◌, ◌+◌, ℕ, List, [], ◌∷◌, ◌++◌, length, Option, Some, None, Result, Ok, Err, refl, sym, ap, subst, ◌∙◌, append-nil, inl, inr, arith}
-use Rattle.std.specs.Prelude.{IfErr, IsOk, ◌⊎◌}
+use Rattle.std.specs.Prelude.{IfErr, IsOk}
 use Rattle.scan_base.specs.declared.fault.Fault.{Fault}
 use Rattle.scan_base.specs.declared.fault.Fault.TheVariants.{OutOfMemory}
 use Rattle.table_versions.specs.Database.{Put, after, database_of}
@@ -15,7 +15,10 @@ use Rattle.flight_core.specs.Machine.{PutStep, StepOn}
 use Rattle.flight_core.proofs.Replies.{accepted_reply, refused_reply, unread_reply}
 use Rattle.flight_calls.specs.declared.answer.Answer.{Answer}
 use Rattle.flight_calls.specs.declared.answer.Answer.TheVariants.{Whole, Stream}
-use Rattle.flight_calls.specs.Calls.{ReplyTo}
+use Rattle.flight_calls.specs.declared.request.Single.{Single}
+use Rattle.flight_calls.specs.declared.setting.Options.{Options}
+use Rattle.flight_calls.specs.Calls.{ReplyTo, asked_with}
+use Rattle.flight_calls.specs.Requests.{IsRefused}
 use Rattle.flight_calls.specs.Seats.{Seat, seat_of, Moves, Keeps, LooksOnce, Puts, PutsAt, alone}
 use Rattle.flight_calls.specs.Reacts.{StartsAt, Looks, AddsTo, Goes, HasLooked, Reacts}
 use Rattle.flight_calls.specs.Answered.{AnsweredBy, IsBegun, IsReplyOf, ReactsBy}
@@ -90,6 +93,17 @@ one_more_look old new once = omega (arith, once)
 pub held : (moves : Moves) (asked : Result Asked Fault) (old new : Seat) (reply : ReplyAt) → Reacts moves asked old reply new → ReactsBy moves asked old (Whole reply) new
 held moves asked old new reply r = record { log = r.log; after = r.after; answered = r.step; goes = r.goes; looked = r.looked }
 
+-- a call that is refused before it comes to the core
+pub unasked : (moves : Moves) → ((s : Seat) → moves s s.log s.log s) → (s : Seat) (fault : Fault) → ReactsBy moves (Err fault) s (Whole (refusal fault)) s
+unasked moves stays s fault = held moves (Err fault) s s (refusal fault) (reacts_unseen moves stays (Err fault) s (refusal fault) (refl, refl) (λ looks. looks))
+
+-- a message that is refused before it is read
+pub settled : (moves : Moves) → ((s : Seat) → moves s s.log s.log s) → (s : Seat) (options : Options) (one : Single) (message : Payload) (fault : Fault) → IsRefused one message fault
+    → ReactsBy moves (asked_with options one message) s (Whole (refusal fault)) s
+settled moves stays s options one message fault is =
+    held moves (asked_with options one message) s s (refusal fault)
+    (reacts_unseen moves stays (asked_with options one message) s (refusal fault) (is.0 options s.log) (is.1 options))
+
 -- an answer that is written
 pub written : (moves : Moves) (asked : Result Asked Fault) (old new : Seat) (answer : Answer) (reply : ReplyAt) (r : ReactsBy moves asked old answer new)
     → ReplyTo asked r.log reply r.after → IsReplyOf answer reply → Reacts moves asked old reply new
@@ -117,7 +131,7 @@ put_tired moves stays s payloads made said =
     (refl, refl, refused_reply s.log payloads made OutOfMemory said (λ other. absurd (other refl))) (looks_not payloads)
 
 said_ok : (payloads : List Payload) (made : Put) → put_said payloads ≡ Ok made → IsOk (put_said payloads)
-said_ok payloads made said = rw said tt
+said_ok payloads made said = rw said refl
 
 -- the backend made it
 pub put_made : (moves : Moves) (old new : Seat) (payloads : List Payload) (made : Put) (reply : ReplyAt) (p : Puts moves (Ok tt) old made new) → put_said payloads ≡ Ok made

@@ -140,7 +140,8 @@ impl Alone {
 }
 
 impl Backend for Alone {
-    ghost use Rattle.std.specs.Prelude.{refl, ◌∙◌};
+    ghost use Rattle.std.specs.Prelude.{refl};
+    ghost use Rattle.std.proofs.Common.{◌∙◌};
     ghost use Rattle.flight_calls.specs.Seats.{alone};
 
     ghost seat = { λ a. a };
