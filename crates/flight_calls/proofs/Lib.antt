@@ -9,3 +9,4 @@ pub mod Looking
 pub mod Serving
 pub mod Telling
 pub mod Running
+pub mod Making
