@@ -1,2 +1,3 @@
 pub mod Parts
 pub mod Escapes
+pub mod Lined

@@ -1,10 +1,10 @@
 -- What is sent item by item.
-use Rattle.std.proofs.Common.{◌≡◌, ℕ, ◌+◌, ◌<◌, List, [], ◌∷◌, ◌++◌, length, take, drop, get_or, Option, sym, ap, subst, ◌∙◌, append_assoc, append-nil}
+use Rattle.std.proofs.Common.{◌≡◌, ℕ, ◌+◌, ◌<◌, List, [], ◌∷◌, ◌++◌, length, take, drop, get_or, take_all, Option, Result, sym, ap, subst, ◌∙◌, append_assoc, append-nil}
 use Rattle.std.specs.List.{flat_map}
 use Rattle.std.proofs.lemmas.Grind.{flat_map-append}
 use Rattle.std.proofs.lemmas.List.{take-append-drop, take_more, drop_more}
-use Rattle.grpc_frame.specs.Sending.{Sent, NotSent}
-use Rattle.grpc_frame.proofs.Sending.{gathered, head_not_sent, both_sent, second_not_sent}
+use Rattle.grpc_frame.specs.Sending.{Sent, NotSent, Sends}
+use Rattle.grpc_frame.proofs.Sending.{gathered, head_not_sent, both_sent, second_not_sent, sent_behind}
 
 -- nothing was sent yet
 pub none_sent : (a : Option (List ℕ)) (before : List ℕ) → Sent a a before before []
@@ -70,3 +70,13 @@ item_not_sent f a b c before mid after front back items i x inside is sent faile
         ∙ sym (append_assoc front head (f x ++ (rest ++ back))) in
     subst (NotSent a c before after) (sym whole)
     (second_not_sent a b c before mid after (front ++ head) (f x ++ (rest ++ back)) sent (head_not_sent b c mid after (f x) (rest ++ back) failed))
+
+-- all items were sent, and then what stands behind them, or not
+pub back_sent : {X Y E : Type 0} (f : X → List ℕ) (r : Result Y E) (a b c : Option (List ℕ)) (before mid after front back : List ℕ) (items : List X) (i : ℕ)
+    → length items ≤ i
+    → Sent a b before mid (front ++ flat_map f (take i items)) → Sends r b c mid after back
+    → Sends r a c before after (front ++ (flat_map f items ++ back))
+back_sent f r a b c before mid after front back items i all sent last =
+    let whole = subst (λ l. Sent a b before mid (front ++ flat_map f l)) (take_all i items all) sent in
+    subst (Sends r a c before after) (append_assoc front (flat_map f items) back)
+    (sent_behind r a b c before mid after (front ++ flat_map f items) back whole last)
