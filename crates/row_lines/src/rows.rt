@@ -65,9 +65,8 @@ fn send_batch<W: Output>(writer: &mut W, outbox: &mut Outbox, batch: &Batch) -> 
     ensures counted { CountsFailure result (W.failures writer.old) (W.failures writer.new) }
     ensures fault { FailsByTransport result }
 {
-    let columns = batch.columns();
     for place in 0..batch.rows() {
-        send_row(writer, outbox, columns, place)?;
+        send_row(writer, outbox, batch.columns(), place)?;
     }
     Ok(())
 }
