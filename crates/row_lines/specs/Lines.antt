@@ -50,7 +50,7 @@ next_cell cell = codes "\t" ++ cell
 -- cells in a line: a tab between each two, and LF behind the last
 abbrev pub line_of : List (List ℕ) → List ℕ
 line_of [] = codes "\n"
-line_of (cell ∷ cells) = cell ++ flat_map next_cell cells ++ codes "\n"
+line_of (cell ∷ cells) = cell ++ (flat_map next_cell cells ++ codes "\n")
 
 -- the line of the columns' names
 abbrev pub header_line : List Field → List ℕ

@@ -27,7 +27,7 @@ loop-at-preserved g c =
         count = rw w.writer-is (w.in_ok-send_both.ensures.counted ∙ was.count);
       }
       | in_default w ↦
-        let same : f byte ≡ byte ∷ [] = ? in
+        let same : f byte ≡ byte ∷ [] = w.in_default.ensures in
         record {
           sent = rw (w.writer-is, w.outbox-is, w.from-is) was.sent;
           plain = rw w.from-is (one_more_plain f text c.loop-at.from at was.within was.plain byte c.loop-at-test.true is same);
