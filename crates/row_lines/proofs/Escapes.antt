@@ -45,7 +45,7 @@ module _ (f : ℕ → List ℕ) (text : List ℕ) (from at : ℕ) (ordered : fro
         let there : at - from < length (drop from text) = rw (length-drop from text) (omega arith) in
         let place : from + (at - from) ≡ at = omega arith in
         let read : get_or (drop from text) (at - from) byte ≡ byte =
-            get_or-drop from text (at - from) byte ∙ ap (λ (n : ℕ). get_or text n byte) place ∙ sym is in
+        get_or-drop from text (at - from) byte ∙ ap (λ (n : ℕ). get_or text n byte) place ∙ sym is in
         ap (λ (n : ℕ). take n (drop from text)) next
         ∙ take_more (drop from text) (at - from) byte there
         ∙ ap (λ (b : ℕ). run text from at ++ b ∷ []) read
@@ -78,10 +78,10 @@ module _ (f : ℕ → List ℕ) (text : List ℕ) (from at : ℕ) (ordered : fro
           let rest = flat_map f (drop (at + 1) text) in
           let piece = run text from at in
           let bytes : flat_map f text ≡ front ++ ((piece ++ escape) ++ rest) =
-              items_split f text at byte inside is
-              ∙ ap (λ (l : List ℕ). l ++ (f byte ++ rest)) spelled_to
-              ∙ append_assoc front piece (f byte ++ rest)
-              ∙ ap (λ (l : List ℕ). front ++ l) (sym (append_assoc piece (f byte) rest))
-              ∙ ap (λ (l : List ℕ). front ++ ((piece ++ l) ++ rest)) spelled in
+          items_split f text at byte inside is
+          ∙ ap (λ (l : List ℕ). l ++ (f byte ++ rest)) spelled_to
+          ∙ append_assoc front piece (f byte ++ rest)
+          ∙ ap (λ (l : List ℕ). front ++ l) (sym (append_assoc piece (f byte) rest))
+          ∙ ap (λ (l : List ℕ). front ++ ((piece ++ l) ++ rest)) spelled in
           subst (NotSent a c before after) (sym bytes)
           (second_not_sent a b c before mid after front ((piece ++ escape) ++ rest) sent (head_not_sent b c mid after (piece ++ escape) rest failed))

@@ -72,11 +72,11 @@ item_not_sent f a b c before mid after front back line items i x whole inside is
     let head = flat_map f (take i items) in
     let rest = flat_map f (drop (i + 1) items) in
     let parts : line ≡ (front ++ head) ++ (f x ++ (rest ++ back)) =
-        whole
-        ∙ ap (λ (l : List ℕ). front ++ (l ++ back)) (items_split f items i x inside is)
-        ∙ ap (λ (l : List ℕ). front ++ l) (append_assoc head (f x ++ rest) back)
-        ∙ ap (λ (l : List ℕ). front ++ (head ++ l)) (append_assoc (f x) rest back)
-        ∙ sym (append_assoc front head (f x ++ (rest ++ back))) in
+    whole
+    ∙ ap (λ (l : List ℕ). front ++ (l ++ back)) (items_split f items i x inside is)
+    ∙ ap (λ (l : List ℕ). front ++ l) (append_assoc head (f x ++ rest) back)
+    ∙ ap (λ (l : List ℕ). front ++ (head ++ l)) (append_assoc (f x) rest back)
+    ∙ sym (append_assoc front head (f x ++ (rest ++ back))) in
     subst (NotSent a c before after) (sym parts)
     (second_not_sent a b c before mid after (front ++ head) (f x ++ (rest ++ back)) sent (head_not_sent b c mid after (f x) (rest ++ back) failed))
 

@@ -4,9 +4,8 @@ use Rattle.std.specs.Fmt.{digits}
 use Rattle.scan_base.specs.declared.value.Value.{Value}
 use Rattle.scan_base.specs.declared.value.Value.TheVariants.{Null, Bool as Flag, Int, Text}
 use Rattle.arrow_schema.specs.declared.data_type.DataType.TheVariants.{Utf8, Decimal128}
-use Rattle.arrow_schema.specs.declared.schema.Field.{Field}
 use Rattle.arrow_schema.specs.declared.schema.Schema.{Schema}
-use Rattle.row_lines.specs.Lines.{shown, escaped, line_of, row_line, lines_of, name_line}
+use Rattle.row_lines.specs.Lines.{shown, line_of, row_line, lines_of, name_line}
 
 -- ---- groups of a text, with their counts
 

@@ -1,4 +1,4 @@
-use Rattle.std.proofs.Common.{◌<◌, ◌≤◌, length, refl, rules, take_all, arith}
+use Rattle.std.proofs.Common.{◌<◌, ◌≤◌, refl, rules, take_all, arith}
 use Rattle.std.proofs.lemmas.Result.{err_from_is_err_and}
 use Rattle.arrays.specs.Batch.{row_of, rows_of}
 use Rattle.row_lines.specs.Lines.{row_line}

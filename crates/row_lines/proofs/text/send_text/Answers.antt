@@ -27,13 +27,13 @@ loop-at-preserved g c =
         count = rw w.writer-is (w.in_ok-send_both.ensures.counted ∙ was.count);
       }
       | in_default w ↦
-        let same : f byte ≡ byte ∷ [] = w.in_default.ensures in
-        record {
-          sent = rw (w.writer-is, w.outbox-is, w.from-is) was.sent;
-          plain = rw w.from-is (one_more_plain f text c.loop-at.from at was.within was.plain byte c.loop-at-test.true is same);
-          within = rw w.from-is (omega (arith, was.within));
-          count = rw w.writer-is was.count;
-        }
+          let same : f byte ≡ byte ∷ [] = w.in_default.ensures in
+          record {
+            sent = rw (w.writer-is, w.outbox-is, w.from-is) was.sent;
+            plain = rw w.from-is (one_more_plain f text c.loop-at.from at was.within was.plain byte c.loop-at-test.true is same);
+            within = rw w.from-is (omega (arith, was.within));
+            count = rw w.writer-is was.count;
+          }
     ]
 
 pub returns-in_err-send_both-clause-bytes : goal.returns-in_err-send_both-clause-bytes
