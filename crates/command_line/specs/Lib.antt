@@ -1,1 +1,3 @@
 pub mod Line
+pub mod Numbers
+pub mod Asked

@@ -6,6 +6,11 @@ ghost use Rattle.clap.specs.declared.builder.command.Command.TheViews.{out-Comma
 ghost use Rattle.clap.specs.Words.{app_of, fault_of, found_of, one_of, rows_of, rule_of, FailsBy};
 ghost use Rattle.command_line.specs.Line.{parts_rule, pipe, program, SaysParts, Asks};
 
+mod asked;
+mod commands;
+mod number;
+
+pub use crate::asked::{Mode, Request, Serving, read_request};
 use clap::builder::ValueParser;
 use clap::{Arg, ArgAction, ArgMatches, Command, Error};
 use std::alloc::{AllocError, Global};
