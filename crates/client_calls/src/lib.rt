@@ -1,0 +1,18 @@
+//! The calls of a client: what is written for each, and what its answer says.
+//!
+//! `specs/Calls.antt` and `specs/Commands.antt` say what is written, `specs/Answers.antt` what an answer is, and
+//! `specs/Outcome.antt` what became of a call.
+#![tactic(auto)]
+
+mod answer;
+mod call;
+mod failure;
+mod fetch;
+mod info;
+mod put;
+
+pub use crate::call::Method;
+pub use crate::failure::Failure;
+pub use crate::fetch::fetch;
+pub use crate::info::info;
+pub use crate::put::{Mode, Target, put};
