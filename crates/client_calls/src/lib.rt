@@ -5,14 +5,14 @@
 #![tactic(auto)]
 
 mod answer;
+mod asking;
 mod call;
 mod failure;
-mod fetch;
-mod info;
-mod put;
+mod fetching;
+mod putting;
 
 pub use crate::call::Method;
 pub use crate::failure::Failure;
-pub use crate::fetch::fetch;
-pub use crate::info::info;
-pub use crate::put::{Mode, Target, put};
+pub use crate::fetching::fetch;
+pub use crate::asking::info;
+pub use crate::putting::{Mode, Target, put};

@@ -12,7 +12,6 @@ use crate::failure::Failure;
 use bytes::Bytes;
 use flight_client::Stream;
 use grpc_frame::{Inbox, Input, Output};
-use scan_base::Fault;
 use std::alloc::{AllocError, Global};
 
 // The one message of a fetch, which is the ticket.
@@ -54,7 +53,7 @@ pub fn fetch<R: Input, W: Output>(
         (line_of (incoming_of (R.remaining reader.new) (R.failures reader.new) inbox.new)
         (outgoing_of (W.contents writer.new) (W.failures writer.new))) }
 {
-    let payloads = ticket_payload(alloc, ticket).map_err(Fault::from)?;
+    let payloads = ticket_payload(alloc, ticket)?;
     write_call(alloc, writer, Method::DoGet, &payloads)?;
     read_stream(alloc, inbox, reader)
 }

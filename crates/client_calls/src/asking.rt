@@ -68,7 +68,7 @@ pub fn info<R: Input, W: Output>(
         (line_of (incoming_of (R.remaining reader.new) (R.failures reader.new) inbox.new)
         (outgoing_of (W.contents writer.new) (W.failures writer.new))) }
 {
-    let payloads = wanted_payload(alloc, wanted).map_err(Fault::from)?;
+    let payloads = wanted_payload(alloc, wanted)?;
     write_call(alloc, writer, Method::GetFlightInfo, &payloads)?;
     let message = read_one(inbox, reader)?;
     Ok(read_endpoints(alloc, message.as_slice())?)

@@ -193,7 +193,7 @@ pub fn put<R: Input, W: Output>(
         (line_of (incoming_of (R.remaining reader.new) (R.failures reader.new) inbox.new)
         (outgoing_of (W.contents writer.new) (W.failures writer.new))) }
 {
-    let payloads = put_payloads(alloc, target, messages).map_err(Fault::from)?;
+    let payloads = put_payloads(alloc, target, messages)?;
     write_call(alloc, writer, Method::DoPut, &payloads)?;
     let message = read_one(inbox, reader)?;
     Ok(read_count(message.as_slice())?)
