@@ -1,0 +1,87 @@
+-- A call as it is sent.
+use Rattle.std.proofs.Common.{◌≡◌, ℕ, ◌+◌, ◌<◌, ◌≤◌, List, [], ◌∷◌, ◌++◌, length, map, take, drop, get_or, Option, sym, ap, subst, ◌∙◌, append_assoc, append-nil}
+use Rattle.std.specs.Prelude.{Result}
+use Rattle.std.specs.List.{flat_map}
+use Rattle.std.proofs.lemmas.Grind.{flat_map-append}
+use Rattle.std.proofs.lemmas.List.{map-append, take-append-drop, take_more, drop_more}
+use Rattle.grpc_frame.specs.declared.record.Record.TheVariants.{Open, Message, End}
+use Rattle.grpc_frame.specs.Records.{spelling}
+use Rattle.grpc_frame.specs.Sending.{Sent, NotSent, Sends}
+use Rattle.grpc_frame.proofs.Sending.{head_not_sent, both_sent, second_not_sent, sent_behind}
+use Rattle.flight_info.specs.Payloads.{Payload}
+use Rattle.client_calls.specs.declared.call.Method.{Method}
+use Rattle.client_calls.specs.Calls.{path_of, call_bytes}
+
+-- the bytes of messages
+abbrev pub messages_bytes : List Payload → List ℕ
+messages_bytes messages = flat_map spelling (map Message messages)
+
+-- the Open, and these messages behind it
+abbrev pub front_bytes : Method → List Payload → List ℕ
+front_bytes method messages = spelling (Open (path_of method)) ++ messages_bytes messages
+
+bytes_more : (messages : List Payload) (message : Payload) → messages_bytes (messages ++ message ∷ []) ≡ messages_bytes messages ++ spelling (Message message)
+bytes_more messages message =
+    ap (flat_map spelling) (map-append Message messages (message ∷ []))
+    ∙ flat_map-append spelling (map Message messages) (Message message ∷ [])
+    ∙ ap (λ l. messages_bytes messages ++ l) (append-nil (spelling (Message message)))
+
+-- a call is what stands before its End, and that
+end_last : (method : Method) (messages : List Payload) → call_bytes method messages ≡ front_bytes method messages ++ spelling End
+end_last method messages =
+    let open = spelling (Open (path_of method)) in
+    ap (λ l. open ++ l) (flat_map-append spelling (map Message messages) (End ∷ []) ∙ ap (λ l. messages_bytes messages ++ l) (append-nil (spelling End)))
+    ∙ sym (append_assoc open (messages_bytes messages) (spelling End))
+
+-- the Open was not sent
+pub open_not_sent : (a b : Option (List ℕ)) (before after : List ℕ) (method : Method) (messages : List Payload) → NotSent a b before after (spelling (Open (path_of method))) → NotSent a b before after (call_bytes method messages)
+open_not_sent a b before after method messages failed =
+    head_not_sent a b before after (spelling (Open (path_of method))) (flat_map spelling (map Message messages ++ End ∷ [])) failed
+
+-- it was
+pub open_sent : (a b : Option (List ℕ)) (before after : List ℕ) (method : Method) → Sent a b before after (spelling (Open (path_of method))) → Sent a b before after (front_bytes method [])
+open_sent a b before after method sent = subst (Sent a b before after) (sym (append-nil (spelling (Open (path_of method))))) sent
+
+-- one message more was sent
+pub message_sent : (a b c : Option (List ℕ)) (before mid after : List ℕ) (method : Method) (messages : List Payload) (i : ℕ) (message : Payload) → i < length messages → message ≡ get_or messages i message
+    → Sent a b before mid (front_bytes method (take i messages)) → Sent b c mid after (spelling (Message message)) → Sent a c before after (front_bytes method (take (i + 1) messages))
+message_sent a b c before mid after method messages i message inside is sent more =
+    subst (Sent a c before after) (sym bytes) (both_sent a b c before mid after (front_bytes method (take i messages)) (spelling (Message message)) sent more)
+  where
+    bytes : front_bytes method (take (i + 1) messages) ≡ front_bytes method (take i messages) ++ spelling (Message message)
+    bytes = ap (front_bytes method) (take_more messages i message inside ∙ ap (λ (m : Payload). take i messages ++ m ∷ []) (sym is))
+        ∙ ap (λ l. spelling (Open (path_of method)) ++ l) (bytes_more (take i messages) message)
+        ∙ sym (append_assoc (spelling (Open (path_of method))) (messages_bytes (take i messages)) (spelling (Message message)))
+
+-- or not
+pub message_not_sent : (a b c : Option (List ℕ)) (before mid after : List ℕ) (method : Method) (messages : List Payload) (i : ℕ) (message : Payload) → i < length messages → message ≡ get_or messages i message
+    → Sent a b before mid (front_bytes method (take i messages)) → NotSent b c mid after (spelling (Message message)) → NotSent a c before after (call_bytes method messages)
+message_not_sent a b c before mid after method messages i message inside is sent failed =
+    subst (NotSent a c before after) (sym whole)
+    (second_not_sent a b c before mid after (front_bytes method (take i messages)) (spelling (Message message) ++ behind) sent (head_not_sent b c mid after (spelling (Message message)) behind failed))
+  where
+    open : List ℕ
+    open = spelling (Open (path_of method))
+
+    behind : List ℕ
+    behind = flat_map spelling (map Message (drop (i + 1) messages) ++ End ∷ [])
+
+    parts : messages ≡ take i messages ++ (message ∷ drop (i + 1) messages)
+    parts = sym (take-append-drop i messages) ∙ ap (λ l. take i messages ++ l) (drop_more messages i message inside ∙ ap (λ (m : Payload). m ∷ drop (i + 1) messages) (sym is))
+
+    records : map Message messages ++ End ∷ [] ≡ map Message (take i messages) ++ (map Message (message ∷ drop (i + 1) messages) ++ End ∷ [])
+    records = ap (λ (l : List Payload). map Message l ++ End ∷ []) parts
+        ∙ ap (λ l. l ++ End ∷ []) (map-append Message (take i messages) (message ∷ drop (i + 1) messages))
+        ∙ append_assoc (map Message (take i messages)) (map Message (message ∷ drop (i + 1) messages)) (End ∷ [])
+
+    whole : call_bytes method messages ≡ front_bytes method (take i messages) ++ (spelling (Message message) ++ behind)
+    unfolding open behind
+    whole = ap (λ l. open ++ flat_map spelling l) records
+        ∙ ap (λ l. open ++ l) (flat_map-append spelling (map Message (take i messages)) (map Message (message ∷ drop (i + 1) messages) ++ End ∷ []))
+        ∙ sym (append_assoc open (messages_bytes (take i messages)) (spelling (Message message) ++ behind))
+
+-- the End was sent, or not
+pub end_sent : {A E : Type 0} (r : Result A E) (a b c : Option (List ℕ)) (before mid after : List ℕ) (method : Method) (messages : List Payload)
+    → Sent a b before mid (front_bytes method messages) → Sends r b c mid after (spelling End) → Sends r a c before after (call_bytes method messages)
+end_sent r a b c before mid after method messages sent last =
+    rw (end_last method messages) (sent_behind r a b c before mid after (front_bytes method messages) (spelling End) sent last)
