@@ -1,2 +1,4 @@
 pub mod Taking
+pub mod Ones
 pub mod Sending
+pub mod Calling

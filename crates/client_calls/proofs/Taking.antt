@@ -17,7 +17,7 @@ use Rattle.grpc_frame.specs.Arrivals.{Arrives, IsReason, CountsTransport}
 use Rattle.flight_info.specs.Payloads.{Payload}
 use Rattle.flight_client.specs.Status.{StatusSays}
 use Rattle.client_calls.specs.declared.answer.Arrival.TheVariants as arrival
-use Rattle.client_calls.specs.Answers.{Incoming, Fronts, AnswerIs, Quiet, NoMore, Stops}
+use Rattle.client_calls.specs.Answers.{Fronts, AnswerIs, NoMore, Stops, IsAnswered}
 use Rattle.client_calls.specs.Outcome.{incoming_of}
 use Rattle.client_calls.specs.inside.Arriving.{ArrivesAs}
 
@@ -177,3 +177,15 @@ module _ (a b c : Option (List ℕ)) (x y z : ℕ) (old mid new : Received) (mes
       by (inl e) = inl (e.0, record { messages = messages; rest = with_more mid q.0; fronts = stand q.0; is_cut = e.1 }, no_more e.2)
       by (inr (inl breaks, quiet)) = inr (inl (record { messages = messages; rest = with_more mid q.0; fronts = stand q.0; breaks = breaks }), quiet ∙ same)
       by (inr (inr memory, quiet)) = inr (inr memory, quiet ∙ same)
+
+  -- the server's fault
+  pub answered : (fault : Fault) → Since (Ok (arrival.End (Err fault)))
+      → (came : List ℕ) × Consumes a c came × IsAnswered fault (incoming_of a x old) (incoming_of c z new) (with_more old came)
+  answered fault q = let e = taken_end (Err fault) q in (e.0, e.1, (messages, e.2))
+
+  -- status 0
+  pub finished : Since (Ok (arrival.End (Ok tt)))
+      → (came : List ℕ) × Consumes a c came × ((text : List ℕ) × AnswerIs messages 0 text (with_more old came) new × (z ≡ x))
+  finished q =
+      let e = taken_end (Ok tt) q in
+      (e.0, e.1, (e.2.1, subst (λ (code : ℕ). AnswerIs messages code e.2.1 (with_more old e.0) new) e.2.2.1 e.2.2.0, e.2.2.2))
