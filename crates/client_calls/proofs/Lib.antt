@@ -1,4 +1,5 @@
 pub mod Taking
 pub mod Ones
+pub mod Streams
 pub mod Sending
 pub mod Calling

@@ -1,16 +1,21 @@
 -- A call as it is sent.
-use Rattle.std.proofs.Common.{◌≡◌, ℕ, ◌+◌, ◌<◌, ◌≤◌, List, [], ◌∷◌, ◌++◌, length, map, take, drop, get_or, Option, sym, ap, subst, ◌∙◌, append_assoc, append-nil}
+use Rattle.std.proofs.Common.{◌≡◌, ℕ, ◌+◌, ◌<◌, ◌≤◌, List, [], ◌∷◌, ◌++◌, length, map, take, drop, get_or, Option, Ok, Err, inl, sym, ap, subst, ◌∙◌, append_assoc, append-nil}
 use Rattle.std.specs.Prelude.{Result}
 use Rattle.std.specs.List.{flat_map}
 use Rattle.std.proofs.lemmas.Grind.{flat_map-append}
 use Rattle.std.proofs.lemmas.List.{map-append, take-append-drop, take_more, drop_more}
+use Rattle.std.proofs.lemmas.List.Elements.{All-append, All-cons, All-nil, All-get_or}
+use Rattle.scan_base.specs.declared.fault.Fault.{Fault}
+use Rattle.scan_base.specs.Limits.{most_message_bytes}
 use Rattle.grpc_frame.specs.declared.record.Record.TheVariants.{Open, Message, End}
 use Rattle.grpc_frame.specs.Records.{spelling}
 use Rattle.grpc_frame.specs.Sending.{Sent, NotSent, Sends}
-use Rattle.grpc_frame.proofs.Sending.{head_not_sent, both_sent, second_not_sent, sent_behind}
+use Rattle.grpc_frame.specs.Ends.{CountsFailure, FailsByTransport, Writes}
+use Rattle.grpc_frame.proofs.Sending.{head_not_sent, both_sent, second_not_sent, sent_behind, flushed, begun_alone}
 use Rattle.flight_info.specs.Payloads.{Payload}
 use Rattle.client_calls.specs.declared.call.Method.{Method}
-use Rattle.client_calls.specs.Calls.{path_of, call_bytes}
+use Rattle.client_calls.specs.Calls.{path_of, call_bytes, Fit}
+use Rattle.client_calls.specs.Outcome.{WritesCall, outgoing_of}
 
 -- the bytes of messages
 abbrev pub messages_bytes : List Payload → List ℕ
@@ -85,3 +90,36 @@ pub end_sent : {A E : Type 0} (r : Result A E) (a b c : Option (List ℕ)) (befo
     → Sent a b before mid (front_bytes method messages) → Sends r b c mid after (spelling End) → Sends r a c before after (call_bytes method messages)
 end_sent r a b c before mid after method messages sent last =
     rw (end_last method messages) (sent_behind r a b c before mid after (front_bytes method messages) (spelling End) sent last)
+
+-- ---- and as it is written
+
+-- a write failed before all was sent
+pub not_sent : (fault : Fault) (a b : Option (List ℕ)) (x y : ℕ) (before after : List ℕ) (method : Method) (messages : List Payload) → Fit messages → before ≡ [] → NotSent a b before after (call_bytes method messages)
+    → CountsFailure {Unit {0}} (Err fault) x y → FailsByTransport {Unit {0}} (Err fault) → WritesCall (Err fault) method messages (outgoing_of a x) (outgoing_of b y)
+not_sent fault a b x y before after method messages fit none failed counted kind =
+    inl (kind, record { fit = fit; wrote = begun_alone a b before after (call_bytes method messages) none failed; counted = counted })
+
+-- all was sent, and then what was gathered was written, or not
+pub sent_written : (r : Result (Unit {0}) Fault) (a b c : Option (List ℕ)) (x y z : ℕ) (before mid : List ℕ) (method : Method) (messages : List Payload) → Fit messages → before ≡ [] → Sent a b before mid (call_bytes method messages) → y ≡ x
+    → Writes r b c mid → CountsFailure r y z → FailsByTransport r → WritesCall r method messages (outgoing_of a x) (outgoing_of c z)
+sent_written (Ok tt) a b c x y z before mid method messages fit none sent same wrote counted kind =
+    record { fit = fit; wrote = flushed (Ok {Unit {0}} {Fault} tt) a b c before mid (call_bytes method messages) none sent wrote; quiet = counted ∙ same }
+sent_written (Err fault) a b c x y z before mid method messages fit none sent same wrote counted kind =
+    inl (kind, record { fit = fit; wrote = flushed (Err {Unit {0}} fault) a b c before mid (call_bytes method messages) none sent wrote; counted = rw same at counted })
+
+-- ---- messages that fit
+
+-- one more
+pub one_fits : (messages : List Payload) (i : ℕ) (message : Payload) → i < length messages → message ≡ get_or messages i message → length message ≤ 16777216 → Fit (take i messages) → Fit (take (i + 1) messages)
+one_fits messages i message inside is short fit =
+    subst Fit (sym (take_more messages i message inside ∙ ap (λ (m : Payload). take i messages ++ m ∷ []) (sym is)))
+    (All-append (λ (m : Payload). length m ≤ most_message_bytes) (take i messages) (message ∷ []) fit (All-cons (λ (m : Payload). length m ≤ most_message_bytes) message [] short (All-nil (λ (m : Payload). length m ≤ most_message_bytes))))
+
+-- each does
+pub each_fits : (messages : List Payload) (i : ℕ) (message : Payload) → i < length messages → message ≡ get_or messages i message → Fit messages → length message ≤ 16777216
+each_fits messages i message inside is fit =
+    subst (λ (m : Payload). length m ≤ 16777216) (sym is) (All-get_or (λ (m : Payload). length m ≤ 16777216) messages i message inside fit)
+
+-- one does not
+pub not_fits : (messages : List Payload) (i : ℕ) (message : Payload) → i < length messages → message ≡ get_or messages i message → 16777216 < length message → ¬ Fit messages
+not_fits messages i message inside is long fit = let short = each_fits messages i message inside is fit in omega (long, short)
