@@ -1,0 +1,6 @@
+use Rattle.std.proofs.lemmas.Result.{err_from_is_err_and}
+use Rattle.client_calls.proofs.Taking.{next_message, next_status, next_open, next_end, next_none, next_stop}
+use Rattle.client_calls.proofs.answer.next_arrival.Goals as goal
+
+pub returns-in_err-next_from-clause-arrives : goal.returns-in_err-next_from-clause-arrives
+returns-in_err-next_from-clause-arrives g c = ?
