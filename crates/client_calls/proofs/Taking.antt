@@ -16,6 +16,7 @@ use Rattle.grpc_frame.specs.Records.{spelling, IsRecord, place_after, Received, 
 use Rattle.grpc_frame.specs.Arrivals.{Arrives, IsReason, CountsTransport}
 use Rattle.flight_info.specs.Payloads.{Payload}
 use Rattle.flight_client.specs.Status.{StatusSays}
+use Rattle.client_calls.specs.declared.answer.Arrival.{Arrival}
 use Rattle.client_calls.specs.declared.answer.Arrival.TheVariants as arrival
 use Rattle.client_calls.specs.Answers.{Fronts, AnswerIs, NoMore, Stops, IsAnswered}
 use Rattle.client_calls.specs.Outcome.{incoming_of}
@@ -79,7 +80,7 @@ module _ (a b : Option (List ℕ)) (failed failed' : ℕ) (old new : Received) (
   abbrev Next : Result (Option Record) Fault → Type 0
   Next result = (came : List ℕ) × Consumes a b came × Arrives result old new came
 
-  abbrev Gave : Result arrival.Arrival Fault → Type 0
+  abbrev Gave : Result Arrival Fault → Type 0
   Gave result = (came : List ℕ) × Consumes a b came × ArrivesAs result (incoming_of a failed old) (incoming_of b failed' new) (with_more old came)
 
   pub next_message : (message : Payload) → Next (Ok (Some (Message message))) → failed' ≡ failed → Gave (Ok (arrival.Message message))
@@ -126,7 +127,7 @@ taken_none source old place = record {
 }
 
 module _ (a b c : Option (List ℕ)) (x y z : ℕ) (old mid new : Received) (messages : List Payload) (p : Taken a b old mid messages) (same : y ≡ x) where
-  abbrev Since : Result arrival.Arrival Fault → Type 0
+  abbrev Since : Result Arrival Fault → Type 0
   Since result = (came : List ℕ) × Consumes b c came × ArrivesAs result (incoming_of b y mid) (incoming_of c z new) (with_more mid came)
 
   abbrev all_came : List ℕ → List ℕ
