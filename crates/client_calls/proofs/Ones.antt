@@ -72,17 +72,20 @@ module _ (a b c : Option (List ℕ)) (x y z : ℕ) (old mid new : Received) (pla
 
 -- ---- the message is read
 
+abbrev plain : Payload → Result Payload Fault
+plain message = Ok message
+
 module _ {A B : Type 0} (view : A → B) (read : Payload → Result B Fault) (old new : Incoming) (all : Received) where
   pub reads : (message : Payload) (x : A) → AnswersMessage (Ok message) old new all → read message ≡ Ok (view x) → AnswersOne view read (Ok x) old new all
   reads message x p is = (p.0, p.1, rw (same p.0 p.2) is)
     where
-      same : (other : Payload) → Ok {Payload} {Fault} other ≡ Ok message → other ≡ message
+      same : (other : Payload) → plain other ≡ plain message → other ≡ message
       same other e = cc
 
   pub does_not_read : (message : Payload) (fault : Fault) → AnswersMessage (Ok message) old new all → (fault ≢ OutOfMemory → read message ≡ Err fault) → AnswersOne view read (Err (Found fault)) old new all
   does_not_read message fault p is = inr (inr (p.0, p.1, rw (same p.0 p.2) is))
     where
-      same : (other : Payload) → Ok {Payload} {Fault} other ≡ Ok message → other ≡ message
+      same : (other : Payload) → plain other ≡ plain message → other ≡ message
       same other e = cc
 
   pub gives_none : (failure : Failure) → AnswersMessage (Err failure) old new all → AnswersOne view read (Err failure) old new all

@@ -95,7 +95,7 @@ end_sent r a b c before mid after method messages sent last =
 
 -- a write failed before all was sent
 pub not_sent : (fault : Fault) (a b : Option (List ℕ)) (x y : ℕ) (before after : List ℕ) (method : Method) (messages : List Payload) → Fit messages → before ≡ [] → NotSent a b before after (call_bytes method messages)
-    → CountsFailure {Unit {0}} (Err fault) x y → FailsByTransport {Unit {0}} (Err fault) → WritesCall (Err fault) method messages (outgoing_of a x) (outgoing_of b y)
+    → CountsFailure {A = Unit {0}} (Err fault) x y → FailsByTransport {A = Unit {0}} (Err fault) → WritesCall (Err fault) method messages (outgoing_of a x) (outgoing_of b y)
 not_sent fault a b x y before after method messages fit none failed counted kind =
     inl (kind, record { fit = fit; wrote = begun_alone a b before after (call_bytes method messages) none failed; counted = counted })
 
@@ -103,9 +103,9 @@ not_sent fault a b x y before after method messages fit none failed counted kind
 pub sent_written : (r : Result (Unit {0}) Fault) (a b c : Option (List ℕ)) (x y z : ℕ) (before mid : List ℕ) (method : Method) (messages : List Payload) → Fit messages → before ≡ [] → Sent a b before mid (call_bytes method messages) → y ≡ x
     → Writes r b c mid → CountsFailure r y z → FailsByTransport r → WritesCall r method messages (outgoing_of a x) (outgoing_of c z)
 sent_written (Ok tt) a b c x y z before mid method messages fit none sent same wrote counted kind =
-    record { fit = fit; wrote = flushed (Ok {Unit {0}} {Fault} tt) a b c before mid (call_bytes method messages) none sent wrote; quiet = counted ∙ same }
+    record { fit = fit; wrote = flushed {A = Unit {0}} {E = Fault} (Ok tt) a b c before mid (call_bytes method messages) none sent wrote; quiet = counted ∙ same }
 sent_written (Err fault) a b c x y z before mid method messages fit none sent same wrote counted kind =
-    inl (kind, record { fit = fit; wrote = flushed (Err {Unit {0}} fault) a b c before mid (call_bytes method messages) none sent wrote; counted = rw same at counted })
+    inl (kind, record { fit = fit; wrote = flushed {A = Unit {0}} {E = Fault} (Err fault) a b c before mid (call_bytes method messages) none sent wrote; counted = rw same at counted })
 
 -- ---- messages that fit
 

@@ -98,7 +98,7 @@ module _ (a b : Option (List ℕ)) (failed failed' : ℕ) (old new : Received) (
   pub next_none : Next (Ok None) → IsAtEnd b → failed' ≡ failed → Gave (Err Transport)
   next_none q at_end quiet = (q.0, q.1, inl (refl, subst IsCut q.2.0 q.2.1, inr (at_end, quiet)))
 
-  pub next_stop : (fault : Fault) → Next (Err fault) → CountsTransport {Option Record} (Err fault) failed failed' → Gave (Err fault)
+  pub next_stop : (fault : Fault) → Next (Err fault) → CountsTransport {A = Option Record} (Err fault) failed failed' → Gave (Err fault)
   next_stop fault q counted = (q.0, q.1, by (subst (IsReason fault) q.2.0 q.2.1))
     where
       no_memory : fault ≡ OutOfMemory → fault ≢ Transport
