@@ -30,7 +30,7 @@ module _ (a b : Option (List ℕ)) (x y : ℕ) (old mid : Received) (place : old
   first_stops fault q = let s = taken_stop a a b x x y old old mid [] (taken_none a old place) refl fault q in (s.0, s.1, inl s.2)
 
   pub first_ends : First (Ok (arrival.End (Ok tt))) → One (Err (Found BadProto))
-  first_ends q = let e = finished a a b x x y old old mid [] (taken_none a old place) refl q in (e.0, e.1, inr (inl (refl, inl (e.2.0, e.2.1.0), e.2.1.1)))
+  first_ends q = let e = finished a a b x x y old old mid [] (taken_none a old place) refl q in (e.0, e.1, inr (inl (refl, inl (e.2.0, e.2.1), e.2.2)))
 
   pub first_answers : (fault : Fault) → First (Ok (arrival.End (Err fault))) → One (Err (Answered fault))
   first_answers fault q = answered a a b x x y old old mid [] (taken_none a old place) refl fault q

@@ -34,9 +34,9 @@ bytes_more messages message =
 -- a call is what stands before its End, and that
 end_last : (method : Method) (messages : List Payload) → call_bytes method messages ≡ front_bytes method messages ++ spelling End
 end_last method messages =
-    let open = spelling (Open (path_of method)) in
-    ap (λ l. open ++ l) (flat_map-append spelling (map Message messages) (End ∷ []) ∙ ap (λ l. messages_bytes messages ++ l) (append-nil (spelling End)))
-    ∙ sym (append_assoc open (messages_bytes messages) (spelling End))
+    let opening = spelling (Open (path_of method)) in
+    ap (λ l. opening ++ l) (flat_map-append spelling (map Message messages) (End ∷ []) ∙ ap (λ l. messages_bytes messages ++ l) (append-nil (spelling End)))
+    ∙ sym (append_assoc opening (messages_bytes messages) (spelling End))
 
 -- the Open was not sent
 pub open_not_sent : (a b : Option (List ℕ)) (before after : List ℕ) (method : Method) (messages : List Payload) → NotSent a b before after (spelling (Open (path_of method))) → NotSent a b before after (call_bytes method messages)
@@ -65,8 +65,8 @@ message_not_sent a b c before mid after method messages i message inside is sent
     subst (NotSent a c before after) (sym whole)
     (second_not_sent a b c before mid after (front_bytes method (take i messages)) (spelling (Message message) ++ behind) sent (head_not_sent b c mid after (spelling (Message message)) behind failed))
   where
-    open : List ℕ
-    open = spelling (Open (path_of method))
+    opening : List ℕ
+    opening = spelling (Open (path_of method))
 
     behind : List ℕ
     behind = flat_map spelling (map Message (drop (i + 1) messages) ++ End ∷ [])
@@ -80,10 +80,10 @@ message_not_sent a b c before mid after method messages i message inside is sent
         ∙ append_assoc (map Message (take i messages)) (map Message (message ∷ drop (i + 1) messages)) (End ∷ [])
 
     whole : call_bytes method messages ≡ front_bytes method (take i messages) ++ (spelling (Message message) ++ behind)
-    unfolding open behind
-    whole = ap (λ l. open ++ flat_map spelling l) records
-        ∙ ap (λ l. open ++ l) (flat_map-append spelling (map Message (take i messages)) (map Message (message ∷ drop (i + 1) messages) ++ End ∷ []))
-        ∙ sym (append_assoc open (messages_bytes (take i messages)) (spelling (Message message) ++ behind))
+    unfolding opening behind
+    whole = ap (λ l. opening ++ flat_map spelling l) records
+        ∙ ap (λ l. opening ++ l) (flat_map-append spelling (map Message (take i messages)) (map Message (message ∷ drop (i + 1) messages) ++ End ∷ []))
+        ∙ sym (append_assoc opening (messages_bytes (take i messages)) (spelling (Message message) ++ behind))
 
 -- the End was sent, or not
 pub end_sent : {A E : Type 0} (r : Result A E) (a b c : Option (List ℕ)) (before mid after : List ℕ) (method : Method) (messages : List Payload)

@@ -50,11 +50,11 @@ module _ (a b c : Option (List ℕ)) (x y z : ℕ) (old mid new : Received) (pay
   pub stream_ends : (ended : StreamAt) → Since (Ok (arrival.End (Ok tt))) → Ends stream 0 [] ended → Gives (Ok ended)
   stream_ends ended q ends =
       let e = finished a b c x y z old mid new payloads p same q in
-      (e.0, e.1, record { payloads = payloads; text = e.2.0; is = e.2.1.0; came = still ends; ended = done ends; quiet = e.2.1.1 })
+      (e.0, e.1, record { payloads = payloads; text = e.2.0; is = e.2.1; came = still ends; ended = done ends; quiet = e.2.2 })
     where
       still : Ends stream 0 [] ended → Came payloads ended
       still (end, says, is) = rw is came
 
       done : Ends stream 0 [] ended → ended.end ≡ Some (Ok tt)
-      done (Ok tt, says, is) = ap (λ (s : StreamAt). s.end) is
+      done (Ok x, says, is) = ap (λ (s : StreamAt). s.end) is
       done (Err fault, says, is) = absurd (says.0 refl)

@@ -160,9 +160,9 @@ module _ (a b c : Option (List ℕ)) (x y z : ℕ) (old mid new : Received) (mes
     (
       q.2.0,
       q.2.1,
-      fronts_both (with_more old (all_came q.0)) (with_more mid q.0) new (map Message messages) (Status q.2.0 q.2.1 ∷ []) (stand q.0) q.2.2.1,
-      q.2.2.0,
-      q.2.2.2 ∙ same,
+      fronts_both (with_more old (all_came q.0)) (with_more mid q.0) new (map Message messages) (Status q.2.0 q.2.1 ∷ []) (stand q.0) q.2.3,
+      q.2.2,
+      q.2.4 ∙ same,
     ),
   )
 
@@ -182,11 +182,11 @@ module _ (a b c : Option (List ℕ)) (x y z : ℕ) (old mid new : Received) (mes
   -- the server's fault
   pub answered : (fault : Fault) → Since (Ok (arrival.End (Err fault)))
       → (came : List ℕ) × Consumes a c came × IsAnswered fault (incoming_of a x old) (incoming_of c z new) (with_more old came)
-  answered fault q = let e = taken_end (Err fault) q in (e.0, e.1, (messages, e.2))
+  answered fault q = let e = taken_end (Err fault) q in (e.0, e.1, (messages, e.2.0, e.2.1, e.2.2, e.2.3, e.2.4))
 
   -- status 0
   pub finished : Since (Ok (arrival.End (Ok tt)))
       → (came : List ℕ) × Consumes a c came × ((text : List ℕ) × AnswerIs messages 0 text (with_more old came) new × (z ≡ x))
   finished q =
       let e = taken_end (Ok tt) q in
-      (e.0, e.1, (e.2.1, subst (λ (code : ℕ). AnswerIs messages code e.2.1 (with_more old e.0) new) e.2.2.1 e.2.2.0, e.2.2.2))
+      (e.0, e.1, (e.2.1, subst (λ (code : ℕ). AnswerIs messages code e.2.1 (with_more old e.0) new) e.2.3 e.2.2, e.2.4))
