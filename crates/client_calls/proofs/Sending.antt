@@ -58,19 +58,18 @@ message_sent a b c before mid after method messages i message inside is sent mor
         ∙ ap (λ l. spelling (Open (path_of method)) ++ l) (bytes_more (take i messages) message)
         ∙ sym (append_assoc (spelling (Open (path_of method))) (messages_bytes (take i messages)) (spelling (Message message)))
 
+-- what stands behind a message
+abbrev behind_bytes : List Payload → ℕ → List ℕ
+behind_bytes messages i = flat_map spelling (map Message (drop (i + 1) messages) ++ End ∷ [])
+
 -- or not
 pub message_not_sent : (a b c : Option (List ℕ)) (before mid after : List ℕ) (method : Method) (messages : List Payload) (i : ℕ) (message : Payload) → i < length messages → message ≡ get_or messages i message
     → Sent a b before mid (front_bytes method (take i messages)) → NotSent b c mid after (spelling (Message message)) → NotSent a c before after (call_bytes method messages)
 message_not_sent a b c before mid after method messages i message inside is sent failed =
     subst (NotSent a c before after) (sym whole)
-    (second_not_sent a b c before mid after (front_bytes method (take i messages)) (spelling (Message message) ++ behind) sent (head_not_sent b c mid after (spelling (Message message)) behind failed))
+    (second_not_sent a b c before mid after (front_bytes method (take i messages)) (spelling (Message message) ++ behind_bytes messages i) sent
+    (head_not_sent b c mid after (spelling (Message message)) (behind_bytes messages i) failed))
   where
-    opening : List ℕ
-    opening = spelling (Open (path_of method))
-
-    behind : List ℕ
-    behind = flat_map spelling (map Message (drop (i + 1) messages) ++ End ∷ [])
-
     parts : messages ≡ take i messages ++ (message ∷ drop (i + 1) messages)
     parts = sym (take-append-drop i messages) ∙ ap (λ l. take i messages ++ l) (drop_more messages i message inside ∙ ap (λ (m : Payload). m ∷ drop (i + 1) messages) (sym is))
 
@@ -79,11 +78,10 @@ message_not_sent a b c before mid after method messages i message inside is sent
         ∙ ap (λ l. l ++ End ∷ []) (map-append Message (take i messages) (message ∷ drop (i + 1) messages))
         ∙ append_assoc (map Message (take i messages)) (map Message (message ∷ drop (i + 1) messages)) (End ∷ [])
 
-    whole : call_bytes method messages ≡ front_bytes method (take i messages) ++ (spelling (Message message) ++ behind)
-    unfolding opening behind
-    whole = ap (λ l. opening ++ flat_map spelling l) records
-        ∙ ap (λ l. opening ++ l) (flat_map-append spelling (map Message (take i messages)) (map Message (message ∷ drop (i + 1) messages) ++ End ∷ []))
-        ∙ sym (append_assoc opening (messages_bytes (take i messages)) (spelling (Message message) ++ behind))
+    whole : call_bytes method messages ≡ front_bytes method (take i messages) ++ (spelling (Message message) ++ behind_bytes messages i)
+    whole = ap (λ l. spelling (Open (path_of method)) ++ flat_map spelling l) records
+        ∙ ap (λ l. spelling (Open (path_of method)) ++ l) (flat_map-append spelling (map Message (take i messages)) (map Message (message ∷ drop (i + 1) messages) ++ End ∷ []))
+        ∙ sym (append_assoc (spelling (Open (path_of method))) (messages_bytes (take i messages)) (spelling (Message message) ++ behind_bytes messages i))
 
 -- the End was sent, or not
 pub end_sent : {A E : Type 0} (r : Result A E) (a b c : Option (List ℕ)) (before mid after : List ℕ) (method : Method) (messages : List Payload)
