@@ -1,5 +1,5 @@
 -- A call as it is sent.
-use Rattle.std.proofs.Common.{◌≡◌, ℕ, ◌+◌, ◌<◌, ◌≤◌, List, [], ◌∷◌, ◌++◌, length, map, take, drop, get_or, Option, Ok, Err, inl, sym, ap, subst, ◌∙◌, append_assoc, append-nil}
+use Rattle.std.proofs.Common.{◌≡◌, ℕ, ◌+◌, ◌<◌, ◌≤◌, List, [], ◌∷◌, ◌++◌, length, map, take, drop, get_or, Option, Ok, Err, inl, arith, sym, ap, subst, ◌∙◌, append_assoc, append-nil}
 use Rattle.std.specs.Prelude.{Result}
 use Rattle.std.specs.List.{flat_map}
 use Rattle.std.proofs.lemmas.Grind.{flat_map-append}
@@ -120,4 +120,4 @@ each_fits messages i message inside is fit =
 
 -- one does not
 pub not_fits : (messages : List Payload) (i : ℕ) (message : Payload) → i < length messages → message ≡ get_or messages i message → 16777216 < length message → ¬ Fit messages
-not_fits messages i message inside is long fit = let short = each_fits messages i message inside is fit in omega (long, short)
+not_fits messages i message inside is long fit = let short = each_fits messages i message inside is fit in omega (arith, long, short)
