@@ -51,7 +51,8 @@ fn next_arrival<R: Input>(inbox: &mut Inbox, reader: &mut R) -> Result<Arrival, 
     match inbox.next_from(reader)? {
         Some(Record::Message(message)) => Ok(Arrival::Message(message)),
         Some(Record::Status { code, text }) => Ok(Arrival::End(status_end(code, text.as_str()))),
-        Some(Record::Open(_) | Record::End) => Err(Fault::BadFrame),
+        Some(Record::Open(_)) => Err(Fault::BadFrame),
+        Some(Record::End) => Err(Fault::BadFrame),
         None => Err(Fault::Transport),
     }
 }

@@ -1,6 +1,5 @@
 use Rattle.std.proofs.lemmas.Result.{err_from_is_err_and}
 use Rattle.client_calls.proofs.Taking.{next_message, next_status, next_open, next_end, next_none, next_stop}
-use Rattle.client_calls.proofs.Sending.{not_sent}
 use Rattle.client_calls.proofs.answer.next_arrival.Goals as goal
 
 pub returns-in_err-message-clause-arrives : goal.returns-in_err-message-clause-arrives
@@ -9,13 +8,20 @@ returns-in_err-message-clause-arrives g c =
     rw (p.1, p.2) (next_stop _ _ _ _ _ _ c.requires.place c.in_err-message.field-0.0 c.in_err-message.ensures.arrives c.in_err-message.ensures.counted)
 
 pub returns-in-Some-Message-clause-arrives : goal.returns-in-Some-Message-clause-arrives
-returns-in-Some-Message-clause-arrives g c = ?
+returns-in-Some-Message-clause-arrives g c =
+    let arrived = rw (c.in-Some-Message.is, c.in-Some-Message.field-0-is) at c.in_ok-message.ensures.arrives in
+    next_message _ _ _ _ _ _ c.requires.place c.in-Some-Message.message arrived c.in_ok-message.ensures.counted
 
 pub returns-in-Some-Status-clause-arrives : goal.returns-in-Some-Status-clause-arrives
-returns-in-Some-Status-clause-arrives g c = ?
+returns-in-Some-Status-clause-arrives g c =
+    let arrived = rw (c.in-Some-Status.is, c.in-Some-Status.field-0-is) at c.in_ok-message.ensures.arrives in
+    next_status _ _ _ _ _ _ c.requires.place c.in-Some-Status.code c.in-Some-Status.text _ (rw c.as_str.ensures at c.status_end.ensures) arrived c.in_ok-message.ensures.counted
 
 pub returns-in-Some-Open-clause-arrives : goal.returns-in-Some-Open-clause-arrives
 returns-in-Some-Open-clause-arrives g c = ?
 
-pub returns-in-None-clause-arrives : goal.returns-in-None-clause-arrives
-returns-in-None-clause-arrives g c = ?
+pub returns-in-Some-End-clause-arrives : goal.returns-in-Some-End-clause-arrives
+returns-in-Some-End-clause-arrives g c = ?
+
+pub returns-clause-arrives : goal.returns-clause-arrives
+returns-clause-arrives g c = ?
