@@ -1,3 +1,4 @@
+use Rattle.std.proofs.Common.{refl}
 use Rattle.std.proofs.lemmas.Result.{err_from_is_err_and}
 use Rattle.client_calls.proofs.Taking.{next_message, next_status, next_open, next_end, next_none, next_stop}
 use Rattle.client_calls.proofs.answer.next_arrival.Goals as goal
@@ -18,10 +19,15 @@ returns-in-Some-Status-clause-arrives g c =
     next_status _ _ _ _ _ _ c.requires.place c.in-Some-Status.code c.in-Some-Status.text _ (rw c.as_str.ensures at c.status_end.ensures) arrived c.in_ok-message.ensures.counted
 
 pub returns-in-Some-Open-clause-arrives : goal.returns-in-Some-Open-clause-arrives
-returns-in-Some-Open-clause-arrives g c = ?
+returns-in-Some-Open-clause-arrives g c =
+    let arrived = rw (c.in-Some-Open.is, c.in-Some-Open.field-0-is) at c.in_ok-message.ensures.arrives in
+    absurd (next_open _ _ 0 0 _ _ c.requires.place _ arrived)
 
 pub returns-in-Some-End-clause-arrives : goal.returns-in-Some-End-clause-arrives
-returns-in-Some-End-clause-arrives g c = ?
+returns-in-Some-End-clause-arrives g c =
+    let arrived = rw (c.in-Some-End.is, c.in-Some-End.field-0-is) at c.in_ok-message.ensures.arrives in
+    absurd (next_end _ _ 0 0 _ _ c.requires.place arrived)
 
 pub returns-clause-arrives : goal.returns-clause-arrives
-returns-clause-arrives g c = ?
+returns-clause-arrives g c =
+    next_none _ _ _ _ _ _ c.requires.place (rw c.in-None.is at c.in_ok-message.ensures.arrives) ((rw c.in-None.is at c.in_ok-message.ensures.end) refl) c.in_ok-message.ensures.counted
