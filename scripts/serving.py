@@ -23,24 +23,28 @@ from random import Random
 
 sys.dont_write_bytecode = True
 ROOT = pathlib.Path(__file__).resolve().parent.parent
-sys.path += [str(ROOT / "vectors" / folder) for folder in ("arrow", "flight", "queries")]
+sys.path += [str(ROOT / "vectors" / folder) for folder in ("arrow", "flight", "queries", "streams")]
 
 import trees  # noqa: E402
 import wire  # noqa: E402
 from built import program  # noqa: E402
 from each_allocation import MADE, PUT_LENGTH  # noqa: E402
 from first_run import first_run  # noqa: E402
+from make import stored_messages  # noqa: E402  (that of vectors/streams)
+from trips import ROWS as TRIPS, STREAM  # noqa: E402
 from interleavings import Interleaving  # noqa: E402
 from layout import written  # noqa: E402
 from loopback import Connection, Server  # noqa: E402
 from random_calls.answers import Difference, FlightInfo, PutCount, Refusal, Rows, SchemaResult, Wanted, same  # noqa: E402
 from random_calls.plain_model import TABLE_COLUMNS, Column, Put, Row, Table  # noqa: E402
 from random_calls.puts import Stream, ingest, messages_of, past_the_text, stream_of  # noqa: E402
-from random_calls.refused import QUERY, TABLES, WITH_INFOS  # noqa: E402
+from random_calls.refused import INGEST, QUERY, TABLES, WITH_INFOS  # noqa: E402
 from reader import Fault  # noqa: E402
 
 FIRST_RUN = first_run()
 PUT, FETCH = FIRST_RUN[:PUT_LENGTH], FIRST_RUN[PUT_LENGTH:]
+PUT_MESSAGES = [PUT[51:250], PUT[256:406]]
+TICKET = FETCH[51:157]
 A, A_AND_S = (Column("a", "Int64", True),), (Column("a", "Int64", True), Column("s", "Utf8", True))
 DONE = b"\x04\0\0\0"
 MEGABYTE = 1_000_000
@@ -179,7 +183,7 @@ def exact_bytes(run: Run) -> None:
         connection.send(info_of("SELECT * FROM t"))
         info, asked = connection.answer().messages[0], descriptor_of("SELECT * FROM t")
         minus_one = b"\xff" * 9 + b"\x01"
-        end = b"\x12\x5c" + asked + b"\x1a\x6c\x0a\x6a" + FETCH[51:157] + b"\x20" + minus_one + b"\x28" + minus_one + b"\x30\x01"
+        end = b"\x12\x5c" + asked + b"\x1a\x6c\x0a\x6a" + TICKET + b"\x20" + minus_one + b"\x28" + minus_one + b"\x30\x01"
         same("an info", wire.chunk(1, wire.fields(info)[0][1]) + end, info)
 
 
@@ -294,8 +298,6 @@ def first_fault(run: Run) -> None:
         ask(connection, FETCH, rows_of(A, (1,), (2,)))
 
 
-PUT_MESSAGES = [PUT[51:250], PUT[256:406]]
-
 # ---- tables and versions
 
 
@@ -359,6 +361,36 @@ def list_of_tables(run: Run) -> None:
         ask(connection, wire.call(b"DoGet", [wire.ticket(wire.tables_handle(2))]), rows_of(TABLE_COLUMNS, *rows[1:3]))
 
 
+@case("groups, and a join in 2 parts: their rows in their order")
+def groups_and_joins(run: Run) -> None:
+    texts, pairs = (Column("s", "Utf8", True),), (Column("a", "Int64", True), Column("i", "Int64", True))
+    grouped, joined = "SELECT s, COUNT(*) FROM t GROUP BY s", "SELECT x.i, y.i FROM u AS x JOIN u AS y ON x.a = y.a"
+    both = (Column("i", "Int64", True),) * 2
+    with run.serving("--parts", "2") as server, Connection(server.port) as connection:
+        ask(connection, put_of("t", texts, [("b",), (None,), ("a",), (None,), ("b",)]), PutCount(5))
+        ask(connection, put_of("u", pairs, [(1, 10), (1, 20)]), PutCount(2))
+        counts = (*texts, Column("col2", "Int64", False))
+        whole = [wire.query_handle(2, 0, 5, grouped.encode())]
+        ask(connection, info_of(grouped), FlightInfo(list(counts), descriptor_of(grouped), whole))
+        ask(connection, fetch_of(2, 0, 5, grouped), rows_of(counts, ("b", 2), (None, 2), ("a", 1)))
+        handles = [wire.query_handle(2, place, place + 1, joined.encode()) for place in range(2)]
+        ask(connection, info_of(joined), FlightInfo(list(both), descriptor_of(joined), handles))
+        ask(connection, fetch_of(2, 1, 2, joined), rows_of(both, (20, 10), (20, 20)))
+        ask(connection, fetch_of(2, 0, 1, joined), rows_of(both, (10, 10), (10, 20)))
+
+
+@case("the stored stream of vectors/streams, with a dictionary and a delta, put as it stands: its rows")
+def stored_stream(run: Run) -> None:
+    names = [("id", "Int64"), ("town", "Utf8"), ("rider", "Utf8"), ("km", "Int16"), ("paid", "Bool")]
+    columns = tuple(Column(name, kind, name != "id") for name, kind in names)
+    command = wire.descriptor(wire.packed(INGEST, wire.chunk(1, wire.scalar(1, 1)) + wire.chunk(2, b"trips")))
+    messages = [wire.chunk(2, header) + wire.chunk(1000, body) for header, body in stored_messages(STREAM.read_bytes())]
+    with run.serving() as server, Connection(server.port) as connection:
+        ask(connection, wire.call(b"DoPut", [wire.chunk(1, command), *messages]), PutCount(7))
+        ask(connection, fetch_of(1, 0, 7, "SELECT * FROM trips"), rows_of(columns, *TRIPS))
+        ask(connection, fetch_of(1, 3, 5, "SELECT * FROM trips"), rows_of(columns, *TRIPS[3:5]))
+
+
 # ---- clients that go away, and one that does not read
 
 
@@ -393,7 +425,7 @@ def large_put(rows: int) -> bytes:
     words = trees.dictionary(1, trees.batch(1, (0, b"", *trees.texts([b"x" * 65_536]))))
     made = [(trees.schema(fields), b""), words, trees.batch(rows, (0, b"", bytes(rows)))]
     messages = [wire.chunk(2, written("Message", tree, "spread")) + wire.chunk(1000, body) for tree, body in made]
-    command = wire.descriptor(wire.packed(b"CommandStatementIngest", wire.chunk(1, wire.scalar(1, 1)) + wire.chunk(2, b"t")))
+    command = wire.descriptor(wire.packed(INGEST, wire.chunk(1, wire.scalar(1, 1)) + wire.chunk(2, b"t")))
     return wire.call(b"DoPut", [wire.chunk(1, command) + messages[0], *messages[1:]])
 
 
