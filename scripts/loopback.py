@@ -130,7 +130,8 @@ def relay(path: str, options: list[str]) -> None:
             connection, _ = listener.accept()
             with connection:
                 connection.setsockopt(socket.IPPROTO_TCP, socket.TCP_NODELAY, 1)
-                child = subprocess.Popen([path, "pipe", *options], stdin=connection, stdout=connection, stderr=subprocess.DEVNULL)
+                ends = {"stdin": connection, "stdout": connection, "stderr": subprocess.DEVNULL}
+                child = subprocess.Popen([path, "pipe", *options], **ends)
             child.wait()
 
 

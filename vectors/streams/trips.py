@@ -16,7 +16,7 @@ HERE = pathlib.Path(__file__).parent
 sys.path.append(str(HERE.parent / "arrow"))
 
 import trees  # noqa: E402
-from make import END, framed, padded, stored_messages  # noqa: E402
+from framing import END, padded, stored_messages, stream_of  # noqa: E402
 from reader import Reader  # noqa: E402
 
 STREAM = HERE / "trips.arrows"
@@ -90,7 +90,7 @@ def main():
     compiled = flatc().compiled
     with tempfile.TemporaryDirectory() as name:
         headers = [(padded(compiled(pathlib.Path(name), tree), LINE), body) for tree, body in messages()]
-        stream = b"".join(framed(*message) for message in headers) + END
+        stream = stream_of(headers) + END
     reader = Reader()
     for message in stored_messages(stream):
         reader.message(*message)
