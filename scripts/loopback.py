@@ -57,10 +57,14 @@ class Server:
         children = pathlib.Path(f"/proc/{number}/task/{number}/children").read_text().split()
         return int(children[0])
 
-    def held(self) -> int:
+    def held(self, which: str = "VmRSS:") -> int:
         """The bytes of memory that it holds now."""
         lines = pathlib.Path(f"/proc/{self.working()}/status").read_text().splitlines()
-        return next(int(line.split()[1]) * 1024 for line in lines if line.startswith("VmRSS:"))
+        return next(int(line.split()[1]) * 1024 for line in lines if line.startswith(which))
+
+    def most_held(self) -> int:
+        """The most that it held so far."""
+        return self.held("VmHWM:")
 
     def ticks(self) -> int:
         """The processor time that it used so far."""
