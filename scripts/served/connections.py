@@ -138,6 +138,11 @@ def answer_not_read(run: Run) -> None:
         connection.send(PUT)
         connection.close()
         with Connection(server.port) as connection:
+            for _ in range(1000):  # several connections are served in any order
+                connection.send(FETCH)
+                if connection.answer().code == 0:
+                    break
+                time.sleep(0.005)
             ask(connection, PUT, Refusal("F10"))
             ask(connection, FETCH, rows_of(A, (1,), (2,)))
 
