@@ -4,10 +4,11 @@
     python3 scripts/serving.py [--program PATH] [--seeds N] [--relay] [CASE..]
 
 The client speaks records, Protocol Buffers, FlatBuffers by position and Arrow's columns by scripts/wire.py and
-vectors/arrow/reader.py, and knows from plain lists what has to be answered. Each case has a server of its own and a line
-that says what holds; the last line counts them. It ends with 1 at a difference, and says which. With --relay each
-connection is served by a `flightscan pipe` of its own, and the cases whose connections share tables are passed over. With
-names, the cases whose names begin so are run. Build the program first, as for bench/pipe.py.
+vectors/arrow/reader.py, and knows from plain lists what has to be answered. The programs `put`, `query` and `tables` are
+looked at by what they print and how they end. Each case has a server of its own and a line that says what holds; the last
+line counts them. It ends with 1 at a difference, and says which. With --relay each connection is served by a `flightscan
+pipe` of its own, and the cases that need more than `pipe` are passed over. With names, the cases whose names begin so are
+run. Build the program first, as for bench/pipe.py.
 """
 
 from __future__ import annotations
@@ -23,6 +24,7 @@ sys.path += [str(ROOT / "vectors" / folder) for folder in ("arrow", "flight", "q
 
 import served.calls  # noqa: E402, F401  (its cases)
 import served.connections  # noqa: E402, F401
+import served.programs  # noqa: E402, F401
 import wire  # noqa: E402
 from built import program  # noqa: E402
 from random_calls.answers import Difference  # noqa: E402
@@ -54,7 +56,7 @@ def main() -> int:
     words = parser.parse_args()
     run = Run(program(words.program), words.relay, words.seeds)
     named = [one for one in CASES if not words.case or one.name.startswith(tuple(words.case))]
-    wanted = [one for one in named if not (run.relay and one.shares)]
+    wanted = [one for one in named if not (run.relay and one.beyond_pipe)]
     done = sum(looked_at(one, run) for one in wanted)
     print(f"{done} cases of {len(wanted)} as they have to be; {len(named) - len(wanted)} passed over")
     return 0 if done == len(wanted) else 1

@@ -24,6 +24,7 @@ from built import ROOT, program  # noqa: E402
 
 NAMED = "crates/flightscan/out/flightscan"  # as the page names the program
 SECONDS = 60
+TYPED = {"shell": True, "cwd": ROOT, "stdout": subprocess.PIPE, "stderr": subprocess.STDOUT, "encoding": "utf-8"}
 
 
 def session(page: str) -> list[tuple[str, str]]:
@@ -38,14 +39,12 @@ def session(page: str) -> list[tuple[str, str]]:
 
 def started(command: str, printed: str) -> tuple[subprocess.Popen, str]:
     """A command that goes on running, and so many lines of it as the page has."""
-    child = subprocess.Popen(command, shell=True, cwd=ROOT, stdout=subprocess.PIPE, stderr=subprocess.STDOUT, text=True,
-                             start_new_session=True)
+    child = subprocess.Popen(command, start_new_session=True, **TYPED)
     return child, "".join(child.stdout.readline() for _ in printed.splitlines())
 
 
 def done(command: str) -> str:
-    return subprocess.run(command, shell=True, cwd=ROOT, stdout=subprocess.PIPE, stderr=subprocess.STDOUT, text=True,
-                          timeout=SECONDS).stdout
+    return subprocess.run(command, timeout=SECONDS, **TYPED).stdout
 
 
 def main() -> int:

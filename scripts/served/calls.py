@@ -34,7 +34,8 @@ def refused_calls(run: Run) -> None:
 NOTS = "SELECT a FROM t WHERE " + "NOT " * 64 + "a = 1"
 FAULTY = [
     ("SELECT a FROM t WHERE a =", "F13 BadSql at byte 25"), ("SELECT a,, b FROM t", "F13 BadSql at byte 9"),
-    ("SELECT a FROM t WHERE a BETWEEN 1 2", "F13 BadSql at byte 34"), ("SELECT a FROM t WHERE 'x", "F13 BadSql at byte 22"),
+    ("SELECT a FROM t WHERE a BETWEEN 1 2", "F13 BadSql at byte 34"),
+    ("SELECT a FROM t WHERE 'x", "F13 BadSql at byte 22"),
     ("SELECT a FROM t;;", "F13 BadSql at byte 16"), ("SELECT a FROM t WHERE a = --1", "F13 BadSql at byte 29"),
     ("SELECT a FROM t WHERE a", "F13 BadSql at byte 23"), ("", "F13 BadSql at byte 0"),
     ("SELECT a FROM t WHERE a + 1 = 2", "F16"), ("SELECT a FROM t ORDER BY a", "F16"), ("SELECT * FROM u", "F9"),

@@ -30,17 +30,17 @@ class Case:
     name: str
     said: str
     look: Callable[[Run], str | None]  # what it gives is added to its line
-    shares: bool  # whether its connections share tables
+    beyond_pipe: bool  # whether its connections share tables, or it runs other programs
 
 
 CASES: list[Case] = []
 
 
-def case(said: str, shares: bool = False) -> Callable:
+def case(said: str, beyond_pipe: bool = False) -> Callable:
     """Keeps a function as a case."""
 
     def kept(look: Callable[[Run], str | None]) -> Callable[[Run], str | None]:
-        CASES.append(Case(look.__name__, said, look, shares))
+        CASES.append(Case(look.__name__, said, look, beyond_pipe))
         return look
 
     return kept

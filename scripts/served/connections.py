@@ -39,14 +39,14 @@ def first_run_in_pieces(run: Run) -> None:
     same("the answers of pieces", given[0], given[2])
 
 
-@case("the first run cut anywhere: whole calls are answered and no other, and what was cut is not done", shares=True)
+@case("the first run cut anywhere: whole calls are answered and no other, and what was cut is not done", beyond_pipe=True)
 def first_run_cut(run: Run) -> None:
     for length in (0, 1, 2, 44, 45, 47, 51, 120, 249, 250, 300, 405, 406, 407, 408, 452, 500, 563, 564):
         with run.serving() as server:
             with Connection(server.port) as connection:
                 connection.send(FIRST_RUN[:length])
                 connection.end_input()
-                same(f"what the first {length} bytes are answered", MADE if length >= PUT_LENGTH else b"", connection.rest())
+                same(f"the answer of {length} bytes", MADE if length >= PUT_LENGTH else b"", connection.rest())
             wanted = rows_of(A, (1,), (2,)) if length >= PUT_LENGTH else Refusal("F18")
             with Connection(server.port) as connection:
                 ask(connection, FETCH, wanted)
@@ -131,7 +131,7 @@ def gone_clients(run: Run) -> None:
             ask(connection, PUT, PutCount(2))
 
 
-@case("a client that goes away before the answer of its whole put: the put stands", shares=True)
+@case("a client that goes away before the answer of its whole put: the put stands", beyond_pipe=True)
 def answer_not_read(run: Run) -> None:
     with run.serving() as server:
         connection = Connection(server.port)
@@ -180,7 +180,7 @@ def nothing_read(run: Run) -> str:
     return more
 
 
-@case("300 connections, one after another, leave no open file and no memory behind", shares=True)
+@case("300 connections, one after another, leave no open file and no memory behind", beyond_pipe=True)
 def connections_in_a_row(run: Run) -> None:
     with run.serving() as server:
         with Connection(server.port) as connection:
@@ -196,7 +196,7 @@ def connections_in_a_row(run: Run) -> None:
         same(f"it holds less than 1 MB more, of {last[1] - held} bytes", True, last[1] - held < MEGABYTE)
 
 
-@case("after three connections --accept 3 ends the server with 0", shares=True)
+@case("after three connections --accept 3 ends the server with 0", beyond_pipe=True)
 def accept_three(run: Run) -> None:
     with Server(run.path, "--accept", "3") as server:
         for wanted in (PutCount(2), Refusal("F10"), Refusal("F10")):
