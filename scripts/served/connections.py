@@ -76,6 +76,7 @@ OPEN_PUT = wire.record_open(b"DoPut")
 BAD_FRAME, TOO_LARGE = status_of("F1 BadFrame", 3), status_of("F2 MessageTooLarge", 8)
 BROKEN = [
     ("the kind 05", b"\x05", BAD_FRAME),
+    ("the kind 05 and bytes behind it", b"\x05" + PUT, BAD_FRAME),
     ("the kind 00", b"\x00", BAD_FRAME),
     ("a Message between calls", b"\x02", BAD_FRAME),
     ("an End between calls", b"\x03", BAD_FRAME),
