@@ -181,16 +181,16 @@ def nothing_read(run: Run) -> str:
     return more
 
 
-@case("300 connections, one after another, leave no open file and no memory behind", beyond_pipe=True)
+@case("500 connections, one after another: the last 300 leave no open file and no memory behind", beyond_pipe=True)
 def connections_in_a_row(run: Run) -> None:
     with run.serving() as server:
         with Connection(server.port) as connection:
             ask(connection, PUT, PutCount(2))
         files = held = 0
-        for number in range(300):
+        for number in range(500):
             with Connection(server.port) as connection:
                 ask(connection, FETCH, rows_of(A, (1,), (2,)))
-                if number == 10:
+                if number == 200:
                     files, held = server.open_files(), server.held()
                 last = server.open_files(), server.held()
         same("the number of open files", files, last[0])
