@@ -1,0 +1,25 @@
+use Rattle.std.proofs.Common.{◌≡◌, ◌≤◌, length, map, arith, Ok}
+use Rattle.scan_base.specs.Limits.{most_commits}
+use Rattle.table_versions.specs.Stored.{put_of, tables_of}
+use Rattle.version_cell.specs.Puts.{after_log}
+use Rattle.version_cell.specs.Versions.{versions_of}
+use Rattle.version_cell.proofs.Versions.{count_of, few_before, kept_more}
+use Rattle.version_cell.proofs.shown.Store.after.Goals as goal
+
+pub with-requires : goal.with-requires
+with-requires c =
+    let log = c.args.self.now.history.seen.log in
+    let kept : map tables_of c.deref.result.now ≡ versions_of log = rw c.deref.ensures c.args.self.now.kept in
+    let accepts : after_log log (put_of c.args.put) ≡ Ok (tables_of c.in_ok-catalog.catalog) =
+    rw (c.newest.ensures.tables, c.newest.ensures.number) at c.in_ok-catalog.ensures.rows in
+    let few = few_before log (put_of c.args.put) (tables_of c.in_ok-catalog.catalog) accepts in
+    record { room = omega (arith, few, count_of c.deref.result.now log kept) }
+
+pub returns-clause-ok : goal.returns-clause-ok
+returns-clause-ok c =
+    let log = c.args.self.now.history.seen.log in
+    let kept : map tables_of c.deref.result.now ≡ versions_of log = rw c.deref.ensures c.args.self.now.kept in
+    let accepts : after_log log (put_of c.args.put) ≡ Ok (tables_of c.in_ok-catalog.catalog) =
+    rw (c.newest.ensures.tables, c.newest.ensures.number) at c.in_ok-catalog.ensures.rows in
+    rw (c.in_ok-new.ensures.ok, c.in_ok-index.ensures)
+    (kept_more c.deref.result.now log kept (put_of c.args.put) c.in_ok-catalog.catalog accepts)
