@@ -14,7 +14,7 @@ ghost use Rattle.flight_core.specs.Machine.{OpensIn};
 ghost use Rattle.flight_core.specs.Puts.{command_in, put_said};
 ghost use Rattle.flight_core.specs.Refusals.{GivesBehind};
 ghost use Rattle.flight_calls.specs.Calls.{info_asked};
-ghost use Rattle.flight_calls.specs.Seats.{Keeps};
+ghost use Rattle.flight_calls.specs.Seats.{Learns};
 ghost use Rattle.flight_calls.specs.Reacts.{Reacts, handle_read};
 ghost use Rattle.flight_calls.specs.Answered.{ReactsBy, FitsMessages};
 ghost use Rattle.flight_calls.specs.Stepping.{AnswersAt, RefusedBy};
@@ -99,8 +99,7 @@ pub fn schema_on<B: Backend>(alloc: Global, backend: &mut B, payload: &[u8]) -> 
 
 // The version of a number. Where the seat has not seen it, it learns what others have put and looks again.
 fn version_on<B: Backend>(backend: &mut B, number: u64) -> Result<Snapshot, Fault>
-    ensures keeps { Keeps (B.seat backend.old) (B.seat backend.new) }
-    ensures moved { B.moves (B.seat backend.old) (B.seat backend.new).log (B.seat backend.new).log (B.seat backend.new) }
+    ensures learns { Learns B.moves (B.seat backend.old) (B.seat backend.new) }
     ensures looked { result ≢ Err OutOfMemory → (B.seat backend.old).looks < (B.seat backend.new).looks }
     ensures ok { IfOk result (λ snapshot. (number ≤ puts_in (B.seat backend.new).log)
         × (tables_of snapshot.catalog ≡ version (B.seat backend.new).log number)) }
@@ -135,8 +134,7 @@ fn open_on<B: Backend>(
     ticket: &[u8],
     workers: usize,
 ) -> Result<FetchStream, Fault>
-    ensures keeps { Keeps (B.seat backend.old) (B.seat backend.new) }
-    ensures moved { B.moves (B.seat backend.old) (B.seat backend.new).log (B.seat backend.new).log (B.seat backend.new) }
+    ensures learns { Learns B.moves (B.seat backend.old) (B.seat backend.new) }
     ensures looked { IsOk (handle_read ticket.now) → result ≢ Err OutOfMemory
         → (B.seat backend.old).looks < (B.seat backend.new).looks }
     ensures opens { OpensIn (B.seat backend.new).log ticket.now result }
