@@ -17,7 +17,7 @@ use Rattle.flight_calls.specs.Calls.{info_asked}
 use Rattle.flight_calls.specs.declared.answer.Answer.TheVariants.{Whole}
 use Rattle.flight_calls.specs.Answered.{ReactsBy}
 use Rattle.flight_calls.specs.Reacts.{Looks, handle_read}
-use Rattle.flight_calls.specs.Seats.{Seat, Moves, Keeps}
+use Rattle.flight_calls.specs.Seats.{Seat, Moves, Learns}
 use Rattle.flight_calls.specs.Stepping.{RefusedBy}
 use Rattle.flight_calls.proofs.Fetching.{not_opened}
 use Rattle.flight_calls.proofs.Reacting.{goes_by_look}
@@ -72,14 +72,14 @@ schema_unread payload fault is other looks = unread_by (schema_wanted payload) f
 abbrev refused : Fault → Result StreamAt Fault
 refused fault = Err fault
 
-pub fetch_refused : (moves : Moves) (old new : Seat) (ticket : Payload) (workers : ℕ) (fault : Fault) → Keeps old new → moves old new.log new.log new
+pub fetch_refused : (moves : Moves) (old new : Seat) (ticket : Payload) (workers : ℕ) (fault : Fault) → Learns moves old new
     → (IsOk (handle_read ticket) → refused fault ≢ Err OutOfMemory → old.looks < new.looks) → OpensIn new.log ticket (Err fault)
     → ReactsBy moves (Ok (fetch ticket workers)) old (Whole (refusal fault)) new
-fetch_refused moves old new ticket workers fault keeps moved looked opens = record {
+fetch_refused moves old new ticket workers fault learns looked opens = record {
   log = new.log;
   after = new.log;
   answered = (refl, not_opened new.log ticket fault opens);
-  goes = goes_by_look moves (Ok (fetch ticket workers)) old new keeps moved;
+  goes = goes_by_look moves (Ok (fetch ticket workers)) old new learns;
   looked = λ begun looks. (looked looks (λ e. begun (ap fault_some e)), refl);
 }
   where

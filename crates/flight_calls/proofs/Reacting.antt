@@ -19,7 +19,7 @@ use Rattle.flight_calls.specs.declared.request.Single.{Single}
 use Rattle.flight_calls.specs.declared.setting.Options.{Options}
 use Rattle.flight_calls.specs.Calls.{ReplyTo, asked_with}
 use Rattle.flight_calls.specs.Requests.{IsRefused}
-use Rattle.flight_calls.specs.Seats.{Seat, seat_of, Moves, Keeps, LooksOnce, Puts, PutsAt, alone}
+use Rattle.flight_calls.specs.Seats.{Seat, seat_of, Moves, Learns, LooksOnce, Puts, PutsAt, alone}
 use Rattle.flight_calls.specs.Reacts.{StartsAt, Looks, AddsTo, Goes, HasLooked, Reacts}
 use Rattle.flight_calls.specs.Answered.{AnsweredBy, IsBegun, IsReplyOf, ReactsBy}
 
@@ -48,20 +48,17 @@ starts_begins (Ok (fetch ticket workers)) seen log b = b
 starts_begins (Err fault) seen log b = b
 
 -- by what changes nothing, to the log that the seat has then seen
-pub goes_by_look : (moves : Moves) (asked : Result Asked Fault) (old new : Seat) → Keeps old new → moves old new.log new.log new → Goes moves asked old new.log new.log new
-goes_by_look moves asked old new keeps moved = record {
-  moved = moved;
-  starts = starts_begins asked old.log new.log keeps.0;
+pub goes_by_look : (moves : Moves) (asked : Result Asked Fault) (old new : Seat) → Learns moves old new → Goes moves asked old new.log new.log new
+goes_by_look moves asked old new learns = record {
+  moved = learns.2;
+  starts = starts_begins asked old.log new.log learns.0;
   learnt = begins_itself new.log;
-  kept = keeps.0;
-  made = ([], sym (append-nil new.log), keeps.1 ∙ sym (append-nil old.made));
+  kept = learns.0;
+  made = ([], sym (append-nil new.log), learns.1 ∙ sym (append-nil old.made));
 }
 
-keeps_itself : (s : Seat) → Keeps s s
-keeps_itself s = (begins_itself s.log, refl)
-
 pub goes_nowhere : (moves : Moves) → ((s : Seat) → moves s s.log s.log s) → (asked : Result Asked Fault) (s : Seat) → Goes moves asked s s.log s.log s
-goes_nowhere moves stays asked s = goes_by_look moves asked s s (keeps_itself s) (stays s)
+goes_nowhere moves stays asked s = goes_by_look moves asked s s (begins_itself s.log, refl, stays s)
 
 -- ---- replies
 
@@ -76,13 +73,13 @@ reacts_unseen moves stays asked s reply step unseen = record {
 }
 
 -- a look, of which the reply is a step
-pub reacts_by_look : (moves : Moves) (asked : Result Asked Fault) (old new : Seat) (reply : ReplyAt) → Keeps old new → moves old new.log new.log new
+pub reacts_by_look : (moves : Moves) (asked : Result Asked Fault) (old new : Seat) (reply : ReplyAt) → Learns moves old new
     → ReplyTo asked new.log reply new.log → (reply.fault ≢ Some OutOfMemory → Looks asked → old.looks < new.looks) → Reacts moves asked old reply new
-reacts_by_look moves asked old new reply keeps moved step looked = record {
+reacts_by_look moves asked old new reply learns step looked = record {
   log = new.log;
   after = new.log;
   step = step;
-  goes = goes_by_look moves asked old new keeps moved;
+  goes = goes_by_look moves asked old new learns;
   looked = λ other looks. (looked other looks, refl);
 }
 

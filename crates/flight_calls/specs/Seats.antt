@@ -24,9 +24,9 @@ Moves = Seat → Log → Log → Seat → Type 0
 abbrev pub alone : Moves
 alone old log after new = (log ≡ old.log) × (after ≡ new.log)
 
--- a seat has seen no less than before, and has made no put
-abbrev pub Keeps : Seat → Seat → Type 0
-Keeps old new = Begins old.log new.log × (new.made ≡ old.made)
+-- a seat has seen no less than before, and made no put: a step that leaves the log that it has then seen
+abbrev pub Learns : Moves → Seat → Seat → Type 0
+Learns moves old new = Begins old.log new.log × (new.made ≡ old.made) × moves old new.log new.log new
 
 -- one look
 abbrev pub LooksOnce : Seat → Seat → Type 0

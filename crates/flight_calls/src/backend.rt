@@ -15,7 +15,7 @@ pub trait Backend {
     ghost use Rattle.scan_base.specs.declared.fault.Fault.TheVariants.{OutOfMemory, VersionUnknown};
     ghost use Rattle.table_versions.specs.Stored.{put_of, tables_of};
     ghost use Rattle.flight_core.specs.Log.{Log, puts_in, database_of, version};
-    ghost use Rattle.flight_calls.specs.Seats.{Seat, Keeps, LooksOnce, MayLook, Puts};
+    ghost use Rattle.flight_calls.specs.Seats.{Seat, Learns, LooksOnce, MayLook, Puts};
 
     // The log that it has seen, its looks, and the puts that it made.
     ghost seat: { Self → Seat };
@@ -37,8 +37,7 @@ pub trait Backend {
     ///
     /// F21 (`Fault::OutOfMemory`) where memory is refused.
     fn current(&mut self) -> Result<Snapshot, Fault>
-        ensures keeps { Keeps (seat self.old) (seat self.new) }
-        ensures moved { moves (seat self.old) (seat self.new).log (seat self.new).log (seat self.new) }
+        ensures learns { Learns moves (seat self.old) (seat self.new) }
         ensures ok { IfOk result (λ snapshot. LooksOnce (seat self.old) (seat self.new)
             × (snapshot.number ≡ puts_in (seat self.new).log)
             × (tables_of snapshot.catalog ≡ database_of (seat self.new).log)) }
@@ -51,8 +50,7 @@ pub trait Backend {
     /// F18 (`Fault::VersionUnknown`) where the log that is then seen has fewer puts, and F21 (`Fault::OutOfMemory`) where
     /// memory is refused for a version that it has.
     fn at(&mut self, number: u64) -> Result<Snapshot, Fault>
-        ensures keeps { Keeps (seat self.old) (seat self.new) }
-        ensures moved { moves (seat self.old) (seat self.new).log (seat self.new).log (seat self.new) }
+        ensures learns { Learns moves (seat self.old) (seat self.new) }
         ensures ok { IfOk result (λ snapshot. LooksOnce (seat self.old) (seat self.new)
             × (number ≤ puts_in (seat self.new).log) × (snapshot.number ≡ number)
             × (tables_of snapshot.catalog ≡ version (seat self.new).log number)) }
@@ -63,8 +61,7 @@ pub trait Backend {
 
     /// Learns what others have put. It is no look.
     fn learn(&mut self)
-        ensures keeps { Keeps (seat self.old) (seat self.new) }
-        ensures moved { moves (seat self.old) (seat self.new).log (seat self.new).log (seat self.new) }
+        ensures learns { Learns moves (seat self.old) (seat self.new) }
         ensures looks { (seat self.new).looks ≡ (seat self.old).looks };
 
     // A seat that stays where it is has moved.

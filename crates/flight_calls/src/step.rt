@@ -1,8 +1,6 @@
 //! Steps of the core over a backend.
 
-ghost use Rattle.std.specs.Prelude.{◌≡◌, ◌≢◌, ◌≤◌, ◌<◌, ◌⊎◌, ◌∷◌, [], List, pos, min, Ok, Err, IfOk, IfErr, IsOk};
-ghost use Rattle.scan_base.specs.Limits.{most_rows};
-ghost use Rattle.flight_proto.specs.PutResult.{rows_put_bytes};
+ghost use Rattle.std.specs.Prelude.{◌≡◌, ◌≢◌, ◌≤◌, ◌<◌, ◌⊎◌, List, Ok, Err, IfOk, IfErr, IsOk};
 ghost use Rattle.scan_base.specs.declared.fault.Fault.TheVariants.{OutOfMemory, VersionUnknown};
 ghost use Rattle.table_versions.specs.Stored.{put_of, tables_of};
 ghost use Rattle.endpoint_split.specs.Seen.{handle_seen};
@@ -16,7 +14,7 @@ ghost use Rattle.flight_core.specs.Machine.{OpensIn};
 ghost use Rattle.flight_core.specs.Puts.{command_in, put_said};
 ghost use Rattle.flight_core.specs.Refusals.{GivesBehind};
 ghost use Rattle.flight_calls.specs.Calls.{info_asked};
-ghost use Rattle.flight_calls.specs.Seats.{Keeps};
+ghost use Rattle.flight_calls.specs.Seats.{Learns};
 ghost use Rattle.flight_calls.specs.Reacts.{Reacts, handle_read};
 ghost use Rattle.flight_calls.specs.Answered.{ReactsBy, FitsMessages};
 ghost use Rattle.flight_calls.specs.Stepping.{AnswersAt, RefusedBy};
@@ -25,26 +23,13 @@ use crate::answer::Answer;
 use crate::backend::Backend;
 use endpoint_split::Handle;
 use fetch_stream::{FetchStream, read_ticket, version_of};
-use bytes::Bytes;
-use flight_info::{Reply, answer_info, answer_schema, answer_tables, payload_of};
-use flight_proto::{Wanted, put_rows_put, read_wanted};
+use flight_core::put_answer;
+use flight_info::{Reply, answer_info, answer_schema, answer_tables};
+use flight_proto::{Wanted, read_wanted};
 use scan_base::Fault;
 use sql_text::MOST_BYTES;
-use std::alloc::{AllocError, Global};
-use table_versions::{MAX_ROWS, Put, Snapshot};
-
-// The answer to a put of so many rows, or of as many as a table may have where they are more.
-fn put_answer(alloc: Global, rows: usize) -> Result<Vec<Bytes>, AllocError>
-    ensures said { IfOk result (λ payloads.
-        payloads.items ≡ rows_put_bytes (pos (min rows most_rows)) ∷ []) }
-    ensures fits { IfOk result (λ payloads. FitMessages payloads.items) }
-{
-    let mut payload = Vec::new(alloc);
-    put_rows_put(&mut payload, rows.min(MAX_ROWS) as i64)?;
-    let mut payloads = Vec::new(alloc);
-    payloads.push(payload_of(payload)?)?;
-    Ok(payloads)
-}
+use std::alloc::Global;
+use table_versions::{Put, Snapshot};
 
 // Answers a put whose payloads were read, or its first fault. The growths of its answer come before the put.
 pub fn put_on<B: Backend>(alloc: Global, backend: &mut B, read: Result<Put, Fault>) -> Reply
@@ -114,8 +99,7 @@ pub fn schema_on<B: Backend>(alloc: Global, backend: &mut B, payload: &[u8]) -> 
 
 // The version of a number. Where the seat has not seen it, it learns what others have put and looks again.
 fn version_on<B: Backend>(backend: &mut B, number: u64) -> Result<Snapshot, Fault>
-    ensures keeps { Keeps (B.seat backend.old) (B.seat backend.new) }
-    ensures moved { B.moves (B.seat backend.old) (B.seat backend.new).log (B.seat backend.new).log (B.seat backend.new) }
+    ensures learns { Learns B.moves (B.seat backend.old) (B.seat backend.new) }
     ensures looked { result ≢ Err OutOfMemory → (B.seat backend.old).looks < (B.seat backend.new).looks }
     ensures ok { IfOk result (λ snapshot. (number ≤ puts_in (B.seat backend.new).log)
         × (tables_of snapshot.catalog ≡ version (B.seat backend.new).log number)) }
@@ -150,8 +134,7 @@ fn open_on<B: Backend>(
     ticket: &[u8],
     workers: usize,
 ) -> Result<FetchStream, Fault>
-    ensures keeps { Keeps (B.seat backend.old) (B.seat backend.new) }
-    ensures moved { B.moves (B.seat backend.old) (B.seat backend.new).log (B.seat backend.new).log (B.seat backend.new) }
+    ensures learns { Learns B.moves (B.seat backend.old) (B.seat backend.new) }
     ensures looked { IsOk (handle_read ticket.now) → result ≢ Err OutOfMemory
         → (B.seat backend.old).looks < (B.seat backend.new).looks }
     ensures opens { OpensIn (B.seat backend.new).log ticket.now result }
