@@ -1,5 +1,5 @@
 use Rattle.std.proofs.Common.{◌≤◌, ◌<◌, length}
-use Rattle.grouping.proofs.answer.fitting.Given as goal
+use Rattle.batch_room.proofs.fitting.Given as goal
 
 abbrev pub invariant-loop-count : goal.invariant-loop-count
 invariant-loop-count l = (0 < l.count) × (l.count ≤ length l.slots)

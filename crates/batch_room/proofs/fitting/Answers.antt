@@ -1,7 +1,7 @@
 use Rattle.std.proofs.Common.{◌∙◌, sym}
 use borrow.Author.Tests.{leb-true}
-use Rattle.grouping.proofs.Short.{slots_fit}
-use Rattle.grouping.proofs.answer.fitting.Goals as goal
+use Rattle.batch_room.proofs.Short.{slots_fit}
+use Rattle.batch_room.proofs.fitting.Goals as goal
 
 pub returns : goal.returns
 returns c =
