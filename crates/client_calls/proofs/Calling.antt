@@ -48,8 +48,8 @@ module _ (a : Option (List ℕ)) (x : ℕ) (left : Received) (out out' : Outgoin
   -- a write failed, or nothing is done
   not_written : (next : Option Fault) → WritesCall (Err fault) method messages out out' → (fault ≡ Transport → next ≡ Some Transport) → (fault ≢ Transport → next ≡ None)
       → WhyNot fault method messages (line_of a x None left out) (line_of a x next left out')
-  not_written next (inl e) yes no = inl (e.0, e.1, ap (λ (n : Option Fault). incoming_of a x (left_of n left)) (yes e.0))
-  not_written next (inr (why, same)) yes no = inr (why, untouched (no (other why)) same)
+  not_written next (inl e) stops stays = inl (e.0, e.1, ap (λ (n : Option Fault). incoming_of a x (left_of n left)) (stops e.0))
+  not_written next (inr (why, same)) stops stays = inr (why, untouched (stays (other why)) same)
     where
       other : ((fault ≡ MessageTooLarge) × ¬ Fit messages) ⊎ (fault ≡ OutOfMemory) → fault ≢ Transport
       other (inl long) is = let both : MessageTooLarge ≡ Transport = sym long.0 ∙ is in absurd cc
@@ -61,10 +61,10 @@ module _ (a : Option (List ℕ)) (x : ℕ) (left : Received) (out out' : Outgoin
   pub not_sent : (stopped next : Option Fault) (line : Line) → line_of a x stopped left out ≡ line → IsOpen line → WritesCall (Err fault) method messages out out'
       → (fault ≡ Transport → next ≡ Some Transport) → (fault ≢ Transport → next ≡ None)
       → SendsCall (Err fault) method messages line (line_of a x next left out')
-  not_sent stopped next line is is_open why yes no =
+  not_sent stopped next line is is_open why stops stays =
       subst (λ (l : Line). WhyNot fault method messages l (line_of a x next left out'))
       (ap (λ (s : Option Fault). line_of a x s left out) (sym (is_none a x stopped left out line is is_open)) ∙ is)
-      (not_written next why yes no)
+      (not_written next why stops stays)
 
 -- ---- reading
 

@@ -133,7 +133,8 @@ fn append_payloads(
         ≡ payloads.old.items ++ map (λ message. data_bytes None (carried_in message)) messages.now) }
 {
     for message in messages {
-        payloads.push(payload_of(Vec::new(alloc), message)?)?;
+        let payload = payload_of(Vec::new(alloc), message)?;
+        payloads.push(payload)?;
     }
     Ok(())
 }

@@ -14,14 +14,14 @@ pub returns-in_err-message-clause-answer : goal.returns-in_err-message-clause-an
 returns-in_err-message-clause-answer g c =
     let i = c.loop-stream.invariant in
     let p = err_from_is_err_and c.from_residual.result c.from_residual.ensures.1 in
-    rw (p.1, p.2) (stream_stops _ _ _ _ _ _ _ _ c.next_arrival.new.inbox _ i.taken.1 i.count _ i.taken.2 c.in_err-message.field-0.0 c.in_err-message.ensures.arrives)
+    rw (p.1, p.2) (stream_stops _ _ _ _ _ _ _ _ c.next_arrival.new.inbox _ i.taken.1 i.count c.loop-stream.stream i.taken.2 c.in_err-message.field-0.0 c.in_err-message.ensures.arrives)
 
 pub returns-in_err-message-in-Message-clause-answer : goal.returns-in_err-message-in-Message-clause-answer
 returns-in_err-message-in-Message-clause-answer g c =
     let i = c.loop-stream.invariant in
     let arrived = rw c.in-Message.is at c.in_ok-message.ensures.arrives in
     let p = err_from_is_err_and c.from_residual-in_err-message-in-Message.result c.from_residual-in_err-message-in-Message.ensures.1 in
-    rw (p.1, p.2) (stream_refused _ _ _ _ _ _ _ _ _ _ i.taken.1 i.count _ i.taken.2 _ c.in_err-message-in-Message.field-0.0 arrived c.in_err-message-in-Message.ensures.exact)
+    rw (p.1, p.2) (stream_refused _ _ _ _ _ _ _ _ _ _ i.taken.1 i.count c.loop-stream.stream i.taken.2 _ c.in_err-message-in-Message.field-0.0 arrived c.in_err-message-in-Message.ensures.exact)
 
 pub loop-stream-preserved-in_ok-message-in-Message : goal.loop-stream-preserved-in_ok-message-in-Message
 loop-stream-preserved-in_ok-message-in-Message g c =
@@ -39,10 +39,10 @@ pub returns-in-End-Ok-clause-answer : goal.returns-in-End-Ok-clause-answer
 returns-in-End-Ok-clause-answer g c =
     let i = c.loop-stream.invariant in
     let arrived = rw (c.in-End-Ok.is, c.in-End-Ok.field-0-is) at c.in_ok-message.ensures.arrives in
-    stream_ends _ _ _ _ _ _ _ _ _ _ i.taken.1 i.count _ i.taken.2 _ arrived c.end.ensures
+    stream_ends _ _ _ _ _ _ _ _ _ _ i.taken.1 i.count c.loop-stream.stream i.taken.2 _ arrived c.end.ensures
 
 pub returns-in-End-Err-clause-answer : goal.returns-in-End-Err-clause-answer
 returns-in-End-Err-clause-answer g c =
     let i = c.loop-stream.invariant in
-    let arrived = rw (c.in-End-Err.is, c.in-End-Err.field-0-is) at c.in_ok-message.ensures.arrives in
-    stream_answers _ _ _ _ _ _ _ _ _ _ i.taken.1 i.count _ i.taken.2 _ arrived
+    let arrived = rw (c.in-End-Err.is, c.in-End-Err.field-0-is, ← c.in-End-Err.fault-is) at c.in_ok-message.ensures.arrives in
+    stream_answers _ _ _ _ _ _ _ _ _ _ i.taken.1 i.count c.loop-stream.stream i.taken.2 _ arrived

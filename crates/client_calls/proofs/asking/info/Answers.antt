@@ -20,8 +20,8 @@ returns-in_err-message g c =
 pub returns-in_err-read_endpoints : goal.returns-in_err-read_endpoints
 returns-in_err-read_endpoints g c =
     let p = err_from_is_err_and c.from_residual-in_err-read_endpoints.result c.from_residual-in_err-read_endpoints.ensures.1 in
-    rw (p.1, p.2) (call_does_not_read _ _ _ _ _ _ _ _ (rw (c.in_ok-payloads.ensures) at c.in_ok-message.ensures) (λ e. ?))
+    rw (p.1, p.2) (call_does_not_read _ _ _ _ _ _ _ _ (rw (c.in_ok-payloads.ensures) at c.in_ok-message.ensures) (rw c.as_slice.ensures at c.in_err-read_endpoints.ensures))
 
-pub returns-in_ok-read_endpoints : goal.returns-in_ok-read_endpoints
-returns-in_ok-read_endpoints g c =
-    call_reads _ _ _ _ _ _ _ _ (rw (c.in_ok-payloads.ensures) at c.in_ok-message.ensures) ?
+pub returns : goal.returns
+returns g c =
+    call_reads _ _ _ _ _ _ _ _ (rw (c.in_ok-payloads.ensures) at c.in_ok-message.ensures) (rw c.as_slice.ensures at c.in_ok-read_endpoints.ensures)

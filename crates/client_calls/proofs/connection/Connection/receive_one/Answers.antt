@@ -11,4 +11,4 @@ pub returns-in-Ok : goal.returns-in-Ok
 returns-in-Ok g c = received (AnswersMessage c.in-Ok.answer) _ _ _ _ _ _ _ _ _ c.self.view_is c.requires.is_open c.in-Ok.ensures.answer
 
 pub returns-in-Err : goal.returns-in-Err
-returns-in-Err g c = stopped_by (AnswersMessage (Err (Found c.in-Err.fault))) _ _ _ _ _ _ _ _ _ c.self.view_is c.requires.is_open _ c.in-Err.ensures.answer
+returns-in-Err g c = stopped_by (AnswersMessage (Err (Found c.in-Err.fault))) _ _ _ _ _ _ c.read_one.new.inbox _ _ c.self.view_is c.requires.is_open _ c.in-Err.ensures.answer

@@ -8,4 +8,4 @@ pub returns-in-Ok : goal.returns-in-Ok
 returns-in-Ok g c = sent _ _ _ _ _ _ _ _ _ c.self.view_is c.in-Ok.ensures
 
 pub returns-in-Err : goal.returns-in-Err
-returns-in-Err g c = not_sent _ _ _ _ _ _ _ _ _ _ _ c.self.view_is c.requires.is_open c.in-Err.ensures c.stop_of.ensures.yes c.stop_of.ensures.no
+returns-in-Err g c = not_sent _ _ _ _ _ _ _ _ _ _ _ c.self.view_is c.requires.is_open c.in-Err.ensures c.stop_of-self-inside.ensures.yes c.stop_of-self-inside.ensures.no
