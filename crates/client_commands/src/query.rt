@@ -1,0 +1,51 @@
+//! `flightscan query`: the rows that a query answers.
+
+ghost use Rattle.std.specs.Prelude.{◌≡◌, ◌<◌};
+ghost use Rattle.command_ends.specs.Printing.{said_of};
+ghost use Rattle.client_commands.specs.Commands.{Queries};
+
+use crate::connecting::end_unconnected;
+use crate::fetching::fetch_rows;
+use crate::telling::{end_by_failure, end_by_printing};
+use client_calls::Connection;
+use command_ends::{Connect, ExitStatus};
+use flight_proto::Wanted;
+use grpc_frame::Output;
+use row_lines::write_rows;
+use std::alloc::Global;
+
+/// A query, and where the server listens.
+#[derive(Clone, Copy, Debug, PartialEq, Eq)]
+pub struct Query<'a> {
+    /// The server's port.
+    pub port: u16,
+    /// The query's text.
+    pub sql: &'a str,
+}
+
+/// Prints the rows that a query answers: a line of the columns' names, and a line for each row. Each endpoint's rows are
+/// fetched in turn, and nothing is printed before all came. A fault is printed on `faults` in a line, as far as that takes
+/// it; where no connection was made, a second line says so.
+pub fn query<C: Connect, W: Output, E: Output>(
+    alloc: Global,
+    network: &mut C,
+    output: &mut W,
+    faults: &mut E,
+    query: Query<'_>,
+) -> ExitStatus
+    requires writes { W.failures output.old < 18446744073709551615 }
+    requires prints { E.failures faults.old < 18446744073709551615 }
+{
+    let (reader, writer) = match network.connect(query.port) {
+        Ok(ends) => ends,
+        Err(error) => return end_unconnected(alloc, faults, query.port, &error),
+    };
+    let mut connection = Connection::new(alloc, reader, writer);
+    match fetch_rows(alloc, &mut connection, Wanted::Rows(query.sql)) {
+        Ok(rows) => {
+            let printed = write_rows(alloc, rows.schema(), rows.batches(), output);
+            end_by_printing(faults, printed)
+        }
+        Err(failure) => end_by_failure(faults, failure),
+    }
+}

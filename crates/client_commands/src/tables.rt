@@ -1,0 +1,52 @@
+//! `flightscan tables`: the names of the tables.
+
+ghost use Rattle.std.specs.Prelude.{◌≡◌, ◌<◌};
+ghost use Rattle.command_ends.specs.Printing.{said_of};
+ghost use Rattle.client_commands.specs.Commands.{ListsTables};
+
+use crate::connecting::end_unconnected;
+use crate::fetching::fetch_rows;
+use crate::names::names_of;
+use crate::telling::{end_by_failure, end_by_printing};
+use client_calls::{Connection, Failure};
+use command_ends::{Connect, ExitStatus};
+use flight_proto::Wanted;
+use grpc_frame::{Input, Output};
+use row_lines::write_names;
+use scan_base::Text;
+use std::alloc::Global;
+
+/// Prints the names of the tables, a line each, in the order in which the server lists them. A fault is printed on `faults`
+/// in a line, as far as that takes it; where no connection was made, a second line says so.
+pub fn tables<C: Connect, W: Output, E: Output>(
+    alloc: Global,
+    network: &mut C,
+    output: &mut W,
+    faults: &mut E,
+    port: u16,
+) -> ExitStatus
+    requires writes { W.failures output.old < 18446744073709551615 }
+    requires prints { E.failures faults.old < 18446744073709551615 }
+{
+    let (reader, writer) = match network.connect(port) {
+        Ok(ends) => ends,
+        Err(error) => return end_unconnected(alloc, faults, port, &error),
+    };
+    let mut connection = Connection::new(alloc, reader, writer);
+    match fetch_names(alloc, &mut connection) {
+        Ok(names) => end_by_printing(faults, write_names(alloc, &names, output)),
+        Err(failure) => end_by_failure(faults, failure),
+    }
+}
+
+// Fetches the names of the tables.
+fn fetch_names<R: Input, W: Output>(
+    alloc: Global,
+    connection: &mut Connection<R, W>,
+) -> Result<Vec<Text>, Failure>
+    requires reads { connection.old.incoming.failed < 18446744073709551615 }
+    requires writes { connection.old.outgoing.failed < 18446744073709551615 }
+{
+    let rows = fetch_rows(alloc, connection, Wanted::Tables)?;
+    Ok(names_of(alloc, &rows)?)
+}
