@@ -13,7 +13,7 @@ fault_line fault = codes "fault: " ++ text_of fault ++ 10 ∷ []
 
 -- the line of F22, and a line that says what failed
 abbrev pub cause_lines : List ℕ → List ℕ
-cause_lines cause = fault_line Transport ++ cause ++ 10 ∷ []
+cause_lines cause = fault_line Transport ++ (cause ++ 10 ∷ [])
 
 -- how many rows were put
 abbrev pub count_line : ℕ → List ℕ

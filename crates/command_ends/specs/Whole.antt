@@ -43,7 +43,7 @@ pub record IsStreamOf (messages : List IpcMessage) (old new : Source) : Type 0 w
   pub rest : List ℕ
   pub framed : Framed bytes messages rest
 
--- the messages of the whole input; or it is no stream (F6), or it was not read
-abbrev pub ReadsMessages : Result (List IpcMessage) Fault → Source → Source → Type 0
-ReadsMessages (Ok messages) old new = IsStreamOf messages old new
-ReadsMessages (Err fault) old new = ((fault ≡ BadFlatbuffer) × IsNoStream old new) ⊎ Stops fault old new
+-- the messages of the whole input, seen by `view`; or it is no stream (F6), or it was not read
+abbrev pub ReadsMessages : {A : Type 0} → (A → List IpcMessage) → Result A Fault → Source → Source → Type 0
+ReadsMessages view (Ok messages) old new = IsStreamOf (view messages) old new
+ReadsMessages view (Err fault) old new = ((fault ≡ BadFlatbuffer) × IsNoStream old new) ⊎ Stops fault old new

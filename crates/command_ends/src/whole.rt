@@ -43,7 +43,7 @@ pub fn read_whole<R: Input>(alloc: Global, input: &mut R) -> Result<Bytes, Fault
 /// - `Fault::OutOfMemory` (F21) where memory is refused.
 pub fn read_messages<R: Input>(alloc: Global, input: &mut R) -> Result<Vec<IpcMessage>, Fault>
     requires { R.failures input.old < 18446744073709551615 }
-    ensures { ReadsMessages result
+    ensures { ReadsMessages (λ messages. messages.items) result
         (source_of (R.remaining input.old) (R.failures input.old))
         (source_of (R.remaining input.new) (R.failures input.new)) }
 {
