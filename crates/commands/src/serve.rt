@@ -34,11 +34,11 @@ pub fn serve<L: Listen, W: Output, E: Output>(
     requires writes { W.failures output.old < 18446744073709551615 }
     requires prints { E.failures faults.old < 18446744073709551615 }
 {
-    let port = match network.listen(serving.port) {
-        Ok(port) => port,
+    let serving = match network.listen(serving.port) {
+        Ok(port) => Serving { port, ..serving },
         Err(error) => return end_unheard(alloc, faults, serving.port, &error),
     };
-    match serve_port(alloc, seed, network, output, (serving, port)) {
+    match serve_port(alloc, seed, network, output, serving) {
         Ok(()) => ExitStatus::Done,
         Err(fault) => end_by_fault(faults, fault),
     }
@@ -64,12 +64,12 @@ fn serve_port<L: Listen, W: Output>(
     seed: HashSeed,
     network: &mut L,
     output: &mut W,
-    (serving, port): (Serving, u16),
+    serving: Serving,
 ) -> Result<(), Fault>
     requires { W.failures output.old < 18446744073709551615 }
 {
     let mut backend = Alone::new(Plain::new(alloc, seed)?);
-    print_listening(alloc, output, port)?;
+    print_listening(alloc, output, serving.port)?;
     let options = Options {
         parts: serving.parts,
         workers: serving.workers as usize,

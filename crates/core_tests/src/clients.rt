@@ -3,7 +3,7 @@
 ghost use Rattle.std.specs.Prelude.{◌<◌, ◌≡◌, IfOk};
 
 use client_calls::{Mode, Target};
-use client_commands::{Putting, Query, put, query, tables};
+use client_commands::{Putting, Querying, put, query, tables};
 use command_ends::{Connect, Listen};
 use command_line::Serving;
 use commands::serve::serve;
@@ -53,6 +53,7 @@ const NOTHING: &[u8] = b"";
 // ---- over loopback
 
 // A port that is listened to already.
+#[derive(Drop)]
 struct Bound<'a, R> {
     port: Port<'a, R>,
     number: u16,
@@ -107,7 +108,7 @@ fn asked<R: Net<Listener = TcpListener, Stream = TcpStream>>(
         mode: Mode::Create,
     };
     let putting = Putting { port, target };
-    let grouped = Query { port, sql: GROUPED };
+    let grouped = Querying { port, sql: GROUPED };
     let put = put(
         alloc,
         &mut network,
@@ -145,7 +146,7 @@ fn four_commands(rt: HostRuntime) -> Result<(), Fail> {
         .1
         .as_slice()
         .split_at(9.min(client.1.as_slice().len()));
-    assert!(rt; counted == b"5 rows\nt\n");
+    assert!(rt; counted == b"5 rows\nt\n".as_slice());
     assert!(rt; lines == GROUPS);
     assert!(rt; client.2.as_slice() == TRANSPORT_LINE);
     Ok(())
@@ -169,6 +170,7 @@ fn nobody_listens(rt: HostRuntime) -> Result<(), Fail> {
 // ---- over answers in memory
 
 // Connections whose server answers so.
+#[derive(Drop)]
 struct Answering<'a> {
     alloc: Global,
     answer: &'a [u8],

@@ -5,7 +5,7 @@
 ghost use Rattle.std.specs.Prelude.{◌<◌};
 
 use client_calls::Target;
-use client_commands::{Putting, Query, put, query, tables};
+use client_commands::{Putting, Querying, put, query, tables};
 use command_ends::{ExitStatus, end_by_fault};
 use command_line::{Mode, Request};
 use commands::arguments::refuse_arguments;
@@ -97,7 +97,7 @@ where
                 &mut network,
                 output,
                 faults,
-                Query { port, sql },
+                Querying { port, sql },
             )
         }
         Request::Tables { port } => tables(rt.alloc(), &mut network, output, faults, port),
