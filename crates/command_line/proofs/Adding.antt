@@ -1,5 +1,5 @@
 -- Commands, as arguments and subcommands are added to them.
-use Rattle.std.proofs.Common.{◌≡◌, ◌∙◌, ap, ap₂, refl, sym, false, true, ◌||◌, Result, Ok, Err, IfOk}
+use Rattle.std.proofs.Common.{◌≡◌, ◌∙◌, ap, ap₂, false, ◌||◌, Result, Ok, Err, IfOk}
 use Rattle.clap.specs.Words.{App, AddsArg, AddsSubcommand, app_of, with_subcommand}
 use Rattle.clap.specs.declared.builder.arg.Arg.{Arg}
 use Rattle.clap.specs.declared.builder.command.Command.{Command}

@@ -1,5 +1,5 @@
 -- What words ask for.
-use Rattle.std.proofs.Common.{◌≡◌, ◌∙◌, ap, ap₂, refl, sym, false, true, Bool, List, Option, Some, None, Box, Result, Err, subst, is_some, option_map, unwrap_or, Bor, codes, IsSomeAnd}
+use Rattle.std.proofs.Common.{◌≡◌, ◌∙◌, ap, ap₂, refl, sym, false, true, Bool, List, Option, Some, None, Box, Result, Err, subst, option_map, unwrap_or, Bor}
 use Rattle.std.proofs.lemmas.Option.{none-some, same_Some}
 use Rattle.clap.specs.Words.{App, FailsBy, HasKind, HasMatchesOf, IsParsedFrom, Row, Text, app_of, fault_of, has_subcommand, subcommand_of, subcommand_rows, is_simple, is_simple_and_free}
 use Rattle.clap.specs.Matches.{subcommand_name_of}

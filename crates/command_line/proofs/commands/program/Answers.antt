@@ -1,5 +1,5 @@
-use Rattle.std.proofs.Common.{◌∙◌, ap, codes, true}
-use Rattle.clap.specs.Words.{App, new_app}
+use Rattle.std.proofs.Common.{◌∙◌, ap, true}
+use Rattle.clap.specs.Words.{App}
 use Rattle.clap.specs.Simple.{app_of_fields}
 use Rattle.command_line.proofs.Adding.{local_above, shape_above, last_local_above, last_shape_above}
 use Rattle.command_line.proofs.commands.program.Goals as goal
