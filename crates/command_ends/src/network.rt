@@ -29,7 +29,7 @@ pub trait Connect {
 
 /// Takes connections of clients.
 pub trait Listen {
-    ghost use Rattle.std.specs.Prelude.{◌≡◌, IfOk};
+    ghost use Rattle.std.specs.Prelude.{◌≡◌, ℕ, IfOk};
 
     /// What comes from a client.
     type Reader: Input + Drop;
@@ -37,12 +37,16 @@ pub trait Listen {
     /// What goes to it.
     type Writer: Output + Drop;
 
+    // Where a port is asked for, this port is listened to.
+    ghost listens: { Self → ℕ → ℕ → Self → Type 0 };
+
     /// Listens to a port of this machine, 0 for one that is free, and gives the port.
     ///
     /// # Errors
     ///
     /// The system's.
-    fn listen(&mut self, port: u16) -> io::Result<u16>;
+    fn listen(&mut self, port: u16) -> io::Result<u16>
+        ensures { IfOk result (λ heard. listens self.old port heard self.new) };
 
     /// Waits for the next connection. No call of its ends has failed yet.
     ///

@@ -4,7 +4,7 @@ ghost use Rattle.std.specs.Prelude.{◌≡◌, ◌<◌, ℕ, List, IfOk};
 ghost use Rattle.grpc_frame.specs.Ends.{FailsByTransport};
 ghost use Rattle.command_ends.specs.Printing.{Prints, cause_lines, said_of};
 ghost use Rattle.command_ends.specs.declared.exit_status.ExitStatus.TheVariants.{FaultAtThisEnd};
-ghost use Rattle.commands.specs.Serve.{EndsBehind, Served, ServesInTurn};
+ghost use Rattle.commands.specs.Serve.{EndsBehind, Listens, Served, ServesInTurn, ServesPort, most_of};
 
 use command_ends::{ExitStatus, Listen, end_by_cause, end_by_fault, print_listening};
 use command_line::Serving;
@@ -33,6 +33,12 @@ pub fn serve<L: Listen, W: Output, E: Output>(
 ) -> ExitStatus
     requires writes { W.failures output.old < 18446744073709551615 }
     requires prints { E.failures faults.old < 18446744073709551615 }
+    ensures { Listens (λ port. (heard : L) × L.listens network.old serving.port port heard)
+        (record { parts = serving.parts; workers = serving.workers }) (most_of serving.accept) result
+        (said_of (W.contents output.old) (W.failures output.old))
+        (said_of (W.contents output.new) (W.failures output.new))
+        (said_of (E.contents faults.old) (E.failures faults.old))
+        (said_of (E.contents faults.new) (E.failures faults.new)) }
 {
     let serving = match network.listen(serving.port) {
         Ok(port) => Serving { port, ..serving },
@@ -67,6 +73,10 @@ fn serve_port<L: Listen, W: Output>(
     serving: Serving,
 ) -> Result<(), Fault>
     requires { W.failures output.old < 18446744073709551615 }
+    ensures { ServesPort (record { parts = serving.parts; workers = serving.workers })
+        (most_of serving.accept) serving.port result
+        (said_of (W.contents output.old) (W.failures output.old))
+        (said_of (W.contents output.new) (W.failures output.new)) }
 {
     let mut backend = Alone::new(Plain::new(alloc, seed)?);
     print_listening(alloc, output, serving.port)?;

@@ -64,6 +64,8 @@ impl<R: Net<Listener = TcpListener, Stream = TcpStream>> Listen for Bound<'_, R>
 
     type Writer = Counted<TcpStream>;
 
+    ghost listens = { λ _ _ _ _. Unit {0} };
+
     fn listen(&mut self, _port: u16) -> io::Result<u16> {
         Ok(self.number)
     }

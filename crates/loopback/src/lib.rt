@@ -53,6 +53,8 @@ impl<R: Net<Listener = TcpListener, Stream = TcpStream>> Listen for Port<'_, R> 
 
     type Writer = Counted<TcpStream>;
 
+    ghost listens = { λ _ _ _ _. Unit {0} };
+
     fn listen(&mut self, port: u16) -> io::Result<u16> {
         let listener = TcpListener::bind(self.rt, (Ipv4Addr::LOCALHOST, port))?;
         let port = listener.local_addr()?.port();
