@@ -1,3 +1,3 @@
-pub mod Line
 pub mod Numbers
-pub mod Asked
+pub mod Line
+pub mod Request

@@ -16,11 +16,54 @@ pub(crate) struct Numbers {
     pub default: u32,
 }
 
-/// The option of this name, whose value is one of the numbers.
+/// In how many parts the rows of a query may be fetched.
+pub(crate) const PARTS: Numbers = Numbers {
+    least: 1,
+    most: 64,
+    default: 1,
+};
+
+/// How many workers one fetch may have.
+pub(crate) const WORKERS: Numbers = Numbers {
+    least: 1,
+    most: 16,
+    default: 1,
+};
+
+/// How many connections are served at once.
+pub(crate) const SEATS: Numbers = Numbers {
+    least: 1,
+    most: 32,
+    default: 4,
+};
+
+/// After how many connections `serve` ends; 0 stands for no end.
+pub(crate) const ACCEPT: Numbers = Numbers {
+    least: 0,
+    most: 65_535,
+    default: 0,
+};
+
+/// Over how many connections `query` fetches.
+pub(crate) const STREAMS: Numbers = Numbers {
+    least: 1,
+    most: 16,
+    default: 1,
+};
+
+/// The port, which has to be given.
+pub(crate) const PORT: Numbers = Numbers {
+    least: 0,
+    most: 65_535,
+    default: 0,
+};
+
+/// The option of this name, whose value is one of the numbers. Help has a word for the value, and a text.
 pub(crate) fn number_option<'a>(
     alloc: Global,
     name: &'a str,
     numbers: Numbers,
+    value: &'a str,
     help: &'a str,
 ) -> Arg<'a>
     ensures rule { rule_of result ≡ number_rule name.entry.now numbers }
@@ -31,6 +74,7 @@ pub(crate) fn number_option<'a>(
         .long(name)
         .action(ArgAction::Set)
         .value_parser(ValueParser::unsigned(least, most))
+        .value_name(value)
         .help(help)
 }
 

@@ -1,0 +1,60 @@
+// NOTE FROM THE LEAD (10:32): I finish this crate (contracts of put, query, tables and all its proofs) in /work/trees/t-cmd on branch t-cmd.
+// Leave crates/client_commands as it is now; go on with crates/commands (pipe, serve, run), flightscan (sockets, main) and core_tests.
+// Take the finished crate from branch t-cmd later. (Remove these three lines; see also NOTE_FROM_LEAD.txt.)
+//! `flightscan query`: the rows that a query answers.
+
+ghost use Rattle.std.specs.Prelude.{◌≡◌, ◌<◌};
+ghost use Rattle.command_ends.specs.Printing.{said_of};
+ghost use Rattle.client_commands.specs.Commands.{Queries, desk_of, opened_line};
+
+use crate::connecting::{end_unconnected, open};
+use crate::fetching::fetch_rows;
+use crate::telling::{end_by_failure, end_by_printing};
+use command_ends::{Connect, ExitStatus};
+use flight_proto::Wanted;
+use grpc_frame::Output;
+use row_lines::write_rows;
+use std::alloc::Global;
+
+/// A query, and where the server listens.
+#[derive(Clone, Copy, Debug, PartialEq, Eq)]
+pub struct Querying<'a> {
+    /// The server's port.
+    pub port: u16,
+    /// The query's text.
+    pub sql: &'a str,
+}
+
+/// Prints the rows that a query answers: a line of the columns' names, and a line for each row. Each endpoint's rows are
+/// fetched in turn, and nothing is printed before all came. A fault is printed on `faults` in a line, as far as that takes
+/// it; where no connection was made, a second line says so.
+pub fn query<C: Connect, W: Output, E: Output>(
+    alloc: Global,
+    network: &mut C,
+    output: &mut W,
+    faults: &mut E,
+    query: Querying<'_>,
+) -> ExitStatus
+    requires writes { W.failures output.old < 18446744073709551615 }
+    requires prints { E.failures faults.old < 18446744073709551615 }
+    ensures { Queries (λ line. (reader : C.Reader) × (writer : C.Writer)
+        × C.connects network.old query.port reader writer network.new
+        × (line ≡ opened_line (C.Reader.remaining reader) (C.Writer.contents writer)))
+        query.sql.now result
+        (desk_of (said_of (W.contents output.old) (W.failures output.old))
+        (said_of (E.contents faults.old) (E.failures faults.old)))
+        (desk_of (said_of (W.contents output.new) (W.failures output.new))
+        (said_of (E.contents faults.new) (E.failures faults.new))) }
+{
+    let mut connection = match open(alloc, network, query.port) {
+        Ok(connection) => connection,
+        Err(error) => return end_unconnected(alloc, faults, query.port, &error),
+    };
+    match fetch_rows(alloc, &mut connection, Wanted::Rows(query.sql)) {
+        Ok(rows) => {
+            let printed = write_rows(alloc, rows.schema(), rows.batches(), output);
+            end_by_printing(faults, printed)
+        }
+        Err(failure) => end_by_failure(faults, failure),
+    }
+}

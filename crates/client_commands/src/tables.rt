@@ -1,0 +1,63 @@
+// NOTE FROM THE LEAD (10:32): I finish this crate (contracts of put, query, tables and all its proofs) in /work/trees/t-cmd on branch t-cmd.
+// Leave crates/client_commands as it is now; go on with crates/commands (pipe, serve, run), flightscan (sockets, main) and core_tests.
+// Take the finished crate from branch t-cmd later. (Remove these three lines; see also NOTE_FROM_LEAD.txt.)
+//! `flightscan tables`: the names of the tables.
+
+ghost use Rattle.std.specs.Prelude.{◌≡◌, ◌<◌};
+ghost use Rattle.command_ends.specs.Printing.{said_of};
+ghost use Rattle.client_commands.specs.Commands.{FetchesNames, ListsTables, desk_of, opened_line};
+
+use crate::connecting::{end_unconnected, open};
+use crate::fetching::fetch_rows;
+use crate::names::names_of;
+use crate::telling::{end_by_failure, end_by_printing};
+use client_calls::{Connection, Failure};
+use command_ends::{Connect, ExitStatus};
+use flight_proto::Wanted;
+use grpc_frame::{Input, Output};
+use row_lines::write_names;
+use scan_base::Text;
+use std::alloc::Global;
+
+/// Prints the names of the tables, a line each, in the order in which the server lists them. A fault is printed on `faults`
+/// in a line, as far as that takes it; where no connection was made, a second line says so.
+pub fn tables<C: Connect, W: Output, E: Output>(
+    alloc: Global,
+    network: &mut C,
+    output: &mut W,
+    faults: &mut E,
+    port: u16,
+) -> ExitStatus
+    requires writes { W.failures output.old < 18446744073709551615 }
+    requires prints { E.failures faults.old < 18446744073709551615 }
+    ensures { ListsTables (λ line. (reader : C.Reader) × (writer : C.Writer)
+        × C.connects network.old port reader writer network.new
+        × (line ≡ opened_line (C.Reader.remaining reader) (C.Writer.contents writer)))
+        result
+        (desk_of (said_of (W.contents output.old) (W.failures output.old))
+        (said_of (E.contents faults.old) (E.failures faults.old)))
+        (desk_of (said_of (W.contents output.new) (W.failures output.new))
+        (said_of (E.contents faults.new) (E.failures faults.new))) }
+{
+    let mut connection = match open(alloc, network, port) {
+        Ok(connection) => connection,
+        Err(error) => return end_unconnected(alloc, faults, port, &error),
+    };
+    match fetch_names(alloc, &mut connection) {
+        Ok(names) => end_by_printing(faults, write_names(alloc, &names, output)),
+        Err(failure) => end_by_failure(faults, failure),
+    }
+}
+
+// Fetches the names of the tables.
+fn fetch_names<R: Input, W: Output>(
+    alloc: Global,
+    connection: &mut Connection<R, W>,
+) -> Result<Vec<Text>, Failure>
+    requires reads { connection.old.incoming.failed < 18446744073709551615 }
+    requires writes { connection.old.outgoing.failed < 18446744073709551615 }
+    ensures { FetchesNames (λ names. names.items) result connection.old connection.new }
+{
+    let rows = fetch_rows(alloc, connection, Wanted::Tables)?;
+    Ok(names_of(alloc, &rows)?)
+}
