@@ -37,8 +37,11 @@ stream_sent asked log new stream r a b before after answered sends =
     let sent = sends (version log (version_of seen.handle)) seen.handle seen.opens in
     record {
       reply = sent.reply;
-      right = (subst (λ (q : Result Asked Fault). ReplyTo q log sent.reply new) (sym answered.3)
-          (answered.0, subst (λ (s : Result HandleAt Fault). FetchBy log s sent.reply.payloads sent.reply.fault) (sym seen.shown) sent.right), tt);
+      right = (
+        subst (λ (q : Result Asked Fault). ReplyTo q log sent.reply new) (sym answered.3)
+            (answered.0, subst (λ (s : Result HandleAt Fault). FetchBy log s sent.reply.payloads sent.reply.fault) (sym seen.shown) sent.right),
+        tt,
+      );
       fits = sent.fits;
       sent = sent.sent;
     }

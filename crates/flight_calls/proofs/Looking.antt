@@ -37,12 +37,16 @@ info_refused log payload parts fault = by (wanted_in payload) refl
     by : (w : Result Wanted Fault) → wanted_in payload ≡ w → RefusedBy (w >>= short_enough) fault → StepOn log (info_asked w payload parts) (refusal fault) log
     by (Err cause) e is =
         (refl, subst (λ (v : Result Wanted Fault). InfoAt (database_of log) (puts_in log) payload parts (v >>= only_rows >>= short_enough) [] (Some fault)) (sym e) (refl, ap Some is))
-    by (Ok (rows_of text)) e is =
-        (refl, subst (λ (v : Result Wanted Fault). InfoAt (database_of log) (puts_in log) payload parts (v >>= only_rows >>= short_enough) [] (Some fault)) (sym e)
-        (info_missed (database_of log) (puts_in log) payload parts (short_enough (rows_of text)) fault is))
-    by (Ok tables) e is =
-        (refl, subst (λ (v : Result Wanted Fault). InfoAt (database_of log) (puts_in log) payload parts (v >>= only_tables >>= short_enough) [] (Some fault)) (sym e)
-        (info_missed (database_of log) (puts_in log) payload parts (short_enough tables) fault is))
+    by (Ok (rows_of text)) e is = (
+      refl,
+      subst (λ (v : Result Wanted Fault). InfoAt (database_of log) (puts_in log) payload parts (v >>= only_rows >>= short_enough) [] (Some fault)) (sym e)
+          (info_missed (database_of log) (puts_in log) payload parts (short_enough (rows_of text)) fault is),
+    )
+    by (Ok tables) e is = (
+      refl,
+      subst (λ (v : Result Wanted Fault). InfoAt (database_of log) (puts_in log) payload parts (v >>= only_tables >>= short_enough) [] (Some fault)) (sym e)
+          (info_missed (database_of log) (puts_in log) payload parts (short_enough tables) fault is),
+    )
 
 -- and a schema
 pub schema_refused : (log : Log) (payload : Payload) (fault : Fault) → RefusedBy (schema_wanted payload) fault → StepOn log (schema payload) (refusal fault) log

@@ -171,9 +171,7 @@ fn answer_message<B: Backend>(
 {
     match method {
         Single::DoGet => fetch_on(alloc, backend, message, options.workers),
-        Single::GetFlightInfo => {
-            Answer::Whole(info_on(alloc, backend, message, options.parts))
-        }
+        Single::GetFlightInfo => { Answer::Whole(info_on(alloc, backend, message, options.parts)) }
         Single::GetSchema => Answer::Whole(schema_on(alloc, backend, message)),
         Single::DoAction => Answer::Whole(Reply::refusal(alloc, Fault::UnknownCommand)),
     }

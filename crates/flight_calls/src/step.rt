@@ -148,12 +148,7 @@ fn open_on<B: Backend>(
 }
 
 // What answers a fetch.
-pub fn fetch_on<B: Backend>(
-    alloc: Global,
-    backend: &mut B,
-    ticket: &[u8],
-    workers: usize,
-) -> Answer
+pub fn fetch_on<B: Backend>(alloc: Global, backend: &mut B, ticket: &[u8], workers: usize) -> Answer
     ensures reply { ReactsBy B.moves (Ok (fetch ticket.now workers))
         (B.seat backend.old) result (B.seat backend.new) }
     ensures short { FitsMessages result }
