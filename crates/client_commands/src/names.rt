@@ -1,6 +1,3 @@
-// NOTE FROM THE LEAD (10:32): I finish this crate (contracts of put, query, tables and all its proofs) in /work/trees/t-cmd on branch t-cmd.
-// Leave crates/client_commands as it is now; go on with crates/commands (pipe, serve, run), flightscan (sockets, main) and core_tests.
-// Take the finished crate from branch t-cmd later. (Remove these three lines; see also NOTE_FROM_LEAD.txt.)
 //! The names of tables, in the rows that list them.
 
 ghost use Rattle.std.specs.Prelude.{◌++◌, Ok};
