@@ -9,4 +9,4 @@ returns-clause-put g c =
     let same : c.tell-told.result ≡ next = search rules in
     let begins : Begins next c.learn.new.self.log = subst (λ (log : Log). Begins log c.learn.new.self.log) same c.learn.ensures.told in
     let number = number_of c.put-answer.result (λ receipt. receipt.number ≡ length next) _ c.put-answer.ensures.receipt in
-    (c.deref_mut.result.now, (next, (c.put-answer.ensures.answered, (c.put-answer.ensures.first, (number, begins)))))
+    (c.deref_mut.result.now, (next, c.put-answer.ensures.answered, c.put-answer.ensures.first, number, begins))

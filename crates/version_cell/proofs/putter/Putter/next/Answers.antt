@@ -1,4 +1,4 @@
-use Rattle.std.proofs.Common.{◌≡◌, ◌<◌, length, arith}
+use Rattle.std.proofs.Common.{◌<◌, length, arith}
 use Rattle.std.proofs.lemmas.Result.{err_from_is_err_and}
 use Rattle.scan_base.specs.Limits.{most_commits}
 use Rattle.table_versions.specs.Stored.{put_of}

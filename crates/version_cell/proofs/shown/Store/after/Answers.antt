@@ -1,6 +1,5 @@
-use Rattle.std.proofs.Common.{◌≡◌, ◌≤◌, length, map, arith, Ok}
+use Rattle.std.proofs.Common.{◌≡◌, map, arith, Ok}
 use Rattle.std.proofs.lemmas.Result.{err_from_is_err_and}
-use Rattle.scan_base.specs.Limits.{most_commits}
 use Rattle.table_versions.specs.Stored.{put_of, tables_of}
 use Rattle.version_cell.specs.Puts.{after_log}
 use Rattle.version_cell.specs.Versions.{versions_of}
