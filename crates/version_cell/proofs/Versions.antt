@@ -1,13 +1,14 @@
 -- The versions of a log, one after another.
-use Rattle.std.proofs.Common.{◌≡◌, ℕ, zero, suc, ◌+◌, ◌<◌, ◌≤◌, false, List, [], ◌∷◌, ◌++◌, length, map, take, drop, refl, sym, ap, ◌∙◌, arith, rules, nat_le, Some, None, IfOk, Result, Ok, Err}
+use Rattle.std.proofs.Common.{◌≡◌, ℕ, zero, suc, ◌+◌, ◌<◌, ◌≤◌, true, false, List, [], ◌∷◌, ◌++◌, length, map, take, drop, refl, sym, ap, ◌∙◌, arith, rules, nat_le, Some, IfOk, IsOk, Result, Ok, Err}
 use Rattle.std.specs.List.{slice_get}
 use Rattle.std.specs.Option.{option_map}
 use Rattle.std.proofs.lemmas.Grind.{common_steps}
 use Rattle.std.proofs.lemmas.List.{map-append, length-map}
 use Rattle.std.proofs.lemmas.Option.{slice_get-map}
+use Rattle.scan_base.specs.declared.fault.Fault.{Fault}
 use Rattle.scan_base.specs.declared.fault.Fault.TheVariants.{LimitReached}
 use Rattle.scan_base.specs.Limits.{most_commits}
-use Rattle.scan_base.specs.Reading.{first_fault}
+use Rattle.scan_base.specs.Reading.{first_fault, RefusesFirst}
 use Rattle.table_versions.specs.Database.{Database, Put, table_at, with_table, table_after, put_faults, after, accepted, after_all, database_of, version}
 use Rattle.table_versions.specs.Stored.{CatalogAt, VersionAt, tables_of}
 use Rattle.table_versions.proofs.Accepted.{among, unrefused}
@@ -45,6 +46,20 @@ versions-more log put = from-more [] 0 log put
 same_some : {X : Type 0} {a b : X} → Some a ≡ Some b → a ≡ b
 same_some e = cc
 
+-- what comes first for one kind of value comes first for another
+pub first_for : (X Y : Type 0) {Z : Type 0} (fault : Fault) (read : Result Z Fault) → RefusesFirst {X = X} (Err fault) read → RefusesFirst {X = Y} (Err fault) read
+first_for X Y fault (Ok z) first = tt
+first_for X Y fault (Err cause) first = let same : fault ≡ cause = cc in ap Err same
+
+-- nothing comes first where there is no fault
+pub none_first : {X Z : Type 0} (result : Result X Fault) (read : Result Z Fault) → IsOk read → RefusesFirst result read
+none_first result (Ok z) accepts = tt
+none_first result (Err cause) accepts = let no : false ≡ true = accepts in cc
+
+accepted_is : {Z : Type 0} (read : Result Z Fault) → IsOk read → (z : Z) × (read ≡ Ok z)
+accepted_is (Ok z) accepts = (z, refl)
+accepted_is (Err cause) accepts = let no : false ≡ true = accepts in cc
+
 -- an accepted put comes behind fewer than there may be
 pub few_before : (log : List Put) (put : Put) (new : Database) → after_log log put ≡ Ok new → length log < most_commits
 few_before log put new accepts =
@@ -53,6 +68,11 @@ few_before log put new accepts =
     let none = unrefused (first_fault faults) (with_table put.table (table_after put.if_exists (table_at old put.table) put) old) new accepts in
     let few : nat_le most_commits (length log) ≡ false = among (take 8 faults) (nat_le most_commits (length log)) LimitReached (drop 9 faults) none in
     search (rules, few)
+
+pub few_accepted : (log : List Put) (put : Put) → IsOk (after_log log put) → length log < most_commits
+few_accepted log put accepts =
+    let new = accepted_is (after_log log put) accepts in
+    few_before log put new.0 new.1
 
 -- ---- catalogs that are the versions of a log
 module _ (index : List CatalogAt) (log : List Put) (kept : map tables_of index ≡ versions_of log) where
@@ -85,3 +105,8 @@ module _ (index : List CatalogAt) (log : List Put) (kept : map tables_of index �
       → IfOk result (λ snapshot. tables_of snapshot.catalog ≡ version log k)
   version_found k (Ok snapshot) within at = version_at k snapshot.catalog within at
   version_found k (Err fault) within at = tt
+
+-- the first of two facts of what a call gave
+pub number_of : {X : Type 0} (result : Result X Fault) (one two : X → Type 0) → IfOk result (λ x. one x × two x) → IfOk result one
+number_of (Ok x) one two both = both.0
+number_of (Err fault) one two both = tt

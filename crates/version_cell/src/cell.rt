@@ -1,6 +1,6 @@
 //! How a cell is made.
 
-ghost use Rattle.std.specs.Prelude.{◌≡◌, ◌≤◌, ◌<◌, [], length, map, All, IfOk, IfErr, IfSome};
+ghost use Rattle.std.specs.Prelude.{◌≡◌, ◌≤◌, ◌<◌, [], length, drop, map, All, IfOk, IfErr, IfSome};
 ghost use Rattle.std.specs.Arc.{arc_value};
 ghost use Rattle.scan_base.specs.declared.fault.Fault.TheVariants.{OutOfMemory};
 ghost use Rattle.table_versions.specs.Stored.{tables_of};
@@ -11,7 +11,7 @@ ghost use Rattle.version_cell.specs.Versions.{versions_of};
 use crate::book::{CellName, History, Opened};
 use crate::putter::{CellWriter, Putter};
 use crate::scanner::Scanner;
-use crate::shown::Store;
+use crate::shown::{Publishes, Store};
 use hash_seed::HashSeed;
 use scan_base::Fault;
 use std::alloc::Global;
@@ -83,8 +83,11 @@ impl Blank {
             index,
         } = self;
         let (head, history) = opened.into_parts();
-        let Some(writer) = first_writer::<C>(alloc, Store::new(index, history.again()), seats)
-        else {
+        let store = Store::new(index, history.again());
+        let Some(writer) = first_writer::<C>(alloc, store, seats) else {
+            return Err(Fault::OutOfMemory);
+        };
+        let Some(writer) = with_room(&rt, writer) else {
             return Err(Fault::OutOfMemory);
         };
         match seat_all(alloc, &writer, &history, seats) {
@@ -101,10 +104,36 @@ impl Blank {
 fn first_writer<C: CellName>(alloc: Global, store: Store, seats: usize) -> Option<CellWriter<C>>
     requires seats { (0 < seats) × (seats ≤ most_seats) }
     requires book { store.history.seen.book ≡ C.book }
-    ensures { IfSome result (λ writer. writer.desk.shown.value.history.seen ≡ store.history.seen) }
+    ensures shown { IfSome result (λ writer. writer.desk.shown.value.history.seen
+        ≡ store.history.seen) }
+    ensures pending { IfSome result (λ writer. drop writer.behind writer.log.items ≡ []) }
 {
     let second = store.again().ok()?;
     CellWriter::<C>::new(alloc, store, second, seats).ok()
+}
+
+// The writer behind one publish of what it shows, which leaves room for the next.
+fn with_room<C: CellName, R: Wait>(rt: &R, writer: CellWriter<C>) -> Option<CellWriter<C>>
+    requires book { writer.desk.shown.value.history.seen.book ≡ C.book }
+    requires pending { drop writer.behind writer.log.items ≡ [] }
+    ensures { IfSome result (λ next. next.desk.shown.value.history.seen
+        ≡ writer.desk.shown.value.history.seen) }
+{
+    let mut writer = writer;
+    let added = match writer.published().again() {
+        Ok(store) => writer.append(store).is_ok(),
+        Err(_) => false,
+    };
+    if !added {
+        drop(writer.take(rt));
+        return None;
+    }
+    let (writer, done) = writer.publish_as::<Publishes, R>(rt);
+    if done.is_err() {
+        drop(writer.take(rt));
+        return None;
+    }
+    Some(writer)
 }
 
 // So many seats of what the writer shows.

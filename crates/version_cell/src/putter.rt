@@ -1,7 +1,8 @@
 //! Who puts.
 
-ghost use Rattle.std.specs.Prelude.{◌≡◌, ◌++◌, ◌∷◌, [], length, drop, fold, IfOk};
+ghost use Rattle.std.specs.Prelude.{◌≡◌, ◌≢◌, ◌++◌, ◌∷◌, [], length, drop, fold, IfOk, IfErr, IsOk, Err};
 ghost use Rattle.scan_base.specs.Reading.{RefusesFirst};
+ghost use Rattle.scan_base.specs.declared.fault.Fault.TheVariants.{OutOfMemory};
 ghost use Rattle.table_versions.specs.Stored.{put_of};
 ghost use Rattle.table_versions.specs.Valid.{IsPut};
 ghost use Rattle.version_cell.specs.Puts.{after_log, IsAnswered};
@@ -62,11 +63,43 @@ impl<C: CellName, R: Wait + Drop> Putter<C, R> {
         }
     }
 
+    // What is shown.
+    fn store(&self) -> &Store
+        ensures log { result.now.history.seen.log ≡ self.now }
+        ensures book { result.now.history.seen.book ≡ C.book }
+    {
+        self.writer.as_ref().unwrap().published()
+    }
+
+    // What is to be shown behind a put. Where it is answered, the put stands in the book.
+    fn next(
+        &self,
+        alloc: Global,
+        put: Put,
+        made_by: &snapshot::Snapshot<Put>,
+    ) -> Result<Store, Fault>
+        requires { made_by.now.value ≡ put }
+        ensures book { IfOk result (λ store. store.history.seen.book ≡ C.book) }
+        ensures log { IfOk result (λ store. store.history.seen.log ≡ self.now ++ put_of put ∷ []) }
+        ensures accepted { IfOk result (λ _. IsOk (after_log self.now (put_of put))) }
+        ensures typed { IfOk result (λ _. IsPut (put_of put)) }
+        ensures err { IfErr result (λ fault. fault ≢ OutOfMemory
+            → after_log self.now (put_of put) ≡ Err fault) }
+        ensures first { RefusesFirst result (after_log self.now (put_of put)) }
+    {
+        let shown = self.store();
+        let index = shown.after(alloc, put)?;
+        let Some(history) = shown.history.with(&self.head, made_by) else {
+            return Err(Fault::OutOfMemory);
+        };
+        Ok(Store::new(index, history))
+    }
+
     /// The log so far, for seats to learn. It takes no memory.
     pub fn tell(&self) -> Told<C>
         ensures { result ≡ self.now }
     {
-        Told::new(self.writer.as_ref().unwrap().published().history.again())
+        Told::new(self.store().history.again())
     }
 
     /// Makes the next version, with this put. It waits for the seats that are reading the copy which it changes.
@@ -83,14 +116,10 @@ impl<C: CellName, R: Wait + Drop> Putter<C, R> {
         ensures typed { IfOk result (λ _. IsPut (put_of put)) }
     {
         let made_by = snapshot::Snapshot::of(&put);
-        let shown = self.writer.as_ref().unwrap().published();
-        let index = shown.after(alloc, put)?;
-        let Some(history) = shown.history.with(&self.head, &made_by) else {
-            return Err(Fault::OutOfMemory);
-        };
-        let number = history.len();
+        let store = self.next(alloc, put, &made_by)?;
+        let number = store.history.len();
         let writer = self.writer.take().unwrap();
-        let writer = publish(&self.rt, writer, Store::new(index, history));
+        let writer = publish(&self.rt, writer, store);
         let gone = self.writer.replace(writer);
         let None = gone else {
             unreachable!();

@@ -1,5 +1,5 @@
 use Rattle.table_versions.specs.Database.{Put}
-use Rattle.std.proofs.Common.{ap, subst, refl, List, ℕ}
+use Rattle.std.proofs.Common.{ap, subst, refl, List}
 use mathlib.Core.List.{IsPrefix}
 use Rattle.version_cell.proofs.Fronts.{either_begins}
 use Rattle.version_cell.proofs.book.History.begins.Goals as goal

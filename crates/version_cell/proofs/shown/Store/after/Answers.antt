@@ -1,9 +1,9 @@
-use Rattle.std.proofs.Common.{◌≡◌, ◌≤◌, length, map, arith, Ok}
-use Rattle.scan_base.specs.Limits.{most_commits}
+use Rattle.std.proofs.Common.{◌≡◌, map, arith, Ok}
+use Rattle.std.proofs.lemmas.Result.{err_from_is_err_and}
 use Rattle.table_versions.specs.Stored.{put_of, tables_of}
 use Rattle.version_cell.specs.Puts.{after_log}
 use Rattle.version_cell.specs.Versions.{versions_of}
-use Rattle.version_cell.proofs.Versions.{count_of, few_before, kept_more}
+use Rattle.version_cell.proofs.Versions.{count_of, few_before, first_for, kept_more}
 use Rattle.version_cell.proofs.shown.Store.after.Goals as goal
 
 pub with-requires : goal.with-requires
@@ -23,3 +23,8 @@ returns-clause-ok c =
     rw (c.newest.ensures.tables, c.newest.ensures.number) at c.in_ok-catalog.ensures.rows in
     rw (c.in_ok-new.ensures.ok, c.in_ok-index.ensures)
     (kept_more c.deref.result.now log kept (put_of c.args.put) c.in_ok-catalog.catalog accepts)
+
+pub returns-in_err-catalog-clause-first : goal.returns-in_err-catalog-clause-first
+returns-in_err-catalog-clause-first c =
+    let p = err_from_is_err_and c.from_residual.result c.from_residual.ensures.1 in
+    rw (p.1, p.2) (first_for _ _ c.in_err-catalog.field-0.0 _ (rw (c.newest.ensures.tables, c.newest.ensures.number) at c.in_err-catalog.ensures.refused))

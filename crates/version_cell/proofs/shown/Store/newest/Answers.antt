@@ -1,5 +1,4 @@
-use Rattle.std.proofs.Common.{◌≡◌, ◌≤◌, length, map, arith}
-use Rattle.scan_base.specs.Limits.{most_commits}
+use Rattle.std.proofs.Common.{◌≡◌, length, map, arith}
 use Rattle.table_versions.specs.Stored.{tables_of}
 use Rattle.version_cell.specs.Versions.{versions_of}
 use Rattle.version_cell.proofs.Versions.{newest_number, newest_tables}

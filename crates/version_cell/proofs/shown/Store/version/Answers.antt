@@ -1,4 +1,4 @@
-use Rattle.std.proofs.Common.{◌≡◌, length, map, arith}
+use Rattle.std.proofs.Common.{◌≡◌, map, arith}
 use Rattle.table_versions.specs.Stored.{tables_of}
 use Rattle.version_cell.specs.Versions.{versions_of}
 use Rattle.version_cell.proofs.Versions.{count_of, version_found}
