@@ -7,11 +7,7 @@
 mod connecting;
 mod fetching;
 mod names;
-mod put;
-mod query;
-mod tables;
+pub mod put;
+pub mod query;
+pub mod tables;
 mod telling;
-
-pub use crate::put::{Putting, put};
-pub use crate::query::{Querying, query};
-pub use crate::tables::tables;

@@ -1,20 +1,17 @@
 //! The names of tables, in the rows that list them.
 
-ghost use Rattle.std.specs.Prelude.{◌++◌, Ok};
-ghost use Rattle.scan_base.specs.Lists.{each};
-ghost use Rattle.scan_base.specs.Reading.{◌>>=◌, GivesUnlessMemory};
-ghost use Rattle.arrays.specs.Batch.{rows_of};
+ghost use Rattle.std.specs.Prelude.{◌<◌, All};
+ghost use Rattle.scan_base.specs.Reading.{GivesUnlessMemory};
+ghost use Rattle.arrays.specs.Batch.{row_of, rows_of};
 ghost use Rattle.client_commands.specs.Names.{name_in, names_listed};
+ghost use Rattle.client_commands.specs.inside.Naming.{AddsNames};
 
-use arrays::{Batch, Cells};
+use arrays::{Batch, Cells, Column};
 use flight_client::Rows;
 use flight_info::tables_schema;
 use scan_base::{Fault, Text, ValueRef};
-use std::alloc::Global;
+use std::alloc::{AllocError, Global};
 use table_versions::same_fields;
-
-// The column of the names.
-const NAMES_AT: usize = 2;
 
 /// The names of the tables that rows list.
 ///
@@ -37,19 +34,27 @@ pub(crate) fn names_of(alloc: Global, rows: &Rows) -> Result<Vec<Text>, Fault>
     Ok(names)
 }
 
-// Appends the names that a batch has.
+// Appends the names that the rows of a batch have.
 fn append_names(alloc: Global, names: &mut Vec<Text>, batch: &Batch) -> Result<(), Fault>
-    ensures { GivesUnlessMemory (λ _. names.new.items) result
-        (each name_in (rows_of batch.now) >>= λ more. Ok (names.old.items ++ more)) }
+    ensures { AddsNames result names.old.items names.new.items (rows_of batch.now) }
 {
     for place in 0..batch.rows() {
-        let Some(column) = batch.columns().get(NAMES_AT) else {
-            return Err(Fault::BadBatch);
-        };
-        let ValueRef::Text(name) = column.value_at(place) else {
-            return Err(Fault::BadBatch);
-        };
-        names.push(Text::new(alloc, name)?)?;
+        let name = name_at(alloc, batch.columns(), place)?;
+        names.push(name).map_err(|_| AllocError)?;
     }
     Ok(())
+}
+
+// The name that a row has.
+fn name_at(alloc: Global, columns: &[Column], place: usize) -> Result<Text, Fault>
+    requires { All (λ column. place < column.len) columns.now }
+    ensures { GivesUnlessMemory (λ name. name) result (name_in (row_of columns.now place)) }
+{
+    let [_, _, names, ..] = columns else {
+        return Err(Fault::BadBatch);
+    };
+    match names.value_at(place) {
+        ValueRef::Text(name) => Ok(Text::new(alloc, name)?),
+        _ => Err(Fault::BadBatch),
+    }
 }

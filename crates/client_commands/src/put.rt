@@ -45,9 +45,9 @@ pub fn put<C: Connect, I: Input, W: Output, E: Output>(
         (source_of (I.remaining input.old) (I.failures input.old))
         (source_of (I.remaining input.new) (I.failures input.new)) (network.new ≡ network.old)
         (λ line. (reader : C.Reader) × (writer : C.Writer)
-        × C.connects network.old putting.port reader writer network.new
+        × C.connects network.old putting.entry.port reader writer network.new
         × (line ≡ opened_line (C.Reader.remaining reader) (C.Writer.contents writer)))
-        putting.target result
+        putting.entry.target result
         (desk_of (said_of (W.contents output.old) (W.failures output.old))
         (said_of (E.contents faults.old) (E.failures faults.old)))
         (desk_of (said_of (W.contents output.new) (W.failures output.new))
@@ -72,9 +72,9 @@ fn put_messages<C: Connect, W: Output, E: Output>(
     requires writes { W.failures output.old < 18446744073709551615 }
     requires prints { E.failures faults.old < 18446744073709551615 }
     ensures { Connects (λ line. (reader : C.Reader) × (writer : C.Writer)
-        × C.connects network.old putting.port reader writer network.new
+        × C.connects network.old putting.entry.port reader writer network.new
         × (line ≡ opened_line (C.Reader.remaining reader) (C.Writer.contents writer)))
-        (Calls DoPut (put_payloads putting.target messages.now) (AnswersOne (λ rows. rows) count_of))
+        (Calls DoPut (put_payloads putting.entry.target messages.now) (AnswersOne (λ rows. rows) count_of))
         count_line result
         (desk_of (said_of (W.contents output.old) (W.failures output.old))
         (said_of (E.contents faults.old) (E.failures faults.old)))

@@ -35,9 +35,9 @@ pub fn query<C: Connect, W: Output, E: Output>(
     requires writes { W.failures output.old < 18446744073709551615 }
     requires prints { E.failures faults.old < 18446744073709551615 }
     ensures { Queries (λ line. (reader : C.Reader) × (writer : C.Writer)
-        × C.connects network.old query.port reader writer network.new
+        × C.connects network.old query.entry.port reader writer network.new
         × (line ≡ opened_line (C.Reader.remaining reader) (C.Writer.contents writer)))
-        query.sql.now result
+        query.entry.sql.now result
         (desk_of (said_of (W.contents output.old) (W.failures output.old))
         (said_of (E.contents faults.old) (E.failures faults.old)))
         (desk_of (said_of (W.contents output.new) (W.failures output.new))
