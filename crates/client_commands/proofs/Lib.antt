@@ -1,3 +1,2 @@
 pub mod Fetched
 pub mod Listing
-pub mod Told

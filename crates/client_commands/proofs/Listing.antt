@@ -1,14 +1,16 @@
 -- Names that are gathered row by row.
-use Rattle.std.proofs.Common.{◌≡◌, ◌≢◌, ◌<◌, ◌≤◌, ℕ, ◌+◌, ◌-◌, List, [], ◌∷◌, ◌++◌, map, Result, Ok, Err, refl, sym, ap, subst, ◌∙◌, append_assoc, append-nil}
-use Rattle.std.specs.List.{range_with_len}
+use Rattle.std.proofs.Common.{◌≡◌, ◌<◌, ◌≤◌, ℕ, ◌+◌, ◌-◌, List, [], ◌∷◌, ◌++◌, length, map, take, drop, get_or, Result, Ok, Err, refl, sym, ap, ◌∙◌, append_assoc, append-nil}
+use Rattle.std.specs.List.{flat_map, range_with_len}
+use Rattle.std.proofs.lemmas.Grind.{flat_map-append}
+use Rattle.std.proofs.lemmas.List.{take-append-drop, take_more, drop_more}
 use Rattle.scan_base.specs.declared.fault.Fault.{Fault}
-use Rattle.scan_base.specs.declared.fault.Fault.TheVariants.{OutOfMemory}
 use Rattle.scan_base.specs.declared.value.Value.{Value}
 use Rattle.scan_base.specs.Lists.{each, behind}
 use Rattle.scan_base.specs.Reading.{◌>>=◌}
 use Rattle.scan_base.proofs.ReadingLaws.{numbers_more, numbers_stop, numbers_end}
 use Rattle.arrays.specs.Batch.{BatchAt, row_of, rows_of}
 use Rattle.client_commands.specs.Names.{name_in}
+use Rattle.client_commands.specs.inside.Naming.{AddsNames}
 
 -- reading what a function gives is reading by both
 each_map : {A B C : Type 0} (read : B → Result C Fault) (f : A → B) (xs : List A) → each read (map f xs) ≡ each (λ x. read (f x)) xs
@@ -29,15 +31,12 @@ pub none_listed : (batch : BatchAt) (old : List (List ℕ)) → IsListed batch 0
 none_listed batch old = record {
   done = [];
   grown = sym (append-nil old);
-  left = each_map name_in (row_of batch.columns) (range_with_len 0 batch.rows) ∙ sym (nothing (each (name_of batch) (range_with_len 0 (batch.rows - 0))) ∙ at_zero);
+  left = each_map name_in (row_of batch.columns) (range_with_len 0 batch.rows) ∙ sym (nothing (each (name_of batch) (range_with_len 0 batch.rows)));
 }
   where
     nothing : (rest : Result (List (List ℕ)) Fault) → behind [] rest ≡ rest
     nothing (Ok names) = refl
     nothing (Err fault) = refl
-
-    at_zero : each (name_of batch) (range_with_len 0 (batch.rows - 0)) ≡ each (name_of batch) (range_with_len 0 batch.rows)
-    at_zero = grind
 
 pub more_listed : (batch : BatchAt) (place : ℕ) (old mid new : List (List ℕ)) (name : List ℕ) → place < batch.rows → name_of batch place ≡ Ok name → new ≡ mid ++ name ∷ []
     → IsListed batch place old mid → IsListed batch (place + 1) old new
@@ -55,3 +54,78 @@ pub all_listed : (batch : BatchAt) (place : ℕ) (old new : List (List ℕ)) →
     → (names : List (List ℕ)) × (each name_in (rows_of batch) ≡ Ok names) × (new ≡ old ++ names)
 all_listed batch place old new all listed =
     (listed.done, listed.left ∙ numbers_end (name_of batch) listed.done place batch.rows all, listed.grown)
+
+-- ---- the rows of batches
+
+-- two readings, one after the other, that give something: each gives something
+both : {A B : Type 0} (read : Result A Fault) (next : A → Result B Fault) (y : B) → (read >>= next) ≡ Ok y → (x : A) × (read ≡ Ok x) × (next x ≡ Ok y)
+both (Ok x) next y e = (x, refl, e)
+both (Err fault) next y e = absurd cc
+
+abbrev fine : {A : Type 0} → A → Result A Fault
+fine x = Ok x
+
+each_step : {A B : Type 0} (read : A → Result B Fault) (x : A) (xs : List A) (y : B) (ys : List B) → read x ≡ Ok y → each read xs ≡ Ok ys → each read (x ∷ xs) ≡ Ok (y ∷ ys)
+each_step read x xs y ys one all = rw (one, all) refl
+
+-- what is read of some items, and then of others
+each_join : {A B : Type 0} (read : A → Result B Fault) (xs ys : List A) (done : List B) → each read xs ≡ Ok done → each read (xs ++ ys) ≡ behind done (each read ys)
+each_join {B = B} read [] ys done all = let same : [] ≡ done = cc in rw (← same) (nothing (each read ys))
+  where
+    nothing : (rest : Result (List B) Fault) → rest ≡ behind [] rest
+    nothing (Ok names) = refl
+    nothing (Err fault) = refl
+each_join {B = B} read (x ∷ xs) ys done all =
+    let front = both (read x) (λ (y : B). (each read xs >>= λ rest. fine (y ∷ rest))) done all in
+    let rest = both (each read xs) (λ (l : List B). fine (front.0 ∷ l)) done front.2 in
+    let same : front.0 ∷ rest.0 ≡ done = let last = rest.2 in cc in
+    rw (front.1, each_join read xs ys rest.0 rest.1, ← same) (further front.0 rest.0 (each read ys))
+  where
+    further : (y : B) (before : List B) (after : Result (List B) Fault) → (behind before after >>= λ (l : List B). Ok (y ∷ l)) ≡ behind (y ∷ before) after
+    further y before (Ok l) = refl
+    further y before (Err fault) = refl
+
+-- the names in the rows of the first batches
+abbrev pub ListsFirst : List BatchAt → ℕ → List (List ℕ) → Type 0
+ListsFirst batches i names = each name_in (flat_map rows_of (take i batches)) ≡ Ok names
+
+rows_split : (batches : List BatchAt) (i : ℕ) (batch : BatchAt) → i < length batches → batch ≡ get_or batches i batch
+    → flat_map rows_of batches ≡ flat_map rows_of (take i batches) ++ (rows_of batch ++ flat_map rows_of (drop (i + 1) batches))
+rows_split batches i batch inside is =
+    ap (flat_map rows_of) (sym (take-append-drop i batches) ∙ ap (λ (l : List BatchAt). take i batches ++ l) (drop_more batches i batch inside ∙ ap (λ (b : BatchAt). b ∷ drop (i + 1) batches) (sym is)))
+    ∙ flat_map-append rows_of (take i batches) (batch ∷ drop (i + 1) batches)
+
+rows_more : (batches : List BatchAt) (i : ℕ) (batch : BatchAt) → i < length batches → batch ≡ get_or batches i batch
+    → flat_map rows_of (take (i + 1) batches) ≡ flat_map rows_of (take i batches) ++ rows_of batch
+rows_more batches i batch inside is =
+    ap (flat_map rows_of) (take_more batches i batch inside ∙ ap (λ (b : BatchAt). take i batches ++ b ∷ []) (sym is))
+    ∙ flat_map-append rows_of (take i batches) (batch ∷ [])
+    ∙ ap (λ (l : List (List Value)). flat_map rows_of (take i batches) ++ l) (append-nil (rows_of batch))
+
+pub batch_listed : (batches : List BatchAt) (i : ℕ) (batch : BatchAt) (old new : List (List ℕ)) → i < length batches → batch ≡ get_or batches i batch
+    → ListsFirst batches i old → AddsNames (Ok tt) old new (rows_of batch) → ListsFirst batches (i + 1) new
+batch_listed batches i batch old new inside is listed adds =
+    rw (rows_more batches i batch inside is, each_join name_in (flat_map rows_of (take i batches)) (rows_of batch) old listed, adds.1, adds.2) refl
+
+pub batch_refused : (batches : List BatchAt) (i : ℕ) (batch : BatchAt) (old : List (List ℕ)) (fault : Fault) → i < length batches → batch ≡ get_or batches i batch
+    → ListsFirst batches i old → each name_in (rows_of batch) ≡ Err fault → each name_in (flat_map rows_of batches) ≡ Err fault
+batch_refused batches i batch old fault inside is listed refused =
+    rw (
+      rows_split batches i batch inside is,
+      each_join name_in (flat_map rows_of (take i batches)) (rows_of batch ++ flat_map rows_of (drop (i + 1) batches)) old listed,
+      stopped (rows_of batch) (flat_map rows_of (drop (i + 1) batches)) refused,
+    ) refl
+  where
+    stopped : (xs ys : List (List Value)) → each name_in xs ≡ Err fault → each name_in (xs ++ ys) ≡ Err fault
+    stopped [] ys e = absurd cc
+    stopped (x ∷ xs) ys e = by (name_in x) (each name_in xs) refl refl
+      where
+        by : (one : Result (List ℕ) Fault) (rest : Result (List (List ℕ)) Fault) → name_in x ≡ one → each name_in xs ≡ rest → each name_in ((x ∷ xs) ++ ys) ≡ Err fault
+        by (Err other) rest first all = rw first at e ∙ sym (rw first refl)
+        by (Ok name) (Ok names) first all = let done : Ok (name ∷ names) ≡ Err fault = rw (first, all) at e in absurd cc
+        by (Ok name) (Err other) first all =
+            let same : other ≡ fault = let last : fine_or other ≡ Err fault = rw (first, all) at e in cc in
+            rw (first, stopped xs ys (all ∙ ap fine_or same)) refl
+
+    fine_or : Fault → Result (List (List ℕ)) Fault
+    fine_or fault = Err fault

@@ -28,7 +28,8 @@ pub(crate) fn names_of(alloc: Global, rows: &Rows) -> Result<Vec<Text>, Fault>
         return Err(Fault::SchemaMismatch);
     }
     let mut names = Vec::new(alloc);
-    for batch in rows.batches() {
+    let batches = rows.batches();
+    for batch in batches {
         append_names(alloc, &mut names, batch)?;
     }
     Ok(names)
