@@ -60,9 +60,13 @@ Connects Opens Made text status old new =
 
 -- ---- query
 
+-- the lines of an answer
+abbrev pub table_lines : Table → List ℕ
+table_lines table = lines_of table.schema table.rows
+
 -- the lines of the rows that a query answers
 abbrev pub Queries : (Line → Type 0) → List ℕ → ExitStatus → Desk → Desk → Type 0
-Queries Opens sql status old new = Connects Opens (Fetches (rows_of sql)) (λ (table : Table). lines_of table.schema table.rows) status old new
+Queries Opens sql status old new = Connects Opens (Fetches (rows_of sql)) table_lines status old new
 
 -- ---- tables
 

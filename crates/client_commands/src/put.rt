@@ -7,11 +7,12 @@ ghost use Rattle.client_calls.specs.Commands.{count_of, put_payloads};
 ghost use Rattle.client_calls.specs.Outcome.{Calls};
 ghost use Rattle.command_ends.specs.Printing.{count_line, said_of};
 ghost use Rattle.command_ends.specs.Whole.{source_of};
+ghost use Rattle.client_commands.specs.Told.{Tells};
 ghost use Rattle.client_commands.specs.Commands.{Connects, Puts, desk_of, opened_line};
 
 use crate::connecting::{end_unconnected, open};
 use crate::telling::{end_by_failure, end_by_printing};
-use client_calls::Target;
+use client_calls::{Failure, Target};
 use command_ends::{Connect, ExitStatus, end_by_cause, end_by_fault, print_count, read_messages};
 use grpc_frame::{Input, Output};
 use ipc_stream::IpcMessage;
@@ -85,8 +86,30 @@ fn put_messages<C: Connect, W: Output, E: Output>(
         Ok(connection) => connection,
         Err(error) => return end_unconnected(alloc, faults, putting.port, &error),
     };
-    match client_calls::put(alloc, &mut connection, putting.target, messages) {
-        Ok(rows) => end_by_printing(faults, print_count(alloc, output, rows)),
+    let counted = client_calls::put(alloc, &mut connection, putting.target, messages);
+    tell_count(alloc, output, faults, counted)
+}
+
+// Tells how many rows were put, or why none were.
+fn tell_count<W: Output, E: Output>(
+    alloc: Global,
+    output: &mut W,
+    faults: &mut E,
+    counted: Result<u64, Failure>,
+) -> ExitStatus
+    requires writes { W.failures output.old < 18446744073709551615 }
+    requires prints { E.failures faults.old < 18446744073709551615 }
+    ensures { Tells count_line counted result
+        (said_of (W.contents output.old) (W.failures output.old))
+        (said_of (W.contents output.new) (W.failures output.new))
+        (said_of (E.contents faults.old) (E.failures faults.old))
+        (said_of (E.contents faults.new) (E.failures faults.new)) }
+{
+    match counted {
+        Ok(rows) => {
+            let printed = print_count(alloc, output, rows);
+            end_by_printing(faults, printed)
+        }
         Err(failure) => end_by_failure(faults, failure),
     }
 }

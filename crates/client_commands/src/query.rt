@@ -2,12 +2,15 @@
 
 ghost use Rattle.std.specs.Prelude.{◌≡◌, ◌<◌};
 ghost use Rattle.command_ends.specs.Printing.{said_of};
-ghost use Rattle.client_commands.specs.Commands.{Queries, desk_of, opened_line};
+ghost use Rattle.client_commands.specs.Told.{Tells};
+ghost use Rattle.client_commands.specs.Commands.{table_lines, Queries, desk_of, opened_line};
 
 use crate::connecting::{end_unconnected, open};
 use crate::fetching::fetch_rows;
 use crate::telling::{end_by_failure, end_by_printing};
+use client_calls::Failure;
 use command_ends::{Connect, ExitStatus};
+use flight_client::Rows;
 use flight_proto::Wanted;
 use grpc_frame::Output;
 use row_lines::write_rows;
@@ -47,7 +50,26 @@ pub fn query<C: Connect, W: Output, E: Output>(
         Ok(connection) => connection,
         Err(error) => return end_unconnected(alloc, faults, query.port, &error),
     };
-    match fetch_rows(alloc, &mut connection, Wanted::Rows(query.sql)) {
+    let fetched = fetch_rows(alloc, &mut connection, Wanted::Rows(query.sql));
+    tell_rows(alloc, output, faults, fetched)
+}
+
+// Tells the rows that were fetched, or why none were.
+fn tell_rows<W: Output, E: Output>(
+    alloc: Global,
+    output: &mut W,
+    faults: &mut E,
+    fetched: Result<Rows, Failure>,
+) -> ExitStatus
+    requires writes { W.failures output.old < 18446744073709551615 }
+    requires prints { E.failures faults.old < 18446744073709551615 }
+    ensures { Tells table_lines fetched result
+        (said_of (W.contents output.old) (W.failures output.old))
+        (said_of (W.contents output.new) (W.failures output.new))
+        (said_of (E.contents faults.old) (E.failures faults.old))
+        (said_of (E.contents faults.new) (E.failures faults.new)) }
+{
+    match fetched {
         Ok(rows) => {
             let printed = write_rows(alloc, rows.schema(), rows.batches(), output);
             end_by_printing(faults, printed)

@@ -2,6 +2,9 @@
 
 ghost use Rattle.std.specs.Prelude.{◌≡◌, ◌<◌};
 ghost use Rattle.command_ends.specs.Printing.{said_of};
+ghost use Rattle.std.specs.List.{flat_map};
+ghost use Rattle.row_lines.specs.Lines.{name_line};
+ghost use Rattle.client_commands.specs.Told.{Tells};
 ghost use Rattle.client_commands.specs.Commands.{FetchesNames, ListsTables, desk_of, opened_line};
 
 use crate::connecting::{end_unconnected, open};
@@ -40,8 +43,30 @@ pub fn tables<C: Connect, W: Output, E: Output>(
         Ok(connection) => connection,
         Err(error) => return end_unconnected(alloc, faults, port, &error),
     };
-    match fetch_names(alloc, &mut connection) {
-        Ok(names) => end_by_printing(faults, write_names(alloc, &names, output)),
+    let fetched = fetch_names(alloc, &mut connection);
+    tell_names(alloc, output, faults, fetched)
+}
+
+// Tells the names that were fetched, or why none were.
+fn tell_names<W: Output, E: Output>(
+    alloc: Global,
+    output: &mut W,
+    faults: &mut E,
+    fetched: Result<Vec<Text>, Failure>,
+) -> ExitStatus
+    requires writes { W.failures output.old < 18446744073709551615 }
+    requires prints { E.failures faults.old < 18446744073709551615 }
+    ensures { Tells (λ names. flat_map name_line names.items) fetched result
+        (said_of (W.contents output.old) (W.failures output.old))
+        (said_of (W.contents output.new) (W.failures output.new))
+        (said_of (E.contents faults.old) (E.failures faults.old))
+        (said_of (E.contents faults.new) (E.failures faults.new)) }
+{
+    match fetched {
+        Ok(names) => {
+            let printed = write_names(alloc, &names, output);
+            end_by_printing(faults, printed)
+        }
         Err(failure) => end_by_failure(faults, failure),
     }
 }
