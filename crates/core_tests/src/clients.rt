@@ -3,7 +3,9 @@
 ghost use Rattle.std.specs.Prelude.{◌<◌, ◌≡◌, IfOk};
 
 use client_calls::{Mode, Target};
-use client_commands::{Putting, Querying, put, query, tables};
+use client_commands::put::{Putting, put};
+use client_commands::query::{Querying, query};
+use client_commands::tables::tables;
 use command_ends::{Connect, Listen};
 use command_line::Serving;
 use commands::serve::serve;

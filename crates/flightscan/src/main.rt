@@ -5,7 +5,9 @@
 ghost use Rattle.std.specs.Prelude.{◌<◌};
 
 use client_calls::Target;
-use client_commands::{Putting, Querying, put, query, tables};
+use client_commands::put::{Putting, put};
+use client_commands::query::{Querying, query};
+use client_commands::tables::tables;
 use command_ends::{ExitStatus, end_by_fault};
 use command_line::{Mode, Request};
 use commands::arguments::refuse_arguments;
