@@ -1,4 +1,5 @@
 -- Names that are gathered row by row.
+use native.Mathlib.Omega.{arith}
 use Rattle.std.proofs.Common.{◌≡◌, ◌<◌, ◌≤◌, ℕ, ◌+◌, ◌-◌, List, [], ◌∷◌, ◌++◌, length, map, take, drop, get_or, Result, Ok, Err, refl, sym, ap, ◌∙◌, append_assoc, append-nil}
 use Rattle.std.specs.List.{flat_map, range_with_len}
 use Rattle.std.proofs.lemmas.Grind.{flat_map-append}
@@ -31,9 +32,15 @@ pub none_listed : (batch : BatchAt) (old : List (List ℕ)) → IsListed batch 0
 none_listed batch old = record {
   done = [];
   grown = sym (append-nil old);
-  left = each_map name_in (row_of batch.columns) (range_with_len 0 batch.rows) ∙ sym (nothing (each (name_of batch) (range_with_len 0 batch.rows)));
+  left =
+      each_map name_in (row_of batch.columns) (range_with_len 0 batch.rows)
+      ∙ ap (λ (n : ℕ). each (name_of batch) (range_with_len 0 n)) whole
+      ∙ sym (nothing (each (name_of batch) (range_with_len 0 (batch.rows - 0))));
 }
   where
+    whole : batch.rows ≡ batch.rows - 0
+    whole = omega arith
+
     nothing : (rest : Result (List (List ℕ)) Fault) → behind [] rest ≡ rest
     nothing (Ok names) = refl
     nothing (Err fault) = refl
@@ -57,17 +64,6 @@ all_listed batch place old new all listed =
 
 -- ---- the rows of batches
 
--- two readings, one after the other, that give something: each gives something
-both : {A B : Type 0} (read : Result A Fault) (next : A → Result B Fault) (y : B) → (read >>= next) ≡ Ok y → (x : A) × (read ≡ Ok x) × (next x ≡ Ok y)
-both (Ok x) next y e = (x, refl, e)
-both (Err fault) next y e = absurd cc
-
-abbrev fine : {A : Type 0} → A → Result A Fault
-fine x = Ok x
-
-each_step : {A B : Type 0} (read : A → Result B Fault) (x : A) (xs : List A) (y : B) (ys : List B) → read x ≡ Ok y → each read xs ≡ Ok ys → each read (x ∷ xs) ≡ Ok (y ∷ ys)
-each_step read x xs y ys one all = rw (one, all) refl
-
 -- what is read of some items, and then of others
 each_join : {A B : Type 0} (read : A → Result B Fault) (xs ys : List A) (done : List B) → each read xs ≡ Ok done → each read (xs ++ ys) ≡ behind done (each read ys)
 each_join {B = B} read [] ys done all = let same : [] ≡ done = cc in rw (← same) (nothing (each read ys))
@@ -75,15 +71,26 @@ each_join {B = B} read [] ys done all = let same : [] ≡ done = cc in rw (← s
     nothing : (rest : Result (List B) Fault) → rest ≡ behind [] rest
     nothing (Ok names) = refl
     nothing (Err fault) = refl
-each_join {B = B} read (x ∷ xs) ys done all =
-    let front = both (read x) (λ (y : B). (each read xs >>= λ rest. fine (y ∷ rest))) done all in
-    let rest = both (each read xs) (λ (l : List B). fine (front.0 ∷ l)) done front.2 in
-    let same : front.0 ∷ rest.0 ≡ done = let last = rest.2 in cc in
-    rw (front.1, each_join read xs ys rest.0 rest.1, ← same) (further front.0 rest.0 (each read ys))
+each_join {A = A} {B = B} read (x ∷ xs) ys done all = by (read x) (each read xs) refl refl all (λ before others. each_join read xs ys before others)
   where
     further : (y : B) (before : List B) (after : Result (List B) Fault) → (behind before after >>= λ (l : List B). Ok (y ∷ l)) ≡ behind (y ∷ before) after
     further y before (Ok l) = refl
     further y before (Err fault) = refl
+
+    both_read : Result B Fault → Result (List B) Fault → Result (List B) Fault
+    both_read one rest = one >>= λ (y : B). (rest >>= λ (l : List B). Ok (y ∷ l))
+
+    by : (one : Result B Fault) (rest : Result (List B) Fault) → read x ≡ one → each read xs ≡ rest → both_read one rest ≡ Ok done
+        → ((before : List B) → each read xs ≡ Ok before → each read (xs ++ ys) ≡ behind before (each read ys))
+        → both_read (read x) (each read (xs ++ ys)) ≡ behind done (each read ys)
+    by (Err fault) rest first others e further_join = absurd cc
+    by (Ok y) (Err fault) first others e further_join = absurd cc
+    by (Ok y) (Ok before) first others e further_join =
+        let same : y ∷ before ≡ done = cc in
+        ap (λ (one : Result B Fault). both_read one (each read (xs ++ ys))) first
+        ∙ ap (both_read (Ok y)) (further_join before others)
+        ∙ further y before (each read ys)
+        ∙ ap (λ (l : List B). behind l (each read ys)) same
 
 -- the names in the rows of the first batches
 abbrev pub ListsFirst : List BatchAt → ℕ → List (List ℕ) → Type 0
@@ -107,25 +114,27 @@ pub batch_listed : (batches : List BatchAt) (i : ℕ) (batch : BatchAt) (old new
 batch_listed batches i batch old new inside is listed adds =
     rw (rows_more batches i batch inside is, each_join name_in (flat_map rows_of (take i batches)) (rows_of batch) old listed, adds.1, adds.2) refl
 
+-- names of which one cannot be read, and others behind them
+each_stop : (fault : Fault) (xs ys : List (List Value)) → each name_in xs ≡ Err fault → each name_in (xs ++ ys) ≡ Err fault
+each_stop fault [] ys e = absurd cc
+each_stop fault (x ∷ xs) ys e = by (name_in x) (each name_in xs) refl refl e (λ all. each_stop fault xs ys all)
+  where
+    both_read : Result (List ℕ) Fault → Result (List (List ℕ)) Fault → Result (List (List ℕ)) Fault
+    both_read one rest = one >>= λ (y : List ℕ). (rest >>= λ (l : List (List ℕ)). Ok (y ∷ l))
+
+    by : (one : Result (List ℕ) Fault) (rest : Result (List (List ℕ)) Fault) → name_in x ≡ one → each name_in xs ≡ rest → both_read one rest ≡ Err fault
+        → (each name_in xs ≡ Err fault → each name_in (xs ++ ys) ≡ Err fault) → both_read (name_in x) (each name_in (xs ++ ys)) ≡ Err fault
+    by (Err other) rest first all e stop = ap (λ (one : Result (List ℕ) Fault). both_read one (each name_in (xs ++ ys))) first ∙ e
+    by (Ok name) (Ok names) first all e stop = absurd cc
+    by (Ok name) (Err other) first all e stop =
+        ap (λ (one : Result (List ℕ) Fault). both_read one (each name_in (xs ++ ys))) first
+        ∙ ap (both_read (Ok name)) (stop (all ∙ e))
+
 pub batch_refused : (batches : List BatchAt) (i : ℕ) (batch : BatchAt) (old : List (List ℕ)) (fault : Fault) → i < length batches → batch ≡ get_or batches i batch
     → ListsFirst batches i old → each name_in (rows_of batch) ≡ Err fault → each name_in (flat_map rows_of batches) ≡ Err fault
 batch_refused batches i batch old fault inside is listed refused =
     rw (
       rows_split batches i batch inside is,
       each_join name_in (flat_map rows_of (take i batches)) (rows_of batch ++ flat_map rows_of (drop (i + 1) batches)) old listed,
-      stopped (rows_of batch) (flat_map rows_of (drop (i + 1) batches)) refused,
+      each_stop fault (rows_of batch) (flat_map rows_of (drop (i + 1) batches)) refused,
     ) refl
-  where
-    stopped : (xs ys : List (List Value)) → each name_in xs ≡ Err fault → each name_in (xs ++ ys) ≡ Err fault
-    stopped [] ys e = absurd cc
-    stopped (x ∷ xs) ys e = by (name_in x) (each name_in xs) refl refl
-      where
-        by : (one : Result (List ℕ) Fault) (rest : Result (List (List ℕ)) Fault) → name_in x ≡ one → each name_in xs ≡ rest → each name_in ((x ∷ xs) ++ ys) ≡ Err fault
-        by (Err other) rest first all = rw first at e ∙ sym (rw first refl)
-        by (Ok name) (Ok names) first all = let done : Ok (name ∷ names) ≡ Err fault = rw (first, all) at e in absurd cc
-        by (Ok name) (Err other) first all =
-            let same : other ≡ fault = let last : fine_or other ≡ Err fault = rw (first, all) at e in cc in
-            rw (first, stopped xs ys (all ∙ ap fine_or same)) refl
-
-    fine_or : Fault → Result (List (List ℕ)) Fault
-    fine_or fault = Err fault

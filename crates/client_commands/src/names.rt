@@ -8,25 +8,18 @@ ghost use Rattle.client_commands.specs.inside.Naming.{AddsNames};
 
 use arrays::{Batch, Cells, Column};
 use flight_client::Rows;
-use flight_info::tables_schema;
 use scan_base::{Fault, Text, ValueRef};
 use std::alloc::{AllocError, Global};
-use table_versions::same_fields;
 
 /// The names of the tables that rows list.
 ///
 /// # Errors
 ///
-/// - `Fault::SchemaMismatch` (F11) where the columns are not those of a list of tables.
-/// - `Fault::BadBatch` (F8) where a name is null.
+/// - `Fault::BadBatch` (F8) where a row has no text in its third cell.
 /// - `Fault::OutOfMemory` (F21) where memory is refused.
 pub(crate) fn names_of(alloc: Global, rows: &Rows) -> Result<Vec<Text>, Fault>
     ensures { GivesUnlessMemory (λ names. names.items) result (names_listed rows.now) }
 {
-    let listed = tables_schema(alloc)?;
-    if !same_fields(listed.fields.as_slice(), rows.schema().fields.as_slice()) {
-        return Err(Fault::SchemaMismatch);
-    }
     let mut names = Vec::new(alloc);
     let batches = rows.batches();
     for batch in batches {
