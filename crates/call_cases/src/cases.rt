@@ -1,10 +1,7 @@
 //! Cases, line by line.
 
 use crate::answers::push_answer;
-use command_line::Request;
-use commands::pipe::pipe;
-use commands::words::read_words;
-use flight_calls::Options;
+use commands::run::run;
 use grpc_frame::{Inbox, MemoryInput, MemoryOutput};
 use hash_seed::HashSeed;
 use scan_base::Fault;
@@ -101,18 +98,13 @@ impl Cases {
         let mut reader = MemoryInput::new(&input);
         let mut writer = MemoryOutput::new(alloc);
         let mut faults = MemoryOutput::new(alloc);
-        let Ok(Request::Pipe { parts, workers }) = read_words(alloc, &words, &mut faults) else {
-            return Err(Fault::BadFrame);
-        };
-        let workers = workers as usize;
-        let options = Options { parts, workers };
-        let status = pipe(
+        let status = run(
             alloc,
             self.seed,
+            &words,
             &mut reader,
             &mut writer,
             &mut faults,
-            options,
         )
         .number();
         let mut inbox = Inbox::of_client(alloc);

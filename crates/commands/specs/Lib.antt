@@ -1,3 +1,3 @@
+pub mod Status
 pub mod Pipe
-pub mod Serve
-pub mod Words
+pub mod Run

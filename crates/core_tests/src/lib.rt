@@ -4,10 +4,6 @@
 #[cfg(test)]
 mod calls;
 #[cfg(test)]
-mod clients;
-#[cfg(test)]
-mod command_lines;
-#[cfg(test)]
 mod first_run;
 #[cfg(test)]
 mod program;

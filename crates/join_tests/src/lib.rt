@@ -1,8 +1,6 @@
-//! Tests alone: joins by pieces, beside plain nested loops, and groups that are merged.
+//! Tests alone: joins by pieces, beside plain nested loops.
 #![tactic(auto)]
 
-#[cfg(test)]
-mod merges;
 #[cfg(test)]
 mod pieces;
 #[cfg(test)]

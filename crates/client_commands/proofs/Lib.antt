@@ -1,2 +1,0 @@
-pub mod Fetched
-pub mod Listing

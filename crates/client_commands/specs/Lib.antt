@@ -1,5 +1,0 @@
-pub mod Told
-pub mod Fetching
-pub mod Names
-pub mod Commands
-pub mod inside

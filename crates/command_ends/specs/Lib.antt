@@ -1,4 +1,0 @@
-pub mod Status
-pub mod Printing
-pub mod Whole
-pub mod inside
