@@ -15,27 +15,14 @@ PROGRAM = HERE.parent.parent / "crates/stream_cases"
 sys.path.append(str(ARROW))
 
 import trees  # noqa: E402
+from framing import END, WORD, framed, padded, stored_messages, stream_of  # noqa: E402
 from layout import written  # noqa: E402
-from reader import Fault, Table, demand  # noqa: E402
+from reader import Fault  # noqa: E402
 
 LINES, ANSWERS = [], []
-WORD, END = b"\xff" * 4, b"\xff" * 4 + bytes(4)
 REFUSED = "F6 BadFlatbuffer"
 
 # ---- streams
-
-
-def framed(header, body=b"", length=None):
-    """A message in a stream; its length may lie."""
-    return WORD + struct.pack("<i", len(header) if length is None else length) + header + body
-
-
-def padded(header):
-    return header + bytes(-len(header) % 8)
-
-
-def stream_of(messages):
-    return b"".join(framed(header, body) for header, body in messages)
 
 
 def told(messages):
@@ -44,24 +31,10 @@ def told(messages):
 
 def cut_up(data):
     """The second reader: the messages of a stream, or why there are none."""
-    place, found = 0, []
     try:
-        while place < len(data):
-            demand(data[place : place + 4] == WORD and place + 8 <= len(data), "F6")
-            (length,) = struct.unpack_from("<i", data, place + 4)
-            if length == 0:
-                break
-            demand(0 < length <= len(data) - place - 8, "F6")
-            header = data[place + 8 : place + 8 + length]
-            root = Table(header, 0).number(0, 4)
-            size = Table(header, root).scalar(3, 8)
-            place += 8 + length
-            demand(0 <= size <= len(data) - place, "F6")
-            found.append((header, data[place : place + size]))
-            place += size
+        return told([*stored_messages(data)])
     except Fault:
         return REFUSED
-    return told(found)
 
 
 def note(text):
@@ -129,6 +102,17 @@ def whole_streams():
     whole(by_flatc("schema_all"), by_flatc("all_batch_flatc"))
     whole(by_flatc("schema_all_spread"), by_flatc("all_batch_packed"))
     whole(by_flatc("schema_with_body", 3), by_flatc("empty_Int64"))
+
+    note("the same with zeros behind their headers, up to multiples of 8 and of 64 bytes, as Arrow's writers have them")
+    for size in (8, 64):
+        names = ("schema_of_Int8", "dictionary_a", "indices_0", "dictionary_delta_b", "indices_1_0", "batch_Utf8")
+        whole(*((padded(header, size), body) for header, body in map(by_flatc, names)))
+
+    note("the stored stream of trips.py: a dictionary, a delta and two batches, all at multiples of 64 bytes")
+    trips = (HERE / "trips.arrows").read_bytes()
+    for data in (trips, trips[: -len(END)], trips + trips, trips[: -len(END)] + trips):
+        ask(data, cut_up(data))
+    refused(trips[: -len(END) - 1])
 
     note("the same in two layouts that flatc never picks")
     for layout in ("packed", "spread"):

@@ -5,6 +5,7 @@ use Rattle.scan_base.specs.declared.fault.Fault.{Fault}
 use Rattle.scan_base.specs.Fault.{text_of}
 use Rattle.grpc_frame.specs.Ends.{AppendsBeginning}
 use Rattle.flight_calls.specs.declared.setting.Options.{Options}
+use Rattle.flight_calls.specs.Seats.{alone}
 use Rattle.flight_calls.specs.Owed.{Connection, Serves}
 use Rattle.commands.specs.declared.exit_status.ExitStatus.{ExitStatus}
 use Rattle.commands.specs.declared.exit_status.ExitStatus.TheVariants.{Done, BadCommandLine, FaultAtThisEnd}
@@ -27,6 +28,6 @@ Prints text old new =
 -- By how the program ends: the whole input was served, and nothing is printed; or the connection ended by a fault of
 -- this end, which is printed in a line.
 abbrev pub Pipes : Options → ExitStatus → Connection → Connection → Said → Said → Type 0
-Pipes options Done old new said said' = Serves options (Ok tt) old new × (said' ≡ said)
-Pipes options FaultAtThisEnd old new said said' = (fault : Fault) × Serves options (Err fault) old new × Prints (fault_line fault) said said'
+Pipes options Done old new said said' = Serves alone options (Ok tt) old new × (said' ≡ said)
+Pipes options FaultAtThisEnd old new said said' = (fault : Fault) × Serves alone options (Err fault) old new × Prints (fault_line fault) said said'
 Pipes options BadCommandLine old new said said' = ⊥

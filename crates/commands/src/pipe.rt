@@ -1,7 +1,7 @@
 //! `flightscan pipe`: one connection, from a reader to a writer.
 
 ghost use Rattle.std.specs.Prelude.{◌<◌, []};
-ghost use Rattle.flight_core.specs.Log.{Log};
+ghost use Rattle.flight_calls.specs.Seats.{Seat, seat_of};
 ghost use Rattle.flight_calls.specs.Owed.{connection_of};
 ghost use Rattle.commands.specs.Pipe.{Pipes};
 
@@ -25,11 +25,11 @@ pub fn pipe<R: Input, W: Output, E: Output>(
     requires reads { R.failures reader.old < 18446744073709551615 }
     requires writes { W.failures writer.old < 18446744073709551615 }
     requires prints { E.failures faults.old < 18446744073709551615 }
-    ensures { (log : Log) × Pipes options result
+    ensures { (seat : Seat) × Pipes options result
         (connection_of (R.remaining reader.old) (W.contents writer.old)
-        (R.failures reader.old) (W.failures writer.old) [])
+        (R.failures reader.old) (W.failures writer.old) (seat_of [] 0))
         (connection_of (R.remaining reader.new) (W.contents writer.new)
-        (R.failures reader.new) (W.failures writer.new) log)
+        (R.failures reader.new) (W.failures writer.new) seat)
         (record { bytes = E.contents faults.old; failures = E.failures faults.old })
         (record { bytes = E.contents faults.new; failures = E.failures faults.new }) }
 {

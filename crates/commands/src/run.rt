@@ -3,7 +3,7 @@
 ghost use Rattle.std.specs.Prelude.{◌≡◌, ◌<◌, ℕ, List, [], map, string_bytes};
 ghost use Rattle.clap.specs.Words.{fault_of, kind_of};
 ghost use Rattle.command_line.specs.Line.{parts_text, program};
-ghost use Rattle.flight_core.specs.Log.{Log};
+ghost use Rattle.flight_calls.specs.Seats.{Seat, seat_of};
 ghost use Rattle.flight_calls.specs.Owed.{connection_of};
 ghost use Rattle.commands.specs.Pipe.{Prints};
 ghost use Rattle.commands.specs.Run.{Runs, RefusesFor};
@@ -34,13 +34,13 @@ pub fn run<R: Input, W: Output, E: Output>(
     requires reads { R.failures reader.old < 18446744073709551615 }
     requires writes { W.failures writer.old < 18446744073709551615 }
     requires prints { E.failures faults.old < 18446744073709551615 }
-    ensures { (log : Log) × Runs (fault_of program (map string_bytes words.now))
+    ensures { (seat : Seat) × Runs (fault_of program (map string_bytes words.now))
         (parts_text (map string_bytes words.now)) result
         ((reader.new ≡ reader.old) × (writer.new ≡ writer.old))
         (connection_of (R.remaining reader.old) (W.contents writer.old)
-        (R.failures reader.old) (W.failures writer.old) [])
+        (R.failures reader.old) (W.failures writer.old) (seat_of [] 0))
         (connection_of (R.remaining reader.new) (W.contents writer.new)
-        (R.failures reader.new) (W.failures writer.new) log)
+        (R.failures reader.new) (W.failures writer.new) seat)
         (record { bytes = E.contents faults.old; failures = E.failures faults.old })
         (record { bytes = E.contents faults.new; failures = E.failures faults.new }) }
 {

@@ -1,7 +1,7 @@
 //! Connections one after another over one catalog, and a writer whose flush fails.
 
 use crate::first_run::{PUT, PUT_ANSWER};
-use flight_calls::{Options, serve};
+use flight_calls::{Alone, Options, serve};
 use flight_core::Plain;
 use grpc_frame::{Counted, MemoryInput, MemoryOutput, Output};
 use hash_seed::HashSeed;
@@ -19,13 +19,13 @@ const OPTIONS: Options = Options {
 const TABLE_EXISTS: &[u8] = b"\x04\x06\x00\x0fF10 TableExists";
 
 // What is written to a connection that puts the first run's rows, or none where it did not end well.
-fn put_alone(alloc: Global, plain: &mut Plain) -> MemoryOutput {
+fn put_alone(alloc: Global, backend: &mut Alone) -> MemoryOutput {
     let mut writer = MemoryOutput::new(alloc);
     match serve(
         alloc,
         &mut MemoryInput::new(PUT),
         &mut writer,
-        plain,
+        backend,
         OPTIONS,
     ) {
         Ok(()) => writer,
@@ -35,10 +35,10 @@ fn put_alone(alloc: Global, plain: &mut Plain) -> MemoryOutput {
 
 #[test]
 fn two_connections(rt: HostRuntime) -> Result<(), Fail> {
-    let mut plain = Plain::new(rt.alloc(), HashSeed::new(&rt)?)?;
-    let first = put_alone(rt.alloc(), &mut plain);
+    let mut backend = Alone::new(Plain::new(rt.alloc(), HashSeed::new(&rt)?)?);
+    let first = put_alone(rt.alloc(), &mut backend);
     assert!(rt; first.as_slice() == PUT_ANSWER);
-    let second = put_alone(rt.alloc(), &mut plain);
+    let second = put_alone(rt.alloc(), &mut backend);
     assert!(rt; second.as_slice() == TABLE_EXISTS);
     Ok(())
 }
@@ -67,13 +67,13 @@ impl Write for Unflushed {
 #[test]
 fn a_flush_that_fails(rt: HostRuntime) -> Result<(), Fail> {
     for flushes in 0..2u32 {
-        let mut plain = Plain::new(rt.alloc(), HashSeed::new(&rt)?)?;
+        let mut backend = Alone::new(Plain::new(rt.alloc(), HashSeed::new(&rt)?)?);
         let mut writer = Counted::new(Unflushed { flushes });
         let ended = serve(
             rt.alloc(),
             &mut MemoryInput::new(PUT),
             &mut writer,
-            &mut plain,
+            &mut backend,
             OPTIONS,
         );
         let fails = flushes < 1;

@@ -45,9 +45,9 @@ pub fn version_of(handle: &Handle<'_>) -> u64
 }
 
 // Puts all payloads that a stream gives into an empty list, and says what refused it.
-fn collect(alloc: Global, mut stream: FetchStream, payloads: &mut Vec<Bytes>) -> Result<(), Fault>
+fn collect(alloc: Global, stream: &mut FetchStream, payloads: &mut Vec<Bytes>) -> Result<(), Fault>
     requires { payloads.old.items ≡ [] }
-    ensures said { (answer : Table) → stream ≡ opened answer → Collects answer payloads.new.items result }
+    ensures said { (answer : Table) → stream.old ≡ opened answer → Collects answer payloads.new.items result }
     ensures fits { FitMessages payloads.new.items }
 {
     while let Some(payload) = stream.next(alloc)? {
@@ -73,12 +73,12 @@ pub fn answer_fetch(alloc: Global, snapshot: &Snapshot, handle: &Handle<'_>) -> 
     ensures none { result.fault ≢ None → result.fault ≢ Some ResultTooLarge → result.payloads ≡ [] }
     ensures fits { FitMessages result.payloads }
 {
-    let stream = match FetchStream::new(alloc, snapshot, handle, 1) {
+    let mut stream = match FetchStream::new(alloc, snapshot, handle, 1) {
         Ok(stream) => stream,
         Err(fault) => return Reply::refusal(alloc, fault),
     };
     let mut payloads = Vec::new(alloc);
-    match collect(alloc, stream, &mut payloads) {
+    match collect(alloc, &mut stream, &mut payloads) {
         Ok(()) => Reply::whole(payloads),
         Err(Fault::ResultTooLarge) => Reply {
             payloads,

@@ -1,27 +1,38 @@
 -- What messages ask.
-use Rattle.std.proofs.Common.{◌≡◌, ◌⊎◌, ◌<◌, ℕ, List, [], length, Some, Result, Err, refl, sym, subst, inl, inr, append-nil}
+use Rattle.std.proofs.Common.{◌≡◌, ◌⊎◌, ◌<◌, ℕ, List, [], ◌∷◌, length, Some, Result, Err, refl, sym, subst, inl, inr, append-nil}
+use Rattle.std.specs.Prelude.{IsOk}
 use Rattle.std.proofs.lemmas.Bool.{lt-leb}
 use Rattle.scan_base.specs.declared.fault.Fault.{Fault}
-use Rattle.scan_base.specs.declared.fault.Fault.TheVariants.{LimitReached}
+use Rattle.scan_base.specs.declared.fault.Fault.TheVariants.{BadProto, LimitReached}
 use Rattle.scan_base.specs.Limits.{most_request_bytes}
 use Rattle.scan_base.specs.Reading.{◌>>=◌}
 use Rattle.flight_proto.specs.Wanted.{Wanted, wanted_in}
 use Rattle.flight_core.specs.Asked.{info, schema}
 use Rattle.flight_info.specs.Replies.{refusal}
-use Rattle.flight_info.specs.Infos.{only_rows, short_enough, InfoAt, SchemaAt}
+use Rattle.flight_info.specs.Infos.{only_rows, short_enough, rows_wanted, schema_wanted, InfoAt, SchemaAt}
 use Rattle.flight_core.specs.Log.{Log, database_of, puts_in}
 use Rattle.flight_core.specs.Machine.{StepOn}
 use Rattle.flight_info.specs.Payloads.{Payload}
 use Rattle.flight_calls.specs.declared.setting.Options.{Options}
+use Rattle.flight_calls.specs.declared.request.Method.TheVariants as method
 use Rattle.flight_calls.specs.declared.request.Single.{Single}
 use Rattle.flight_calls.specs.declared.request.Single.TheVariants.{GetFlightInfo, GetSchema}
-use Rattle.flight_calls.specs.Calls.{Call, asked_by}
+use Rattle.flight_calls.specs.Calls.{Call, method_at, asked_with, asked_by}
 use Rattle.flight_calls.specs.Requests.{with_messages, IsRefused}
 
 -- where nothing more comes
 pub refused_now : (fault : Fault) (call : Call) → ((options : Options) (more : List Payload) → asked_by options (with_messages call more) ≡ Err fault)
     → (options : Options) → asked_by options call ≡ Err fault
 refused_now fault call refused options = rw (append-nil call.messages) at (refused options [])
+
+-- what a call asks, of which no message came
+pub asks_none : (options : Options) (call : Call) (one : Single) → method_at call.path ≡ Some (method.Single one) → call.messages ≡ [] → asked_by options call ≡ Err BadProto
+asks_none options call one at none = rw (at, none) refl
+
+-- or one message
+pub asks_one : (options : Options) (call : Call) (one : Single) (message : Payload) → method_at call.path ≡ Some (method.Single one) → call.messages ≡ message ∷ []
+    → asked_by options call ≡ asked_with options one message
+asks_one options call one message at alone = rw (at, alone) refl
 
 -- a message that is too long is not read
 too_long : (message : Payload) → most_request_bytes < length message → wanted_in message ≡ Err LimitReached
@@ -40,6 +51,13 @@ schema_too_long log message long = (
   subst (λ (w : Result Wanted Fault). SchemaAt (database_of log) (w >>= short_enough) [] (Some LimitReached)) (sym (too_long message long)) (refl, refl),
 )
 
+-- so nothing looks for it
+info_unread : (message : Payload) → most_request_bytes < length message → IsOk (rows_wanted message) → ⊥
+info_unread message long looks = let no = rw (too_long message long) at looks in cc
+
+schema_unread : (message : Payload) → most_request_bytes < length message → IsOk (schema_wanted message) → ⊥
+schema_unread message long looks = let no = rw (too_long message long) at looks in cc
+
 pub command_too_long : (one : Single) (message : Payload) → (one ≡ GetFlightInfo) ⊎ (one ≡ GetSchema) → most_request_bytes < length message → IsRefused one message LimitReached
-command_too_long one message (inl is) long = rw (is, too_long message long) (λ options log. info_too_long log message options.parts long)
-command_too_long one message (inr is) long = rw is (λ options log. schema_too_long log message long)
+command_too_long one message (inl is) long = rw (is, too_long message long) ((λ options log. info_too_long log message options.parts long), λ options looks. info_unread message long looks)
+command_too_long one message (inr is) long = rw is ((λ options log. schema_too_long log message long), λ options looks. schema_unread message long looks)

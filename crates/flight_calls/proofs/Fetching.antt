@@ -13,7 +13,7 @@ use Rattle.flight_core.specs.Log.{Log, puts_in, version}
 use Rattle.flight_core.specs.Machine.{FetchBy, FetchIn, OpensBy, OpensIn}
 use Rattle.flight_calls.specs.declared.answer.Answer.TheVariants.{Stream}
 use Rattle.flight_calls.specs.Calls.{ReplyTo}
-use Rattle.flight_calls.specs.Answered.{AnsweredBy, SendsReply}
+use Rattle.flight_calls.specs.Answered.{AnsweredBy, IsReplyOf, SendsReply}
 use Rattle.flight_calls.proofs.Streaming.{SendsFetch}
 
 -- what the ticket shows, and its stream
@@ -31,14 +31,17 @@ shows log ticket stream opens = by (handle_shown (puts_in log) ticket) refl open
 
 pub stream_sent : (asked : Result Asked Fault) (log new : Log) (stream : StreamAt) (r : Result (Unit {0}) Fault) (a b : Option (List ℕ)) (before after : List ℕ) → AnsweredBy asked log (Stream stream) new
     → ((database : Database) (handle : HandleAt) → Opens database handle (Ok stream) → SendsFetch database handle r a b before after)
-    → SendsReply (λ (reply : ReplyAt). ReplyTo asked log reply new) r a b before after
+    → SendsReply (λ (reply : ReplyAt). ReplyTo asked log reply new × IsReplyOf (Stream stream) reply) r a b before after
 stream_sent asked log new stream r a b before after answered sends =
     let seen = shows log answered.1 stream answered.4 in
     let sent = sends (version log (version_of seen.handle)) seen.handle seen.opens in
     record {
       reply = sent.reply;
-      right = subst (λ (q : Result Asked Fault). ReplyTo q log sent.reply new) (sym answered.3)
-          (answered.0, subst (λ (s : Result HandleAt Fault). FetchBy log s sent.reply.payloads sent.reply.fault) (sym seen.shown) sent.right);
+      right = (
+        subst (λ (q : Result Asked Fault). ReplyTo q log sent.reply new) (sym answered.3)
+            (answered.0, subst (λ (s : Result HandleAt Fault). FetchBy log s sent.reply.payloads sent.reply.fault) (sym seen.shown) sent.right),
+        tt,
+      );
       fits = sent.fits;
       sent = sent.sent;
     }

@@ -4,6 +4,9 @@ pub mod Writing
 pub mod Pieces
 pub mod Streaming
 pub mod Fetching
+pub mod Reacting
+pub mod Looking
 pub mod Serving
 pub mod Telling
 pub mod Running
+pub mod Making

@@ -16,11 +16,12 @@ use Rattle.grpc_frame.specs.Ends.{AppendsBeginning}
 use Rattle.grpc_frame.proofs.Coming.{none_sound}
 use Rattle.flight_info.specs.Replies.{ReplyAt}
 use Rattle.flight_info.specs.Payloads.{FitMessages}
-use Rattle.flight_core.specs.Log.{Log}
 use Rattle.flight_calls.specs.declared.call.Arrival.TheVariants as arrival
 use Rattle.flight_calls.specs.declared.setting.Options.{Options}
 use Rattle.flight_calls.specs.declared.request.Request.{Request}
-use Rattle.flight_calls.specs.Calls.{Call, call_records, asked_by, ReplyTo, Answers}
+use Rattle.flight_calls.specs.Calls.{Call, call_records, asked_by}
+use Rattle.flight_calls.specs.Seats.{Seat, Moves}
+use Rattle.flight_calls.specs.Reacts.{Reacts, Answers}
 use Rattle.flight_calls.specs.Owed.{calls_bytes, answer_bytes, EndsIn, EndsInside, behind_calls, IsCause, last_status, Connection, items_owed, Wrote, Why, Serves, Fails}
 use Rattle.flight_calls.specs.Ending.{RefusesBy}
 use Rattle.flight_calls.specs.Requests.{Holds}
@@ -33,24 +34,24 @@ FitsMessages reply = FitMessages reply.payloads
 abbrev joined : List (List ℕ) → List ℕ
 joined items = flat_map (λ item. item) items
 
--- what came is whole calls and then this rest, and the replies answer the calls, one each, from one log to the other
-pub record Served (options : Options) (log : Log) (came rest : List ℕ) (replies : List ReplyAt) (new : Log) : Type 0 where
+-- what came is whole calls and then this rest, and the replies answer the calls, one each, from one seat to the other
+pub record Served (moves : Moves) (options : Options) (seat : Seat) (came rest : List ℕ) (replies : List ReplyAt) (new : Seat) : Type 0 where
   pub calls : List Call
   pub whole : came ≡ calls_bytes calls ++ rest
   pub fits : All IsRecord (flat_map call_records calls)
-  pub answers : Answers options log calls replies new
+  pub answers : Answers moves options seat calls replies new
   pub sent : All FitsMessages replies
 
-pub record Progress (options : Options) (old now : Connection) (left : Received) : Type 0 where
+pub record Progress (moves : Moves) (options : Options) (old now : Connection) (left : Received) : Type 0 where
   pub came : List ℕ
   pub consumed : Consumes old.input now.input came
   pub replies : List ReplyAt
-  pub served : Served options old.log came left.bytes replies now.log
+  pub served : Served moves options old.seat came left.bytes replies now.seat
   pub wrote : Appends old.output now.output (joined (map answer_bytes replies))
   pub between : left.place ≡ BetweenCalls
 
-pub started : (options : Options) (old : Connection) (left : Received) → left ≡ behind_calls [] → Progress options old old left
-started options old left e = rw e (record {
+pub started : (moves : Moves) (options : Options) (old : Connection) (left : Received) → left ≡ behind_calls [] → Progress moves options old old left
+started moves options old left e = rw e (record {
   came = [];
   consumed = Consumes-nil old.input;
   replies = [];
@@ -62,8 +63,8 @@ started options old left e = rw e (record {
 -- ---- what was served
 
 -- more came, behind what is left
-served_then : (options : Options) (log new : Log) (came rest more : List ℕ) (replies : List ReplyAt) → Served options log came rest replies new → Served options log (came ++ more) (rest ++ more) replies new
-served_then options log new came rest more replies s = record {
+served_then : (moves : Moves) (options : Options) (log new : Seat) (came rest more : List ℕ) (replies : List ReplyAt) → Served moves options log came rest replies new → Served moves options log (came ++ more) (rest ++ more) replies new
+served_then moves options log new came rest more replies s = record {
   calls = s.calls;
   whole = ap (λ (l : List ℕ). l ++ more) s.whole ∙ append_assoc (calls_bytes s.calls) rest more;
   fits = s.fits;
@@ -71,22 +72,22 @@ served_then options log new came rest more replies s = record {
   sent = s.sent;
 }
 
-answers_more : (options : Options) (old mid new : Log) (calls : List Call) (replies : List ReplyAt) (call : Call) (reply : ReplyAt) → Answers options old calls replies mid → ReplyTo (asked_by options call) mid reply new
-    → Answers options old (calls ++ call ∷ []) (replies ++ reply ∷ []) new
-answers_more options old mid new [] [] call reply s r = (new, subst (λ (log : Log). ReplyTo (asked_by options call) log reply new) s r, refl)
-answers_more options old mid new [] (one ∷ replies) call reply s r = absurd s
-answers_more options old mid new (one ∷ calls) [] call reply s r = absurd s
-answers_more options old mid new (one ∷ calls) (answer ∷ replies) call reply s r = (s.0, s.1, answers_more options s.0 mid new calls replies call reply s.2 r)
+answers_more : (moves : Moves) (options : Options) (old mid new : Seat) (calls : List Call) (replies : List ReplyAt) (call : Call) (reply : ReplyAt) → Answers moves options old calls replies mid → Reacts moves (asked_by options call) mid reply new
+    → Answers moves options old (calls ++ call ∷ []) (replies ++ reply ∷ []) new
+answers_more moves options old mid new [] [] call reply s r = (new, subst (λ (seat : Seat). Reacts moves (asked_by options call) seat reply new) s r, refl)
+answers_more moves options old mid new [] (one ∷ replies) call reply s r = absurd s
+answers_more moves options old mid new (one ∷ calls) [] call reply s r = absurd s
+answers_more moves options old mid new (one ∷ calls) (answer ∷ replies) call reply s r = (s.0, s.1, answers_more moves options s.0 mid new calls replies call reply s.2 r)
 
 -- one call more, with its reply
-served_more : (options : Options) (log mid new : Log) (came rest rest' : List ℕ) (replies : List ReplyAt) (call : Call) (reply : ReplyAt) → Served options log came rest replies mid
-    → rest ≡ flat_map spelling (call_records call) ++ rest' → All IsRecord (call_records call) → ReplyTo (asked_by options call) mid reply new → FitsMessages reply
-    → Served options log came rest' (replies ++ reply ∷ []) new
-served_more options log mid new came rest rest' replies call reply s whole fits replied sent = record {
+served_more : (moves : Moves) (options : Options) (log mid new : Seat) (came rest rest' : List ℕ) (replies : List ReplyAt) (call : Call) (reply : ReplyAt) → Served moves options log came rest replies mid
+    → rest ≡ flat_map spelling (call_records call) ++ rest' → All IsRecord (call_records call) → Reacts moves (asked_by options call) mid reply new → FitsMessages reply
+    → Served moves options log came rest' (replies ++ reply ∷ []) new
+served_more moves options log mid new came rest rest' replies call reply s whole fits replied sent = record {
   calls = s.calls ++ call ∷ [];
   whole = s.whole ∙ ap (λ (l : List ℕ). calls_bytes s.calls ++ l) whole ∙ sym (append_assoc (calls_bytes s.calls) (flat_map spelling (call_records call)) rest') ∙ ap (λ (l : List ℕ). l ++ rest') (sym bytes);
   fits = rw records (All-append IsRecord (flat_map call_records s.calls) (call_records call) s.fits fits);
-  answers = answers_more options log mid new s.calls replies call reply s.answers replied;
+  answers = answers_more moves options log mid new s.calls replies call reply s.answers replied;
   sent = All-append FitsMessages replies (reply ∷ []) s.sent (All-cons FitsMessages reply [] sent (All-nil FitsMessages));
 }
   where
@@ -105,7 +106,7 @@ items_more replies reply = map-append answer_bytes replies (reply ∷ [])
 
 -- ---- a call is served
 
-module _ (options : Options) (old mid : Connection) (left : Received) (p : Progress options old mid left) where
+module _ (moves : Moves) (options : Options) (old mid : Connection) (left : Received) (p : Progress moves options old mid left) where
   -- what is left, once more came, is behind calls
   behind : (more : List ℕ) → with_more left more ≡ behind_calls (left.bytes ++ more)
   behind more = ap (λ (place : Place). received (left.bytes ++ more) place) p.between
@@ -115,14 +116,14 @@ module _ (options : Options) (old mid : Connection) (left : Received) (p : Progr
 
   -- a call came, and a reply to it is due
   call_replied : (new : Connection) (left' : Received) (request : Request) (reply : ReplyAt) (q : (more : List ℕ) × Consumes mid.input new.input more × CallArrives (Ok (arrival.Whole request)) left left' more)
-      → ReplyTo (asked_by options q.2.0) mid.log reply new.log → FitsMessages reply
-      → Served options old.log (p.came ++ q.0) left'.bytes (p.replies ++ reply ∷ []) new.log
+      → Reacts moves (asked_by options q.2.0) mid.seat reply new.seat → FitsMessages reply
+      → Served moves options old.seat (p.came ++ q.0) left'.bytes (p.replies ++ reply ∷ []) new.seat
   call_replied new left' request reply q replied sent =
-      served_more options old.log mid.log new.log (p.came ++ q.0) (left.bytes ++ q.0) left'.bytes p.replies q.2.0 reply (served_then options old.log mid.log p.came left.bytes q.0 p.replies p.served) q.2.2.whole q.2.2.fits replied sent
+      served_more moves options old.seat mid.seat new.seat (p.came ++ q.0) (left.bytes ++ q.0) left'.bytes p.replies q.2.0 reply (served_then moves options old.seat mid.seat p.came left.bytes q.0 p.replies p.served) q.2.2.whole q.2.2.fits replied sent
 
   -- the record of a connection, by its parts
   served_so : (result : Result (Unit {0}) Fault) (new : Connection) (came rest : List ℕ) (replies : List ReplyAt) (last : Option Fault) (done begun : List (List ℕ)) → Consumes old.input new.input came
-      → Served options old.log came rest replies new.log → items_owed replies last ≡ done ++ begun → Wrote old.output new.output done begun → Why result old new rest last begun → Serves options result old new
+      → Served moves options old.seat came rest replies new.seat → items_owed replies last ≡ done ++ begun → Wrote old.output new.output done begun → Why result old new rest last begun → Serves moves options result old new
   served_so result new came rest replies last done begun consumed s owes wrote why = record {
     calls = s.calls;
     rest = rest;
@@ -141,7 +142,7 @@ module _ (options : Options) (old mid : Connection) (left : Received) (p : Progr
 
   -- it was written
   pub call_served : (new : Connection) (left' : Received) (request : Request) (reply : ReplyAt) → (q : (more : List ℕ) × Consumes mid.input new.input more × CallArrives (Ok (arrival.Whole request)) left left' more)
-      → ReplyTo (asked_by options q.2.0) mid.log reply new.log → FitsMessages reply → Appends mid.output new.output (answer_bytes reply) → Progress options old new left'
+      → Reacts moves (asked_by options q.2.0) mid.seat reply new.seat → FitsMessages reply → Appends mid.output new.output (answer_bytes reply) → Progress moves options old new left'
   call_served new left' request reply q replied sent wrote = record {
     came = p.came ++ q.0;
     consumed = Consumes-trans old.input mid.input new.input p.came q.0 p.consumed q.1;
@@ -154,33 +155,33 @@ module _ (options : Options) (old mid : Connection) (left : Received) (p : Progr
 
   -- or begun
   pub answer_failed : (new : Connection) (left' : Received) (request : Request) (reply : ReplyAt) → (q : (more : List ℕ) × Consumes mid.input new.input more × CallArrives (Ok (arrival.Whole request)) left left' more)
-      → ReplyTo (asked_by options q.2.0) mid.log reply new.log → FitsMessages reply → AppendsBeginning mid.output new.output (answer_bytes reply) → Fails 0 1 old new
-      → Serves options (Err Transport) old new
+      → Reacts moves (asked_by options q.2.0) mid.seat reply new.seat → FitsMessages reply → AppendsBeginning mid.output new.output (answer_bytes reply) → Fails 0 1 old new
+      → Serves moves options (Err Transport) old new
   answer_failed new left' request reply q replied sent begun counted = served_so (Err Transport) new (p.came ++ q.0) left'.bytes (p.replies ++ reply ∷ []) None
       (map answer_bytes p.replies) (answer_bytes reply ∷ []) (Consumes-trans old.input mid.input new.input p.came q.0 p.consumed q.1)
       (call_replied new left' request reply q replied sent) (items_more p.replies reply) (mid.output, p.wrote, begun) counted
 
   -- nothing is done for what came behind the calls
-  pub ends : (result : Result (Unit {0}) Fault) (new : Connection) (more : List ℕ) (last : Option Fault) (done begun : List (List ℕ)) → Consumes mid.input new.input more → new.log ≡ mid.log
-      → items_owed p.replies last ≡ done ++ begun → Wrote old.output new.output done begun → Why result old new (left.bytes ++ more) last begun → Serves options result old new
+  pub ends : (result : Result (Unit {0}) Fault) (new : Connection) (more : List ℕ) (last : Option Fault) (done begun : List (List ℕ)) → Consumes mid.input new.input more → new.seat ≡ mid.seat
+      → items_owed p.replies last ≡ done ++ begun → Wrote old.output new.output done begun → Why result old new (left.bytes ++ more) last begun → Serves moves options result old new
   ends result new more last done begun consumed log owes wrote why =
       served_so result new (p.came ++ more) (left.bytes ++ more) p.replies last done begun (Consumes-trans old.input mid.input new.input p.came more p.consumed consumed)
-      (rw log (served_then options old.log mid.log p.came left.bytes more p.replies p.served)) owes wrote why
+      (rw log (served_then moves options old.seat mid.seat p.came left.bytes more p.replies p.served)) owes wrote why
 
   -- each reply was written, and no more
-  all_written : (result : Result (Unit {0}) Fault) (new : Connection) (more : List ℕ) → Consumes mid.input new.input more → new.log ≡ mid.log → new.output ≡ mid.output
-      → Why result old new (left.bytes ++ more) None [] → Serves options result old new
+  all_written : (result : Result (Unit {0}) Fault) (new : Connection) (more : List ℕ) → Consumes mid.input new.input more → new.seat ≡ mid.seat → new.output ≡ mid.output
+      → Why result old new (left.bytes ++ more) None [] → Serves moves options result old new
   all_written result new more consumed log output why =
       ends result new more None (map answer_bytes p.replies) [] consumed log (sym (append-nil (map answer_bytes p.replies))) (rw output p.wrote) why
 
   -- the input ended
   pub input_ended : (new : Connection) (left' : Received) → (more : List ℕ) × Consumes mid.input new.input more × CallArrives (Ok arrival.Nothing) left left' more → IsAtEnd new.input
-      → new.output ≡ mid.output → new.log ≡ mid.log → Fails 0 0 old new → Serves options (Ok tt) old new
+      → new.output ≡ mid.output → new.seat ≡ mid.seat → Fails 0 0 old new → Serves moves options (Ok tt) old new
   input_ended new left' q at_end output log quiet = all_written (Ok tt) new q.0 q.1 log output (ap (λ (r : Received). r.bytes) q.2, at_end, quiet)
 
   -- the input ended inside a call
   pub call_cut_short : (new : Connection) (left' : Received) → (more : List ℕ) × Consumes mid.input new.input more × CallArrives (Ok arrival.CutShort) left left' more → IsAtEnd new.input
-      → new.output ≡ mid.output → new.log ≡ mid.log → Fails 0 0 old new → Serves options (Err Transport) old new
+      → new.output ≡ mid.output → new.seat ≡ mid.seat → Fails 0 0 old new → Serves moves options (Err Transport) old new
   call_cut_short new left' q at_end output log quiet =
       all_written (Err Transport) new q.0 q.1 log output (rw (behind q.0) at q.2.1, inl (q.2.0, at_end, quiet))
 
@@ -192,7 +193,7 @@ module _ (options : Options) (old mid : Connection) (left : Received) (p : Progr
 
   -- its status was written
   pub connection_refused : (new : Connection) (left' : Received) (fault : Fault) → (more : List ℕ) × Consumes mid.input new.input more × CallArrives (Err fault) left left' more → fault ≢ Transport
-      → Appends mid.output new.output (last_status fault) → new.log ≡ mid.log → Fails 0 0 old new → Serves options (Err fault) old new
+      → Appends mid.output new.output (last_status fault) → new.seat ≡ mid.seat → Fails 0 0 old new → Serves moves options (Err fault) old new
   connection_refused new left' fault q other wrote log quiet =
       let owed = map answer_bytes p.replies in
       ends (Err fault) new q.0 (Some fault) (owed ++ last_status fault ∷ []) [] q.1 log (sym (append-nil (owed ++ last_status fault ∷ [])))
@@ -205,7 +206,7 @@ module _ (options : Options) (old mid : Connection) (left : Received) (p : Progr
 
   -- or begun
   pub status_failed : (new : Connection) (left' : Received) (fault : Fault) → (more : List ℕ) × Consumes mid.input new.input more × CallArrives (Err fault) left left' more → fault ≢ Transport
-      → AppendsBeginning mid.output new.output (last_status fault) → new.log ≡ mid.log → Fails 0 1 old new → Serves options (Err Transport) old new
+      → AppendsBeginning mid.output new.output (last_status fault) → new.seat ≡ mid.seat → Fails 0 1 old new → Serves moves options (Err Transport) old new
   status_failed new left' fault q other begun log counted =
       ends (Err Transport) new q.0 (Some fault) (map answer_bytes p.replies) (last_status fault ∷ []) q.1 log refl (mid.output, p.wrote, begun) (cause fault q.0 other q.2, counted)
 
@@ -227,13 +228,13 @@ module _ (options : Options) (old mid : Connection) (left : Received) (p : Progr
 
   -- a read failed
   pub read_failed : (new : Connection) (left' : Received) (fault : Fault) → (more : List ℕ) × Consumes mid.input new.input more × CallArrives (Err fault) left left' more → fault ≡ Transport
-      → new.output ≡ mid.output → new.log ≡ mid.log → Fails 1 0 old new → Serves options (Err Transport) old new
+      → new.output ≡ mid.output → new.seat ≡ mid.seat → Fails 1 0 old new → Serves moves options (Err Transport) old new
   read_failed new left' fault q is output log counted = all_written (Err Transport) new q.0 q.1 log output (waits fault q.0 is q.2, inr counted)
 
   -- by a fault while a call was read
   pub ended_by : (new : Connection) (left' : Received) (fault : Fault) (result : Result (Unit {0}) Fault) (reads writes reads' writes' : ℕ) → (more : List ℕ) × Consumes mid.input new.input more × CallArrives (Err fault) left left' more
-      → (fault ≡ Transport → reads' ≡ reads + 1) × (fault ≢ Transport → reads' ≡ reads) → RefusesBy fault result mid.output new.output writes writes' → new.log ≡ mid.log
-      → reads ≡ old.failed_reads → writes ≡ old.failed_writes → new.failed_reads ≡ reads' → new.failed_writes ≡ writes' → Serves options result old new
+      → (fault ≡ Transport → reads' ≡ reads + 1) × (fault ≢ Transport → reads' ≡ reads) → RefusesBy fault result mid.output new.output writes writes' → new.seat ≡ mid.seat
+      → reads ≡ old.failed_reads → writes ≡ old.failed_writes → new.failed_reads ≡ reads' → new.failed_writes ≡ writes' → Serves moves options result old new
   ended_by new left' fault result reads writes reads' writes' q counted (inl stays) log before before' after after' =
       let one = counted.0 stays.transport in
       let none = stays.quiet in
@@ -248,8 +249,8 @@ module _ (options : Options) (old mid : Connection) (left : Received) (p : Progr
       rw fails.result_is (status_failed new left' fault q fails.other fails.wrote log ((omega arith, omega arith)))
 
 -- a connection that is refused before anything came
-pub refused_first : (options : Options) (old new : Connection) (fault : Fault) (result : Result (Unit {0}) Fault) (reads writes writes' : ℕ) → old.log ≡ [] → new.log ≡ [] → new.input ≡ old.input → fault ≡ OutOfMemory
-    → RefusesBy fault result old.output new.output writes writes' → reads ≡ old.failed_reads → writes ≡ old.failed_writes → new.failed_reads ≡ reads → new.failed_writes ≡ writes' → Serves options result old new
-refused_first options old new fault result reads writes writes' begins same input memory refuses before before' after after' =
-    ended_by options old old (behind_calls []) (started options old (behind_calls []) refl) new (behind_calls []) fault result reads writes reads writes'
-    ([], rw input (Consumes-nil old.input), inr (inl (memory, none_sound (behind_calls []) refl))) ((λ e. let both : OutOfMemory ≡ Transport = sym memory ∙ e in absurd cc), λ _. refl) refuses (same ∙ sym begins) before before' after after'
+pub refused_first : (moves : Moves) (options : Options) (old new : Connection) (fault : Fault) (result : Result (Unit {0}) Fault) (reads writes writes' : ℕ) → new.seat ≡ old.seat → new.input ≡ old.input → fault ≡ OutOfMemory
+    → RefusesBy fault result old.output new.output writes writes' → reads ≡ old.failed_reads → writes ≡ old.failed_writes → new.failed_reads ≡ reads → new.failed_writes ≡ writes' → Serves moves options result old new
+refused_first moves options old new fault result reads writes writes' same input memory refuses before before' after after' =
+    ended_by moves options old old (behind_calls []) (started moves options old (behind_calls []) refl) new (behind_calls []) fault result reads writes reads writes'
+    ([], rw input (Consumes-nil old.input), inr (inl (memory, none_sound (behind_calls []) refl))) ((λ e. let both : OutOfMemory ≡ Transport = sym memory ∙ e in absurd cc), λ _. refl) refuses same before before' after after'

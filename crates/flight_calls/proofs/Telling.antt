@@ -4,6 +4,7 @@ use Rattle.scan_base.specs.declared.fault.Fault.{Fault}
 use Rattle.scan_base.specs.declared.fault.Fault.TheVariants.{Transport}
 use Rattle.flight_info.specs.Replies.{ReplyAt}
 use Rattle.flight_calls.specs.declared.setting.Options.{Options}
+use Rattle.flight_calls.specs.Seats.{Moves}
 use Rattle.flight_calls.specs.Owed.{Connection, Serves, Why, Wrote, items_owed, answer_bytes}
 use Rattle.flight_calls.specs.Laws.{ReadFailed}
 
@@ -23,6 +24,6 @@ tells (Err Transport) old new rest replies (Some fault) all (item ∷ []) owes w
 tells (Err fault) old new rest replies (Some last) all [] owes wrote why counted = absurd (not_both old.failed_reads new.failed_reads counted why.3.0)
 tells result old new rest replies last all begun owes wrote why counted = absurd why
 
-pub failed_reads : (options : Options) (result : Result (Unit {0}) Fault) (old new : Connection) (serves : Serves options result old new)
+pub failed_reads : (moves : Moves) (options : Options) (result : Result (Unit {0}) Fault) (old new : Connection) (serves : Serves moves options result old new)
     → new.failed_reads ≡ old.failed_reads + 1 → ReadFailed result old new serves.rest (map answer_bytes serves.replies)
-failed_reads options result old new s counted = tells result old new s.rest s.replies s.last s.done s.begun s.owes s.wrote s.why counted
+failed_reads moves options result old new s counted = tells result old new s.rest s.replies s.last s.done s.begun s.owes s.wrote s.why counted

@@ -1,6 +1,7 @@
 -- Inside: what answers a call, before it is written and then.
-use Rattle.std.specs.Prelude.{◌≡◌, ℕ, List, Option, Result, Ok}
+use Rattle.std.specs.Prelude.{◌≡◌, ◌≢◌, ℕ, List, Option, Some, Result, Ok}
 use Rattle.scan_base.specs.declared.fault.Fault.{Fault}
+use Rattle.scan_base.specs.declared.fault.Fault.TheVariants.{OutOfMemory}
 use Rattle.grpc_frame.specs.Ends.{Writes}
 use Rattle.grpc_frame.specs.Sending.{Sends}
 use Rattle.flight_info.specs.Payloads.{Payload, FitMessages}
@@ -11,6 +12,8 @@ use Rattle.flight_core.specs.Machine.{OpensIn}
 use Rattle.flight_calls.specs.declared.answer.Answer.{Answer}
 use Rattle.flight_calls.specs.declared.answer.Answer.TheVariants.{Whole, Stream}
 use Rattle.flight_calls.specs.Calls.{ReplyTo}
+use Rattle.flight_calls.specs.Seats.{Seat, Moves}
+use Rattle.flight_calls.specs.Reacts.{Goes, HasLooked}
 use Rattle.flight_calls.specs.Owed.{answer_bytes}
 
 -- what answers a call: its reply; or the stream of a fetch, which leaves the log
@@ -18,6 +21,24 @@ abbrev pub AnsweredBy : Result Asked Fault → Log → Answer → Log → Type 0
 AnsweredBy asked log (Whole reply) new = ReplyTo asked log reply new
 AnsweredBy asked log (Stream stream) new = (new ≡ log) × (ticket : Payload) × (workers : ℕ)
     × (asked ≡ Ok (fetch ticket workers)) × OpensIn log ticket (Ok stream)
+
+-- it was not refused for want of memory before it was begun
+abbrev pub IsBegun : Answer → Type 0
+IsBegun (Whole reply) = reply.fault ≢ Some OutOfMemory
+IsBegun (Stream stream) = Unit {0}
+
+-- the reply that an answer holds, if it holds one
+abbrev pub IsReplyOf : Answer → ReplyAt → Type 0
+IsReplyOf (Whole whole) reply = reply ≡ whole
+IsReplyOf (Stream stream) reply = Unit {0}
+
+-- what answers a call over a backend, before it is written
+pub record ReactsBy (moves : Moves) (asked : Result Asked Fault) (old : Seat) (answer : Answer) (new : Seat) : Type 0 where
+  pub log : Log
+  pub after : Log
+  pub answered : AnsweredBy asked log answer after
+  pub goes : Goes moves asked old log after new
+  pub looked : IsBegun answer → HasLooked asked old log new
 
 -- each payload of a reply fits a message; those of a stream do
 abbrev pub FitsMessages : Answer → Type 0

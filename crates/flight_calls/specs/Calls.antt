@@ -72,13 +72,6 @@ abbrev pub ReplyTo : Result Asked Fault → Log → ReplyAt → Log → Type 0
 ReplyTo (Ok asked) log reply new = StepOn log asked reply new
 ReplyTo (Err fault) log reply new = (new ≡ log) × (reply ≡ refusal fault)
 
--- one reply a call, in order, each from the log that the one before left
-abbrev pub Answers : Options → Log → List Call → List ReplyAt → Log → Type 0
-Answers options old [] [] new = new ≡ old
-Answers options old (call ∷ calls) (reply ∷ replies) new =
-    (middle : Log) × ReplyTo (asked_by options call) old reply middle × Answers options middle calls replies new
-Answers options old _ _ new = ⊥
-
 -- ---- the calls that ask, of which the others are refused before they come to the core
 
 -- what is asked, with what is asked after it

@@ -27,6 +27,7 @@ pub record FailsToSay (fault : Fault) (result : Result (Unit {0}) Fault) (old ne
   pub wrote : AppendsBeginning old new (last_status fault)
   pub counted : failures' ≡ failures + 1
 
+-- what is done of a fault: nothing more where it is the transport's, and else its status is written, or fails to be
 abbrev pub RefusesBy : Fault → Result (Unit {0}) Fault → Option (List ℕ) → Option (List ℕ) → ℕ → ℕ → Type 0
 RefusesBy fault result old new failures failures' =
     StaysFailed fault result old new failures failures'

@@ -1,13 +1,17 @@
 -- Laws of what became of a connection.
-use Rattle.std.specs.Prelude.{◌≡◌, ◌+◌, ℕ, List, [], map, Result, Err}
+use Rattle.std.specs.Prelude.{◌≡◌, ◌+◌, ℕ, List, [], ◌∷◌, ◌++◌, map, Option, Some, None, Result, Ok, Err}
 use Rattle.scan_base.specs.declared.fault.Fault.{Fault}
 use Rattle.scan_base.specs.declared.fault.Fault.TheVariants.{Transport}
 use Rattle.flight_info.specs.Replies.{ReplyAt}
-use Rattle.flight_core.specs.Log.{Log}
+use Rattle.table_versions.specs.Database.{Put}
+use Rattle.flight_core.specs.Asked.{Asked, put, info, tables, schema, fetch}
+use Rattle.flight_core.specs.Puts.{put_said}
 use Rattle.flight_core.specs.Machine.{Run}
 use Rattle.flight_core.specs.Headline.{Headline}
 use Rattle.flight_calls.specs.declared.setting.Options.{Options}
-use Rattle.flight_calls.specs.Calls.{Call, Answers, asked_in_all, replies_to_asked}
+use Rattle.flight_calls.specs.Calls.{Call, asked_by, asked_in_all, replies_to_asked}
+use Rattle.flight_calls.specs.Seats.{Seat, Moves, alone}
+use Rattle.flight_calls.specs.Reacts.{Answers}
 use Rattle.flight_calls.specs.Owed.{Connection, Serves, EndsInside, behind_calls, answer_bytes, Wrote, Fails}
 
 -- A read failed: each of these answers was written whole, and behind the calls stand no more than a beginning of one.
@@ -18,22 +22,48 @@ pub record ReadFailed (result : Result (Unit {0}) Fault) (old new : Connection) 
   pub counted : Fails 1 0 old new
 
 -- Where a read failed, nothing else is said than that: each whole call that came before it is answered.
-abbrev pub FailedReadsAnswerAll : Type 0
-FailedReadsAnswerAll =
-    (options : Options) (result : Result (Unit {0}) Fault) (old new : Connection) (serves : Serves options result old new)
+abbrev pub FailedReadsAnswerAll : Moves → Type 0
+FailedReadsAnswerAll moves =
+    (options : Options) (result : Result (Unit {0}) Fault) (old new : Connection) (serves : Serves moves options result old new)
     → new.failed_reads ≡ old.failed_reads + 1 → ReadFailed result old new serves.rest (map answer_bytes serves.replies)
 
--- The answers of a connection are a run of the core on what its calls ask: a call that is refused before it comes to the
--- core changes nothing.
-abbrev pub AnswersAreARun : Type 0
-AnswersAreARun = (options : Options) (old new : Log) (calls : List Call) (replies : List ReplyAt)
-    → Answers options old calls replies new
-    → Run old (asked_in_all options calls) (replies_to_asked options calls replies) new
+-- the put that a reply accepts, if it accepts one
+abbrev pub accepted_by : Option Fault → Result Put Fault → List Put
+accepted_by None (Ok said) = said ∷ []
+accepted_by None (Err fault) = []
+accepted_by (Some fault) read = []
 
--- So the headline holds of each connection whose log was empty, from the bytes that came, which are those of the calls and
+-- the same of what is asked
+abbrev pub puts_of : Result Asked Fault → ReplyAt → List Put
+puts_of (Ok (put payloads)) reply = accepted_by reply.fault (put_said payloads)
+puts_of (Ok (info payload parts)) reply = []
+puts_of (Ok (tables payload parts)) reply = []
+puts_of (Ok (schema payload)) reply = []
+puts_of (Ok (fetch ticket workers)) reply = []
+puts_of (Err fault) reply = []
+
+-- the accepted puts of calls, in order
+abbrev pub puts_in_all : Options → List Call → List ReplyAt → List Put
+puts_in_all options (call ∷ calls) (reply ∷ replies) =
+    puts_of (asked_by options call) reply ++ puts_in_all options calls replies
+puts_in_all options _ _ = []
+
+-- A connection makes the accepted puts of its whole calls, in order, and no other.
+abbrev pub PutsAreMade : Moves → Type 0
+PutsAreMade moves = (options : Options) (old new : Seat) (calls : List Call) (replies : List ReplyAt)
+    → Answers moves options old calls replies new → new.made ≡ old.made ++ puts_in_all options calls replies
+
+-- The answers of a connection that shares its log with none are a run of the core on what its calls ask: a call that is
+-- refused before it comes to the core changes nothing.
+abbrev pub AnswersAreARun : Type 0
+AnswersAreARun = (options : Options) (old new : Seat) (calls : List Call) (replies : List ReplyAt)
+    → Answers alone options old calls replies new
+    → Run old.log (asked_in_all options calls) (replies_to_asked options calls replies) new.log
+
+-- So the headline holds of each such connection whose log was empty, from the bytes that came, which are those of the calls and
 -- of a rest, to the bytes that were written, which are those of the replies: if every endpoint of an info was fetched to
 -- its end, the streams joined are the rows that were wanted, on the tables as they stood when the info was given.
 abbrev pub ServedMeetsHeadline : Type 0
 ServedMeetsHeadline =
-    (options : Options) (result : Result (Unit {0}) Fault) (old new : Connection) (serves : Serves options result old new)
-    → old.log ≡ [] → Headline (asked_in_all options serves.calls) (replies_to_asked options serves.calls serves.replies)
+    (options : Options) (result : Result (Unit {0}) Fault) (old new : Connection) (serves : Serves alone options result old new)
+    → old.seat.log ≡ [] → Headline (asked_in_all options serves.calls) (replies_to_asked options serves.calls serves.replies)

@@ -1,4 +1,8 @@
 pub mod Calls
+pub mod Counts
+pub mod Seats
+pub mod Reacts
+pub mod Stepping
 pub mod Owed
 pub mod Ending
 pub mod Requests

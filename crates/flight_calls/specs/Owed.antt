@@ -13,9 +13,10 @@ use Rattle.grpc_frame.specs.Calls.{status_of}
 use Rattle.grpc_frame.specs.Ends.{AppendsBeginning}
 use Rattle.flight_info.specs.Replies.{ReplyAt}
 use Rattle.flight_info.specs.Payloads.{FitMessages}
-use Rattle.flight_core.specs.Log.{Log}
 use Rattle.flight_calls.specs.declared.setting.Options.{Options}
-use Rattle.flight_calls.specs.Calls.{Call, call_records, Answers}
+use Rattle.flight_calls.specs.Calls.{Call, call_records}
+use Rattle.flight_calls.specs.Seats.{Seat, Moves}
+use Rattle.flight_calls.specs.Reacts.{Answers}
 
 -- ---- what follows the whole calls
 
@@ -68,18 +69,18 @@ Wrote old new done _ = ⊥
 -- ---- what became of a connection
 
 -- A connection: what its input has left and what its output holds, where they are known, how many reads and
--- writes have failed, and the accepted puts.
+-- writes have failed, and the seat of its backend.
 pub record Connection : Type 0 where
   pub input : Option (List ℕ)
   pub output : Option (List ℕ)
   pub failed_reads : ℕ
   pub failed_writes : ℕ
-  pub log : Log
+  pub seat : Seat
 
 -- the connection with these, in that order
-abbrev pub connection_of : Option (List ℕ) → Option (List ℕ) → ℕ → ℕ → Log → Connection
-connection_of input output reads writes log =
-    record { input = input; output = output; failed_reads = reads; failed_writes = writes; log = log }
+abbrev pub connection_of : Option (List ℕ) → Option (List ℕ) → ℕ → ℕ → Seat → Connection
+connection_of input output reads writes seat =
+    record { input = input; output = output; failed_reads = reads; failed_writes = writes; seat = seat }
 
 -- so many reads failed, and so many writes
 abbrev pub Fails : ℕ → ℕ → Connection → Connection → Type 0
@@ -97,15 +98,16 @@ Why (Err Transport) old new rest (Some fault) (item ∷ []) = IsCause fault rest
 Why (Err fault) old new rest (Some last) [] = (last ≡ fault) × (fault ≢ Transport) × IsCause fault rest × Fails 0 0 old new
 Why _ old new rest last begun = ⊥
 
--- What became of a connection, where the server is set so. What came is whole calls and then a rest; they have one reply each, from the log before
--- to the log now; what is owed for them was written in order, all but an item that was only begun.
-pub record Serves (options : Options) (result : Result (Unit {0}) Fault) (old new : Connection) : Type 0 where
+-- What became of a connection, where the server is set so. What came is whole calls and then a rest; they have one reply
+-- each, from the seat before to the seat now; what is owed for them was written in order, all but an item that was only
+-- begun.
+pub record Serves (moves : Moves) (options : Options) (result : Result (Unit {0}) Fault) (old new : Connection) : Type 0 where
   pub calls : List Call
   pub rest : List ℕ
   pub fits : All IsRecord (flat_map call_records calls)
   pub consumed : Consumes old.input new.input (calls_bytes calls ++ rest)
   pub replies : List ReplyAt
-  pub answers : Answers options old.log calls replies new.log
+  pub answers : Answers moves options old.seat calls replies new.seat
   pub sent : All (λ reply. FitMessages reply.payloads) replies
   pub last : Option Fault
   pub done : List (List ℕ)

@@ -10,16 +10,18 @@ use Rattle.flight_calls.specs.declared.request.Method.TheVariants as method
 use Rattle.flight_calls.specs.declared.request.Single.{Single}
 use Rattle.flight_calls.specs.declared.request.Request.{Request}
 use Rattle.flight_calls.specs.declared.request.Request.TheVariants as request
+use Rattle.flight_calls.specs.Reacts.{Looks}
 use Rattle.flight_calls.specs.Calls.{Call, method_at, asked_with, asked_by, ReplyTo}
 
 -- the call with more messages behind its own
 abbrev pub with_messages : Call → List Payload → Call
 with_messages call more = record { path = call.path; messages = call.messages ++ more }
 
--- a message is answered by this fault, however the server is set and whatever the log is
+-- a message is answered by this fault, however the server is set and whatever the log is, without a look
 abbrev pub IsRefused : Single → Payload → Fault → Type 0
 IsRefused one message fault =
-    (options : Options) (log : Log) → ReplyTo (asked_with options one message) log (refusal fault) log
+    ((options : Options) (log : Log) → ReplyTo (asked_with options one message) log (refusal fault) log)
+    × ((options : Options) → Looks (asked_with options one message) → ⊥)
 
 -- the one message of the call came, and it is answered by this fault
 pub record HasRefused (call : Call) (fault : Fault) : Type 0 where

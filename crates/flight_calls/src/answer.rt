@@ -15,7 +15,7 @@ ghost use Rattle.flight_core.specs.Asked.{Asked};
 ghost use Rattle.flight_core.specs.Log.{Log};
 ghost use Rattle.flight_calls.specs.Calls.{ReplyTo};
 ghost use Rattle.flight_calls.specs.Owed.{answer_bytes, last_status};
-ghost use Rattle.flight_calls.specs.Answered.{AnsweredBy, FitsMessages, WritesReply, SendsReply};
+ghost use Rattle.flight_calls.specs.Answered.{AnsweredBy, IsReplyOf, FitsMessages, WritesReply, SendsReply};
 
 use flight_core::laws::streams_answer;
 use flight_core::{FetchStream, Payload, Reply};
@@ -49,7 +49,7 @@ pub fn write_answer<W: Output>(
     requires empty { outbox.old ≡ [] }
     requires short { FitsMessages answer }
     ensures bytes { (asked : Result Asked FaultAt) (log new : Log) → AnsweredBy asked log answer new →
-        WritesReply (λ reply. ReplyTo asked log reply new) result
+        WritesReply (λ reply. ReplyTo asked log reply new × IsReplyOf answer reply) result
         (W.contents writer.old) (W.contents writer.new) }
     ensures empty { outbox.new ≡ [] }
     ensures counted { CountsFailure result (W.failures writer.old) (W.failures writer.new) }
@@ -69,7 +69,7 @@ fn send_answer<W: Output>(
     requires failures { W.failures writer.old < 18446744073709551615 }
     requires short { FitsMessages answer }
     ensures bytes { (asked : Result Asked FaultAt) (log new : Log) → AnsweredBy asked log answer new →
-        SendsReply (λ reply. ReplyTo asked log reply new) result
+        SendsReply (λ reply. ReplyTo asked log reply new × IsReplyOf answer reply) result
         (W.contents writer.old) (W.contents writer.new) outbox.old outbox.new }
     ensures empty { OnErr result (outbox.new ≡ []) }
     ensures counted { CountsFailure result (W.failures writer.old) (W.failures writer.new) }

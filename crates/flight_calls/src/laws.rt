@@ -1,15 +1,21 @@
 //! Laws of connections. Each function here does nothing: its contract is a law.
 
-ghost use Rattle.flight_calls.specs.Laws.{FailedReadsAnswerAll, AnswersAreARun, ServedMeetsHeadline};
+ghost use Rattle.flight_calls.specs.Laws.{FailedReadsAnswerAll, PutsAreMade, AnswersAreARun, ServedMeetsHeadline};
 
+use crate::backend::Backend;
 use flight_core::laws::runs_meet_headline;
 
-/// Where a read failed, a server has answered each whole call that came before.
-pub fn failed_reads_answer_all()
-    ensures { FailedReadsAnswerAll }
+/// Where a read failed, a server has answered each whole call that came before, over any backend.
+pub fn failed_reads_answer_all<B: Backend>()
+    ensures { FailedReadsAnswerAll B.moves }
 {}
 
-/// The answers of a connection are a run of the core on what its calls ask.
+/// A connection makes the accepted puts of its whole calls, in order, and no other, over any backend.
+pub fn puts_are_made<B: Backend>()
+    ensures { PutsAreMade B.moves }
+{}
+
+/// The answers of a connection that shares its log with none are a run of the core on what its calls ask.
 pub fn answers_are_a_run()
     ensures { AnswersAreARun }
 {}

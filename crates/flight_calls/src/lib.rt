@@ -5,11 +5,14 @@
 #![tactic(auto)]
 
 mod answer;
+pub mod backend;
 mod call;
 pub mod laws;
 mod request;
 mod server;
 mod setting;
+mod step;
 
+pub use crate::backend::{Alone, Backend};
 pub use crate::server::{serve, serve_alone};
 pub use crate::setting::Options;

@@ -1,22 +1,19 @@
 //! What a call asks, while its messages come.
 
-ghost use Rattle.std.specs.Prelude.{◌≡◌, ◌++◌, ◌∷◌, [], ℕ, List, Some, IfSome, Ok};
-ghost use Rattle.scan_base.specs.Reading.{Gives};
-ghost use Rattle.flight_proto.specs.Wanted.{wanted_in};
-ghost use Rattle.flight_core.specs.Asked.{fetch};
-ghost use Rattle.flight_core.specs.Event.{asked_in};
+ghost use Rattle.std.specs.Prelude.{◌≡◌, ◌++◌, ◌∷◌, [], ℕ, List, Some, IfSome};
 ghost use Rattle.flight_info.specs.Payloads.{Payload};
 ghost use Rattle.flight_calls.specs.declared.request.Method.TheVariants as variant;
-ghost use Rattle.flight_calls.specs.Calls.{Call, method_at, info_asked, asked_with, asked_by};
-ghost use Rattle.flight_calls.specs.Answered.{AnsweredBy, FitsMessages};
+ghost use Rattle.flight_calls.specs.Calls.{Call, method_at, asked_with, asked_by};
+ghost use Rattle.flight_calls.specs.Answered.{ReactsBy, FitsMessages};
 ghost use Rattle.flight_calls.specs.Requests.{IsRefused, Holds};
 
 use crate::answer::Answer;
+use crate::backend::Backend;
 use crate::setting::Options;
+use crate::step::{fetch_on, info_on, put_on, schema_on};
 use bytes::Bytes;
-use flight_core::{Event, Plain, PutReader, Reply, open_fetch, step, step_put};
+use flight_core::{PutReader, Reply};
 use flight_proto::wanted::MAX_REQUEST_LEN;
-use flight_proto::{Wanted, read_wanted};
 use scan_base::Fault;
 use std::alloc::Global;
 
@@ -102,31 +99,6 @@ fn refusal_of(method: Single, message: &[u8]) -> Option<Fault>
     }
 }
 
-// What an info is asked for. The command is read for its kind alone.
-fn info_event(payload: Bytes, parts: u32) -> Event
-    ensures { asked_in result ≡ info_asked (wanted_in payload) payload parts }
-{
-    match read_wanted(payload.as_slice()) {
-        Ok(Wanted::Tables) => Event::Tables { payload, parts },
-        Ok(Wanted::Rows(_)) | Err(_) => Event::Info { payload, parts },
-    }
-}
-
-// What the one message of a call asks. No action is known (F5).
-fn event_of(method: Single, message: Bytes, options: Options) -> Result<Event, Fault>
-    ensures { Gives asked_in result (asked_with options method message) }
-{
-    match method {
-        Single::DoGet => Ok(Event::Fetch {
-            ticket: message,
-            workers: options.workers,
-        }),
-        Single::GetFlightInfo => Ok(info_event(message, options.parts)),
-        Single::GetSchema => Ok(Event::Schema { payload: message }),
-        Single::DoAction => Err(Fault::UnknownCommand),
-    }
-}
-
 impl Request {
     /// A call to this path, of which no message came. Another path than those that are built is F3.
     pub fn at(path: &[u8]) -> Request
@@ -166,36 +138,41 @@ impl Request {
         }
     }
 
-    /// What answers the call, once its End came: a step of the core, or the stream of a fetch. F4 where another method than
-    /// DoPut has no message, and F5 for any action.
-    pub fn answer(self, alloc: Global, plain: &mut Plain, options: Options) -> Answer
+    /// What answers the call, once its End came: a step of the core over the backend, or the stream of a fetch. F4 where
+    /// another method than DoPut has no message, and F5 for any action.
+    pub fn answer<B: Backend>(self, alloc: Global, backend: &mut B, options: Options) -> Answer
         ensures reply { (call : Call) → Holds self call
-            → AnsweredBy (asked_by options call) plain.old result plain.new }
+            → ReactsBy B.moves (asked_by options call) (B.seat backend.old) result (B.seat backend.new) }
         ensures short { FitsMessages result }
     {
         match self {
-            Request::Put(reader) => Answer::Whole(step_put(alloc, plain, reader.into_put())),
+            Request::Put(reader) => Answer::Whole(put_on(alloc, backend, reader.into_put())),
             Request::Awaits(_) => Answer::Whole(Reply::refusal(alloc, Fault::BadProto)),
-            Request::Asks(Single::DoGet, ticket) => {
-                open_answer(alloc, plain, ticket.as_slice(), options)
+            Request::Asks(method, message) => {
+                answer_message(alloc, backend, method, message.as_slice(), options)
             }
-            Request::Asks(method, message) => match event_of(method, message, options) {
-                Ok(event) => Answer::Whole(step(alloc, plain, &event)),
-                Err(fault) => Answer::Whole(Reply::refusal(alloc, fault)),
-            },
             Request::Settled(fault) => Answer::Whole(Reply::refusal(alloc, fault)),
             Request::Refused(fault) => Answer::Whole(Reply::refusal(alloc, fault)),
         }
     }
 }
 
-// What answers a fetch.
-fn open_answer(alloc: Global, plain: &Plain, ticket: &[u8], options: Options) -> Answer
-    ensures reply { AnsweredBy (Ok (fetch ticket.now options.workers)) plain.now result plain.now }
+// What answers a call of one message. No action is known (F5).
+fn answer_message<B: Backend>(
+    alloc: Global,
+    backend: &mut B,
+    method: Single,
+    message: &[u8],
+    options: Options,
+) -> Answer
+    ensures reply { ReactsBy B.moves (asked_with options method message.now)
+        (B.seat backend.old) result (B.seat backend.new) }
     ensures short { FitsMessages result }
 {
-    match open_fetch(alloc, plain, ticket, options.workers) {
-        Ok(stream) => Answer::Stream(stream),
-        Err(fault) => Answer::Whole(Reply::refusal(alloc, fault)),
+    match method {
+        Single::DoGet => fetch_on(alloc, backend, message, options.workers),
+        Single::GetFlightInfo => { Answer::Whole(info_on(alloc, backend, message, options.parts)) }
+        Single::GetSchema => Answer::Whole(schema_on(alloc, backend, message)),
+        Single::DoAction => Answer::Whole(Reply::refusal(alloc, Fault::UnknownCommand)),
     }
 }

@@ -1,11 +1,12 @@
 //! Serving a connection.
 
 ghost use Rattle.std.specs.Prelude.{◌≡◌, ◌<◌, []};
-ghost use Rattle.flight_core.specs.Log.{Log};
+ghost use Rattle.flight_calls.specs.Seats.{Seat, seat_of, alone};
 ghost use Rattle.flight_calls.specs.Owed.{Serves, connection_of};
 ghost use Rattle.flight_calls.specs.Ending.{RefusesBy};
 
 use crate::answer::{write_answer, write_last_status};
+use crate::backend::{Alone, Backend};
 use crate::call::{Arrival, read_call};
 use crate::setting::Options;
 use flight_core::Plain;
@@ -14,7 +15,7 @@ use hash_seed::HashSeed;
 use scan_base::Fault;
 use std::alloc::Global;
 
-/// Serves a connection: answers its calls one after another, up to the end of its input.
+/// Serves a connection over a backend: answers its calls one after another, up to the end of its input.
 ///
 /// An answer is begun once the call's End has come, and is written before the next call is looked at. Of a fetch each
 /// payload is sent before the next one is made. A fault of a call is its answer, and the connection goes on.
@@ -28,20 +29,20 @@ use std::alloc::Global;
 ///
 /// Nothing is done for a call whose End has not come. Where only the writing of an answer failed, its call was
 /// done: a put that was accepted stands.
-pub fn serve<R: Input, W: Output>(
+pub fn serve<R: Input, W: Output, B: Backend>(
     alloc: Global,
     reader: &mut R,
     writer: &mut W,
-    plain: &mut Plain,
+    backend: &mut B,
     options: Options,
 ) -> Result<(), Fault>
     requires reads { R.failures reader.old < 18446744073709551615 }
     requires writes { W.failures writer.old < 18446744073709551615 }
-    ensures { Serves options result
+    ensures { Serves B.moves options result
         (connection_of (R.remaining reader.old) (W.contents writer.old)
-        (R.failures reader.old) (W.failures writer.old) plain.old)
+        (R.failures reader.old) (W.failures writer.old) (B.seat backend.old))
         (connection_of (R.remaining reader.new) (W.contents writer.new)
-        (R.failures reader.new) (W.failures writer.new) plain.new) }
+        (R.failures reader.new) (W.failures writer.new) (B.seat backend.new)) }
 {
     let mut inbox = Inbox::of_server(alloc);
     let mut outbox = Outbox::new(alloc);
@@ -52,7 +53,7 @@ pub fn serve<R: Input, W: Output>(
             Ok(Arrival::CutShort) => return Err(Fault::Transport),
             Err(fault) => return refuse(writer, &mut outbox, fault),
         };
-        let answer = request.answer(alloc, plain, options);
+        let answer = request.answer(alloc, backend, options);
         let Ok(()) = write_answer(alloc, writer, &mut outbox, answer) else {
             return Err(Fault::Transport);
         };
@@ -73,14 +74,14 @@ pub fn serve_alone<R: Input, W: Output>(
 ) -> Result<(), Fault>
     requires reads { R.failures reader.old < 18446744073709551615 }
     requires writes { W.failures writer.old < 18446744073709551615 }
-    ensures { (log : Log) × Serves options result
+    ensures { (seat : Seat) × Serves alone options result
         (connection_of (R.remaining reader.old) (W.contents writer.old)
-        (R.failures reader.old) (W.failures writer.old) [])
+        (R.failures reader.old) (W.failures writer.old) (seat_of [] 0))
         (connection_of (R.remaining reader.new) (W.contents writer.new)
-        (R.failures reader.new) (W.failures writer.new) log) }
+        (R.failures reader.new) (W.failures writer.new) seat) }
 {
     match Plain::new(alloc, seed) {
-        Ok(mut plain) => serve(alloc, reader, writer, &mut plain, options),
+        Ok(plain) => serve(alloc, reader, writer, &mut Alone::new(plain), options),
         Err(fault) => refuse(writer, &mut Outbox::new(alloc), fault),
     }
 }

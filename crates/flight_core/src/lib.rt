@@ -10,7 +10,7 @@ pub mod plain;
 pub mod put;
 
 pub use crate::event::Event;
-pub use crate::machine::{open_fetch, run, step, step_put};
+pub use crate::machine::{put_answer, run, step, step_put};
 pub use crate::plain::Plain;
 pub use crate::put::{PutReader, read_put};
 pub use fetch_stream::{FetchStream, Payload, answer_fetch, read_ticket};

@@ -9,7 +9,7 @@ ghost use Rattle.flight_core.specs.Event.{asked_in};
 ghost use Rattle.flight_core.specs.Log.{Log, ArePuts, puts_in, database_of};
 ghost use Rattle.flight_core.specs.Headline.{Headline};
 ghost use Rattle.flight_core.specs.Laws.{RefusedLeaveNothing};
-ghost use Rattle.flight_core.specs.Machine.{PutStep, StepOn, Run, FetchIn, OpensIn};
+ghost use Rattle.flight_core.specs.Machine.{PutStep, StepOn, Run, FetchIn};
 ghost use Rattle.table_versions.specs.Database.{after};
 ghost use Rattle.flight_core.specs.Refusals.{GivesBehind};
 ghost use Rattle.table_versions.specs.Stored.{put_of};
@@ -20,7 +20,7 @@ use crate::event::Event;
 use crate::plain::Plain;
 use crate::put::read_put;
 use bytes::Bytes;
-use fetch_stream::{FetchStream, answer_fetch, read_ticket, version_of};
+use fetch_stream::{answer_fetch, read_ticket, version_of};
 use flight_info::{Reply, answer_info, answer_schema, answer_tables, payload_of};
 use flight_proto::put_rows_put;
 use hash_seed::HashSeed;
@@ -28,8 +28,12 @@ use scan_base::Fault;
 use std::alloc::{AllocError, Global};
 use table_versions::{MAX_ROWS, Put};
 
-// The answer to a put of so many rows, or of as many as a table may have where they are more.
-fn put_answer(alloc: Global, rows: usize) -> Result<Vec<Bytes>, AllocError>
+/// The payloads that answer an accepted put of so many rows, or of as many as a table may have where they are more.
+///
+/// # Errors
+///
+/// `AllocError` where memory is refused.
+pub fn put_answer(alloc: Global, rows: usize) -> Result<Vec<Bytes>, AllocError>
     ensures said { IfOk result (λ payloads.
         payloads.items ≡ rows_put_bytes (pos (min rows most_rows)) ∷ []) }
     ensures fits { IfOk result (λ payloads. FitMessages payloads.items) }
@@ -66,25 +70,6 @@ pub fn step_put(alloc: Global, plain: &mut Plain, read: Result<Put, Fault>) -> R
         Ok(()) => Reply::whole(answer),
         Err(fault) => Reply::refusal(alloc, fault),
     }
-}
-
-/// Opens the answer to a fetch: the stream of its handle at the handle's version, which no later put changes. It is read
-/// by one worker, whatever their number.
-///
-/// # Errors
-///
-/// Those of `read_ticket`, `Plain::at` and `FetchStream::new`, in that order.
-pub fn open_fetch(
-    alloc: Global,
-    plain: &Plain,
-    ticket: &[u8],
-    workers: usize,
-) -> Result<FetchStream, Fault>
-    ensures { OpensIn plain.now ticket.now result }
-{
-    let handle = read_ticket(ticket)?;
-    let snapshot = plain.at(version_of(&handle))?;
-    FetchStream::new(alloc, snapshot, &handle, workers)
 }
 
 fn step_fetch(alloc: Global, plain: &Plain, ticket: &[u8]) -> Reply

@@ -19,10 +19,11 @@ use Rattle.grouping.specs.declared.key.Place.{Place}
 use Rattle.grouping.specs.declared.tally.Tally.{Tally}
 use Rattle.grouping.specs.Answers.{IsThere}
 use Rattle.grouping.specs.Fed.{AreTyped, batch_at}
-use Rattle.grouping.specs.inside.Answering.{count_or_none, first_cell, has_texts, sum_or_none}
+use Rattle.batch_room.specs.Fitting.{has_texts}
+use Rattle.grouping.specs.inside.Answering.{count_or_none, first_cell, sum_or_none}
 use Rattle.grouping.proofs.Feeding.{as_many}
 use Rattle.grouping.proofs.KeyCells.{cell_slot}
-use Rattle.grouping.proofs.Short.{no_text}
+use Rattle.batch_room.proofs.Short.{no_text}
 
 pub if_ok : {T E : Type 0} (P Q : T → Type 0) → ((x : T) → P x → Q x) → (r : Result T E) → IfOk r P → IfOk r Q
 if_ok P Q f (Ok x) h = f x h

@@ -1,12 +1,14 @@
 -- Tallies as the rows go by.
-use Rattle.std.proofs.Common.{◌≡◌, ◌≢◌, ◌≤◌, ◌<◌, ℕ, ◌+◌, Bool, true, false, add-one, add_assoc, inl, inr, List, length, get_or, slice_set, refl, ap, ◌∙◌, arith, get_or-set_other, get_or-set_same, subst, ◌⊎◌}
+use Rattle.std.proofs.Common.{◌≡◌, ◌≢◌, ◌≤◌, ◌<◌, ℕ, zero, suc, ◌+◌, Bool, true, false, add-one, add_assoc, inl, inr, List, length, get_or, slice_set, refl, ap, ◌∙◌, arith, get_or-set_other, get_or-set_same, subst, ◌⊎◌}
 use Rattle.std.proofs.Math.ListN.{length-set}
+use Rattle.std.proofs.lemmas.List.{set-get_or}
 use Rattle.std.proofs.lemmas.List.Sums.{get_or-le-sum_by, sum_by-set}
 use Rattle.std.specs.Prelude.{nat_eq}
 use borrow.Author.Tests.{eqb-true, eqb-false}
 use Rattle.arrays.specs.Column.{ColumnAt}
 use Rattle.arrays.specs.Batch.{row_of}
 use Rattle.typed_plan.specs.declared.plan.Aggregate.{Aggregate}
+use Rattle.typed_plan.specs.declared.plan.Aggregate.TheVariants.{Key}
 use Rattle.grouping.specs.declared.tally.Tally.{Tally}
 use Rattle.grouping.specs.Tallies.{no_rows, added}
 use Rattle.grouping.specs.inside.Counting.{AreWithin, IsSmall, stepped}
@@ -41,6 +43,14 @@ pub one_within : (most : ℕ) (tallies : List Tally) (group : ℕ) (d : Tally) �
 one_within most tallies group d within there =
     let one = get_or-le-sum_by (λ (tally : Tally). tally.count) tallies group d there in
     omega (arith, one, within.few)
+
+-- of a key nothing is kept
+pub stepped_key : (place : ℕ) (columns : List ColumnAt) (groups rows : List ℕ) (tallies : List Tally) (count : ℕ) →
+    stepped (Key place) columns groups rows tallies count ≡ tallies
+stepped_key place columns groups rows tallies zero = refl
+stepped_key place columns groups rows tallies (suc count) =
+    ap (λ ts. slice_set ts (get_or groups count 0) (get_or ts (get_or groups count 0) no_rows)) (stepped_key place columns groups rows tallies count)
+    ∙ set-get_or tallies (get_or groups count 0) no_rows
 
 -- one row more
 pub step : (item : Aggregate) (columns : List ColumnAt) (groups rows : List ℕ) (fed : ℕ) (before : List Tally) (k : ℕ) (tallies : List Tally) (new : Tally) →

@@ -15,12 +15,10 @@ use crate::key::{Place, RowKey};
 use crate::tally::Tally;
 use arrays::Batch;
 use arrow_schema::DataType;
+use batch_room::MOST_BATCH_ROWS;
 use std::alloc::{AllocError, Global};
 use std::marker::Model;
 use typed_plan::Aggregate;
-
-// As many groups as a batch has.
-const MOST_ROWS: usize = 65_536;
 
 /// The answer of groups: the items of each, in order. It holds where the first rows of groups stand, and is given the
 /// batches anew for each batch of it. A contract sees the groups, and how many of them were answered.
@@ -109,7 +107,7 @@ impl Answers {
         if left == 0 {
             return Ok(None);
         }
-        let batch = answer.next(alloc, self.given, left.min(MOST_ROWS))?;
+        let batch = answer.next(alloc, self.given, left.min(MOST_BATCH_ROWS))?;
         self.given += batch.rows();
         Ok(Some(batch))
     }

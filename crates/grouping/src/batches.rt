@@ -2,16 +2,18 @@
 
 ghost use Rattle.std.specs.Prelude.{◌≡◌, ◌≤◌, ◌<◌, ◌-◌, ◌+◌, ℕ, All, IfOk, length, map, take, drop};
 ghost use Rattle.arrays.specs.OfSlots.{slot_value, IsSlotOf};
+ghost use Rattle.batch_room.specs.Fitting.{AreShort, Fits};
 ghost use Rattle.typed_plan.specs.Typed.{type_at};
 ghost use Rattle.grouping.specs.Answers.{IsThere};
-ghost use Rattle.grouping.specs.inside.Answering.{AreShort, Fits, first_cell};
+ghost use Rattle.grouping.specs.inside.Answering.{first_cell};
 ghost use Rattle.grouping.specs.inside.Finishing.{groups_in, AllFit, CanAnswer, IsItemColumn, IsBatchOf, IsNextOf, item_cells};
 
-use crate::answer::{count_column, fitting, has_texts, sum_column};
+use crate::answer::{count_column, sum_column};
 use crate::key::Place;
 use crate::tally::Tally;
 use arrays::{Batch, Column, SlotRef};
 use arrow_schema::DataType;
+use batch_room::{fitting, has_texts};
 use std::alloc::{AllocError, Global};
 use typed_plan::Aggregate;
 

@@ -1,6 +1,7 @@
 //! Groups of rows.
 
 ghost use Rattle.std.specs.Prelude.{◌≤◌, ◌+◌, ◌<◌, All, IfOk, length, map};
+ghost use Rattle.std.specs.Option.{ForNone};
 ghost use Rattle.scan_base.specs.Limits.{most_rows};
 ghost use Rattle.arrays.specs.Batch.{row_of};
 ghost use Rattle.grouping.specs.Answers.{Finishes};
@@ -93,7 +94,7 @@ impl<'t> Groups<'t> {
     pub fn feed(&mut self, alloc: Global, number: usize, selection: &Selection) -> Result<(), Fault>
         requires there { number < length self.old.batches }
         requires within { All (λ row. row < (batch_at self.old.batches number).rows) selection.now }
-        requires few { self.old.count + length selection.now ≤ most_rows }
+        requires few { ForNone self.old.refused (self.old.count + length selection.now ≤ most_rows) }
         ensures { Feeds self.old result self.new (map (row_of (batch_at self.old.batches number).columns) selection.now) }
     {
         if let Some(fault) = self.refused {
@@ -121,7 +122,7 @@ impl<'t> Groups<'t> {
     /// What refused either; F21 (`Fault::OutOfMemory`) where memory is refused. It is answered from then on.
     pub fn merge(&mut self, alloc: Global, other: Groups<'t>) -> Result<(), Fault>
         requires alike { IsAlike self.old other }
-        requires few { self.old.count + other.count ≤ most_rows }
+        requires few { ForNone self.old.refused (ForNone other.refused (self.old.count + other.count ≤ most_rows)) }
         ensures { Merges self.old other.entry result self.new }
     {
         if let Some(fault) = self.refused {

@@ -19,7 +19,7 @@ pub(crate) struct Part<'p> {
     pub(crate) fed: usize,
 }
 
-/// Adds each row to the tally of its group.
+/// Adds each row to the tally of its group. Of a key nothing is kept, so its tallies stay.
 pub(crate) fn add_rows(tallies: &mut [Tally], item: Aggregate, part: &Part<'_>)
     requires there { CanCount item part.now.batch.now.columns }
     requires within { All (λ row. row < part.now.batch.now.rows) part.now.rows.now }
@@ -30,6 +30,9 @@ pub(crate) fn add_rows(tallies: &mut [Tally], item: Aggregate, part: &Part<'_>)
     ensures stepped { tallies.new ≡ stepped item part.now.batch.now.columns part.now.groups.now part.now.rows.now tallies.old (length part.now.rows.now) }
     ensures small { AreWithin (part.now.fed + length part.now.rows.now) tallies.new }
 {
+    if let Aggregate::Key(_) = item {
+        return;
+    }
     for k in 0..part.rows.len() {
         let group = part.groups[k];
         tallies[group] = tallies[group].with_row(item, part.batch, part.rows[k] as usize);

@@ -13,7 +13,8 @@ use Rattle.hash_join.specs.declared.build.Probe.{Probe}
 use Rattle.hash_join.specs.Pairs.{pairs_ahead}
 use Rattle.join_batches.specs.declared.joiner.Joiner.TheInside.{Inside}
 use Rattle.join_batches.specs.declared.sides.Sides.{Sides}
-use Rattle.join_batches.specs.Joiner.{GivesJoined, most_joined_rows}
+use Rattle.batch_room.specs.Room.{most_batch_rows}
+use Rattle.join_batches.specs.Joiner.{GivesJoined}
 use Rattle.join_batches.specs.Rows.{pair_row, IsPair}
 use Rattle.join_batches.specs.Sides.{AreSides, IsBatchOf}
 use Rattle.join_batches.specs.Held.{joiner_of, IsJoiner}
@@ -33,7 +34,7 @@ pub record Goes (before after : Inside) : Type 0 where
 -- with the next pairs in place of those that were given
 pub goes_found : (j : Inside) (pairs : Vec Pair) (probe : Probe) → IsJoiner j → j.given ≡ length j.pairs.items →
     pairs.items ++ pairs_ahead j.build j.batch j.left.key.items probe ≡ pairs_ahead j.build j.batch j.left.key.items j.probe →
-    All (IsPair j.build.batches j.batch) pairs.items → length pairs.items ≤ most_joined_rows → Goes j (record j { probe = probe; pairs = pairs; given = 0 })
+    All (IsPair j.build.batches j.batch) pairs.items → length pairs.items ≤ most_batch_rows → Goes j (record j { probe = probe; pairs = pairs; given = 0 })
 goes_found j pairs probe held ended next there few = record {
   held = record {
     alike = held.alike;

@@ -17,8 +17,9 @@ use Rattle.arrays.specs.Written.{texts_joined}
 use Rattle.hash_join.specs.declared.pair.Pair.{Pair}
 use Rattle.join_batches.specs.declared.sides.Sides.{Sides}
 use Rattle.join_batches.specs.Rows.{pair_row, IsPair}
-use Rattle.join_batches.specs.Joiner.{most_joined_bytes, text_bytes_of}
-use Rattle.join_batches.specs.Sides.{types_of, width_of, AreSides, ArePairs, AllFit, AreShort, IsColumnOf, IsBatchOf, rows_at, cells_of}
+use Rattle.batch_room.specs.Fitting.{AreShort}
+use Rattle.batch_room.specs.Room.{most_column_bytes, text_bytes_of}
+use Rattle.join_batches.specs.Sides.{types_of, width_of, AreSides, ArePairs, AllFit, IsColumnOf, IsBatchOf, rows_at, cells_of}
 use Rattle.join_batches.proofs.Cells.{row_wide}
 
 -- one number more
@@ -76,13 +77,13 @@ module _ (rows : List (List Value)) where
   -- their texts are short
   pub all_light : (from n : ℕ) (columns : List ColumnAt) → AllZip (IsColumnOf rows) (range_with_len from n) columns →
       ((number : ℕ) → number < from + n → AreShort (cells_of rows number)) → 1 < length rows →
-      All (λ (column : ColumnAt). text_bytes_of column ≤ most_joined_bytes) columns
-  all_light from zero [] all short many = All-nil (λ (column : ColumnAt). text_bytes_of column ≤ most_joined_bytes)
+      All (λ (column : ColumnAt). text_bytes_of column ≤ most_column_bytes) columns
+  all_light from zero [] all short many = All-nil (λ (column : ColumnAt). text_bytes_of column ≤ most_column_bytes)
   all_light from zero (column ∷ columns) all short many = absurd all
   all_light from (suc n) [] all short many = absurd all
   all_light from (suc n) (column ∷ columns) all short many =
       let few = (short from (omega arith)).light (omega (arith, many, length-map rows (λ row. cell_in row from))) in
-      All-cons (λ (column : ColumnAt). text_bytes_of column ≤ most_joined_bytes) column columns
+      All-cons (λ (column : ColumnAt). text_bytes_of column ≤ most_column_bytes) column columns
       (omega (arith, few, ap (λ values. length (texts_joined values)) all.0.values))
       (all_light (from + 1) n columns all.1 (λ number h. short number (omega (arith, h))) many)
 

@@ -1,43 +1,22 @@
 -- Columns whose values are no texts have short texts.
-use Rattle.std.proofs.Common.{◌≡◌, ◌≤◌, ◌<◌, ℕ, ◌+◌, ◌-◌, Bool as Truth, true, false, if◌then◌else◌, List, [], ◌∷◌, All, Option, None, length, get_or, refl, sym, ap, ◌∙◌, ◌⊎◌, inl, inr, arith, subst, length-append}
+use Rattle.std.proofs.Common.{◌≡◌, ◌≤◌, ◌<◌, ℕ, ◌+◌, ◌-◌, false, List, [], None, length, get_or, sym, ap, ◌∙◌, ◌⊎◌, inl, inr, arith, subst}
 use Rattle.std.proofs.lemmas.Bool.{cases_lt}
 use Rattle.std.proofs.lemmas.List.{get_or_append_left, get_or-append-add, take_all}
-use Rattle.std.proofs.lemmas.List.Elements.{All-head, All-tail, All-map, All-weaker}
-use Rattle.arrow_schema.specs.declared.data_type.DataType.{DataType}
+use Rattle.std.proofs.lemmas.List.Elements.{All-map, All-weaker}
 use Rattle.arrow_schema.specs.declared.data_type.DataType.TheVariants as type
 use Rattle.scan_base.specs.declared.value.Value.{Value}
-use Rattle.scan_base.specs.declared.value.Value.TheVariants.{Null, Bool, Int}
 use Rattle.scan_base.specs.Predicate.{cell_in}
-use Rattle.arrays.specs.declared.layout.Layout.{Layout}
 use Rattle.arrays.specs.declared.layout.Layout.TheVariants as layout
 use Rattle.arrays.specs.Column.{ColumnAt}
-use Rattle.arrays.specs.Layout.{layout_slot}
-use Rattle.arrays.specs.Number.{integer_at, decimal_at}
-use Rattle.arrays.specs.Typed.{IsOfType}
-use Rattle.arrays.specs.Validity.{is_valid, where_valid}
-use Rattle.arrays.specs.Written.{text_bytes, texts_joined}
+use Rattle.arrays.specs.Written.{text_bytes}
+use Rattle.batch_room.specs.Fitting.{AreShort, has_texts}
+use Rattle.batch_room.proofs.Short.{no_text, plain_short}
 use Rattle.hash_join.specs.declared.pair.Pair.{Pair}
 use Rattle.join_batches.specs.declared.sides.Sides.{Sides}
 use Rattle.join_batches.specs.Rows.{batch_at, pair_row, IsPair}
-use Rattle.join_batches.specs.Sides.{types_of, width_of, has_texts, AreSides, ArePairs, AreShort, FitsIn, rows_at, cells_of}
+use Rattle.join_batches.specs.Sides.{types_of, width_of, AreSides, ArePairs, FitsIn, rows_at, cells_of}
 use Rattle.join_batches.proofs.Typed.{typed_long, typed_at}
 use Rattle.join_batches.proofs.Cells.{left_cell, right_cell}
-
-no_text_where : (validity : Option (List Truth)) (value : ℕ → Value) (place : ℕ) → text_bytes (value place) ≡ [] → text_bytes (where_valid validity value place) ≡ []
-no_text_where validity value place e = by (is_valid validity place)
-  where
-    by : (valid : Truth) → text_bytes (if valid then value place else Null) ≡ []
-    by true = e
-    by false = refl
-
--- a slot of such a type is no text
-no_text : (data_type : DataType) (known : Layout) (place : ℕ) → has_texts data_type ≡ false → IsOfType data_type known → text_bytes (layout_slot known place) ≡ []
-no_text (type.Integer integer) (layout.Integers cells) place plain of = no_text_where cells.validity (λ at. Int (integer_at cells.integer cells.values at)) place refl
-no_text type.Decimal128 (layout.Decimals cells) place plain of = no_text_where cells.validity (λ at. Int (decimal_at cells.values at)) place refl
-no_text type.Bool (layout.Bools cells) place plain of = no_text_where cells.validity (λ at. Bool (get_or cells.values at false)) place refl
-no_text type.Utf8 known place plain of = cc
-no_text (type.Dictionary encoding) known place plain of = cc
-no_text data_type known place plain of = absurd of
 
 none : ColumnAt
 none = record { layout = layout.Bools (record { validity = None; values = [] }); first = 0; len = 0 }
@@ -69,28 +48,16 @@ no_text_in sides number are h plain pair is = by (cases_lt number (length sides.
         (sym (ap has_texts (ap (λ (n : ℕ). get_or (types_of sides) n type.Utf8) (sym same) ∙ get_or-append-add sides.left_types.now sides.right_types.now k type.Utf8)) ∙ plain)
         (typed_at sides.right_types.now right.columns k type.Utf8 none rights low)
 
--- values without texts have plain bytes
-no_bytes : (values : List Value) → All (λ (value : Value). text_bytes value ≡ []) values → length (texts_joined values) ≡ 0
-no_bytes [] all = refl
-no_bytes (value ∷ values) all =
-    let here = ap length (All-head (λ (value : Value). text_bytes value ≡ []) value values all) in
-    let rest = no_bytes values (All-tail (λ (value : Value). text_bytes value ≡ []) value values all) in
-    let both = length-append (text_bytes value) (texts_joined values) in
-    omega (arith, here, rest, both)
-
 -- such a column has room for all pairs
 pub all_fit_in : (sides : Sides) (pairs : List Pair) (number : ℕ) → AreSides sides → ArePairs sides pairs → 0 < length pairs → number < width_of sides →
     has_texts (get_or (types_of sides) number type.Utf8) ≡ false → FitsIn sides pairs number (length pairs)
-all_fit_in sides pairs number are there some h plain =
-    let none : length (texts_joined (cells_of (rows_at sides pairs) number)) ≡ 0 =
-    no_bytes (cells_of (rows_at sides pairs) number)
-    (All-map (λ (value : Value). text_bytes value ≡ []) (λ (row : List Value). cell_in row number) (rows_at sides pairs)
-    (All-map (λ (row : List Value). text_bytes (cell_in row number) ≡ []) (pair_row sides.rights.now sides.left.now) pairs
-    (All-weaker (IsPair sides.rights.now sides.left.now) (λ (pair : Pair). text_bytes (cell_in (pair_row sides.rights.now sides.left.now pair) number) ≡ [])
-    (no_text_in sides number are h plain) pairs there))) in
-    record {
-      some = some;
-      within = omega arith;
-      short = subst (λ (all : List Pair). AreShort (cells_of (rows_at sides all) number)) (sym (take_all (length pairs) pairs (omega arith)))
-          (record { named = omega (arith, none); light = λ many. omega (arith, none) });
-    }
+all_fit_in sides pairs number are there some h plain = record {
+  some = some;
+  within = omega arith;
+  short = subst (λ (all : List Pair). AreShort (cells_of (rows_at sides all) number)) (sym (take_all (length pairs) pairs (omega arith)))
+      (plain_short (cells_of (rows_at sides pairs) number)
+      (All-map (λ (value : Value). text_bytes value ≡ []) (λ (row : List Value). cell_in row number) (rows_at sides pairs)
+      (All-map (λ (row : List Value). text_bytes (cell_in row number) ≡ []) (pair_row sides.rights.now sides.left.now) pairs
+      (All-weaker (IsPair sides.rights.now sides.left.now) (λ (pair : Pair). text_bytes (cell_in (pair_row sides.rights.now sides.left.now pair) number) ≡ [])
+      (no_text_in sides number are h plain) pairs there))));
+}

@@ -1,35 +1,17 @@
 -- Texts that are short, of fewer values too.
-use Rattle.std.proofs.Common.{◌≡◌, ◌≤◌, ◌<◌, ℕ, zero, suc, ◌+◌, List, [], ◌∷◌, length, take, sym, ap, ◌∙◌, arith, length-append, length-take, subst, below_more}
-use Rattle.std.proofs.lemmas.List.{take-map, take-take}
+use Rattle.std.proofs.Common.{◌≡◌, ◌≤◌, ◌<◌, ℕ, zero, suc, ◌+◌, List, [], ◌∷◌, length, map, take, sym, ap, ◌∙◌, arith, length-append, length-take, subst, below_more}
+use Rattle.std.proofs.lemmas.List.{length-map, take-map, take-take}
 use Rattle.scan_base.specs.declared.value.Value.{Value}
 use Rattle.scan_base.specs.Predicate.{cell_in}
 use Rattle.arrays.specs.declared.of_slots.SlotRef.{SlotRef}
 use Rattle.arrays.specs.OfSlots.{slot_value}
-use Rattle.arrays.specs.Written.{text_bytes, texts_joined}
+use Rattle.batch_room.specs.Fitting.{AreShort, Fits}
+use Rattle.batch_room.proofs.Short.{shorter}
 use Rattle.hash_join.specs.declared.pair.Pair.{Pair}
 use Rattle.join_batches.specs.declared.sides.Sides.{Sides}
 use Rattle.join_batches.specs.Rows.{pair_row}
-use Rattle.join_batches.specs.Sides.{HoldCells, rows_at, cells_of, AreShort, Fits, FitsIn, AllFit}
+use Rattle.join_batches.specs.Sides.{HoldCells, rows_at, cells_of, FitsIn, AllFit}
 use Rattle.join_batches.proofs.Cells.{held_values, held_long}
-
--- the first texts have no more bytes than all
-fewer_bytes : (n : ℕ) (values : List Value) → length (texts_joined (take n values)) ≤ length (texts_joined values)
-fewer_bytes zero values = omega arith
-fewer_bytes (suc n) [] = omega arith
-fewer_bytes (suc n) (value ∷ values) =
-    let some = length-append (text_bytes value) (texts_joined (take n values)) in
-    let all = length-append (text_bytes value) (texts_joined values) in
-    omega (arith, some, all, fewer_bytes n values)
-
-shorter : (n : ℕ) (values : List Value) → AreShort values → AreShort (take n values)
-shorter n values short = record {
-  named = let less = fewer_bytes n values in omega (arith, less, short.named);
-  light = λ many.
-      let less = fewer_bytes n values in
-      let size = length-take n values in
-      let all = short.light (omega (arith, many, size)) in
-      omega (arith, less, all);
-}
 
 -- the cells of fewer rows
 first_cells : (sides : Sides) (pairs : List Pair) (number n : ℕ) →
@@ -60,15 +42,14 @@ fit_more sides pairs number count fewer fit fits =
     }
 
 -- what fits of slots fits of the rows whose cells they have
-pub fits_in : (sides : Sides) (pairs : List Pair) (slots : List SlotRef) (number count : ℕ) → HoldCells sides number pairs slots → Fits slots count →
+pub fits_in : (sides : Sides) (pairs : List Pair) (slots : List SlotRef) (number count : ℕ) → HoldCells sides number pairs slots → Fits (map slot_value slots) count →
     FitsIn sides pairs number count
 fits_in sides pairs slots number count hold fits =
     let within = fits.within in
     record {
       some = fits.some;
-      within = let long = held_long sides number pairs slots hold in omega (arith, within, long);
-      short = subst AreShort
-          (sym (take-map slot_value count slots) ∙ ap (take count) (held_values sides number pairs slots hold) ∙ first_cells sides pairs number count) fits.short;
+      within = let long = held_long sides number pairs slots hold in omega (arith, within, long, length-map slots slot_value);
+      short = subst AreShort (ap (take count) (held_values sides number pairs slots hold) ∙ first_cells sides pairs number count) fits.short;
     }
 
 -- of no column all do

@@ -6,7 +6,8 @@ use Rattle.arrays.specs.Typed.{AreOf}
 use Rattle.hash_join.specs.Pairs.{pairs_ahead}
 use Rattle.hash_join.specs.declared.pair.Pair.{Pair}
 use Rattle.join_batches.specs.declared.joiner.Joiner.TheInside.{Inside}
-use Rattle.join_batches.specs.Joiner.{JoinerAt, most_joined_rows}
+use Rattle.batch_room.specs.Room.{most_batch_rows}
+use Rattle.join_batches.specs.Joiner.{JoinerAt}
 use Rattle.join_batches.specs.Rows.{pair_row, IsPair}
 
 -- the pairs that are still to be given: of those that were found, and those that are still to be found
@@ -30,8 +31,8 @@ pub record IsJoiner (j : Inside) : Type 0 where
   pub alike : length j.left.key.items ≡ length j.build.key
   pub key_there : IsTrue (list_all (λ column. nat_lt column (length j.left.types.items)) j.left.key.items)
   pub left_typed : 0 < j.batch.rows → AreOf j.left.types.items j.batch.columns
-  pub left_few : j.batch.rows ≤ most_joined_rows
+  pub left_few : j.batch.rows ≤ most_batch_rows
   pub rights_typed : All (λ (batch : BatchAt). AreOf j.right_types.items batch.columns) j.build.batches
   pub pairs_there : All (IsPair j.build.batches j.batch) j.pairs.items
-  pub pairs_few : length j.pairs.items ≤ most_joined_rows
+  pub pairs_few : length j.pairs.items ≤ most_batch_rows
   pub given_few : j.given ≤ length j.pairs.items

@@ -6,9 +6,9 @@ use Rattle.arrow_schema.specs.declared.data_type.DataType.{DataType}
 use Rattle.arrow_schema.specs.Answer.{answer_type}
 use Rattle.scan_base.specs.declared.value.Value.{Value}
 use Rattle.arrays.specs.Batch.{BatchAt, rows_of}
-use Rattle.arrays.specs.Column.{ColumnAt, values_of}
+use Rattle.arrays.specs.Column.{ColumnAt}
 use Rattle.arrays.specs.Typed.{AreOf}
-use Rattle.arrays.specs.Written.{texts_joined}
+use Rattle.batch_room.specs.Room.{most_batch_rows, most_column_bytes, text_bytes_of}
 use Rattle.hash_join.specs.Pairs.{key_in, keys_join}
 
 -- The types of the columns of both sides, the numbers of those that are the key, the rows of the right side in order, and
@@ -35,25 +35,13 @@ joined_of joiner lefts = flat_map (joined_with joiner) lefts
 abbrev pub joined_types : JoinerAt → List DataType
 joined_types joiner = map answer_type (joiner.left_types ++ joiner.right_types)
 
--- as many rows as a joined batch has
-abbrev pub most_joined_rows : ℕ
-most_joined_rows = 65536
-
--- as many bytes as the texts of a column of a joined batch of more than one row have
-abbrev pub most_joined_bytes : ℕ
-most_joined_bytes = 16777216
-
--- how many bytes the texts of a column have
-abbrev pub text_bytes_of : ColumnAt → ℕ
-text_bytes_of column = length (texts_joined (values_of column))
-
 -- a batch has the next joined rows, one or more, and short texts
 pub record GivesJoined (before : JoinerAt) (batch : BatchAt) (after : JoinerAt) : Type 0 where
   pub next : before.ahead ≡ rows_of batch ++ after.ahead
   pub some : 0 < batch.rows
-  pub few : batch.rows ≤ most_joined_rows
+  pub few : batch.rows ≤ most_batch_rows
   pub typed : AreOf (joined_types before) batch.columns
-  pub light : 1 < batch.rows → All (λ (column : ColumnAt). text_bytes_of column ≤ most_joined_bytes) batch.columns
+  pub light : 1 < batch.rows → All (λ (column : ColumnAt). text_bytes_of column ≤ most_column_bytes) batch.columns
   pub on : after ≡ record before { ahead = after.ahead }
 
 -- The next joined batch, or none where no row is left. Where memory is refused the same rows come next.

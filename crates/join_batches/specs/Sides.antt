@@ -1,8 +1,8 @@
 -- Inside: the columns of the rows that pairs stand for.
-use Rattle.std.specs.Prelude.{◌≡◌, ◌≤◌, ◌<◌, ◌+◌, ◌^◌, ℕ, All, List, ◌++◌, length, map, take, get_or, Bool, true, false}
+use Rattle.std.specs.Prelude.{◌≡◌, ◌≤◌, ◌<◌, ◌+◌, ℕ, All, List, ◌++◌, length, map, take, get_or}
 use Rattle.std.specs.List.{AllZip}
 use Rattle.arrow_schema.specs.declared.data_type.DataType.{DataType}
-use Rattle.arrow_schema.specs.declared.data_type.DataType.TheVariants.{Utf8, Dictionary}
+use Rattle.arrow_schema.specs.declared.data_type.DataType.TheVariants.{Utf8}
 use Rattle.arrow_schema.specs.Answer.{answer_type}
 use Rattle.scan_base.specs.declared.value.Value.{Value}
 use Rattle.scan_base.specs.Predicate.{cell_in}
@@ -11,10 +11,10 @@ use Rattle.arrays.specs.Batch.{BatchAt, rows_of}
 use Rattle.arrays.specs.Column.{ColumnAt, values_of}
 use Rattle.arrays.specs.OfSlots.{slot_value, IsSlotOf}
 use Rattle.arrays.specs.Typed.{AreOf}
-use Rattle.arrays.specs.Written.{texts_joined}
+use Rattle.batch_room.specs.Fitting.{AreShort}
+use Rattle.batch_room.specs.Room.{most_column_bytes, text_bytes_of}
 use Rattle.hash_join.specs.declared.pair.Pair.{Pair}
 use Rattle.join_batches.specs.declared.sides.Sides.{Sides}
-use Rattle.join_batches.specs.Joiner.{most_joined_bytes, text_bytes_of}
 use Rattle.join_batches.specs.Rows.{pair_row, IsPair}
 
 -- the types of a joined row's cells, as they come
@@ -51,23 +51,6 @@ HoldCells sides number pairs slots = AllZip (HoldsCell sides number) pairs slots
 abbrev pub cells_of : List (List Value) → ℕ → List Value
 cells_of rows number = map (λ row. cell_in row number) rows
 
--- the texts are so few that offsets name each of their bytes, and of more than one value so few that a message has room
-pub record AreShort (values : List Value) : Type 0 where
-  pub named : length (texts_joined values) < 2 ^ 31
-  pub light : 1 < length values → length (texts_joined values) ≤ most_joined_bytes
-
--- the texts of so many slots, from the first on, are short
-pub record Fits (slots : List SlotRef) (count : ℕ) : Type 0 where
-  pub some : 0 < count
-  pub within : count ≤ length slots
-  pub short : AreShort (map slot_value (take count slots))
-
--- whether a type's values are texts
-abbrev pub has_texts : DataType → Bool
-has_texts Utf8 = true
-has_texts (Dictionary encoding) = true
-has_texts _ = false
-
 -- the texts of a column of so many rows, from the first on, are short
 pub record FitsIn (sides : Sides) (pairs : List Pair) (number count : ℕ) : Type 0 where
   pub some : 0 < count
@@ -91,4 +74,4 @@ pub record IsBatchOf (sides : Sides) (pairs : List Pair) (batch : BatchAt) : Typ
   pub few : batch.rows ≤ length pairs
   pub rows_are : rows_of batch ≡ rows_at sides (take batch.rows pairs)
   pub typed : AreOf (map answer_type (types_of sides)) batch.columns
-  pub light : 1 < batch.rows → All (λ (column : ColumnAt). text_bytes_of column ≤ most_joined_bytes) batch.columns
+  pub light : 1 < batch.rows → All (λ (column : ColumnAt). text_bytes_of column ≤ most_column_bytes) batch.columns

@@ -6,19 +6,18 @@ ghost use Rattle.scan_base.specs.Limits.{most_rows};
 ghost use Rattle.arrays.specs.Batch.{BatchAt, rows_of};
 ghost use Rattle.arrays.specs.Typed.{AreOf};
 ghost use Rattle.hash_join.specs.Pairs.{places, pairs_ahead};
-ghost use Rattle.join_batches.specs.Joiner.{JoinsNext, joined_of, most_joined_rows};
+ghost use Rattle.batch_room.specs.Room.{most_batch_rows};
+ghost use Rattle.join_batches.specs.Joiner.{JoinsNext, joined_of};
 ghost use Rattle.join_batches.specs.Rows.{IsPair};
 
 use crate::sides::Sides;
 use arrays::Batch;
 use arrow_schema::DataType;
+use batch_room::MOST_BATCH_ROWS;
 use hash_join::{Build, LeftSide, Pair, Probe};
 use hash_seed::HashSeed;
 use std::alloc::{AllocError, Global};
 use std::marker::Model;
-
-// As many pairs as are looked for at once, and as many rows as a joined batch has.
-const MOST_ROWS: usize = 65_536;
 
 /// The types of the columns of a side of a join, and the numbers of those that are the key.
 #[derive(Drop)]
@@ -105,7 +104,7 @@ impl Joiner {
     /// Joins a left batch next: all joined rows of the one before were given.
     pub fn feed(&mut self, batch: Batch)
         requires typed { AreOf self.old.left_types batch.columns }
-        requires few { batch.rows ≤ most_joined_rows }
+        requires few { batch.rows ≤ most_batch_rows }
         requires ended { self.old.ahead ≡ [] }
         ensures { self.new ≡ record self.old { ahead = joined_of self.old (rows_of batch) } }
     {
@@ -159,11 +158,11 @@ fn next_pairs(
     requires alike { length left.now.key.now ≡ length build.now.key }
     requires key { 0 < left.now.batch.now.rows →
         IsTrue (list_all (λ column. nat_lt column (length left.now.batch.now.columns)) left.now.key.now) }
-    requires few { left.now.batch.now.rows ≤ most_joined_rows }
+    requires few { left.now.batch.now.rows ≤ most_batch_rows }
     ensures next { IfOk result (λ pairs. pairs.items ++ pairs_ahead build.now left.now.batch.now left.now.key.now probe.new
         ≡ pairs_ahead build.now left.now.batch.now left.now.key.now probe.old) }
     ensures there { IfOk result (λ pairs. All (IsPair build.now.batches left.now.batch.now) pairs.items) }
-    ensures few { IfOk result (λ pairs. length pairs.items ≤ most_joined_rows) }
+    ensures few { IfOk result (λ pairs. length pairs.items ≤ most_batch_rows) }
     ensures some { IfOk result
         (λ pairs. pairs.items ≡ [] → pairs_ahead build.now left.now.batch.now left.now.key.now probe.old ≡ []) }
     ensures kept { OnErr result (probe.new ≡ probe.old) }
@@ -171,5 +170,5 @@ fn next_pairs(
     if left.batch.rows() == 0 {
         return Ok(Vec::new(alloc));
     }
-    build.next(alloc, left, probe, MOST_ROWS)
+    build.next(alloc, left, probe, MOST_BATCH_ROWS)
 }

@@ -4,19 +4,15 @@ ghost use Rattle.std.specs.Prelude.{◌≡◌, ◌<◌, ◌+◌, ℕ, All, IfOk,
 ghost use Rattle.std.specs.List.{AllZip, range_with_len};
 ghost use Rattle.arrow_schema.specs.Answer.{answer_type};
 ghost use Rattle.arrays.specs.Typed.{AreOf};
-ghost use Rattle.join_batches.specs.Sides.{AllFit, AreShort, AreSides, ArePairs, Fits, HoldCells};
-ghost use Rattle.join_batches.specs.Sides.{FitsIn, IsBatchOf, IsColumnOf, cells_of, has_texts, rows_at, types_of, width_of};
+ghost use Rattle.batch_room.specs.Fitting.{AreShort};
+ghost use Rattle.join_batches.specs.Sides.{AllFit, AreSides, ArePairs, HoldCells};
+ghost use Rattle.join_batches.specs.Sides.{FitsIn, IsBatchOf, IsColumnOf, cells_of, rows_at, types_of, width_of};
 
-use arrays::{Batch, Column, SlotRef, texts_fit};
+use arrays::{Batch, Column, SlotRef};
 use arrow_schema::DataType;
+use batch_room::{fitting, has_texts};
 use hash_join::Pair;
 use std::alloc::{AllocError, Global};
-
-// As many bytes as the texts of a column of a batch of more than one row have.
-const MOST_TEXT_BYTES: usize = 16_777_216;
-
-// The last byte that an offset can name.
-const MOST_OFFSET: usize = 2_147_483_647;
 
 // The left batch and the right batches, and the types of the columns of both.
 #[derive(Clone, Copy, Drop)]
@@ -175,42 +171,5 @@ impl<'a> Sides<'a> {
             slots.push(SlotRef { column, place })?;
         }
         Ok(slots)
-    }
-}
-
-// Whether a type's values are texts.
-fn has_texts(data_type: DataType) -> bool
-    ensures { result ≡ has_texts data_type }
-{
-    matches!(data_type, DataType::Utf8 | DataType::Dictionary(_))
-}
-
-// How many of the slots, from the first on, stand in one column of a batch: all of them, halved until their texts have no
-// more than 16 MB. The texts of one are as many as they are, and more than offsets can name are a want of memory.
-fn fitting(slots: &[SlotRef<'_>]) -> Result<usize, AllocError>
-    requires there { All (λ slot. slot.place < slot.column.now.len) slots.now }
-    requires some { 0 < length slots.now }
-    ensures { IfOk result (λ count. Fits slots.now count) }
-{
-    let mut count = slots.len();
-    while !texts_fit(&slots[..count], MOST_TEXT_BYTES) {
-        if count == 1 {
-            return alone(slots);
-        }
-        count /= 2;
-    }
-    Ok(count)
-}
-
-// The first slot alone, if offsets can name each byte of its text.
-fn alone(slots: &[SlotRef<'_>]) -> Result<usize, AllocError>
-    requires there { All (λ slot. slot.place < slot.column.now.len) slots.now }
-    requires some { 0 < length slots.now }
-    ensures { IfOk result (λ count. Fits slots.now count) }
-{
-    if texts_fit(&slots[..1], MOST_OFFSET) {
-        Ok(1)
-    } else {
-        Err(AllocError)
     }
 }

@@ -11,7 +11,7 @@ use Rattle.table_versions.proofs.Rowing.{length-rows_of, rows-cons}
 use Rattle.typed_plan.specs.Joined.{rows_between}
 use Rattle.scan_exec.specs.Given.{parts, numbered_parts}
 use Rattle.scan_exec.specs.Placed.{numbered_rows}
-use Rattle.scan_exec.specs.Scan.{most_scan_rows}
+use Rattle.batch_room.specs.Room.{most_batch_rows}
 
 take_none : {X : Type 0} (n : ℕ) (xs : List X) → xs ≡ [] → take n xs ≡ []
 take_none zero xs e = refl
@@ -108,7 +108,7 @@ cut_next i a b c rows first rest low high r =
 -- the first rows of what is left of a batch are next
 pub rows_next : (from to start i : ℕ) (batches : List BatchAt) (batch : BatchAt) → slice_get batches i ≡ Some batch → i < length batches →
     start ≡ rows_before batches i → start ≤ from → from < start + batch.rows →
-    (last : ℕ) → last ≡ min (min batch.rows (to - start)) (from - start + most_scan_rows) → from < to →
+    (last : ℕ) → last ≡ min (min batch.rows (to - start)) (from - start + most_batch_rows) → from < to →
     (rows : List Row) → rows ≡ rows_between (from - start) last (rows_of batch) →
     numbered_from 0 from to batches ≡ map (λ row. (i, row)) rows ++ numbered_from 0 (start + last) to batches
 rows_next from to start i batches batch there within s low high last l more rows r =

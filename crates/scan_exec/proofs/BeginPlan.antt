@@ -26,7 +26,7 @@ use Rattle.typed_plan.specs.Joined.{rows_between}
 use Rattle.typed_plan.specs.Plan.{Tree, scan, filtered, joined, is_true, joined_rows}
 use Rattle.typed_plan.specs.Typed.{class_if_there, class_of_number, is_place, key_fault, spans, tree_types, IsTypedTree}
 use Rattle.typed_plan.proofs.TypedNames.{then_none}
-use Rattle.scan_exec.specs.Begun.{CanJoin, IsBegun, JoinsRows, numbered_fits, rows_behind, tree_given}
+use Rattle.scan_exec.specs.Begun.{CanJoin, IsBegun, JoinsRows, numbered_fits, tree_given}
 use Rattle.scan_exec.specs.Collected.{plain_rows}
 use Rattle.scan_exec.specs.Given.{first_batches, first_rows, numbered_parts, parts, rows_over}
 use Rattle.scan_exec.specs.Placed.{numbered_rows}

@@ -24,9 +24,9 @@ use Rattle.typed_plan.specs.declared.plan.Columns.{Columns}
 use Rattle.typed_plan.specs.Plan.{Tree, scan, filtered, taken, is_true}
 use Rattle.typed_plan.specs.Typed.{has_columns, type_at, types_of, tree_types, types_taken}
 use Rattle.scan_exec.specs.declared.cursor.Cursor.{Cursor}
-use Rattle.scan_exec.specs.Begun.{IsBegun, tree_given, rows_behind}
+use Rattle.scan_exec.specs.Begun.{IsBegun, tree_given}
 use Rattle.scan_exec.specs.Chosen.{numbers_at}
-use Rattle.scan_exec.specs.Given.{rows_over, first_batches, numbered_parts}
+use Rattle.scan_exec.specs.Given.{rows_over, first_batches, further_rows, numbered_parts}
 use Rattle.scan_exec.specs.Opened.{batches_in}
 use Rattle.scan_exec.specs.Picking.{PickAt, IsPick, given_numbered}
 use Rattle.scan_exec.specs.Placed.{Begins, rows_ahead}
@@ -117,7 +117,7 @@ module _ (source : RowsAt) (filters : List (Pred ℕ)) (predicate : Pred ℕ) (n
     types = is.types;
     ahead = filter_more filters predicate numbers source.ahead
         ∙ ap (filter (λ (row : ℕ × Row). is_true predicate row.1)) is.ahead
-        ∙ filter_over (is_true predicate) (λ (rows : List Row). rows_over tree (rows ∷ rows_behind tables)) (numbered_parts from to (first_batches tables));
+        ∙ filter_over (is_true predicate) (λ (rows : List Row). rows_over tree (rows ∷ further_rows tables)) (numbered_parts from to (first_batches tables));
     wide = given_wide (pick_with (filters ++ predicate ∷ []) numbers) (length filter_rows.types) (sym (length-map numbers (type_at source.types))) source.ahead;
     batches = is.batches;
     opened = is.opened;

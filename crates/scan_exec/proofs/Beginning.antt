@@ -74,7 +74,7 @@ items_alike keys (item ∷ items) some others e = rw (one item, items_alike keys
 -- all rows of a range, without the numbers of their batches
 pub plain_given : (bound : BoundAt) (from to : ℕ) →
     map (λ (row : ℕ × Row). row.1) (tree_given (plan_of bound).tree bound.tables from to)
-    ≡ rows_over (plan_of bound).tree (rows_between from to (flat_map rows_of (first_batches bound.tables)) ∷ further_rows bound)
+    ≡ rows_over (plan_of bound).tree (rows_between from to (flat_map rows_of (first_batches bound.tables)) ∷ further_rows bound.tables)
 plain_given bound from to =
     let all : BoundAt = record bound { output = Project columns.All } in
     sym (ap (map (λ (given : Option ℕ × Row). given.1)) (scan_given all columns.All from to refl)
@@ -101,13 +101,13 @@ module _ (bound : BoundAt) (from to : ℕ) (typed : IsTyped (plan_of bound)) (ro
       let none : Row → Option ℕ × Row = λ row. (None, row) in
       ap (λ (some : List Row). map (λ (group : Group). (None, map (answered group) items)) (groups_by keys some)) plain
       ∙ sym (map-map none (λ (group : Group). map (answered group) items) (groups_by keys
-      (rows_over (plan_of bound).tree (rows_between from to (flat_map rows_of (first_batches bound.tables)) ∷ further_rows bound))))
+      (rows_over (plan_of bound).tree (rows_between from to (flat_map rows_of (first_batches bound.tables)) ∷ further_rows bound.tables))))
       ∙ sym (ap (λ (o : Output). given_as o) e)
     where
       given_as : Output → List (Option ℕ × Row)
       given_as output =
           let batches = first_batches bound.tables in
-          let give = λ (some : List Row). output_rows output (rows_over (plan_of bound).tree (some ∷ further_rows bound)) in
+          let give = λ (some : List Row). output_rows output (rows_over (plan_of bound).tree (some ∷ further_rows bound.tables)) in
           if is_grouping output
           then map (λ row. (None, row)) (give (rows_between from to (flat_map rows_of batches)))
           else flat_map (λ (part : ℕ × List Row). map (λ row. (Some part.0, row)) (give part.1)) (numbered_parts from to batches)

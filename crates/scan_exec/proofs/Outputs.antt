@@ -1,5 +1,5 @@
 -- What a result takes of columns that are alike.
-use Rattle.std.proofs.Common.{◌≡◌, ℕ, Bool, ◌&&◌, List, [], ◌∷◌, length, map, take, nat_lt, refl, sym, ap, ◌∙◌, subst}
+use Rattle.std.proofs.Common.{◌≡◌, ℕ, Bool, ◌&&◌, List, [], ◌∷◌, length, map, nat_lt, refl, sym, ap, ◌∙◌, subst}
 use Rattle.std.specs.List.{list_all}
 use Rattle.std.proofs.lemmas.List.{length-map}
 use Rattle.arrow_schema.specs.Answer.{answer_type}
@@ -58,6 +58,3 @@ module _ (bound : BoundAt) (from to : ℕ) (typed : IsTyped (plan_of bound)) (so
   output_there =
       subst (HasOutput bound.output) (sym is.types)
       (output_alike (sourced_at sourced).types (tree_types (tree_of bound.plan)) begun.types bound.output typed.output)
-
-  pub none_opened : take (length (sourced_at sourced).opened) (sourced_at sourced).batches ≡ (sourced_at sourced).opened
-  none_opened = subst (λ (opened : List ℕ). take (length opened) (sourced_at sourced).batches ≡ opened) (sym begun.opened) refl

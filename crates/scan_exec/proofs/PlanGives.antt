@@ -17,7 +17,6 @@ use Rattle.typed_plan.specs.Plan.{Tree, plan_rows, output_rows, tree_rows, taken
 use Rattle.typed_plan.specs.Typed.{IsTyped, is_grouping}
 use Rattle.typed_plan.specs.View.{BoundAt, plan_of, tree_of}
 use Rattle.typed_plan.proofs.Scans.{some_table}
-use Rattle.scan_exec.specs.Begun.{rows_behind}
 use Rattle.scan_exec.specs.Given.{rows_over, rows_from, further_rows, first_batches, parts, numbered_parts, given_of}
 use Rattle.scan_exec.proofs.PartsJoin.{parts_join, parts_numbered}
 use Rattle.scan_exec.proofs.TreeGives.{taken-append, over-append, over_none, over_tables}
@@ -70,7 +69,7 @@ given_rows bound from to = by bound.output
     range = rows_between from to (flat_map rows_of batches)
 
     give : Output → List Row → List Row
-    give output rows = output_rows output (rows_over tree (rows ∷ further_rows bound))
+    give output rows = output_rows output (rows_over tree (rows ∷ further_rows bound.tables))
 
     by : (output : Output) →
         map (λ (given : Option ℕ × Row). given.1)
@@ -80,7 +79,7 @@ given_rows bound from to = by bound.output
     by (Project columns) =
         rows_numbered (give (Project columns)) (numbered_parts from to batches)
         ∙ ap (flat_map (give (Project columns))) (parts_numbered from to batches)
-        ∙ shown_parts tree (further_rows bound) columns (parts from to batches)
+        ∙ shown_parts tree (further_rows bound.tables) columns (parts from to batches)
         ∙ ap (give (Project columns)) (parts_join from to batches)
     by (Groups keys items) =
         let rows = give (Groups keys items) range in
@@ -94,7 +93,7 @@ rows_law catalog bound from to typed same held = given_rows bound from to ∙ ap
   where
     by : (tables : List TableAt) → tree_schemas (tree_of bound.plan) ≡ map (λ (table : TableAt). table.schema) tables →
         map (table_at catalog) (tree_tables (tree_of bound.plan)) ≡ map (λ (table : TableAt). Some table) tables →
-        rows_over (tree_of bound.plan) (rows_between from to (flat_map rows_of (first_batches tables)) ∷ rows_behind tables)
+        rows_over (tree_of bound.plan) (rows_between from to (flat_map rows_of (first_batches tables)) ∷ further_rows tables)
         ≡ tree_rows (tree_of bound.plan) (tables_of catalog) (rows_between from to)
     by [] columns there = let some = some_table (tree_of bound.plan) [] columns in absurd (omega (arith, some))
     by (table ∷ tables) columns there = over_tables catalog (tree_of bound.plan) (rows_between from to) table tables there

@@ -45,5 +45,5 @@ pub scan_given : (bound : BoundAt) (columns : Columns) (from to : ℕ) → bound
     ≡ map (λ (row : ℕ × Row). (Some row.0, cells columns row.1)) (tree_given (plan_of bound).tree bound.tables from to)
 scan_given bound columns from to plain =
     rw plain
-    (parts_given columns (λ rows. rows_over (tree_of bound.plan) (rows ∷ further_rows bound))
+    (parts_given columns (λ rows. rows_over (tree_of bound.plan) (rows ∷ further_rows bound.tables))
     (numbered_parts from to (first_batches bound.tables)))

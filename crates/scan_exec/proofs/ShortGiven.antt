@@ -22,8 +22,7 @@ use Rattle.typed_plan.specs.Held.{tree_schemas}
 use Rattle.typed_plan.specs.Joined.{rows_between}
 use Rattle.typed_plan.specs.Plan.{Tree, scan, filtered, joined, taken, is_true, fits, joined_rows, answered, groups_by, output_rows}
 use Rattle.typed_plan.specs.View.{BoundAt, tree_of}
-use Rattle.scan_exec.specs.Begun.{rows_behind}
-use Rattle.scan_exec.specs.Given.{first_rows, first_batches, rows_over, given_of}
+use Rattle.scan_exec.specs.Given.{first_rows, first_batches, further_rows, rows_over, given_of}
 use Rattle.scan_exec.proofs.PlanGives.{given_rows}
 
 -- ---- lists of which nothing passes a test
@@ -169,7 +168,7 @@ is_long_table table = list_any (list_any is_long_text) (table_of table).rows
 
 -- the places of a plan, cut in the first, have none where its tables have none
 short_places : (tables : List TableAt) (from to : ℕ) → list_any is_long_table tables ≡ false →
-    list_any is_long_place (rows_between from to (flat_map rows_of (first_batches tables)) ∷ rows_behind tables) ≡ false
+    list_any is_long_place (rows_between from to (flat_map rows_of (first_batches tables)) ∷ further_rows tables) ≡ false
 short_places [] from to h = rw (none-take is_long (to - from) (drop from []) (none-drop is_long from [] refl)) refl
 short_places (table ∷ tables) from to h =
     let rows = flat_map rows_of table.batches in
@@ -182,7 +181,7 @@ pub short_law : (bound : BoundAt) (from to : ℕ) →
     All (λ (table : TableAt). list_any (list_any is_long_text) (table_of table).rows ≡ false) bound.tables →
     list_any (list_any is_long_text) (map (λ (given : Option ℕ × Row). given.1) (given_of bound from to)) ≡ false
 short_law bound from to short =
-    let places = rows_between from to (flat_map rows_of (first_batches bound.tables)) ∷ rows_behind bound.tables in
+    let places = rows_between from to (flat_map rows_of (first_batches bound.tables)) ∷ further_rows bound.tables in
     ap (list_any is_long) (given_rows bound from to)
     ∙ short_output bound.output (rows_over (tree_of bound.plan) places)
     (short_over (tree_of bound.plan) places (short_places bound.tables from to (list_any_none is_long_table bound.tables short)))

@@ -13,7 +13,7 @@ use Rattle.table_versions.specs.Standing.{rows_before, BatchesAreRows, StandsIn}
 use Rattle.typed_plan.specs.Joined.{rows_between}
 use Rattle.scan_exec.specs.declared.cursor.Cursor.{Cursor}
 use Rattle.scan_exec.specs.declared.cursor.Part.{Part}
-use Rattle.scan_exec.specs.Scan.{most_scan_rows}
+use Rattle.batch_room.specs.Room.{most_batch_rows}
 use Rattle.scan_exec.specs.Opened.{batches_in}
 use Rattle.scan_exec.specs.Placed.{IsPlaced, IsPart, Opens}
 use Rattle.scan_exec.proofs.Batched.{rows_next}
@@ -59,7 +59,7 @@ module _ (table : TableAt) (cursor : Cursor) (is : IsPlaced table cursor) (more 
     abbrev first_in : ℕ
     first_in = max cursor.start cursor.from
 
-    module _ (last : ℕ) (l : last ≡ min (min batch.rows (cursor.to - cursor.start)) (cursor.at - cursor.start + most_scan_rows)) where
+    module _ (last : ℕ) (l : last ≡ min (min batch.rows (cursor.to - cursor.start)) (cursor.at - cursor.start + most_batch_rows)) where
       pub forth : cursor.at < cursor.start + last
       forth = omega (arith, l, high, more, behind)
 

@@ -1,36 +1,33 @@
 -- Inside: what gives rows, before its first one.
-use Rattle.std.specs.Prelude.{◌≡◌, ◌≤◌, ℕ, ◌+◌, IsTrue, All, List, [], ◌∷◌, ◌++◌, length, map, drop, nat_lt}
+use Rattle.std.specs.Prelude.{◌≡◌, ◌≤◌, ℕ, ◌+◌, IsTrue, All, List, [], ◌∷◌, ◌++◌, length, map, nat_lt}
 use Rattle.std.specs.List.{filter, flat_map, list_all}
 use Rattle.arrow_schema.specs.Answer.{answer_type}
 use Rattle.scan_base.specs.Limits.{most_rows}
 use Rattle.scan_base.specs.View.{pred_of}
-use Rattle.table_versions.specs.Stored.{TableAt, table_of}
+use Rattle.table_versions.specs.Stored.{TableAt}
 use Rattle.table_versions.specs.Table.{Row}
 use Rattle.typed_plan.specs.declared.plan.JoinKey.{JoinKey}
 use Rattle.typed_plan.specs.Plan.{Tree, fits}
 use Rattle.typed_plan.specs.Typed.{spans, tree_types}
 use Rattle.scan_exec.specs.declared.build.Sourced.{Sourced}
-use Rattle.scan_exec.specs.Given.{rows_over, first_batches, numbered_parts}
+use Rattle.scan_exec.specs.Given.{rows_over, first_batches, further_rows, numbered_parts}
 use Rattle.scan_exec.specs.Joined.{source_at, IsSource}
 use Rattle.scan_exec.specs.Opened.{batches_in}
 use Rattle.scan_exec.specs.Picking.{PickAt, IsPick}
 use Rattle.scan_exec.specs.Placed.{numbered_rows}
 use Rattle.scan_exec.specs.Running.{RowsAt, picked_of}
 
--- all rows of the further places
-abbrev pub rows_behind : List TableAt → List (List Row)
-rows_behind tables = map (λ (table : TableAt). (table_of table).rows) (drop 1 tables)
-
 -- the rows that a tree gives of rows `from` up to, not with, `to` of its first place, each with the number of its batch
 abbrev pub tree_given : Tree → List TableAt → ℕ → ℕ → List (ℕ × Row)
 tree_given tree tables from to =
-    numbered_rows (map (λ (part : ℕ × List Row). (part.0, rows_over tree (part.1 ∷ rows_behind tables)))
+    numbered_rows (map (λ (part : ℕ × List Row). (part.0, rows_over tree (part.1 ∷ further_rows tables)))
     (numbered_parts from to (first_batches tables)))
 
 -- the filters of a source, over the columns that are given
 abbrev pub sourced_pick : Sourced → PickAt
 sourced_pick s = record { filters = map pred_of s.filters.items; read = s.columns.items; shown = s.columns.items }
 
+-- the rows that a source gives through its filters
 abbrev pub sourced_at : Sourced → RowsAt
 sourced_at s = picked_of (sourced_pick s) (source_at s.source)
 

@@ -18,6 +18,7 @@ abbrev pub numbers_at : Columns → List ℕ → List ℕ
 numbers_at All numbers = numbers
 numbers_at (These places) numbers = map (slice_index numbers) places
 
+-- a column as a list, which is empty where there is none
 abbrev pub listed : Option ColumnAt → List ColumnAt
 listed (Some column) = column ∷ []
 listed None = []

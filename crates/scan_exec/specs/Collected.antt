@@ -6,7 +6,7 @@ use Rattle.arrays.specs.Batch.{BatchAt, rows_of}
 use Rattle.arrays.specs.Typed.{AreOf}
 use Rattle.table_versions.specs.Table.{Row}
 use Rattle.scan_exec.specs.Running.{RowsAt}
-use Rattle.scan_exec.specs.Scan.{most_scan_rows}
+use Rattle.batch_room.specs.Room.{most_batch_rows}
 
 -- rows without the numbers of the batches of which they come
 abbrev pub plain_rows : List (ℕ × Row) → List Row
@@ -15,7 +15,7 @@ plain_rows rows = map (λ (row : ℕ × Row). row.1) rows
 -- a batch of rows, one or more, in columns of the types
 pub record IsBatchOf (types : List DataType) (batch : BatchAt) : Type 0 where
   pub some : 0 < batch.rows
-  pub few : batch.rows ≤ most_scan_rows
+  pub few : batch.rows ≤ most_batch_rows
   pub typed : AreOf types batch.columns
 
 -- the batches have all rows, and all batches that were to be opened were

@@ -23,12 +23,12 @@ rows_over (joined left right on) places =
     joined_rows on (rows_over left places) (rows_over right (drop (length (tree_schemas left)) places))
 
 -- all rows of the further places
-abbrev pub further_rows : BoundAt → List (List Row)
-further_rows bound = map (λ (table : TableAt). (table_of table).rows) (drop 1 bound.tables)
+abbrev pub further_rows : List TableAt → List (List Row)
+further_rows tables = map (λ (table : TableAt). (table_of table).rows) (drop 1 tables)
 
 -- the rows of a plan, where these are the rows of its first place
 abbrev pub rows_from : BoundAt → List Row → List Row
-rows_from bound rows = output_rows bound.output (rows_over (plan_of bound).tree (rows ∷ further_rows bound))
+rows_from bound rows = output_rows bound.output (rows_over (plan_of bound).tree (rows ∷ further_rows bound.tables))
 
 -- the batches of the first place
 abbrev pub first_batches : List TableAt → List BatchAt

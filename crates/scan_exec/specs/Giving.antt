@@ -7,7 +7,7 @@ use Rattle.arrays.specs.Batch.{BatchAt, rows_of}
 use Rattle.arrays.specs.Typed.{AreOf}
 use Rattle.table_versions.specs.Table.{Row}
 use Rattle.scan_exec.specs.Running.{RowsAt}
-use Rattle.scan_exec.specs.Scan.{most_scan_rows}
+use Rattle.batch_room.specs.Room.{most_batch_rows}
 
 -- The types of the columns; the rows that are still to be given, each with the number of the batch of the first place of
 -- which it comes, if it is one; and the numbers of the batches of that place that are to be opened, and of those that were.
@@ -44,7 +44,7 @@ pub record GivesBatch (before : GivingAt) (batch : BatchAt) (after : GivingAt) :
   pub next : before.ahead ≡ map (λ row. (number, row)) (rows_of batch) ++ after.ahead
   pub latest : IsOfLast number after.opened
   pub some : 0 < batch.rows
-  pub few : batch.rows ≤ most_scan_rows
+  pub few : batch.rows ≤ most_batch_rows
   pub typed : AreOf before.types batch.columns
   pub on : GivingOn before after
 
@@ -55,6 +55,7 @@ pub record GivesNone (before after : GivingAt) : Type 0 where
   pub all : after.opened ≡ before.batches
   pub on : GivingOn before after
 
+-- The next batch, or none where no row is left. Where memory is refused nothing is said of the rows that come next.
 abbrev pub GivesNext : GivingAt → Result (Option BatchAt) AllocError → GivingAt → Type 0
 GivesNext before (Ok (Some batch)) after = GivesBatch before batch after
 GivesNext before (Ok None) after = GivesNone before after

@@ -23,6 +23,7 @@ joined_at left joiner number = record {
   depth = left.depth + 1;
 }
 
+-- the rows of a source that are still to be given
 abbrev pub source_at : Source → RowsAt
 source_at (Place place) = place_at place
 source_at (Joined left joining) = joined_at left.value joining.joiner joining.number
@@ -34,6 +35,7 @@ pub record IsJoined (left : RowsAt) (joiner : JoinerAt) (number : ℕ) : Type 0 
   pub front : take (length left.opened) left.batches ≡ left.opened
   pub latest : (joiner.ahead ≡ []) ⊎ (last_or None left.opened ≡ Some number)
 
+-- what holds of a source
 abbrev pub IsSource : Source → Type 0
 IsSource (Place place) = IsPlaced place.table place.cursor
 IsSource (Joined left joining) = IsJoined left.value joining.joiner joining.number

@@ -21,6 +21,7 @@ pub record PickAt : Type 0 where
   pub read : List ℕ
   pub shown : List ℕ
 
+-- what a picker picks
 abbrev pub pick_of : Picker → PickAt
 pick_of picker = record { filters = map pred_of picker.filters.items; read = picker.read.items; shown = picker.shown.items }
 

@@ -12,7 +12,7 @@ use Rattle.scan_exec.specs.declared.cursor.Cursor.{Cursor}
 use Rattle.scan_exec.specs.declared.cursor.Part.{Part}
 use Rattle.scan_exec.specs.Given.{numbered_parts}
 use Rattle.scan_exec.specs.Opened.{batches_in}
-use Rattle.scan_exec.specs.Scan.{most_scan_rows}
+use Rattle.batch_room.specs.Room.{most_batch_rows}
 
 -- Where a cursor stands: between the range's ends, in its batch or at its begin, behind the batches that were opened. Each
 -- batch before its own has a row.
@@ -36,7 +36,7 @@ pub record Begins (from to : ℕ) (cursor : Cursor) : Type 0 where
 pub record IsPart (table : TableAt) (part : Part) : Type 0 where
   pub some : part.from < part.to
   pub within : part.to ≤ part.batch.now.rows
-  pub short : part.to ≤ part.from + most_scan_rows
+  pub short : part.to ≤ part.from + most_batch_rows
   pub few : part.batch.now.rows ≤ most_rows
   pub wide : length part.batch.now.columns ≡ length table.schema.fields
   pub typed : AreOf (types_of table.schema.fields) part.batch.now.columns

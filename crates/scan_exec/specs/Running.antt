@@ -9,7 +9,7 @@ use Rattle.table_versions.specs.Table.{Row}
 use Rattle.typed_plan.specs.Typed.{type_at}
 use Rattle.scan_exec.specs.declared.piece.Piece.{Piece}
 use Rattle.scan_exec.specs.Picking.{PickAt, given_numbered}
-use Rattle.scan_exec.specs.Scan.{most_scan_rows}
+use Rattle.batch_room.specs.Room.{most_batch_rows}
 
 -- The types of the columns; the rows that are still to be given, each with the number of the batch of the first place of
 -- which it comes; the numbers of the batches of that place that are to be opened, and of those that were; and how deep joins
@@ -42,7 +42,7 @@ pub record FindsPiece (before : RowsAt) (piece : Piece) (after : RowsAt) : Type 
   pub next : before.ahead ≡ map (λ row. (piece.number, row)) (rows_of piece.batch) ++ after.ahead
   pub latest : last_or None after.opened ≡ Some piece.number
   pub some : 0 < piece.batch.rows
-  pub few : piece.batch.rows ≤ most_scan_rows
+  pub few : piece.batch.rows ≤ most_batch_rows
   pub typed : AreOf before.types piece.batch.columns
   pub on : GoesOn before after
 

@@ -6,6 +6,7 @@ use Rattle.arrays.specs.Typed.{AreOf}
 use Rattle.arrow_schema.specs.Answer.{answer_type}
 use Rattle.arrow_schema.specs.declared.data_type.DataType.{DataType}
 use Rattle.arrow_schema.specs.declared.schema.Schema.{Schema}
+use Rattle.batch_room.specs.Room.{most_batch_rows}
 use Rattle.scan_base.specs.Limits.{most_answer_rows}
 use Rattle.scan_base.specs.declared.fault.Fault.{Fault}
 use Rattle.scan_base.specs.declared.fault.Fault.TheVariants.{OutOfMemory, ResultTooLarge}
@@ -31,10 +32,6 @@ pub record ScanAt : Type 0 where
 abbrev pub left : ScanAt → List Row
 left scan = map (λ given. given.1) scan.ahead
 
--- as many rows as a batch of an answer has
-abbrev pub most_scan_rows : ℕ
-most_scan_rows = 65536
-
 -- what was opened, and what is to be, begins with this
 abbrev pub BeginsWith : List (ℕ × ℕ) → List (ℕ × ℕ) → Type 0
 BeginsWith whole begin = take (length begin) whole ≡ begin
@@ -59,7 +56,7 @@ pub record GivesRows (before : ScanAt) (batch : BatchAt) (after : ScanAt) : Type
   pub next : before.ahead ≡ map (λ row. (number, row)) (rows_of batch) ++ after.ahead
   pub latest : IsLatest number after.opened
   pub some : 0 < batch.rows
-  pub few : batch.rows ≤ most_scan_rows
+  pub few : batch.rows ≤ most_batch_rows
   pub wide : length batch.columns ≡ length before.types
   pub typed : AreOf before.types batch.columns
   pub counted : after.given ≡ before.given + batch.rows

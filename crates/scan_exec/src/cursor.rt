@@ -6,11 +6,9 @@ ghost use Rattle.scan_exec.specs.Placed.{IsPlaced, IsPart, Begins, Opens};
 
 use arrays::Batch;
 use arrays::laws::batch_slices_keep_rows;
+use batch_room::MOST_BATCH_ROWS;
 use table_versions::laws::batches_are_rows;
 use table_versions::{BatchPlace, TableVersion};
-
-// How many rows of a batch are looked at at once.
-const MOST_ROWS: usize = 65_536;
 
 // The rows `from` up to, not with, `to` of a batch.
 #[derive(Clone, Copy, Drop)]
@@ -71,7 +69,7 @@ impl Cursor {
         let batch = table.batch(self.batch);
         let rows = batch.rows();
         let from = self.at - self.start;
-        let to = rows.min(self.to - self.start).min(from + MOST_ROWS);
+        let to = rows.min(self.to - self.start).min(from + MOST_BATCH_ROWS);
         if self.at == self.start.max(self.from) {
             self.opened += 1;
         }

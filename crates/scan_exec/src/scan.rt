@@ -97,8 +97,8 @@ impl Scan {
     ///
     /// # Errors
     ///
-    /// F20 (`Fault::ResultTooLarge`) where the answer has more than 67,108,864 rows, behind a beginning of it. F21
-    /// (`Fault::OutOfMemory`) where memory is refused.
+    /// F20 (`Fault::ResultTooLarge`) where the answer has more than 67,108,864 rows: what was given of it before is a
+    /// beginning, which may be empty. F21 (`Fault::OutOfMemory`) where memory is refused.
     pub fn next(&mut self, alloc: Global) -> Result<Option<Batch>, Fault>
         ensures { Gives self.old result self.new }
     {

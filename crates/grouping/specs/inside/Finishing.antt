@@ -6,6 +6,8 @@ use Rattle.arrow_schema.specs.declared.data_type.DataType.{DataType}
 use Rattle.arrays.specs.Batch.{BatchAt, rows_of}
 use Rattle.arrays.specs.Column.{ColumnAt, values_of}
 use Rattle.arrays.specs.Typed.{AreOf, IsOfType}
+use Rattle.batch_room.specs.Fitting.{AreShort}
+use Rattle.batch_room.specs.Room.{most_column_bytes, text_bytes_of}
 use Rattle.scan_base.specs.Limits.{most_rows}
 use Rattle.scan_base.specs.declared.value.Value.{Value}
 use Rattle.typed_plan.specs.declared.plan.Aggregate.{Aggregate}
@@ -14,10 +16,9 @@ use Rattle.typed_plan.specs.Typed.{item_type}
 use Rattle.grouping.specs.declared.batches.Answer.{Answer}
 use Rattle.grouping.specs.declared.tally.Tally.{Tally}
 use Rattle.grouping.specs.Answered.{cell_at, row_at}
-use Rattle.grouping.specs.Answers.{IsThere, groups_at, most_text_bytes, text_bytes_of}
+use Rattle.grouping.specs.Answers.{IsThere, groups_at}
 use Rattle.grouping.specs.Fed.{AreTyped, GroupsAt, HasItems}
 use Rattle.grouping.specs.inside.Adding.{IsKept, lists_of}
-use Rattle.grouping.specs.inside.Answering.{AreShort}
 
 -- how many groups there are, of so many first rows; without columns there is one
 abbrev pub group_count : List ℕ → ℕ → ℕ
@@ -74,7 +75,7 @@ pub record IsBatchOf (groups : GroupsAt) (from many : ℕ) (batch : BatchAt) : T
   pub rows : rows_of batch ≡ map (row_at groups) (range_with_len from many)
   pub many_rows : batch.rows ≡ many
   pub typed : AreOf (map answer_type (map (item_type groups.keys groups.types) groups.items)) batch.columns
-  pub light : 1 < many → All (λ (column : ColumnAt). text_bytes_of column ≤ most_text_bytes) batch.columns
+  pub light : 1 < many → All (λ (column : ColumnAt). text_bytes_of column ≤ most_column_bytes) batch.columns
 
 -- the batch of groups from one on, one or more
 pub record IsNextOf (groups : GroupsAt) (from most : ℕ) (batch : BatchAt) : Type 0 where

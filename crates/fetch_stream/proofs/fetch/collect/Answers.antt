@@ -6,8 +6,8 @@ use Rattle.fetch_stream.specs.Streams.{StreamAt, Gives, GivesPayload, HasGiven, 
 use Rattle.fetch_stream.proofs.Answering.{given_none, fewer_turns, gave, ended, given_more, collected_before}
 use Rattle.fetch_stream.proofs.fetch.collect.Goals as goal
 
-pub loop-stream-init : goal.loop-stream-init
-loop-stream-init c = record {
+pub loop-payload-init : goal.loop-payload-init
+loop-payload-init c = record {
   given = λ answer same. (
     ap (λ (stream : StreamAt). stream.refused) same,
     subst (λ (stream : StreamAt). HasGiven answer c.args.payloads.now.items stream) (sym same)
@@ -16,39 +16,39 @@ loop-stream-init c = record {
   fits = subst FitMessages (sym c.requires) none_fit;
 }
 
-pub loop-stream-smaller : goal.loop-stream-smaller
-loop-stream-smaller c =
-    let before = c.loop-stream.stream in
+pub loop-payload-smaller : goal.loop-payload-smaller
+loop-payload-smaller c =
+    let before = c.loop-payload.stream in
     let after = c.next.new.self in
     let payload = c.in-Some.payload in
     let gives : Gives before (Ok (Some payload)) after = subst (λ (found : Option Payload). Gives before (Ok found) after) c.in-Some.is c.in_ok-payload.ensures in
     fewer_turns before after payload (gave before after payload gives)
 
-pub loop-stream-preserved : goal.loop-stream-preserved
-loop-stream-preserved c =
-    let before = c.loop-stream.stream in
+pub loop-payload-preserved : goal.loop-payload-preserved
+loop-payload-preserved c =
+    let before = c.loop-payload.stream in
     let after = c.next.new.self in
     let payload = c.in-Some.payload in
-    let payloads = c.loop-stream.payloads.items in
+    let payloads = c.loop-payload.payloads.items in
     let gives : GivesPayload before payload after = gave before after payload (subst (λ (found : Option Payload). Gives before (Ok found) after) c.in-Some.is c.in_ok-payload.ensures) in
     let pushed : c.push.new.self.items ≡ payloads ++ payload ∷ [] = c.in_ok-push.ensures.items ∙ ap (λ (last : Payload). payloads ++ last ∷ []) c.in_ok-into_bytes.ensures.same in
     record {
       given = λ answer same. (
         gives.refused,
-        subst (λ (all : List Payload). HasGiven answer all after) (sym pushed) (given_more answer payloads before after payload (c.loop-stream.invariant.given answer same).1 gives),
+        subst (λ (all : List Payload). HasGiven answer all after) (sym pushed) (given_more answer payloads before after payload (c.loop-payload.invariant.given answer same).1 gives),
       );
-      fits = subst FitMessages (sym pushed) (one_fits payloads payload c.loop-stream.invariant.fits gives.fits);
+      fits = subst FitMessages (sym pushed) (one_fits payloads payload c.loop-payload.invariant.fits gives.fits);
     }
 
 pub returns-in_err-payload-clause-said : goal.returns-in_err-payload-clause-said
 returns-in_err-payload-clause-said c answer same =
     let p = err_from_is_err_and c.from_residual.result c.from_residual.ensures.1 in
-    rw (p.1, p.2) (collected_before answer c.loop-stream.payloads.items c.loop-stream.stream c.next.new.self c.in_err-payload.field-0.0 (c.loop-stream.invariant.given answer same) c.in_err-payload.ensures)
+    rw (p.1, p.2) (collected_before answer c.loop-payload.payloads.items c.loop-payload.stream c.next.new.self c.in_err-payload.field-0.0 (c.loop-payload.invariant.given answer same) c.in_err-payload.ensures)
 
 pub returns-clause-said : goal.returns-clause-said
 returns-clause-said c answer same =
-    let before = c.loop-stream.stream in
+    let before = c.loop-payload.stream in
     let after = c.next.new.self in
     let gives : Gives before (Ok None) after = subst (λ (found : Option Payload). Gives before (Ok found) after) c.in_default.is c.in_ok-payload.ensures in
     let end = ended before after gives in
-    record { stream = before; given = (c.loop-stream.invariant.given answer same).1; stops = (end.0, end.1) }
+    record { stream = before; given = (c.loop-payload.invariant.given answer same).1; stops = (end.0, end.1) }

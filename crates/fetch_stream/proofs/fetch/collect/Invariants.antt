@@ -5,11 +5,11 @@ use Rattle.fetch_stream.specs.Streams.{HasGiven, opened}
 use Rattle.fetch_stream.proofs.Answering.{turns}
 use Rattle.fetch_stream.proofs.fetch.collect.Given as goal
 
-abbrev pub invariant-loop-stream : goal.invariant-loop-stream
-invariant-loop-stream l = record {
+abbrev pub invariant-loop-payload : goal.invariant-loop-payload
+invariant-loop-payload l = record {
   given : (answer : Table) → l.fn.stream ≡ opened answer → (l.stream.refused ≡ None) × HasGiven answer l.payloads.items l.stream;
   fits : FitMessages l.payloads.items;
 }
 
-abbrev pub decreases-loop-stream : goal.decreases-loop-stream
-decreases-loop-stream l = turns l.stream
+abbrev pub decreases-loop-payload : goal.decreases-loop-payload
+decreases-loop-payload l = turns l.stream

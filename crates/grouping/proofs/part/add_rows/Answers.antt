@@ -1,7 +1,16 @@
-use Rattle.std.proofs.Common.{◌<◌, length, get_or, arith}
+use Rattle.std.proofs.Common.{◌<◌, length, get_or, sym, ap, ◌∙◌, arith}
 use Rattle.std.proofs.lemmas.List.Elements.{All-get_or}
-use Rattle.grouping.proofs.Stepping.{step}
+use Rattle.typed_plan.specs.declared.plan.Aggregate.{Aggregate}
+use Rattle.grouping.specs.inside.Counting.{stepped}
+use Rattle.grouping.proofs.Stepping.{step, stepped_key}
 use Rattle.grouping.proofs.part.add_rows.Goals as goal
+
+pub returns-in-Key-clause-stepped : goal.returns-in-Key-clause-stepped
+returns-in-Key-clause-stepped c =
+    let part = c.args.part.now in
+    let columns = part.batch.now.columns in
+    sym (ap (λ (item : Aggregate). stepped item columns part.groups.now part.rows.now c.args.tallies.now (length part.rows.now)) c.in-Key.is
+    ∙ stepped_key c.in-Key.field-0 columns part.groups.now part.rows.now c.args.tallies.now (length part.rows.now))
 
 pub loop-k-preserved : goal.loop-k-preserved
 loop-k-preserved c =

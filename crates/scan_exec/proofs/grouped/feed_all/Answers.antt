@@ -22,7 +22,7 @@ feed-requires-clause-within c =
     (chosen_below test 0 (c.rows-to.result - 0) batch.rows (omega (arith, c.rows-to.ensures))))
 
 pub feed-requires-clause-few : goal.feed-requires-clause-few
-feed-requires-clause-few c =
+feed-requires-clause-few c none =
     few_enough (pick_of c.args.picker.now) c.args.batches.now c.loop-number.number c.index-batches-number.result c.loop-number-test.true c.index-batches-number.is
     (record { batch = record { ref_ptr = c.args.picker.ref_ptr; now = c.index-batches-number.result }; from = 0; to = c.rows-to.result }) refl refl c.rows-to.ensures
     c.args.groups.now c.loop-number.groups c.select.new.selection c.in_ok-select.ensures c.loop-number.invariant c.requires.few

@@ -7,9 +7,10 @@ use Rattle.arrays.specs.Written.{text_bytes}
 use Rattle.typed_plan.specs.Typed.{type_at}
 use Rattle.grouping.specs.declared.key.Place.{Place}
 use Rattle.grouping.specs.Answers.{IsThere}
-use Rattle.grouping.specs.inside.Answering.{Fits, first_cell, has_texts}
+use Rattle.batch_room.specs.Fitting.{Fits, has_texts}
+use Rattle.grouping.specs.inside.Answering.{first_cell}
 use Rattle.grouping.proofs.Answering.{no_text_cell, type_there}
-use Rattle.grouping.proofs.Short.{plain_fit}
+use Rattle.batch_room.proofs.Short.{plain_fit}
 use Rattle.grouping.proofs.batches.Answer.how_many_firsts_fit.Goals as goal
 
 pub returns-then-not-has_texts : goal.returns-then-not-has_texts

@@ -1,6 +1,7 @@
 use Rattle.std.proofs.Common.{◌≡◌, ◌≤◌, ℕ, ◌+◌, ◌-◌, List, IfOk, length, map, take, drop, get_or, subst, ap, ◌∙◌, arith}
 use Rattle.scan_base.specs.declared.value.Value.{Value}
-use Rattle.grouping.specs.inside.Answering.{Fits, first_cell}
+use Rattle.batch_room.specs.Fitting.{Fits}
+use Rattle.grouping.specs.inside.Answering.{first_cell}
 use Rattle.grouping.specs.inside.Finishing.{groups_in}
 use Rattle.grouping.proofs.Finishing.{key_at, tallies_fit}
 use Rattle.grouping.proofs.batches.Answer.how_many_fit_in.Goals as goal

@@ -35,7 +35,7 @@ invariant_of-self c =
     record {
       shaped = c.self.invariant.shaped;
       kept = λ none. c.in-Ok.ensures.kept;
-      few = λ none. omega (arith, c.in-Ok.ensures.count, c.requires.few, ap (λ (g : GroupsAt). g.count) c.self.view_is, ap (λ (rows : List ℕ). length rows) c.places.ensures.value);
+      few = λ none. omega (arith, c.in-Ok.ensures.count, c.requires.few (sym (ap (λ (g : GroupsAt). g.refused) c.self.view_is) ∙ c.in_default.is), ap (λ (g : GroupsAt). g.count) c.self.view_is, ap (λ (rows : List ℕ). length rows) c.places.ensures.value);
       first = λ none. c.in-Ok.ensures.firsts c.self.inside.shape.batches.now (at (goal.at.invariant_of-self c).After-index-self-number).stands (c.self.invariant.first none);
     }
 

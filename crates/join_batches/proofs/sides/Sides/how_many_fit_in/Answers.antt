@@ -1,10 +1,12 @@
-use Rattle.std.proofs.Common.{◌<◌, List, All, length, get_or, sym, ap, ◌∙◌, subst, arith}
+use Rattle.std.proofs.Common.{◌<◌, List, All, length, map, get_or, sym, ap, ◌∙◌, subst, arith}
 use Rattle.std.proofs.lemmas.List.Elements.{All-weaker}
 use Rattle.std.proofs.lemmas.Result.{IfOk-weaker}
 use Rattle.arrow_schema.specs.declared.data_type.DataType.TheVariants.{Utf8}
 use Rattle.arrays.specs.declared.of_slots.SlotRef.{SlotRef}
 use Rattle.arrays.specs.OfSlots.{IsSlotOf}
-use Rattle.join_batches.specs.Sides.{types_of, has_texts, Fits, FitsIn}
+use Rattle.arrays.specs.OfSlots.{slot_value}
+use Rattle.batch_room.specs.Fitting.{Fits, has_texts}
+use Rattle.join_batches.specs.Sides.{types_of, FitsIn}
 use Rattle.join_batches.proofs.Cells.{held_there, held_long}
 use Rattle.join_batches.proofs.Plain.{all_fit_in}
 use Rattle.join_batches.proofs.Short.{fits_in}
@@ -31,7 +33,7 @@ returns-then-not-has_texts c =
 
 pub returns : goal.returns
 returns c =
-    IfOk-weaker c.fitting.result (Fits c.as_slice.result.now) (FitsIn c.args.self.now c.args.pairs.now c.args.number)
+    IfOk-weaker c.fitting.result (Fits (map slot_value c.as_slice.result.now)) (FitsIn c.args.self.now c.args.pairs.now c.args.number)
     (λ count fits. fits_in c.args.self.now c.args.pairs.now c.in_ok-slots.slots.items c.args.number count c.in_ok-slots.ensures
-    (subst (λ (slots : List SlotRef). Fits slots count) c.as_slice.ensures.value fits))
+    (subst (λ (slots : List SlotRef). Fits (map slot_value slots) count) c.as_slice.ensures.value fits))
     c.fitting.ensures

@@ -1,7 +1,7 @@
 use Rattle.std.proofs.Common.{◌≡◌, ◌≤◌, ◌<◌, ◌-◌, ◌+◌, ◌⊎◌, ℕ, length, max, min, refl, sym, ap, subst, ◌∙◌, inl, inr, arith}
 use Rattle.scan_base.specs.Limits.{most_rows}
 use Rattle.table_versions.specs.Stored.{table_of}
-use Rattle.scan_exec.specs.Scan.{most_scan_rows}
+use Rattle.batch_room.specs.Room.{most_batch_rows}
 use Rattle.scan_exec.specs.Placed.{IsPlaced, Opens}
 use Rattle.scan_exec.specs.declared.cursor.Cursor.{Cursor}
 use Rattle.scan_exec.specs.declared.cursor.Part.{Part}
@@ -15,8 +15,8 @@ overflow_add-self c = omega (arith, opened_few c.args.table.now c.args.self.now 
 
 -- where the part ends
 last_is : (c : goal.Joined-to-rows) →
-    c.min-to.result ≡ min (min c.batch-batch.result.now.rows (c.args.self.now.to - c.args.self.now.start)) (c.args.self.now.at - c.args.self.now.start + most_scan_rows)
-last_is c = c.min-to.ensures ∙ ap (λ (n : ℕ). min n (c.args.self.now.at - c.args.self.now.start + most_scan_rows))
+    c.min-to.result ≡ min (min c.batch-batch.result.now.rows (c.args.self.now.to - c.args.self.now.start)) (c.args.self.now.at - c.args.self.now.start + most_batch_rows)
+last_is c = c.min-to.ensures ∙ ap (λ (n : ℕ). min n (c.args.self.now.at - c.args.self.now.start + most_batch_rows))
     (c.min.ensures ∙ ap (λ (n : ℕ). min n (c.args.self.now.to - c.args.self.now.start)) c.rows-rows.ensures)
 
 -- the cursor with this batch, this first row of it and this count

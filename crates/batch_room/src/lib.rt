@@ -1,0 +1,60 @@
+//! How many values stand in one column of a batch.
+#![tactic(auto)]
+
+ghost use Rattle.std.specs.Prelude.{◌≡◌, ◌<◌, All, IfOk, length, map};
+ghost use Rattle.arrays.specs.OfSlots.{slot_value};
+ghost use Rattle.batch_room.specs.Fitting.{Fits, has_texts};
+
+use arrays::{SlotRef, texts_fit};
+use arrow_schema::DataType;
+use std::alloc::AllocError;
+
+/// As many rows as a batch has that is made of rows.
+pub const MOST_BATCH_ROWS: usize = 65_536;
+
+// As many bytes as the texts of one of its columns have, where it has more than one row.
+const MOST_COLUMN_BYTES: usize = 16_777_216;
+
+// The last byte that an offset can name.
+const MOST_OFFSET: usize = 2_147_483_647;
+
+/// Whether a type's values are texts.
+pub fn has_texts(data_type: DataType) -> bool
+    ensures { result ≡ has_texts data_type }
+{
+    matches!(data_type, DataType::Utf8 | DataType::Dictionary(_))
+}
+
+/// How many of the slots, from the first on, stand in one column of a batch: all of them, halved until their texts have no
+/// more than 16 MB. The texts of one are as many as they are, and more than offsets can name are a want of memory.
+///
+/// # Errors
+///
+/// `AllocError` where the first text has too many bytes.
+pub fn fitting(slots: &[SlotRef<'_>]) -> Result<usize, AllocError>
+    requires there { All (λ slot. slot.place < slot.column.now.len) slots.now }
+    requires some { 0 < length slots.now }
+    ensures { IfOk result (Fits (map slot_value slots.now)) }
+{
+    let mut count = slots.len();
+    while !texts_fit(&slots[..count], MOST_COLUMN_BYTES) {
+        if count == 1 {
+            return alone(slots);
+        }
+        count /= 2;
+    }
+    Ok(count)
+}
+
+// The first slot alone, if offsets can name each byte of its text.
+fn alone(slots: &[SlotRef<'_>]) -> Result<usize, AllocError>
+    requires there { All (λ slot. slot.place < slot.column.now.len) slots.now }
+    requires some { 0 < length slots.now }
+    ensures { IfOk result (Fits (map slot_value slots.now)) }
+{
+    if texts_fit(&slots[..1], MOST_OFFSET) {
+        Ok(1)
+    } else {
+        Err(AllocError)
+    }
+}

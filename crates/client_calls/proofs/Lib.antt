@@ -1,0 +1,6 @@
+pub mod Taking
+pub mod Ones
+pub mod Streams
+pub mod Sending
+pub mod Calling
+pub mod Payloads

@@ -1,0 +1,5 @@
+pub mod Calls
+pub mod Commands
+pub mod Answers
+pub mod Outcome
+pub mod inside

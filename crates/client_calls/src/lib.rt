@@ -1,0 +1,20 @@
+//! The calls of a client: what is written for each, and what its answer says.
+//!
+//! `specs/Calls.antt` and `specs/Commands.antt` say what is written, `specs/Answers.antt` what an answer is, and
+//! `specs/Outcome.antt` what became of a call.
+#![tactic(auto)]
+
+mod answer;
+mod asking;
+mod call;
+mod connection;
+mod failure;
+mod fetching;
+mod putting;
+
+pub use crate::asking::info;
+pub use crate::call::Method;
+pub use crate::connection::Connection;
+pub use crate::failure::Failure;
+pub use crate::fetching::fetch;
+pub use crate::putting::{Mode, Target, put};

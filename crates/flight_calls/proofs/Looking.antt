@@ -1,0 +1,92 @@
+-- Infos, schemas and fetches at a version, and without one.
+use Rattle.std.proofs.Common.{◌≡◌, ◌≢◌, ◌<◌, ℕ, List, [], Option, Some, None, Result, Ok, Err, refl, sym, ap, subst}
+use Rattle.std.specs.Prelude.{IsOk}
+use Rattle.scan_base.specs.declared.fault.Fault.{Fault}
+use Rattle.scan_base.specs.declared.fault.Fault.TheVariants.{OutOfMemory}
+use Rattle.scan_base.specs.Reading.{◌>>=◌}
+use Rattle.flight_proto.specs.Wanted.{Wanted, wanted_in, rows_of, tables}
+use Rattle.table_versions.specs.Database.{Database}
+use Rattle.flight_info.specs.Infos.{only_rows, only_tables, short_enough, rows_wanted, tables_wanted, schema_wanted, InfoAt, SchemaAt}
+use Rattle.flight_info.specs.Payloads.{Payload}
+use Rattle.flight_info.specs.Replies.{ReplyAt, refusal}
+use Rattle.fetch_stream.specs.Streams.{StreamAt}
+use Rattle.flight_core.specs.Asked.{schema, fetch}
+use Rattle.flight_core.specs.Log.{Log, database_of, puts_in}
+use Rattle.flight_core.specs.Machine.{StepOn, OpensIn}
+use Rattle.flight_calls.specs.Calls.{info_asked}
+use Rattle.flight_calls.specs.declared.answer.Answer.TheVariants.{Whole}
+use Rattle.flight_calls.specs.Answered.{ReactsBy}
+use Rattle.flight_calls.specs.Reacts.{Looks, handle_read}
+use Rattle.flight_calls.specs.Seats.{Seat, Moves, Learns}
+use Rattle.flight_calls.specs.Stepping.{RefusedBy}
+use Rattle.flight_calls.proofs.Fetching.{not_opened}
+use Rattle.flight_calls.proofs.Reacting.{goes_by_look}
+
+info_missed : (database : Database) (n : ℕ) (payload : Payload) (parts : ℕ) (w : Result Wanted Fault) (fault : Fault) → RefusedBy w fault → InfoAt database n payload parts w [] (Some fault)
+info_missed database n payload parts (Err cause) fault is = (refl, ap Some is)
+info_missed database n payload parts (Ok wanted) fault is = (refl, λ other. absurd (other is))
+
+schema_missed : (database : Database) (w : Result Wanted Fault) (fault : Fault) → RefusedBy w fault → SchemaAt database w [] (Some fault)
+schema_missed database (Err cause) fault is = (refl, ap Some is)
+schema_missed database (Ok wanted) fault is = (refl, λ other. absurd (other is))
+
+-- an info where memory was refused for a look
+pub info_refused : (log : Log) (payload : Payload) (parts : ℕ) (fault : Fault) → RefusedBy (schema_wanted payload) fault → StepOn log (info_asked (wanted_in payload) payload parts) (refusal fault) log
+info_refused log payload parts fault = by (wanted_in payload) refl
+  where
+    by : (w : Result Wanted Fault) → wanted_in payload ≡ w → RefusedBy (w >>= short_enough) fault → StepOn log (info_asked w payload parts) (refusal fault) log
+    by (Err cause) e is =
+        (refl, subst (λ (v : Result Wanted Fault). InfoAt (database_of log) (puts_in log) payload parts (v >>= only_rows >>= short_enough) [] (Some fault)) (sym e) (refl, ap Some is))
+    by (Ok (rows_of text)) e is = (
+      refl,
+      subst (λ (v : Result Wanted Fault). InfoAt (database_of log) (puts_in log) payload parts (v >>= only_rows >>= short_enough) [] (Some fault)) (sym e)
+          (info_missed (database_of log) (puts_in log) payload parts (short_enough (rows_of text)) fault is),
+    )
+    by (Ok tables) e is = (
+      refl,
+      subst (λ (v : Result Wanted Fault). InfoAt (database_of log) (puts_in log) payload parts (v >>= only_tables >>= short_enough) [] (Some fault)) (sym e)
+          (info_missed (database_of log) (puts_in log) payload parts (short_enough tables) fault is),
+    )
+
+-- and a schema
+pub schema_refused : (log : Log) (payload : Payload) (fault : Fault) → RefusedBy (schema_wanted payload) fault → StepOn log (schema payload) (refusal fault) log
+schema_refused log payload fault is = (refl, schema_missed (database_of log) (schema_wanted payload) fault is)
+
+-- ---- what was not read does not look
+
+unread_by : (w : Result Wanted Fault) (fault : Fault) → RefusedBy w fault → Some fault ≢ Some OutOfMemory → IsOk w → ⊥
+unread_by (Ok wanted) fault is other ok = other (ap Some is)
+unread_by (Err cause) fault is other ok = let no = ok in cc
+
+pub info_unread : (payload : Payload) (parts : ℕ) (fault : Fault) → RefusedBy (schema_wanted payload) fault → Some fault ≢ Some OutOfMemory → Looks (Ok (info_asked (wanted_in payload) payload parts)) → ⊥
+info_unread payload parts fault = by (wanted_in payload) refl
+  where
+    by : (w : Result Wanted Fault) → wanted_in payload ≡ w → RefusedBy (w >>= short_enough) fault → Some fault ≢ Some OutOfMemory → Looks (Ok (info_asked w payload parts)) → ⊥
+    by (Err cause) e is other looks = unread_by (Err cause) fault is other (subst (λ (v : Result Wanted Fault). IsOk (v >>= only_rows >>= short_enough)) e looks)
+    by (Ok (rows_of text)) e is other looks =
+        unread_by (short_enough (rows_of text)) fault is other (subst (λ (v : Result Wanted Fault). IsOk (v >>= only_rows >>= short_enough)) e looks)
+    by (Ok tables) e is other looks =
+        unread_by (short_enough tables) fault is other (subst (λ (v : Result Wanted Fault). IsOk (v >>= only_tables >>= short_enough)) e looks)
+
+pub schema_unread : (payload : Payload) (fault : Fault) → RefusedBy (schema_wanted payload) fault → Some fault ≢ Some OutOfMemory → Looks (Ok (schema payload)) → ⊥
+schema_unread payload fault is other looks = unread_by (schema_wanted payload) fault is other looks
+
+-- ---- fetches
+
+abbrev refused : Fault → Result StreamAt Fault
+refused fault = Err fault
+
+pub fetch_refused : (moves : Moves) (old new : Seat) (ticket : Payload) (workers : ℕ) (fault : Fault) → Learns moves old new
+    → (IsOk (handle_read ticket) → refused fault ≢ Err OutOfMemory → old.looks < new.looks) → OpensIn new.log ticket (Err fault)
+    → ReactsBy moves (Ok (fetch ticket workers)) old (Whole (refusal fault)) new
+fetch_refused moves old new ticket workers fault learns looked opens = record {
+  log = new.log;
+  after = new.log;
+  answered = (refl, not_opened new.log ticket fault opens);
+  goes = goes_by_look moves (Ok (fetch ticket workers)) old new learns;
+  looked = λ begun looks. (looked looks (λ e. begun (ap fault_some e)), refl);
+}
+  where
+    fault_some : Result StreamAt Fault → Option Fault
+    fault_some (Ok s) = None
+    fault_some (Err f) = Some f

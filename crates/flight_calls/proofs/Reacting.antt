@@ -1,0 +1,159 @@
+-- Steps over a backend.
+use Rattle.std.proofs.Common.{◌≡◌, ◌≢◌, ◌<◌, ◌+◌, ℕ, List, [], ◌∷◌, ◌++◌, length, Option, Some, None, Result, Ok, Err, refl, sym, ap, subst, ◌∙◌, append-nil, inl, inr, arith}
+use Rattle.std.specs.Prelude.{IfErr, IsOk}
+use Rattle.scan_base.specs.declared.fault.Fault.{Fault}
+use Rattle.scan_base.specs.declared.fault.Fault.TheVariants.{OutOfMemory}
+use Rattle.table_versions.specs.Database.{Put, after, database_of}
+use Rattle.flight_info.specs.Payloads.{Payload}
+use Rattle.flight_info.specs.Replies.{ReplyAt, refusal}
+use Rattle.flight_core.specs.Asked.{Asked, put, info, tables, schema, fetch}
+use Rattle.flight_core.specs.Headline.{Begins}
+use Rattle.flight_core.specs.Log.{Log}
+use Rattle.flight_core.specs.Puts.{command_in, put_said}
+use Rattle.flight_core.specs.Refusals.{RefusedFor}
+use Rattle.flight_core.specs.Machine.{PutStep, StepOn}
+use Rattle.flight_core.proofs.Replies.{accepted_reply, refused_reply, unread_reply}
+use Rattle.flight_calls.specs.declared.answer.Answer.{Answer}
+use Rattle.flight_calls.specs.declared.answer.Answer.TheVariants.{Whole, Stream}
+use Rattle.flight_calls.specs.declared.request.Single.{Single}
+use Rattle.flight_calls.specs.declared.setting.Options.{Options}
+use Rattle.flight_calls.specs.Calls.{ReplyTo, asked_with}
+use Rattle.flight_calls.specs.Requests.{IsRefused}
+use Rattle.flight_calls.specs.Seats.{Seat, seat_of, Moves, Learns, LooksOnce, Puts, PutsAt, alone}
+use Rattle.flight_calls.specs.Reacts.{StartsAt, Looks, AddsTo, Goes, HasLooked, Reacts}
+use Rattle.flight_calls.specs.Answered.{AnsweredBy, IsBegun, IsReplyOf, ReactsBy}
+
+-- ---- the backend of a log that nobody shares
+
+pub puts_alone : (result : Result (Unit {0}) Fault) (old new : Log) (looks : ℕ) (made : Put) → (result ≡ Ok tt → (new ≡ old ++ made ∷ []) × IsOk (after (database_of old) (length old) made))
+    → IfErr result (λ fault. (new ≡ old) × (fault ≢ OutOfMemory → after (database_of old) (length old) made ≡ Err fault))
+    → Puts alone result (seat_of old looks) made (seat_of new looks)
+puts_alone (Ok tt) old new looks made ok err =
+    let is = ok refl in
+    record { log = old; next = new; at = (is.1, is.0, is.0); moved = (refl, refl); kept = (made ∷ [], is.0); learnt = ([], sym (append-nil new)); looks = refl }
+puts_alone (Err fault) old new looks made ok err =
+    record { log = old; next = new; at = (err.0, err.0, err.1); moved = (refl, refl); kept = ([], err.0 ∙ sym (append-nil old)); learnt = ([], sym (append-nil new)); looks = refl }
+
+-- ---- how a step goes
+
+begins_itself : (log : Log) → Begins log log
+begins_itself log = ([], sym (append-nil log))
+
+starts_begins : (asked : Result Asked Fault) (seen log : Log) → Begins seen log → StartsAt asked seen log
+starts_begins (Ok (put payloads)) seen log b = inr b
+starts_begins (Ok (info payload parts)) seen log b = b
+starts_begins (Ok (tables payload parts)) seen log b = b
+starts_begins (Ok (schema payload)) seen log b = b
+starts_begins (Ok (fetch ticket workers)) seen log b = b
+starts_begins (Err fault) seen log b = b
+
+-- by what changes nothing, to the log that the seat has then seen
+pub goes_by_look : (moves : Moves) (asked : Result Asked Fault) (old new : Seat) → Learns moves old new → Goes moves asked old new.log new.log new
+goes_by_look moves asked old new learns = record {
+  moved = learns.2;
+  starts = starts_begins asked old.log new.log learns.0;
+  learnt = begins_itself new.log;
+  kept = learns.0;
+  made = ([], sym (append-nil new.log), learns.1 ∙ sym (append-nil old.made));
+}
+
+pub goes_nowhere : (moves : Moves) → ((s : Seat) → moves s s.log s.log s) → (asked : Result Asked Fault) (s : Seat) → Goes moves asked s s.log s.log s
+goes_nowhere moves stays asked s = goes_by_look moves asked s s (begins_itself s.log, refl, stays s)
+
+-- ---- replies
+
+-- a call that does not come to the backend
+pub reacts_unseen : (moves : Moves) → ((s : Seat) → moves s s.log s.log s) → (asked : Result Asked Fault) (s : Seat) (reply : ReplyAt) → ReplyTo asked s.log reply s.log → (Looks asked → ⊥) → Reacts moves asked s reply s
+reacts_unseen moves stays asked s reply step unseen = record {
+  log = s.log;
+  after = s.log;
+  step = step;
+  goes = goes_nowhere moves stays asked s;
+  looked = λ other looks. absurd (unseen looks);
+}
+
+-- a look, of which the reply is a step
+pub reacts_by_look : (moves : Moves) (asked : Result Asked Fault) (old new : Seat) (reply : ReplyAt) → Learns moves old new
+    → ReplyTo asked new.log reply new.log → (reply.fault ≢ Some OutOfMemory → Looks asked → old.looks < new.looks) → Reacts moves asked old reply new
+reacts_by_look moves asked old new reply learns step looked = record {
+  log = new.log;
+  after = new.log;
+  step = step;
+  goes = goes_by_look moves asked old new learns;
+  looked = λ other looks. (looked other looks, refl);
+}
+
+pub one_more_look : (old new : Seat) → LooksOnce old new → old.looks < new.looks
+one_more_look old new once = omega (arith, once)
+
+-- a reply that is held
+pub held : (moves : Moves) (asked : Result Asked Fault) (old new : Seat) (reply : ReplyAt) → Reacts moves asked old reply new → ReactsBy moves asked old (Whole reply) new
+held moves asked old new reply r = record { log = r.log; after = r.after; answered = r.step; goes = r.goes; looked = r.looked }
+
+-- a call that is refused before it comes to the core
+pub unasked : (moves : Moves) → ((s : Seat) → moves s s.log s.log s) → (s : Seat) (fault : Fault) → ReactsBy moves (Err fault) s (Whole (refusal fault)) s
+unasked moves stays s fault = held moves (Err fault) s s (refusal fault) (reacts_unseen moves stays (Err fault) s (refusal fault) (refl, refl) (λ looks. looks))
+
+-- a message that is refused before it is read
+pub settled : (moves : Moves) → ((s : Seat) → moves s s.log s.log s) → (s : Seat) (options : Options) (one : Single) (message : Payload) (fault : Fault) → IsRefused one message fault
+    → ReactsBy moves (asked_with options one message) s (Whole (refusal fault)) s
+settled moves stays s options one message fault is =
+    held moves (asked_with options one message) s s (refusal fault)
+    (reacts_unseen moves stays (asked_with options one message) s (refusal fault) (is.0 options s.log) (is.1 options))
+
+-- an answer that is written
+pub written : (moves : Moves) (asked : Result Asked Fault) (old new : Seat) (answer : Answer) (reply : ReplyAt) (r : ReactsBy moves asked old answer new)
+    → ReplyTo asked r.log reply r.after → IsReplyOf answer reply → Reacts moves asked old reply new
+written moves asked old new (Whole whole) reply r step is =
+    record { log = r.log; after = r.after; step = step; goes = r.goes; looked = rw is r.looked }
+written moves asked old new (Stream stream) reply r step is =
+    record { log = r.log; after = r.after; step = step; goes = r.goes; looked = λ other. r.looked tt }
+
+-- ---- puts
+
+looks_not : (payloads : List Payload) → Looks (Ok (put payloads)) → ⊥
+looks_not payloads looks = looks
+
+-- its payloads are refused
+pub put_unread : (moves : Moves) → ((s : Seat) → moves s s.log s.log s) → (s : Seat) (payloads : List Payload) (fault : Fault) → RefusedFor (command_in payloads) (put_said payloads) fault
+    → Reacts moves (Ok (put payloads)) s (refusal fault) s
+put_unread moves stays s payloads fault is =
+    reacts_unseen moves stays (Ok (put payloads)) s (refusal fault) (refl, refl, unread_reply s.log payloads fault is) (looks_not payloads)
+
+-- memory is refused for its answer
+pub put_tired : (moves : Moves) → ((s : Seat) → moves s s.log s.log s) → (s : Seat) (payloads : List Payload) (made : Put) → put_said payloads ≡ Ok made
+    → Reacts moves (Ok (put payloads)) s (refusal OutOfMemory) s
+put_tired moves stays s payloads made said =
+    reacts_unseen moves stays (Ok (put payloads)) s (refusal OutOfMemory)
+    (refl, refl, refused_reply s.log payloads made OutOfMemory said (λ other. absurd (other refl))) (looks_not payloads)
+
+said_ok : (payloads : List Payload) (made : Put) → put_said payloads ≡ Ok made → IsOk (put_said payloads)
+said_ok payloads made said = rw said refl
+
+-- the backend made it
+pub put_made : (moves : Moves) (old new : Seat) (payloads : List Payload) (made : Put) (reply : ReplyAt) (p : Puts moves (Ok tt) old made new) → put_said payloads ≡ Ok made
+    → PutStep p.log payloads reply.payloads reply.fault p.next → Reacts moves (Ok (put payloads)) old reply new
+put_made moves old new payloads made reply p said step = record {
+  log = p.log;
+  after = p.next;
+  step = step;
+  goes = record { moved = p.moved; starts = inl (said_ok payloads made said); learnt = p.learnt; kept = p.kept; made = (made ∷ [], p.at.1, p.at.2) };
+  looked = λ other looks. absurd (looks_not payloads looks);
+}
+
+-- or refused it
+pub put_refused : (moves : Moves) (old new : Seat) (payloads : List Payload) (made : Put) (fault : Fault) → Puts moves (Err fault) old made new → put_said payloads ≡ Ok made
+    → Reacts moves (Ok (put payloads)) old (refusal fault) new
+put_refused moves old new payloads made fault p said = record {
+  log = p.log;
+  after = p.next;
+  step = (p.at.0, refl, refused_reply p.log payloads made fault said p.at.2);
+  goes = record {
+    moved = p.moved;
+    starts = inl (said_ok payloads made said);
+    learnt = p.learnt;
+    kept = p.kept;
+    made = ([], p.at.0 ∙ sym (append-nil p.log), p.at.1 ∙ sym (append-nil old.made));
+  };
+  looked = λ other looks. absurd (looks_not payloads looks);
+}

@@ -1,0 +1,71 @@
+-- What a call does over a backend.
+use Rattle.std.specs.Prelude.{◌≡◌, ◌≢◌, ◌⊎◌, ◌<◌, List, [], ◌∷◌, ◌++◌, IsOk, Some, Result, Ok, Err}
+use Rattle.scan_base.specs.declared.fault.Fault.{Fault}
+use Rattle.scan_base.specs.declared.fault.Fault.TheVariants.{OutOfMemory, BadTicket}
+use Rattle.scan_base.specs.Reading.{◌>>=◌, demand}
+use Rattle.endpoint_split.specs.Handle.{HandleAt}
+use Rattle.table_versions.specs.Database.{Put}
+use Rattle.flight_info.specs.Infos.{handle_asked, rows_wanted, tables_wanted, schema_wanted}
+use Rattle.flight_info.specs.Payloads.{Payload}
+use Rattle.flight_info.specs.Replies.{ReplyAt}
+use Rattle.fetch_stream.specs.Fetches.{may_mean}
+use Rattle.flight_core.specs.Asked.{Asked, put, info, tables, schema, fetch}
+use Rattle.flight_core.specs.Headline.{Begins}
+use Rattle.flight_core.specs.Log.{Log}
+use Rattle.flight_core.specs.Puts.{put_said}
+use Rattle.flight_calls.specs.declared.setting.Options.{Options}
+use Rattle.flight_calls.specs.Calls.{Call, asked_by, ReplyTo}
+use Rattle.flight_calls.specs.Seats.{Seat, Moves}
+
+-- a put that was read may go by another log than the seat's; all else by one that begins with what the seat had seen
+abbrev pub StartsAt : Result Asked Fault → Log → Log → Type 0
+StartsAt (Ok (put payloads)) seen log = IsOk (put_said payloads) ⊎ Begins seen log
+StartsAt _ seen log = Begins seen log
+
+-- the handle that a ticket shows, where it may mean something as far as it shows by itself
+abbrev pub handle_read : Payload → Result HandleAt Fault
+handle_read ticket = do
+  handle ← handle_asked ticket
+  _ ← demand (may_mean handle) BadTicket
+  Ok handle
+
+-- what looks at the backend: an info, a list of tables, a schema or a fetch that was read
+abbrev pub Looks : Result Asked Fault → Type 0
+Looks (Ok (put payloads)) = ⊥
+Looks (Ok (info payload parts)) = IsOk (rows_wanted payload)
+Looks (Ok (tables payload parts)) = IsOk (tables_wanted payload)
+Looks (Ok (schema payload)) = IsOk (schema_wanted payload)
+Looks (Ok (fetch ticket workers)) = IsOk (handle_read ticket)
+Looks (Err fault) = ⊥
+
+-- the put that a step adds to a log, if it adds one, is made by the seat
+abbrev pub AddsTo : List Put → Log → Log → List Put → Type 0
+AddsTo made log after new = (more : List Put) × (after ≡ log ++ more) × (new ≡ made ++ more)
+
+-- A step from one log to another on what is asked, as the seat sees it: then it has seen the second log, and all that it
+-- had seen.
+pub record Goes (moves : Moves) (asked : Result Asked Fault) (old : Seat) (log after : Log) (new : Seat) : Type 0 where
+  pub moved : moves old log after new
+  pub starts : StartsAt asked old.log log
+  pub learnt : Begins after new.log
+  pub kept : Begins old.log new.log
+  pub made : AddsTo old.made log after new.made
+
+-- where what is asked looks, the looks have risen, and the log is the one that the seat has then seen
+abbrev pub HasLooked : Result Asked Fault → Seat → Log → Seat → Type 0
+HasLooked asked old log new = Looks asked → (old.looks < new.looks) × (log ≡ new.log)
+
+-- the reply is a step from one log to another, and was looked for unless memory was refused
+pub record Reacts (moves : Moves) (asked : Result Asked Fault) (old : Seat) (reply : ReplyAt) (new : Seat) : Type 0 where
+  pub log : Log
+  pub after : Log
+  pub step : ReplyTo asked log reply after
+  pub goes : Goes moves asked old log after new
+  pub looked : reply.fault ≢ Some OutOfMemory → HasLooked asked old log new
+
+-- one reply a call, in order, each from the seat that the one before left
+abbrev pub Answers : Moves → Options → Seat → List Call → List ReplyAt → Seat → Type 0
+Answers moves options old [] [] new = new ≡ old
+Answers moves options old (call ∷ calls) (reply ∷ replies) new =
+    (middle : Seat) × Reacts moves (asked_by options call) old reply middle × Answers moves options middle calls replies new
+Answers moves options old _ _ new = ⊥

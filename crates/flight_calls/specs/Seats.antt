@@ -1,0 +1,55 @@
+-- A seat: what contracts see of a backend, and what its calls do to it.
+use Rattle.std.specs.Prelude.{◌≡◌, ◌≢◌, ◌⊎◌, ℕ, ◌+◌, ◌∷◌, ◌++◌, List, [], IsOk, Option, Some, None, Result, Ok, Err}
+use Rattle.scan_base.specs.declared.fault.Fault.{Fault}
+use Rattle.scan_base.specs.declared.fault.Fault.TheVariants.{OutOfMemory}
+use Rattle.table_versions.specs.Database.{Put, after}
+use Rattle.flight_core.specs.Headline.{Begins}
+use Rattle.flight_core.specs.Log.{Log, puts_in, database_of}
+
+-- the log that the seat has seen, its looks, and the puts that it made
+pub record Seat : Type 0 where
+  pub log : Log
+  pub looks : ℕ
+  pub made : List Put
+
+-- the seat that alone puts into a log: each put of it is its own
+abbrev pub seat_of : Log → ℕ → Seat
+seat_of log looks = record { log = log; looks = looks; made = log }
+
+-- which steps, from a log to a log, a backend takes from a seat to a seat
+abbrev pub Moves : Type 1
+Moves = Seat → Log → Log → Seat → Type 0
+
+-- where nobody shares the log: a step goes from the seat's own log to its own log
+abbrev pub alone : Moves
+alone old log after new = (log ≡ old.log) × (after ≡ new.log)
+
+-- a seat has seen no less than before, and made no put: a step that leaves the log that it has then seen
+abbrev pub Learns : Moves → Seat → Seat → Type 0
+Learns moves old new = Begins old.log new.log × (new.made ≡ old.made) × moves old new.log new.log new
+
+-- one look
+abbrev pub LooksOnce : Seat → Seat → Type 0
+LooksOnce old new = new.looks ≡ old.looks + 1
+
+-- one look, or none
+abbrev pub MayLook : Seat → Seat → Type 0
+MayLook old new = (new.looks ≡ old.looks) ⊎ LooksOnce old new
+
+-- A put at a log: an accepted one is its last, and the last of those that the seat made. A refused one changes nothing,
+-- and its fault is due, or memory was refused.
+abbrev pub PutsAt : Result (Unit {0}) Fault → Seat → Log → Put → Log → Seat → Type 0
+PutsAt (Ok done) old log put next new = IsOk (after (database_of log) (puts_in log) put)
+    × (next ≡ log ++ put ∷ []) × (new.made ≡ old.made ++ put ∷ [])
+PutsAt (Err fault) old log put next new = (next ≡ log) × (new.made ≡ old.made)
+    × (fault ≢ OutOfMemory → after (database_of log) (puts_in log) put ≡ Err fault)
+
+-- a put at the log that it meets: behind it the seat has seen that log with the put, and all that it had seen
+pub record Puts (moves : Moves) (result : Result (Unit {0}) Fault) (old : Seat) (put : Put) (new : Seat) : Type 0 where
+  pub log : Log
+  pub next : Log
+  pub at : PutsAt result old log put next new
+  pub moved : moves old log next new
+  pub kept : Begins old.log new.log
+  pub learnt : Begins next new.log
+  pub looks : new.looks ≡ old.looks

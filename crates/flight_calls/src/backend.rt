@@ -1,0 +1,167 @@
+//! What a server keeps its tables in.
+
+ghost use Rattle.std.specs.Prelude.{◌≡◌, ◌+◌};
+
+use flight_core::Plain;
+use scan_base::Fault;
+use std::alloc::Global;
+use std::marker::Model;
+use std::snapshot;
+use table_versions::{Put, Snapshot};
+
+/// The versions of the catalog as one connection sees them.
+pub trait Backend {
+    ghost use Rattle.std.specs.Prelude.{◌≡◌, ◌≤◌, ◌<◌, ◌⊎◌, IfOk, IfErr};
+    ghost use Rattle.scan_base.specs.declared.fault.Fault.TheVariants.{OutOfMemory, VersionUnknown};
+    ghost use Rattle.table_versions.specs.Stored.{put_of, tables_of};
+    ghost use Rattle.flight_core.specs.Log.{Log, puts_in, database_of, version};
+    ghost use Rattle.flight_calls.specs.Seats.{Seat, Learns, LooksOnce, MayLook, Puts};
+
+    // The log that it has seen, its looks, and the puts that it made.
+    ghost seat: { Self → Seat };
+
+    // Which steps, from a log to a log, it takes from a seat to a seat.
+    ghost moves: { Seat → Log → Log → Seat → Type 0 };
+
+    /// Makes the next version, with this put, and learns of it.
+    ///
+    /// # Errors
+    ///
+    /// The first fault for which the put is refused, or F21 (`Fault::OutOfMemory`). Nothing has changed then.
+    fn put(&mut self, alloc: Global, put: Put) -> Result<(), Fault>
+        ensures { Puts moves result (seat self.old) (put_of put) (seat self.new) };
+
+    /// The newest version. It is one look.
+    ///
+    /// # Errors
+    ///
+    /// F21 (`Fault::OutOfMemory`) where memory is refused.
+    fn current(&mut self) -> Result<Snapshot, Fault>
+        ensures learns { Learns moves (seat self.old) (seat self.new) }
+        ensures ok { IfOk result (λ snapshot. LooksOnce (seat self.old) (seat self.new)
+            × (snapshot.number ≡ puts_in (seat self.new).log)
+            × (tables_of snapshot.catalog ≡ database_of (seat self.new).log)) }
+        ensures err { IfErr result (λ fault. (fault ≡ OutOfMemory) × MayLook (seat self.old) (seat self.new)) };
+
+    /// The version of a number: the one after so many puts. It is one look.
+    ///
+    /// # Errors
+    ///
+    /// F18 (`Fault::VersionUnknown`) where the log that is then seen has fewer puts, and F21 (`Fault::OutOfMemory`) where
+    /// memory is refused for a version that it has.
+    fn at(&mut self, number: u64) -> Result<Snapshot, Fault>
+        ensures learns { Learns moves (seat self.old) (seat self.new) }
+        ensures ok { IfOk result (λ snapshot. LooksOnce (seat self.old) (seat self.new)
+            × (number ≤ puts_in (seat self.new).log) × (snapshot.number ≡ number)
+            × (tables_of snapshot.catalog ≡ version (seat self.new).log number)) }
+        ensures err { IfErr result (λ fault. ((fault ≡ OutOfMemory) × MayLook (seat self.old) (seat self.new)
+            × (number ≤ puts_in (seat self.new).log))
+            ⊎ ((fault ≡ VersionUnknown) × LooksOnce (seat self.old) (seat self.new)
+            × (puts_in (seat self.new).log < number))) };
+
+    /// Learns what others have put. It is no look.
+    fn learn(&mut self)
+        ensures learns { Learns moves (seat self.old) (seat self.new) }
+        ensures looks { (seat self.new).looks ≡ (seat self.old).looks };
+
+    // A seat that stays where it is has moved.
+    ghost stays: { (s : Seat) → moves s s.log s.log s };
+
+    // A step behind what changed nothing.
+    ghost follows: { (old middle new : Seat) (log after : Log) → moves old middle.log middle.log middle
+        → moves middle log after new → moves old log after new };
+}
+
+// A number without a bound, which contracts alone see.
+#[derive(Drop)]
+struct Looks {
+    before: Option<snapshot::Snapshot<Looks>>,
+}
+
+impl Model for Looks {
+    ghost use Rattle.std.specs.Prelude.{ℕ};
+    ghost use Rattle.flight_calls.specs.Counts.{one_more};
+
+    ghost Value = { ℕ };
+
+    ghost size = { λ n. n };
+
+    ghost view = { λ l. one_more (λ before. before.value) l.before };
+}
+
+impl Looks {
+    // No look.
+    fn none() -> Looks
+        ensures { result ≡ 0 }
+    {
+        Looks { before: None }
+    }
+
+    // One more.
+    fn raise(&mut self)
+        ensures { self.new ≡ self.old + 1 }
+    {
+        *self = Looks {
+            before: Some(snapshot::Snapshot::of(self)),
+        };
+    }
+}
+
+/// The versions of a connection that shares them with none.
+#[derive(Drop)]
+pub struct Alone {
+    plain: Plain,
+    looks: Looks,
+}
+
+impl Model for Alone {
+    ghost use Rattle.flight_calls.specs.Seats.{Seat, seat_of};
+
+    ghost Value = { Seat };
+
+    ghost view = { λ a. seat_of a.plain a.looks };
+}
+
+impl Alone {
+    ghost use Rattle.flight_calls.specs.Seats.{seat_of};
+
+    /// Those of a log, at which no look was made.
+    pub fn new(plain: Plain) -> Alone
+        ensures { result ≡ seat_of plain 0 }
+    {
+        Alone {
+            plain,
+            looks: Looks::none(),
+        }
+    }
+}
+
+impl Backend for Alone {
+    ghost use Rattle.std.specs.Prelude.{refl};
+    ghost use Rattle.std.proofs.Common.{◌∙◌};
+    ghost use Rattle.flight_calls.specs.Seats.{alone};
+
+    ghost seat = { λ a. a };
+
+    ghost moves = { alone };
+
+    fn put(&mut self, alloc: Global, put: Put) -> Result<(), Fault> {
+        self.plain.put(alloc, put)
+    }
+
+    fn current(&mut self) -> Result<Snapshot, Fault> {
+        self.looks.raise();
+        Ok(self.plain.current().clone()?)
+    }
+
+    fn at(&mut self, number: u64) -> Result<Snapshot, Fault> {
+        self.looks.raise();
+        Ok(self.plain.at(number)?.clone()?)
+    }
+
+    fn learn(&mut self) {}
+
+    ghost stays = { λ s. (refl, refl) };
+
+    ghost follows = { λ old middle new log after first second. (second.0 ∙ first.0, second.1) };
+}

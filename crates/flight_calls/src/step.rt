@@ -1,0 +1,160 @@
+//! Steps of the core over a backend.
+
+ghost use Rattle.std.specs.Prelude.{◌≡◌, ◌≢◌, ◌≤◌, ◌<◌, ◌⊎◌, List, Ok, Err, IfOk, IfErr, IsOk};
+ghost use Rattle.scan_base.specs.declared.fault.Fault.TheVariants.{OutOfMemory, VersionUnknown};
+ghost use Rattle.table_versions.specs.Stored.{put_of, tables_of};
+ghost use Rattle.endpoint_split.specs.Seen.{handle_seen};
+ghost use Rattle.flight_proto.specs.Wanted.{wanted_in};
+ghost use Rattle.flight_info.specs.Infos.{schema_wanted};
+ghost use Rattle.flight_info.specs.Payloads.{Payload, FitMessages};
+ghost use Rattle.fetch_stream.specs.Fetches.{may_mean};
+ghost use Rattle.flight_core.specs.Asked.{put, schema, fetch};
+ghost use Rattle.flight_core.specs.Log.{puts_in, version};
+ghost use Rattle.flight_core.specs.Machine.{OpensIn};
+ghost use Rattle.flight_core.specs.Puts.{command_in, put_said};
+ghost use Rattle.flight_core.specs.Refusals.{GivesBehind};
+ghost use Rattle.flight_calls.specs.Calls.{info_asked};
+ghost use Rattle.flight_calls.specs.Seats.{Learns};
+ghost use Rattle.flight_calls.specs.Reacts.{Reacts, handle_read};
+ghost use Rattle.flight_calls.specs.Answered.{ReactsBy, FitsMessages};
+ghost use Rattle.flight_calls.specs.Stepping.{AnswersAt, RefusedBy};
+
+use crate::answer::Answer;
+use crate::backend::Backend;
+use endpoint_split::Handle;
+use fetch_stream::{FetchStream, read_ticket, version_of};
+use flight_core::put_answer;
+use flight_info::{Reply, answer_info, answer_schema, answer_tables};
+use flight_proto::{Wanted, read_wanted};
+use scan_base::Fault;
+use sql_text::MOST_BYTES;
+use std::alloc::Global;
+use table_versions::{Put, Snapshot};
+
+// Answers a put whose payloads were read, or its first fault. The growths of its answer come before the put.
+pub fn put_on<B: Backend>(alloc: Global, backend: &mut B, read: Result<Put, Fault>) -> Reply
+    ensures step { (payloads : List Payload)
+        → GivesBehind (command_in payloads) put_of read (put_said payloads)
+        → Reacts B.moves (Ok (put payloads)) (B.seat backend.old) result (B.seat backend.new) }
+    ensures fits { FitMessages result.payloads }
+{
+    let put = match read {
+        Ok(put) => put,
+        Err(fault) => return Reply::refusal(alloc, fault),
+    };
+    let Ok(answer) = put_answer(alloc, put.rows()) else {
+        return Reply::refusal(alloc, Fault::OutOfMemory);
+    };
+    match backend.put(alloc, put) {
+        Ok(()) => Reply::whole(answer),
+        Err(fault) => Reply::refusal(alloc, fault),
+    }
+}
+
+// The answer to a GetFlightInfo at a version, by its command's kind.
+fn info_at(alloc: Global, snapshot: &Snapshot, payload: &[u8], parts: u32) -> Reply
+    ensures step { AnswersAt snapshot.now (info_asked (wanted_in payload.now) payload.now parts) result }
+    ensures fits { FitMessages result.payloads }
+{
+    match read_wanted(payload) {
+        Ok(Wanted::Tables) => answer_tables(alloc, snapshot, payload, parts),
+        Ok(Wanted::Rows(_)) | Err(_) => answer_info(alloc, snapshot, payload, parts),
+    }
+}
+
+// Why an info or a schema is refused where memory was refused for a look: for what is known without it, or for that.
+fn refusal_of(payload: &[u8]) -> Fault
+    ensures { RefusedBy (schema_wanted payload.now) result }
+{
+    match read_wanted(payload) {
+        Ok(Wanted::Rows(text)) if text.len() > MOST_BYTES => Fault::LimitReached,
+        Ok(_) => Fault::OutOfMemory,
+        Err(fault) => fault,
+    }
+}
+
+// Answers a GetFlightInfo at the newest version.
+pub fn info_on<B: Backend>(alloc: Global, backend: &mut B, payload: &[u8], parts: u32) -> Reply
+    ensures step { Reacts B.moves (Ok (info_asked (wanted_in payload.now) payload.now parts))
+        (B.seat backend.old) result (B.seat backend.new) }
+    ensures fits { FitMessages result.payloads }
+{
+    match backend.current() {
+        Ok(snapshot) => info_at(alloc, &snapshot, payload, parts),
+        Err(_) => Reply::refusal(alloc, refusal_of(payload)),
+    }
+}
+
+// Answers a GetSchema at the newest version.
+pub fn schema_on<B: Backend>(alloc: Global, backend: &mut B, payload: &[u8]) -> Reply
+    ensures step { Reacts B.moves (Ok (schema payload.now))
+        (B.seat backend.old) result (B.seat backend.new) }
+    ensures fits { FitMessages result.payloads }
+{
+    match backend.current() {
+        Ok(snapshot) => answer_schema(alloc, &snapshot, payload),
+        Err(_) => Reply::refusal(alloc, refusal_of(payload)),
+    }
+}
+
+// The version of a number. Where the seat has not seen it, it learns what others have put and looks again.
+fn version_on<B: Backend>(backend: &mut B, number: u64) -> Result<Snapshot, Fault>
+    ensures learns { Learns B.moves (B.seat backend.old) (B.seat backend.new) }
+    ensures looked { result ≢ Err OutOfMemory → (B.seat backend.old).looks < (B.seat backend.new).looks }
+    ensures ok { IfOk result (λ snapshot. (number ≤ puts_in (B.seat backend.new).log)
+        × (tables_of snapshot.catalog ≡ version (B.seat backend.new).log number)) }
+    ensures err { IfErr result (λ fault. ((fault ≡ OutOfMemory) × (number ≤ puts_in (B.seat backend.new).log))
+        ⊎ ((fault ≡ VersionUnknown) × (puts_in (B.seat backend.new).log < number))) }
+{
+    match backend.at(number) {
+        Err(Fault::VersionUnknown) => {
+            backend.learn();
+            backend.at(number)
+        }
+        found => found,
+    }
+}
+
+// Whether a handle may mean something, as far as it shows by itself.
+fn may_mean(handle: &Handle<'_>) -> bool
+    ensures { result ≡ may_mean (handle_seen handle.now) }
+{
+    match handle {
+        Handle::Query { range, query, .. } => {
+            query.len() <= MOST_BYTES && range.from <= range.to
+        }
+        Handle::Tables { .. } => true,
+    }
+}
+
+// Opens the stream that answers a fetch.
+fn open_on<B: Backend>(
+    alloc: Global,
+    backend: &mut B,
+    ticket: &[u8],
+    workers: usize,
+) -> Result<FetchStream, Fault>
+    ensures learns { Learns B.moves (B.seat backend.old) (B.seat backend.new) }
+    ensures looked { IsOk (handle_read ticket.now) → result ≢ Err OutOfMemory
+        → (B.seat backend.old).looks < (B.seat backend.new).looks }
+    ensures opens { OpensIn (B.seat backend.new).log ticket.now result }
+{
+    let handle = read_ticket(ticket)?;
+    match version_on(backend, version_of(&handle)) {
+        Ok(snapshot) => FetchStream::new(alloc, &snapshot, &handle, workers),
+        Err(Fault::OutOfMemory) if !may_mean(&handle) => Err(Fault::BadTicket),
+        Err(fault) => Err(fault),
+    }
+}
+
+// What answers a fetch.
+pub fn fetch_on<B: Backend>(alloc: Global, backend: &mut B, ticket: &[u8], workers: usize) -> Answer
+    ensures reply { ReactsBy B.moves (Ok (fetch ticket.now workers))
+        (B.seat backend.old) result (B.seat backend.new) }
+    ensures short { FitsMessages result }
+{
+    match open_on(alloc, backend, ticket, workers) {
+        Ok(stream) => Answer::Stream(stream),
+        Err(fault) => Answer::Whole(Reply::refusal(alloc, fault)),
+    }
+}

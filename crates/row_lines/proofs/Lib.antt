@@ -1,0 +1,4 @@
+pub mod Parts
+pub mod Escapes
+pub mod Lined
+pub mod Worked

@@ -1,0 +1,69 @@
+-- What is printed of a table: a line of its columns' names, and a line for each row.
+use Rattle.std.specs.Prelude.{ℕ, ◌==◌, true, false, List, [], ◌∷◌, ◌++◌, map, codes, if◌then◌else◌}
+use Rattle.std.specs.List.{flat_map}
+use Rattle.std.specs.Fmt.{signed_decimal}
+use Rattle.scan_base.specs.declared.value.Value.{Value}
+use Rattle.scan_base.specs.declared.value.Value.TheVariants.{Null, Bool as Flag, Int, Text}
+use Rattle.arrow_schema.specs.declared.schema.Field.{Field}
+use Rattle.arrow_schema.specs.declared.schema.Schema.{Schema}
+use Rattle.row_lines.specs.declared.text.Spelling.{Spelling}
+use Rattle.row_lines.specs.declared.text.Spelling.TheVariants as spelling
+
+-- a byte of a name: a backslash, a tab, LF and CR are written as a backslash and a letter
+abbrev pub escaped_byte : ℕ → List ℕ
+escaped_byte byte =
+    if byte == 92 then codes "\\\\" else
+    if byte == 9 then codes "\\t" else
+    if byte == 10 then codes "\\n" else
+    if byte == 13 then codes "\\r" else
+    byte ∷ []
+
+-- a byte of a text in single quotes, which stand twice in it
+abbrev pub quoted_byte : ℕ → List ℕ
+quoted_byte byte = if byte == 39 then codes "''" else escaped_byte byte
+
+-- a byte of a text, as it is spelled
+abbrev pub spelled_byte : Spelling → ℕ → List ℕ
+spelled_byte spelling.Escaped = escaped_byte
+spelled_byte spelling.Quoted = quoted_byte
+
+-- a name
+abbrev pub escaped : List ℕ → List ℕ
+escaped name = flat_map escaped_byte name
+
+-- a text in single quotes
+abbrev pub quoted : List ℕ → List ℕ
+quoted text = codes "'" ++ flat_map quoted_byte text ++ codes "'"
+
+-- a value
+abbrev pub shown : Value → List ℕ
+shown Null = codes "NULL"
+shown (Flag true) = codes "TRUE"
+shown (Flag false) = codes "FALSE"
+shown (Int number) = signed_decimal number
+shown (Text text) = quoted text
+
+-- a cell behind another one
+abbrev pub next_cell : List ℕ → List ℕ
+next_cell cell = codes "\t" ++ cell
+
+-- cells in a line: a tab between each two, and LF behind the last
+abbrev pub line_of : List (List ℕ) → List ℕ
+line_of [] = codes "\n"
+line_of (cell ∷ cells) = cell ++ (flat_map next_cell cells ++ codes "\n")
+
+-- the line of the columns' names
+abbrev pub header_line : List Field → List ℕ
+header_line fields = line_of (map (λ field. escaped field.name) fields)
+
+-- the line of a row
+abbrev pub row_line : List Value → List ℕ
+row_line row = line_of (map shown row)
+
+-- the line of the names, and a line for each row
+abbrev pub lines_of : Schema → List (List Value) → List ℕ
+lines_of schema rows = header_line schema.fields ++ flat_map row_line rows
+
+-- a line that has one name
+abbrev pub name_line : List ℕ → List ℕ
+name_line name = escaped name ++ codes "\n"

@@ -1,0 +1,12 @@
+//! What is printed of rows and of names.
+//!
+//! `specs/Lines.antt` says which bytes they are.
+#![tactic(auto)]
+
+mod names;
+mod rows;
+mod text;
+mod value;
+
+pub use crate::names::write_names;
+pub use crate::rows::write_rows;

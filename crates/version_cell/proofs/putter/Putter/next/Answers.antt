@@ -1,0 +1,24 @@
+use Rattle.std.proofs.Common.{◌<◌, length, arith}
+use Rattle.std.proofs.lemmas.Result.{err_from_is_err_and}
+use Rattle.scan_base.specs.Limits.{most_commits}
+use Rattle.table_versions.specs.Stored.{put_of}
+use Rattle.version_cell.specs.Puts.{after_log}
+use Rattle.version_cell.proofs.Versions.{few_accepted, first_for, none_first}
+use Rattle.version_cell.proofs.putter.Putter.next.Goals as goal
+
+pub returns-in_err-index-clause-first : goal.returns-in_err-index-clause-first
+returns-in_err-index-clause-first g c =
+    let p = err_from_is_err_and c.from_residual.result c.from_residual.ensures.1 in
+    rw (p.1, p.2) (first_for _ _ c.in_err-index.field-0.0 _ (rw c.store-shown.ensures.log at c.in_err-index.ensures.first))
+
+pub with-requires-clause-room : goal.with-requires-clause-room
+with-requires-clause-room g c =
+    let few : length c.store-shown.result.now.history.seen.log < most_commits =
+    few_accepted c.store-shown.result.now.history.seen.log (put_of c.args.put) c.in_ok-index.ensures.accepted in
+    omega (arith, few)
+
+pub returns-in_default-clause-first : goal.returns-in_default-clause-first
+returns-in_default-clause-first g c = none_first _ (after_log c.args.self.now (put_of c.args.put)) (rw c.store-shown.ensures.log at c.in_ok-index.ensures.accepted)
+
+pub returns-clause-first : goal.returns-clause-first
+returns-clause-first g c = none_first _ (after_log c.args.self.now (put_of c.args.put)) (rw c.store-shown.ensures.log at c.in_ok-index.ensures.accepted)

@@ -1,0 +1,13 @@
+use Rattle.std.proofs.lemmas.Result.{err_from_is_err_and}
+use Rattle.table_versions.specs.Stored.{put_of}
+use Rattle.version_cell.specs.Puts.{after_log}
+use Rattle.version_cell.proofs.Versions.{first_for, none_first}
+use Rattle.version_cell.proofs.putter.Putter.put.Goals as goal
+
+pub returns-in_err-store-clause-first : goal.returns-in_err-store-clause-first
+returns-in_err-store-clause-first g c =
+    let p = err_from_is_err_and c.from_residual.result c.from_residual.ensures.1 in
+    rw (p.1, p.2) (first_for _ _ c.in_err-store.field-0.0 _ c.in_err-store.ensures.first)
+
+pub returns-clause-first : goal.returns-clause-first
+returns-clause-first g c = none_first _ (after_log c.args.self.now (put_of c.args.put)) c.in_ok-store.ensures.accepted

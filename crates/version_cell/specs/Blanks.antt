@@ -1,0 +1,12 @@
+-- What a contract sees of a cell that has no name yet.
+use Rattle.std.specs.Prelude.{ℕ}
+use Rattle.logbook.specs.Pages.{Book}
+
+-- the book of its log, and how many seats it will have
+pub record BlankAt : Type 0 where
+  pub book : Book
+  pub seats : ℕ
+
+-- seats of a cell
+abbrev pub most_seats : ℕ
+most_seats = 32

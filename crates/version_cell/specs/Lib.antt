@@ -1,0 +1,5 @@
+pub mod Rules
+pub mod Seats
+pub mod Puts
+pub mod Blanks
+pub mod Versions

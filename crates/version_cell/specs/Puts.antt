@@ -1,0 +1,16 @@
+-- What a put is answered.
+use Rattle.std.specs.Prelude.{◌≡◌, ◌≢◌, [], ◌∷◌, ◌++◌, length, IsOk, Result, Ok, Err}
+use Rattle.scan_base.specs.declared.fault.Fault.{Fault}
+use Rattle.scan_base.specs.declared.fault.Fault.TheVariants.{OutOfMemory}
+use Rattle.table_versions.specs.Database.{Put, Database, after, database_of}
+use Rattle.version_cell.specs.Seats.{Log}
+
+-- the database after a put that meets this log, or the first fault
+abbrev pub after_log : Log → Put → Result Database Fault
+after_log log put = after (database_of log) (length log) put
+
+-- A put that meets a log, with the log behind it: an accepted one stands last. A refused one changes nothing, and its fault
+-- is the first one, or memory was refused.
+abbrev pub IsAnswered : {X : Type 0} → Result X Fault → Log → Put → Log → Type 0
+IsAnswered (Ok receipt) log put next = (next ≡ log ++ put ∷ []) × IsOk (after_log log put)
+IsAnswered (Err fault) log put next = (next ≡ log) × (fault ≢ OutOfMemory → after_log log put ≡ Err fault)

@@ -1,0 +1,28 @@
+-- What a contract sees of a seat, and what its calls do to it.
+use Rattle.std.specs.Prelude.{◌≡◌, ◌⊎◌, ℕ, ◌+◌, List, ◌++◌}
+use Rattle.table_versions.specs.Database.{Put}
+
+-- the accepted puts, in order
+abbrev pub Log : Type 0
+Log = List Put
+
+-- the log that the seat has seen or was told of, the log that it entered last, and how often it entered the cell
+pub record Seat : Type 0 where
+  pub log : Log
+  pub entered : Log
+  pub enters : ℕ
+
+abbrev pub seat : Log → Log → ℕ → Seat
+seat log entered enters = record { log = log; entered = entered; enters = enters }
+
+-- a log goes on from another
+abbrev pub Begins : Log → Log → Type 0
+Begins log more = (rest : Log) × (more ≡ log ++ rest)
+
+-- one enter: the seat has seen the log so entered
+abbrev pub EntersOnce : Seat → Seat → Type 0
+EntersOnce old new = (new.enters ≡ old.enters + 1) × (new.entered ≡ new.log)
+
+-- one enter, or none
+abbrev pub MayEnter : Seat → Seat → Type 0
+MayEnter old new = (new.enters ≡ old.enters) ⊎ (new.enters ≡ old.enters + 1)

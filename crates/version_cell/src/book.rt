@@ -1,0 +1,181 @@
+//! The log of a cell, as a history that only grows.
+ghost use Rattle.std.specs.Prelude.{◌≡◌, ◌+◌, ◌<◌, ◌^◌, ◌++◌, ◌∷◌, [], length, MatchBool, IfSome};
+ghost use Rattle.table_versions.specs.Stored.{put_of};
+ghost use Rattle.version_cell.specs.Rules.{head_of};
+ghost use Rattle.version_cell.specs.Seats.{Begins};
+
+use logbook::{Gain, Offer, Plain, Play, Rule, Seen, Start, Word};
+use std::marker::{Brand, Model};
+use std::snapshot::Snapshot;
+use table_versions::Put;
+
+/// A put as the log has it: rows, and no batches. It has no bytes.
+#[derive(Drop)]
+pub struct Entry {
+    put: Snapshot<Put>,
+}
+
+impl Model for Entry {
+    ghost use Rattle.table_versions.specs.Database.{Put};
+    ghost use Rattle.table_versions.specs.Stored.{put_of};
+
+    ghost Value = { Put };
+
+    ghost view = { λ e. put_of e.put.value };
+}
+
+/// The rule of the book: its first word is the length of the log.
+pub struct Law;
+
+impl Rule<Entry, u64> for Law {
+    ghost use Rattle.std.specs.Prelude.{[]};
+    ghost use base.Fml.{ftrue};
+    ghost use Rattle.version_cell.specs.Rules.{IsKept};
+
+    ghost holds = { λ cells log. IsKept cells log };
+
+    ghost first = { [] };
+
+    ghost hinted = { λ n log. Unit {0} };
+
+    ghost shows = { λ log. [] };
+
+    ghost keeps = { λ names log. ftrue };
+
+    ghost moves = { λ ask before after answer. Unit {0} };
+}
+
+/// Callers trade nothing.
+pub struct Nothing;
+
+impl Gain<Entry, u64> for Nothing {
+    ghost use base.Fml.{ftrue};
+
+    ghost after = { λ names about answer. ftrue };
+}
+
+/// A step that adds a put.
+pub struct Add;
+
+impl Play<Entry, u64> for Add {
+    ghost use Rattle.version_cell.specs.Rules.{Adds};
+
+    ghost then = { Adds };
+}
+
+impl Plain<Snapshot<Put>, Entry, u64> for Add {
+    ghost use Rattle.std.specs.Prelude.{None};
+    ghost use Rattle.table_versions.specs.Stored.{put_of};
+
+    ghost ask = { λ put. put_of put.value };
+
+    ghost state = { λ put. None };
+}
+
+/// Which cell it is. Each call of a program picks it.
+pub trait CellName {
+    ghost use Rattle.logbook.specs.Pages.{Book};
+
+    ghost book: { Book };
+}
+
+impl CellName for Brand {
+    ghost book = { record { number = 0; log_name = 0; cells_name = 0 } };
+}
+
+/// A book with an empty log, which has no name yet.
+#[derive(Drop)]
+pub struct Opened {
+    head: Word<Entry, u64, Law>,
+    seen: Seen<Entry, u64, Law>,
+    pub ghost empty: { seen.log ≡ [] },
+    pub ghost head_is: { head ≡ head_of seen.book },
+}
+
+impl Opened {
+    pub fn new() -> Opened {
+        let (seen, mut first, _second) = Seen::open(Start::alone(), 0, 0);
+        Opened {
+            head: Word::tracked(0, &mut first),
+            seen,
+        }
+    }
+
+    /// The word, and the history that has no put.
+    pub fn into_parts(self) -> (Head, History)
+        ensures book { (result.0 ≡ head_of self.seen.book) × (result.1.seen.book ≡ self.seen.book) }
+        ensures log { result.1.seen.log ≡ [] }
+    {
+        let Opened { head, seen } = self;
+        (head, History { puts: 0, seen })
+    }
+}
+
+/// The word that is the length of the log.
+pub type Head = Word<Entry, u64, Law>;
+
+/// A beginning of the log that was reached.
+#[derive(Drop)]
+pub struct History {
+    puts: u64,
+    pub seen: Seen<Entry, u64, Law>,
+    pub ghost counted: { puts ≡ length seen.log },
+}
+
+impl History {
+    /// How many puts it has.
+    pub fn len(&self) -> u64
+        ensures { result ≡ length self.now.seen.log }
+    {
+        self.puts
+    }
+
+    /// A copy.
+    pub fn again(&self) -> History
+        ensures { result.seen ≡ self.now.seen }
+    {
+        History {
+            puts: self.puts,
+            seen: self.seen.again(),
+        }
+    }
+
+    /// Whether the other has no fewer puts. It then begins with these.
+    pub fn begins(&self, other: &History) -> bool
+        requires { other.now.seen.book ≡ self.now.seen.book }
+        ensures { MatchBool result (Begins self.now.seen.log other.now.seen.log)
+            (Begins other.now.seen.log self.now.seen.log) }
+    {
+        let mut both = self.seen.again();
+        both.learn(&other.seen);
+        self.puts <= other.puts
+    }
+
+    /// The history with a put added. None where the log is longer than this.
+    pub fn with(&self, head: &Head, put: &Snapshot<Put>) -> Option<History>
+        requires head { head.now ≡ head_of self.now.seen.book }
+        requires room { length self.now.seen.log < 2 ^ 62 }
+        ensures { IfSome result (λ h. (h.seen.book ≡ self.now.seen.book) × (h.seen.log ≡ self.now.seen.log ++ put_of put.now.value ∷ [])) }
+    {
+        let mut seen = self.seen.again();
+        let mut offer: Offer<Entry, u64, Law, Nothing> = seen.plain::<Nothing, Snapshot<Put>, Add>(
+            put,
+        );
+        let mut pen = seen.no_pen();
+        let puts = self.puts;
+        let found = head.compare_exchange::<Add, Nothing>(
+            puts,
+            puts + 1,
+            &mut seen,
+            &mut offer,
+            &mut pen,
+        );
+        if found != puts {
+            return None;
+        }
+        Some(History {
+            puts: puts + 1,
+            seen,
+        })
+    }
+}

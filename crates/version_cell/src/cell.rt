@@ -1,0 +1,156 @@
+//! How a cell is made.
+
+ghost use Rattle.std.specs.Prelude.{◌≡◌, ◌≤◌, ◌<◌, [], length, drop, map, All, IfOk, IfErr, IfSome};
+ghost use Rattle.std.specs.Arc.{arc_value};
+ghost use Rattle.scan_base.specs.declared.fault.Fault.TheVariants.{OutOfMemory};
+ghost use Rattle.table_versions.specs.Stored.{tables_of};
+ghost use Rattle.version_cell.specs.Blanks.{most_seats};
+ghost use Rattle.version_cell.specs.Seats.{seat};
+ghost use Rattle.version_cell.specs.Versions.{versions_of};
+
+use crate::book::{CellName, History, Opened};
+use crate::putter::{CellWriter, Putter};
+use crate::scanner::Scanner;
+use crate::shown::{Publishes, Store};
+use hash_seed::HashSeed;
+use scan_base::Fault;
+use std::alloc::Global;
+use std::marker::Model;
+use std::sync::{Arc, Wait};
+use version_index::VersionIndex;
+
+/// A cell of version 0 alone, which has no name yet. Contracts see it as the book of its log, and the number of its seats.
+#[derive(Drop)]
+pub struct Blank {
+    opened: Opened,
+    seats: usize,
+    index: Arc<VersionIndex>,
+}
+
+impl Model for Blank {
+    ghost use Rattle.std.specs.Prelude.{◌≡◌, ◌≤◌, ◌<◌, [], map};
+    ghost use Rattle.std.specs.Arc.{arc_value};
+    ghost use Rattle.table_versions.specs.Stored.{tables_of};
+    ghost use Rattle.version_cell.specs.Blanks.{BlankAt, most_seats};
+    ghost use Rattle.version_cell.specs.Versions.{versions_of};
+
+    ghost Value = { BlankAt };
+
+    ghost view = { λ b. record { book = b.opened.seen.book; seats = b.seats } };
+
+    ghost invariant = { λ b. (0 < b.seats) × (b.seats ≤ most_seats)
+        × (map tables_of (arc_value b.index) ≡ versions_of []) };
+}
+
+/// A cell with so many seats. Hashes of the values of its versions begin with the seed.
+///
+/// # Errors
+///
+/// F21 (`Fault::OutOfMemory`) where memory is refused.
+#[tactic(auto, unfolding(crate::specs::Versions::versions_of))]
+pub fn open(alloc: Global, seed: HashSeed, seats: usize) -> Result<Blank, Fault>
+    requires { (0 < seats) × (seats ≤ most_seats) }
+    ensures ok { IfOk result (λ blank. blank.seats ≡ seats) }
+    ensures err { IfErr result (λ fault. fault ≡ OutOfMemory) }
+{
+    let index = VersionIndex::new(alloc, seed)?;
+    Ok(Blank {
+        opened: Opened::new(),
+        seats,
+        index: Arc::new(alloc, index)?,
+    })
+}
+
+impl Blank {
+    /// The putter and the seats of the cell, which C names from now on.
+    ///
+    /// # Errors
+    ///
+    /// F21 (`Fault::OutOfMemory`) where memory is refused, or a seat.
+    pub fn named<C: CellName, R: Wait + Drop>(
+        self,
+        alloc: Global,
+        rt: R,
+    ) -> Result<(Putter<C, R>, Vec<Scanner<C>>), Fault>
+        requires { self.book ≡ C.book }
+        ensures ok { IfOk result (λ cell. (cell.0 ≡ []) × (length cell.1.items ≡ self.seats)
+            × All (λ scanner. scanner ≡ seat [] [] 0) cell.1.items) }
+        ensures err { IfErr result (λ fault. fault ≡ OutOfMemory) }
+    {
+        let Blank {
+            opened,
+            seats,
+            index,
+        } = self;
+        let (head, history) = opened.into_parts();
+        let store = Store::new(index, history.again());
+        let Some(writer) = first_writer::<C>(alloc, store, seats) else {
+            return Err(Fault::OutOfMemory);
+        };
+        let Some(writer) = with_room(&rt, writer) else {
+            return Err(Fault::OutOfMemory);
+        };
+        match seat_all(alloc, &writer, &history, seats) {
+            Some(scanners) => Ok((Putter::new(head, writer, rt), scanners)),
+            None => {
+                drop(writer.take(&rt));
+                Err(Fault::OutOfMemory)
+            }
+        }
+    }
+}
+
+// A writer that shows this store.
+fn first_writer<C: CellName>(alloc: Global, store: Store, seats: usize) -> Option<CellWriter<C>>
+    requires seats { (0 < seats) × (seats ≤ most_seats) }
+    requires book { store.history.seen.book ≡ C.book }
+    ensures shown { IfSome result (λ writer. writer.desk.shown.value.history.seen
+        ≡ store.history.seen) }
+    ensures pending { IfSome result (λ writer. drop writer.behind writer.log.items ≡ []) }
+{
+    let second = store.again().ok()?;
+    CellWriter::<C>::new(alloc, store, second, seats).ok()
+}
+
+// The writer behind one publish of what it shows, which leaves room for the next.
+fn with_room<C: CellName, R: Wait>(rt: &R, writer: CellWriter<C>) -> Option<CellWriter<C>>
+    requires book { writer.desk.shown.value.history.seen.book ≡ C.book }
+    requires pending { drop writer.behind writer.log.items ≡ [] }
+    ensures { IfSome result (λ next. next.desk.shown.value.history.seen
+        ≡ writer.desk.shown.value.history.seen) }
+{
+    let mut writer = writer;
+    let added = match writer.published().again() {
+        Ok(store) => writer.append(store).is_ok(),
+        Err(_) => false,
+    };
+    if !added {
+        drop(writer.take(rt));
+        return None;
+    }
+    let (writer, done) = writer.publish_as::<Publishes, R>(rt);
+    if done.is_err() {
+        drop(writer.take(rt));
+        return None;
+    }
+    Some(writer)
+}
+
+// So many seats of what the writer shows.
+fn seat_all<C: CellName>(
+    alloc: Global,
+    writer: &CellWriter<C>,
+    history: &History,
+    seats: usize,
+) -> Option<Vec<Scanner<C>>>
+    requires { history.now.seen.book ≡ C.book }
+    ensures { IfSome result (λ all. (length all.items ≡ seats)
+        × All (λ scanner. scanner ≡ seat history.now.seen.log [] 0) all.items) }
+{
+    let mut scanners = Vec::new(alloc);
+    for _ in 0..seats {
+        let scanner = Scanner::new(writer, history)?;
+        scanners.push(scanner).ok()?;
+    }
+    Some(scanners)
+}

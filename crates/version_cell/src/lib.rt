@@ -1,0 +1,18 @@
+//! The versions of one catalog, which one thread makes and others look at without waiting.
+#![tactic(auto)]
+
+mod book;
+pub mod cell;
+pub mod putter;
+pub mod scanner;
+pub mod shared;
+mod shown;
+pub mod told;
+
+pub use crate::book::CellName;
+pub use crate::cell::{Blank, open};
+pub use crate::putter::{Putter, Receipt};
+pub use crate::scanner::Scanner;
+pub use crate::shared::put_and_learn;
+pub use crate::told::Told;
+pub use std::marker::Brand;

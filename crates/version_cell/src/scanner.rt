@@ -1,0 +1,129 @@
+//! Who looks.
+
+ghost use Rattle.std.specs.Prelude.{◌≡◌, ◌+◌, ◌⊎◌, ◌≤◌, ◌<◌, [], length, IfOk, IfErr, IfSome};
+ghost use Rattle.scan_base.specs.declared.fault.Fault.TheVariants.{OutOfMemory, VersionUnknown};
+ghost use Rattle.table_versions.specs.Database.{database_of, version};
+ghost use Rattle.table_versions.specs.Stored.{tables_of};
+ghost use Rattle.version_cell.specs.Seats.{seat, Begins, EntersOnce, MayEnter};
+
+use crate::book::{CellName, History};
+use crate::putter::CellWriter;
+use crate::shown::{Entered, Enters, Shown, Store};
+use crate::told::Told;
+use left_right::reader::Reader;
+use scan_base::Fault;
+use std::marker::Model;
+use table_versions::Snapshot;
+
+type CellReader<C> = Reader<Store, Entered, Shown<C>>;
+
+/// A seat of a cell. Contracts see it as the log that it has seen or was told of, the log that it entered last, and the
+/// number of its enters. Its calls wait for nobody and take no memory.
+#[derive(Drop)]
+pub struct Scanner<C: CellName> {
+    history: History,
+    reader: Option<CellReader<C>>,
+}
+
+impl<C: CellName> Model for Scanner<C> {
+    ghost use Rattle.std.specs.Prelude.{◌≡◌, [], IsSome};
+    ghost use Rattle.version_cell.specs.Rules.{read_or};
+    ghost use Rattle.version_cell.specs.Seats.{Seat, seat};
+
+    ghost Value = { Seat };
+
+    ghost view = { λ s. seat s.history.seen.log (read_or [] (λ reader. reader.place.me.0.client.log) s.reader)
+        (read_or 0 (λ reader. reader.place.me.0.client.enters) s.reader) };
+
+    ghost invariant = { λ s. (s.history.seen.book ≡ C.book) × IsSome s.reader };
+}
+
+impl<C: CellName> Scanner<C> {
+    // A seat of what the writer shows, which has seen this log.
+    pub(crate) fn new(writer: &CellWriter<C>, history: &History) -> Option<Scanner<C>>
+        requires { history.now.seen.book ≡ C.book }
+        ensures { IfSome result (λ s. s ≡ seat history.now.seen.log [] 0) }
+    {
+        let reader = writer.factory().reader().ok()?;
+        Some(Scanner {
+            history: history.again(),
+            reader: Some(reader),
+        })
+    }
+
+    // One enter.
+    fn enter(&mut self) -> Result<Store, Fault>
+        ensures begins { Begins self.old.log self.new.log }
+        ensures ok { IfOk result (λ store. EntersOnce self.old self.new × (store.history.seen.log ≡ self.new.log)) }
+        ensures err { IfErr result (λ fault. (fault ≡ OutOfMemory) × MayEnter self.old self.new) }
+    {
+        let reader = self.reader.take().unwrap();
+        match reader.enter_as::<Enters<C>>() {
+            Err(reader) => {
+                self.reader = Some(reader);
+                Err(Fault::OutOfMemory)
+            }
+            Ok(reading) => {
+                let found = reading.get().again().ok();
+                self.reader = Some(reading.leave());
+                let Some(store) = found else {
+                    return Err(Fault::OutOfMemory);
+                };
+                if !self.history.begins(&store.history) {
+                    return Err(Fault::OutOfMemory);
+                }
+                self.history = store.history.again();
+                Ok(store)
+            }
+        }
+    }
+
+    /// The newest version of the log that is entered.
+    ///
+    /// # Errors
+    ///
+    /// F21 (`Fault::OutOfMemory`) where the putter is gone, or one handle more of a version is refused.
+    pub fn current(&mut self) -> Result<Snapshot, Fault>
+        ensures begins { Begins self.old.log self.new.log }
+        ensures ok { IfOk result (λ snapshot. EntersOnce self.old self.new
+            × (snapshot.number ≡ length self.new.log)
+            × (tables_of snapshot.catalog ≡ database_of self.new.log)) }
+        ensures err { IfErr result (λ fault. (fault ≡ OutOfMemory) × MayEnter self.old self.new) }
+    {
+        let store = self.enter()?;
+        Ok(store.newest().clone()?)
+    }
+
+    /// The version of a number: the one after the first so many puts of the log that is entered.
+    ///
+    /// # Errors
+    ///
+    /// F18 (`Fault::VersionUnknown`) where that log has fewer puts, and F21 (`Fault::OutOfMemory`) where the putter is gone,
+    /// or one handle more of a version is refused.
+    pub fn at(&mut self, number: u64) -> Result<Snapshot, Fault>
+        ensures begins { Begins self.old.log self.new.log }
+        ensures ok { IfOk result (λ snapshot. EntersOnce self.old self.new
+            × (number ≤ length self.new.log) × (snapshot.number ≡ number)
+            × (tables_of snapshot.catalog ≡ version self.new.log number)) }
+        ensures err { IfErr result (λ fault.
+            ((fault ≡ VersionUnknown) × EntersOnce self.old self.new × (length self.new.log < number))
+            ⊎ ((fault ≡ OutOfMemory) × MayEnter self.old self.new)) }
+    {
+        let store = self.enter()?;
+        if number > store.history.len() {
+            return Err(Fault::VersionUnknown);
+        }
+        Ok(store.version(number)?)
+    }
+
+    /// From now on the seat sees no less than was told. It makes no enter.
+    pub fn learn(&mut self, told: &Told<C>)
+        ensures begins { Begins self.old.log self.new.log }
+        ensures told { Begins told.now self.new.log }
+        ensures enters { (self.new.enters ≡ self.old.enters) × (self.new.entered ≡ self.old.entered) }
+    {
+        if self.history.begins(told.history()) {
+            self.history = told.history().again();
+        }
+    }
+}

@@ -1,0 +1,143 @@
+//! What readers take: all versions so far, beside the log that they are of.
+
+ghost use Rattle.std.specs.Prelude.{◌≡◌, ◌≢◌, ◌≤◌, ◌++◌, ◌∷◌, [], length, map, IfOk, IfErr, IsOk, Err};
+ghost use Rattle.std.specs.Arc.{arc_value};
+ghost use Rattle.scan_base.specs.Reading.{RefusesFirst};
+ghost use Rattle.scan_base.specs.declared.fault.Fault.TheVariants.{OutOfMemory};
+ghost use Rattle.scan_base.specs.Limits.{most_commits};
+ghost use Rattle.table_versions.specs.Database.{database_of, version};
+ghost use Rattle.table_versions.specs.Stored.{put_of, tables_of};
+ghost use Rattle.table_versions.specs.Valid.{IsPut};
+ghost use Rattle.version_cell.specs.Puts.{after_log};
+ghost use Rattle.version_cell.specs.Versions.{versions_of};
+
+use crate::book::{CellName, Entry, History, Law};
+use crossbeam_utils::rule::{Outcome, Protocol};
+use left_right::Absorb;
+use logbook::Seen;
+use scan_base::Fault;
+use std::alloc::{AllocError, Global};
+use std::collections::LinkedList;
+use std::marker::PhantomData;
+use std::sync::Arc;
+use table_versions::{Put, Snapshot, apply};
+use version_index::VersionIndex;
+
+// All versions of a log.
+#[derive(Drop)]
+pub(crate) struct Store {
+    pub(crate) index: Arc<VersionIndex>,
+    pub(crate) history: History,
+    pub ghost kept: { map tables_of (arc_value index) ≡ versions_of history.seen.log },
+}
+
+impl Store {
+    pub(crate) fn new(index: Arc<VersionIndex>, history: History) -> Store
+        requires { map tables_of (arc_value index) ≡ versions_of history.seen.log }
+        ensures { result.history ≡ history }
+    {
+        Store { index, history }
+    }
+
+    // The same once more. It takes no memory.
+    pub(crate) fn again(&self) -> Result<Store, AllocError>
+        ensures { IfOk result (λ store. store.history.seen ≡ self.now.history.seen) }
+    {
+        let index = Arc::try_clone(&self.index)?;
+        Ok(Store::new(index, self.history.again()))
+    }
+
+    // The newest version.
+    pub(crate) fn newest(&self) -> &Snapshot
+        ensures number { result.now.number ≡ length self.now.history.seen.log }
+        ensures tables { tables_of result.now.catalog ≡ database_of self.now.history.seen.log }
+        ensures few { length self.now.history.seen.log ≤ most_commits }
+    {
+        self.index.newest()
+    }
+
+    // The version of a number that was reached.
+    pub(crate) fn version(&self, number: u64) -> Result<Snapshot, AllocError>
+        requires { number ≤ length self.now.history.seen.log }
+        ensures number { IfOk result (λ snapshot. snapshot.number ≡ number) }
+        ensures tables { IfOk result (λ snapshot. tables_of snapshot.catalog
+            ≡ version self.now.history.seen.log number) }
+    {
+        self.index.at(number)
+    }
+
+    // The versions after a put, behind a handle.
+    pub(crate) fn after(&self, alloc: Global, put: Put) -> Result<Arc<VersionIndex>, Fault>
+        ensures ok { IfOk result (λ index. map tables_of (arc_value index)
+            ≡ versions_of (self.now.history.seen.log ++ put_of put ∷ [])) }
+        ensures accepted { IfOk result (λ _. IsOk (after_log self.now.history.seen.log (put_of put))) }
+        ensures typed { IfOk result (λ _. IsPut (put_of put)) }
+        ensures err { IfErr result (λ fault. fault ≢ OutOfMemory
+            → after_log self.now.history.seen.log (put_of put) ≡ Err fault) }
+        ensures first { RefusesFirst result (after_log self.now.history.seen.log (put_of put)) }
+    {
+        let catalog = apply(alloc, self.newest(), put)?;
+        let index = self.index.with(alloc, catalog)?;
+        Ok(Arc::new(alloc, index)?)
+    }
+}
+
+impl Absorb<Store> for Store {
+    // The log that was reached, and its book. To absorb sets the whole.
+    type State = Seen<Entry, u64, Law>;
+
+    ghost state = { λ store. store.history.seen };
+
+    ghost applied = { λ _ store. store.history.seen };
+
+    fn absorb_first(&mut self, operation: &Store, _other: &Store) -> Result<(), AllocError> {
+        *self = operation.again()?;
+        Ok(())
+    }
+
+    fn absorb_second(&mut self, operation: Store, _other: &Store) -> Result<(), Store> {
+        *self = operation;
+        Ok(())
+    }
+}
+
+// The log that a seat entered last, and how often it entered. No value of it is made.
+pub(crate) struct Entered {
+    pub log: LinkedList<Entry>,
+    pub enters: u64,
+}
+
+// The rule of what is shown: it is of the cell C.
+pub(crate) struct Shown<C> {
+    of: PhantomData<C>,
+}
+
+impl<C: CellName> Protocol<Store, Entered> for Shown<C> {
+    ghost use Rattle.std.specs.Prelude.{◌≡◌, []};
+
+    ghost holds = { λ store _. store.history.seen.book ≡ C.book };
+
+    ghost first = { record { log = []; enters = 0 } };
+}
+
+// An enter.
+pub(crate) struct Enters<C> {
+    of: PhantomData<C>,
+}
+
+impl<C: CellName> Outcome<Store, Entered> for Enters<C> {
+    ghost use Rattle.std.specs.Prelude.{◌≡◌, ◌+◌};
+
+    ghost then = { λ old shown same new. (new
+        ≡ record { log = shown.history.seen.log; enters = old.enters + 1 })
+        × (shown.history.seen.book ≡ C.book) };
+}
+
+// A publish.
+pub(crate) struct Publishes;
+
+impl Outcome<Store, Entered> for Publishes {
+    ghost use Rattle.std.specs.Prelude.{◌≡◌};
+
+    ghost then = { λ old shown next new. new ≡ old };
+}
