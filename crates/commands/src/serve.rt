@@ -96,6 +96,7 @@ fn serve_port<L: Listen, W: Output>(
 /// # Errors
 ///
 /// `Fault::Transport` (F22) where a hundred accepts failed one behind the other.
+#[tactic(auto, using(crate::proofs::Turns::none_yet, crate::proofs::Turns::one_more, crate::proofs::Turns::stopped, crate::proofs::Turns::finished))]
 pub fn serve_in_turn<L: Listen, B: Backend>(
     alloc: Global,
     network: &mut L,
@@ -108,7 +109,9 @@ pub fn serve_in_turn<L: Listen, B: Backend>(
         × EndsBehind most result served }
 {
     for _ in 0..most {
-        let (mut reader, mut writer) = accept_next(network)?;
+        let Ok((mut reader, mut writer)) = accept_next(network) else {
+            return Err(Fault::Transport);
+        };
         let _ = flight_calls::serve(alloc, &mut reader, &mut writer, backend, options);
     }
     Ok(())
