@@ -77,7 +77,8 @@ record Reached (log : Log) (handle : HandleAt) (payloads : List Payload) : Type 
   at : FetchAt (version log (version_of handle)) handle payloads None
 
 reaches : (log : Log) (ticket : Payload) (handle : HandleAt) (payloads : List Payload) → handle_asked ticket ≡ Ok handle → FetchIn log ticket payloads None → Reached log handle payloads
-reaches log ticket handle payloads is reply = by (nat_le (version_of handle) (length log)) refl (rw is at reply)
+reaches log ticket handle payloads is (inr lacks) = absurd cc
+reaches log ticket handle payloads is (inl reply) = by (nat_le (version_of handle) (length log)) refl (rw is at reply)
   where
     shown : Bool → Result HandleAt Fault
     shown there = demand there VersionUnknown >>= λ _. (demand (may_mean handle) BadTicket >>= λ _. Ok handle)

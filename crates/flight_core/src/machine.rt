@@ -1,10 +1,12 @@
 //! Steps and runs.
 
-ghost use Rattle.std.specs.Prelude.{◌≡◌, [], ◌∷◌, Some, pos, min, map, List, IfOk, IfErr};
+ghost use Rattle.std.specs.Prelude.{◌≡◌, ℕ, [], ◌∷◌, Some, Err, pos, min, map, List, IfOk, IfErr};
 ghost use Rattle.scan_base.specs.Limits.{most_rows};
 ghost use Rattle.table_versions.specs.Valid.{HasDatabases};
 ghost use Rattle.scan_base.specs.declared.fault.Fault.TheVariants.{OutOfMemory};
 ghost use Rattle.flight_proto.specs.PutResult.{rows_put_bytes};
+ghost use Rattle.fetch_stream.specs.Fetches.{handle_shown};
+ghost use Rattle.flight_core.specs.Asked.{fetch};
 ghost use Rattle.flight_core.specs.Event.{asked_in};
 ghost use Rattle.flight_core.specs.Log.{Log, ArePuts, puts_in, database_of};
 ghost use Rattle.flight_core.specs.Headline.{Headline};
@@ -80,7 +82,8 @@ pub fn open_fetch(
     ticket: &[u8],
     workers: usize,
 ) -> Result<FetchStream, Fault>
-    ensures { OpensIn plain.now ticket.now result }
+    ensures opens { OpensIn plain.now ticket.now result }
+    ensures shown { IfErr (handle_shown (puts_in plain.now) ticket.now) (λ fault. result ≡ Err fault) }
 {
     let handle = read_ticket(ticket)?;
     let snapshot = plain.at(version_of(&handle))?;
@@ -89,6 +92,7 @@ pub fn open_fetch(
 
 fn step_fetch(alloc: Global, plain: &Plain, ticket: &[u8]) -> Reply
     ensures fetch { FetchIn plain.now ticket.now result.payloads result.fault }
+    ensures shown { IfErr (handle_shown (puts_in plain.now) ticket.now) (λ fault. result.fault ≡ Some fault) }
     ensures fits { FitMessages result.payloads }
 {
     let handle = match read_ticket(ticket) {
@@ -107,6 +111,8 @@ fn step_fetch(alloc: Global, plain: &Plain, ticket: &[u8]) -> Reply
 /// payload has at most 16,777,216 bytes.
 pub fn step(alloc: Global, plain: &mut Plain, event: &Event) -> Reply
     ensures step { StepOn plain.old (asked_in event.now) result plain.new }
+    ensures shown { (ticket : Payload) (workers : ℕ) → asked_in event.now ≡ fetch ticket workers
+        → IfErr (handle_shown (puts_in plain.old) ticket) (λ fault. result.fault ≡ Some fault) }
     ensures puts { ArePuts plain.old → ArePuts plain.new }
     ensures fits { FitMessages result.payloads }
 {
