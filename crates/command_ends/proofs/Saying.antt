@@ -3,7 +3,7 @@ use Rattle.std.proofs.Common.{ℕ, List, [], ◌∷◌, ◌++◌, Option, Result
 use Rattle.std.specs.Io.KnownBytes.{Appends}
 use Rattle.grpc_frame.specs.Ends.{AppendsBeginning, CountsFailure, Writes}
 use Rattle.grpc_frame.proofs.Growing.{beginning_of_head, beginning_of_content, content_behind}
-use Rattle.commands.specs.Pipe.{Said, Prints}
+use Rattle.command_ends.specs.Printing.{Said, Prints}
 
 -- the line's head, its text and its end
 

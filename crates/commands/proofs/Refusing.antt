@@ -4,9 +4,9 @@ use Rattle.clap.specs.Words.{Kinds, IsAmong, Text}
 use Rattle.clap.specs.declared.error.kind.ErrorKind.{ErrorKind}
 use Rattle.clap.specs.declared.error.kind.ErrorKind.TheVariants.{OutOfMemory}
 use Rattle.flight_calls.specs.Owed.{Connection}
-use Rattle.commands.specs.Pipe.{Said}
+use Rattle.command_ends.specs.Printing.{Said}
 use Rattle.commands.specs.Run.{Runs, RefusesFor}
-use Rattle.commands.specs.declared.exit_status.ExitStatus.{ExitStatus}
+use Rattle.command_ends.specs.declared.exit_status.ExitStatus.{ExitStatus}
 
 -- a kind that is among these
 some_kind : (found : ErrorKind) (kinds : Kinds) → IsAmong found kinds → kinds ≢ []

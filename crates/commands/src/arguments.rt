@@ -4,8 +4,8 @@ ghost use Rattle.std.specs.Prelude.{◌≡◌, ◌≢◌, ◌<◌};
 ghost use Rattle.std.specs.declared.io.ErrorKind.TheVariants as cause;
 ghost use Rattle.commands.specs.Run.{LacksMemory, HasNoText};
 
-use crate::ending::end_by_fault;
-use crate::exit_status::ExitStatus;
+use command_ends::ending::end_by_fault;
+use command_ends::exit_status::ExitStatus;
 use grpc_frame::Output;
 use scan_base::Fault;
 use std::io::ErrorKind;

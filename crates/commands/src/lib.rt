@@ -4,7 +4,10 @@
 #![tactic(auto)]
 
 pub mod arguments;
-pub mod ending;
-pub mod exit_status;
+mod outcome;
 pub mod pipe;
+pub mod put;
+pub mod query;
 pub mod run;
+pub mod serve;
+pub mod standard;

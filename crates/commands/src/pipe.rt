@@ -5,8 +5,8 @@ ghost use Rattle.flight_calls.specs.Seats.{Seat, seat_of};
 ghost use Rattle.flight_calls.specs.Owed.{connection_of};
 ghost use Rattle.commands.specs.Pipe.{Pipes};
 
-use crate::ending::end_by_fault;
-use crate::exit_status::ExitStatus;
+use command_ends::ending::end_by_fault;
+use command_ends::exit_status::ExitStatus;
 use flight_calls::{Options, serve_alone};
 use grpc_frame::{Input, Output};
 use hash_seed::HashSeed;

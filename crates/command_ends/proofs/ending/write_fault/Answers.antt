@@ -1,8 +1,8 @@
 use Rattle.std.proofs.Common.{◌≡◌, rules}
 use Rattle.std.proofs.lemmas.Result.{err_from_is_err_and}
-use Rattle.commands.proofs.Saying.{head_begun, text_begun, line_said}
+use Rattle.command_ends.proofs.Saying.{head_begun, text_begun, line_said}
 use Rattle.scan_base.specs.Fault.{text_of}
-use Rattle.commands.proofs.ending.write_fault.Goals as goal
+use Rattle.command_ends.proofs.ending.write_fault.Goals as goal
 
 pub returns-in_err-write-clause-bytes : goal.returns-in_err-write-clause-bytes
 returns-in_err-write-clause-bytes g c =
