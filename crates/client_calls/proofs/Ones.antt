@@ -11,28 +11,32 @@ use Rattle.client_calls.specs.declared.answer.Arrival.TheVariants as arrival
 use Rattle.client_calls.specs.declared.failure.Failure.{Failure}
 use Rattle.client_calls.specs.declared.failure.Failure.TheVariants.{Answered, Found}
 use Rattle.client_calls.specs.Answers.{Incoming, AnswersOne}
-use Rattle.client_calls.specs.Outcome.{incoming_of}
 use Rattle.client_calls.specs.inside.Arriving.{ArrivesAs}
+use Rattle.client_calls.specs.inside.Parts.{incoming_of, left_behind, given}
 use Rattle.client_calls.proofs.Taking.{Taken, taken_none, taken_more, more_quiet, taken_stop, answered, finished}
 
 -- the message as it came
 abbrev pub AnswersMessage : Result Payload Failure → Incoming → Incoming → Received → Type 0
 AnswersMessage result old new all = AnswersOne (λ (message : Payload). message) (λ (message : Payload). Ok message) result old new all
 
+-- what an answer is read as
+abbrev pub Read : Type 0
+Read = Result (Result Payload Failure) Fault
+
 module _ (a b : Option (List ℕ)) (x y : ℕ) (old mid : Received) (place : old.place ≡ InAnswer) where
   abbrev First : Result Arrival Fault → Type 0
-  First result = (came : List ℕ) × Consumes a b came × ArrivesAs result (incoming_of a x old) (incoming_of b y mid) (with_more old came)
+  First result = (came : List ℕ) × Consumes a b came × ArrivesAs result (incoming_of a x (Ok old)) (incoming_of b y (Ok mid)) (with_more old came) mid
 
-  abbrev One : Result Payload Failure → Type 0
-  One result = (came : List ℕ) × Consumes a b came × AnswersMessage result (incoming_of a x old) (incoming_of b y mid) (with_more old came)
+  abbrev One : Read → Type 0
+  One result = (came : List ℕ) × Consumes a b came × AnswersMessage (given result) (incoming_of a x (Ok old)) (incoming_of b y (left_behind result mid)) (with_more old came)
 
-  pub first_stops : (fault : Fault) → First (Err fault) → One (Err (Found fault))
+  pub first_stops : (fault : Fault) → First (Err fault) → One (Err fault)
   first_stops fault q = let s = taken_stop a a b x x y old old mid [] (taken_none a old place) refl fault q in (s.0, s.1, inl s.2)
 
-  pub first_ends : First (Ok (arrival.End (Ok tt))) → One (Err (Found BadProto))
-  first_ends q = let e = finished a a b x x y old old mid [] (taken_none a old place) refl q in (e.0, e.1, inr (inl (refl, inl (e.2.0, e.2.1), e.2.2)))
+  pub first_ends : First (Ok (arrival.End (Ok tt))) → One (Ok (Err (Found BadProto)))
+  first_ends q = let e = finished a a b x x y old old mid [] (taken_none a old place) refl q in (e.0, e.1, inr (inl (refl, inl e.2)))
 
-  pub first_answers : (fault : Fault) → First (Ok (arrival.End (Err fault))) → One (Err (Answered fault))
+  pub first_answers : (fault : Fault) → First (Ok (arrival.End (Err fault))) → One (Ok (Err (Answered fault)))
   first_answers fault q = answered a a b x x y old old mid [] (taken_none a old place) refl fault q
 
   -- the message came
@@ -43,12 +47,12 @@ module _ (a b : Option (List ℕ)) (x y : ℕ) (old mid : Received) (place : old
   first_quiet message q = more_quiet a a b x x y old old mid [] (taken_none a old place) refl message q
 
 module _ (a b c : Option (List ℕ)) (x y z : ℕ) (old mid new : Received) (place : old.place ≡ InAnswer) (message : Payload)
-    (p : (came : List ℕ) × Consumes a b came × ArrivesAs (Ok (arrival.Message message)) (incoming_of a x old) (incoming_of b y mid) (with_more old came)) where
+    (p : (came : List ℕ) × Consumes a b came × ArrivesAs (Ok (arrival.Message message)) (incoming_of a x (Ok old)) (incoming_of b y (Ok mid)) (with_more old came) mid) where
   abbrev Second : Result Arrival Fault → Type 0
-  Second result = (came : List ℕ) × Consumes b c came × ArrivesAs result (incoming_of b y mid) (incoming_of c z new) (with_more mid came)
+  Second result = (came : List ℕ) × Consumes b c came × ArrivesAs result (incoming_of b y (Ok mid)) (incoming_of c z (Ok new)) (with_more mid came) new
 
-  abbrev Both : Result Payload Failure → Type 0
-  Both result = (came : List ℕ) × Consumes a c came × AnswersMessage result (incoming_of a x old) (incoming_of c z new) (with_more old came)
+  abbrev Both : Read → Type 0
+  Both result = (came : List ℕ) × Consumes a c came × AnswersMessage (given result) (incoming_of a x (Ok old)) (incoming_of c z (left_behind result new)) (with_more old came)
 
   taken : Taken a b old mid (message ∷ [])
   taken = first_taken a b x y old mid place message p
@@ -56,18 +60,18 @@ module _ (a b c : Option (List ℕ)) (x y z : ℕ) (old mid new : Received) (pla
   quiet : y ≡ x
   quiet = first_quiet a b x y old mid place message p
 
-  pub second_stops : (fault : Fault) → Second (Err fault) → Both (Err (Found fault))
+  pub second_stops : (fault : Fault) → Second (Err fault) → Both (Err fault)
   second_stops fault q = let s = taken_stop a b c x y z old mid new (message ∷ []) taken quiet fault q in (s.0, s.1, inl s.2)
 
-  pub second_more : (second : Payload) → Second (Ok (arrival.Message second)) → Both (Err (Found BadProto))
+  pub second_more : (second : Payload) → Second (Ok (arrival.Message second)) → Both (Err BadProto)
   second_more second q =
       let t = taken_more a b c x y z old mid new (message ∷ []) taken quiet second q in
-      (t.came, t.consumed, inr (inl (refl, inr (message, second, t.fronts), more_quiet a b c x y z old mid new (message ∷ []) taken quiet second q)))
+      (t.came, t.consumed, inr (inl (refl, inr (message, second, new, t.fronts, refl, more_quiet a b c x y z old mid new (message ∷ []) taken quiet second q))))
 
-  pub second_ends : Second (Ok (arrival.End (Ok tt))) → Both (Ok message)
+  pub second_ends : Second (Ok (arrival.End (Ok tt))) → Both (Ok (Ok message))
   second_ends q = let e = finished a b c x y z old mid new (message ∷ []) taken quiet q in (e.0, e.1, (message, e.2, refl))
 
-  pub second_answers : (fault : Fault) → Second (Ok (arrival.End (Err fault))) → Both (Err (Answered fault))
+  pub second_answers : (fault : Fault) → Second (Ok (arrival.End (Err fault))) → Both (Ok (Err (Answered fault)))
   second_answers fault q = answered a b c x y z old mid new (message ∷ []) taken quiet fault q
 
 -- ---- the message is read

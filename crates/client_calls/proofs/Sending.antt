@@ -15,7 +15,7 @@ use Rattle.grpc_frame.proofs.Sending.{head_not_sent, both_sent, second_not_sent,
 use Rattle.flight_info.specs.Payloads.{Payload}
 use Rattle.client_calls.specs.declared.call.Method.{Method}
 use Rattle.client_calls.specs.Calls.{path_of, call_bytes, Fit}
-use Rattle.client_calls.specs.Outcome.{WritesCall, outgoing_of}
+use Rattle.client_calls.specs.inside.Parts.{WritesCall, outgoing_of}
 
 -- the bytes of messages
 abbrev pub messages_bytes : List Payload → List ℕ

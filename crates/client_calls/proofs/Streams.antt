@@ -12,25 +12,25 @@ use Rattle.client_calls.specs.declared.answer.Arrival.TheVariants as arrival
 use Rattle.client_calls.specs.declared.failure.Failure.{Failure}
 use Rattle.client_calls.specs.declared.failure.Failure.TheVariants.{Answered, Found}
 use Rattle.client_calls.specs.Answers.{AnswersStream, IsStream, IsRefused}
-use Rattle.client_calls.specs.Outcome.{incoming_of}
 use Rattle.client_calls.specs.inside.Arriving.{ArrivesAs}
+use Rattle.client_calls.specs.inside.Parts.{incoming_of, left_behind, given}
 use Rattle.client_calls.proofs.Taking.{Taken, taken_more, more_quiet, taken_stop, answered, finished}
 
 module _ (a b c : Option (List ℕ)) (x y z : ℕ) (old mid new : Received) (payloads : List Payload) (p : Taken a b old mid payloads) (same : y ≡ x) (stream : StreamAt) (came : Came payloads stream) where
   abbrev Since : Result Arrival Fault → Type 0
-  Since result = (more : List ℕ) × Consumes b c more × ArrivesAs result (incoming_of b y mid) (incoming_of c z new) (with_more mid more)
+  Since result = (more : List ℕ) × Consumes b c more × ArrivesAs result (incoming_of b y (Ok mid)) (incoming_of c z (Ok new)) (with_more mid more) new
 
-  abbrev Gives : Result StreamAt Failure → Type 0
-  Gives result = (more : List ℕ) × Consumes a c more × AnswersStream result (incoming_of a x old) (incoming_of c z new) (with_more old more)
+  abbrev Gives : Result (Result StreamAt Failure) Fault → Type 0
+  Gives result = (more : List ℕ) × Consumes a c more × AnswersStream (given result) (incoming_of a x (Ok old)) (incoming_of c z (left_behind result new)) (with_more old more)
 
-  pub stream_stops : (fault : Fault) → Since (Err fault) → Gives (Err (Found fault))
+  pub stream_stops : (fault : Fault) → Since (Err fault) → Gives (Err fault)
   stream_stops fault q = let s = taken_stop a b c x y z old mid new payloads p same fault q in (s.0, s.1, inl s.2)
 
-  pub stream_answers : (fault : Fault) → Since (Ok (arrival.End (Err fault))) → Gives (Err (Answered fault))
+  pub stream_answers : (fault : Fault) → Since (Ok (arrival.End (Err fault))) → Gives (Ok (Err (Answered fault)))
   stream_answers fault q = answered a b c x y z old mid new payloads p same fault q
 
   -- a payload is refused
-  pub stream_refused : (last : Payload) (fault : Fault) → Since (Ok (arrival.Message last)) → (fault ≢ OutOfMemory → after_payload stream last ≡ Err fault) → Gives (Err (Found fault))
+  pub stream_refused : (last : Payload) (fault : Fault) → Since (Ok (arrival.Message last)) → (fault ≢ OutOfMemory → after_payload stream last ≡ Err fault) → Gives (Err fault)
   stream_refused last fault q why = (t.came, t.consumed, by fault why)
     where
       t : Taken a c old new (payloads ++ last ∷ [])
@@ -39,18 +39,28 @@ module _ (a b c : Option (List ℕ)) (x y z : ℕ) (old mid new : Received) (pay
       quiet : z ≡ x
       quiet = more_quiet a b c x y z old mid new payloads p same last q
 
-      refused : (fault : Fault) → after_payload stream last ≡ Err fault → IsRefused fault (incoming_of a x old) (incoming_of c z new) (with_more old t.came)
-      refused fault is = record { payloads = payloads; last = last; stream = stream; came = came; refused = is; fronts = t.fronts; quiet = quiet }
+      refused : (fault : Fault) → after_payload stream last ≡ Err fault → IsRefused fault (incoming_of a x (Ok old)) (incoming_of c z (Err fault)) (with_more old t.came)
+      refused fault is = record {
+        payloads = payloads;
+        last = last;
+        stream = stream;
+        came = came;
+        refused = is;
+        rest = new;
+        fronts = t.fronts;
+        stopped = refl;
+        quiet = quiet;
+      }
 
-      by : (fault : Fault) → (fault ≢ OutOfMemory → after_payload stream last ≡ Err fault) → AnswersStream (Err (Found fault)) (incoming_of a x old) (incoming_of c z new) (with_more old t.came)
-      by OutOfMemory why = inl (inr (inr refl, quiet))
+      by : (fault : Fault) → (fault ≢ OutOfMemory → after_payload stream last ≡ Err fault) → AnswersStream (Err (Found fault)) (incoming_of a x (Ok old)) (incoming_of c z (Err fault)) (with_more old t.came)
+      by OutOfMemory why = inl (refl, inr (inr refl, quiet))
       by fault why = inr (refused fault (why (λ e. cc)))
 
   -- status 0
-  pub stream_ends : (ended : StreamAt) → Since (Ok (arrival.End (Ok tt))) → Ends stream 0 [] ended → Gives (Ok ended)
+  pub stream_ends : (ended : StreamAt) → Since (Ok (arrival.End (Ok tt))) → Ends stream 0 [] ended → Gives (Ok (Ok ended))
   stream_ends ended q ends =
       let e = finished a b c x y z old mid new payloads p same q in
-      (e.0, e.1, record { payloads = payloads; text = e.2.0; is = e.2.1; came = still ends; ended = done ends; quiet = e.2.2 })
+      (e.0, e.1, record { payloads = payloads; text = e.2.0; is = e.2.1; came = still ends; ended = done ends })
     where
       still : Ends stream 0 [] ended → Came payloads ended
       still (end, says, is) = rw is came

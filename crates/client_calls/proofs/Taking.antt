@@ -18,9 +18,9 @@ use Rattle.flight_info.specs.Payloads.{Payload}
 use Rattle.flight_client.specs.Status.{StatusSays}
 use Rattle.client_calls.specs.declared.answer.Arrival.{Arrival}
 use Rattle.client_calls.specs.declared.answer.Arrival.TheVariants as arrival
-use Rattle.client_calls.specs.Answers.{Fronts, AnswerIs, NoMore, Stops, IsAnswered}
-use Rattle.client_calls.specs.Outcome.{incoming_of}
+use Rattle.client_calls.specs.Answers.{Fronts, IsAnswer, NoMore, Unfinished, IsBroken, Stops, IsAnswered}
 use Rattle.client_calls.specs.inside.Arriving.{ArrivesAs}
+use Rattle.client_calls.specs.inside.Parts.{incoming_of}
 
 -- ---- records in front
 
@@ -81,7 +81,7 @@ module _ (a b : Option (List ℕ)) (failed failed' : ℕ) (old new : Received) (
   Next result = (came : List ℕ) × Consumes a b came × Arrives result old new came
 
   abbrev Gave : Result Arrival Fault → Type 0
-  Gave result = (came : List ℕ) × Consumes a b came × ArrivesAs result (incoming_of a failed old) (incoming_of b failed' new) (with_more old came)
+  Gave result = (came : List ℕ) × Consumes a b came × ArrivesAs result (incoming_of a failed (Ok old)) (incoming_of b failed' (Ok new)) (with_more old came) new
 
   pub next_message : (message : Payload) → Next (Ok (Some (Message message))) → failed' ≡ failed → Gave (Ok (arrival.Message message))
   next_message message q quiet = (q.0, q.1, (fronts_one (with_more old q.0) new (Message message) place q.2, quiet))
@@ -107,10 +107,16 @@ module _ (a b : Option (List ℕ)) (failed failed' : ℕ) (old new : Received) (
       no_flaw : Breaks (with_more old q.0) fault → fault ≢ Transport
       no_flaw breaks is = flaw_no_transport breaks.flaw (sym breaks.fault_is ∙ is)
 
-      by : IsReason fault (with_more old q.0) → ArrivesAs (Err fault) (incoming_of a failed old) (incoming_of b failed' new) (with_more old q.0)
+      by : IsReason fault (with_more old q.0) → ArrivesAs (Err fault) (incoming_of a failed (Ok old)) (incoming_of b failed' (Ok new)) (with_more old q.0) new
       by (inl e) = inl (e.0, e.1, inl (counted.0 e.0))
       by (inr (inl e)) = inr (inr e.0, counted.1 (no_memory e.0))
       by (inr (inr breaks)) = inr (inl breaks, counted.1 (no_flaw breaks))
+
+-- the place stays, whatever came
+pub place_stays : (result : Result (Option Record) Fault) (old new : Received) (came : List ℕ) → old.place ≡ InAnswer → Arrives result old new came → new.place ≡ InAnswer
+place_stays (Ok (Some found)) old new came place leads = still found old.place new.place place leads.moves
+place_stays (Ok None) old new came place q = ap (λ (r : Received). r.place) q.0 ∙ place
+place_stays (Err fault) old new came place q = ap (λ (r : Received). r.place) q.0 ∙ place
 
 -- ---- the messages so far
 
@@ -128,7 +134,7 @@ taken_none source old place = record {
 
 module _ (a b c : Option (List ℕ)) (x y z : ℕ) (old mid new : Received) (messages : List Payload) (p : Taken a b old mid messages) (same : y ≡ x) where
   abbrev Since : Result Arrival Fault → Type 0
-  Since result = (came : List ℕ) × Consumes b c came × ArrivesAs result (incoming_of b y mid) (incoming_of c z new) (with_more mid came)
+  Since result = (came : List ℕ) × Consumes b c came × ArrivesAs result (incoming_of b y (Ok mid)) (incoming_of c z (Ok new)) (with_more mid came) new
 
   abbrev all_came : List ℕ → List ℕ
   all_came more = p.came ++ more
@@ -153,40 +159,40 @@ module _ (a b c : Option (List ℕ)) (x y z : ℕ) (old mid new : Received) (mes
 
   -- the status
   pub taken_end : (end : Result (Unit {0}) Fault) → Since (Ok (arrival.End end))
-      → (came : List ℕ) × Consumes a c came × ((code : ℕ) × (text : List ℕ) × AnswerIs messages code text (with_more old came) new × StatusSays code text end × (z ≡ x))
-  taken_end end q = (
-    all_came q.0,
-    all_consumed q.0 q.1,
-    (
-      q.2.0,
-      q.2.1,
-      fronts_both (with_more old (all_came q.0)) (with_more mid q.0) new (map Message messages) (Status q.2.0 q.2.1 ∷ []) (stand q.0) q.2.3,
-      q.2.2,
-      q.2.4 ∙ same,
-    ),
-  )
+      → (came : List ℕ) × Consumes a c came × ((code : ℕ) × (text : List ℕ) × IsAnswer messages code text (incoming_of a x (Ok old)) (incoming_of c z (Ok new)) (with_more old came) × StatusSays code text end)
+  taken_end end q = (all_came q.0, all_consumed q.0 q.1, (q.2.0, q.2.1, is, q.2.2))
+    where
+      is : IsAnswer messages q.2.0 q.2.1 (incoming_of a x (Ok old)) (incoming_of c z (Ok new)) (with_more old (all_came q.0))
+      is = record {
+        left = new;
+        fronts = fronts_both (with_more old (all_came q.0)) (with_more mid q.0) new (map Message messages) (Status q.2.0 q.2.1 ∷ []) (stand q.0) q.2.3;
+        is_left = refl;
+        quiet = q.2.4 ∙ same;
+      }
 
   -- the answer does not come to it
   pub taken_stop : (fault : Fault) → Since (Err fault)
-      → (came : List ℕ) × Consumes a c came × Stops fault (incoming_of a x old) (incoming_of c z new) (with_more old came)
-  taken_stop fault q = (all_came q.0, all_consumed q.0 q.1, by q.2)
+      → (came : List ℕ) × Consumes a c came × Stops fault (incoming_of a x (Ok old)) (incoming_of c z (Err fault)) (with_more old came)
+  taken_stop fault q = (all_came q.0, all_consumed q.0 q.1, (refl, by q.2))
     where
-      no_more : NoMore (incoming_of b y mid) (incoming_of c z new) → NoMore (incoming_of a x old) (incoming_of c z new)
+      no_more : NoMore (incoming_of b y (Ok mid)) (incoming_of c z (Ok new)) → NoMore (incoming_of a x (Ok old)) (incoming_of c z (Err fault))
       no_more e = rw same at e
 
-      by : ArrivesAs (Err fault) (incoming_of b y mid) (incoming_of c z new) (with_more mid q.0) → Stops fault (incoming_of a x old) (incoming_of c z new) (with_more old (all_came q.0))
+      by : ArrivesAs (Err fault) (incoming_of b y (Ok mid)) (incoming_of c z (Ok new)) (with_more mid q.0) new
+          → ((fault ≡ Transport) × Unfinished (with_more old (all_came q.0)) × NoMore (incoming_of a x (Ok old)) (incoming_of c z (Err fault)))
+          ⊎ ((IsBroken fault (with_more old (all_came q.0)) ⊎ (fault ≡ OutOfMemory)) × (z ≡ x))
       by (inl e) = inl (e.0, record { messages = messages; rest = with_more mid q.0; fronts = stand q.0; is_cut = e.1 }, no_more e.2)
       by (inr (inl breaks, quiet)) = inr (inl (record { messages = messages; rest = with_more mid q.0; fronts = stand q.0; breaks = breaks }), quiet ∙ same)
       by (inr (inr memory, quiet)) = inr (inr memory, quiet ∙ same)
 
   -- the server's fault
   pub answered : (fault : Fault) → Since (Ok (arrival.End (Err fault)))
-      → (came : List ℕ) × Consumes a c came × IsAnswered fault (incoming_of a x old) (incoming_of c z new) (with_more old came)
-  answered fault q = let e = taken_end (Err fault) q in (e.0, e.1, (messages, e.2.0, e.2.1, e.2.2, e.2.3, e.2.4))
+      → (came : List ℕ) × Consumes a c came × IsAnswered fault (incoming_of a x (Ok old)) (incoming_of c z (Ok new)) (with_more old came)
+  answered fault q = let e = taken_end (Err fault) q in (e.0, e.1, (messages, e.2.0, e.2.1, e.2.2, e.2.3))
 
   -- status 0
   pub finished : Since (Ok (arrival.End (Ok tt)))
-      → (came : List ℕ) × Consumes a c came × ((text : List ℕ) × AnswerIs messages 0 text (with_more old came) new × (z ≡ x))
+      → (came : List ℕ) × Consumes a c came × ((text : List ℕ) × IsAnswer messages 0 text (incoming_of a x (Ok old)) (incoming_of c z (Ok new)) (with_more old came))
   finished q =
       let e = taken_end (Ok tt) q in
-      (e.0, e.1, (e.2.1, subst (λ (code : ℕ). AnswerIs messages code e.2.1 (with_more old e.0) new) e.2.3 e.2.2, e.2.4))
+      (e.0, e.1, (e.2.1, subst (λ (code : ℕ). IsAnswer messages code e.2.1 (incoming_of a x (Ok old)) (incoming_of c z (Ok new)) (with_more old e.0)) e.2.3 e.2.2))

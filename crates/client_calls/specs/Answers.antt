@@ -24,16 +24,12 @@ pub record Fronts (records : List Record) (all left : Received) : Type 0 where
   pub fits : All IsRecord records
   pub place : left.place ≡ InAnswer
 
--- an answer stands in front: these messages, and this status
-abbrev pub AnswerIs : List Payload → ℕ → List ℕ → Received → Received → Type 0
-AnswerIs messages code text all left = Fronts (answer_records messages code text) all left
-
 -- the end that is read: the bytes that it will give, where they are known, how many reads failed, and what came and is
--- not taken yet
+-- not taken yet, or the fault by which a call stopped
 pub record Incoming : Type 0 where
   pub input : Option (List ℕ)
   pub failed : ℕ
-  pub left : Received
+  pub left : Result Received Fault
 
 -- no read failed
 abbrev pub Quiet : Incoming → Incoming → Type 0
@@ -42,6 +38,13 @@ Quiet old new = new.failed ≡ old.failed
 -- a read failed and was counted, or the input ended
 abbrev pub NoMore : Incoming → Incoming → Type 0
 NoMore old new = (new.failed ≡ old.failed + 1) ⊎ (IsAtEnd new.input × Quiet old new)
+
+-- what came is the answer of these messages and this status, and what stands behind it is left
+pub record IsAnswer (messages : List Payload) (code : ℕ) (text : List ℕ) (old new : Incoming) (all : Received) : Type 0 where
+  pub left : Received
+  pub fronts : Fronts (answer_records messages code text) all left
+  pub is_left : new.left ≡ Ok left
+  pub quiet : Quiet old new
 
 -- messages stand in front, and behind them neither a whole record nor a faulty one
 pub record Unfinished (all : Received) : Type 0 where
@@ -57,29 +60,35 @@ pub record IsBroken (fault : Fault) (all : Received) : Type 0 where
   pub fronts : Fronts (map Message messages) all rest
   pub breaks : Breaks rest fault
 
--- why an answer did not come to its Status: it was not whole where reading ended, a record was faulty, or memory was refused
+-- an answer did not come to its Status, since it was not whole where reading ended, a record was faulty, or memory was
+-- refused: the connection has stopped
 abbrev pub Stops : Fault → Incoming → Incoming → Received → Type 0
 Stops fault old new all =
-    ((fault ≡ Transport) × Unfinished all × NoMore old new)
-    ⊎ ((IsBroken fault all ⊎ (fault ≡ OutOfMemory)) × Quiet old new)
+    (new.left ≡ Err fault)
+    × (((fault ≡ Transport) × Unfinished all × NoMore old new)
+    ⊎ ((IsBroken fault all ⊎ (fault ≡ OutOfMemory)) × Quiet old new))
 
 -- the server answered this fault
 abbrev pub IsAnswered : Fault → Incoming → Incoming → Received → Type 0
 IsAnswered fault old new all =
     (messages : List Payload) × (code : ℕ) × (text : List ℕ)
-    × AnswerIs messages code text all new.left × StatusSays code text (Err fault) × Quiet old new
+    × IsAnswer messages code text old new all × StatusSays code text (Err fault)
 
 -- ---- an answer of one message
 
--- Status 0 came without a message, or a second message came
-abbrev pub IsNotOne : Received → Received → Type 0
-IsNotOne all left =
-    ((text : List ℕ) × AnswerIs [] 0 text all left)
-    ⊎ ((first : Payload) × (second : Payload) × Fronts (Message first ∷ Message second ∷ []) all left)
+-- status 0 came without a message
+abbrev pub IsNone : Incoming → Incoming → Received → Type 0
+IsNone old new all = (text : List ℕ) × IsAnswer [] 0 text old new all
+
+-- a second message came: the connection has stopped
+abbrev pub IsMore : Incoming → Incoming → Received → Type 0
+IsMore old new all =
+    (first : Payload) × (second : Payload) × (rest : Received)
+    × Fronts (Message first ∷ Message second ∷ []) all rest × (new.left ≡ Err BadProto) × Quiet old new
 
 -- the answer is this one message and status 0
 abbrev pub IsOne : Payload → Incoming → Incoming → Received → Type 0
-IsOne message old new all = (text : List ℕ) × AnswerIs (message ∷ []) 0 text all new.left × Quiet old new
+IsOne message old new all = (text : List ℕ) × IsAnswer (message ∷ []) 0 text old new all
 
 -- What the one message of an answer says by `read`, seen by `view`; else the server's fault; or one of this end: the
 -- answer did not come to its end, is not one message (F4), or its message does not read.
@@ -89,7 +98,7 @@ AnswersOne view read (Ok x) old new all =
 AnswersOne view read (Err (Answered fault)) old new all = IsAnswered fault old new all
 AnswersOne view read (Err (Found fault)) old new all =
     Stops fault old new all
-    ⊎ (((fault ≡ BadProto) × IsNotOne all new.left × Quiet old new)
+    ⊎ (((fault ≡ BadProto) × (IsNone old new all ⊎ IsMore old new all))
     ⊎ ((message : Payload) × IsOne message old new all × (fault ≢ OutOfMemory → read message ≡ Err fault)))
 
 -- ---- a stream
@@ -98,19 +107,20 @@ AnswersOne view read (Err (Found fault)) old new all =
 pub record IsStream (stream : StreamAt) (old new : Incoming) (all : Received) : Type 0 where
   pub payloads : List Payload
   pub text : List ℕ
-  pub is : AnswerIs payloads 0 text all new.left
+  pub is : IsAnswer payloads 0 text old new all
   pub came : Came payloads stream
   pub ended : stream.end ≡ Some (Ok tt)
-  pub quiet : Quiet old new
 
--- payloads stand in front, and the last of them is refused by this fault behind the others
+-- payloads stand in front, and the last of them is refused by this fault behind the others: the connection has stopped
 pub record IsRefused (fault : Fault) (old new : Incoming) (all : Received) : Type 0 where
   pub payloads : List Payload
   pub last : Payload
   pub stream : StreamAt
   pub came : Came payloads stream
   pub refused : after_payload stream last ≡ Err fault
-  pub fronts : Fronts (map Message (payloads ++ last ∷ [])) all new.left
+  pub rest : Received
+  pub fronts : Fronts (map Message (payloads ++ last ∷ [])) all rest
+  pub stopped : new.left ≡ Err fault
   pub quiet : Quiet old new
 
 -- the stream of an answer; or the server's fault; or one of this end: the answer did not come to its end, or a payload is

@@ -1,5 +1,5 @@
 -- What became of a call, and of the connection on which it was made.
-use Rattle.std.specs.Prelude.{◌≡◌, ◌⊎◌, ℕ, ◌+◌, List, Option, Result, Ok, Err}
+use Rattle.std.specs.Prelude.{◌≡◌, ◌⊎◌, ℕ, ◌+◌, List, Option, Some, None, Result, Ok, Err}
 use Rattle.std.specs.Io.KnownBytes.{Appends, Consumes}
 use Rattle.scan_base.specs.declared.fault.Fault.{Fault}
 use Rattle.scan_base.specs.declared.fault.Fault.TheVariants.{MessageTooLarge, OutOfMemory, Transport}
@@ -22,6 +22,11 @@ pub record Line : Type 0 where
   pub incoming : Incoming
   pub outgoing : Outgoing
 
+-- what came and is not taken yet, or the fault by which a call stopped
+abbrev pub left_of : Option Fault → Received → Result Received Fault
+left_of None left = Ok left
+left_of (Some fault) left = Err fault
+
 -- ---- writing
 
 -- a call was written whole, and no write failed
@@ -36,41 +41,30 @@ pub record IsBegun (method : Method) (messages : List Payload) (old new : Outgoi
   pub wrote : AppendsBeginning old.output new.output (call_bytes method messages)
   pub counted : new.failed ≡ old.failed + 1
 
--- a call was written; or not, by F22; or nothing of it was, since a message of it is too long (F2) or memory was refused
--- (F21)
-abbrev pub WritesCall : Result (Unit {0}) Fault → Method → List Payload → Outgoing → Outgoing → Type 0
-WritesCall (Ok done) method messages old new = IsWritten method messages old new
-WritesCall (Err fault) method messages old new =
-    ((fault ≡ Transport) × IsBegun method messages old new)
-    ⊎ ((((fault ≡ MessageTooLarge) × ¬ Fit messages) ⊎ (fault ≡ OutOfMemory)) × (new ≡ old))
-
 -- ---- a call and its answer
 
--- the call was written, and these bytes came behind what was there, which answer it so
-pub record IsCalled (method : Method) (messages : List Payload) (Answers : Incoming → Incoming → Received → Type 0) (old new : Line) : Type 0 where
+-- the call was written, and these bytes came behind what was left, which answer it so
+pub record IsCalled (method : Method) (messages : List Payload) (Answers : Incoming → Incoming → Received → Type 0) (left : Received) (old new : Line) : Type 0 where
   pub written : IsWritten method messages old.outgoing new.outgoing
   pub came : List ℕ
   pub consumed : Consumes old.incoming.input new.incoming.input came
-  pub answers : Answers old.incoming new.incoming (with_more old.incoming.left came)
+  pub answers : Answers old.incoming new.incoming (with_more left came)
 
--- it was not written, by a fault that is found at this end, and nothing was read
-pub record IsNotCalled (method : Method) (messages : List Payload) {A : Type 0} (result : Result A Failure) (old new : Line) : Type 0 where
-  pub fault : Fault
-  pub result_is : result ≡ Err (Found fault)
-  pub why : WritesCall (Err fault) method messages old.outgoing new.outgoing
-  pub same : new.incoming ≡ old.incoming
+-- why a call was not written: a write failed, and the connection has stopped; or nothing is done, since a message is too
+-- long or memory was refused
+abbrev pub WhyNot : Fault → Method → List Payload → Line → Line → Type 0
+WhyNot fault method messages old new =
+    ((fault ≡ Transport) × IsBegun method messages old.outgoing new.outgoing
+    × (new.incoming ≡ record old.incoming { left = Err Transport }))
+    ⊎ ((((fault ≡ MessageTooLarge) × ¬ Fit messages) ⊎ (fault ≡ OutOfMemory)) × (new ≡ old))
 
--- a call of a method with these messages was made, and the result is what the answer says; or it was not made
+-- A call of a method with these messages was made, and the result is what its answer says; or it was not written. Where
+-- a call before it stopped, the fault of that one is the result, and nothing is done.
+abbrev pub CallsAt : {A : Type 0} → Result Received Fault → Method → List Payload → (Result A Failure → Incoming → Incoming → Received → Type 0) → Result A Failure → Line → Line → Type 0
+CallsAt (Ok left) method messages Answers result old new =
+    IsCalled method messages (Answers result) left old new
+    ⊎ ((fault : Fault) × (result ≡ Err (Found fault)) × WhyNot fault method messages old new)
+CallsAt (Err fault) method messages Answers result old new = (result ≡ Err (Found fault)) × (new ≡ old)
+
 abbrev pub Calls : {A : Type 0} → Method → List Payload → (Result A Failure → Incoming → Incoming → Received → Type 0) → Result A Failure → Line → Line → Type 0
-Calls method messages Answers result old new =
-    IsCalled method messages (Answers result) old new ⊎ IsNotCalled method messages result old new
-
--- the ends by their parts
-abbrev pub incoming_of : Option (List ℕ) → ℕ → Received → Incoming
-incoming_of input failed left = record { input = input; failed = failed; left = left }
-
-abbrev pub outgoing_of : Option (List ℕ) → ℕ → Outgoing
-outgoing_of output failed = record { output = output; failed = failed }
-
-abbrev pub line_of : Incoming → Outgoing → Line
-line_of incoming outgoing = record { incoming = incoming; outgoing = outgoing }
+Calls method messages Answers result old new = CallsAt old.incoming.left method messages Answers result old new

@@ -1,3 +1,4 @@
 -- What only the contracts of private functions cite.
+pub mod Parts
 pub mod Arriving
 pub mod Heads

@@ -7,8 +7,8 @@ ghost use Rattle.grpc_frame.specs.Records.{with_more};
 ghost use Rattle.grpc_frame.specs.Arrivals.{work_left};
 ghost use Rattle.flight_client.specs.Status.{StatusSays};
 ghost use Rattle.client_calls.specs.Answers.{AnswersOne, AnswersStream};
-ghost use Rattle.client_calls.specs.Outcome.{incoming_of};
 ghost use Rattle.client_calls.specs.inside.Arriving.{ArrivesAs};
+ghost use Rattle.client_calls.specs.inside.Parts.{incoming_of, left_behind, given};
 
 use crate::failure::Failure;
 use bytes::Bytes;
@@ -42,9 +42,11 @@ fn next_arrival<R: Input>(inbox: &mut Inbox, reader: &mut R) -> Result<Arrival, 
     requires place { inbox.old.place ≡ InAnswer }
     ensures arrives { (came : List ℕ)
         × Consumes (R.remaining reader.old) (R.remaining reader.new) came
-        × ArrivesAs result (incoming_of (R.remaining reader.old) (R.failures reader.old) inbox.old)
-        (incoming_of (R.remaining reader.new) (R.failures reader.new) inbox.new)
-        (with_more inbox.old came) }
+        × ArrivesAs result
+        (incoming_of (R.remaining reader.old) (R.failures reader.old) (Ok inbox.old))
+        (incoming_of (R.remaining reader.new) (R.failures reader.new) (Ok inbox.new))
+        (with_more inbox.old came) inbox.new }
+    ensures place { inbox.new.place ≡ InAnswer }
     ensures fewer { IfOk result (λ _.
         work_left (R.turns reader.new) inbox.new < work_left (R.turns reader.old) inbox.old) }
 {
@@ -57,34 +59,38 @@ fn next_arrival<R: Input>(inbox: &mut Inbox, reader: &mut R) -> Result<Arrival, 
     }
 }
 
-/// Reads an answer of one message, and gives the message.
+/// Reads an answer of one message, and gives the message, or why it has none.
 ///
 /// # Errors
 ///
-/// `Failure::Answered` where its status is not 0. `Failure::Found`:
+/// Why the answer did not come to its Status:
 /// - F1 (`Fault::BadFrame`) and F2 (`Fault::MessageTooLarge`) where a record is faulty.
-/// - F4 (`Fault::BadProto`) where a second message came, or status 0 without one.
+/// - F4 (`Fault::BadProto`) where a second message came.
 /// - F21 (`Fault::OutOfMemory`) where memory is refused.
 /// - F22 (`Fault::Transport`) where a read failed, which is counted, or the input ended inside the answer.
-pub(crate) fn read_one<R: Input>(inbox: &mut Inbox, reader: &mut R) -> Result<Bytes, Failure>
+pub(crate) fn read_one<R: Input>(
+    inbox: &mut Inbox,
+    reader: &mut R,
+) -> Result<Result<Bytes, Failure>, Fault>
     requires failures { R.failures reader.old < 18446744073709551615 }
     requires place { inbox.old.place ≡ InAnswer }
-    ensures { (came : List ℕ)
+    ensures answer { (came : List ℕ)
         × Consumes (R.remaining reader.old) (R.remaining reader.new) came
-        × AnswersOne (λ message. message) (λ message. Ok message) result
-        (incoming_of (R.remaining reader.old) (R.failures reader.old) inbox.old)
-        (incoming_of (R.remaining reader.new) (R.failures reader.new) inbox.new)
+        × AnswersOne (λ message. message) (λ message. Ok message) (given result)
+        (incoming_of (R.remaining reader.old) (R.failures reader.old) (Ok inbox.old))
+        (incoming_of (R.remaining reader.new) (R.failures reader.new) (left_behind result inbox.new))
         (with_more inbox.old came) }
+    ensures place { inbox.new.place ≡ InAnswer }
 {
     let message = match next_arrival(inbox, reader)? {
         Arrival::Message(message) => message,
-        Arrival::End(Ok(())) => return Err(Failure::Found(Fault::BadProto)),
-        Arrival::End(Err(fault)) => return Err(Failure::Answered(fault)),
+        Arrival::End(Ok(())) => return Ok(Err(Failure::Found(Fault::BadProto))),
+        Arrival::End(Err(fault)) => return Ok(Err(Failure::Answered(fault))),
     };
     match next_arrival(inbox, reader)? {
-        Arrival::Message(_) => Err(Failure::Found(Fault::BadProto)),
-        Arrival::End(Ok(())) => Ok(message),
-        Arrival::End(Err(fault)) => Err(Failure::Answered(fault)),
+        Arrival::Message(_) => Err(Fault::BadProto),
+        Arrival::End(Ok(())) => Ok(Ok(message)),
+        Arrival::End(Err(fault)) => Ok(Err(Failure::Answered(fault))),
     }
 }
 
@@ -92,22 +98,23 @@ pub(crate) fn read_one<R: Input>(inbox: &mut Inbox, reader: &mut R) -> Result<By
 ///
 /// # Errors
 ///
-/// `Failure::Answered` where its status is not 0. `Failure::Found`:
+/// Why the answer did not come to its Status:
 /// - F1, F2, F21 and F22 as `read_one` gives them.
 /// - The fault of a payload, as `Stream::message` gives it (F4, F6, F7, F8, F12 or F21).
 pub(crate) fn read_stream<R: Input>(
     alloc: Global,
     inbox: &mut Inbox,
     reader: &mut R,
-) -> Result<Stream, Failure>
+) -> Result<Result<Stream, Failure>, Fault>
     requires failures { R.failures reader.old < 18446744073709551615 }
     requires place { inbox.old.place ≡ InAnswer }
-    ensures { (came : List ℕ)
+    ensures answer { (came : List ℕ)
         × Consumes (R.remaining reader.old) (R.remaining reader.new) came
-        × AnswersStream result
-        (incoming_of (R.remaining reader.old) (R.failures reader.old) inbox.old)
-        (incoming_of (R.remaining reader.new) (R.failures reader.new) inbox.new)
+        × AnswersStream (given result)
+        (incoming_of (R.remaining reader.old) (R.failures reader.old) (Ok inbox.old))
+        (incoming_of (R.remaining reader.new) (R.failures reader.new) (left_behind result inbox.new))
         (with_more inbox.old came) }
+    ensures place { inbox.new.place ≡ InAnswer }
 {
     let mut stream = Stream::new(alloc);
     loop {
@@ -115,9 +122,9 @@ pub(crate) fn read_stream<R: Input>(
             Arrival::Message(message) => stream.message(alloc, &message)?,
             Arrival::End(Ok(())) => {
                 stream.end(0, "");
-                return Ok(stream);
+                return Ok(Ok(stream));
             }
-            Arrival::End(Err(fault)) => return Err(Failure::Answered(fault)),
+            Arrival::End(Err(fault)) => return Ok(Err(Failure::Answered(fault))),
         }
     }
 }

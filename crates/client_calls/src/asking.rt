@@ -4,19 +4,18 @@ ghost use Rattle.std.specs.Prelude.{◌≡◌, ◌∷◌, [], ◌<◌, map, IfOk
 ghost use Rattle.scan_base.specs.Reading.{GivesUnlessMemory};
 ghost use Rattle.flight_proto.specs.FlightInfo.{endpoint_said};
 ghost use Rattle.flight_proto.specs.Wanted.{wanted_bytes, wanted_said};
-ghost use Rattle.grpc_frame.specs.declared.place.Place.TheVariants.{InAnswer};
 ghost use Rattle.client_calls.specs.declared.call.Method.TheVariants.{GetFlightInfo};
 ghost use Rattle.client_calls.specs.Answers.{AnswersOne};
 ghost use Rattle.client_calls.specs.Commands.{endpoints_of};
-ghost use Rattle.client_calls.specs.Outcome.{Calls, line_of, incoming_of, outgoing_of};
+ghost use Rattle.client_calls.specs.Outcome.{Calls};
 
-use crate::answer::read_one;
-use crate::call::{Method, Payload, write_call};
+use crate::call::{Method, Payload};
+use crate::connection::Connection;
 use crate::failure::Failure;
 use bytes::Bytes;
 use flight_client::read_info;
 use flight_proto::{FlightEndpoint, Wanted, put_wanted};
-use grpc_frame::{Inbox, Input, Output};
+use grpc_frame::{Input, Output};
 use scan_base::Fault;
 use std::alloc::{AllocError, Global};
 
@@ -51,25 +50,21 @@ fn read_endpoints(alloc: Global, message: &[u8]) -> Result<Vec<FlightEndpoint>, 
 /// - F4 (`Fault::BadProto`) where the answer is not one FlightInfo with an endpoint.
 /// - F21 (`Fault::OutOfMemory`) where memory is refused.
 /// - F22 (`Fault::Transport`) where a read or a write failed, which is counted, or the input ended inside the answer.
+///
+/// Behind a fault of this end the connection may have stopped.
 pub fn info<R: Input, W: Output>(
     alloc: Global,
-    inbox: &mut Inbox,
-    reader: &mut R,
-    writer: &mut W,
+    connection: &mut Connection<R, W>,
     wanted: Wanted<'_>,
 ) -> Result<Vec<FlightEndpoint>, Failure>
-    requires reads { R.failures reader.old < 18446744073709551615 }
-    requires writes { W.failures writer.old < 18446744073709551615 }
-    requires place { inbox.old.place ≡ InAnswer }
+    requires reads { connection.old.incoming.failed < 18446744073709551615 }
+    requires writes { connection.old.outgoing.failed < 18446744073709551615 }
     ensures { Calls GetFlightInfo (wanted_bytes (wanted_said wanted.entry) ∷ [])
         (AnswersOne (λ endpoints. map endpoint_said endpoints.items) endpoints_of) result
-        (line_of (incoming_of (R.remaining reader.old) (R.failures reader.old) inbox.old)
-        (outgoing_of (W.contents writer.old) (W.failures writer.old)))
-        (line_of (incoming_of (R.remaining reader.new) (R.failures reader.new) inbox.new)
-        (outgoing_of (W.contents writer.new) (W.failures writer.new))) }
+        connection.old connection.new }
 {
+    connection.check()?;
     let payloads = wanted_payload(alloc, wanted)?;
-    write_call(alloc, writer, Method::GetFlightInfo, &payloads)?;
-    let message = read_one(inbox, reader)?;
+    let message = connection.call(alloc, Method::GetFlightInfo, &payloads)?;
     Ok(read_endpoints(alloc, message.as_slice())?)
 }

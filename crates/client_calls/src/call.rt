@@ -7,7 +7,7 @@ ghost use Rattle.grpc_frame.specs.Records.{spelling};
 ghost use Rattle.grpc_frame.specs.Ends.{CountsFailure, FailsByTransport};
 ghost use Rattle.grpc_frame.specs.Sending.{Sends};
 ghost use Rattle.client_calls.specs.Calls.{path_of, call_bytes, Fit};
-ghost use Rattle.client_calls.specs.Outcome.{WritesCall, outgoing_of};
+ghost use Rattle.client_calls.specs.inside.Parts.{WritesCall, outgoing_of};
 
 use bytes::Bytes;
 use grpc_frame::{MAX_MESSAGE_LEN, Outbox, Output};

@@ -1,17 +1,16 @@
 //! Fetching rows.
 
 ghost use Rattle.std.specs.Prelude.{◌≡◌, ◌∷◌, [], ◌<◌, IfOk};
-ghost use Rattle.grpc_frame.specs.declared.place.Place.TheVariants.{InAnswer};
 ghost use Rattle.client_calls.specs.declared.call.Method.TheVariants.{DoGet};
 ghost use Rattle.client_calls.specs.Answers.{AnswersStream};
-ghost use Rattle.client_calls.specs.Outcome.{Calls, line_of, incoming_of, outgoing_of};
+ghost use Rattle.client_calls.specs.Outcome.{Calls};
 
-use crate::answer::read_stream;
-use crate::call::{Method, Payload, write_call};
+use crate::call::Payload;
+use crate::connection::Connection;
 use crate::failure::Failure;
 use bytes::Bytes;
 use flight_client::Stream;
-use grpc_frame::{Inbox, Input, Output};
+use grpc_frame::{Input, Output};
 use std::alloc::{AllocError, Global};
 
 // The one message of a fetch, which is the ticket.
@@ -37,23 +36,18 @@ fn ticket_payload(alloc: Global, ticket: &[u8]) -> Result<[Payload; 1], AllocErr
 /// - The fault of a payload, as `Stream::message` gives it (F4, F6, F7, F8 or F12).
 /// - F21 (`Fault::OutOfMemory`) where memory is refused.
 /// - F22 (`Fault::Transport`) where a read or a write failed, which is counted, or the input ended inside the answer.
+///
+/// Behind a fault of this end the connection may have stopped.
 pub fn fetch<R: Input, W: Output>(
     alloc: Global,
-    inbox: &mut Inbox,
-    reader: &mut R,
-    writer: &mut W,
+    connection: &mut Connection<R, W>,
     ticket: &[u8],
 ) -> Result<Stream, Failure>
-    requires reads { R.failures reader.old < 18446744073709551615 }
-    requires writes { W.failures writer.old < 18446744073709551615 }
-    requires place { inbox.old.place ≡ InAnswer }
-    ensures { Calls DoGet (ticket.now ∷ []) AnswersStream result
-        (line_of (incoming_of (R.remaining reader.old) (R.failures reader.old) inbox.old)
-        (outgoing_of (W.contents writer.old) (W.failures writer.old)))
-        (line_of (incoming_of (R.remaining reader.new) (R.failures reader.new) inbox.new)
-        (outgoing_of (W.contents writer.new) (W.failures writer.new))) }
+    requires reads { connection.old.incoming.failed < 18446744073709551615 }
+    requires writes { connection.old.outgoing.failed < 18446744073709551615 }
+    ensures { Calls DoGet (ticket.now ∷ []) AnswersStream result connection.old connection.new }
 {
+    connection.check()?;
     let payloads = ticket_payload(alloc, ticket)?;
-    write_call(alloc, writer, Method::DoGet, &payloads)?;
-    read_stream(alloc, inbox, reader)
+    connection.call_for_stream(alloc, &payloads)
 }

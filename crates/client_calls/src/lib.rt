@@ -7,12 +7,14 @@
 mod answer;
 mod asking;
 mod call;
+mod connection;
 mod failure;
 mod fetching;
 mod putting;
 
+pub use crate::asking::info;
 pub use crate::call::Method;
+pub use crate::connection::Connection;
 pub use crate::failure::Failure;
 pub use crate::fetching::fetch;
-pub use crate::asking::info;
 pub use crate::putting::{Mode, Target, put};

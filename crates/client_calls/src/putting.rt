@@ -4,15 +4,14 @@ ghost use Rattle.std.specs.Prelude.{◌≡◌, ◌++◌, ◌<◌, map, None, IfO
 ghost use Rattle.scan_base.specs.Reading.{Gives};
 ghost use Rattle.flight_proto.specs.FlightData.{data_bytes};
 ghost use Rattle.flight_proto.specs.StatementIngest.{options_said};
-ghost use Rattle.grpc_frame.specs.declared.place.Place.TheVariants.{InAnswer};
 ghost use Rattle.client_calls.specs.declared.call.Method.TheVariants.{DoPut};
 ghost use Rattle.client_calls.specs.Answers.{AnswersOne};
 ghost use Rattle.client_calls.specs.Commands.{options_of_mode, put_payloads, carried_in, count_of};
-ghost use Rattle.client_calls.specs.Outcome.{Calls, line_of, incoming_of, outgoing_of};
+ghost use Rattle.client_calls.specs.Outcome.{Calls};
 ghost use Rattle.client_calls.specs.inside.Heads.{put_command_bytes, first_payload};
 
-use crate::answer::read_one;
-use crate::call::{Method, Payload, write_call};
+use crate::call::{Method, Payload};
+use crate::connection::Connection;
 use crate::failure::Failure;
 use bytes::Bytes;
 use flight_proto::flight_descriptor::DESCRIPTOR_CMD;
@@ -20,7 +19,7 @@ use flight_proto::{
     Any, CommandStatementIngest, FlightDescriptor, TableDefinitionOptions, put_flight_data,
     put_flight_data_head, read_rows_put,
 };
-use grpc_frame::{Inbox, Input, Output};
+use grpc_frame::{Input, Output};
 use ipc_stream::IpcMessage;
 use scan_base::Fault;
 use std::alloc::{AllocError, Global};
@@ -175,26 +174,20 @@ fn read_count(message: &[u8]) -> Result<u64, Fault>
 /// - F21 (`Fault::OutOfMemory`) where memory is refused.
 /// - F22 (`Fault::Transport`) where a read or a write failed, which is counted, or the input ended inside the answer.
 ///
-/// Nothing more can be done with the connection behind a fault of this end but those where nothing is written.
+/// Behind a fault of this end the connection may have stopped.
 pub fn put<R: Input, W: Output>(
     alloc: Global,
-    inbox: &mut Inbox,
-    reader: &mut R,
-    writer: &mut W,
+    connection: &mut Connection<R, W>,
     target: Target<'_>,
     messages: &[IpcMessage],
 ) -> Result<u64, Failure>
-    requires reads { R.failures reader.old < 18446744073709551615 }
-    requires writes { W.failures writer.old < 18446744073709551615 }
-    requires place { inbox.old.place ≡ InAnswer }
-    ensures { Calls DoPut (put_payloads target.entry messages.now) (AnswersOne (λ rows. rows) count_of) result
-        (line_of (incoming_of (R.remaining reader.old) (R.failures reader.old) inbox.old)
-        (outgoing_of (W.contents writer.old) (W.failures writer.old)))
-        (line_of (incoming_of (R.remaining reader.new) (R.failures reader.new) inbox.new)
-        (outgoing_of (W.contents writer.new) (W.failures writer.new))) }
+    requires reads { connection.old.incoming.failed < 18446744073709551615 }
+    requires writes { connection.old.outgoing.failed < 18446744073709551615 }
+    ensures { Calls DoPut (put_payloads target.entry messages.now)
+        (AnswersOne (λ rows. rows) count_of) result connection.old connection.new }
 {
+    connection.check()?;
     let payloads = put_payloads(alloc, target, messages)?;
-    write_call(alloc, writer, Method::DoPut, &payloads)?;
-    let message = read_one(inbox, reader)?;
+    let message = connection.call(alloc, Method::DoPut, &payloads)?;
     Ok(read_count(message.as_slice())?)
 }

@@ -10,10 +10,10 @@ use Rattle.client_calls.specs.declared.answer.Arrival.TheVariants as arrival
 use Rattle.client_calls.specs.Answers.{Incoming, Fronts, Quiet, NoMore}
 
 -- a message came, or a status and what it stands for; or why neither did
-abbrev pub ArrivesAs : Result Arrival Fault → Incoming → Incoming → Received → Type 0
-ArrivesAs (Ok (arrival.Message message)) old new all = Fronts (Message message ∷ []) all new.left × Quiet old new
-ArrivesAs (Ok (arrival.End end)) old new all =
-    (code : ℕ) × (text : List ℕ) × StatusSays code text end × Fronts (Status code text ∷ []) all new.left × Quiet old new
-ArrivesAs (Err fault) old new all =
+abbrev pub ArrivesAs : Result Arrival Fault → Incoming → Incoming → Received → Received → Type 0
+ArrivesAs (Ok (arrival.Message message)) old new all left = Fronts (Message message ∷ []) all left × Quiet old new
+ArrivesAs (Ok (arrival.End end)) old new all left =
+    (code : ℕ) × (text : List ℕ) × StatusSays code text end × Fronts (Status code text ∷ []) all left × Quiet old new
+ArrivesAs (Err fault) old new all left =
     ((fault ≡ Transport) × IsCut all × NoMore old new)
     ⊎ ((Breaks all fault ⊎ (fault ≡ OutOfMemory)) × Quiet old new)

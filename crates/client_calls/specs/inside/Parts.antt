@@ -1,0 +1,59 @@
+-- Inside: a connection by its parts.
+use Rattle.std.specs.Prelude.{◌≡◌, ◌⊎◌, ℕ, List, Option, Result, Ok, Err}
+use Rattle.std.specs.Io.KnownBytes.{Consumes}
+use Rattle.scan_base.specs.declared.fault.Fault.{Fault}
+use Rattle.scan_base.specs.declared.fault.Fault.TheVariants.{MessageTooLarge, OutOfMemory, Transport}
+use Rattle.grpc_frame.specs.Records.{Received, with_more}
+use Rattle.flight_info.specs.Payloads.{Payload}
+use Rattle.client_calls.specs.declared.call.Method.{Method}
+use Rattle.client_calls.specs.declared.failure.Failure.{Failure}
+use Rattle.client_calls.specs.declared.failure.Failure.TheVariants.{Found}
+use Rattle.client_calls.specs.Answers.{Incoming}
+use Rattle.client_calls.specs.Calls.{Fit}
+use Rattle.client_calls.specs.Outcome.{Outgoing, Line, IsWritten, IsBegun, WhyNot}
+
+-- the ends by their parts
+abbrev pub incoming_of : Option (List ℕ) → ℕ → Result Received Fault → Incoming
+incoming_of input failed left = record { input = input; failed = failed; left = left }
+
+abbrev pub outgoing_of : Option (List ℕ) → ℕ → Outgoing
+outgoing_of output failed = record { output = output; failed = failed }
+
+-- no call stopped
+abbrev pub IsOpen : Line → Type 0
+IsOpen line = (left : Received) × (line.incoming.left ≡ Ok left)
+
+-- ---- writing
+
+-- a call was written; or not, by F22; or nothing of it was, since a message of it is too long (F2) or memory was refused
+-- (F21)
+abbrev pub WritesCall : Result (Unit {0}) Fault → Method → List Payload → Outgoing → Outgoing → Type 0
+WritesCall (Ok done) method messages old new = IsWritten method messages old new
+WritesCall (Err fault) method messages old new =
+    ((fault ≡ Transport) × IsBegun method messages old new)
+    ⊎ ((((fault ≡ MessageTooLarge) × ¬ Fit messages) ⊎ (fault ≡ OutOfMemory)) × (new ≡ old))
+
+-- the same on a connection
+abbrev pub SendsCall : Result (Unit {0}) Fault → Method → List Payload → Line → Line → Type 0
+SendsCall (Ok done) method messages old new =
+    IsWritten method messages old.outgoing new.outgoing × (new.incoming ≡ old.incoming)
+SendsCall (Err fault) method messages old new = WhyNot fault method messages old new
+
+-- ---- reading
+
+-- what is left behind an answer that came to its Status, or the fault by which it did not
+abbrev pub left_behind : {A : Type 0} → Result A Fault → Received → Result Received Fault
+left_behind (Ok answer) left = Ok left
+left_behind (Err fault) left = Err fault
+
+-- what such an answer gives
+abbrev pub given : {A : Type 0} → Result (Result A Failure) Fault → Result A Failure
+given (Ok answer) = answer
+given (Err fault) = Err (Found fault)
+
+-- an answer came behind what was left, and nothing was written
+abbrev pub Receives : (Incoming → Incoming → Received → Type 0) → Line → Line → Type 0
+Receives Answers old new =
+    (left : Received) × (old.incoming.left ≡ Ok left)
+    × ((came : List ℕ) × Consumes old.incoming.input new.incoming.input came × Answers old.incoming new.incoming (with_more left came))
+    × (new.outgoing ≡ old.outgoing)

@@ -1,0 +1,174 @@
+//! A client's connection.
+
+ghost use Rattle.std.specs.Prelude.{◌≡◌, ◌∷◌, ◌<◌, [], ℕ, List, Ok, MatchResult};
+ghost use Rattle.grpc_frame.specs.declared.place.Place.TheVariants.{InAnswer};
+ghost use Rattle.client_calls.specs.declared.call.Method.TheVariants.{DoGet};
+ghost use Rattle.client_calls.specs.Answers.{AnswersOne, AnswersStream};
+ghost use Rattle.client_calls.specs.Outcome.{Calls};
+ghost use Rattle.client_calls.specs.inside.Parts.{IsOpen, SendsCall, Receives};
+
+use crate::answer::{read_one, read_stream};
+use crate::call::{Method, Payload, write_call};
+use crate::failure::Failure;
+use bytes::Bytes;
+use flight_client::Stream;
+use grpc_frame::{Inbox, Input, Output};
+use scan_base::Fault;
+use std::alloc::Global;
+use std::marker::Model;
+
+/// A client's connection: what it reads from, what it writes to, and what came and is not taken yet. A contract sees a
+/// `Line`.
+///
+/// Where a write of a call failed, or its answer did not come to its Status, the connection has stopped: each further call
+/// gives the same fault, and does nothing.
+#[derive(Drop)]
+pub struct Connection<R: Input, W: Output> {
+    inbox: Inbox,
+    reader: R,
+    writer: W,
+    stopped: Option<Fault>,
+}
+
+impl<R: Input, W: Output> Model for Connection<R, W> {
+    ghost use Rattle.std.specs.Prelude.{◌≡◌};
+    ghost use Rattle.grpc_frame.specs.declared.place.Place.TheVariants.{InAnswer};
+    ghost use Rattle.client_calls.specs.Outcome.{Line, left_of};
+
+    ghost Value = { Line };
+
+    ghost view = { λ c. record {
+      incoming = record {
+        input = R.remaining c.reader;
+        failed = R.failures c.reader;
+        left = left_of c.stopped c.inbox;
+      };
+      outgoing = record { output = W.contents c.writer; failed = W.failures c.writer };
+    } };
+
+    ghost invariant = { λ c. c.inbox.place ≡ InAnswer };
+}
+
+impl<R: Input, W: Output> Connection<R, W> {
+    /// A connection over these ends, of which nothing came. It takes no memory.
+    pub fn new(alloc: Global, reader: R, writer: W) -> Connection<R, W>
+        ensures { result ≡ record {
+          incoming = record {
+            input = R.remaining reader;
+            failed = R.failures reader;
+            left = Ok (record { bytes = []; place = InAnswer });
+          };
+          outgoing = record { output = W.contents writer; failed = W.failures writer };
+        } }
+    {
+        Connection {
+            inbox: Inbox::of_client(alloc),
+            reader,
+            writer,
+            stopped: None,
+        }
+    }
+
+    /// What is read from.
+    pub fn reader(&self) -> &R
+        ensures input { R.remaining result.now ≡ self.now.incoming.input }
+        ensures failed { R.failures result.now ≡ self.now.incoming.failed }
+    {
+        &self.reader
+    }
+
+    /// What is written to.
+    pub fn writer(&self) -> &W
+        ensures output { W.contents result.now ≡ self.now.outgoing.output }
+        ensures failed { W.failures result.now ≡ self.now.outgoing.failed }
+    {
+        &self.writer
+    }
+
+    // The fault by which a call stopped.
+    pub(crate) fn check(&self) -> Result<(), Fault>
+        ensures { MatchResult result (λ _. IsOpen self.now)
+            (λ fault. self.now.incoming.left ≡ Err fault) }
+    {
+        match self.stopped {
+            None => Ok(()),
+            Some(fault) => Err(fault),
+        }
+    }
+
+    // Writes a call.
+    fn send(&mut self, alloc: Global, method: Method, messages: &[Payload]) -> Result<(), Fault>
+        requires writes { self.old.outgoing.failed < 18446744073709551615 }
+        requires open { IsOpen self.old }
+        ensures { SendsCall result method messages.now self.old self.new }
+    {
+        let written = write_call(alloc, &mut self.writer, method, messages);
+        if written == Err(Fault::Transport) {
+            self.stopped = Some(Fault::Transport);
+        }
+        written
+    }
+
+    // Reads an answer of one message.
+    fn receive_one(&mut self) -> Result<Bytes, Failure>
+        requires reads { self.old.incoming.failed < 18446744073709551615 }
+        requires open { IsOpen self.old }
+        ensures { Receives (AnswersOne (λ message. message) (λ message. Ok message) result)
+            self.old self.new }
+    {
+        match read_one(&mut self.inbox, &mut self.reader) {
+            Ok(answer) => answer,
+            Err(fault) => {
+                self.stopped = Some(fault);
+                Err(Failure::Found(fault))
+            }
+        }
+    }
+
+    // Reads an answer of payloads.
+    fn receive_stream(&mut self, alloc: Global) -> Result<Stream, Failure>
+        requires reads { self.old.incoming.failed < 18446744073709551615 }
+        requires open { IsOpen self.old }
+        ensures { Receives (AnswersStream result) self.old self.new }
+    {
+        match read_stream(alloc, &mut self.inbox, &mut self.reader) {
+            Ok(answer) => answer,
+            Err(fault) => {
+                self.stopped = Some(fault);
+                Err(Failure::Found(fault))
+            }
+        }
+    }
+
+    // Makes a call whose answer is one message.
+    pub(crate) fn call(
+        &mut self,
+        alloc: Global,
+        method: Method,
+        messages: &[Payload],
+    ) -> Result<Bytes, Failure>
+        requires reads { self.old.incoming.failed < 18446744073709551615 }
+        requires writes { self.old.outgoing.failed < 18446744073709551615 }
+        requires open { IsOpen self.old }
+        ensures { Calls method messages.now (AnswersOne (λ message. message) (λ message. Ok message))
+            result self.old self.new }
+    {
+        self.send(alloc, method, messages)?;
+        self.receive_one()
+    }
+
+    // Makes a call whose answer is payloads.
+    pub(crate) fn call_for_stream(
+        &mut self,
+        alloc: Global,
+        messages: &[Payload],
+    ) -> Result<Stream, Failure>
+        requires reads { self.old.incoming.failed < 18446744073709551615 }
+        requires writes { self.old.outgoing.failed < 18446744073709551615 }
+        requires open { IsOpen self.old }
+        ensures { Calls DoGet messages.now AnswersStream result self.old self.new }
+    {
+        self.send(alloc, Method::DoGet, messages)?;
+        self.receive_stream(alloc)
+    }
+}
