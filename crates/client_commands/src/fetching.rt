@@ -1,13 +1,16 @@
 //! Fetching rows over a connection.
 
-ghost use Rattle.std.specs.Prelude.{◌<◌};
+ghost use Rattle.std.specs.Prelude.{◌<◌, map};
+ghost use Rattle.flight_proto.specs.FlightInfo.{endpoint_said};
 ghost use Rattle.flight_proto.specs.Wanted.{wanted_said};
 ghost use Rattle.client_commands.specs.Fetching.{Fetches};
+ghost use Rattle.client_commands.specs.inside.Streams.{GivesStreams};
 
 use client_calls::{Connection, Failure, fetch, info};
 use flight_client::{Rows, Stream, join};
 use flight_proto::{FlightEndpoint, Wanted};
 use grpc_frame::{Input, Output};
+use scan_base::Fault;
 use std::alloc::Global;
 
 /// Fetches what is wanted: asks where it is, fetches the stream of each endpoint in turn, and joins them in that order.
@@ -38,10 +41,14 @@ fn fetch_each<R: Input, W: Output>(
 ) -> Result<Vec<Stream>, Failure>
     requires reads { connection.old.incoming.failed < 18446744073709551615 }
     requires writes { connection.old.outgoing.failed < 18446744073709551615 }
+    ensures { GivesStreams (map endpoint_said endpoints.now) result connection.old connection.new }
 {
     let mut streams = Vec::with_capacity(alloc, endpoints.len())?;
     for endpoint in endpoints {
-        streams.push(fetch(alloc, connection, &endpoint.ticket)?)?;
+        let stream = fetch(alloc, connection, &endpoint.ticket)?;
+        if streams.push(stream).is_err() {
+            return Err(Failure::Found(Fault::OutOfMemory));
+        }
     }
     Ok(streams)
 }

@@ -13,5 +13,5 @@ mod tables;
 mod telling;
 
 pub use crate::put::{Putting, put};
-pub use crate::query::{Query, query};
+pub use crate::query::{Querying, query};
 pub use crate::tables::tables;

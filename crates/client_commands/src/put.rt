@@ -3,7 +3,7 @@
 ghost use Rattle.std.specs.Prelude.{◌≡◌, ◌<◌};
 ghost use Rattle.command_ends.specs.Printing.{said_of};
 ghost use Rattle.command_ends.specs.Whole.{source_of};
-ghost use Rattle.client_commands.specs.Commands.{Puts};
+ghost use Rattle.client_commands.specs.Commands.{Puts, PutsMessages, new_line};
 
 use crate::connecting::end_unconnected;
 use crate::telling::{end_by_failure, end_by_printing};
@@ -37,9 +37,20 @@ pub fn put<C: Connect, I: Input, W: Output, E: Output>(
     requires reads { I.failures input.old < 18446744073709551615 }
     requires writes { W.failures output.old < 18446744073709551615 }
     requires prints { E.failures faults.old < 18446744073709551615 }
+    ensures { Puts (λ line. (reader : C.Reader) × (writer : C.Writer)
+        × C.connects network.old putting.port reader writer network.new
+        × (line ≡ new_line (C.Reader.remaining reader) (C.Reader.failures reader)
+        (C.Writer.contents writer) (C.Writer.failures writer)))
+        putting.target result
+        (source_of (I.remaining input.old) (I.failures input.old))
+        (source_of (I.remaining input.new) (I.failures input.new))
+        (said_of (W.contents output.old) (W.failures output.old))
+        (said_of (W.contents output.new) (W.failures output.new))
+        (said_of (E.contents faults.old) (E.failures faults.old))
+        (said_of (E.contents faults.new) (E.failures faults.new)) }
 {
     match read_messages(alloc, input) {
-        Ok(messages) => put_messages(alloc, network, output, faults, (putting, &messages)),
+        Ok(messages) => put_messages(alloc, network, output, faults, putting, &messages),
         Err(Fault::Transport) => end_by_cause(faults, "cannot read the input"),
         Err(fault) => end_by_fault(faults, fault),
     }
@@ -51,10 +62,20 @@ fn put_messages<C: Connect, W: Output, E: Output>(
     network: &mut C,
     output: &mut W,
     faults: &mut E,
-    (putting, messages): (Putting<'_>, &[IpcMessage]),
+    putting: Putting<'_>,
+    messages: &[IpcMessage],
 ) -> ExitStatus
     requires writes { W.failures output.old < 18446744073709551615 }
     requires prints { E.failures faults.old < 18446744073709551615 }
+    ensures { PutsMessages (λ line. (reader : C.Reader) × (writer : C.Writer)
+        × C.connects network.old putting.port reader writer network.new
+        × (line ≡ new_line (C.Reader.remaining reader) (C.Reader.failures reader)
+        (C.Writer.contents writer) (C.Writer.failures writer)))
+        putting.target messages.now result
+        (said_of (W.contents output.old) (W.failures output.old))
+        (said_of (W.contents output.new) (W.failures output.new))
+        (said_of (E.contents faults.old) (E.failures faults.old))
+        (said_of (E.contents faults.new) (E.failures faults.new)) }
 {
     let (reader, writer) = match network.connect(putting.port) {
         Ok(ends) => ends,

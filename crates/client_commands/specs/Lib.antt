@@ -1,0 +1,4 @@
+pub mod Told
+pub mod Fetching
+pub mod Commands
+pub mod inside
