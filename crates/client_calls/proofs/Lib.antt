@@ -3,3 +3,4 @@ pub mod Ones
 pub mod Streams
 pub mod Sending
 pub mod Calling
+pub mod Payloads

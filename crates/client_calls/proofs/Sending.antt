@@ -8,7 +8,7 @@ use Rattle.std.proofs.lemmas.List.Elements.{All-append, All-cons, All-nil, All-g
 use Rattle.scan_base.specs.declared.fault.Fault.{Fault}
 use Rattle.scan_base.specs.Limits.{most_message_bytes}
 use Rattle.grpc_frame.specs.declared.record.Record.TheVariants.{Open, Message, End}
-use Rattle.grpc_frame.specs.Records.{spelling}
+use Rattle.grpc_frame.specs.Records.{spelling, message_head}
 use Rattle.grpc_frame.specs.Sending.{Sent, NotSent, Sends}
 use Rattle.grpc_frame.specs.Ends.{CountsFailure, FailsByTransport, Writes}
 use Rattle.grpc_frame.proofs.Sending.{head_not_sent, both_sent, second_not_sent, sent_behind, flushed, begun_alone}
@@ -16,6 +16,23 @@ use Rattle.flight_info.specs.Payloads.{Payload}
 use Rattle.client_calls.specs.declared.call.Method.{Method}
 use Rattle.client_calls.specs.Calls.{path_of, call_bytes, Fit}
 use Rattle.client_calls.specs.inside.Parts.{WritesCall, outgoing_of}
+
+-- ---- a message
+
+-- its head was not sent
+pub head_failed : (a b : Option (List ℕ)) (before after payload : List ℕ) (len : ℕ) → len ≡ length payload → NotSent a b before after (message_head len) → NotSent a b before after (spelling (Message payload))
+head_failed a b before after payload len long failed =
+    subst (λ (n : ℕ). NotSent a b before after (message_head n ++ payload)) long (head_not_sent a b before after (message_head len) payload failed)
+
+-- it was, and then its parts were, or not
+pub parts_sent : {A E : Type 0} (r : Result A E) (a b c : Option (List ℕ)) (before mid after head body payload : List ℕ) (len : ℕ) → len ≡ length payload → head ++ body ≡ payload
+    → Sent a b before mid (message_head len) → Sends r b c mid after (head ++ body) → Sends r a c before after (spelling (Message payload))
+parts_sent r a b c before mid after head body payload len long is front behind =
+    sent_behind r a b c before mid after (message_head (length payload)) payload
+    (subst (λ (n : ℕ). Sent a b before mid (message_head n)) long front)
+    (subst (λ (l : List ℕ). Sends r b c mid after l) is behind)
+
+-- ---- a call
 
 -- the bytes of messages
 abbrev pub messages_bytes : List Payload → List ℕ

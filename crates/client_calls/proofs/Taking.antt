@@ -76,12 +76,21 @@ flaw_no_transport (wrong_flag flag) e = absurd cc
 flaw_no_transport (long_message len) e = absurd cc
 flaw_no_transport (bad_text code text) e = absurd cc
 
+-- the place stays, whatever came
+pub place_stays : (result : Result (Option Record) Fault) (old new : Received) (came : List ℕ) → old.place ≡ InAnswer → Arrives result old new came → new.place ≡ InAnswer
+place_stays (Ok (Some found)) old new came place leads = still found old.place new.place place leads.moves
+place_stays (Ok None) old new came place q = ap (λ (r : Received). r.place) q.0 ∙ place
+place_stays (Err fault) old new came place q = ap (λ (r : Received). r.place) q.0 ∙ place
+
 module _ (a b : Option (List ℕ)) (failed failed' : ℕ) (old new : Received) (place : old.place ≡ InAnswer) where
   abbrev Next : Result (Option Record) Fault → Type 0
   Next result = (came : List ℕ) × Consumes a b came × Arrives result old new came
 
   abbrev Gave : Result Arrival Fault → Type 0
   Gave result = (came : List ℕ) × Consumes a b came × ArrivesAs result (incoming_of a failed (Ok old)) (incoming_of b failed' (Ok new)) (with_more old came) new
+
+  pub next_place : (result : Result (Option Record) Fault) → Next result → new.place ≡ InAnswer
+  next_place result q = place_stays result old new q.0 place q.2
 
   pub next_message : (message : Payload) → Next (Ok (Some (Message message))) → failed' ≡ failed → Gave (Ok (arrival.Message message))
   next_message message q quiet = (q.0, q.1, (fronts_one (with_more old q.0) new (Message message) place q.2, quiet))
@@ -111,12 +120,6 @@ module _ (a b : Option (List ℕ)) (failed failed' : ℕ) (old new : Received) (
       by (inl e) = inl (e.0, e.1, inl (counted.0 e.0))
       by (inr (inl e)) = inr (inr e.0, counted.1 (no_memory e.0))
       by (inr (inr breaks)) = inr (inl breaks, counted.1 (no_flaw breaks))
-
--- the place stays, whatever came
-pub place_stays : (result : Result (Option Record) Fault) (old new : Received) (came : List ℕ) → old.place ≡ InAnswer → Arrives result old new came → new.place ≡ InAnswer
-place_stays (Ok (Some found)) old new came place leads = still found old.place new.place place leads.moves
-place_stays (Ok None) old new came place q = ap (λ (r : Received). r.place) q.0 ∙ place
-place_stays (Err fault) old new came place q = ap (λ (r : Received). r.place) q.0 ∙ place
 
 -- ---- the messages so far
 

@@ -1,6 +1,6 @@
 //! Writing a call.
 
-ghost use Rattle.std.specs.Prelude.{◌≡◌, ◌<◌, ◌≤◌, length, true, false, Result};
+ghost use Rattle.std.specs.Prelude.{◌≡◌, ◌++◌, ◌<◌, ◌≤◌, length, true, false, Result};
 ghost use Rattle.scan_base.specs.Limits.{most_path_bytes};
 ghost use Rattle.grpc_frame.specs.declared.record.Record.TheVariants.{Open, Message, End};
 ghost use Rattle.grpc_frame.specs.Records.{spelling};
@@ -74,9 +74,18 @@ impl Payload {
     {
         self.head.len().saturating_add(self.body.len()) <= MAX_MESSAGE_LEN
     }
+
+    // How many bytes it has.
+    fn len(&self) -> usize
+        requires { length self.now ≤ 16777216 }
+        ensures { result ≡ length self.now }
+    {
+        self.head.len() + self.body.len()
+    }
 }
 
 // Each message fits a record.
+#[tactic(auto, using(crate::proofs::Sending::one_fits, crate::proofs::Sending::not_fits))]
 fn all_fit(messages: &[Payload]) -> bool
     ensures yes { result ≡ true → Fit messages.now }
     ensures no { result ≡ false → ¬ Fit messages.now }
@@ -89,8 +98,25 @@ fn all_fit(messages: &[Payload]) -> bool
     true
 }
 
-// Sends an Open.
+// Sends a head, and then the content behind it.
 #[tactic(auto, using(grpc_frame::proofs::Sending::sending))]
+fn send_parts<W: Output>(
+    outbox: &mut Outbox,
+    writer: &mut W,
+    head: &[u8],
+    content: &[u8],
+) -> Result<(), Fault>
+    requires { W.failures writer.old < 18446744073709551615 }
+    ensures bytes { Sends result (W.contents writer.old) (W.contents writer.new)
+        outbox.old outbox.new (head.now ++ content.now) }
+    ensures counted { CountsFailure result (W.failures writer.old) (W.failures writer.new) }
+    ensures kind { FailsByTransport result }
+{
+    outbox.send_part(writer, head)?;
+    outbox.send_part(writer, content)
+}
+
+// Sends an Open.
 fn send_open<W: Output>(outbox: &mut Outbox, writer: &mut W, method: Method) -> Result<(), Fault>
     requires { W.failures writer.old < 18446744073709551615 }
     ensures bytes { Sends result (W.contents writer.old) (W.contents writer.new)
@@ -100,12 +126,10 @@ fn send_open<W: Output>(outbox: &mut Outbox, writer: &mut W, method: Method) -> 
 {
     let path = method.path();
     let [high, low] = (path.len() as u16).to_be_bytes();
-    outbox.send_part(writer, &[OPEN, high, low])?;
-    outbox.send_part(writer, path)
+    send_parts(outbox, writer, &[OPEN, high, low], path)
 }
 
 // Sends a Message.
-#[tactic(auto, using(grpc_frame::proofs::Sending::sending))]
 fn send_payload<W: Output>(
     outbox: &mut Outbox,
     writer: &mut W,
@@ -118,9 +142,8 @@ fn send_payload<W: Output>(
     ensures counted { CountsFailure result (W.failures writer.old) (W.failures writer.new) }
     ensures kind { FailsByTransport result }
 {
-    outbox.send_message_head(writer, message.head.len() + message.body.len())?;
-    outbox.send_part(writer, &message.head)?;
-    outbox.send_part(writer, message.body.as_slice())
+    outbox.send_message_head(writer, message.len())?;
+    send_parts(outbox, writer, &message.head, message.body.as_slice())
 }
 
 // Sends a call.

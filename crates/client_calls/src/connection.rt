@@ -1,6 +1,7 @@
 //! A client's connection.
 
-ghost use Rattle.std.specs.Prelude.{◌≡◌, ◌∷◌, ◌<◌, [], ℕ, List, Ok, MatchResult};
+ghost use Rattle.std.specs.Prelude.{◌≡◌, ◌≢◌, ◌<◌, [], Some, None, Ok, MatchResult};
+ghost use Rattle.scan_base.specs.declared.fault.Fault.TheVariants.{Transport};
 ghost use Rattle.grpc_frame.specs.declared.place.Place.TheVariants.{InAnswer};
 ghost use Rattle.client_calls.specs.declared.call.Method.TheVariants.{DoGet};
 ghost use Rattle.client_calls.specs.Answers.{AnswersOne, AnswersStream};
@@ -47,6 +48,17 @@ impl<R: Input, W: Output> Model for Connection<R, W> {
     } };
 
     ghost invariant = { λ c. c.inbox.place ≡ InAnswer };
+}
+
+// The fault by which a call that was not written stops a connection: a write of it failed.
+fn stop_of(fault: Fault) -> Option<Fault>
+    ensures yes { fault ≡ Transport → result ≡ Some Transport }
+    ensures no { fault ≢ Transport → result ≡ None }
+{
+    match fault {
+        Fault::Transport => Some(fault),
+        _ => None,
+    }
 }
 
 impl<R: Input, W: Output> Connection<R, W> {
@@ -99,20 +111,22 @@ impl<R: Input, W: Output> Connection<R, W> {
     // Writes a call.
     fn send(&mut self, alloc: Global, method: Method, messages: &[Payload]) -> Result<(), Fault>
         requires writes { self.old.outgoing.failed < 18446744073709551615 }
-        requires open { IsOpen self.old }
+        requires is_open { IsOpen self.old }
         ensures { SendsCall result method messages.now self.old self.new }
     {
-        let written = write_call(alloc, &mut self.writer, method, messages);
-        if written == Err(Fault::Transport) {
-            self.stopped = Some(Fault::Transport);
+        match write_call(alloc, &mut self.writer, method, messages) {
+            Ok(()) => Ok(()),
+            Err(fault) => {
+                self.stopped = stop_of(fault);
+                Err(fault)
+            }
         }
-        written
     }
 
     // Reads an answer of one message.
     fn receive_one(&mut self) -> Result<Bytes, Failure>
         requires reads { self.old.incoming.failed < 18446744073709551615 }
-        requires open { IsOpen self.old }
+        requires is_open { IsOpen self.old }
         ensures { Receives (AnswersOne (λ message. message) (λ message. Ok message) result)
             self.old self.new }
     {
@@ -128,7 +142,7 @@ impl<R: Input, W: Output> Connection<R, W> {
     // Reads an answer of payloads.
     fn receive_stream(&mut self, alloc: Global) -> Result<Stream, Failure>
         requires reads { self.old.incoming.failed < 18446744073709551615 }
-        requires open { IsOpen self.old }
+        requires is_open { IsOpen self.old }
         ensures { Receives (AnswersStream result) self.old self.new }
     {
         match read_stream(alloc, &mut self.inbox, &mut self.reader) {
@@ -149,7 +163,7 @@ impl<R: Input, W: Output> Connection<R, W> {
     ) -> Result<Bytes, Failure>
         requires reads { self.old.incoming.failed < 18446744073709551615 }
         requires writes { self.old.outgoing.failed < 18446744073709551615 }
-        requires open { IsOpen self.old }
+        requires is_open { IsOpen self.old }
         ensures { Calls method messages.now (AnswersOne (λ message. message) (λ message. Ok message))
             result self.old self.new }
     {
@@ -165,7 +179,7 @@ impl<R: Input, W: Output> Connection<R, W> {
     ) -> Result<Stream, Failure>
         requires reads { self.old.incoming.failed < 18446744073709551615 }
         requires writes { self.old.outgoing.failed < 18446744073709551615 }
-        requires open { IsOpen self.old }
+        requires is_open { IsOpen self.old }
         ensures { Calls DoGet messages.now AnswersStream result self.old self.new }
     {
         self.send(alloc, Method::DoGet, messages)?;

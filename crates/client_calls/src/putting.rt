@@ -94,6 +94,7 @@ fn command_head(alloc: Global, target: Target<'_>) -> Result<Vec<u8>, AllocError
 }
 
 // A FlightData of a message of the stream, behind what is in its head.
+#[tactic(auto, using(crate::proofs::Payloads::head_and_body))]
 fn payload_of(head: Vec<u8>, message: &IpcMessage) -> Result<Payload, AllocError>
     ensures { IfOk result (λ payload. payload
         ≡ head.items ++ data_bytes None (carried_in message.now)) }
@@ -132,12 +133,14 @@ fn append_payloads(
         ≡ payloads.old.items ++ map (λ message. data_bytes None (carried_in message)) messages.now) }
 {
     for message in messages {
-        payloads.push(payload_of(Vec::new(alloc), message)?)?;
+        let payload = payload_of(Vec::new(alloc), message)?;
+        payloads.push(payload)?;
     }
     Ok(())
 }
 
 // The messages of a put.
+#[tactic(auto, using(crate::proofs::Payloads::first_and_others))]
 fn put_payloads(
     alloc: Global,
     target: Target<'_>,

@@ -1,6 +1,6 @@
-use Rattle.std.proofs.Common.{refl}
+use Rattle.std.proofs.Common.{refl, Some, Ok, Err}
 use Rattle.std.proofs.lemmas.Result.{err_from_is_err_and}
-use Rattle.client_calls.proofs.Taking.{next_message, next_status, next_open, next_end, next_none, next_stop}
+use Rattle.client_calls.proofs.Taking.{next_place, next_message, next_status, next_open, next_end, next_none, next_stop}
 use Rattle.client_calls.proofs.answer.next_arrival.Goals as goal
 
 pub returns-in_err-message-clause-arrives : goal.returns-in_err-message-clause-arrives
@@ -31,3 +31,21 @@ returns-in-Some-End-clause-arrives g c =
 pub returns-clause-arrives : goal.returns-clause-arrives
 returns-clause-arrives g c =
     next_none _ _ _ _ _ _ c.requires.place (rw c.in-None.is at c.in_ok-message.ensures.arrives) ((rw c.in-None.is at c.in_ok-message.ensures.end) refl) c.in_ok-message.ensures.counted
+
+pub returns-in_err-message-clause-place : goal.returns-in_err-message-clause-place
+returns-in_err-message-clause-place g c = next_place _ _ 0 0 _ _ c.requires.place (Err c.in_err-message.field-0.0) c.in_err-message.ensures.arrives
+
+pub returns-in-Some-Message-clause-place : goal.returns-in-Some-Message-clause-place
+returns-in-Some-Message-clause-place g c = next_place _ _ 0 0 _ _ c.requires.place (Ok _) c.in_ok-message.ensures.arrives
+
+pub returns-in-Some-Status-clause-place : goal.returns-in-Some-Status-clause-place
+returns-in-Some-Status-clause-place g c = next_place _ _ 0 0 _ _ c.requires.place (Ok _) c.in_ok-message.ensures.arrives
+
+pub returns-in-Some-Open-clause-place : goal.returns-in-Some-Open-clause-place
+returns-in-Some-Open-clause-place g c = next_place _ _ 0 0 _ _ c.requires.place (Ok _) c.in_ok-message.ensures.arrives
+
+pub returns-in-Some-End-clause-place : goal.returns-in-Some-End-clause-place
+returns-in-Some-End-clause-place g c = next_place _ _ 0 0 _ _ c.requires.place (Ok _) c.in_ok-message.ensures.arrives
+
+pub returns-clause-place : goal.returns-clause-place
+returns-clause-place g c = next_place _ _ 0 0 _ _ c.requires.place (Ok _) c.in_ok-message.ensures.arrives
