@@ -91,6 +91,38 @@ class Question:
         return wire.query_handle(version, first, end, self.text)
 
 
+class Questions:
+    """Questions at random over the versions so far, whose list may grow."""
+
+    def __init__(self, random: Random, versions: list[Database], of_tables: bool):
+        self.random, self.versions, self.of_tables = random, versions, of_tables
+
+    def question(self) -> Question:
+        """A query over the tables of now or before, a text that does not parse, or the tables."""
+        chance, newest = self.random.random(), self.versions[-1]
+        if chance < 0.1 and self.of_tables:
+            no_schemas = wire.scalar(5, 0) if self.random.random() < 0.2 else b""
+            return Question("the tables", self.descriptor(TABLES, no_schemas))
+        query, fault = None, None
+        if chance < 0.96:
+            query = Asker(self.random, newest if chance < 0.9 else self.random.choice(self.versions)).query()
+            text = Speller(self.random).query(query)
+        else:
+            text, fault = no_sentence(self.random, newest)
+        if len(text.encode()) > LONGEST_TEXT:
+            fault = "F12"
+        return Question(repr(text), self.descriptor(QUERY, wire.chunk(1, text.encode())), text.encode(), query, fault)
+
+    def descriptor(self, name: bytes, command: bytes) -> bytes:
+        """A descriptor of a command, written in one of the ways that mean it."""
+        prefix = self.random.choice([wire.PACKAGE, wire.PACKAGE, b"/arrow.flight.protocol.sql.", b"a/b" + wire.PACKAGE])
+        fields = [wire.scalar(1, 2), wire.chunk(2, wire.chunk(1, prefix + name) + wire.chunk(2, command))]
+        if self.random.random() < 0.3:
+            fields += [wire.scalar(1, 2), wire.chunk(9, b"unknown"), wire.chunk(3, b"path")]
+            self.random.shuffle(fields)
+        return b"".join(fields)
+
+
 @dataclass
 class Info:
     """An info that was given, with the tables as they then stood, and what its endpoints gave."""
@@ -115,6 +147,7 @@ class Interleaving:
         self.random, self.asks, self.seed = Random(seed), infos, seed
         self.parts = self.random.choice([1, 2, 3, 7, 63, 64, self.random.randint(1, 64)])
         self.versions: list[Database] = [{}]
+        self.questions = Questions(self.random, self.versions, infos)
         self.calls: list[Call] = []
         self.infos: list[Info] = []
         self.waiting: list[tuple[Info, int]] = []  # endpoints that are still to be fetched
@@ -143,34 +176,9 @@ class Interleaving:
 
     # ---- infos and schemas
 
-    def question(self) -> Question:
-        """A query over the tables of now or before, a text that does not parse, or the tables."""
-        chance, newest = self.random.random(), self.versions[-1]
-        if chance < 0.1 and self.asks:
-            no_schemas = wire.scalar(5, 0) if self.random.random() < 0.2 else b""
-            return Question("the tables", self.descriptor(TABLES, no_schemas))
-        query, fault = None, None
-        if chance < 0.96:
-            query = Asker(self.random, newest if chance < 0.9 else self.random.choice(self.versions)).query()
-            text = Speller(self.random).query(query)
-        else:
-            text, fault = no_sentence(self.random, newest)
-        if len(text.encode()) > LONGEST_TEXT:
-            fault = "F12"
-        return Question(repr(text), self.descriptor(QUERY, wire.chunk(1, text.encode())), text.encode(), query, fault)
-
-    def descriptor(self, name: bytes, command: bytes) -> bytes:
-        """A descriptor of a command, written in one of the ways that mean it."""
-        prefix = self.random.choice([wire.PACKAGE, wire.PACKAGE, b"/arrow.flight.protocol.sql.", b"a/b" + wire.PACKAGE])
-        fields = [wire.scalar(1, 2), wire.chunk(2, wire.chunk(1, prefix + name) + wire.chunk(2, command))]
-        if self.random.random() < 0.3:
-            fields += [wire.scalar(1, 2), wire.chunk(9, b"unknown"), wire.chunk(3, b"path")]
-            self.random.shuffle(fields)
-        return b"".join(fields)
-
     def ask(self) -> None:
         """An info, whose endpoints then wait to be fetched; or its fault."""
-        question, database, version = self.question(), self.versions[-1], len(self.versions) - 1
+        question, database, version = self.questions.question(), self.versions[-1], len(self.versions) - 1
         said = f"info {len(self.infos) + 1} of {question.said}"
         try:
             columns, ranges = question.columns(database), question.ranges(database, self.parts)
@@ -186,7 +194,7 @@ class Interleaving:
 
     def schema(self) -> None:
         """A schema, or its fault."""
-        question = self.question()
+        question = self.questions.question()
         try:
             wanted = SchemaResult(question.columns(self.versions[-1]))
         except Refused as refused:
@@ -208,7 +216,7 @@ class Interleaving:
 
     def stray(self) -> None:
         """A fetch by a ticket that no info gave: of any version and range."""
-        question, version = self.question(), self.random.randrange(len(self.versions) + 1)
+        question, version = self.questions.question(), self.random.randrange(len(self.versions) + 1)
         first = end = 0
         try:
             model.demand(version < len(self.versions), "F18")

@@ -1,7 +1,10 @@
 //! Cases, line by line.
 
 use crate::answers::push_answer;
-use commands::run::run;
+use command_line::Request;
+use commands::pipe::pipe;
+use commands::words::read_words;
+use flight_calls::Options;
 use grpc_frame::{Inbox, MemoryInput, MemoryOutput};
 use hash_seed::HashSeed;
 use scan_base::Fault;
@@ -98,13 +101,18 @@ impl Cases {
         let mut reader = MemoryInput::new(&input);
         let mut writer = MemoryOutput::new(alloc);
         let mut faults = MemoryOutput::new(alloc);
-        let status = run(
+        let Ok(Request::Pipe { parts, workers }) = read_words(alloc, &words, &mut faults) else {
+            return Err(Fault::BadFrame);
+        };
+        let workers = workers as usize;
+        let options = Options { parts, workers };
+        let status = pipe(
             alloc,
             self.seed,
-            &words,
             &mut reader,
             &mut writer,
             &mut faults,
+            options,
         )
         .number();
         let mut inbox = Inbox::of_client(alloc);

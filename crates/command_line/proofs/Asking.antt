@@ -1,24 +1,72 @@
--- The number of parts that words ask for.
-use Rattle.std.proofs.Common.{◌≡◌, ◌≤◌, ◌<◌, ◌^◌, ℕ, List, Option, Some, None, Result, Ok, Err, refl, arith, max, min, unwrap_or}
-use Rattle.std.specs.Str.Parse.{ParsesUnsigned, digits_value, without_leading_plus}
-use Rattle.clap.specs.Words.{Text}
-use Rattle.clap.specs.Matches.{ReadsOne}
-use Rattle.command_line.specs.Line.{SaysParts}
+-- What words ask for.
+use Rattle.std.proofs.Common.{◌≡◌, ◌∙◌, ap, ap₂, refl, sym, false, true, Bool, List, Option, Some, None, Box, Result, Err, subst, option_map, unwrap_or, Bor}
+use Rattle.std.proofs.lemmas.Option.{none-some, same_Some}
+use Rattle.clap.specs.Words.{App, FailsBy, HasKind, HasMatchesOf, IsParsedFrom, Row, Text, app_of, fault_of, has_subcommand, subcommand_of, subcommand_rows, is_simple, is_simple_and_free}
+use Rattle.clap.specs.Matches.{subcommand_name_of}
+use Rattle.clap.specs.declared.builder.command.Command.{Command}
+use Rattle.clap.specs.declared.builder.command.Command.TheViews.{out-Command}
+use Rattle.clap.specs.declared.builder.value_parser.ValueParser.{ValueParser}
+use Rattle.clap.specs.declared.error.Error.{Error}
+use Rattle.clap.specs.declared.parser.matches.ArgMatches.{ArgMatches}
+use Rattle.clap.specs.declared.parser.matches.ArgMatches.TheViews.{out-ArgMatches, out-SubCommand}
+use Rattle.clap.specs.declared.parser.matches.SubCommand.{SubCommand}
+use Rattle.clap.proofs.OnLiterals.{clap_on_literals}
+use Rattle.std.specs.Box.{box_value}
+use Rattle.command_line.specs.Line.{program}
+use Rattle.command_line.specs.Request.{Asks, IsAskedBy}
+use Rattle.command_line.specs.declared.request.Request.{Request}
 
--- a number that is within the bounds stays
-stays : (n : ℕ) → 1 ≤ n → n ≤ 64 → max 1 (min n 64) ≡ n
-stays n least most = omega (arith, least, most)
+-- what a getter of a text gives
+pub text_is : (given : Option (Bor Text)) (default : Bor Text) (text : Option Text) → option_map (λ x. x.now) given ≡ text
+    → (unwrap_or given default).now ≡ unwrap_or text default.now
+text_is (Some x) default text is = rw (← is) refl
+text_is None default text is = rw (← is) refl
 
--- what a getter reads of the option's text
-pub says_parts : {E : Type 0} (G : List ℕ → Result ℕ E → Type 0) → ((u : List ℕ) (x : Result ℕ E) → G u x → ParsesUnsigned 32 10 u x)
-    → (text : Option Text) (read : Option ℕ) → (text ≡ None → read ≡ None) → ((t : Text) → text ≡ Some t → ReadsOne G t read)
-    → SaysParts text (max 1 (min (unwrap_or read 1) 64))
-says_parts G parses None read none some = rw (none refl) refl
-says_parts G parses (Some text) None none some = λ passed.
-    let read = some text refl in
-    let small : digits_value 10 (without_leading_plus text) < 2 ^ 32 = omega (arith, passed.3) in
-    absurd (parses text (Err read.0) read.1 (passed.0, small))
-says_parts G parses (Some text) (Some n) none some = λ passed.
-    let parsed = parses text (Ok n) (some text refl) in
-    let is : n ≡ digits_value 10 (without_leading_plus text) = parsed.1 in
-    rw is (stays (digits_value 10 (without_leading_plus text)) passed.2 passed.3)
+-- clap's definitions speak of the program
+is_free : (modes : ValueParser) → is_simple_and_free (program modes) ≡ true
+unfolding clap_on_literals
+is_free modes = refl
+
+simple : (modes : ValueParser) → is_simple (program modes) ≡ true
+unfolding clap_on_literals
+simple modes = refl
+
+module _ {Z : Type 0} where
+  -- a subcommand by its name and its rows
+  entered : (met : Option (Box SubCommand Z)) (name : Text) (rows : List Row)
+      → option_map (λ b. (out-SubCommand (box_value b)).name.now) met ≡ Some name
+      → option_map (λ (p : Text × List Row). p.1) (subcommand_rows met) ≡ Some rows
+      → subcommand_rows met ≡ Some (name, rows)
+  entered None name rows named has = absurd (none-some _ named)
+  entered (Some met) name rows named has = ap Some (ap₂ (λ (x : Text) (y : List Row). (x, y)) (same_Some _ _ named) (same_Some _ _ has))
+
+-- the program, as clap built it
+pub free_of : (command : Command) (modes : ValueParser) → app_of command ≡ program modes → is_simple_and_free (app_of command) ≡ true
+free_of command modes is = ap is_simple_and_free is ∙ is_free modes
+
+-- an error of a parse is one of the faults of the words
+pub fails_by : {A : Type 0} (r : Result A Error) (words : List Text) (command : Command) (modes : ValueParser) (e y : Error) → app_of command ≡ program modes
+    → r ≡ Err y → y ≡ e → HasKind (fault_of (app_of command) words) e → FailsBy (fault_of (program modes) words) r
+fails_by r words command modes e y is fails same kind = rw (fails, same) (subst (λ (a : App). HasKind (fault_of a words) e) is kind)
+
+-- the subcommand that was met is what the words name
+pub asked : (modes : ValueParser) (words : List Text) (command : Command) (matches : ArgMatches) (name : Text) (rows : List Row) (request : Request)
+    → app_of command ≡ program modes → HasMatchesOf (app_of command) words matches
+    → subcommand_name_of matches ≡ Some name
+    → option_map (λ (p : Text × List Row). p.1) (subcommand_rows (out-ArgMatches matches).subcommand) ≡ Some rows
+    → Asks (name, rows) request → IsAskedBy modes words request
+asked modes words command matches name rows request is has named given asks =
+    let found : subcommand_of (program modes) words ≡ Some (name, rows) =
+    ap (λ (a : App). subcommand_of a words) (sym is) ∙ sym ((has (ap is_simple is ∙ simple modes)).1)
+    ∙ entered (out-ArgMatches matches).subcommand name rows named given in
+    rw found asks
+
+pub not_both : (met : Bool) → false ≡ met → met ≡ true → ⊥
+not_both met lacks has = cc
+
+-- a command has to be given
+pub not_bare : (command : Command) (modes : ValueParser) (matches : ArgMatches) → app_of command ≡ program modes → (out-Command command).has_globals ≡ false
+    → IsParsedFrom command matches → has_subcommand matches ≡ true
+not_bare command modes matches is local parsed =
+    let required : (out-Command command).subcommand_required ≡ true = ap (λ (a : App). a.top.subcommand_required) is in
+    (parsed.parsed (parsed.from.globals ∙ local)).checked.subcommand (parsed.from.needs_subcommand ∙ required)

@@ -1,1 +1,3 @@
+pub mod Numbers
 pub mod Line
+pub mod Request

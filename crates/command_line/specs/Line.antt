@@ -1,41 +1,74 @@
 -- The command line, as clap's own definitions say it.
-use Rattle.std.specs.Prelude.{◌≡◌, ◌≤◌, ℕ, true, List, Option, Some, None, option_and_then, codes}
-use Rattle.std.specs.Str.Parse.{digits_value, without_leading_plus}
-use Rattle.clap.specs.Words.{IsUnsignedIn, Rule, Text, new_rule, one_of}
-use Rattle.clap.specs.Simple.{App, new_app, with_rule, with_subcommand, subcommand_of}
-use Rattle.clap.specs.declared.builder.action.ArgAction.TheVariants.{Set}
-use Rattle.clap.specs.declared.builder.value_parser.ValueParser.TheVariants.{Unsigned}
-use Rattle.command_line.specs.declared.Task.{Task}
-use Rattle.command_line.specs.declared.Task.TheVariants.{Pipe}
+use Rattle.std.specs.Prelude.{◌≡◌, true, List, [], ◌∷◌, map, Some, None, codes}
+use Rattle.clap.specs.Words.{Rule, Text}
+use Rattle.clap.specs.Simple.{App, new_app, with_rule, with_subcommand}
+use Rattle.clap.specs.declared.builder.value_parser.ValueParser.{ValueParser}
+use Rattle.clap.specs.declared.builder.value_parser.ValueParser.TheVariants.{Names}
+use Rattle.command_line.specs.Numbers.{text_rule, number_rule, parts_taken, workers_taken, seats_taken, accept_taken, streams_taken, port_taken}
 
--- `--parts`, a number from 1 to 64
+-- ---- options
+
 abbrev pub parts_rule : Rule
-parts_rule = record (new_rule (codes "parts")) {
-  long = Some (codes "parts");
-  action = Some Set;
-  parser = Some (Unsigned 1 64);
-}
+parts_rule = number_rule (codes "parts") parts_taken
 
--- a command with that option
+abbrev pub workers_rule : Rule
+workers_rule = number_rule (codes "workers") workers_taken
+
+-- an option that has to be given
+abbrev pub required_rule : Rule → Rule
+required_rule rule = record rule { required = true }
+
+abbrev pub port_rule : Rule
+port_rule = required_rule (number_rule (codes "port") port_taken)
+
+abbrev pub table_rule : Rule
+table_rule = required_rule (text_rule (codes "table"))
+
+-- `--mode`, whose values a parser takes
+abbrev pub mode_rule : ValueParser → Rule
+mode_rule modes = required_rule (record (text_rule (codes "mode")) { parser = Some modes })
+
+-- the query, which has no name before it
+abbrev pub sql_rule : Rule
+sql_rule = required_rule (record (text_rule (codes "sql")) { long = None })
+
+-- a parser that takes these names
+abbrev pub TakesNames : List Text → ValueParser → Type 0
+TakesNames taken (Names names) = map (λ name. name.now) names.now ≡ taken
+TakesNames taken _ = ⊥
+
+-- the names of the modes
+abbrev pub mode_names : List Text
+mode_names = codes "create" ∷ codes "append" ∷ codes "replace" ∷ []
+
+-- ---- commands
+
 abbrev pub pipe : App
-pipe = with_rule (new_app (codes "pipe")) parts_rule
+pipe = with_rule (with_rule (new_app (codes "pipe")) parts_rule) workers_rule
 
--- a program with this one command, which has to be given
-abbrev pub program : App
-program =
+abbrev pub serve : App
+serve =
+    let at = with_rule (new_app (codes "serve")) port_rule in
+    let seats = with_rule at (number_rule (codes "seats") seats_taken) in
+    let accept = with_rule seats (number_rule (codes "accept") accept_taken) in
+    with_rule (with_rule accept parts_rule) workers_rule
+
+abbrev pub put : ValueParser → App
+put modes = with_rule (with_rule (with_rule (new_app (codes "put")) port_rule) table_rule) (mode_rule modes)
+
+abbrev pub query : App
+query =
+    let at = with_rule (new_app (codes "query")) port_rule in
+    with_rule (with_rule at (number_rule (codes "streams") streams_taken)) sql_rule
+
+abbrev pub tables : App
+tables = with_rule (new_app (codes "tables")) port_rule
+
+-- the program and its commands, one of which has to be given
+abbrev pub program : ValueParser → App
+program modes =
     let named = new_app (codes "flightscan") in
-    with_subcommand (record named { top = record named.top { subcommand_required = true } }) pipe.top
-
--- the text of `--parts`, where the words have it
-abbrev pub parts_text : List Text → Option Text
-parts_text words = option_and_then (λ entered. one_of (codes "parts") entered.1) (subcommand_of program words)
-
--- How many parts a text says: its number, or 1 where there is no text. Nothing is said of a text that is no number from
--- 1 to 64, which clap's definitions refuse.
-abbrev pub SaysParts : Option Text → ℕ → Type 0
-SaysParts None parts = parts ≡ 1
-SaysParts (Some text) parts = IsUnsignedIn 1 64 text → parts ≡ digits_value 10 (without_leading_plus text)
-
--- what the words ask for
-abbrev pub Asks : List Text → Task → Type 0
-Asks words (Pipe parts) = SaysParts (parts_text words) parts × (1 ≤ parts) × (parts ≤ 64)
+    let bare = record named { top = record named.top { subcommand_required = true } } in
+    let served = with_subcommand (with_subcommand bare pipe.top) serve.top in
+    let putting = with_subcommand served (put modes).top in
+    with_subcommand (with_subcommand putting query.top) tables.top

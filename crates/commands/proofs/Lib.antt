@@ -1,2 +1,2 @@
-pub mod Saying
 pub mod Refusing
+pub mod Serving

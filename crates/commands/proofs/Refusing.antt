@@ -1,12 +1,13 @@
 -- Words that are refused.
-use Rattle.std.proofs.Common.{◌≡◌, ◌≢◌, ◌⊎◌, [], ◌∷◌, Option, inl, inr}
-use Rattle.clap.specs.Words.{Kinds, IsAmong, Text}
+use Rattle.std.proofs.Common.{◌≡◌, ◌≢◌, ◌⊎◌, List, [], ◌∷◌, Err, inl, inr}
+use Rattle.clap.specs.Words.{Kinds, IsAmong, Text, fault_of}
+use Rattle.clap.specs.declared.builder.value_parser.ValueParser.{ValueParser}
 use Rattle.clap.specs.declared.error.kind.ErrorKind.{ErrorKind}
 use Rattle.clap.specs.declared.error.kind.ErrorKind.TheVariants.{OutOfMemory}
-use Rattle.flight_calls.specs.Owed.{Connection}
-use Rattle.commands.specs.Pipe.{Said}
-use Rattle.commands.specs.Run.{Runs, RefusesFor}
-use Rattle.commands.specs.declared.exit_status.ExitStatus.{ExitStatus}
+use Rattle.command_line.specs.Line.{program}
+use Rattle.command_ends.specs.Printing.{Said}
+use Rattle.command_ends.specs.declared.exit_status.ExitStatus.{ExitStatus}
+use Rattle.commands.specs.Words.{ReadsWords, RefusesFor}
 
 -- a kind that is among these
 some_kind : (found : ErrorKind) (kinds : Kinds) → IsAmong found kinds → kinds ≢ []
@@ -14,8 +15,8 @@ some_kind found [] among = absurd among
 some_kind found (kind ∷ kinds) among = λ e. cc
 
 -- an error of such a kind
-pub refused : (kinds : Kinds) (text : Option Text) (found : ErrorKind) (status : ExitStatus) (untouched : Type 0) (old new : Connection) (said said' : Said)
-    → (found ≡ OutOfMemory) ⊎ IsAmong found kinds → RefusesFor found status said said' → untouched → Runs kinds text status untouched old new said said'
-refused kinds text found status untouched old new said said' cause (inl lacks) same = inr (same, inl lacks.1)
-refused kinds text found status untouched old new said said' (inl memory) (inr refuses) same = absurd (refuses.0 memory)
-refused kinds text found status untouched old new said said' (inr among) (inr refuses) same = inr (same, inr (some_kind found kinds among, refuses.1))
+pub refused : (modes : ValueParser) (words : List Text) (found : ErrorKind) (status : ExitStatus) (said said' : Said)
+    → (found ≡ OutOfMemory) ⊎ IsAmong found (fault_of (program modes) words) → RefusesFor found status said said' → ReadsWords modes words (Err status) said said'
+refused modes words found status said said' cause (inl lacks) = inl lacks.1
+refused modes words found status said said' (inl memory) (inr refuses) = absurd (refuses.0 memory)
+refused modes words found status said said' (inr among) (inr refuses) = inr (some_kind found _ among, refuses.1)

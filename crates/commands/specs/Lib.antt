@@ -1,3 +1,3 @@
-pub mod Status
 pub mod Pipe
-pub mod Run
+pub mod Serve
+pub mod Words

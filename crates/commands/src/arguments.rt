@@ -2,10 +2,10 @@
 
 ghost use Rattle.std.specs.Prelude.{◌≡◌, ◌≢◌, ◌<◌};
 ghost use Rattle.std.specs.declared.io.ErrorKind.TheVariants as cause;
-ghost use Rattle.commands.specs.Run.{LacksMemory, HasNoText};
+ghost use Rattle.command_ends.specs.Printing.{said_of};
+ghost use Rattle.commands.specs.Words.{LacksMemory, HasNoText};
 
-use crate::ending::end_by_fault;
-use crate::exit_status::ExitStatus;
+use command_ends::{ExitStatus, end_by_fault};
 use grpc_frame::Output;
 use scan_base::Fault;
 use std::io::ErrorKind;
@@ -17,11 +17,11 @@ const NO_TEXT: &[u8] = b"error: a word of the command line is not UTF-8\n";
 pub fn refuse_arguments<E: Output>(why: ErrorKind, faults: &mut E) -> ExitStatus
     requires { E.failures faults.old < 18446744073709551615 }
     ensures memory { why ≡ cause.OutOfMemory → LacksMemory result
-        (record { bytes = E.contents faults.old; failures = E.failures faults.old })
-        (record { bytes = E.contents faults.new; failures = E.failures faults.new }) }
+        (said_of (E.contents faults.old) (E.failures faults.old))
+        (said_of (E.contents faults.new) (E.failures faults.new)) }
     ensures text { why ≢ cause.OutOfMemory → HasNoText result
-        (record { bytes = E.contents faults.old; failures = E.failures faults.old })
-        (record { bytes = E.contents faults.new; failures = E.failures faults.new }) }
+        (said_of (E.contents faults.old) (E.failures faults.old))
+        (said_of (E.contents faults.new) (E.failures faults.new)) }
 {
     if why == ErrorKind::OutOfMemory {
         return end_by_fault(faults, Fault::OutOfMemory);

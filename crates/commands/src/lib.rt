@@ -1,10 +1,11 @@
-//! The commands of the program, as functions over what they read from, write to and print on.
+//! The commands of the server, as functions over the network, what they read from and what they print on; and the reading
+//! of the program's words.
 //!
-//! `specs/Pipe.antt` says what `pipe` does, and `specs/Run.antt` what becomes of the program's words.
+//! `specs/Pipe.antt` says what `pipe` does, `specs/Serve.antt` what `serve` does, and `specs/Words.antt` what becomes of the
+//! program's words.
 #![tactic(auto)]
 
 pub mod arguments;
-pub mod ending;
-pub mod exit_status;
 pub mod pipe;
-pub mod run;
+pub mod serve;
+pub mod words;

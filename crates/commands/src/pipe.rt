@@ -3,10 +3,10 @@
 ghost use Rattle.std.specs.Prelude.{◌<◌, []};
 ghost use Rattle.flight_calls.specs.Seats.{Seat, seat_of};
 ghost use Rattle.flight_calls.specs.Owed.{connection_of};
+ghost use Rattle.command_ends.specs.Printing.{said_of};
 ghost use Rattle.commands.specs.Pipe.{Pipes};
 
-use crate::ending::end_by_fault;
-use crate::exit_status::ExitStatus;
+use command_ends::{ExitStatus, end_by_fault};
 use flight_calls::{Options, serve_alone};
 use grpc_frame::{Input, Output};
 use hash_seed::HashSeed;
@@ -30,8 +30,8 @@ pub fn pipe<R: Input, W: Output, E: Output>(
         (R.failures reader.old) (W.failures writer.old) (seat_of [] 0))
         (connection_of (R.remaining reader.new) (W.contents writer.new)
         (R.failures reader.new) (W.failures writer.new) seat)
-        (record { bytes = E.contents faults.old; failures = E.failures faults.old })
-        (record { bytes = E.contents faults.new; failures = E.failures faults.new }) }
+        (said_of (E.contents faults.old) (E.failures faults.old))
+        (said_of (E.contents faults.new) (E.failures faults.new)) }
 {
     match serve_alone(alloc, seed, reader, writer, options) {
         Ok(()) => ExitStatus::Done,

@@ -4,6 +4,10 @@
 #[cfg(test)]
 mod calls;
 #[cfg(test)]
+mod clients;
+#[cfg(test)]
+mod command_lines;
+#[cfg(test)]
 mod first_run;
 #[cfg(test)]
 mod program;

@@ -9,7 +9,6 @@ use crate::first_run::{
 };
 use commands::arguments::refuse_arguments;
 use commands::pipe::pipe;
-use commands::run::run;
 use flight_calls::Options;
 use grpc_frame::{Input, MemoryInput, MemoryOutput, Output};
 use hash_seed::HashSeed;
@@ -414,89 +413,6 @@ fn a_fault_that_cannot_be_printed(rt: HostRuntime) {
         assert!(rt; writer.as_slice() == BAD_FRAME);
         assert!(rt; BAD_FRAME_LINE.starts_with(faults.as_slice()));
     }
-}
-
-// The first word is the program's name.
-fn words(alloc: Global, line: &[&str]) -> Result<Vec<String>, AllocError> {
-    let mut words = Vec::new(alloc);
-    words.push(String::from_str(alloc, "flightscan")?)?;
-    for word in line {
-        words.push(String::from_str(alloc, word)?)?;
-    }
-    Ok(words)
-}
-
-// Command lines that are refused, and the first words that are printed.
-static REFUSED: [(&'static [&'static str], &'static [u8]); 10] = [
-    (&[], b"error: "),
-    (&["pipes"], b"error: unrecognized subcommand 'pipes'"),
-    (
-        &["pipe", "more"],
-        b"error: unexpected argument 'more' found",
-    ),
-    (
-        &["pipe", "--parts", "0"],
-        b"error: invalid value '0' for '--parts <parts>': 0 is not in 1..=64",
-    ),
-    (
-        &["pipe", "--parts=65"],
-        b"error: invalid value '65' for '--parts <parts>': 65 is not in 1..=64",
-    ),
-    (
-        &["pipe", "--parts", "two"],
-        b"error: invalid value 'two' for '--parts <parts>'",
-    ),
-    (&["--help"], b"Usage: flightscan"),
-    (&["help"], b"Usage: flightscan"),
-    (&["pipe", "--help"], b"Usage: flightscan pipe"),
-    (&["pipe", "-h"], b"Usage: flightscan pipe"),
-];
-
-// Each read and each write would fail, and be counted.
-#[test]
-fn refused_command_lines(rt: HostRuntime) -> Result<(), Fail> {
-    for (line, text) in &REFUSED {
-        let words = words(rt.alloc(), line)?;
-        let mut reader = MemoryInput::new(b"\x05").failing_after(0);
-        let mut writer = MemoryOutput::new(rt.alloc()).failing_after(0);
-        let mut faults = MemoryOutput::new(rt.alloc());
-        let seed = HashSeed::new(&rt)?;
-        let status = run(
-            rt.alloc(),
-            seed,
-            &words,
-            &mut reader,
-            &mut writer,
-            &mut faults,
-        )
-        .number();
-        assert!(rt; status == 2);
-        assert!(rt; reader.failures() == 0 && writer.failures() == 0);
-        assert!(rt; faults.as_slice().starts_with(text));
-    }
-    Ok(())
-}
-
-#[test]
-fn the_command_pipe(rt: HostRuntime) -> Result<(), Fail> {
-    let words = words(rt.alloc(), &["pipe"])?;
-    let mut reader = MemoryInput::new(PUT);
-    let mut writer = MemoryOutput::new(rt.alloc());
-    let mut faults = MemoryOutput::new(rt.alloc());
-    let seed = HashSeed::new(&rt)?;
-    let status = run(
-        rt.alloc(),
-        seed,
-        &words,
-        &mut reader,
-        &mut writer,
-        &mut faults,
-    )
-    .number();
-    assert!(rt; status == 0);
-    assert!(rt; writer.as_slice() == PUT_ANSWER);
-    assert!(rt; faults.as_slice() == NOTHING);
-    Ok(())
 }
 
 // The system's words that cannot be read: there was no memory for them, or one is not UTF-8.

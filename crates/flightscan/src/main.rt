@@ -1,35 +1,127 @@
-//! The program `flightscan`. Its one command so far is `pipe`.
+//! The program `flightscan`: reads the command line, and calls the command that it names with the standard streams, the
+//! sockets and the random bytes of the system.
 #![tactic(auto)]
 
+ghost use Rattle.std.specs.Prelude.{◌<◌};
+
+use client_calls::Target;
+use client_commands::put::{Putting, put};
+use client_commands::query::{Querying, query};
+use client_commands::tables::tables;
+use command_ends::{ExitStatus, end_by_fault};
+use command_line::{Mode, Request};
 use commands::arguments::refuse_arguments;
-use commands::ending::end_by_fault;
-use commands::run::run;
-use grpc_frame::Counted;
+use commands::pipe::pipe;
+use commands::serve::serve;
+use commands::words::read_words;
+use flight_calls::Options;
+use grpc_frame::{Counted, Input, Output};
 use hash_seed::HashSeed;
+use loopback::{Loopback, Port};
 use scan_base::Fault;
 use std::io::ErrorKind;
+use std::net::{Net, TcpListener, TcpStream};
 use std::process::ExitCode;
+use std::random::RandomSource;
+
+// The mode of a put, as the client calls it.
+fn mode_of(mode: Mode) -> client_calls::Mode {
+    match mode {
+        Mode::Create => client_calls::Mode::Create,
+        Mode::Append => client_calls::Mode::Append,
+        Mode::Replace => client_calls::Mode::Replace,
+    }
+}
+
+// Runs a command that serves, with hashes that begin with a secret of the system's. Where the system gives no random
+// bytes, this end fails, as where it does not read or write.
+fn run_server<R, I: Input, W: Output, E: Output>(
+    rt: &R,
+    request: Request<'_>,
+    input: &mut I,
+    output: &mut W,
+    faults: &mut E,
+) -> ExitStatus
+where
+    R: Net<Listener = TcpListener, Stream = TcpStream> + RandomSource + AllocGlobal,
+    requires reads { I.failures input.old < 18446744073709551615 }
+    requires writes { W.failures output.old < 18446744073709551615 }
+    requires prints { E.failures faults.old < 18446744073709551615 }
+{
+    let Ok(seed) = HashSeed::new(rt) else {
+        return end_by_fault(faults, Fault::Transport);
+    };
+    match request {
+        Request::Serve(serving) => {
+            serve(
+                rt.alloc(),
+                seed,
+                &mut Port::new(rt),
+                output,
+                faults,
+                serving,
+            )
+        }
+        Request::Pipe { parts, workers } => {
+            let workers = workers as usize;
+            let options = Options { parts, workers };
+            pipe(rt.alloc(), seed, input, output, faults, options)
+        }
+        _ => ExitStatus::BadCommandLine,
+    }
+}
+
+// Runs a command.
+fn run<R, I: Input, W: Output, E: Output>(
+    rt: &R,
+    request: Request<'_>,
+    input: &mut I,
+    output: &mut W,
+    faults: &mut E,
+) -> ExitStatus
+where
+    R: Net<Listener = TcpListener, Stream = TcpStream> + RandomSource + AllocGlobal,
+    requires reads { I.failures input.old < 18446744073709551615 }
+    requires writes { W.failures output.old < 18446744073709551615 }
+    requires prints { E.failures faults.old < 18446744073709551615 }
+{
+    let mut network = Loopback::new(rt);
+    match request {
+        Request::Put { port, table, mode } => {
+            let mode = mode_of(mode);
+            let target = Target { table, mode };
+            let putting = Putting { port, target };
+            put(rt.alloc(), &mut network, input, output, faults, putting)
+        }
+        Request::Query { port, sql, .. } => {
+            query(
+                rt.alloc(),
+                &mut network,
+                output,
+                faults,
+                Querying { port, sql },
+            )
+        }
+        Request::Tables { port } => tables(rt.alloc(), &mut network, output, faults, port),
+        request => run_server(rt, request, input, output, faults),
+    }
+}
 
 fn main(rt: HostRuntime) -> ExitCode {
     let alloc = rt.alloc();
     let mut faults = Counted::new(rt.stderr());
-    // Where the system gives no random bytes, this end fails, as where it does not read or write.
-    let Ok(seed) = HashSeed::new(&rt) else {
-        return ExitCode::from(end_by_fault(&mut faults, Fault::Transport).number());
+    let words = match std::env::args(&rt) {
+        Ok(words) => words.collect::<Vec<String>>(alloc),
+        Err(error) => return ExitCode::from(refuse_arguments(error.kind(), &mut faults).number()),
     };
-    let status = match std::env::args(&rt) {
-        Ok(words) => match words.collect::<Vec<String>>(alloc) {
-            Ok(words) => run(
-                alloc,
-                seed,
-                &words,
-                &mut Counted::new(rt.stdin()),
-                &mut Counted::new(rt.stdout()),
-                &mut faults,
-            ),
-            Err(_) => refuse_arguments(ErrorKind::OutOfMemory, &mut faults),
-        },
-        Err(error) => refuse_arguments(error.kind(), &mut faults),
+    let Ok(words) = words else {
+        return ExitCode::from(refuse_arguments(ErrorKind::OutOfMemory, &mut faults).number());
     };
-    ExitCode::from(status.number())
+    let request = match read_words(alloc, &words, &mut faults) {
+        Ok(request) => request,
+        Err(status) => return ExitCode::from(status.number()),
+    };
+    let mut input = Counted::new(rt.stdin());
+    let mut output = Counted::new(rt.stdout());
+    ExitCode::from(run(&rt, request, &mut input, &mut output, &mut faults).number())
 }

@@ -1,0 +1,9 @@
+//! Tests alone: several threads look at one cell while one puts.
+#![tactic(auto)]
+
+#[cfg(test)]
+mod alone;
+#[cfg(test)]
+mod rows;
+#[cfg(test)]
+mod several;

@@ -1,0 +1,153 @@
+//! A cell that several threads share.
+
+ghost use Rattle.std.specs.Prelude.{◌≡◌};
+
+use crate::rows::{one_row, rows_of};
+use hash_seed::HashSeed;
+use scan_base::{Fault, Text};
+use std::alloc::Global;
+use std::process::Abort;
+use std::sync::{Mutex, Wait};
+use std::test::Fail;
+use std::thread;
+use std::thread::Threads;
+use version_cell::{Blank, Brand, CellName, Putter, Scanner, Told, open, put_and_learn};
+
+// So many puts of one row each. It tells whether each had its number.
+fn put_many<C: CellName, R: Wait + Drop>(
+    alloc: Global,
+    putter: &mut Putter<C, R>,
+    count: u64,
+) -> Result<bool, Fault> {
+    let mut right = true;
+    for number in 0..count {
+        let receipt = putter.put(alloc, one_row(alloc, "t")?)?;
+        right = right && receipt.number == number + 1;
+    }
+    Ok(right)
+}
+
+// So many looks. It tells whether each version had as many rows as its number, and no number was below the one before.
+fn look_many<C: CellName>(seat: &mut Scanner<C>, table: &Text, count: u64) -> Result<bool, Fault> {
+    let mut right = true;
+    let mut last = 0;
+    for _ in 0..count {
+        let version = seat.current()?;
+        right = right && last <= version.number() && rows_of(&version, table) == version.number();
+        last = version.number();
+    }
+    Ok(right)
+}
+
+// How many rows version 500 has for a seat that learnt what was told.
+fn learnt<C: CellName>(seat: &mut Scanner<C>, told: &Told<C>, table: &Text) -> Result<u64, Fault> {
+    seat.learn(told);
+    let version = seat.at(500)?;
+    Ok(rows_of(&version, table))
+}
+
+// One thread puts 1,000 times, while two look 1,000 times each.
+#[test]
+fn two_look_while_one_puts(rt: HostRuntime) -> Result<(), Fail> {
+    let blank = open(rt.alloc(), HashSeed::new(&rt)?, 2)?;
+    looked_at_by_two::<Brand, _>(&rt, rt.alloc(), blank)
+}
+
+fn looked_at_by_two<C: CellName + Send + Sync, R: Threads + Wait + Abort + Sync>(
+    rt: &R,
+    alloc: Global,
+    blank: Blank,
+) -> Result<(), Fail>
+    requires { blank.book ≡ C.book }
+{
+    let (mut putter, mut seats) = blank.named::<C, &R>(alloc, rt)?;
+    let (Some(mut one), Some(mut two)) = (seats.pop(), seats.pop()) else {
+        drop(putter);
+        return Err(Fail::from("two seats"));
+    };
+    let table = Text::new(alloc, "t")?;
+    let (put, looks) = thread::join(
+        rt,
+        || put_many(alloc, &mut putter, 1_000),
+        || {
+            thread::join(
+                rt,
+                || look_many(&mut one, &table, 1_000),
+                || look_many(&mut two, &table, 1_000),
+            )
+        },
+    );
+    let told = putter.tell();
+    let first = learnt(&mut one, &told, &table);
+    let second = learnt(&mut two, &told, &table);
+    assert_eq!(rt; (put, looks), (Ok(true), (Ok(true), Ok(true))));
+    assert_eq!(rt; told.number(), 1_000);
+    assert_eq!(rt; (first, second), (Ok(500), Ok(500)));
+    Ok(())
+}
+
+// A seat that was told nothing sees the put of a thread that has ended.
+#[test]
+fn seen_behind_a_join(rt: HostRuntime) -> Result<(), Fail> {
+    let blank = open(rt.alloc(), HashSeed::new(&rt)?, 1)?;
+    seen_unasked::<Brand, _>(&rt, rt.alloc(), blank)
+}
+
+fn seen_unasked<C: CellName + Send + Sync, R: Threads + Wait + Abort + Sync>(
+    rt: &R,
+    alloc: Global,
+    blank: Blank,
+) -> Result<(), Fail>
+    requires { blank.book ≡ C.book }
+{
+    let (mut putter, mut seats) = blank.named::<C, &R>(alloc, rt)?;
+    let Some(mut seat) = seats.pop() else {
+        drop(putter);
+        return Err(Fail::from("one seat"));
+    };
+    let (put, _) = thread::join(rt, || put_many(alloc, &mut putter, 1), || ());
+    let seen = seat.current().map(|version| version.number());
+    assert_eq!(rt; (put, seen), (Ok(true), Ok(1)));
+    Ok(())
+}
+
+// Two threads put by one lock, and each then sees its own put.
+#[test]
+fn two_put_by_one_lock(rt: HostRuntime) -> Result<(), Fail> {
+    let blank = open(rt.alloc(), HashSeed::new(&rt)?, 2)?;
+    put_by_two::<Brand, _>(&rt, rt.alloc(), blank)
+}
+
+// The number of a put, and that of the version which its seat sees then.
+fn put_and_look<C: CellName, R: Wait + Drop>(
+    rt: &impl Wait,
+    alloc: Global,
+    putter: &Mutex<Putter<C, R>>,
+    seat: &mut Scanner<C>,
+) -> Result<(u64, u64), Fault> {
+    let receipt = put_and_learn(rt, alloc, putter, seat, one_row(alloc, "t")?)?;
+    Ok((receipt.number, seat.current()?.number()))
+}
+
+fn put_by_two<C: CellName + Send + Sync, R: Threads + Wait + Abort + Sync>(
+    rt: &R,
+    alloc: Global,
+    blank: Blank,
+) -> Result<(), Fail>
+    requires { blank.book ≡ C.book }
+{
+    let (putter, mut seats) = blank.named::<C, &R>(alloc, rt)?;
+    let shared = Mutex::new(putter);
+    let (Some(mut one), Some(mut two)) = (seats.pop(), seats.pop()) else {
+        return Err(Fail::from("two seats"));
+    };
+    let (a, b) = thread::join(
+        rt,
+        || put_and_look(rt, alloc, &shared, &mut one),
+        || put_and_look(rt, alloc, &shared, &mut two),
+    );
+    let (a, b) = (a?, b?);
+    assert!(rt; matches!((a.0, b.0), (1, 2) | (2, 1)));
+    assert!(rt; a.1 >= a.0 && b.1 >= b.0);
+    Ok(())
+}

@@ -1,0 +1,13 @@
+use Rattle.std.proofs.Common.{inr}
+use Rattle.client_commands.proofs.put.put_messages.Goals as goal
+
+pub returns : goal.returns
+returns g c =
+    inr (record {
+      line = c.in-Ok.connection;
+      opened = c.in-Ok.ensures;
+      result = c.put.result;
+      last = c.put.new.connection;
+      made = c.put.ensures;
+      tells = c.tell_count.ensures;
+    })

@@ -1,0 +1,107 @@
+-- What each command of a client does.
+use Rattle.std.specs.Prelude.{◌≡◌, ◌≢◌, ◌⊎◌, ℕ, List, [], Option, Result, Ok, Err, codes}
+use Rattle.grpc_frame.specs.declared.place.Place.TheVariants.{InAnswer}
+use Rattle.std.specs.List.{flat_map}
+use Rattle.scan_base.specs.declared.fault.Fault.{Fault}
+use Rattle.scan_base.specs.declared.fault.Fault.TheVariants.{OutOfMemory, Transport}
+use Rattle.flight_proto.specs.Wanted.{Wanted, rows_of, tables}
+use Rattle.ipc_stream.specs.declared.message.IpcMessage.{IpcMessage}
+use Rattle.table_versions.specs.Table.{Table}
+use Rattle.row_lines.specs.Lines.{lines_of, name_line}
+use Rattle.client_calls.specs.declared.call.Method.TheVariants.{DoPut}
+use Rattle.client_calls.specs.declared.failure.Failure.{Failure}
+use Rattle.client_calls.specs.declared.failure.Failure.TheVariants.{Found}
+use Rattle.client_calls.specs.declared.putting.Target.{Target}
+use Rattle.client_calls.specs.Answers.{AnswersOne}
+use Rattle.client_calls.specs.Commands.{put_payloads, count_of}
+use Rattle.client_calls.specs.Outcome.{Calls, Line}
+use Rattle.command_ends.specs.Printing.{Said, Prints, cause_lines, count_line, fault_line}
+use Rattle.command_ends.specs.Whole.{Source, ReadsMessages}
+use Rattle.command_ends.specs.declared.exit_status.ExitStatus.{ExitStatus}
+use Rattle.command_ends.specs.declared.exit_status.ExitStatus.TheVariants.{FaultAtThisEnd}
+use Rattle.client_commands.specs.Fetching.{Fetches}
+use Rattle.client_commands.specs.Names.{names_listed}
+use Rattle.client_commands.specs.Told.{Tells}
+
+-- a connection whose ends have these bytes, where they are known: nothing came of it, and no call has failed
+abbrev pub opened_line : Option (List ℕ) → Option (List ℕ) → Line
+opened_line input output = record {
+  incoming = record { input = input; failed = 0; left = Ok (record { bytes = []; place = InAnswer }) };
+  outgoing = record { output = output; failed = 0 };
+}
+
+-- what a command prints on: its output and its faults, before and behind it
+pub record Desk : Type 0 where
+  pub out : Said
+  pub faults : Said
+
+abbrev pub desk_of : Said → Said → Desk
+desk_of out faults = record { out = out; faults = faults }
+
+-- nothing is printed on the output, and these lines of faults; the command ends with a fault of this end
+pub record EndsBy (lines : List ℕ) (status : ExitStatus) (old new : Desk) : Type 0 where
+  pub nothing : new.out ≡ old.out
+  pub status_is : status ≡ FaultAtThisEnd
+  pub says : Prints lines old.faults new.faults
+
+-- a connection was opened, the calls on it gave a result, and that is told
+pub record Over (Opens : Line → Type 0) {A : Type 0} (Made : Result A Failure → Line → Line → Type 0) (text : A → List ℕ) (status : ExitStatus) (old new : Desk) : Type 0 where
+  pub line : Line
+  pub opened : Opens line
+  pub result : Result A Failure
+  pub last : Line
+  pub made : Made result line last
+  pub tells : Tells text result status old.out new.out old.faults new.faults
+
+-- calls were made over a connection, and their result is told; or there is no connection, and why is said
+abbrev pub Connects : (Line → Type 0) → {A : Type 0} → (Result A Failure → Line → Line → Type 0) → (A → List ℕ) → ExitStatus → Desk → Desk → Type 0
+Connects Opens Made text status old new =
+    ((cause : List ℕ) × EndsBy (cause_lines cause) status old new) ⊎ Over Opens Made text status old new
+
+-- ---- query
+
+-- the lines of an answer
+abbrev pub table_lines : Table → List ℕ
+table_lines table = lines_of table.schema table.rows
+
+-- the lines of the rows that a query answers
+abbrev pub Queries : (Line → Type 0) → List ℕ → ExitStatus → Desk → Desk → Type 0
+Queries Opens sql status old new = Connects Opens (Fetches (rows_of sql)) table_lines status old new
+
+-- ---- tables
+
+-- the names that the rows list, seen by `view`; or what failed
+abbrev pub FetchesNames : {A : Type 0} → (A → List (List ℕ)) → Result A Failure → Line → Line → Type 0
+FetchesNames view (Ok names) old new = (table : Table) × Fetches tables (Ok table) old new × (names_listed table ≡ Ok (view names))
+FetchesNames view (Err failure) old new =
+    Fetches tables (Err failure) old new
+    ⊎ ((table : Table) × Fetches tables (Ok table) old new
+    × ((fault : Fault) × (failure ≡ Found fault) × (fault ≢ OutOfMemory → names_listed table ≡ Err fault)))
+
+-- a line for each name
+abbrev pub ListsTables : (Line → Type 0) → ExitStatus → Desk → Desk → Type 0
+ListsTables Opens status old new = Connects Opens (FetchesNames (λ (names : List (List ℕ)). names)) (flat_map name_line) status old new
+
+-- ---- put
+
+-- the lines that say why the input was not read
+abbrev pub reading_lines : Fault → List ℕ
+reading_lines Transport = cause_lines (codes "cannot read the input")
+reading_lines fault = fault_line fault
+
+-- the input was not read, or is no stream: no connection is made
+pub record IsUnread (old new : Source) (untouched : Type 0) (status : ExitStatus) (desk desk' : Desk) : Type 0 where
+  pub fault : Fault
+  pub reads : ReadsMessages (λ (messages : List IpcMessage). messages) (Err fault) old new
+  pub alone : untouched
+  pub ends : EndsBy (reading_lines fault) status desk desk'
+
+-- the whole input is the stream of these messages, which are put, and the line of their count is printed
+pub record IsPut (old new : Source) (Opens : Line → Type 0) (target : Target) (status : ExitStatus) (desk desk' : Desk) : Type 0 where
+  pub messages : List IpcMessage
+  pub reads : ReadsMessages (λ (messages : List IpcMessage). messages) (Ok messages) old new
+  pub puts : Connects Opens (Calls DoPut (put_payloads target messages) (AnswersOne (λ (rows : ℕ). rows) count_of)) count_line status desk desk'
+
+abbrev pub Puts : Source → Source → Type 0 → (Line → Type 0) → Target → ExitStatus → Desk → Desk → Type 0
+Puts old new untouched Opens target status desk desk' =
+    IsUnread old new untouched status desk desk' ⊎ IsPut old new Opens target status desk desk'

@@ -1,0 +1,50 @@
+//! Connecting to the server.
+
+ghost use Rattle.std.specs.Prelude.{◌≡◌, ◌<◌, ℕ, List, IfOk};
+ghost use Rattle.command_ends.specs.Printing.{Prints, cause_lines, said_of};
+ghost use Rattle.client_commands.specs.Commands.{opened_line};
+ghost use Rattle.command_ends.specs.declared.exit_status.ExitStatus.TheVariants.{FaultAtThisEnd};
+
+use client_calls::Connection;
+use command_ends::{Connect, ExitStatus, end_by_cause};
+use grpc_frame::Output;
+use std::alloc::{AllocError, Global};
+use std::io;
+use std::io::Error;
+
+/// Opens a connection to a port of this machine. Nothing came of it yet.
+///
+/// # Errors
+///
+/// The system's.
+pub(crate) fn open<C: Connect>(
+    alloc: Global,
+    network: &mut C,
+    port: u16,
+) -> io::Result<Connection<C::Reader, C::Writer>>
+    ensures { IfOk result (λ connection. (reader : C.Reader) × (writer : C.Writer)
+        × C.connects network.old port reader writer network.new
+        × (connection ≡ opened_line (C.Reader.remaining reader) (C.Writer.contents writer))) }
+{
+    let (reader, writer) = network.connect(port)?;
+    Ok(Connection::new(alloc, reader, writer))
+}
+
+/// Prints F22, and in a second line that no connection was made to this port, and why.
+pub(crate) fn end_unconnected<E: Output>(
+    alloc: Global,
+    faults: &mut E,
+    port: u16,
+    error: &Error,
+) -> ExitStatus
+    requires { E.failures faults.old < 18446744073709551615 }
+    ensures status { result ≡ FaultAtThisEnd }
+    ensures lines { (cause : List ℕ) × Prints (cause_lines cause)
+        (said_of (E.contents faults.old) (E.failures faults.old))
+        (said_of (E.contents faults.new) (E.failures faults.new)) }
+{
+    match format!(in alloc; "cannot connect to 127.0.0.1:{port}: {error}") {
+        Ok(cause) => end_by_cause(faults, cause.as_str()),
+        Err(AllocError) => end_by_cause(faults, "cannot connect"),
+    }
+}

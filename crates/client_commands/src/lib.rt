@@ -1,0 +1,13 @@
+//! The commands of a client, as functions over the network, what they read from and what they print on.
+//!
+//! `specs/Told.antt` says how a command ends by what came of its calls, `specs/Fetching.antt` how rows are fetched, and
+//! `specs/Commands.antt` what each command does.
+#![tactic(auto)]
+
+mod connecting;
+mod fetching;
+mod names;
+pub mod put;
+pub mod query;
+pub mod tables;
+mod telling;

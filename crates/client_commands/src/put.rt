@@ -1,0 +1,115 @@
+//! `flightscan put`: an Arrow IPC stream into a table.
+
+ghost use Rattle.std.specs.Prelude.{◌≡◌, ◌<◌};
+ghost use Rattle.client_calls.specs.declared.call.Method.TheVariants.{DoPut};
+ghost use Rattle.client_calls.specs.Answers.{AnswersOne};
+ghost use Rattle.client_calls.specs.Commands.{count_of, put_payloads};
+ghost use Rattle.client_calls.specs.Outcome.{Calls};
+ghost use Rattle.command_ends.specs.Printing.{count_line, said_of};
+ghost use Rattle.command_ends.specs.Whole.{source_of};
+ghost use Rattle.client_commands.specs.Told.{Tells};
+ghost use Rattle.client_commands.specs.Commands.{Connects, Puts, desk_of, opened_line};
+
+use crate::connecting::{end_unconnected, open};
+use crate::telling::{end_by_failure, end_by_printing};
+use client_calls::{Failure, Target};
+use command_ends::{Connect, ExitStatus, end_by_cause, end_by_fault, print_count, read_messages};
+use grpc_frame::{Input, Output};
+use ipc_stream::IpcMessage;
+use scan_base::Fault;
+use std::alloc::Global;
+
+/// What is put, and where the server listens.
+#[derive(Clone, Copy, Debug, PartialEq, Eq)]
+pub struct Putting<'a> {
+    /// The server's port.
+    pub port: u16,
+    /// The table, and what becomes of it.
+    pub target: Target<'a>,
+}
+
+/// Puts the Arrow IPC stream that the whole input is into a table, and prints how many rows were put. The input is read and
+/// cut before a connection is made. A fault is printed on `faults` in a line, as far as that takes it; where the input or the
+/// network failed, a second line says so.
+pub fn put<C: Connect, I: Input, W: Output, E: Output>(
+    alloc: Global,
+    network: &mut C,
+    input: &mut I,
+    output: &mut W,
+    faults: &mut E,
+    putting: Putting<'_>,
+) -> ExitStatus
+    requires reads { I.failures input.old < 18446744073709551615 }
+    requires writes { W.failures output.old < 18446744073709551615 }
+    requires prints { E.failures faults.old < 18446744073709551615 }
+    ensures { Puts
+        (source_of (I.remaining input.old) (I.failures input.old))
+        (source_of (I.remaining input.new) (I.failures input.new)) (network.new ≡ network.old)
+        (λ line. (reader : C.Reader) × (writer : C.Writer)
+        × C.connects network.old putting.entry.port reader writer network.new
+        × (line ≡ opened_line (C.Reader.remaining reader) (C.Writer.contents writer)))
+        putting.entry.target result
+        (desk_of (said_of (W.contents output.old) (W.failures output.old))
+        (said_of (E.contents faults.old) (E.failures faults.old)))
+        (desk_of (said_of (W.contents output.new) (W.failures output.new))
+        (said_of (E.contents faults.new) (E.failures faults.new))) }
+{
+    match read_messages(alloc, input) {
+        Ok(messages) => put_messages(alloc, network, output, faults, putting, &messages),
+        Err(Fault::Transport) => end_by_cause(faults, "cannot read the input"),
+        Err(fault) => end_by_fault(faults, fault),
+    }
+}
+
+// Puts these messages over a connection.
+fn put_messages<C: Connect, W: Output, E: Output>(
+    alloc: Global,
+    network: &mut C,
+    output: &mut W,
+    faults: &mut E,
+    putting: Putting<'_>,
+    messages: &[IpcMessage],
+) -> ExitStatus
+    requires writes { W.failures output.old < 18446744073709551615 }
+    requires prints { E.failures faults.old < 18446744073709551615 }
+    ensures { Connects (λ line. (reader : C.Reader) × (writer : C.Writer)
+        × C.connects network.old putting.entry.port reader writer network.new
+        × (line ≡ opened_line (C.Reader.remaining reader) (C.Writer.contents writer)))
+        (Calls DoPut (put_payloads putting.entry.target messages.now) (AnswersOne (λ rows. rows) count_of))
+        count_line result
+        (desk_of (said_of (W.contents output.old) (W.failures output.old))
+        (said_of (E.contents faults.old) (E.failures faults.old)))
+        (desk_of (said_of (W.contents output.new) (W.failures output.new))
+        (said_of (E.contents faults.new) (E.failures faults.new))) }
+{
+    let mut connection = match open(alloc, network, putting.port) {
+        Ok(connection) => connection,
+        Err(error) => return end_unconnected(alloc, faults, putting.port, &error),
+    };
+    let counted = client_calls::put(alloc, &mut connection, putting.target, messages);
+    tell_count(alloc, output, faults, counted)
+}
+
+// Tells how many rows were put, or why none were.
+fn tell_count<W: Output, E: Output>(
+    alloc: Global,
+    output: &mut W,
+    faults: &mut E,
+    counted: Result<u64, Failure>,
+) -> ExitStatus
+    requires writes { W.failures output.old < 18446744073709551615 }
+    requires prints { E.failures faults.old < 18446744073709551615 }
+    ensures { Tells count_line counted result
+        (said_of (W.contents output.old) (W.failures output.old))
+        (said_of (W.contents output.new) (W.failures output.new))
+        (said_of (E.contents faults.old) (E.failures faults.old))
+        (said_of (E.contents faults.new) (E.failures faults.new)) }
+{
+    match counted {
+        Ok(rows) => {
+            let printed = print_count(alloc, output, rows);
+            end_by_printing(faults, printed)
+        }
+        Err(failure) => end_by_failure(faults, failure),
+    }
+}

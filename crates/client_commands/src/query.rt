@@ -1,0 +1,79 @@
+//! `flightscan query`: the rows that a query answers.
+
+ghost use Rattle.std.specs.Prelude.{◌≡◌, ◌<◌};
+ghost use Rattle.command_ends.specs.Printing.{said_of};
+ghost use Rattle.client_commands.specs.Told.{Tells};
+ghost use Rattle.client_commands.specs.Commands.{table_lines, Queries, desk_of, opened_line};
+
+use crate::connecting::{end_unconnected, open};
+use crate::fetching::fetch_rows;
+use crate::telling::{end_by_failure, end_by_printing};
+use client_calls::Failure;
+use command_ends::{Connect, ExitStatus};
+use flight_client::Rows;
+use flight_proto::Wanted;
+use grpc_frame::Output;
+use row_lines::write_rows;
+use std::alloc::Global;
+
+/// A query, and where the server listens.
+#[derive(Clone, Copy, Debug, PartialEq, Eq)]
+pub struct Querying<'a> {
+    /// The server's port.
+    pub port: u16,
+    /// The query's text.
+    pub sql: &'a str,
+}
+
+/// Prints the rows that a query answers: a line of the columns' names, and a line for each row. Each endpoint's rows are
+/// fetched in turn, and nothing is printed before all came. A fault is printed on `faults` in a line, as far as that takes
+/// it; where no connection was made, a second line says so.
+pub fn query<C: Connect, W: Output, E: Output>(
+    alloc: Global,
+    network: &mut C,
+    output: &mut W,
+    faults: &mut E,
+    query: Querying<'_>,
+) -> ExitStatus
+    requires writes { W.failures output.old < 18446744073709551615 }
+    requires prints { E.failures faults.old < 18446744073709551615 }
+    ensures { Queries (λ line. (reader : C.Reader) × (writer : C.Writer)
+        × C.connects network.old query.entry.port reader writer network.new
+        × (line ≡ opened_line (C.Reader.remaining reader) (C.Writer.contents writer)))
+        query.entry.sql.now result
+        (desk_of (said_of (W.contents output.old) (W.failures output.old))
+        (said_of (E.contents faults.old) (E.failures faults.old)))
+        (desk_of (said_of (W.contents output.new) (W.failures output.new))
+        (said_of (E.contents faults.new) (E.failures faults.new))) }
+{
+    let mut connection = match open(alloc, network, query.port) {
+        Ok(connection) => connection,
+        Err(error) => return end_unconnected(alloc, faults, query.port, &error),
+    };
+    let fetched = fetch_rows(alloc, &mut connection, Wanted::Rows(query.sql));
+    tell_rows(alloc, output, faults, fetched)
+}
+
+// Tells the rows that were fetched, or why none were.
+fn tell_rows<W: Output, E: Output>(
+    alloc: Global,
+    output: &mut W,
+    faults: &mut E,
+    fetched: Result<Rows, Failure>,
+) -> ExitStatus
+    requires writes { W.failures output.old < 18446744073709551615 }
+    requires prints { E.failures faults.old < 18446744073709551615 }
+    ensures { Tells table_lines fetched result
+        (said_of (W.contents output.old) (W.failures output.old))
+        (said_of (W.contents output.new) (W.failures output.new))
+        (said_of (E.contents faults.old) (E.failures faults.old))
+        (said_of (E.contents faults.new) (E.failures faults.new)) }
+{
+    match fetched {
+        Ok(rows) => {
+            let printed = write_rows(alloc, rows.schema(), rows.batches(), output);
+            end_by_printing(faults, printed)
+        }
+        Err(failure) => end_by_failure(faults, failure),
+    }
+}

@@ -1,0 +1,85 @@
+//! `flightscan tables`: the names of the tables.
+
+ghost use Rattle.std.specs.Prelude.{◌≡◌, ◌<◌};
+ghost use Rattle.command_ends.specs.Printing.{said_of};
+ghost use Rattle.std.specs.List.{flat_map};
+ghost use Rattle.row_lines.specs.Lines.{name_line};
+ghost use Rattle.client_commands.specs.Told.{Tells};
+ghost use Rattle.client_commands.specs.Commands.{FetchesNames, ListsTables, desk_of, opened_line};
+
+use crate::connecting::{end_unconnected, open};
+use crate::fetching::fetch_rows;
+use crate::names::names_of;
+use crate::telling::{end_by_failure, end_by_printing};
+use client_calls::{Connection, Failure};
+use command_ends::{Connect, ExitStatus};
+use flight_proto::Wanted;
+use grpc_frame::{Input, Output};
+use row_lines::write_names;
+use scan_base::Text;
+use std::alloc::Global;
+
+/// Prints the names of the tables, a line each, in the order in which the server lists them. A fault is printed on `faults`
+/// in a line, as far as that takes it; where no connection was made, a second line says so.
+pub fn tables<C: Connect, W: Output, E: Output>(
+    alloc: Global,
+    network: &mut C,
+    output: &mut W,
+    faults: &mut E,
+    port: u16,
+) -> ExitStatus
+    requires writes { W.failures output.old < 18446744073709551615 }
+    requires prints { E.failures faults.old < 18446744073709551615 }
+    ensures { ListsTables (λ line. (reader : C.Reader) × (writer : C.Writer)
+        × C.connects network.old port reader writer network.new
+        × (line ≡ opened_line (C.Reader.remaining reader) (C.Writer.contents writer)))
+        result
+        (desk_of (said_of (W.contents output.old) (W.failures output.old))
+        (said_of (E.contents faults.old) (E.failures faults.old)))
+        (desk_of (said_of (W.contents output.new) (W.failures output.new))
+        (said_of (E.contents faults.new) (E.failures faults.new))) }
+{
+    let mut connection = match open(alloc, network, port) {
+        Ok(connection) => connection,
+        Err(error) => return end_unconnected(alloc, faults, port, &error),
+    };
+    let fetched = fetch_names(alloc, &mut connection);
+    tell_names(alloc, output, faults, fetched)
+}
+
+// Tells the names that were fetched, or why none were.
+fn tell_names<W: Output, E: Output>(
+    alloc: Global,
+    output: &mut W,
+    faults: &mut E,
+    fetched: Result<Vec<Text>, Failure>,
+) -> ExitStatus
+    requires writes { W.failures output.old < 18446744073709551615 }
+    requires prints { E.failures faults.old < 18446744073709551615 }
+    ensures { Tells (λ names. flat_map name_line names.items) fetched result
+        (said_of (W.contents output.old) (W.failures output.old))
+        (said_of (W.contents output.new) (W.failures output.new))
+        (said_of (E.contents faults.old) (E.failures faults.old))
+        (said_of (E.contents faults.new) (E.failures faults.new)) }
+{
+    match fetched {
+        Ok(names) => {
+            let printed = write_names(alloc, &names, output);
+            end_by_printing(faults, printed)
+        }
+        Err(failure) => end_by_failure(faults, failure),
+    }
+}
+
+// Fetches the names of the tables.
+fn fetch_names<R: Input, W: Output>(
+    alloc: Global,
+    connection: &mut Connection<R, W>,
+) -> Result<Vec<Text>, Failure>
+    requires reads { connection.old.incoming.failed < 18446744073709551615 }
+    requires writes { connection.old.outgoing.failed < 18446744073709551615 }
+    ensures { FetchesNames (λ names. names.items) result connection.old connection.new }
+{
+    let rows = fetch_rows(alloc, connection, Wanted::Tables)?;
+    Ok(names_of(alloc, &rows)?)
+}

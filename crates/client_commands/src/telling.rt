@@ -1,0 +1,38 @@
+//! Telling what came of calls.
+
+ghost use Rattle.std.specs.Prelude.{◌≡◌, ◌<◌, ℕ, List};
+ghost use Rattle.grpc_frame.specs.Ends.{CountsFailure, FailsByTransport, Writes};
+ghost use Rattle.command_ends.specs.Printing.{Prints, fault_line, said_of};
+ghost use Rattle.client_commands.specs.Told.{TellsFailure, TellsPrinted};
+
+use client_calls::Failure;
+use command_ends::{ExitStatus, end_by_answer, end_by_fault};
+use grpc_frame::Output;
+use scan_base::Fault;
+
+/// Prints a fault in a line, and tells who found it.
+pub(crate) fn end_by_failure<E: Output>(faults: &mut E, failure: Failure) -> ExitStatus
+    requires { E.failures faults.old < 18446744073709551615 }
+    ensures { TellsFailure failure result
+        (said_of (E.contents faults.old) (E.failures faults.old))
+        (said_of (E.contents faults.new) (E.failures faults.new)) }
+{
+    match failure {
+        Failure::Answered(fault) => end_by_answer(faults, fault),
+        Failure::Found(fault) => end_by_fault(faults, fault),
+    }
+}
+
+/// Tells whether what was to be printed is: a fault of that is printed in a line.
+pub(crate) fn end_by_printing<E: Output>(faults: &mut E, printed: Result<(), Fault>) -> ExitStatus
+    requires failures { E.failures faults.old < 18446744073709551615 }
+    requires kind { FailsByTransport printed }
+    ensures { TellsPrinted printed result
+        (said_of (E.contents faults.old) (E.failures faults.old))
+        (said_of (E.contents faults.new) (E.failures faults.new)) }
+{
+    match printed {
+        Ok(()) => ExitStatus::Done,
+        Err(fault) => end_by_fault(faults, fault),
+    }
+}

@@ -1,0 +1,4 @@
+pub mod Status
+pub mod Printing
+pub mod Whole
+pub mod inside

@@ -1,0 +1,38 @@
+-- What the commands print, beside rows and names.
+use Rattle.std.specs.Prelude.{◌≡◌, ◌⊎◌, ℕ, ◌+◌, List, ◌∷◌, [], ◌++◌, Option, codes}
+use Rattle.std.specs.Fmt.{decimal}
+use Rattle.std.specs.Io.KnownBytes.{Appends}
+use Rattle.scan_base.specs.declared.fault.Fault.{Fault}
+use Rattle.scan_base.specs.declared.fault.Fault.TheVariants.{Transport}
+use Rattle.scan_base.specs.Fault.{text_of}
+use Rattle.grpc_frame.specs.Ends.{AppendsBeginning}
+
+-- the line that says a fault
+abbrev pub fault_line : Fault → List ℕ
+fault_line fault = codes "fault: " ++ text_of fault ++ 10 ∷ []
+
+-- the line of F22, and a line that says what failed
+abbrev pub cause_lines : List ℕ → List ℕ
+cause_lines cause = fault_line Transport ++ (cause ++ 10 ∷ [])
+
+-- how many rows were put
+abbrev pub count_line : ℕ → List ℕ
+count_line rows = decimal rows ++ codes " rows\n"
+
+-- the port that is listened to
+abbrev pub listening_line : ℕ → List ℕ
+listening_line port = codes "listening 127.0.0.1:" ++ decimal port ++ codes "\n"
+
+-- what an output holds, where it is known, and how many of its writes have failed
+pub record Said : Type 0 where
+  pub bytes : Option (List ℕ)
+  pub failures : ℕ
+
+abbrev pub said_of : Option (List ℕ) → ℕ → Said
+said_of bytes failures = record { bytes = bytes; failures = failures }
+
+-- a text was printed; or a write of it failed, which is counted, and a beginning of it was printed
+abbrev pub Prints : List ℕ → Said → Said → Type 0
+Prints text old new =
+    (Appends old.bytes new.bytes text × (new.failures ≡ old.failures))
+    ⊎ (AppendsBeginning old.bytes new.bytes text × (new.failures ≡ old.failures + 1))

@@ -1,0 +1,49 @@
+-- A whole input.
+use Rattle.std.specs.Prelude.{◌≡◌, ◌⊎◌, ℕ, ◌+◌, List, Option, Result, Ok, Err}
+use Rattle.std.specs.Io.KnownBytes.{Consumes, IsAtEnd}
+use Rattle.scan_base.specs.declared.fault.Fault.{Fault}
+use Rattle.scan_base.specs.declared.fault.Fault.TheVariants.{BadFlatbuffer, OutOfMemory, Transport}
+use Rattle.ipc_stream.specs.declared.message.IpcMessage.{IpcMessage}
+use Rattle.ipc_stream.specs.Stream.{Framed, IsStream}
+
+-- an input: what it has left, where that is known, and how many reads have failed
+pub record Source : Type 0 where
+  pub left : Option (List ℕ)
+  pub failed : ℕ
+
+abbrev pub source_of : Option (List ℕ) → ℕ → Source
+source_of left failed = record { left = left; failed = failed }
+
+-- all that was left came, which is these bytes, and no read failed
+pub record Gives (bytes : List ℕ) (old new : Source) : Type 0 where
+  pub came : Consumes old.left new.left bytes
+  pub end : IsAtEnd new.left
+  pub quiet : new.failed ≡ old.failed
+
+-- a read failed and was counted (F22), or memory was refused (F21)
+abbrev pub Stops : Fault → Source → Source → Type 0
+Stops fault old new =
+    ((fault ≡ Transport) × (new.failed ≡ old.failed + 1)) ⊎ ((fault ≡ OutOfMemory) × (new.failed ≡ old.failed))
+
+-- the bytes of the whole input, or why there are none
+abbrev pub ReadsWhole : Result (List ℕ) Fault → Source → Source → Type 0
+ReadsWhole (Ok bytes) old new = Gives bytes old new
+ReadsWhole (Err fault) old new = Stops fault old new
+
+-- the whole input is no Arrow IPC stream
+pub record IsNoStream (old new : Source) : Type 0 where
+  pub bytes : List ℕ
+  pub gives : Gives bytes old new
+  pub none : ¬ IsStream bytes
+
+-- the whole input is the Arrow IPC stream of these messages
+pub record IsStreamOf (messages : List IpcMessage) (old new : Source) : Type 0 where
+  pub bytes : List ℕ
+  pub gives : Gives bytes old new
+  pub rest : List ℕ
+  pub framed : Framed bytes messages rest
+
+-- the messages of the whole input, seen by `view`; or it is no stream (F6), or it was not read
+abbrev pub ReadsMessages : {A : Type 0} → (A → List IpcMessage) → Result A Fault → Source → Source → Type 0
+ReadsMessages view (Ok messages) old new = IsStreamOf (view messages) old new
+ReadsMessages view (Err fault) old new = ((fault ≡ BadFlatbuffer) × IsNoStream old new) ⊎ Stops fault old new

@@ -1,0 +1,18 @@
+//! How the commands of a program end, and what they share: exit statuses, printed faults and numbers, whole inputs, and the
+//! network as they see it.
+//!
+//! `specs/Printing.antt` says what is printed, and `specs/Whole.antt` what a whole input is.
+#![tactic(auto)]
+
+pub mod ending;
+pub mod exit_status;
+mod held;
+pub mod network;
+pub mod printing;
+pub mod whole;
+
+pub use crate::ending::{end_by_answer, end_by_cause, end_by_fault};
+pub use crate::exit_status::ExitStatus;
+pub use crate::network::{Connect, Listen};
+pub use crate::printing::{print_count, print_listening};
+pub use crate::whole::{read_messages, read_whole};

@@ -1,0 +1,59 @@
+//! The network, as commands see it: sockets in the program, and ends in memory in tests.
+
+use grpc_frame::{Input, Output};
+use std::io;
+
+/// Makes connections to a server.
+pub trait Connect {
+    ghost use Rattle.std.specs.Prelude.{◌≡◌, ℕ, IfOk};
+
+    /// What comes from the server.
+    type Reader: Input + Drop;
+
+    /// What goes to it.
+    type Writer: Output + Drop;
+
+    // A connection to a port was made, of these two ends.
+    ghost connects: { Self → ℕ → Self.Reader → Self.Writer → Self → Type 0 };
+
+    /// Connects to a port of this machine. No call of the connection's ends has failed yet.
+    ///
+    /// # Errors
+    ///
+    /// The system's.
+    fn connect(&mut self, port: u16) -> io::Result<(Self::Reader, Self::Writer)>
+        ensures made { IfOk result (λ ends. connects self.old port ends.0 ends.1 self.new) }
+        ensures reads { IfOk result (λ ends. Self.Reader.failures ends.0 ≡ 0) }
+        ensures writes { IfOk result (λ ends. Self.Writer.failures ends.1 ≡ 0) };
+}
+
+/// Takes connections of clients.
+pub trait Listen {
+    ghost use Rattle.std.specs.Prelude.{◌≡◌, ℕ, IfOk};
+
+    /// What comes from a client.
+    type Reader: Input + Drop;
+
+    /// What goes to it.
+    type Writer: Output + Drop;
+
+    // Where a port is asked for, this port is listened to.
+    ghost listens: { Self → ℕ → ℕ → Self → Type 0 };
+
+    /// Listens to a port of this machine, 0 for one that is free, and gives the port.
+    ///
+    /// # Errors
+    ///
+    /// The system's.
+    fn listen(&mut self, port: u16) -> io::Result<u16>
+        ensures { IfOk result (λ heard. listens self.old port heard self.new) };
+
+    /// Waits for the next connection. No call of its ends has failed yet.
+    ///
+    /// # Errors
+    ///
+    /// The system's.
+    fn accept(&mut self) -> io::Result<(Self::Reader, Self::Writer)>
+        ensures reads { IfOk result (λ ends. Self.Reader.failures ends.0 ≡ 0) }
+        ensures writes { IfOk result (λ ends. Self.Writer.failures ends.1 ≡ 0) };
+}

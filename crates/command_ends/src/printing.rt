@@ -1,0 +1,75 @@
+//! Lines that commands print.
+
+ghost use Rattle.std.specs.Prelude.{◌++◌, ◌<◌};
+ghost use Rattle.std.specs.Fmt.{decimal};
+ghost use Rattle.grpc_frame.specs.Ends.{CountsFailure, FailsByTransport, Writes};
+ghost use Rattle.grpc_frame.specs.Sending.{Sends};
+ghost use Rattle.command_ends.specs.Printing.{count_line, listening_line};
+
+use grpc_frame::{Outbox, Output};
+use itoa::Buffer;
+use scan_base::Fault;
+use std::alloc::Global;
+
+/// Prints how many rows were put, in a line.
+///
+/// # Errors
+///
+/// `Fault::Transport` where a write failed. It is counted, and a beginning of the line is written.
+pub fn print_count<W: Output>(alloc: Global, output: &mut W, rows: u64) -> Result<(), Fault>
+    requires { W.failures output.old < 18446744073709551615 }
+    ensures bytes { Writes result (W.contents output.old) (W.contents output.new) (count_line rows) }
+    ensures counted { CountsFailure result (W.failures output.old) (W.failures output.new) }
+    ensures kind { FailsByTransport result }
+{
+    let mut outbox = Outbox::new(alloc);
+    send_number(&mut outbox, output, rows, b" rows\n")?;
+    outbox.flush(output)
+}
+
+/// Prints the port that is listened to, in a line.
+///
+/// # Errors
+///
+/// `Fault::Transport` where a write failed. It is counted, and a beginning of the line is written.
+pub fn print_listening<W: Output>(alloc: Global, output: &mut W, port: u16) -> Result<(), Fault>
+    requires { W.failures output.old < 18446744073709551615 }
+    ensures bytes { Writes result (W.contents output.old) (W.contents output.new) (listening_line port) }
+    ensures counted { CountsFailure result (W.failures output.old) (W.failures output.new) }
+    ensures kind { FailsByTransport result }
+{
+    let mut outbox = Outbox::new(alloc);
+    send_listening(&mut outbox, output, port)?;
+    outbox.flush(output)
+}
+
+// Sends the line of the port.
+#[tactic(auto, using(grpc_frame::proofs::Sending::sending))]
+fn send_listening<W: Output>(outbox: &mut Outbox, output: &mut W, port: u16) -> Result<(), Fault>
+    requires { W.failures output.old < 18446744073709551615 }
+    ensures bytes { Sends result (W.contents output.old) (W.contents output.new)
+        outbox.old outbox.new (listening_line port) }
+    ensures counted { CountsFailure result (W.failures output.old) (W.failures output.new) }
+    ensures kind { FailsByTransport result }
+{
+    outbox.send_part(output, b"listening 127.0.0.1:")?;
+    send_number(outbox, output, u64::from(port), b"\n")
+}
+
+// Sends a number in decimal, and what stands behind it.
+#[tactic(auto, using(grpc_frame::proofs::Sending::sending))]
+fn send_number<W: Output>(
+    outbox: &mut Outbox,
+    output: &mut W,
+    number: u64,
+    behind: &[u8],
+) -> Result<(), Fault>
+    requires { W.failures output.old < 18446744073709551615 }
+    ensures bytes { Sends result (W.contents output.old) (W.contents output.new)
+        outbox.old outbox.new (decimal number ++ behind.now) }
+    ensures counted { CountsFailure result (W.failures output.old) (W.failures output.new) }
+    ensures kind { FailsByTransport result }
+{
+    outbox.send_part(output, Buffer::new().format(number).as_bytes())?;
+    outbox.send_part(output, behind)
+}

@@ -1,0 +1,52 @@
+//! Reading an input to its end.
+
+ghost use Rattle.std.specs.Prelude.{◌<◌};
+ghost use Rattle.command_ends.specs.Whole.{ReadsWhole, ReadsMessages, source_of};
+
+use crate::held::Held;
+use bytes::Bytes;
+use grpc_frame::Input;
+use ipc_stream::{IpcMessage, ipc_messages};
+use scan_base::Fault;
+use std::alloc::Global;
+
+/// All bytes of an input. Memory grows to twice what came, and no byte is copied behind that.
+///
+/// # Errors
+///
+/// - `Fault::Transport` (F22) where a read failed. It is counted.
+/// - `Fault::OutOfMemory` (F21) where memory is refused.
+pub fn read_whole<R: Input>(alloc: Global, input: &mut R) -> Result<Bytes, Fault>
+    requires { R.failures input.old < 18446744073709551615 }
+    ensures { ReadsWhole result
+        (source_of (R.remaining input.old) (R.failures input.old))
+        (source_of (R.remaining input.new) (R.failures input.new)) }
+{
+    let mut held = Held::new(alloc);
+    loop {
+        held.make_room()?;
+        if held.read_from(input)? == 0 {
+            return match Bytes::from_vec(held.into_vec()) {
+                Ok(bytes) => Ok(bytes),
+                Err(_) => Err(Fault::OutOfMemory),
+            };
+        }
+    }
+}
+
+/// The messages of an Arrow IPC stream, which is a whole input.
+///
+/// # Errors
+///
+/// - `Fault::BadFlatbuffer` (F6) where the input is no such stream.
+/// - `Fault::Transport` (F22) where a read failed. It is counted.
+/// - `Fault::OutOfMemory` (F21) where memory is refused.
+pub fn read_messages<R: Input>(alloc: Global, input: &mut R) -> Result<Vec<IpcMessage>, Fault>
+    requires { R.failures input.old < 18446744073709551615 }
+    ensures { ReadsMessages (λ messages. messages.items) result
+        (source_of (R.remaining input.old) (R.failures input.old))
+        (source_of (R.remaining input.new) (R.failures input.new)) }
+{
+    let stream = read_whole(alloc, input)?;
+    ipc_messages(alloc, &stream)
+}

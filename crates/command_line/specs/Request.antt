@@ -1,0 +1,57 @@
+-- What the command line asks for.
+use Rattle.std.specs.Prelude.{◌≡◌, ◌≢◌, ◌≤◌, ℕ, List, [], IsSomeAnd, codes, if◌then◌else◌, unwrap_or}
+use Rattle.std.specs.Str.{bytes_eq}
+use Rattle.clap.specs.Words.{Row, Text, first_of, one_of}
+use Rattle.clap.specs.Simple.{subcommand_of}
+use Rattle.clap.specs.declared.builder.value_parser.ValueParser.{ValueParser}
+use Rattle.command_line.specs.Line.{program}
+use Rattle.command_line.specs.Numbers.{SaysNumber, parts_taken, workers_taken, seats_taken, accept_taken, streams_taken, port_taken}
+use Rattle.command_line.specs.declared.number.Numbers.{Numbers}
+use Rattle.command_line.specs.declared.request.Mode.{Mode}
+use Rattle.command_line.specs.declared.request.Mode.TheVariants.{Create, Append, Replace}
+use Rattle.command_line.specs.declared.request.Serving.{Serving}
+use Rattle.command_line.specs.declared.request.Request.{Request}
+use Rattle.command_line.specs.declared.request.Request.TheVariants.{Pipe, Serve, Put, Query, Tables}
+
+-- a number is the one that the options give to this name, and within its range
+abbrev pub IsGiven : List Row → Text → Numbers → ℕ → Type 0
+IsGiven rows name taken number =
+    SaysNumber taken (one_of name rows) number × (taken.least ≤ number) × (number ≤ taken.most)
+
+-- the text that the options give to a name; clap's definitions refuse a command without it
+abbrev pub text_given : List Row → Text → Text
+text_given rows name = unwrap_or (first_of name rows) []
+
+-- the mode of a name; clap's definitions refuse every other name
+abbrev pub mode_named : Text → Mode
+mode_named name =
+    if bytes_eq name (codes "append") then Append else
+    if bytes_eq name (codes "replace") then Replace else
+    Create
+
+-- how `serve` with these options serves
+pub record IsServing (rows : List Row) (serving : Serving) : Type 0 where
+  pub port : IsGiven rows (codes "port") port_taken serving.port
+  pub seats : IsGiven rows (codes "seats") seats_taken serving.seats
+  pub accept : IsGiven rows (codes "accept") accept_taken serving.accept
+  pub parts : IsGiven rows (codes "parts") parts_taken serving.parts
+  pub workers : IsGiven rows (codes "workers") workers_taken serving.workers
+
+-- What the command of this name with these options asks for. `pipe` stands for every other name; clap's definitions
+-- refuse those.
+abbrev pub Asks : Text × List Row → Request → Type 0
+Asks (name, rows) (Pipe parts workers) =
+    (name ≢ codes "serve") × (name ≢ codes "put") × (name ≢ codes "query") × (name ≢ codes "tables")
+    × IsGiven rows (codes "parts") parts_taken parts × IsGiven rows (codes "workers") workers_taken workers
+Asks (name, rows) (Serve serving) = (name ≡ codes "serve") × IsServing rows serving
+Asks (name, rows) (Put port table mode) =
+    (name ≡ codes "put") × IsGiven rows (codes "port") port_taken port
+    × (table.now ≡ text_given rows (codes "table")) × (mode ≡ mode_named (text_given rows (codes "mode")))
+Asks (name, rows) (Query port streams sql) =
+    (name ≡ codes "query") × IsGiven rows (codes "port") port_taken port
+    × IsGiven rows (codes "streams") streams_taken streams × (sql.now ≡ text_given rows (codes "sql"))
+Asks (name, rows) (Tables port) = (name ≡ codes "tables") × IsGiven rows (codes "port") port_taken port
+
+-- what the words ask for: they name a command
+abbrev pub IsAskedBy : ValueParser → List Text → Request → Type 0
+IsAskedBy modes words request = IsSomeAnd (subcommand_of (program modes) words) (λ entered. Asks entered request)

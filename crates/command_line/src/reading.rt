@@ -1,0 +1,77 @@
+//! Reading a command's options.
+
+ghost use Rattle.std.specs.Prelude.{◌≡◌, codes};
+ghost use Rattle.clap.specs.Words.{found_of, rows_of};
+ghost use Rattle.command_line.specs.Numbers as taken;
+ghost use Rattle.command_line.specs.Request.{Asks, IsGiven, IsServing, mode_named, text_given};
+
+use crate::number::{ACCEPT, PARTS, PORT, SEATS, STREAMS, WORKERS, number_of};
+use crate::request::{Mode, Request, Serving};
+use clap::ArgMatches;
+
+// The port that is given.
+fn port_of(matches: &ArgMatches<'_>) -> u16
+    ensures { IsGiven (rows_of (found_of matches.now)) (codes "port") taken.port_taken result }
+{
+    number_of(matches, "port", PORT) as u16
+}
+
+// The text that is given.
+fn text_of<'a>(matches: &ArgMatches<'a>, name: &str) -> &'a str
+    ensures { result.now ≡ text_given (rows_of (found_of matches.now)) name.now }
+{
+    matches.get_str(name).unwrap_or("")
+}
+
+// The mode that is given.
+fn mode_of(matches: &ArgMatches<'_>) -> Mode
+    ensures { result ≡ mode_named (text_given (rows_of (found_of matches.now)) (codes "mode")) }
+{
+    let name = text_of(matches, "mode");
+    if name == "append" {
+        Mode::Append
+    } else if name == "replace" {
+        Mode::Replace
+    } else {
+        Mode::Create
+    }
+}
+
+// How `serve` is asked to serve.
+fn serving_of(matches: &ArgMatches<'_>) -> Serving
+    ensures { IsServing (rows_of (found_of matches.now)) result }
+{
+    Serving {
+        port: port_of(matches),
+        seats: number_of(matches, "seats", SEATS),
+        accept: number_of(matches, "accept", ACCEPT) as u16,
+        parts: number_of(matches, "parts", PARTS),
+        workers: number_of(matches, "workers", WORKERS),
+    }
+}
+
+/// What the command of this name with these options asks for.
+pub(crate) fn request_of<'a>(name: &str, matches: &ArgMatches<'a>) -> Request<'a>
+    ensures { Asks (name.now, rows_of (found_of matches.now)) result }
+{
+    match name {
+        "serve" => Request::Serve(serving_of(matches)),
+        "put" => Request::Put {
+            port: port_of(matches),
+            table: text_of(matches, "table"),
+            mode: mode_of(matches),
+        },
+        "query" => Request::Query {
+            port: port_of(matches),
+            streams: number_of(matches, "streams", STREAMS),
+            sql: text_of(matches, "sql"),
+        },
+        "tables" => Request::Tables {
+            port: port_of(matches),
+        },
+        _ => Request::Pipe {
+            parts: number_of(matches, "parts", PARTS),
+            workers: number_of(matches, "workers", WORKERS),
+        },
+    }
+}

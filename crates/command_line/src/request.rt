@@ -1,0 +1,55 @@
+//! What the command line asks for.
+
+/// What becomes of the table that is named by a put.
+#[derive(Clone, Copy, Debug, PartialEq, Eq)]
+pub enum Mode {
+    /// It is made, and must not be there.
+    Create,
+    /// Rows are added to it, and it must be there.
+    Append,
+    /// It is made, or takes the place of the one that is there.
+    Replace,
+}
+
+/// How connections are served.
+#[derive(Clone, Copy, Debug, PartialEq, Eq)]
+pub struct Serving {
+    /// The port, or 0 for one that is free.
+    pub port: u16,
+    /// So many at once.
+    pub seats: u32,
+    /// After so many the program ends; 0 stands for no end.
+    pub accept: u16,
+    /// In so many parts the rows of a query may be fetched.
+    pub parts: u32,
+    /// So many workers one fetch may have.
+    pub workers: u32,
+}
+
+/// What the command line asks for. Texts are taken as they stand.
+#[derive(Clone, Copy, Debug)]
+pub enum Request<'a> {
+    /// Serves one connection: standard input to standard output.
+    Pipe {
+        parts: u32,
+        workers: u32,
+    },
+    /// Serves connections to a port.
+    Serve(Serving),
+    /// Puts a stream from standard input into a table.
+    Put {
+        port: u16,
+        table: &'a str,
+        mode: Mode,
+    },
+    /// Prints the rows that a query answers, fetched over so many connections.
+    Query {
+        port: u16,
+        streams: u32,
+        sql: &'a str,
+    },
+    /// Prints the names of the tables.
+    Tables {
+        port: u16,
+    },
+}

@@ -1,5 +1,0 @@
-use Rattle.commands.proofs.Saying.{printed}
-use Rattle.commands.proofs.ending.end_by_fault.Goals as goal
-
-pub returns-clause-line : goal.returns-clause-line
-returns-clause-line g c = printed _ _ _ _ c.write_fault.ensures.bytes c.write_fault.ensures.counted

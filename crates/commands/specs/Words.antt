@@ -1,0 +1,43 @@
+-- What becomes of the program's words.
+use Rattle.std.specs.Prelude.{◌≡◌, ◌≢◌, ◌⊎◌, ℕ, List, ◌∷◌, [], ◌++◌, Result, Ok, Err, codes}
+use Rattle.clap.specs.Words.{Text, fault_of}
+use Rattle.clap.specs.declared.builder.value_parser.ValueParser.{ValueParser}
+use Rattle.clap.specs.declared.error.kind.ErrorKind.{ErrorKind}
+use Rattle.clap.specs.declared.error.kind.ErrorKind.TheVariants as kind
+use Rattle.scan_base.specs.declared.fault.Fault.TheVariants.{OutOfMemory}
+use Rattle.command_line.specs.Line.{program}
+use Rattle.command_line.specs.Request.{IsAskedBy}
+use Rattle.command_line.specs.declared.request.Request.{Request}
+use Rattle.command_ends.specs.Printing.{Said, Prints, fault_line}
+use Rattle.command_ends.specs.declared.exit_status.ExitStatus.{ExitStatus}
+use Rattle.command_ends.specs.declared.exit_status.ExitStatus.TheVariants.{BadCommandLine, FaultAtThisEnd}
+
+-- memory was refused for the words: a fault of this end
+pub record LacksMemory (status : ExitStatus) (said said' : Said) : Type 0 where
+  pub status_is : status ≡ FaultAtThisEnd
+  pub says : Prints (fault_line OutOfMemory) said said'
+
+-- a word is not UTF-8
+pub record HasNoText (status : ExitStatus) (said said' : Said) : Type 0 where
+  pub status_is : status ≡ BadCommandLine
+  pub says : Prints (codes "error: a word of the command line is not UTF-8" ++ 10 ∷ []) said said'
+
+-- The words are refused by an error of clap's, whose text is printed. No definition says what the text is.
+pub record RefusesWords (status : ExitStatus) (said said' : Said) : Type 0 where
+  pub status_is : status ≡ BadCommandLine
+  pub text : List ℕ
+  pub says : Prints text said said'
+
+-- What becomes of words, where the modes of `put` are read by this parser: they are a request, and clap finds no fault in
+-- them; or memory is refused for reading them; or clap finds a fault.
+abbrev pub ReadsWords : ValueParser → List Text → Result Request ExitStatus → Said → Said → Type 0
+ReadsWords modes words (Ok request) said said' =
+    (fault_of (program modes) words ≡ []) × IsAskedBy modes words request × (said' ≡ said)
+ReadsWords modes words (Err status) said said' =
+    LacksMemory status said said' ⊎ ((fault_of (program modes) words ≢ []) × RefusesWords status said said')
+
+-- Inside: what is done for an error of this kind.
+abbrev pub RefusesFor : ErrorKind → ExitStatus → Said → Said → Type 0
+RefusesFor found status said said' =
+    ((found ≡ kind.OutOfMemory) × LacksMemory status said said')
+    ⊎ ((found ≢ kind.OutOfMemory) × RefusesWords status said said')

@@ -1,0 +1,300 @@
+//! The commands of the client: over loopback, from a `serve` in another thread, and over answers in memory.
+
+ghost use Rattle.std.specs.Prelude.{◌<◌, ◌≡◌, IfOk};
+
+use client_calls::{Mode, Target};
+use client_commands::put::{Putting, put};
+use client_commands::query::{Querying, query};
+use client_commands::tables::tables;
+use command_ends::{Connect, Listen};
+use command_line::Serving;
+use commands::serve::serve;
+use grpc_frame::{Counted, MemoryInput, MemoryOutput};
+use hash_seed::HashSeed;
+use loopback::{Loopback, Port};
+use std::alloc::Global;
+use std::net::{Net, TcpListener, TcpStream};
+use std::test::Fail;
+use std::{io, thread};
+
+// An Arrow IPC stream of one nullable column `s` of texts: 'b', NULL, 'a', NULL, 'b'. Its headers are laid out by
+// vectors/arrow/layout.py.
+const STREAM: &[u8] =
+    b"\xff\xff\xff\xff\x00\x01\x00\x00\x88\x00\x00\x00\x00\x00\x00\x00\xee\xee\xee\xee\xee\xee\xee\xee\
+    \x14\x00\x0c\x00\x0a\x00\x08\x00\x04\x00\x00\x00\x00\x00\x00\x00\x00\x00\x00\x00\xee\xee\xee\xee\
+    \xee\xee\xee\xee\xee\xee\xee\xee\x12\x00\x08\x00\x00\x00\x04\x00\x00\x00\x00\x00\x00\x00\x00\x00\
+    \x00\x00\xee\xee\xee\xee\xee\xee\xee\xee\xee\xee\xee\xee\xee\xee\x18\x00\x10\x00\x0c\x00\x09\x00\
+    \x08\x00\x04\x00\x00\x00\x00\x00\x00\x00\x00\x00\x00\x00\x00\x00\xee\xee\xee\xee\xee\xee\xee\xee\
+    \x0a\x00\x04\x00\x00\x00\x00\x00\x00\x00\xee\xee\xee\xee\xee\xee\xee\xee\xee\xee\xee\xee\xee\xee\
+    \x78\x00\x00\x00\x14\x00\x00\x00\x01\x00\x04\x00\xee\xee\xee\xee\xee\xee\xee\xee\xee\xee\xee\xee\
+    \x70\x00\x00\x00\x10\x00\x00\x00\xee\xee\xee\xee\xee\xee\xee\xee\xee\xee\xee\xee\x01\x00\x00\x00\
+    \x10\x00\x00\x00\xee\xee\xee\xee\xee\xee\xee\xee\xee\xee\xee\xee\x78\x00\x00\x00\x14\x00\x00\x00\
+    \x05\x01\x00\x00\x20\x00\x00\x00\xee\xee\xee\xee\xee\xee\xee\xee\x70\x00\x00\x00\xee\xee\xee\xee\
+    \xee\xee\xee\xee\xee\xee\xee\xee\xee\xee\xee\xee\x01\x00\x00\x00\x73\x00\x00\x00\x00\x00\x00\x00\
+    \xff\xff\xff\xff\xe8\x00\x00\x00\x50\x00\x00\x00\x00\x00\x00\x00\xee\xee\xee\xee\xee\xee\xee\xee\
+    \x14\x00\x18\x00\x16\x00\x14\x00\x10\x00\x08\x00\x00\x00\x00\x00\x00\x00\x00\x00\xee\xee\xee\xee\
+    \xee\xee\xee\xee\xee\xee\xee\xee\x14\x00\x18\x00\x10\x00\x08\x00\x04\x00\x00\x00\x00\x00\x00\x00\
+    \x00\x00\x00\x00\xee\xee\xee\xee\xee\xee\xee\xee\xee\xee\xee\xee\x40\x00\x00\x00\x00\x00\x00\x00\
+    \x28\x00\x00\x00\x00\x00\x00\x00\x10\x00\x00\x00\x03\x00\x04\x00\xee\xee\xee\xee\xee\xee\xee\xee\
+    \x40\x00\x00\x00\x20\x00\x00\x00\x5c\x00\x00\x00\x00\x00\x00\x00\x05\x00\x00\x00\x00\x00\x00\x00\
+    \xee\xee\xee\xee\xee\xee\xee\xee\xee\xee\xee\xee\x03\x00\x00\x00\x00\x00\x00\x00\x00\x00\x00\x00\
+    \x01\x00\x00\x00\x00\x00\x00\x00\x08\x00\x00\x00\x00\x00\x00\x00\x18\x00\x00\x00\x00\x00\x00\x00\
+    \x20\x00\x00\x00\x00\x00\x00\x00\x05\x00\x00\x00\x00\x00\x00\x00\xee\xee\xee\xee\xee\xee\xee\xee\
+    \xee\xee\xee\xee\x01\x00\x00\x00\x05\x00\x00\x00\x00\x00\x00\x00\x02\x00\x00\x00\x00\x00\x00\x00\
+    \x15\x00\x00\x00\x00\x00\x00\x00\x00\x00\x00\x00\x01\x00\x00\x00\x02\x00\x00\x00\x03\x00\x00\x00\
+    \x04\x00\x00\x00\x05\x00\x00\x00\x62\x61\x61\x61\x62\x00\x00\x00\xff\xff\xff\xff\x00\x00\x00\x00";
+
+const GROUPED: &str = "SELECT s, COUNT(*) FROM t GROUP BY s";
+
+const GROUPS: &[u8] = b"s\tcol2\n'b'\t2\nNULL\t2\n'a'\t1\n";
+
+const TRANSPORT_LINE: &[u8] = b"fault: F22 Transport\n";
+
+const NOTHING: &[u8] = b"";
+
+// ---- over loopback
+
+// A port that is listened to already.
+#[derive(Drop)]
+struct Bound<'a, R> {
+    port: Port<'a, R>,
+    number: u16,
+}
+
+impl<R: Net<Listener = TcpListener, Stream = TcpStream>> Listen for Bound<'_, R> {
+    type Reader = Counted<TcpStream>;
+
+    type Writer = Counted<TcpStream>;
+
+    ghost listens = { λ _ _ _ _. Unit {0} };
+
+    fn listen(&mut self, _port: u16) -> io::Result<u16> {
+        Ok(self.number)
+    }
+
+    fn accept(&mut self) -> io::Result<(Counted<TcpStream>, Counted<TcpStream>)> {
+        self.port.accept()
+    }
+}
+
+// Serves four connections, and gives the exit status and what is printed.
+fn served<R: Net<Listener = TcpListener, Stream = TcpStream>>(
+    alloc: Global,
+    seed: HashSeed,
+    bound: &mut Bound<'_, R>,
+) -> (u8, MemoryOutput, MemoryOutput) {
+    let mut output = MemoryOutput::new(alloc);
+    let mut faults = MemoryOutput::new(alloc);
+    let serving = Serving {
+        port: 0,
+        seats: 1,
+        accept: 4,
+        parts: 2,
+        workers: 1,
+    };
+    let status = serve(alloc, seed, bound, &mut output, &mut faults, serving).number();
+    (status, output, faults)
+}
+
+// The exit statuses of a put, a list of the tables, a query and a query whose output is closed, and what they print.
+fn asked<R: Net<Listener = TcpListener, Stream = TcpStream>>(
+    rt: &R,
+    alloc: Global,
+    port: u16,
+) -> ([u8; 4], MemoryOutput, MemoryOutput) {
+    let mut network = Loopback::new(rt);
+    let mut input = MemoryInput::new(STREAM);
+    let mut output = MemoryOutput::new(alloc);
+    let mut closed = MemoryOutput::new(alloc).failing_after(0);
+    let mut faults = MemoryOutput::new(alloc);
+    let target = Target {
+        table: "t",
+        mode: Mode::Create,
+    };
+    let putting = Putting { port, target };
+    let grouped = Querying { port, sql: GROUPED };
+    let put = put(
+        alloc,
+        &mut network,
+        &mut input,
+        &mut output,
+        &mut faults,
+        putting,
+    )
+    .number();
+    let listed = tables(alloc, &mut network, &mut output, &mut faults, port).number();
+    let queried = query(alloc, &mut network, &mut output, &mut faults, grouped).number();
+    let refused = query(alloc, &mut network, &mut closed, &mut faults, grouped).number();
+    ([put, listed, queried, refused], output, faults)
+}
+
+#[test]
+fn four_commands(rt: HostRuntime) -> Result<(), Fail> {
+    let alloc = rt.alloc();
+    let seed = HashSeed::new(&rt)?;
+    let mut port = Port::new(&rt);
+    let number = port.listen(0)?;
+    let mut bound = Bound { port, number };
+    let runtime = &rt;
+    let (server, client) = thread::join(
+        &rt,
+        || served(alloc, seed, &mut bound),
+        || asked(runtime, alloc, number),
+    );
+    assert!(rt; server.0 == 0);
+    let listening = format!(in alloc; "listening 127.0.0.1:{number}\n")?;
+    assert!(rt; server.1.as_slice() == listening.as_bytes());
+    assert!(rt; server.2.as_slice() == NOTHING);
+    assert!(rt; client.0 == [0, 0, 0, 3]);
+    let (counted, lines) = client
+        .1
+        .as_slice()
+        .split_at(9.min(client.1.as_slice().len()));
+    assert!(rt; counted == b"5 rows\nt\n".as_slice());
+    assert!(rt; lines == GROUPS);
+    assert!(rt; client.2.as_slice() == TRANSPORT_LINE);
+    Ok(())
+}
+
+// A port to which nobody listens.
+#[test]
+fn nobody_listens(rt: HostRuntime) -> Result<(), Fail> {
+    let alloc = rt.alloc();
+    let port = Port::new(&rt).listen(0)?;
+    let mut output = MemoryOutput::new(alloc);
+    let mut faults = MemoryOutput::new(alloc);
+    let mut network = Loopback::new(&rt);
+    let status = tables(alloc, &mut network, &mut output, &mut faults, port).number();
+    assert!(rt; status == 3);
+    let line = format!(in alloc; "fault: F22 Transport\ncannot connect to 127.0.0.1:{port}: ")?;
+    assert!(rt; faults.as_slice().starts_with(line.as_bytes()));
+    Ok(())
+}
+
+// ---- over answers in memory
+
+// Connections whose server answers so.
+#[derive(Drop)]
+struct Answering<'a> {
+    alloc: Global,
+    answer: &'a [u8],
+    made: u32,
+}
+
+impl<'a> Connect for Answering<'a> {
+    type Reader = MemoryInput<'a>;
+
+    type Writer = MemoryOutput;
+
+    ghost connects = { λ _ _ _ _ _. Unit {0} };
+
+    fn connect(&mut self, _port: u16) -> io::Result<(MemoryInput<'a>, MemoryOutput)> {
+        self.made = self.made.saturating_add(1);
+        Ok((MemoryInput::new(self.answer), MemoryOutput::new(self.alloc)))
+    }
+}
+
+// The input, after how many reads one fails, the answer, how many connections are made, the exit status, and what is printed
+// on the output and of faults.
+type Case = (
+    &'static [u8],
+    u64,
+    &'static [u8],
+    u32,
+    u8,
+    &'static [u8],
+    &'static [u8],
+);
+
+static PUTS: [Case; 8] = [
+    (
+        STREAM,
+        9,
+        b"\x02\x00\x00\x00\x00\x04\x0a\x02\x08\x05\x04\x00\x00\x00",
+        1,
+        0,
+        b"5 rows\n",
+        NOTHING,
+    ),
+    // No count is a count of 0.
+    (
+        NOTHING,
+        9,
+        b"\x02\x00\x00\x00\x00\x00\x04\x00\x00\x00",
+        1,
+        0,
+        b"0 rows\n",
+        NOTHING,
+    ),
+    (
+        STREAM,
+        9,
+        b"\x04\x06\x00\x0fF10 TableExists",
+        1,
+        1,
+        NOTHING,
+        b"fault: F10 TableExists\n",
+    ),
+    // The server's faults are told as they came, those of its own frames too.
+    (
+        STREAM,
+        9,
+        b"\x04\x03\x00\x0bF1 BadFrame",
+        1,
+        1,
+        NOTHING,
+        b"fault: F1 BadFrame\n",
+    ),
+    (STREAM, 9, b"\x07", 1, 3, NOTHING, b"fault: F1 BadFrame\n"),
+    (STREAM, 9, NOTHING, 1, 3, NOTHING, TRANSPORT_LINE),
+    (
+        b"\x00",
+        9,
+        NOTHING,
+        0,
+        3,
+        NOTHING,
+        b"fault: F6 BadFlatbuffer\n",
+    ),
+    (
+        STREAM,
+        1,
+        NOTHING,
+        0,
+        3,
+        NOTHING,
+        b"fault: F22 Transport\ncannot read the input\n",
+    ),
+];
+
+#[test]
+fn puts(rt: HostRuntime) {
+    for (bytes, calls, answer, made, code, printed, said) in &PUTS {
+        let alloc = rt.alloc();
+        let mut network = Answering {
+            alloc,
+            answer,
+            made: 0,
+        };
+        let mut input = MemoryInput::new(bytes).failing_after(*calls);
+        let mut output = MemoryOutput::new(alloc);
+        let mut faults = MemoryOutput::new(alloc);
+        let target = Target {
+            table: "t",
+            mode: Mode::Append,
+        };
+        let putting = Putting { port: 1, target };
+        let status = put(
+            alloc,
+            &mut network,
+            &mut input,
+            &mut output,
+            &mut faults,
+            putting,
+        );
+        assert!(rt; status.number() == *code);
+        assert!(rt; network.made == *made);
+        assert!(rt; output.as_slice() == *printed);
+        assert!(rt; faults.as_slice() == *said);
+    }
+}

@@ -1,0 +1,166 @@
+//! Command lines, and what they ask for.
+
+use command_line::{Mode, Request};
+use commands::words::read_words;
+use grpc_frame::MemoryOutput;
+use std::alloc::{AllocError, Global};
+use std::test::Fail;
+
+// The first word is the program's name.
+fn words(alloc: Global, line: &str) -> Result<Vec<String>, AllocError> {
+    let mut words = Vec::new(alloc);
+    words.push(String::from_str(alloc, "flightscan")?)?;
+    for word in line.split(' ') {
+        if !word.is_empty() {
+            words.push(String::from_str(alloc, word)?)?;
+        }
+    }
+    Ok(words)
+}
+
+// Command lines that are refused, and the first words that are printed.
+static REFUSED: [(&'static str, &'static [u8]); 25] = [
+    ("", b"error: "),
+    ("pipes", b"error: unrecognized subcommand 'pipes'"),
+    ("pipe more", b"error: unexpected argument 'more' found"),
+    (
+        "pipe --parts 0",
+        b"error: invalid value '0' for '--parts <P>': 0 is not in 1..=64",
+    ),
+    (
+        "pipe --parts=65",
+        b"error: invalid value '65' for '--parts <P>': 65 is not in 1..=64",
+    ),
+    (
+        "pipe --parts two",
+        b"error: invalid value 'two' for '--parts <P>'",
+    ),
+    (
+        "pipe --workers 17",
+        b"error: invalid value '17' for '--workers <W>': 17 is not in 1..=16",
+    ),
+    (
+        "serve",
+        b"error: the following required arguments were not provided",
+    ),
+    (
+        "serve --port 65536",
+        b"error: invalid value '65536' for '--port <N>'",
+    ),
+    ("serve --port -1", b"error: "),
+    (
+        "serve --port 1 --seats 33",
+        b"error: invalid value '33' for '--seats <S>'",
+    ),
+    (
+        "serve --port 1 --accept 65536",
+        b"error: invalid value '65536' for '--accept <A>'",
+    ),
+    (
+        "put --port 1 --table t",
+        b"error: the following required arguments were not provided",
+    ),
+    (
+        "put --port 1 --mode create",
+        b"error: the following required arguments were not provided",
+    ),
+    (
+        "put --port 1 --table t --mode Create",
+        b"error: invalid value 'Create' for '--mode <M>'",
+    ),
+    (
+        "query --port 1",
+        b"error: the following required arguments were not provided",
+    ),
+    (
+        "query --port 1 --streams 0 x",
+        b"error: invalid value '0' for '--streams <K>'",
+    ),
+    (
+        "query --port 1 x y",
+        b"error: unexpected argument 'y' found",
+    ),
+    (
+        "tables",
+        b"error: the following required arguments were not provided",
+    ),
+    ("--help", b"Holds Arrow tables in memory"),
+    ("help", b"Holds Arrow tables in memory"),
+    ("pipe --help", b"Serves one connection"),
+    ("pipe -h", b"Serves one connection"),
+    ("put --help", b"Puts an Arrow IPC stream"),
+    ("query --help", b"Prints the rows"),
+];
+
+#[test]
+fn refused_lines(rt: HostRuntime) -> Result<(), Fail> {
+    for (line, text) in &REFUSED {
+        let words = words(rt.alloc(), line)?;
+        let mut faults = MemoryOutput::new(rt.alloc());
+        let status = match read_words(rt.alloc(), &words, &mut faults) {
+            Ok(_) => 0,
+            Err(status) => status.number(),
+        };
+        assert!(rt; status == 2);
+        assert!(rt; faults.as_slice().starts_with(text));
+    }
+    Ok(())
+}
+
+// A request in a line.
+fn told(alloc: Global, request: Request<'_>) -> Result<String, AllocError> {
+    match request {
+        Request::Pipe { parts, workers } => format!(in alloc; "pipe {parts} {workers}"),
+        Request::Serve(serving) => {
+            let (port, seats, accept) = (serving.port, serving.seats, serving.accept);
+            let (parts, workers) = (serving.parts, serving.workers);
+            format!(in alloc; "serve {port} {seats} {accept} {parts} {workers}")
+        }
+        Request::Put { port, table, mode } => {
+            let mode = match mode {
+                Mode::Create => "create",
+                Mode::Append => "append",
+                Mode::Replace => "replace",
+            };
+            format!(in alloc; "put {port} {table} {mode}")
+        }
+        Request::Query { port, streams, sql } => format!(in alloc; "query {port} {streams} {sql}"),
+        Request::Tables { port } => format!(in alloc; "tables {port}"),
+    }
+}
+
+// Command lines, and what they ask for.
+static TAKEN: [(&'static str, &'static str); 11] = [
+    ("pipe", "pipe 1 1"),
+    ("pipe --workers 16 --parts=64", "pipe 64 16"),
+    ("serve --port 0", "serve 0 4 0 1 1"),
+    (
+        "serve --accept 65535 --port 65535 --seats 32 --parts 2 --workers 3",
+        "serve 65535 32 65535 2 3",
+    ),
+    ("put --port 1 --table t --mode create", "put 1 t create"),
+    (
+        "put --mode append --table create --port 1",
+        "put 1 create append",
+    ),
+    ("put --port=1 --table= --mode=replace", "put 1  replace"),
+    ("query --port 1 tables", "query 1 1 tables"),
+    ("query SELECT --streams 16 --port 1", "query 1 16 SELECT"),
+    ("query --port 1 -- --port", "query 1 1 --port"),
+    ("tables --port 4711", "tables 4711"),
+];
+
+#[test]
+fn taken_lines(rt: HostRuntime) -> Result<(), Fail> {
+    for (line, want) in &TAKEN {
+        let words = words(rt.alloc(), line)?;
+        let mut faults = MemoryOutput::new(rt.alloc());
+        let told = match read_words(rt.alloc(), &words, &mut faults) {
+            Ok(request) => told(rt.alloc(), request)?,
+            Err(_) => String::from_str(rt.alloc(), "refused")?,
+        };
+        assert!(rt; told.as_str() == *want);
+        assert!(rt; faults.as_slice().is_empty());
+    }
+    Ok(())
+}

@@ -1,0 +1,82 @@
+//! Sockets of this machine, on 127.0.0.1 alone, as commands see the network.
+#![tactic(auto)]
+
+ghost use Rattle.std.specs.Prelude.{◌≡◌, IfOk};
+
+use command_ends::{Connect, Listen};
+use grpc_frame::Counted;
+use std::io;
+use std::io::ErrorKind;
+use std::net::{Ipv4Addr, Net, TcpListener, TcpStream};
+
+/// Connects to servers of this machine.
+#[derive(Drop)]
+pub struct Loopback<'a, R> {
+    rt: &'a R,
+}
+
+impl<'a, R> Loopback<'a, R> {
+    /// By the sockets of this runtime.
+    pub fn new(rt: &'a R) -> Loopback<'a, R> {
+        Loopback { rt }
+    }
+}
+
+impl<R: Net<Listener = TcpListener, Stream = TcpStream>> Connect for Loopback<'_, R> {
+    type Reader = Counted<TcpStream>;
+
+    type Writer = Counted<TcpStream>;
+
+    ghost connects = { λ _ _ _ _ _. Unit {0} };
+
+    fn connect(&mut self, port: u16) -> io::Result<(Counted<TcpStream>, Counted<TcpStream>)> {
+        ends_of(TcpStream::connect(self.rt, (Ipv4Addr::LOCALHOST, port))?)
+    }
+}
+
+/// Listens to a port of this machine.
+#[derive(Drop)]
+pub struct Port<'a, R> {
+    rt: &'a R,
+    listener: Option<TcpListener>,
+}
+
+impl<'a, R> Port<'a, R> {
+    /// By the sockets of this runtime. No port is listened to yet.
+    pub fn new(rt: &'a R) -> Port<'a, R> {
+        Port { rt, listener: None }
+    }
+}
+
+impl<R: Net<Listener = TcpListener, Stream = TcpStream>> Listen for Port<'_, R> {
+    type Reader = Counted<TcpStream>;
+
+    type Writer = Counted<TcpStream>;
+
+    ghost listens = { λ _ _ _ _. Unit {0} };
+
+    fn listen(&mut self, port: u16) -> io::Result<u16> {
+        let listener = TcpListener::bind(self.rt, (Ipv4Addr::LOCALHOST, port))?;
+        let port = listener.local_addr()?.port();
+        self.listener = Some(listener);
+        Ok(port)
+    }
+
+    fn accept(&mut self) -> io::Result<(Counted<TcpStream>, Counted<TcpStream>)> {
+        let Some(listener) = &self.listener else {
+            return Err(io::Error::from(ErrorKind::NotConnected));
+        };
+        let (stream, _) = listener.accept()?;
+        ends_of(stream)
+    }
+}
+
+// The ends of a stream. What is written goes out at once.
+fn ends_of(stream: TcpStream) -> io::Result<(Counted<TcpStream>, Counted<TcpStream>)>
+    ensures reads { IfOk result (λ ends. ends.0.failures ≡ 0) }
+    ensures writes { IfOk result (λ ends. ends.1.failures ≡ 0) }
+{
+    stream.set_nodelay(true)?;
+    let other = stream.try_clone()?;
+    Ok((Counted::new(stream), Counted::new(other)))
+}

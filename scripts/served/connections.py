@@ -1,0 +1,208 @@
+"""Cases of bytes and records, of clients that go away, and of one that does not read."""
+
+from __future__ import annotations
+
+import time
+
+import trees
+import wire
+from each_allocation import MADE, PUT_LENGTH
+from layout import written
+from loopback import Connection, Server
+from random_calls.answers import PutCount, Refusal, same
+from random_calls.refused import INGEST
+from served.cases import (A, DONE, FETCH, FIRST_RUN, MEGABYTE, PUT, TICKET, Run, ask, case, descriptor_of, fetch_of,
+                          info_of, put_of, rows_of, status_of)
+
+# ---- bytes
+
+
+def look_at_the_first_run(given: bytes) -> None:
+    """The first run's answers: 14 bytes that are known, Messages that say the rows 1 and 2, and Status 0."""
+    source = wire.Bytes(given)
+    same("the put's answer", MADE, given[: len(MADE)])
+    wire.answer(source)
+    rows_of(A, (1,), (2,)).look(wire.answer(source))
+    same("the last record, and what stands behind it", DONE, given[source.place - len(DONE) :])
+
+
+@case("the first run's 565 bytes, whole and in single bytes: its answers, the same both times, and the end")
+def first_run_in_pieces(run: Run) -> None:
+    given = []
+    for piece in (None, 1, 7):
+        with run.serving() as server, Connection(server.port) as connection:
+            connection.send(FIRST_RUN, piece)
+            connection.end_input()
+            given.append(connection.rest())
+    look_at_the_first_run(given[0])
+    same("the answers of single bytes", given[0], given[1])
+    same("the answers of pieces", given[0], given[2])
+
+
+@case("the first run cut anywhere: whole calls are answered and no other, and what was cut is not done", beyond_pipe=True)
+def first_run_cut(run: Run) -> None:
+    for length in (0, 1, 2, 44, 45, 47, 51, 120, 249, 250, 300, 405, 406, 407, 408, 452, 500, 563, 564):
+        with run.serving() as server:
+            with Connection(server.port) as connection:
+                connection.send(FIRST_RUN[:length])
+                connection.end_input()
+                same(f"the answer of {length} bytes", MADE if length >= PUT_LENGTH else b"", connection.rest())
+            wanted = rows_of(A, (1,), (2,)) if length >= PUT_LENGTH else Refusal("F18")
+            with Connection(server.port) as connection:
+                ask(connection, FETCH, wanted)
+
+
+@case("puts of 4 rows and of none, and an info: byte for byte what the rules say")
+def exact_bytes(run: Run) -> None:
+    with run.serving() as server, Connection(server.port) as connection:
+        connection.send(put_of("four", A, [(1,), (None,), (3,), (4,)]))
+        same("the answer of 4 rows", bytes.fromhex("02 00 00 00 00 04 0A 02 08 04") + DONE, connection.take(14))
+        connection.send(put_of("none", A, []))
+        same("the answer of no row", bytes.fromhex("02 00 00 00 00 00") + DONE, connection.take(10))
+        ask(connection, fetch_of(2, 0, 0, "SELECT * FROM none"), rows_of(A))
+    with run.serving() as server, Connection(server.port) as connection:
+        ask(connection, PUT, PutCount(2))
+        connection.send(info_of("SELECT * FROM t"))
+        info, asked = connection.answer().messages[0], descriptor_of("SELECT * FROM t")
+        minus_one = b"\xff" * 9 + b"\x01"
+        end = b"\x12\x5c" + asked + b"\x1a\x6c\x0a\x6a" + TICKET + b"\x20" + minus_one + b"\x28" + minus_one + b"\x30\x01"
+        same("an info", wire.chunk(1, wire.fields(info)[0][1]) + end, info)
+
+
+# ---- records
+
+
+OPEN_PUT = wire.record_open(b"DoPut")
+BAD_FRAME, TOO_LARGE = status_of("F1 BadFrame", 3), status_of("F2 MessageTooLarge", 8)
+BROKEN = [
+    ("the kind 05", b"\x05", BAD_FRAME),
+    ("the kind 05 and bytes behind it", b"\x05" + PUT, BAD_FRAME),
+    ("the kind 00", b"\x00", BAD_FRAME),
+    ("a Message between calls", b"\x02", BAD_FRAME),
+    ("an End between calls", b"\x03", BAD_FRAME),
+    ("a Status from a client", b"\x04", BAD_FRAME),
+    ("an Open inside a call", OPEN_PUT + b"\x01", BAD_FRAME),
+    ("a path of 257 bytes", b"\x01\x01\x01", BAD_FRAME),
+    ("the flag 1", OPEN_PUT + b"\x02\x01", BAD_FRAME),
+    ("a Message of 16,777,217 bytes", OPEN_PUT + b"\x02\x00\x01\x00\x00\x01", TOO_LARGE),
+    ("a Message of 16,777,217 bytes of a call that is refused", b"\x01\x00\x02/x\x02\x00\x01\x00\x00\x01", TOO_LARGE),
+    ("a Message behind two whole calls", PUT + FETCH + b"\x02", BAD_FRAME),
+]
+
+
+@case("broken records: each is answered as soon as it is there, and ends the connection")
+def broken_records(run: Run) -> None:
+    with run.serving() as server:
+        for said, data, status in BROKEN:
+            with Connection(server.port) as connection:
+                connection.send(data)  # and no end of the input
+                given = connection.rest()
+                same(f"{said}: the last record", status, given[-len(status) :])
+                if data.startswith(PUT):
+                    look_at_the_first_run(given[: -len(status)])
+                else:
+                    same(f"{said}: what stands before", b"", given[: -len(status)])
+
+
+@case("a method that is not there, then a put: F3, and the put's answer")
+def another_path(run: Run) -> None:
+    with run.serving() as server, Connection(server.port) as connection:
+        connection.send(b"\x01\x00\x02/x\x03" + PUT)
+        same("the Status of /x", status_of("F3 UnknownMethod", 12), connection.take(20))
+        same("the put's answer", MADE, connection.take(len(MADE)))
+        ask(connection, b"\x01\x01\x00" + b"/" * 256 + wire.record_message(bytes(9)) * 3 + wire.END, Refusal("F3"))
+        ask(connection, wire.call(b"DoGet", [bytes(16_777_216)]), Refusal("F4"))
+        ask(connection, FETCH, rows_of(A, (1,), (2,)))
+
+
+# ---- clients that go away, and one that does not read
+
+
+@case("clients that go away anywhere in a call: the next one is served, and a put that was cut was not made")
+def gone_clients(run: Run) -> None:
+    with run.serving() as server:
+        for place in (1, 2, 20, 45, 46, 50, 51, 100, 250, 300, 405, 406):
+            for leave in (Connection.close, Connection.break_off):
+                connection = Connection(server.port)
+                connection.send(PUT[:place])
+                leave(connection)
+            with Connection(server.port) as connection:
+                ask(connection, FETCH, Refusal("F18"))
+        with Connection(server.port) as connection:
+            ask(connection, PUT, PutCount(2))
+
+
+@case("a client that goes away before the answer of its whole put: the put stands", beyond_pipe=True)
+def answer_not_read(run: Run) -> None:
+    with run.serving() as server:
+        connection = Connection(server.port)
+        connection.send(PUT)
+        connection.close()
+        with Connection(server.port) as connection:
+            for _ in range(1000):  # several connections are served in any order
+                connection.send(FETCH)
+                if connection.answer().code == 0:
+                    break
+                time.sleep(0.005)
+            ask(connection, PUT, Refusal("F10"))
+            ask(connection, FETCH, rows_of(A, (1,), (2,)))
+
+
+def large_put(rows: int) -> bytes:
+    """A put of one text of 65,536 bytes and so many indices that lead to it: small, with a large answer."""
+    fields = trees.field("s", trees.UTF8, dictionary=trees.encoding(1, trees.integer(8, True)))
+    words = trees.dictionary(1, trees.batch(1, (0, b"", *trees.texts([b"x" * 65_536]))))
+    made = [(trees.schema(fields), b""), words, trees.batch(rows, (0, b"", bytes(rows)))]
+    messages = [wire.chunk(2, written("Message", tree, "spread")) + wire.chunk(1000, body) for tree, body in made]
+    command = wire.descriptor(wire.packed(INGEST, wire.chunk(1, wire.scalar(1, 1)) + wire.chunk(2, b"t")))
+    return wire.call(b"DoPut", [wire.chunk(1, command) + messages[0], *messages[1:]])
+
+
+@case("a client that reads nothing of an answer of 268 MB: the server waits, idle, and holds less than 32 MB more")
+def nothing_read(run: Run) -> str:
+    with run.serving() as server:
+        with Connection(server.port, room=65_536) as connection:
+            ask(connection, large_put(4_096), PutCount(4_096))
+            before = server.held()
+            connection.send(fetch_of(1, 0, 4_096, "SELECT * FROM t"))
+            held = []
+            for _ in range(40):
+                time.sleep(0.05)
+                held.append(server.held() - before)
+            ticks = server.ticks()
+            time.sleep(0.5)
+            same("it used the processor while it waited", True, server.ticks() - ticks <= 1)
+            more = f"at most {max(held) / 1e6:.1f} MB more"
+            same(f"it holds {more}, which is less than 32", True, max(held) < 32 * MEGABYTE)
+            connection.take(MEGABYTE)
+            connection.break_off()
+        with Connection(server.port) as connection:
+            ask(connection, PUT, PutCount(2) if run.relay else Refusal("F10"))
+    return more
+
+
+@case("500 connections, one after another: the last 300 leave no open file and no memory behind", beyond_pipe=True)
+def connections_in_a_row(run: Run) -> None:
+    with run.serving() as server:
+        with Connection(server.port) as connection:
+            ask(connection, PUT, PutCount(2))
+        files = held = 0
+        for number in range(500):
+            with Connection(server.port) as connection:
+                ask(connection, FETCH, rows_of(A, (1,), (2,)))
+                if number == 200:
+                    files, held = server.open_files(), server.held()
+                last = server.open_files(), server.held()
+        same("the number of open files", files, last[0])
+        same(f"it holds less than 1 MB more, of {last[1] - held} bytes", True, last[1] - held < MEGABYTE)
+
+
+@case("after three connections --accept 3 ends the server with 0", beyond_pipe=True)
+def accept_three(run: Run) -> None:
+    with Server(run.path, "--accept", "3") as server:
+        for wanted in (PutCount(2), Refusal("F10"), Refusal("F10")):
+            same("the exit status", None, server.process.poll())
+            with Connection(server.port) as connection:
+                ask(connection, PUT, wanted)
+        same("the exit status", 0, server.process.wait(10))
+        same("what was printed behind the port, and as faults", (b"", b""), (server.process.stdout.read(), server.said()))

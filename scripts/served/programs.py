@@ -1,0 +1,244 @@
+"""Cases of the programs `put`, `query` and `tables`: what each prints, and how it ends."""
+
+from __future__ import annotations
+
+import os
+import socket
+import subprocess
+import threading
+from random import Random
+
+import framing
+import trees
+import wire
+from framing import END
+from layout import written
+from loopback import SECONDS, Server
+from random_calls.answers import same
+from random_calls.plain_model import Column, Put, Row, Table
+from random_calls.puts import RANGES, stream_of
+from served.cases import A, Run, case, status_of
+from trips import STREAM
+
+TRIPS = STREAM.read_bytes()
+TRANSPORT = b"fault: F22 Transport\n"
+
+
+def typed(run: Run, *words: str, data: bytes = b"", out: int = subprocess.PIPE) -> tuple[int, bytes, bytes]:
+    """Runs the program: its exit status, and what it printed on both outputs."""
+    done = subprocess.run([run.path, *words], input=data, stdout=out, stderr=subprocess.PIPE, timeout=SECONDS)
+    return done.returncode, done.stdout or b"", done.stderr
+
+
+def put(run: Run, server: Server, table: str, data: bytes, mode: str = "create") -> tuple[int, bytes, bytes]:
+    return typed(run, "put", "--port", str(server.port), "--table", table, "--mode", mode, data=data)
+
+
+def query(run: Run, server: Server, text: str, *options: str) -> tuple[int, bytes, bytes]:
+    return typed(run, "query", "--port", str(server.port), *options, text)
+
+
+def tables(run: Run, server: Server) -> tuple[int, bytes, bytes]:
+    return typed(run, "tables", "--port", str(server.port))
+
+
+def printed(*lines: str) -> tuple[int, bytes, bytes]:
+    """Done, and these lines."""
+    return 0, "".join(line + "\n" for line in lines).encode(), b""
+
+
+def answered(fault: str) -> tuple[int, bytes, bytes]:
+    """A fault that the server answered."""
+    return 1, b"", f"fault: {fault}\n".encode()
+
+
+def found(fault: str) -> tuple[int, bytes, bytes]:
+    """A fault found at this end."""
+    return 3, b"", f"fault: {fault}\n".encode()
+
+
+def stream(columns: tuple[Column, ...], rows: list[Row], end: bytes = END) -> bytes:
+    """An IPC stream of these rows."""
+    made, _ = stream_of(Random(len(rows)), Put("", "CREATE", "FAIL", Table(columns, rows)))
+    return framing.stream_of((written("Message", tree, "spread"), body) for tree, body in made.messages) + end
+
+
+def free_port() -> str:
+    """A port on which nothing listens."""
+    with socket.create_server(("127.0.0.1", 0)) as listener:
+        return str(listener.getsockname()[1])
+
+
+# ---- what is printed
+
+
+@case("put, tables and query: the count, the names and the lines, of groups too", beyond_pipe=True)
+def printed_lines(run: Run) -> None:
+    texts = (Column("s", "Utf8", True),)
+    with run.serving() as server:
+        data = stream(texts, [("b",), (None,), ("a",), (None,), ("b",)])
+        same("put", printed("5 rows"), put(run, server, "t", data))
+        grouped = "SELECT s, COUNT(*) FROM t GROUP BY s"
+        same("groups", printed("s\tcol2", "'b'\t2", "NULL\t2", "'a'\t1"), query(run, server, grouped))
+        same("append", printed("5 rows"), put(run, server, "t", data, "append"))
+        same("count", printed("col1\tcol2", "10\t6"), query(run, server, "SELECT COUNT(*), COUNT(s) FROM t"))
+        same("replace", printed("0 rows"), put(run, server, "t", stream(A, []), "replace"))
+        same("no row", printed("a"), query(run, server, "SELECT * FROM t"))
+        same("replace of none", printed("7 rows"), put(run, server, "a", TRIPS, "replace"))
+        same("tables", printed("a", "t"), tables(run, server))
+
+
+@case("names and texts with a backslash, a tab, LF, CR or quotes are escaped", beyond_pipe=True)
+def escapes(run: Run) -> None:
+    name, text = "a\t\\\n\r'b", "it's\t\\\n\r'\u20ac"
+    with run.serving() as server:
+        same("put", printed("1 rows"), put(run, server, name, stream((Column(name, "Utf8", False),), [(text,)])))
+        same("tables", printed("a\\t\\\\\\n\\r'b"), tables(run, server))
+        lines = printed("a\\t\\\\\\n\\r'b", "'it''s\\t\\\\\\n\\r''\u20ac'")
+        same("query", lines, query(run, server, f'SELECT * FROM "{name}"'))
+
+
+@case("numbers of every type, their least and greatest, and truth values", beyond_pipe=True)
+def every_type(run: Run) -> None:
+    columns = (*(Column(kind, kind, True) for kind in RANGES), Column("Bool", "Bool", True))
+    ends = [tuple(bounds[place] - place for bounds in RANGES.values()) for place in (0, 1)]
+    rows = [(*ends[0], True), (*ends[1], False), (None,) * len(columns)]
+    words = ["\t".join(map(str, row[:-1])) for row in rows[:2]]
+    with run.serving() as server:
+        same("put", printed("3 rows"), put(run, server, "t", stream(columns, rows)))
+        lines = ["\t".join(column.name for column in columns), words[0] + "\tTRUE", words[1] + "\tFALSE"]
+        nulls = "\t".join(["NULL"] * len(columns))
+        same("query", printed(*lines, nulls), query(run, server, "SELECT * FROM t"))
+
+
+@case("rows from 64 endpoints, over one connection or several, are printed in their order", beyond_pipe=True)
+def joined_endpoints(run: Run) -> None:
+    with run.serving("--parts", "64") as server:
+        same("put", printed("1000 rows"), put(run, server, "t", stream(A, [(row,) for row in range(1000)])))
+        lines = printed("a", *map(str, range(1000)))
+        for options in ((), ("--streams", "1"), ("--streams", "16")):
+            same(f"query {options}", lines, query(run, server, "SELECT a FROM t", *options))
+
+
+# ---- streams
+
+
+@case("streams with and without their end marker, with bytes behind it, and of no message", beyond_pipe=True)
+def ends_of_streams(run: Run) -> None:
+    cut = TRIPS[: -len(END)]
+    with run.serving() as server:
+        for data in (TRIPS, cut, TRIPS + b"\0", TRIPS + TRIPS, stream(A, [(row,) for row in range(7)], b"")):
+            same("put", printed("7 rows"), put(run, server, "t", data, "replace"))
+        for data in (b"", END, END + TRIPS):
+            same("no schema", answered("F8 BadBatch"), put(run, server, "t", data, "replace"))
+        for data in (cut[:-1], b"\0", TRIPS[4:], cut + b"\xff" * 4):
+            same("cut or no stream", found("F6 BadFlatbuffer"), put(run, server, "t", data, "replace"))
+        long = trees.batch(2_100_000, (0, b"", bytes(8 * 2_100_000)))
+        messages = [(trees.schema(trees.field("a", trees.integer(64, True))), b""), long]
+        data = framing.stream_of((written("Message", tree, "spread"), body) for tree, body in messages)
+        same("a message above the limit", found("F2 MessageTooLarge"), put(run, server, "u", data))
+        same("tables", printed("t"), tables(run, server))
+        same("nothing was put", printed("col1", "7"), query(run, server, "SELECT COUNT(*) FROM t"))
+    nowhere = ("put", "--port", free_port(), "--table", "t", "--mode", "create")
+    same("what is cut is not sent", found("F6 BadFlatbuffer"), typed(run, *nowhere, data=b"\0"))
+
+
+# ---- how they end
+
+
+@case("faults that the server answers: one line, nothing on standard output, and status 1", beyond_pipe=True)
+def answered_faults(run: Run) -> None:
+    with run.serving() as server:
+        same("append to none", answered("F9 TableMissing"), put(run, server, "t", TRIPS, "append"))
+        same("put", printed("7 rows"), put(run, server, "t", TRIPS))
+        same("create again", answered("F10 TableExists"), put(run, server, "t", TRIPS))
+        same("another schema", answered("F11 SchemaMismatch"), put(run, server, "t", stream(A, [(1,)]), "append"))
+        same("a name of no byte", answered("F12 LimitReached"), put(run, server, "", TRIPS))
+        for text, fault in (("SELECT a,, b FROM t", "F13 BadSql at byte 9"), ("SELECT x FROM t", "F14 UnknownName"),
+                            ("SELECT id FROM t WHERE id = 'x'", "F15 TypeClash"), ("SELECT * FROM u", "F9 TableMissing"),
+                            ("SELECT id FROM t LIMIT 1", "F16 NotInSubset"), ("", "F13 BadSql at byte 0")):
+            same(text, answered(fault), query(run, server, text))
+
+
+LINES = [[], ["another"], ["--help"], ["put", "--help"], ["pipe", "--parts", "0"], ["pipe", "--parts", "65"],
+         ["serve"], ["serve", "--port", "65536"], ["serve", "--port", "0", "--seats", "33"], ["tables"],
+         ["serve", "--port", "0", "--accept", "65536"], ["serve", "--port", "0", "--workers", "17"],
+         ["put", "--port", "1", "--table", "t"], ["put", "--port", "1", "--table", "t", "--mode", "upsert"],
+         ["query", "--port", "1"], ["query", "--port", "1", "--streams", "17", "SELECT * FROM t"],
+         ["tables", "--port", "x"]]
+
+
+@case("command lines that don't parse or ask for help: a text on standard error, and status 2", beyond_pipe=True)
+def command_lines(run: Run) -> None:
+    for words in LINES:
+        status, out, said = typed(run, *words)
+        same(f"{words}: status, output, and whether a text is said", (2, b"", True), (status, out, len(said) > 0))
+
+
+def look_at_transport(what: str, given: tuple[int, bytes, bytes], port: str) -> None:
+    """F22, and a second line that names the port."""
+    status, out, said = given
+    lines = said.splitlines(keepends=True)
+    same(f"{what}: status, output and first line", (3, b"", TRANSPORT), (status, out, lines[0] if lines else b""))
+    same(f"{what}: a second line with the port, {said!r}", True, len(lines) == 2 and port.encode() in lines[1])
+
+
+@case("a port on which nothing listens, and one that is taken: F22, a line that says which, and status 3", beyond_pipe=True)
+def no_connection(run: Run) -> None:
+    port = free_port()
+    look_at_transport("tables", typed(run, "tables", "--port", port), port)
+    look_at_transport("query", typed(run, "query", "--port", port, "SELECT * FROM t"), port)
+    look_at_transport("put", typed(run, "put", "--port", port, "--table", "t", "--mode", "create", data=TRIPS), port)
+    with socket.create_server(("127.0.0.1", 0)) as taken:
+        port = str(taken.getsockname()[1])
+        look_at_transport("serve", typed(run, "serve", "--port", port, "--accept", "1"), port)
+
+
+@case("output that is closed or full while query prints: one line, and status 3", beyond_pipe=True)
+def closed_output(run: Run) -> None:
+    with run.serving() as server:
+        same("put", printed("7 rows"), put(run, server, "t", TRIPS))
+        many = stream(A, [(row,) for row in range(20_000)])
+        same("put of many", printed("20000 rows"), put(run, server, "many", many))
+        for name in ("t", "many"):
+            words = ("query", "--port", str(server.port), f"SELECT * FROM {name}")
+            reads, writes = os.pipe()
+            os.close(reads)
+            same("a closed pipe", (3, b"", TRANSPORT), typed(run, *words, out=writes))
+            os.close(writes)
+            with open("/dev/full", "wb") as full:
+                same("a full disk", (3, b"", TRANSPORT), typed(run, *words, out=full.fileno()))
+
+
+def told(run: Run, answer: bytes) -> tuple[int, bytes, bytes]:
+    """What `query` makes of a server that answers its first call by these bytes, and ends the connection."""
+
+    def serve(listener: socket.socket) -> None:
+        connection, _ = listener.accept()
+        with connection:
+            data = b""
+            while not data.endswith(wire.END) and (more := connection.recv(65_536)):
+                data += more
+            connection.sendall(answer)
+
+    with socket.create_server(("127.0.0.1", 0)) as listener:
+        server = threading.Thread(target=serve, args=(listener,))
+        server.start()
+        given = typed(run, "query", "--port", str(listener.getsockname()[1]), "SELECT * FROM t")
+        server.join()
+    return given
+
+
+@case("servers that answer something else: the fault found at this end, and status 3", beyond_pipe=True)
+def other_servers(run: Run) -> None:
+    done, nothing = b"\x04\0\0\0", b"\x02\0\0\0\0\0"
+    frames = [b"\x05", b"\x01", b"\x03", b"\x02\x01", b"\x04\x03\0\x01\xff"]
+    for answer in frames:
+        same(f"the answer {answer.hex()}", found("F1 BadFrame"), told(run, answer))
+    same("a long Message", found("F2 MessageTooLarge"), told(run, b"\x02\0\x01\0\0\x01"))
+    same("no endpoint", found("F4 BadProto"), told(run, nothing + done))
+    for answer in (b"", nothing, nothing + done[:2]):
+        status, out, said = told(run, answer)
+        same(f"the end behind {answer.hex()}", (3, b"", True), (status, out, said.startswith(TRANSPORT)))
+    same("a fault", answered("F14 UnknownName"), told(run, status_of("F14 UnknownName", 5)))
+    same("no fault of ours", b"fault: F1 BadFrame\n", told(run, status_of("F99 Other", 3))[2])
