@@ -52,7 +52,6 @@ pub(crate) enum Stage {
 }
 
 // Rows, what is wanted of their groups, and how far the answer is. A contract sees the answer that is still to be given.
-#[derive(Drop)]
 pub(crate) struct GroupedRows {
     pub(crate) rows: Rows,
     pub(crate) wanted: Wanted,
@@ -68,6 +67,17 @@ impl Model for GroupedRows {
     ghost view = { λ g. of_groups g.rows g.wanted g.stage };
 
     ghost invariant = { λ g. IsGrouped g.rows g.wanted g.stage };
+}
+
+// Written out, so that where it is dropped there is one call: proofs there do not go through its parts.
+impl Drop for GroupedRows {
+    fn drop(self) {
+        let GroupedRows {
+            rows: _,
+            wanted: _,
+            stage: _,
+        } = self;
+    }
 }
 
 // Feeds those rows that the filters let through to groups of these batches that have none.
