@@ -12,6 +12,7 @@ pub record SideAt : Type 0 where
   pub connective : Connective
   pub predicate : Pred ColumnName
 
+-- a side, without where its predicate lies in memory
 abbrev pub side_of : Side → SideAt
 side_of side = record { connective = side.connective; predicate = pred_of side.predicate.now }
 

@@ -5,10 +5,12 @@ use Rattle.scan_base.specs.declared.predicate.Operand.TheVariants.{Column, Liter
 use Rattle.scan_base.specs.Predicate.{Pred, conjunction, disjunction, negation, truth_test, comparing, between}
 use Rattle.scan_base.specs.Predicate.{membership, null_test}
 
+-- an operand with another name of its column
 abbrev pub operand_map : {C D : Type 0} → (C → D) → Operand C → Operand D
 operand_map f (Column column) = Column (f column)
 operand_map f (Literal value) = Literal value
 
+-- a predicate whose operands have other names of their columns
 abbrev pub predicate_map : {C D : Type 0} → (C → D) → Pred C → Pred D
 predicate_map f (conjunction p q) = conjunction (predicate_map f p) (predicate_map f q)
 predicate_map f (disjunction p q) = disjunction (predicate_map f p) (predicate_map f q)

@@ -71,6 +71,7 @@ abbrev pub groups_by : List ℕ → List Row → List Group
 groups_by [] rows = record { key = []; rows = rows } ∷ []
 groups_by (key ∷ keys) rows = fold (λ groups row. with_row (map (cell_in row) (key ∷ keys)) row groups) [] rows
 
+-- what the result takes of rows: cells of each row, or what the items give of each group
 abbrev pub output_rows : Output → List Row → List Row
 output_rows (Project columns) rows = taken columns rows
 output_rows (Groups keys items) rows = map (λ group. map (answered group) items) (groups_by keys rows)

@@ -24,6 +24,7 @@ use Rattle.typed_plan.specs.Class.{type_class, can_sum}
 use Rattle.typed_plan.specs.Faults.{predicate_fault, compare_fault, first_in}
 use Rattle.typed_plan.specs.Plan.{Tree, scan, filtered, joined, PlanAt}
 
+-- the types of fields, in order
 abbrev pub types_of : List Field → List DataType
 types_of fields = map (λ field. field.data_type) fields
 
@@ -47,6 +48,7 @@ tree_types (scan table schema columns) = types_taken columns (types_of schema.fi
 tree_types (filtered predicate tree) = tree_types tree
 tree_types (joined left right on) = tree_types left ++ tree_types right
 
+-- the class of a type, or that there is no such column
 abbrev pub class_if_there : Option DataType → Result Class Fault
 class_if_there (Some data_type) = Ok (type_class data_type)
 class_if_there None = Err UnknownName

@@ -14,10 +14,12 @@ pub record BoundAt : Type 0 where
   pub output : Output
   pub schema : Schema
 
+-- the tree that boxes stand for
 abbrev pub tree_of : Plan → Tree
 tree_of (Scan table schema columns) = scan table schema columns
 tree_of (Filter' predicate _ input) = filtered (pred_of predicate) (tree_of input)
 tree_of (Join' _ left _ right on) = joined (tree_of left) (tree_of right) on
 
+-- the plan of a bound query
 abbrev pub plan_of : BoundAt → PlanAt
 plan_of bound = record { tree = tree_of bound.plan; output = bound.output; schema = bound.schema }
