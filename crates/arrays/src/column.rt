@@ -16,12 +16,23 @@ use std::marker::Model;
 
 /// Slots of one layout, or those of them from one up to another, and how many of them are null. Its buffers are cuts
 /// of the body that they came in. A contract sees the layout and the range.
-#[derive(Drop)]
 pub struct Column {
     slots: Slots,
     first: usize,
     len: usize,
     null_count: usize,
+}
+
+// Written out, so that dropping it is one call (docs/DECISIONS.md).
+impl Drop for Column {
+    fn drop(self) {
+        let Column {
+            slots: _,
+            first: _,
+            len: _,
+            null_count: _,
+        } = self;
+    }
 }
 
 impl Model for Column {

@@ -20,12 +20,23 @@ const MOST_VALUES: usize = 16_777_216;
 
 /// The texts that indices lead to, in the parts in which they came: the first, and those behind it, which
 /// longer dictionaries share. Some may be null. A contract sees the list of their values.
-#[derive(Drop)]
 pub struct Dictionary {
     first: Texts,
     later: Runs,
     len: usize,
     longest: usize,
+}
+
+// Written out, so that dropping it is one call (docs/DECISIONS.md).
+impl Drop for Dictionary {
+    fn drop(self) {
+        let Dictionary {
+            first: _,
+            later: _,
+            len: _,
+            longest: _,
+        } = self;
+    }
 }
 
 impl Model for Dictionary {

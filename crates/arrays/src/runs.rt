@@ -17,12 +17,23 @@ use std::sync::Arc;
 
 // Parts one behind another, and how many values stand in front of each. A contract sees the list of their
 // values.
-#[derive(Drop)]
 struct Run {
     parts: Vec<Arc<Texts>>,
     starts: Vec<usize>,
     len: usize,
     nulls: bool,
+}
+
+// Written out, so that dropping it is one call (docs/DECISIONS.md).
+impl Drop for Run {
+    fn drop(self) {
+        let Run {
+            parts: _,
+            starts: _,
+            len: _,
+            nulls: _,
+        } = self;
+    }
 }
 
 impl Model for Run {

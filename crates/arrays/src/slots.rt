@@ -32,13 +32,25 @@ use std::sync::Arc;
 
 /// The values of slots: packed integers of a type, packed decimals, bits, offsets and the bytes that they cut, or
 /// packed indices of a type into a dictionary of texts.
-#[derive(Drop)]
 pub(crate) enum Values {
     Integers(IntegerType, Bytes),
     Decimals(Bytes),
     Bools(Bits),
     Texts(Bytes, Bytes),
     Indices(IntegerType, Bytes, Arc<Dictionary>),
+}
+
+// Written out, so that dropping it is one call (docs/DECISIONS.md).
+impl Drop for Values {
+    fn drop(self) {
+        match self {
+            Values::Integers(_, _) => {}
+            Values::Decimals(_) => {}
+            Values::Bools(_) => {}
+            Values::Texts(_, _) => {}
+            Values::Indices(_, _, _) => {}
+        }
+    }
 }
 
 impl Values {
@@ -72,11 +84,21 @@ impl Values {
 
 /// Slots: which of them are valid, how many there are, and their values. Its buffers are cuts of the body that they
 /// came in. A contract sees the slots by their layout.
-#[derive(Drop)]
 pub struct Slots {
     validity: Option<Bits>,
     len: usize,
     values: Values,
+}
+
+// Written out, so that dropping it is one call (docs/DECISIONS.md).
+impl Drop for Slots {
+    fn drop(self) {
+        let Slots {
+            validity: _,
+            len: _,
+            values: _,
+        } = self;
+    }
 }
 
 impl Model for Slots {

@@ -23,12 +23,23 @@ use std::marker::Model;
 ///
 /// Where a write of a call failed, or its answer did not come to its Status, the connection has stopped: each further call
 /// gives the same fault, and does nothing.
-#[derive(Drop)]
 pub struct Connection<R: Input, W: Output> {
     inbox: Inbox,
     reader: R,
     writer: W,
     stopped: Option<Fault>,
+}
+
+// Written out, so that dropping it is one call (docs/DECISIONS.md).
+impl<R: Input + Drop, W: Output + Drop> Drop for Connection<R, W> {
+    fn drop(self) {
+        let Connection {
+            inbox: _,
+            reader: _,
+            writer: _,
+            stopped: _,
+        } = self;
+    }
 }
 
 impl<R: Input, W: Output> Model for Connection<R, W> {

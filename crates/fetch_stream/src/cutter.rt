@@ -18,13 +18,23 @@ use std::alloc::{AllocError, Global};
 const MOST_ROWS: usize = 65_536;
 
 // A batch that is cut into messages.
-#[derive(Drop)]
 pub(crate) struct Cutter {
     pub(crate) batch: Batch,
     // The first row that was not given yet.
     pub(crate) at: usize,
     // How many rows the next message may have: after one that had few, twice as many.
     pub(crate) most: usize,
+}
+
+// Written out, so that dropping it is one call (docs/DECISIONS.md).
+impl Drop for Cutter {
+    fn drop(self) {
+        let Cutter {
+            batch: _,
+            at: _,
+            most: _,
+        } = self;
+    }
 }
 
 impl Cutter {

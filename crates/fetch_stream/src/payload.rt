@@ -16,11 +16,21 @@ static ZEROS: [u8; 8] = [0; 8];
 
 /// The bytes of a message of an answer: a head, and the parts behind it, in order. A part may be a cut of a table's
 /// buffer, of which no copy is made. A contract sees all of the bytes: at most 16,777,216.
-#[derive(Drop)]
 pub struct Payload {
     head: Vec<u8>,
     parts: Vec<Bytes>,
     len: usize,
+}
+
+// Written out, so that dropping it is one call (docs/DECISIONS.md).
+impl Drop for Payload {
+    fn drop(self) {
+        let Payload {
+            head: _,
+            parts: _,
+            len: _,
+        } = self;
+    }
 }
 
 impl Model for Payload {

@@ -59,7 +59,7 @@ impl Model for FetchStream {
     ghost invariant = { λ s. s.refused ≡ None → IsGoing s.cutter s.source };
 }
 
-// Written out, so that where a stream is dropped there is one call: proofs there do not go through its parts.
+// Written out, so that dropping it is one call (docs/DECISIONS.md).
 impl Drop for FetchStream {
     fn drop(self) {
         let FetchStream {

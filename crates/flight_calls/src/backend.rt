@@ -108,10 +108,16 @@ impl Looks {
 }
 
 /// The versions of a connection that shares them with none.
-#[derive(Drop)]
 pub struct Alone {
     plain: Plain,
     looks: Looks,
+}
+
+// Written out, so that dropping it is one call (docs/DECISIONS.md).
+impl Drop for Alone {
+    fn drop(self) {
+        let Alone { plain: _, looks: _ } = self;
+    }
 }
 
 impl Model for Alone {

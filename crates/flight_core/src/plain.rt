@@ -18,17 +18,29 @@ use std::sync::Arc;
 use table_versions::{CatalogVersion, Put, Snapshot, apply, refusal};
 
 // A version, and the put that made it, which contracts alone see.
-#[derive(Drop)]
 struct Version {
     made: Snapshot,
     put: snapshot::Snapshot<Put>,
 }
 
+// Written out, so that dropping it is one call (docs/DECISIONS.md).
+impl Drop for Version {
+    fn drop(self) {
+        let Version { made: _, put: _ } = self;
+    }
+}
+
 /// All versions. Contracts see them as the log of accepted puts.
-#[derive(Drop)]
 pub struct Plain {
     empty: Snapshot,
     later: Vec<Version>,
+}
+
+// Written out, so that dropping it is one call (docs/DECISIONS.md).
+impl Drop for Plain {
+    fn drop(self) {
+        let Plain { empty: _, later: _ } = self;
+    }
 }
 
 impl Model for Plain {

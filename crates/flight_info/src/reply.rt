@@ -11,10 +11,20 @@ use std::alloc::{AllocError, Global};
 use std::marker::Model;
 
 /// What answers a call: the payloads of the answer's messages, and a fault where its status is not 0.
-#[derive(Debug, Drop)]
+#[derive(Debug)]
 pub struct Reply {
     pub payloads: Vec<Bytes>,
     pub fault: Option<Fault>,
+}
+
+// Written out, so that dropping it is one call (docs/DECISIONS.md).
+impl Drop for Reply {
+    fn drop(self) {
+        let Reply {
+            payloads: _,
+            fault: _,
+        } = self;
+    }
 }
 
 impl Model for Reply {

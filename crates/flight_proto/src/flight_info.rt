@@ -30,12 +30,22 @@ pub fn read_location(bytes: &[u8]) -> Result<&str, Fault>
 }
 
 /// Where a part of the rows is fetched. Its expiration time is read, and not kept.
-#[derive(Debug, Drop)]
+#[derive(Debug)]
 pub struct FlightEndpoint {
     /// Field 1: the bytes of the Ticket message, which a fetch begins with.
     pub ticket: Vec<u8>,
     /// Field 2: a location is named.
     pub has_location: bool,
+}
+
+// Written out, so that dropping it is one call (docs/DECISIONS.md).
+impl Drop for FlightEndpoint {
+    fn drop(self) {
+        let FlightEndpoint {
+            ticket: _,
+            has_location: _,
+        } = self;
+    }
 }
 
 impl FlightEndpoint {

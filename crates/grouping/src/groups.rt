@@ -32,11 +32,21 @@ pub struct Grouping<'t> {
 /// Groups of rows that have the same values in some columns, by first appearance; without such a column there is one
 /// group of all rows, also of none. Keys stay in the batches that they came in: no value is copied for a row. A contract
 /// sees the keys and the tallies of the groups; `Holds` says of which rows they are.
-#[derive(Drop)]
 pub struct Groups<'t> {
     shape: Grouping<'t>,
     kept: Kept<'t>,
     refused: Option<Fault>,
+}
+
+// Written out, so that dropping it is one call (docs/DECISIONS.md).
+impl Drop for Groups<'_> {
+    fn drop(self) {
+        let Groups {
+            shape: _,
+            kept: _,
+            refused: _,
+        } = self;
+    }
 }
 
 impl<'t> Model for Groups<'t> {

@@ -22,9 +22,15 @@ pub const MAX_GATHERED_LEN: usize = 16_384;
 /// A contract sees those bytes.
 ///
 /// Where a write fails, nothing is gathered any more: what was is written in part or not at all.
-#[derive(Drop)]
 pub struct Outbox {
     gathered: Vec<u8>,
+}
+
+// Written out, so that dropping it is one call (docs/DECISIONS.md).
+impl Drop for Outbox {
+    fn drop(self) {
+        let Outbox { gathered: _ } = self;
+    }
 }
 
 impl Model for Outbox {

@@ -17,10 +17,19 @@ use std::marker::Model;
 
 /// The batches of the right side of a join, and its rows by the values of their key. A contract sees the batches and the
 /// numbers of the columns that are the key.
-#[derive(Drop)]
 pub struct Build {
     rights: Rights,
     chains: Chains,
+}
+
+// Written out, so that dropping it is one call (docs/DECISIONS.md).
+impl Drop for Build {
+    fn drop(self) {
+        let Build {
+            rights: _,
+            chains: _,
+        } = self;
+    }
 }
 
 impl Model for Build {

@@ -9,10 +9,16 @@ use std::alloc::{AllocError, Global};
 
 // For each bucket the first row of its chain, and for each row the next of its chain, in rising order; the number of rows
 // where there is none. A row with a null in its key stands in no chain.
-#[derive(Drop)]
 pub(crate) struct Chains {
     pub(crate) heads: Vec<u32>,
     pub(crate) links: Vec<u32>,
+}
+
+// Written out, so that dropping it is one call (docs/DECISIONS.md).
+impl Drop for Chains {
+    fn drop(self) {
+        let Chains { heads: _, links: _ } = self;
+    }
 }
 
 impl Chains {

@@ -38,12 +38,23 @@ impl Buckets {
 
 // The batches of the right side, the numbers of the columns that are the key, and for the number of each row, counted over
 // all batches, its place: the number of its batch and its own in it.
-#[derive(Drop)]
 pub(crate) struct Rights {
     pub(crate) batches: Vec<Batch>,
     pub(crate) key: Vec<usize>,
     pub(crate) places: Vec<(u32, u32)>,
     pub(crate) buckets: Buckets,
+}
+
+// Written out, so that dropping it is one call (docs/DECISIONS.md).
+impl Drop for Rights {
+    fn drop(self) {
+        let Rights {
+            batches: _,
+            key: _,
+            places: _,
+            buckets: _,
+        } = self;
+    }
 }
 
 impl Rights {

@@ -35,7 +35,6 @@ pub struct JoinSides {
 
 /// The right side of a join, and the left batch whose joined rows are given. A contract sees the right rows, and the joined
 /// rows that are still to be given.
-#[derive(Drop)]
 pub struct Joiner {
     left: JoinSide,
     right_types: Vec<DataType>,
@@ -45,6 +44,21 @@ pub struct Joiner {
     // The next pairs, and how many of them were given.
     pairs: Vec<Pair>,
     given: usize,
+}
+
+// Written out, so that dropping it is one call (docs/DECISIONS.md).
+impl Drop for Joiner {
+    fn drop(self) {
+        let Joiner {
+            left: _,
+            right_types: _,
+            build: _,
+            batch: _,
+            probe: _,
+            pairs: _,
+            given: _,
+        } = self;
+    }
 }
 
 impl Model for Joiner {

@@ -14,10 +14,20 @@ use crate::truth::Truth;
 use crate::value::{Row, Value, ValueRef};
 
 /// What a predicate looks at: a column, named by a `C`, or a value.
-#[derive(Debug, Drop)]
+#[derive(Debug)]
 pub enum Operand<C> {
     Column(C),
     Literal(Value),
+}
+
+// Written out, so that dropping it is one call (docs/DECISIONS.md).
+impl<C: Drop> Drop for Operand<C> {
+    fn drop(self) {
+        match self {
+            Operand::Column(_) => {}
+            Operand::Literal(_) => {}
+        }
+    }
 }
 
 /// A predicate of SQL over columns that `C` names. BETWEEN, IN and IS NULL carry whether a NOT stands in

@@ -20,10 +20,19 @@ use std::alloc::{AllocError, Global};
 use typed_plan::Output;
 
 // What is still to be given.
-#[derive(Drop)]
 pub(crate) enum Answer {
     Rows(Rows),
     Groups(GroupedRows),
+}
+
+// Written out, so that dropping it is one call (docs/DECISIONS.md).
+impl Drop for Answer {
+    fn drop(self) {
+        match self {
+            Answer::Rows(_) => {}
+            Answer::Groups(_) => {}
+        }
+    }
 }
 
 impl Answer {

@@ -27,7 +27,6 @@ use typed_plan::Aggregate;
 
 // What is wanted of rows with columns of these types: those that the filters let through are grouped by the columns of the
 // keys, and the items are given of each group. The hashes of keys begin with the seed.
-#[derive(Drop)]
 pub(crate) struct Wanted {
     pub(crate) picker: Picker,
     pub(crate) seed: HashSeed,
@@ -36,19 +35,51 @@ pub(crate) struct Wanted {
     pub(crate) items: Vec<Aggregate>,
 }
 
+// Written out, so that dropping it is one call (docs/DECISIONS.md).
+impl Drop for Wanted {
+    fn drop(self) {
+        let Wanted {
+            picker: _,
+            seed: _,
+            types: _,
+            keys: _,
+            items: _,
+        } = self;
+    }
+}
+
 // The batches of all rows, and what is still to be answered of their groups.
-#[derive(Drop)]
 pub(crate) struct MadeGroups {
     pub(crate) batches: Vec<Batch>,
     pub(crate) answers: Answers,
 }
 
+// Written out, so that dropping it is one call (docs/DECISIONS.md).
+impl Drop for MadeGroups {
+    fn drop(self) {
+        let MadeGroups {
+            batches: _,
+            answers: _,
+        } = self;
+    }
+}
+
 // How far the answer is: not begun; made, with what is still to be given; or refused.
-#[derive(Drop)]
 pub(crate) enum Stage {
     Waiting,
     Made(MadeGroups),
     Refused,
+}
+
+// Written out, so that dropping it is one call (docs/DECISIONS.md).
+impl Drop for Stage {
+    fn drop(self) {
+        match self {
+            Stage::Waiting => {}
+            Stage::Made(_) => {}
+            Stage::Refused => {}
+        }
+    }
 }
 
 // Rows, what is wanted of their groups, and how far the answer is. A contract sees the answer that is still to be given.
@@ -69,7 +100,7 @@ impl Model for GroupedRows {
     ghost invariant = { λ g. IsGrouped g.rows g.wanted g.stage };
 }
 
-// Written out, so that where it is dropped there is one call: proofs there do not go through its parts.
+// Written out, so that dropping it is one call (docs/DECISIONS.md).
 impl Drop for GroupedRows {
     fn drop(self) {
         let GroupedRows {

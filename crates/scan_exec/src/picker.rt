@@ -13,11 +13,21 @@ use scan_base::{Predicate, Truth};
 use std::alloc::{AllocError, Global};
 
 // The filters over rows of a source, the numbers of its columns that they see, and of those that are given.
-#[derive(Drop)]
 pub(crate) struct Picker {
     pub(crate) filters: Vec<Predicate<usize>>,
     pub(crate) read: Vec<usize>,
     pub(crate) shown: Vec<usize>,
+}
+
+// Written out, so that dropping it is one call (docs/DECISIONS.md).
+impl Drop for Picker {
+    fn drop(self) {
+        let Picker {
+            filters: _,
+            read: _,
+            shown: _,
+        } = self;
+    }
 }
 
 // Whether all filters are true in a row.

@@ -14,10 +14,19 @@ use std::alloc::{AllocError, Global};
 use table_versions::TableVersion;
 
 // A table, and where a scan of a range of its rows has come to.
-#[derive(Drop)]
 pub(crate) struct PlaceRows {
     pub(crate) table: TableVersion,
     pub(crate) cursor: Cursor,
+}
+
+// Written out, so that dropping it is one call (docs/DECISIONS.md).
+impl Drop for PlaceRows {
+    fn drop(self) {
+        let PlaceRows {
+            table: _,
+            cursor: _,
+        } = self;
+    }
 }
 
 impl PlaceRows {

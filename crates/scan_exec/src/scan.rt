@@ -50,7 +50,7 @@ impl Model for Scan {
     ghost invariant = { λ s. IsGiving s.answer × IsScan (giving_at s.answer) s.batches.items s.further s.given };
 }
 
-// Written out, so that where a scan is dropped there is one call: proofs there do not go through its parts.
+// Written out, so that dropping it is one call (docs/DECISIONS.md).
 impl Drop for Scan {
     fn drop(self) {
         let Scan {

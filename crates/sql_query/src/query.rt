@@ -9,14 +9,19 @@ ghost use Rattle.sql_query.specs.Sentence.{is_left_out_whole};
 use scan_base::{Items, Predicate, Text};
 
 /// A column, by its name, or by the name of its place and its own.
-#[derive(Drop)]
 pub struct ColumnName {
     pub place: Option<Text>,
     pub name: Text,
 }
 
+// Written out, so that dropping it is one call (docs/DECISIONS.md).
+impl Drop for ColumnName {
+    fn drop(self) {
+        let ColumnName { place: _, name: _ } = self;
+    }
+}
+
 /// What an item of the list gives: a column, or an aggregate of the rows of a group.
-#[derive(Drop)]
 pub enum Expression {
     Column(ColumnName),
     /// `COUNT(*)`
@@ -27,49 +32,109 @@ pub enum Expression {
     Sum(ColumnName),
 }
 
+// Written out, so that dropping it is one call (docs/DECISIONS.md).
+impl Drop for Expression {
+    fn drop(self) {
+        match self {
+            Expression::Column(_) => {}
+            Expression::CountRows => {}
+            Expression::Count(_) => {}
+            Expression::Sum(_) => {}
+        }
+    }
+}
+
 /// An item of the list, and the name that it gives to its column.
-#[derive(Drop)]
 pub struct SelectItem {
     pub expression: Expression,
     pub alias: Option<Text>,
 }
 
+// Written out, so that dropping it is one call (docs/DECISIONS.md).
+impl Drop for SelectItem {
+    fn drop(self) {
+        let SelectItem {
+            expression: _,
+            alias: _,
+        } = self;
+    }
+}
+
 /// What a query selects: all columns of all places, or a list of items.
-#[derive(Drop)]
 pub enum Select {
     All,
     List(Items<SelectItem>),
 }
 
+// Written out, so that dropping it is one call (docs/DECISIONS.md).
+impl Drop for Select {
+    fn drop(self) {
+        match self {
+            Select::All => {}
+            Select::List(_) => {}
+        }
+    }
+}
+
 /// A table, and the name that it goes by in the query.
-#[derive(Drop)]
 pub struct Place {
     pub table: Text,
     pub alias: Option<Text>,
 }
 
+// Written out, so that dropping it is one call (docs/DECISIONS.md).
+impl Drop for Place {
+    fn drop(self) {
+        let Place { table: _, alias: _ } = self;
+    }
+}
+
 /// `left = right`, in an ON.
-#[derive(Drop)]
 pub struct Equality {
     pub left: ColumnName,
     pub right: ColumnName,
 }
 
+// Written out, so that dropping it is one call (docs/DECISIONS.md).
+impl Drop for Equality {
+    fn drop(self) {
+        let Equality { left: _, right: _ } = self;
+    }
+}
+
 /// A further place, and the equalities by which its rows are joined.
-#[derive(Drop)]
 pub struct Join {
     pub place: Place,
     pub on: Items<Equality>,
 }
 
+// Written out, so that dropping it is one call (docs/DECISIONS.md).
+impl Drop for Join {
+    fn drop(self) {
+        let Join { place: _, on: _ } = self;
+    }
+}
+
 /// `SELECT .. FROM .. [JOIN ..] [WHERE ..] [GROUP BY ..]`
-#[derive(Drop)]
 pub struct Query {
     pub select: Select,
     pub first: Place,
     pub joins: Items<Join>,
     pub filter: Option<Predicate<ColumnName>>,
     pub group_by: Items<ColumnName>,
+}
+
+// Written out, so that dropping it is one call (docs/DECISIONS.md).
+impl Drop for Query {
+    fn drop(self) {
+        let Query {
+            select: _,
+            first: _,
+            joins: _,
+            filter: _,
+            group_by: _,
+        } = self;
+    }
 }
 
 impl Expression {

@@ -78,10 +78,16 @@ impl Page {
 }
 
 // A list of batches. A longer one shares its full pages, and copies the handles of the last.
-#[derive(Drop)]
 pub(crate) struct BatchList {
     full: Vec<Arc<Page>>,
     last: Page,
+}
+
+// Written out, so that dropping it is one call (docs/DECISIONS.md).
+impl Drop for BatchList {
+    fn drop(self) {
+        let BatchList { full: _, last: _ } = self;
+    }
 }
 
 impl Model for BatchList {

@@ -21,11 +21,21 @@ use std::sync::Arc;
 /// A table: its schema, which can be written, and its rows in batches. Each batch has rows, and one
 /// column for each field, of the field's type. No cell is null in a column that takes no null, and no text
 /// has more than 65,536 bytes. A longer version of the table shares these batches.
-#[derive(Drop)]
 pub struct TableVersion {
     schema: Arc<Schema>,
     batches: Arc<BatchList>,
     rows: usize,
+}
+
+// Written out, so that dropping it is one call (docs/DECISIONS.md).
+impl Drop for TableVersion {
+    fn drop(self) {
+        let TableVersion {
+            schema: _,
+            batches: _,
+            rows: _,
+        } = self;
+    }
 }
 
 /// A batch of a table: its number, counted from 0, and how many rows of the table stand before it.

@@ -12,12 +12,21 @@ use std::marker::Model;
 use table_versions::TableVersion;
 
 /// Which cells of a row are taken.
-#[derive(Drop)]
 pub enum Columns {
     /// The row as it is.
     All,
     /// The cells of these columns, counted from 0.
     These(Items<usize>),
+}
+
+// Written out, so that dropping it is one call (docs/DECISIONS.md).
+impl Drop for Columns {
+    fn drop(self) {
+        match self {
+            Columns::All => {}
+            Columns::These(_) => {}
+        }
+    }
 }
 
 /// What gives rows. A predicate's columns are numbers of the cells of a row of its input, from 0.
@@ -79,12 +88,23 @@ pub enum Output {
 
 /// A bound query: the tables of its places, what gives its rows, and the columns of its result. It is well typed: each
 /// column is there, what is compared is of one class, and the result has the types that its schema says.
-#[derive(Drop)]
 pub struct TypedPlan {
     pub(crate) tables: Vec<TableVersion>,
     pub(crate) plan: Plan,
     pub(crate) output: Output,
     pub(crate) schema: Schema,
+}
+
+// Written out, so that dropping it is one call (docs/DECISIONS.md).
+impl Drop for TypedPlan {
+    fn drop(self) {
+        let TypedPlan {
+            tables: _,
+            plan: _,
+            output: _,
+            schema: _,
+        } = self;
+    }
 }
 
 impl Model for TypedPlan {
