@@ -1,2 +1,3 @@
 pub mod Fetched
 pub mod Listing
+pub mod Listed

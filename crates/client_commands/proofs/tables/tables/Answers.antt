@@ -1,0 +1,13 @@
+use Rattle.std.proofs.Common.{inr, List, ℕ, Vec}
+use Rattle.std.specs.Global.{Global}
+use Rattle.scan_base.specs.declared.text.Text.{Text}
+use Rattle.client_commands.proofs.Listed.{names_told}
+use Rattle.client_commands.proofs.tables.tables.Goals as goal
+
+-- the names, as plain data
+abbrev seen : Vec Text Global → List (List ℕ)
+seen names = names.items
+
+pub returns : goal.returns
+returns g c =
+    inr (names_told _ seen c.fetch_names-fetched.result _ _ _ _ _ c.in-Ok.ensures c.fetch_names-fetched.ensures c.tell_names.ensures)
