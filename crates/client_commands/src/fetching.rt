@@ -12,6 +12,9 @@ use grpc_frame::{Input, Output};
 use scan_base::Fault;
 use std::alloc::Global;
 
+// An info of a server has no more endpoints. Where one claims more, memory grows only as streams come.
+const MOST_ENDPOINTS: usize = 64;
+
 /// Fetches what is wanted: asks where it is, fetches the stream of each endpoint in turn, and joins them in that order.
 ///
 /// # Errors
@@ -44,7 +47,7 @@ fn fetch_each<R: Input, W: Output>(
         (λ streams. FetchesEach (map endpoint_said endpoints.now) streams.items connection.old connection.new)
         (λ failure. FetchStops (map endpoint_said endpoints.now) failure connection.old connection.new) }
 {
-    let mut streams = Vec::with_capacity(alloc, endpoints.len())?;
+    let mut streams = Vec::with_capacity(alloc, endpoints.len().min(MOST_ENDPOINTS))?;
     for endpoint in endpoints {
         let stream = fetch(alloc, connection, &endpoint.ticket)?;
         if streams.push(stream).is_err() {

@@ -2,7 +2,9 @@
 //! sockets and the random bytes of the system.
 #![tactic(auto)]
 
-ghost use Rattle.std.specs.Prelude.{◌<◌};
+ghost use Rattle.std.specs.Prelude.{◌<◌, ◌≡◌};
+ghost use Rattle.command_line.specs.declared.request.Mode.TheVariants as asked;
+ghost use Rattle.client_calls.specs.declared.putting.Mode.TheVariants as sent;
 
 use client_calls::Target;
 use client_commands::put::{Putting, put};
@@ -25,7 +27,11 @@ use std::process::ExitCode;
 use std::random::RandomSource;
 
 // The mode of a put, as the client calls it.
-fn mode_of(mode: Mode) -> client_calls::Mode {
+fn mode_of(mode: Mode) -> client_calls::Mode
+    ensures create { mode ≡ asked.Create → result ≡ sent.Create }
+    ensures append { mode ≡ asked.Append → result ≡ sent.Append }
+    ensures replace { mode ≡ asked.Replace → result ≡ sent.Replace }
+{
     match mode {
         Mode::Create => client_calls::Mode::Create,
         Mode::Append => client_calls::Mode::Append,
