@@ -58,8 +58,8 @@ fn info(out: &mut Vec<u8>, bytes: &[u8]) -> Result<(), Fault> {
     let alloc = *out.allocator();
     let info = FlightInfo::read(alloc, bytes)?;
     let mut tickets = Vec::new(alloc);
-    for endpoint in info.endpoints {
-        tickets.push(endpoint.ticket)?;
+    for endpoint in &info.endpoints {
+        tickets.push(endpoint.ticket.clone()?)?;
     }
     put_flight_info(out, info.schema, &info.descriptor, &tickets)?;
     Ok(())
