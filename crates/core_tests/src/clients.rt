@@ -81,7 +81,7 @@ impl<R: Net<Listener = TcpListener, Stream = TcpStream>> Listen for Bound<'_, R>
 fn served<R: Net<Listener = TcpListener, Stream = TcpStream>>(
     alloc: Global,
     seed: HashSeed,
-    bound: &mut Bound<'_, R>,
+    mut bound: Bound<'_, R>,
 ) -> (u8, MemoryOutput, MemoryOutput) {
     let mut output = MemoryOutput::new(alloc);
     let mut faults = MemoryOutput::new(alloc);
@@ -92,7 +92,7 @@ fn served<R: Net<Listener = TcpListener, Stream = TcpStream>>(
         parts: 2,
         workers: 1,
     };
-    let status = serve(alloc, seed, bound, &mut output, &mut faults, serving).number();
+    let status = serve(alloc, seed, &mut bound, &mut output, &mut faults, serving).number();
     (status, output, faults)
 }
 
@@ -130,15 +130,15 @@ fn asked<R: Net<Listener = TcpListener, Stream = TcpStream>>(
 
 #[test]
 fn four_commands(rt: HostRuntime) -> Result<(), Fail> {
-    let alloc = rt.alloc();
-    let seed = HashSeed::new(&rt)?;
-    let mut port = Port::new(&rt);
-    let number = port.listen(0)?;
-    let mut bound = Bound { port, number };
     let runtime = &rt;
+    let alloc = runtime.alloc();
+    let seed = HashSeed::new(runtime)?;
+    let mut port = Port::new(runtime);
+    let number = port.listen(0)?;
+    let bound = Bound { port, number };
     let (server, client) = thread::join(
-        &rt,
-        || served(alloc, seed, &mut bound),
+        runtime,
+        move || served(alloc, seed, bound),
         || asked(runtime, alloc, number),
     );
     assert!(rt; server.0 == 0);
