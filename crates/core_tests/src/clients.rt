@@ -96,7 +96,8 @@ fn served<R: Net<Listener = TcpListener, Stream = TcpStream>>(
     (status, output, faults)
 }
 
-// The exit statuses of a put, a list of the tables, a query and a query whose output is closed, and what they print.
+// The exit statuses of a put, a list of the tables, a query and a query whose output is closed; what the first three print,
+// and what the last one says.
 fn asked<R: Net<Listener = TcpListener, Stream = TcpStream>>(
     rt: &R,
     alloc: Global,
@@ -124,8 +125,9 @@ fn asked<R: Net<Listener = TcpListener, Stream = TcpStream>>(
     .number();
     let listed = tables(alloc, &mut network, &mut output, &mut faults, port).number();
     let queried = query(alloc, &mut network, &mut output, &mut faults, grouped).number();
-    let refused = query(alloc, &mut network, &mut closed, &mut faults, grouped).number();
-    ([put, listed, queried, refused], output, faults)
+    let mut said = MemoryOutput::new(alloc);
+    let refused = query(alloc, &mut network, &mut closed, &mut said, grouped).number();
+    ([put, listed, queried, refused], output, said)
 }
 
 #[test]
