@@ -1,15 +1,16 @@
 -- The fault of a place, by what is looked up.
-use Rattle.std.proofs.Common.{◌≡◌, true, false, not, is_some, List, [], ◌∷◌, ◌++◌, map, Option, Some, None, sym, ap, ◌∙◌}
+use Rattle.std.proofs.Common.{◌≡◌, true, false, not, is_some, List, [], ◌∷◌, ◌++◌, map, Option, Some, None, refl, sym, ap, ◌∙◌}
 use Rattle.std.specs.List.{list_any}
 use Rattle.std.specs.Str.{bytes_eq}
 use Rattle.scan_base.specs.declared.fault.Fault.TheVariants.{TableMissing, UnknownName}
 use Rattle.sql_query.specs.declared.query.Place.{Place}
-use Rattle.sql_query.specs.Sentence.{place_name}
+use Rattle.sql_query.specs.Sentence.{Sentence, place_name, is_left_out_whole}
 use Rattle.table_versions.specs.Database.{table_at}
 use Rattle.table_versions.specs.Stored.{CatalogAt, TableAt, plain, tables_of}
 use Rattle.table_versions.specs.Table.{Name, Table}
 use Rattle.table_versions.proofs.Stores.{table_at-tables_of}
-use Rattle.typed_plan.specs.Bound.{place_fault}
+use Rattle.typed_plan.specs.Bound.{place_fault, places_fault, glance_of}
+use Rattle.typed_plan.specs.Over.{names_of}
 use Rattle.typed_plan.specs.Faults.{◌then◌, must}
 
 looked_up : (catalog : CatalogAt) (names : List Name) (place : Place) (there : Option TableAt) →
@@ -45,3 +46,10 @@ pub one_table : (there : Option TableAt) (first shared : TableAt) (fresh pushed 
 one_table there first shared fresh pushed is same new_list grown =
     ap (λ t. t ∷ []) (is ∙ ap (λ (t : TableAt). Some t) (sym same))
     ∙ ap (map (λ (table : TableAt). Some table)) (sym (grown ∙ ap (λ front. front ++ shared ∷ []) new_list))
+
+-- where the first table is there, a query shows what is said of its further places
+pub glance_is : (query : Sentence) (catalog : CatalogAt) (first : TableAt) → is_left_out_whole query ≡ false →
+    table_at catalog query.first.table ≡ Some first →
+    glance_of query (tables_of catalog)
+    ≡ places_fault (tables_of catalog) (names_of query.first []) (map (λ join. join.place) query.joins)
+glance_is query catalog first going there = rw (going, free catalog [] query.first first there refl) refl

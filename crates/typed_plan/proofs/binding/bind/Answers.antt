@@ -23,13 +23,13 @@ returns-in_default-clause-bound c other =
     ∙ ap plain (sym c.get.ensures ∙ ap option_copied c.in_default.is) in
     rw (going, absent) refl
 
-pub returns-in_err-tables-clause-first : goal.returns-in_err-tables-clause-first
-returns-in_err-tables-clause-first c =
+pub returns-in_default-clause-first : goal.returns-in_default-clause-first
+returns-in_default-clause-first c =
     let query = sentence_of c.args.query.now in
     let going : is_left_out_whole query ≡ false = sym c.is_left_out.ensures ∙ c.if-is_left_out.false in
-    let there = table_at-tables_of c.args.catalog.now query.first.table
-    ∙ ap plain (sym c.get.ensures ∙ ap option_copied c.in-Some.is) in
-    rw (going, there) tt
+    let absent = table_at-tables_of c.args.catalog.now query.first.table
+    ∙ ap plain (sym c.get.ensures ∙ ap option_copied c.in_default.is) in
+    rw (going, absent) refl
 
 pub returns-in_err-plan-clause-bound : goal.returns-in_err-plan-clause-bound
 returns-in_err-plan-clause-bound c =
