@@ -194,6 +194,15 @@ def no_connection(run: Run) -> None:
         look_at_transport("serve", typed(run, "serve", "--port", port, "--accept", "1"), port)
 
 
+@case("70,000 rows, more than a message holds: each has its line, in its order", beyond_pipe=True)
+def many_rows(run: Run) -> None:
+    with run.serving("--parts", "3") as server:
+        data = stream(A, [(row,) for row in range(70_000)])
+        same("put", printed("70000 rows"), put(run, server, "t", data))
+        same("query", printed("a", *map(str, range(70_000))), query(run, server, "SELECT a FROM t"))
+        same("one of 70,000", printed("a", "69999"), query(run, server, "SELECT a FROM t WHERE a = 69999"))
+
+
 @case("output that is closed or full while query prints: one line, and status 3", beyond_pipe=True)
 def closed_output(run: Run) -> None:
     with run.serving() as server:
