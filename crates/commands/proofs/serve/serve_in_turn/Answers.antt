@@ -1,5 +1,4 @@
-use Rattle.std.proofs.Common.{rules, refl, []}
-use Rattle.std.proofs.lemmas.Result.{err_from_is_err_and}
+use Rattle.std.proofs.Common.{refl, []}
 use Rattle.commands.proofs.Serving.{so_more}
 use Rattle.commands.proofs.serve.serve_in_turn.Goals as goal
 
