@@ -6,8 +6,8 @@ returns g c =
     inr (record {
       line = c.in-Ok.connection;
       opened = c.in-Ok.ensures;
-      result = c.put.result;
-      last = c.put.new.connection;
-      made = c.put.ensures;
+      result = c.put-counted.result;
+      last = c.put-counted.new.connection;
+      made = c.put-counted.ensures;
       tells = c.tell_count.ensures;
     })
