@@ -53,10 +53,10 @@ pub record Over (Opens : Line → Type 0) {A : Type 0} (Made : Result A Failure 
   pub made : Made result line last
   pub tells : Tells text result status old.out new.out old.faults new.faults
 
--- calls were made over a connection, and their result is told; or there is no connection, and why is said
-abbrev pub Connects : (Line → Type 0) → {A : Type 0} → (Result A Failure → Line → Line → Type 0) → (A → List ℕ) → ExitStatus → Desk → Desk → Type 0
-Connects Opens Made text status old new =
-    ((cause : List ℕ) × EndsBy (cause_lines cause) status old new) ⊎ Over Opens Made text status old new
+-- calls were made over a connection, and their result is told; or a connection was refused, and why is said
+abbrev pub Connects : Type 0 → (Line → Type 0) → {A : Type 0} → (Result A Failure → Line → Line → Type 0) → (A → List ℕ) → ExitStatus → Desk → Desk → Type 0
+Connects refused Opens Made text status old new =
+    (refused × (cause : List ℕ) × EndsBy (cause_lines cause) status old new) ⊎ Over Opens Made text status old new
 
 -- ---- query
 
@@ -65,8 +65,8 @@ abbrev pub table_lines : Table → List ℕ
 table_lines table = lines_of table.schema table.rows
 
 -- the lines of the rows that a query answers
-abbrev pub Queries : (Line → Type 0) → List ℕ → ExitStatus → Desk → Desk → Type 0
-Queries Opens sql status old new = Connects Opens (Fetches (rows_of sql)) table_lines status old new
+abbrev pub Queries : Type 0 → (Line → Type 0) → List ℕ → ExitStatus → Desk → Desk → Type 0
+Queries refused Opens sql status old new = Connects refused Opens (Fetches (rows_of sql)) table_lines status old new
 
 -- ---- tables
 
@@ -79,8 +79,8 @@ FetchesNames view (Err failure) old new =
     × ((fault : Fault) × (failure ≡ Found fault) × (fault ≢ OutOfMemory → names_listed table ≡ Err fault)))
 
 -- a line for each name
-abbrev pub ListsTables : (Line → Type 0) → ExitStatus → Desk → Desk → Type 0
-ListsTables Opens status old new = Connects Opens (FetchesNames (λ (names : List (List ℕ)). names)) (flat_map name_line) status old new
+abbrev pub ListsTables : Type 0 → (Line → Type 0) → ExitStatus → Desk → Desk → Type 0
+ListsTables refused Opens status old new = Connects refused Opens (FetchesNames (λ (names : List (List ℕ)). names)) (flat_map name_line) status old new
 
 -- ---- put
 
@@ -97,11 +97,11 @@ pub record IsUnread (old new : Source) (untouched : Type 0) (status : ExitStatus
   pub ends : EndsBy (reading_lines fault) status desk desk'
 
 -- the whole input is the stream of these messages, which are put, and the line of their count is printed
-pub record IsPut (old new : Source) (Opens : Line → Type 0) (target : Target) (status : ExitStatus) (desk desk' : Desk) : Type 0 where
+pub record IsPut (old new : Source) (refused : Type 0) (Opens : Line → Type 0) (target : Target) (status : ExitStatus) (desk desk' : Desk) : Type 0 where
   pub messages : List IpcMessage
   pub reads : ReadsMessages (λ (messages : List IpcMessage). messages) (Ok messages) old new
-  pub puts : Connects Opens (Calls DoPut (put_payloads target messages) (AnswersOne (λ (rows : ℕ). rows) count_of)) count_line status desk desk'
+  pub puts : Connects refused Opens (Calls DoPut (put_payloads target messages) (AnswersOne (λ (rows : ℕ). rows) count_of)) count_line status desk desk'
 
-abbrev pub Puts : Source → Source → Type 0 → (Line → Type 0) → Target → ExitStatus → Desk → Desk → Type 0
-Puts old new untouched Opens target status desk desk' =
-    IsUnread old new untouched status desk desk' ⊎ IsPut old new Opens target status desk desk'
+abbrev pub Puts : Source → Source → Type 0 → Type 0 → (Line → Type 0) → Target → ExitStatus → Desk → Desk → Type 0
+Puts old new untouched refused Opens target status desk desk' =
+    IsUnread old new untouched status desk desk' ⊎ IsPut old new refused Opens target status desk desk'

@@ -45,6 +45,7 @@ pub fn put<C: Connect, I: Input, W: Output, E: Output>(
     ensures { Puts
         (source_of (I.remaining input.old) (I.failures input.old))
         (source_of (I.remaining input.new) (I.failures input.new)) (network.new ≡ network.old)
+        (C.refuses network.old putting.entry.port network.new)
         (λ line. (reader : C.Reader) × (writer : C.Writer)
         × C.connects network.old putting.entry.port reader writer network.new
         × (line ≡ opened_line (C.Reader.remaining reader) (C.Writer.contents writer)))
@@ -72,7 +73,8 @@ fn put_messages<C: Connect, W: Output, E: Output>(
 ) -> ExitStatus
     requires writes { W.failures output.old < 18446744073709551615 }
     requires prints { E.failures faults.old < 18446744073709551615 }
-    ensures { Connects (λ line. (reader : C.Reader) × (writer : C.Writer)
+    ensures { Connects (C.refuses network.old putting.entry.port network.new)
+        (λ line. (reader : C.Reader) × (writer : C.Writer)
         × C.connects network.old putting.entry.port reader writer network.new
         × (line ≡ opened_line (C.Reader.remaining reader) (C.Writer.contents writer)))
         (Calls DoPut (put_payloads putting.entry.target messages.now) (AnswersOne (λ rows. rows) count_of))

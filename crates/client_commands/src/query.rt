@@ -37,7 +37,8 @@ pub fn query<C: Connect, W: Output, E: Output>(
 ) -> ExitStatus
     requires writes { W.failures output.old < 18446744073709551615 }
     requires prints { E.failures faults.old < 18446744073709551615 }
-    ensures { Queries (λ line. (reader : C.Reader) × (writer : C.Writer)
+    ensures { Queries (C.refuses network.old query.entry.port network.new)
+        (λ line. (reader : C.Reader) × (writer : C.Writer)
         × C.connects network.old query.entry.port reader writer network.new
         × (line ≡ opened_line (C.Reader.remaining reader) (C.Writer.contents writer)))
         query.entry.sql.now result

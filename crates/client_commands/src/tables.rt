@@ -30,7 +30,8 @@ pub fn tables<C: Connect, W: Output, E: Output>(
 ) -> ExitStatus
     requires writes { W.failures output.old < 18446744073709551615 }
     requires prints { E.failures faults.old < 18446744073709551615 }
-    ensures { ListsTables (λ line. (reader : C.Reader) × (writer : C.Writer)
+    ensures { ListsTables (C.refuses network.old port network.new)
+        (λ line. (reader : C.Reader) × (writer : C.Writer)
         × C.connects network.old port reader writer network.new
         × (line ≡ opened_line (C.Reader.remaining reader) (C.Writer.contents writer)))
         result

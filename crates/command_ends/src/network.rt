@@ -5,7 +5,7 @@ use std::io;
 
 /// Makes connections to a server.
 pub trait Connect {
-    ghost use Rattle.std.specs.Prelude.{◌≡◌, ℕ, IfOk};
+    ghost use Rattle.std.specs.Prelude.{◌≡◌, ℕ, IfOk, IfErr};
 
     /// What comes from the server.
     type Reader: Input + Drop;
@@ -16,6 +16,9 @@ pub trait Connect {
     // A connection to a port was made, of these two ends.
     ghost connects: { Self → ℕ → Self.Reader → Self.Writer → Self → Type 0 };
 
+    // A connection to a port was asked for, and none was made.
+    ghost refuses: { Self → ℕ → Self → Type 0 } = { λ _ _ _. Unit {0} };
+
     /// Connects to a port of this machine. No call of the connection's ends has failed yet.
     ///
     /// # Errors
@@ -23,6 +26,7 @@ pub trait Connect {
     /// The system's.
     fn connect(&mut self, port: u16) -> io::Result<(Self::Reader, Self::Writer)>
         ensures made { IfOk result (λ ends. connects self.old port ends.0 ends.1 self.new) }
+        ensures refused { IfErr result (λ _. refuses self.old port self.new) }
         ensures reads { IfOk result (λ ends. Self.Reader.failures ends.0 ≡ 0) }
         ensures writes { IfOk result (λ ends. Self.Writer.failures ends.1 ≡ 0) };
 }
