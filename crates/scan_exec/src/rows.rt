@@ -17,6 +17,7 @@ use std::marker::Model;
 
 // Rows of a source that are still to be given, and what is given of them.
 #[cycle(rows)]
+#[derive(Drop)]
 pub(crate) struct Rows {
     pub(crate) source: Source,
     pub(crate) picker: Picker,
@@ -24,49 +25,20 @@ pub(crate) struct Rows {
     pub(crate) selection: Selection,
 }
 
-// Written out, so that dropping it is one call (docs/DECISIONS.md).
-impl Drop for Rows {
-    fn drop(self) {
-        let Rows {
-            source: _,
-            picker: _,
-            selection: _,
-        } = self;
-    }
-}
-
 // What rows are picked of: a place, or a join of the rows of others with a place.
 #[cycle(rows)]
+#[derive(Drop)]
 pub(crate) enum Source {
     Place(PlaceRows),
     Joined(Box<Rows>, Joining),
 }
 
-// Written out, so that dropping it is one call (docs/DECISIONS.md).
-impl Drop for Source {
-    fn drop(self) {
-        match self {
-            Source::Place(_) => {}
-            Source::Joined(_, _) => {}
-        }
-    }
-}
-
 // The right side of a join with the left batch that it joins, and the number of the batch of the first place of which the
 // left batch comes.
+#[derive(Drop)]
 pub(crate) struct Joining {
     pub(crate) joiner: Joiner,
     pub(crate) number: usize,
-}
-
-// Written out, so that dropping it is one call (docs/DECISIONS.md).
-impl Drop for Joining {
-    fn drop(self) {
-        let Joining {
-            joiner: _,
-            number: _,
-        } = self;
-    }
 }
 
 impl Model for Rows {
