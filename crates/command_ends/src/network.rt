@@ -29,7 +29,7 @@ pub trait Connect {
 
 /// Takes connections of clients.
 pub trait Listen {
-    ghost use Rattle.std.specs.Prelude.{◌≡◌, ℕ, IfOk};
+    ghost use Rattle.std.specs.Prelude.{◌≡◌, ℕ, List, Option, IfOk, IfErr};
 
     /// What comes from a client.
     type Reader: Input + Drop;
@@ -39,6 +39,12 @@ pub trait Listen {
 
     // Where a port is asked for, this port is listened to.
     ghost listens: { Self → ℕ → ℕ → Self → Type 0 };
+
+    // A connection was taken, of whose ends these bytes are left to be read, and these were written, where they are known.
+    ghost takes: { Self → Option (List ℕ) → Option (List ℕ) → Self → Type 0 } = { λ _ _ _ _. Unit {0} };
+
+    // None was taken.
+    ghost fails: { Self → Self → Type 0 } = { λ _ _. Unit {0} };
 
     /// Listens to a port of this machine, 0 for one that is free, and gives the port.
     ///
@@ -54,6 +60,9 @@ pub trait Listen {
     ///
     /// The system's.
     fn accept(&mut self) -> io::Result<(Self::Reader, Self::Writer)>
+        ensures taken { IfOk result (λ ends.
+            takes self.old (Self.Reader.remaining ends.0) (Self.Writer.contents ends.1) self.new) }
+        ensures none { IfErr result (λ _. fails self.old self.new) }
         ensures reads { IfOk result (λ ends. Self.Reader.failures ends.0 ≡ 0) }
         ensures writes { IfOk result (λ ends. Self.Writer.failures ends.1 ≡ 0) };
 }
