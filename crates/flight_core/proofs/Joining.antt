@@ -1,5 +1,5 @@
 -- The streams of an info's handles are what was wanted.
-use Rattle.std.proofs.Common.{◌≡◌, ℕ, ◌≤◌, Bool, true, false, nat_le, List, [], ◌∷◌, ◌++◌, length, map, take, refl, sym, ap, subst, ◌∙◌, arith, cond, length-append, append-nil, None, Result, Ok, rules}
+use Rattle.std.proofs.Common.{◌≡◌, ℕ, ◌≤◌, Bool, true, false, nat_le, List, [], ◌∷◌, ◌++◌, length, map, take, refl, sym, ap, subst, ◌∙◌, arith, cond, length-append, append-nil, None, Result, Ok, rules, inl, inr}
 use Rattle.std.specs.List.{flat_map}
 use Rattle.std.proofs.lemmas.List.{take-append-le}
 use Rattle.std.proofs.Math.Seq.{take-append_seam}
@@ -77,7 +77,8 @@ record Reached (log : Log) (handle : HandleAt) (payloads : List Payload) : Type 
   at : FetchAt (version log (version_of handle)) handle payloads None
 
 reaches : (log : Log) (ticket : Payload) (handle : HandleAt) (payloads : List Payload) → handle_asked ticket ≡ Ok handle → FetchIn log ticket payloads None → Reached log handle payloads
-reaches log ticket handle payloads is reply = by (nat_le (version_of handle) (length log)) refl (rw is at reply)
+reaches log ticket handle payloads is (inr lacks) = absurd cc
+reaches log ticket handle payloads is (inl reply) = by (nat_le (version_of handle) (length log)) refl (rw is at reply)
   where
     shown : Bool → Result HandleAt Fault
     shown there = demand there VersionUnknown >>= λ _. (demand (may_mean handle) BadTicket >>= λ _. Ok handle)

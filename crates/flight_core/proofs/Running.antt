@@ -14,7 +14,7 @@ use Rattle.flight_core.specs.Puts.{put_said}
 use Rattle.flight_core.specs.Asked.{Asked, put, info, tables, schema, fetch}
 use Rattle.flight_info.specs.Replies.{ReplyAt, whole}
 use Rattle.flight_proto.specs.FlightInfo.{InfoSaid, info_of}
-use Rattle.flight_proto.specs.Wanted.{Wanted, rows_of, tables as list}
+use Rattle.flight_proto.specs.Wanted.{Wanted, wanted_in, rows_of, tables as list}
 use Rattle.flight_info.specs.Infos.{only_rows, only_tables, short_enough, RightInfo, InfoAt}
 use Rattle.flight_core.specs.Machine.{PutStep, StepOn, Run}
 use Rattle.flight_core.specs.Headline.{Begins, FetchedAt, Fetched, Informed, RunsMeetHeadline, Pairwise}
@@ -24,20 +24,20 @@ use Rattle.flight_core.proofs.Joining.{joined}
 
 -- ---- a log only grows
 
-begins_itself : (log : Log) → Begins log log
+pub begins_itself : (log : Log) → Begins log log
 begins_itself log = ([], sym (append-nil log))
 
-begins_on : (a b c : Log) → Begins a b → Begins b c → Begins a c
+pub begins_on : (a b c : Log) → Begins a b → Begins b c → Begins a c
 begins_on a b c p q = (p.0 ++ q.0, q.1 ∙ ap (λ l. l ++ q.0) p.1 ∙ append_assoc a p.0 q.0)
 
-begins_same : (a b : Log) → b ≡ a → Begins a b
+pub begins_same : (a b : Log) → b ≡ a → Begins a b
 begins_same a b e = ([], e ∙ sym (append-nil a))
 
 put_grows : (log : Log) (payloads answers : List Payload) (fault : Option Fault) (after : Log) → PutStep log payloads answers fault after → Begins log after
 put_grows log payloads answers None after s = (s.0 ∷ [], s.3)
 put_grows log payloads answers (Some f) after s = begins_same log after s.0
 
-step_grows : (log : Log) (a : Asked) (r : ReplyAt) (after : Log) → StepOn log a r after → Begins log after
+pub step_grows : (log : Log) (a : Asked) (r : ReplyAt) (after : Log) → StepOn log a r after → Begins log after
 step_grows log (put payloads) r after s = put_grows log payloads r.payloads r.fault after s
 step_grows log (info payload parts) r after s = begins_same log after s.0
 step_grows log (tables payload parts) r after s = begins_same log after s.0
@@ -133,6 +133,18 @@ list_same : (wanted other : Wanted) → (only_tables wanted >>= short_enough) �
 list_same (rows_of text) other e = cc
 list_same list other e = short_same list other e
 
+-- an info that was answered by a step is right at the step's log
+pub info_right : (log : Log) (payload said : Payload) (parts : ℕ) (wanted : Wanted) (told : InfoSaid) (one : Asked) → (one ≡ info payload parts) ⊎ (one ≡ tables payload parts)
+    → wanted_in payload ≡ Ok wanted → info_of said ≡ Ok told → (after : Log) → StepOn log one (whole (said ∷ [])) after → RightInfo (database_of log) (puts_in log) payload parts wanted told
+info_right log payload said parts wanted told one (inl is) wants read after step =
+    let here : StepOn log (info payload parts) (whole (said ∷ [])) after = subst (λ (a : Asked). StepOn log a (whole (said ∷ [])) after) is step in
+    looked (database_of log) (puts_in log) payload said parts wanted told (only_rows wanted >>= short_enough) read (rows_same wanted)
+    (subst (λ (w : Result Wanted Fault). InfoAt (database_of log) (puts_in log) payload parts ((w >>= only_rows) >>= short_enough) (said ∷ []) None) wants here.1)
+info_right log payload said parts wanted told one (inr is) wants read after step =
+    let here : StepOn log (tables payload parts) (whole (said ∷ [])) after = subst (λ (a : Asked). StepOn log a (whole (said ∷ [])) after) is step in
+    looked (database_of log) (puts_in log) payload said parts wanted told (only_tables wanted >>= short_enough) read (list_same wanted)
+    (subst (λ (w : Result Wanted Fault). InfoAt (database_of log) (puts_in log) payload parts ((w >>= only_tables) >>= short_enough) (said ∷ []) None) wants here.1)
+
 -- the last log goes on from the info's, at which the info is right
 record Right (last log : Log) (payload : Payload) (parts : ℕ) (wanted : Wanted) (told : InfoSaid) : Type 0 where
   grows : Begins log last
@@ -142,27 +154,17 @@ informed_right : (asked : List Asked) (replies : List ReplyAt) (last log : Log) 
     → (i : Informed asked replies log wanted handles) → Right last log i.payload i.parts wanted i.told
 informed_right asked replies last log wanted handles run i = by i.event
   where
-    same : (l : Log) → Run [] (take i.place asked) (take i.place replies) l → l ≡ log
-    same l before = run_once [] (take i.place asked) (take i.place replies) l log before i.before
-
-    right : (one : Asked) (kept : Result Wanted Fault) → (at : At [] asked replies last i.place one (whole (i.said ∷ []))) → at.after ≡ at.log
-        → ((other : Wanted) → kept ≡ Ok other → other ≡ wanted) → InfoAt (database_of at.log) (puts_in at.log) i.payload i.parts kept (i.said ∷ []) None
+    right : (one : Asked) → (at : At [] asked replies last i.place one (whole (i.said ∷ []))) → (one ≡ info i.payload i.parts) ⊎ (one ≡ tables i.payload i.parts)
         → Right last log i.payload i.parts wanted i.told
-    right one kept at stays shown here =
-        subst (λ (l : Log). Right last l i.payload i.parts wanted i.told) (same at.log at.before) (record {
-          grows = begins_on at.log at.after last (begins_same at.log at.after stays) (behind asked replies last i.place one (whole (i.said ∷ [])) at);
-          right = looked (database_of at.log) (puts_in at.log) i.payload i.said i.parts wanted i.told kept i.read shown here;
+    right one at kind =
+        subst (λ (l : Log). Right last l i.payload i.parts wanted i.told) (run_once [] (take i.place asked) (take i.place replies) at.log log at.before i.before) (record {
+          grows = begins_on at.log at.after last (step_grows at.log one (whole (i.said ∷ [])) at.after at.step) (behind asked replies last i.place one (whole (i.said ∷ [])) at);
+          right = info_right at.log i.payload i.said i.parts wanted i.told one kind i.wants i.read at.after at.step;
         })
 
     by : (slice_get asked i.place ≡ Some (info i.payload i.parts)) ⊎ (slice_get asked i.place ≡ Some (tables i.payload i.parts)) → Right last log i.payload i.parts wanted i.told
-    by (inl e) =
-        let at = run_at [] asked replies last i.place (info i.payload i.parts) (whole (i.said ∷ [])) run e i.reply in
-        right (info i.payload i.parts) (only_rows wanted >>= short_enough) at at.step.0 (rows_same wanted)
-        (subst (λ (w : Result Wanted Fault). InfoAt (database_of at.log) (puts_in at.log) i.payload i.parts ((w >>= only_rows) >>= short_enough) (i.said ∷ []) None) i.wants at.step.1)
-    by (inr e) =
-        let at = run_at [] asked replies last i.place (tables i.payload i.parts) (whole (i.said ∷ [])) run e i.reply in
-        right (tables i.payload i.parts) (only_tables wanted >>= short_enough) at at.step.0 (list_same wanted)
-        (subst (λ (w : Result Wanted Fault). InfoAt (database_of at.log) (puts_in at.log) i.payload i.parts ((w >>= only_tables) >>= short_enough) (i.said ∷ []) None) i.wants at.step.1)
+    by (inl e) = right (info i.payload i.parts) (run_at [] asked replies last i.place (info i.payload i.parts) (whole (i.said ∷ [])) run e i.reply) (inl refl)
+    by (inr e) = right (tables i.payload i.parts) (run_at [] asked replies last i.place (tables i.payload i.parts) (whole (i.said ∷ [])) run e i.reply) (inr refl)
 
 longer : (log last : Log) → Begins log last → length log ≤ length last
 longer log last b = omega (arith, ap length b.1, length-append log b.0)

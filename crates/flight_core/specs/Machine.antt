@@ -1,6 +1,7 @@
 -- The core as a machine: what is asked is answered by one step on a log.
-use Rattle.std.specs.Prelude.{◌≡◌, pos, List, [], ◌∷◌, ◌++◌, length, Option, Some, None, Result, Ok, Err, IsOk}
+use Rattle.std.specs.Prelude.{◌≡◌, ◌⊎◌, pos, List, [], ◌∷◌, ◌++◌, length, Option, Some, None, Result, Ok, Err, IsOk, IfErr}
 use Rattle.scan_base.specs.declared.fault.Fault.{Fault}
+use Rattle.scan_base.specs.declared.fault.Fault.TheVariants.{OutOfMemory}
 use Rattle.scan_base.specs.Reading.{◌>>=◌}
 use Rattle.flight_proto.specs.PutResult.{rows_put_bytes}
 use Rattle.table_versions.specs.Database.{Database, Put, after}
@@ -13,7 +14,7 @@ use Rattle.flight_core.specs.Puts.{command_in, put_said}
 use Rattle.fetch_stream.specs.Fetches.{version_of, handle_shown, FetchAt}
 use Rattle.fetch_stream.specs.Streams.{StreamAt, Opens}
 use Rattle.endpoint_split.specs.Handle.{HandleAt}
-use Rattle.flight_info.specs.Infos.{rows_wanted, tables_wanted, schema_wanted, InfoAt, SchemaAt}
+use Rattle.flight_info.specs.Infos.{handle_asked, rows_wanted, tables_wanted, schema_wanted, InfoAt, SchemaAt}
 
 -- the database after the put that payloads say, at a log, or the first fault
 abbrev pub database_put : Log → List Payload → Result Database Fault
@@ -34,9 +35,14 @@ abbrev pub FetchBy : Log → Result HandleAt Fault → List Payload → Option F
 FetchBy log (Err cause) payloads fault = (payloads ≡ []) × (fault ≡ Some cause)
 FetchBy log (Ok handle) payloads fault = FetchAt (version log (version_of handle)) handle payloads fault
 
+-- memory was refused for a look at the version of a ticket that reads: nothing more is known of it
+abbrev pub LacksLook : Payload → List Payload → Option Fault → Type 0
+LacksLook ticket payloads fault = IsOk (handle_asked ticket) × (payloads ≡ []) × (fault ≡ Some OutOfMemory)
+
 -- the answer to a fetch at a log
 abbrev pub FetchIn : Log → Payload → List Payload → Option Fault → Type 0
-FetchIn log ticket payloads fault = FetchBy log (handle_shown (puts_in log) ticket) payloads fault
+FetchIn log ticket payloads fault =
+    FetchBy log (handle_shown (puts_in log) ticket) payloads fault ⊎ LacksLook ticket payloads fault
 
 -- the stream of what a fetch shows, or the fault that is seen there
 abbrev pub OpensBy : Log → Result HandleAt Fault → Result StreamAt Fault → Type 0
@@ -46,6 +52,7 @@ OpensBy log (Ok handle) result = Opens (version log (version_of handle)) handle 
 -- the stream of a fetch at a log, or why there is none
 abbrev pub OpensIn : Log → Payload → Result StreamAt Fault → Type 0
 OpensIn log ticket result = OpensBy log (handle_shown (puts_in log) ticket) result
+    ⊎ (IsOk (handle_asked ticket) × (result ≡ Err OutOfMemory))
 
 -- at this log what is asked may be answered by this reply, and then the log is the last one
 abbrev pub StepOn : Log → Asked → ReplyAt → Log → Type 0
@@ -57,6 +64,15 @@ StepOn log (tables payload parts) reply new = (new ≡ log)
 StepOn log (schema payload) reply new = (new ≡ log)
     × SchemaAt (database_of log) (schema_wanted payload) reply.payloads reply.fault
 StepOn log (fetch ticket workers) reply new = (new ≡ log) × FetchIn log ticket reply.payloads reply.fault
+
+-- A fetch is refused for the fault that it shows before any memory is taken, and never for want of memory in its place.
+abbrev pub FetchShown : Log → Payload → Option Fault → Type 0
+FetchShown log ticket fault = IfErr (handle_shown (puts_in log) ticket) (λ cause. fault ≡ Some cause)
+
+-- the same of what is asked, where it is a fetch
+abbrev pub AsShown : Log → Asked → Option Fault → Type 0
+AsShown log (fetch ticket workers) fault = FetchShown log ticket fault
+AsShown log _ fault = Unit {0}
 
 -- these replies answer what is asked, one step after another, from one log to the other
 abbrev pub Run : Log → List Asked → List ReplyAt → Log → Type 0

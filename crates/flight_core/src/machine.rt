@@ -9,7 +9,7 @@ ghost use Rattle.flight_core.specs.Event.{asked_in};
 ghost use Rattle.flight_core.specs.Log.{Log, ArePuts, puts_in, database_of};
 ghost use Rattle.flight_core.specs.Headline.{Headline};
 ghost use Rattle.flight_core.specs.Laws.{RefusedLeaveNothing};
-ghost use Rattle.flight_core.specs.Machine.{PutStep, StepOn, Run, FetchIn};
+ghost use Rattle.flight_core.specs.Machine.{PutStep, StepOn, Run, FetchIn, FetchShown, AsShown};
 ghost use Rattle.table_versions.specs.Database.{after};
 ghost use Rattle.flight_core.specs.Refusals.{GivesBehind};
 ghost use Rattle.table_versions.specs.Stored.{put_of};
@@ -74,6 +74,7 @@ pub fn step_put(alloc: Global, plain: &mut Plain, read: Result<Put, Fault>) -> R
 
 fn step_fetch(alloc: Global, plain: &Plain, ticket: &[u8]) -> Reply
     ensures fetch { FetchIn plain.now ticket.now result.payloads result.fault }
+    ensures shown { FetchShown plain.now ticket.now result.fault }
     ensures fits { FitMessages result.payloads }
 {
     let handle = match read_ticket(ticket) {
@@ -88,10 +89,11 @@ fn step_fetch(alloc: Global, plain: &Plain, ticket: &[u8]) -> Reply
 
 /// Answers one event. A put that is accepted stands at the end of the log; any other event changes nothing.
 /// The reply's fault is one of those of `read_put` and `Plain::put`; of `answer_info`, `answer_tables` or
-/// `answer_schema`, at the newest version; or of `read_ticket`, `Plain::at` and `answer_fetch`, in that order. Each
-/// payload has at most 16,777,216 bytes.
+/// `answer_schema`, at the newest version; or of `read_ticket`, `Plain::at` and `answer_fetch`, in that order: what a
+/// fetch shows before any memory is taken is never answered by want of it. Each payload has at most 16,777,216 bytes.
 pub fn step(alloc: Global, plain: &mut Plain, event: &Event) -> Reply
     ensures step { StepOn plain.old (asked_in event.now) result plain.new }
+    ensures shown { AsShown plain.old (asked_in event.now) result.fault }
     ensures puts { ArePuts plain.old → ArePuts plain.new }
     ensures fits { FitMessages result.payloads }
 {
