@@ -1,5 +1,5 @@
 -- The fetch that a stream answers.
-use Rattle.std.proofs.Common.{◌≡◌, List, [], ℕ, Option, Some, Result, Ok, Err, refl, inl, sym, subst}
+use Rattle.std.proofs.Common.{◌≡◌, List, [], ℕ, Option, Some, Result, Ok, Err, refl, inl, inr, sym, subst}
 use Rattle.scan_base.specs.declared.fault.Fault.{Fault}
 use Rattle.scan_base.specs.declared.fault.Fault.TheVariants.{BadTicket, OutOfMemory}
 use Rattle.endpoint_split.specs.Handle.{HandleAt}
@@ -23,7 +23,8 @@ record Shows (log : Log) (ticket : Payload) (stream : StreamAt) : Type 0 where
   opens : Opens (version log (version_of handle)) handle (Ok stream)
 
 shows : (log : Log) (ticket : Payload) (stream : StreamAt) → OpensIn log ticket (Ok stream) → Shows log ticket stream
-shows log ticket stream opens = by (handle_shown (puts_in log) ticket) refl opens
+shows log ticket stream (inr lacks) = absurd cc
+shows log ticket stream (inl opens) = by (handle_shown (puts_in log) ticket) refl opens
   where
     by : (seen : Result HandleAt Fault) → handle_shown (puts_in log) ticket ≡ seen → OpensBy log seen (Ok stream) → Shows log ticket stream
     by (Ok handle) is opens = record { handle = handle; shown = is; opens = opens }
@@ -39,7 +40,7 @@ stream_sent asked log new stream r a b before after answered sends =
       reply = sent.reply;
       right = (
         subst (λ (q : Result Asked Fault). ReplyTo q log sent.reply new) (sym answered.3)
-            (answered.0, subst (λ (s : Result HandleAt Fault). FetchBy log s sent.reply.payloads sent.reply.fault) (sym seen.shown) sent.right),
+            (answered.0, inl (subst (λ (s : Result HandleAt Fault). FetchBy log s sent.reply.payloads sent.reply.fault) (sym seen.shown) sent.right)),
         tt,
       );
       fits = sent.fits;
@@ -48,7 +49,8 @@ stream_sent asked log new stream r a b before after answered sends =
 
 -- where there is no stream, its fault is the answer
 pub not_opened : (log : Log) (ticket : Payload) (fault : Fault) → OpensIn log ticket (Err fault) → FetchIn log ticket [] (Some fault)
-not_opened log ticket fault opens = by (handle_shown (puts_in log) ticket) fault opens
+not_opened log ticket fault (inr lacks) = inr (lacks.0, refl, cc)
+not_opened log ticket fault (inl opens) = inl (by (handle_shown (puts_in log) ticket) fault opens)
   where
     by : (seen : Result HandleAt Fault) (fault : Fault) → OpensBy log seen (Err fault) → FetchBy log seen [] (Some fault)
     by (Err cause) fault is = (refl, cc)

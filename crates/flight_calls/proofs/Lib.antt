@@ -10,3 +10,4 @@ pub mod Serving
 pub mod Telling
 pub mod Running
 pub mod Making
+pub mod Joining

@@ -6,7 +6,7 @@ use Rattle.scan_base.specs.declared.fault.Fault.TheVariants.{OutOfMemory}
 use Rattle.scan_base.specs.Reading.{◌>>=◌}
 use Rattle.flight_proto.specs.Wanted.{Wanted, wanted_in, rows_of, tables}
 use Rattle.table_versions.specs.Database.{Database}
-use Rattle.flight_info.specs.Infos.{only_rows, only_tables, short_enough, rows_wanted, tables_wanted, schema_wanted, InfoAt, SchemaAt}
+use Rattle.flight_info.specs.Infos.{handle_asked, only_rows, only_tables, short_enough, rows_wanted, tables_wanted, schema_wanted, InfoAt, SchemaAt}
 use Rattle.flight_info.specs.Payloads.{Payload}
 use Rattle.flight_info.specs.Replies.{ReplyAt, refusal}
 use Rattle.fetch_stream.specs.Streams.{StreamAt}
@@ -16,7 +16,7 @@ use Rattle.flight_core.specs.Machine.{StepOn, OpensIn}
 use Rattle.flight_calls.specs.Calls.{info_asked}
 use Rattle.flight_calls.specs.declared.answer.Answer.TheVariants.{Whole}
 use Rattle.flight_calls.specs.Answered.{ReactsBy}
-use Rattle.flight_calls.specs.Reacts.{Looks, handle_read}
+use Rattle.flight_calls.specs.Reacts.{Looks}
 use Rattle.flight_calls.specs.Seats.{Seat, Moves, Learns}
 use Rattle.flight_calls.specs.Stepping.{RefusedBy}
 use Rattle.flight_calls.proofs.Fetching.{not_opened}
@@ -77,7 +77,7 @@ abbrev refused : Fault → Result StreamAt Fault
 refused fault = Err fault
 
 pub fetch_refused : (moves : Moves) (old new : Seat) (ticket : Payload) (workers : ℕ) (fault : Fault) → Learns moves old new
-    → (IsOk (handle_read ticket) → refused fault ≢ Err OutOfMemory → old.looks < new.looks) → OpensIn new.log ticket (Err fault)
+    → (IsOk (handle_asked ticket) → refused fault ≢ Err OutOfMemory → old.looks < new.looks) → OpensIn new.log ticket (Err fault)
     → ReactsBy moves (Ok (fetch ticket workers)) old (Whole (refusal fault)) new
 fetch_refused moves old new ticket workers fault learns looked opens = record {
   log = new.log;

@@ -8,4 +8,5 @@ pub mod Ending
 pub mod Requests
 pub mod Reading
 pub mod Laws
+pub mod Joining
 pub mod Answered

@@ -1,14 +1,11 @@
 -- What a call does over a backend.
 use Rattle.std.specs.Prelude.{◌≡◌, ◌≢◌, ◌⊎◌, ◌<◌, List, [], ◌∷◌, ◌++◌, IsOk, Some, Result, Ok, Err}
 use Rattle.scan_base.specs.declared.fault.Fault.{Fault}
-use Rattle.scan_base.specs.declared.fault.Fault.TheVariants.{OutOfMemory, BadTicket}
-use Rattle.scan_base.specs.Reading.{◌>>=◌, demand}
-use Rattle.endpoint_split.specs.Handle.{HandleAt}
+use Rattle.scan_base.specs.declared.fault.Fault.TheVariants.{OutOfMemory}
 use Rattle.table_versions.specs.Database.{Put}
 use Rattle.flight_info.specs.Infos.{handle_asked, rows_wanted, tables_wanted, schema_wanted}
 use Rattle.flight_info.specs.Payloads.{Payload}
 use Rattle.flight_info.specs.Replies.{ReplyAt}
-use Rattle.fetch_stream.specs.Fetches.{may_mean}
 use Rattle.flight_core.specs.Asked.{Asked, put, info, tables, schema, fetch}
 use Rattle.flight_core.specs.Headline.{Begins}
 use Rattle.flight_core.specs.Log.{Log}
@@ -22,20 +19,13 @@ abbrev pub StartsAt : Result Asked Fault → Log → Log → Type 0
 StartsAt (Ok (put payloads)) seen log = IsOk (put_said payloads) ⊎ Begins seen log
 StartsAt _ seen log = Begins seen log
 
--- the handle that a ticket shows, where it may mean something as far as it shows by itself
-abbrev pub handle_read : Payload → Result HandleAt Fault
-handle_read ticket = do
-  handle ← handle_asked ticket
-  _ ← demand (may_mean handle) BadTicket
-  Ok handle
-
 -- what looks at the backend: an info, a list of tables, a schema or a fetch that was read
 abbrev pub Looks : Result Asked Fault → Type 0
 Looks (Ok (put payloads)) = ⊥
 Looks (Ok (info payload parts)) = IsOk (rows_wanted payload)
 Looks (Ok (tables payload parts)) = IsOk (tables_wanted payload)
 Looks (Ok (schema payload)) = IsOk (schema_wanted payload)
-Looks (Ok (fetch ticket workers)) = IsOk (handle_read ticket)
+Looks (Ok (fetch ticket workers)) = IsOk (handle_asked ticket)
 Looks (Err fault) = ⊥
 
 -- the put that a step adds to a log, if it adds one, is made by the seat

@@ -48,14 +48,13 @@ pub trait Backend {
     /// # Errors
     ///
     /// F18 (`Fault::VersionUnknown`) where the log that is then seen has fewer puts, and F21 (`Fault::OutOfMemory`) where
-    /// memory is refused for a version that it has.
+    /// memory is refused.
     fn at(&mut self, number: u64) -> Result<Snapshot, Fault>
         ensures learns { Learns moves (seat self.old) (seat self.new) }
         ensures ok { IfOk result (λ snapshot. LooksOnce (seat self.old) (seat self.new)
             × (number ≤ puts_in (seat self.new).log) × (snapshot.number ≡ number)
             × (tables_of snapshot.catalog ≡ version (seat self.new).log number)) }
-        ensures err { IfErr result (λ fault. ((fault ≡ OutOfMemory) × MayLook (seat self.old) (seat self.new)
-            × (number ≤ puts_in (seat self.new).log))
+        ensures err { IfErr result (λ fault. ((fault ≡ OutOfMemory) × MayLook (seat self.old) (seat self.new))
             ⊎ ((fault ≡ VersionUnknown) × LooksOnce (seat self.old) (seat self.new)
             × (puts_in (seat self.new).log < number))) };
 

@@ -1,8 +1,10 @@
 //! Laws of connections. Each function here does nothing: its contract is a law.
 
+ghost use Rattle.flight_calls.specs.Joining.{LaterCallsSee, SeatsMeetJoined};
 ghost use Rattle.flight_calls.specs.Laws.{FailedReadsAnswerAll, PutsAreMade, AnswersAreARun, ServedMeetsHeadline};
 
 use crate::backend::Backend;
+pub use flight_core::laws::joined;
 use flight_core::laws::runs_meet_headline;
 
 /// Where a read failed, a server has answered each whole call that came before, over any backend.
@@ -26,4 +28,17 @@ pub fn served_meets_headline()
     ensures { ServedMeetsHeadline }
 {
     runs_meet_headline();
+}
+
+/// What a call leaves is where every later call of the connection starts, but for a put that was read, over any backend.
+pub fn later_calls_see<B: Backend>()
+    ensures { LaterCallsSee B.moves }
+{}
+
+/// If every endpoint of an info was fetched to its end, over any connections whose seats all learnt of one log that is no
+/// shorter than the info's, the streams joined are the rows that were wanted, on the tables as they stood then.
+pub fn seats_meet_joined<B: Backend>()
+    ensures { SeatsMeetJoined B.moves }
+{
+    joined();
 }

@@ -3,11 +3,9 @@
 ghost use Rattle.std.specs.Prelude.{◌≡◌, ◌≢◌, ◌≤◌, ◌<◌, ◌⊎◌, List, Ok, Err, IfOk, IfErr, IsOk};
 ghost use Rattle.scan_base.specs.declared.fault.Fault.TheVariants.{OutOfMemory, VersionUnknown};
 ghost use Rattle.table_versions.specs.Stored.{put_of, tables_of};
-ghost use Rattle.endpoint_split.specs.Seen.{handle_seen};
 ghost use Rattle.flight_proto.specs.Wanted.{wanted_in};
-ghost use Rattle.flight_info.specs.Infos.{schema_wanted};
+ghost use Rattle.flight_info.specs.Infos.{handle_asked, schema_wanted};
 ghost use Rattle.flight_info.specs.Payloads.{Payload, FitMessages};
-ghost use Rattle.fetch_stream.specs.Fetches.{may_mean};
 ghost use Rattle.flight_core.specs.Asked.{put, schema, fetch};
 ghost use Rattle.flight_core.specs.Log.{puts_in, version};
 ghost use Rattle.flight_core.specs.Machine.{OpensIn};
@@ -15,13 +13,12 @@ ghost use Rattle.flight_core.specs.Puts.{command_in, put_said};
 ghost use Rattle.flight_core.specs.Refusals.{GivesBehind};
 ghost use Rattle.flight_calls.specs.Calls.{info_asked};
 ghost use Rattle.flight_calls.specs.Seats.{Learns};
-ghost use Rattle.flight_calls.specs.Reacts.{Reacts, handle_read};
+ghost use Rattle.flight_calls.specs.Reacts.{Reacts};
 ghost use Rattle.flight_calls.specs.Answered.{ReactsBy, FitsMessages};
 ghost use Rattle.flight_calls.specs.Stepping.{AnswersAt, RefusedBy};
 
 use crate::answer::Answer;
 use crate::backend::Backend;
-use endpoint_split::Handle;
 use fetch_stream::{FetchStream, read_ticket, version_of};
 use flight_core::put_answer;
 use flight_info::{Reply, answer_info, answer_schema, answer_tables};
@@ -103,7 +100,7 @@ fn version_on<B: Backend>(backend: &mut B, number: u64) -> Result<Snapshot, Faul
     ensures looked { result ≢ Err OutOfMemory → (B.seat backend.old).looks < (B.seat backend.new).looks }
     ensures ok { IfOk result (λ snapshot. (number ≤ puts_in (B.seat backend.new).log)
         × (tables_of snapshot.catalog ≡ version (B.seat backend.new).log number)) }
-    ensures err { IfErr result (λ fault. ((fault ≡ OutOfMemory) × (number ≤ puts_in (B.seat backend.new).log))
+    ensures err { IfErr result (λ fault. (fault ≡ OutOfMemory)
         ⊎ ((fault ≡ VersionUnknown) × (puts_in (B.seat backend.new).log < number))) }
 {
     match backend.at(number) {
@@ -115,18 +112,6 @@ fn version_on<B: Backend>(backend: &mut B, number: u64) -> Result<Snapshot, Faul
     }
 }
 
-// Whether a handle may mean something, as far as it shows by itself.
-fn may_mean(handle: &Handle<'_>) -> bool
-    ensures { result ≡ may_mean (handle_seen handle.now) }
-{
-    match handle {
-        Handle::Query { range, query, .. } => {
-            query.len() <= MOST_BYTES && range.from <= range.to
-        }
-        Handle::Tables { .. } => true,
-    }
-}
-
 // Opens the stream that answers a fetch.
 fn open_on<B: Backend>(
     alloc: Global,
@@ -135,16 +120,13 @@ fn open_on<B: Backend>(
     workers: usize,
 ) -> Result<FetchStream, Fault>
     ensures learns { Learns B.moves (B.seat backend.old) (B.seat backend.new) }
-    ensures looked { IsOk (handle_read ticket.now) → result ≢ Err OutOfMemory
+    ensures looked { IsOk (handle_asked ticket.now) → result ≢ Err OutOfMemory
         → (B.seat backend.old).looks < (B.seat backend.new).looks }
     ensures opens { OpensIn (B.seat backend.new).log ticket.now result }
 {
     let handle = read_ticket(ticket)?;
-    match version_on(backend, version_of(&handle)) {
-        Ok(snapshot) => FetchStream::new(alloc, &snapshot, &handle, workers),
-        Err(Fault::OutOfMemory) if !may_mean(&handle) => Err(Fault::BadTicket),
-        Err(fault) => Err(fault),
-    }
+    let snapshot = version_on(backend, version_of(&handle))?;
+    FetchStream::new(alloc, &snapshot, &handle, workers)
 }
 
 // What answers a fetch.
