@@ -13,7 +13,7 @@ use Rattle.client_calls.specs.declared.failure.Failure.{Failure}
 use Rattle.client_calls.specs.declared.failure.Failure.TheVariants.{Found}
 use Rattle.client_calls.specs.declared.putting.Target.{Target}
 use Rattle.client_calls.specs.Answers.{AnswersOne}
-use Rattle.client_calls.specs.Commands.{put_payloads, count_of}
+use Rattle.client_calls.specs.Commands.{put_payloads, ReadsCount}
 use Rattle.client_calls.specs.Outcome.{Calls, Line}
 use Rattle.command_ends.specs.Printing.{Said, Prints, cause_lines, count_line, fault_line}
 use Rattle.command_ends.specs.Whole.{Source, ReadsMessages}
@@ -100,7 +100,7 @@ pub record IsUnread (old new : Source) (untouched : Type 0) (status : ExitStatus
 pub record IsPut (old new : Source) (Opens : Line → Type 0) (target : Target) (status : ExitStatus) (desk desk' : Desk) : Type 0 where
   pub messages : List IpcMessage
   pub reads : ReadsMessages (λ (messages : List IpcMessage). messages) (Ok messages) old new
-  pub puts : Connects Opens (Calls DoPut (put_payloads target messages) (AnswersOne (λ (rows : ℕ). rows) count_of)) count_line status desk desk'
+  pub puts : Connects Opens (Calls DoPut (put_payloads target messages) (AnswersOne ReadsCount)) count_line status desk desk'
 
 abbrev pub Puts : Source → Source → Type 0 → (Line → Type 0) → Target → ExitStatus → Desk → Desk → Type 0
 Puts old new untouched Opens target status desk desk' =

@@ -3,7 +3,7 @@
 ghost use Rattle.std.specs.Prelude.{◌≡◌, ◌<◌};
 ghost use Rattle.client_calls.specs.declared.call.Method.TheVariants.{DoPut};
 ghost use Rattle.client_calls.specs.Answers.{AnswersOne};
-ghost use Rattle.client_calls.specs.Commands.{count_of, put_payloads};
+ghost use Rattle.client_calls.specs.Commands.{ReadsCount, put_payloads};
 ghost use Rattle.client_calls.specs.Outcome.{Calls};
 ghost use Rattle.command_ends.specs.Printing.{count_line, said_of};
 ghost use Rattle.command_ends.specs.Whole.{source_of};
@@ -75,7 +75,7 @@ fn put_messages<C: Connect, W: Output, E: Output>(
     ensures { Connects (λ line. (reader : C.Reader) × (writer : C.Writer)
         × C.connects network.old putting.entry.port reader writer network.new
         × (line ≡ opened_line (C.Reader.remaining reader) (C.Writer.contents writer)))
-        (Calls DoPut (put_payloads putting.entry.target messages.now) (AnswersOne (λ rows. rows) count_of))
+        (Calls DoPut (put_payloads putting.entry.target messages.now) (AnswersOne ReadsCount))
         count_line result
         (desk_of (said_of (W.contents output.old) (W.failures output.old))
         (said_of (E.contents faults.old) (E.failures faults.old)))
