@@ -22,3 +22,7 @@ pub record Fits (values : List Value) (count : ℕ) : Type 0 where
   pub some : 0 < count
   pub within : count ≤ length values
   pub short : AreShort (take count values)
+
+-- not even one fits: the text of the first has more bytes than offsets name
+abbrev pub NoneFits : List Value → Type 0
+NoneFits values = 2 ^ 31 ≤ length (texts_joined (take 1 values))

@@ -1,9 +1,9 @@
 //! How many values stand in one column of a batch.
 #![tactic(auto)]
 
-ghost use Rattle.std.specs.Prelude.{◌≡◌, ◌<◌, All, IfOk, length, map};
+ghost use Rattle.std.specs.Prelude.{◌≡◌, ◌<◌, All, IfOk, OnErr, length, map};
 ghost use Rattle.arrays.specs.OfSlots.{slot_value};
-ghost use Rattle.batch_room.specs.Fitting.{Fits, has_texts};
+ghost use Rattle.batch_room.specs.Fitting.{Fits, NoneFits, has_texts};
 
 use arrays::{SlotRef, texts_fit};
 use arrow_schema::DataType;
@@ -26,15 +26,16 @@ pub fn has_texts(data_type: DataType) -> bool
 }
 
 /// How many of the slots, from the first on, stand in one column of a batch: all of them, halved until their texts have no
-/// more than 16 MB. The texts of one are as many as they are, and more than offsets can name are a want of memory.
+/// more than 16 MB. One stands there whatever its text has, unless offsets cannot name each byte: that is a want of memory.
 ///
 /// # Errors
 ///
-/// `AllocError` where the first text has too many bytes.
+/// `AllocError` where the first text alone has more bytes than offsets can name, and nowhere else.
 pub fn fitting(slots: &[SlotRef<'_>]) -> Result<usize, AllocError>
     requires there { All (λ slot. slot.place < slot.column.now.len) slots.now }
     requires some { 0 < length slots.now }
-    ensures { IfOk result (Fits (map slot_value slots.now)) }
+    ensures fits { IfOk result (Fits (map slot_value slots.now)) }
+    ensures refused { OnErr result (NoneFits (map slot_value slots.now)) }
 {
     let mut count = slots.len();
     while !texts_fit(&slots[..count], MOST_COLUMN_BYTES) {
@@ -50,7 +51,8 @@ pub fn fitting(slots: &[SlotRef<'_>]) -> Result<usize, AllocError>
 fn alone(slots: &[SlotRef<'_>]) -> Result<usize, AllocError>
     requires there { All (λ slot. slot.place < slot.column.now.len) slots.now }
     requires some { 0 < length slots.now }
-    ensures { IfOk result (Fits (map slot_value slots.now)) }
+    ensures fits { IfOk result (Fits (map slot_value slots.now)) }
+    ensures refused { OnErr result (NoneFits (map slot_value slots.now)) }
 {
     if texts_fit(&slots[..1], MOST_OFFSET) {
         Ok(1)

@@ -1,7 +1,6 @@
 -- A tree reads a table or more.
-use Rattle.std.proofs.Common.{◌≡◌, ◌<◌, ℕ, List, [], ◌∷◌, ◌++◌, length, map, ap, sym, subst, arith}
+use Rattle.std.proofs.Common.{◌≡◌, ◌<◌, List, length, map, ap, arith}
 use Rattle.std.proofs.lemmas.List.{length-map, length-append}
-use Rattle.arrow_schema.specs.declared.schema.Schema.{Schema}
 use Rattle.table_versions.specs.Stored.{TableAt}
 use Rattle.typed_plan.specs.Held.{tree_schemas}
 use Rattle.typed_plan.specs.Plan.{Tree, scan, filtered, joined}

@@ -1,13 +1,12 @@
 -- The rules of names and classes: why a query is refused, and the order in which it is looked at.
 use Rattle.std.specs.Prelude.{ℕ, ◌==◌, Bool, not, ◌||◌, nat_lt, if◌then◌else◌, List, [], ◌∷◌, ◌++◌}
-use Rattle.std.specs.Prelude.{length, map, slice_get, Option, None, is_some, Result}
+use Rattle.std.specs.Prelude.{length, map, slice_get, Option, None, is_some}
 use Rattle.std.specs.List.{list_any}
 use Rattle.std.specs.Str.{bytes_eq}
 use Rattle.scan_base.specs.Limits.{most_columns}
 use Rattle.scan_base.specs.declared.fault.Fault.{Fault}
 use Rattle.scan_base.specs.declared.fault.Fault.TheVariants.{TableMissing, LimitReached, UnknownName, TypeClash}
 use Rattle.scan_base.specs.declared.fault.Fault.TheVariants.{NotInSubset}
-use Rattle.scan_base.specs.Reading.{◌>>=◌, demand}
 use Rattle.sql_query.specs.declared.query.Place.{Place}
 use Rattle.sql_query.specs.declared.query.Equality.{Equality}
 use Rattle.sql_query.specs.declared.query.Join.{Join}
@@ -90,8 +89,8 @@ rules_fault query database =
 abbrev pub fault_of : Sentence → Database → Option Fault
 fault_of query database = must (not (is_left_out_whole query)) NotInSubset then rules_fault query database
 
--- what a query shows before any memory is taken: whether it is left out, then whether its first table is there
-abbrev pub glance_of : Sentence → Database → Result (Unit {0}) Fault
+-- what a query shows before any memory is taken: that it is left out, and then why a place of it is refused
+abbrev pub glance_of : Sentence → Database → Option Fault
 glance_of query database =
-    demand (not (is_left_out_whole query)) NotInSubset
-    >>= λ _. demand (is_some (table_at database query.first.table)) TableMissing
+    must (not (is_left_out_whole query)) NotInSubset
+    then places_fault database [] (query.first ∷ map (λ join. join.place) query.joins)

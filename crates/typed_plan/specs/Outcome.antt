@@ -15,6 +15,11 @@ abbrev pub Binds : {X : Type 0} → Option Fault → (X → Type 0) → Result X
 Binds first IsBound (Ok x) = (first ≡ None) × IsBound x
 Binds first IsBound (Err fault) = fault ≢ OutOfMemory → first ≡ Some fault
 
+-- the same of a call that takes no memory
+abbrev pub Finds : {X : Type 0} → Option Fault → (X → Type 0) → Result X Fault → Type 0
+Finds first IsFound (Ok x) = (first ≡ None) × IsFound x
+Finds first IsFound (Err fault) = first ≡ Some fault
+
 -- a predicate's first fault from the left, or the predicate over numbers of columns
 abbrev pub BindsPredicate : Scope → Pred ColumnName → Result (Predicate ℕ) Fault → Type 0
 BindsPredicate scope predicate =

@@ -1,8 +1,7 @@
 //! Binding: the names of a query become columns, and the query a plan.
 
-ghost use Rattle.std.specs.Prelude.{◌≡◌, ◌∷◌, false, IfOk, map, option_map};
+ghost use Rattle.std.specs.Prelude.{◌≡◌, ◌∷◌, false, Err, IfOk, IfSome, map, option_map};
 ghost use Rattle.arrow_schema.specs.Schema.{IsSchema};
-ghost use Rattle.scan_base.specs.Reading.{RefusesFirst};
 ghost use Rattle.scan_base.specs.View.{pred_of};
 ghost use Rattle.sql_query.specs.Sentence.{sentence_of, is_left_out_whole};
 ghost use Rattle.table_versions.specs.Stored.{tables_of};
@@ -19,7 +18,7 @@ ghost use Rattle.typed_plan.specs.ResultSchema.{select_fields};
 ghost use Rattle.typed_plan.specs.View.{tree_of, plan_of};
 
 use crate::joining::Joined;
-use crate::places::place_tables;
+use crate::places::{check_joins, place_tables};
 use crate::plan::{Output, Plan, TypedPlan};
 use crate::predicate::number_predicate;
 use crate::scope::Scope;
@@ -42,13 +41,14 @@ use table_versions::{CatalogVersion, TableVersion};
 /// no column of the places so far, or several; F15 (`Fault::TypeClash`) where the two sides of a comparison are of different
 /// classes, and at a SUM of what is no integer; F16 where an equality of an ON has not one column of its new place and one
 /// of an earlier one, and at a column that is selected of groups and is none of GROUP BY. F12 (`Fault::LimitReached`) where
-/// the result has more than 64 columns. F21 (`Fault::OutOfMemory`) where memory is refused.
+/// the result has more than 64 columns. F21 (`Fault::OutOfMemory`) where memory is refused, which is not asked for before the
+/// places are looked at.
 pub fn bind(alloc: Global, query: &Query, catalog: &CatalogVersion) -> Result<TypedPlan, Fault>
     ensures bound { Binds (fault_of (sentence_of query.now) (tables_of catalog.now))
         (λ plan. plan_of plan ≡ plan_for (sentence_of query.now) (tables_of catalog.now)) result }
     ensures means { IfOk result (λ plan. IsPlanOf (sentence_of query.now) (tables_of catalog.now) (plan_of plan)) }
     ensures named { HasNames query.now.select → IfOk result (λ plan. IsSchema plan.schema) }
-    ensures first { RefusesFirst result (glance_of (sentence_of query.now) (tables_of catalog.now)) }
+    ensures first { IfSome (glance_of (sentence_of query.now) (tables_of catalog.now)) (λ fault. result ≡ Err fault) }
     ensures held { IfOk result (λ plan. HoldsFrom catalog.now plan) }
     ensures places { IfOk result (λ plan. tree_tables (tree_of plan.plan)
         ≡ query.now.first.table ∷ map (λ join. join.place.table) query.now.joins) }
@@ -59,6 +59,7 @@ pub fn bind(alloc: Global, query: &Query, catalog: &CatalogVersion) -> Result<Ty
     let Some(first) = catalog.get(&query.first.table) else {
         return Err(Fault::TableMissing);
     };
+    check_joins(query, catalog)?;
     let tables = place_tables(alloc, query, catalog, first)?;
     let (plan, output, schema) = bind_parts(alloc, query, first, &tables[1..])?;
     Ok(TypedPlan {

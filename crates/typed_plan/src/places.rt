@@ -1,18 +1,31 @@
 //! The tables of a query's places.
 
-ghost use Rattle.std.specs.Prelude.{◌≡◌, [], Some};
+ghost use Rattle.std.specs.Prelude.{◌≡◌, [], Some, map};
 ghost use Rattle.std.specs.List.{list_any};
 ghost use Rattle.std.specs.Str.{bytes_eq};
 ghost use Rattle.table_versions.specs.Database.{table_at};
 ghost use Rattle.table_versions.specs.Stored.{tables_of};
 ghost use Rattle.typed_plan.specs.Bound.{place_fault, places_fault};
-ghost use Rattle.typed_plan.specs.Outcome.{Binds};
+ghost use Rattle.typed_plan.specs.Faults.{fault_in};
+ghost use Rattle.typed_plan.specs.Outcome.{Binds, Finds};
 ghost use Rattle.typed_plan.specs.Over.{AreTablesOf, names_of, places_of};
 
 use scan_base::{Fault, Text};
 use sql_query::{Join, Place, Query};
 use std::alloc::Global;
 use table_versions::{CatalogVersion, TableVersion};
+
+// Whether each further place has a table, and goes by a name that no earlier one has. It takes no memory.
+pub(crate) fn check_joins(query: &Query, catalog: &CatalogVersion) -> Result<(), Fault>
+    ensures { fault_in result ≡ places_fault (tables_of catalog.now) (names_of query.now.first [])
+        (map (λ join. join.place) query.now.joins) }
+{
+    let joins = query.joins.as_slice();
+    for (number, join) in joins.iter().enumerate() {
+        place_table(catalog, &query.first, &joins[..number], &join.place)?;
+    }
+    Ok(())
+}
 
 // The tables of the places, in order, of which the first is known.
 pub(crate) fn place_tables(
@@ -42,7 +55,7 @@ fn place_table<'c>(
     joins: &[Join],
     place: &Place,
 ) -> Result<&'c TableVersion, Fault>
-    ensures { Binds (place_fault (tables_of catalog.now) (names_of first.now joins.now) place.now)
+    ensures { Finds (place_fault (tables_of catalog.now) (names_of first.now joins.now) place.now)
         (λ table. table_at catalog.now place.now.table ≡ Some table.now) result }
 {
     let Some(table) = catalog.get(&place.table) else {

@@ -1,15 +1,17 @@
-use Rattle.std.proofs.Common.{◌≡◌, ◌-◌, ◌∷◌, false, length, map, take, drop, refl, sym, ap, subst, ◌∙◌, rules}
+use Rattle.std.proofs.Common.{◌≡◌, ◌-◌, [], ◌∷◌, false, None, length, map, take, drop, refl, sym, ap, subst, ◌∙◌, rules}
 use Rattle.std.proofs.lemmas.Result.{err_from_is_err_and}
 use Rattle.std.specs.Option.{option_copied}
 use Rattle.sql_query.specs.Sentence.{sentence_of, is_left_out_whole}
 use Rattle.table_versions.specs.Stored.{TableAt, tables_of, plain}
-use Rattle.typed_plan.specs.Over.{AreTablesOf, places_of}
+use Rattle.typed_plan.specs.Over.{AreTablesOf, names_of, places_of}
 use Rattle.table_versions.specs.Database.{table_at}
 use Rattle.table_versions.proofs.Stores.{table_at-tables_of}
 use Rattle.typed_plan.specs.Binding.{IsPlanOf}
+use Rattle.typed_plan.specs.Bound.{places_fault}
 use Rattle.typed_plan.specs.Held.{tree_tables, tree_schemas}
 use Rattle.typed_plan.specs.Plan.{PlanAt}
 use Rattle.typed_plan.specs.Typed.{IsTyped}
+use Rattle.typed_plan.proofs.LookedUp.{glance_is, glance_refuses}
 use Rattle.typed_plan.proofs.Over.{others_are, fault_is, bound_over, schemas_are, names_hold}
 use Rattle.typed_plan.proofs.PlanMeans.{plan_means, plan_reads}
 use Rattle.typed_plan.proofs.PlannedTypes.{plan_typed}
@@ -23,13 +25,40 @@ returns-in_default-clause-bound c other =
     ∙ ap plain (sym c.get.ensures ∙ ap option_copied c.in_default.is) in
     rw (going, absent) refl
 
+pub returns-in_default-clause-first : goal.returns-in_default-clause-first
+returns-in_default-clause-first c =
+    let query = sentence_of c.args.query.now in
+    let going : is_left_out_whole query ≡ false = sym c.is_left_out.ensures ∙ c.if-is_left_out.false in
+    let absent = table_at-tables_of c.args.catalog.now query.first.table
+    ∙ ap plain (sym c.get.ensures ∙ ap option_copied c.in_default.is) in
+    rw (going, absent) refl
+
+pub returns-in_err-check_joins-clause-bound : goal.returns-in_err-check_joins-clause-bound
+returns-in_err-check_joins-clause-bound c =
+    let query = sentence_of c.args.query.now in
+    let catalog = c.args.catalog.now in
+    let shown = glance_is query catalog c.in-Some.first.now (sym c.is_left_out.ensures ∙ c.if-is_left_out.false)
+    (sym c.get.ensures ∙ ap option_copied c.in-Some.is) in
+    let p = err_from_is_err_and c.from_residual.result c.from_residual.ensures.1 in
+    rw (p.1, p.2) (λ apart. glance_refuses query (tables_of catalog) _ (shown ∙ sym c.in_err-check_joins.ensures))
+
+pub returns-in_err-check_joins-clause-first : goal.returns-in_err-check_joins-clause-first
+returns-in_err-check_joins-clause-first c =
+    let query = sentence_of c.args.query.now in
+    let shown = glance_is query c.args.catalog.now c.in-Some.first.now (sym c.is_left_out.ensures ∙ c.if-is_left_out.false)
+    (sym c.get.ensures ∙ ap option_copied c.in-Some.is) in
+    let p = err_from_is_err_and c.from_residual.result c.from_residual.ensures.1 in
+    rw (p.1, p.2, shown ∙ sym c.in_err-check_joins.ensures) refl
+
+-- no place is refused by the time that memory is taken
 pub returns-in_err-tables-clause-first : goal.returns-in_err-tables-clause-first
 returns-in_err-tables-clause-first c =
     let query = sentence_of c.args.query.now in
-    let going : is_left_out_whole query ≡ false = sym c.is_left_out.ensures ∙ c.if-is_left_out.false in
-    let there = table_at-tables_of c.args.catalog.now query.first.table
-    ∙ ap plain (sym c.get.ensures ∙ ap option_copied c.in-Some.is) in
-    rw (going, there) tt
+    let database = tables_of c.args.catalog.now in
+    let shown = glance_is query c.args.catalog.now c.in-Some.first.now (sym c.is_left_out.ensures ∙ c.if-is_left_out.false)
+    (sym c.get.ensures ∙ ap option_copied c.in-Some.is) in
+    let none : None ≡ places_fault database (names_of query.first []) (map (λ join. join.place) query.joins) = search rules in
+    rw (shown ∙ sym none) tt
 
 pub returns-in_err-plan-clause-bound : goal.returns-in_err-plan-clause-bound
 returns-in_err-plan-clause-bound c =

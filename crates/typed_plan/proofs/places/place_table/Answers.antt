@@ -8,12 +8,12 @@ use Rattle.typed_plan.proofs.LookedUp.{absent, taken, free}
 use Rattle.typed_plan.proofs.places.place_table.Goals as goal
 
 pub returns-in_default : goal.returns-in_default
-returns-in_default c apart =
+returns-in_default c =
     absent c.args.catalog.now (names_of c.args.first.now c.args.joins.now) c.args.place.now
     (sym c.get.ensures ∙ ap option_copied c.in_default.is)
 
 pub returns-then-is_taken : goal.returns-then-is_taken
-returns-then-is_taken c apart =
+returns-then-is_taken c =
     let names = names_of c.args.first.now c.args.joins.now in
     let known : list_any (bytes_eq (place_name c.args.place.now)) names ≡ true =
     ap (λ name. list_any (bytes_eq name) names) (sym c.name.ensures) ∙ sym c.is_taken.ensures ∙ c.if-is_taken.true in

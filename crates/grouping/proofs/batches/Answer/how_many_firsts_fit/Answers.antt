@@ -29,4 +29,4 @@ returns-then-not-has_texts c =
 
 pub returns : goal.returns
 returns c =
-    subst (λ (values : List Value). IfOk c.fitting.result (Fits values)) (ap (map slot_value) c.as_slice.ensures.value ∙ c.in_ok-slots.ensures.values) c.fitting.ensures
+    subst (λ (values : List Value). IfOk c.fitting.result (Fits values)) (ap (map slot_value) c.as_slice.ensures.value ∙ c.in_ok-slots.ensures.values) c.fitting.ensures.fits

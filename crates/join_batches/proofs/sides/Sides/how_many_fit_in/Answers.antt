@@ -36,4 +36,4 @@ returns c =
     IfOk-weaker c.fitting.result (Fits (map slot_value c.as_slice.result.now)) (FitsIn c.args.self.now c.args.pairs.now c.args.number)
     (λ count fits. fits_in c.args.self.now c.args.pairs.now c.in_ok-slots.slots.items c.args.number count c.in_ok-slots.ensures
     (subst (λ (slots : List SlotRef). Fits (map slot_value slots) count) c.as_slice.ensures.value fits))
-    c.fitting.ensures
+    c.fitting.ensures.fits
