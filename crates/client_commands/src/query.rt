@@ -1,6 +1,6 @@
 //! `flightscan query`: the rows that a query answers.
 
-ghost use Rattle.std.specs.Prelude.{◌≡◌, ◌<◌};
+ghost use Rattle.std.specs.Prelude.{◌<◌};
 ghost use Rattle.command_ends.specs.Printing.{said_of};
 ghost use Rattle.client_commands.specs.Told.{Tells};
 ghost use Rattle.client_commands.specs.Commands.{table_lines, Queries, desk_of};

@@ -1,6 +1,6 @@
 //! `flightscan tables`: the names of the tables.
 
-ghost use Rattle.std.specs.Prelude.{◌≡◌, ◌<◌};
+ghost use Rattle.std.specs.Prelude.{◌<◌};
 ghost use Rattle.command_ends.specs.Printing.{said_of};
 ghost use Rattle.std.specs.List.{flat_map};
 ghost use Rattle.row_lines.specs.Lines.{name_line};
