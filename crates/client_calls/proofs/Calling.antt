@@ -1,5 +1,5 @@
 -- A connection, and a call on it.
-use Rattle.std.proofs.Common.{◌≡◌, ◌≢◌, ◌⊎◌, ℕ, ◌<◌, List, Option, Some, None, Result, Ok, Err, refl, sym, ap, subst, ◌∙◌, inl, inr}
+use Rattle.std.proofs.Common.{◌≡◌, ◌≢◌, ℕ, ◌<◌, List, Option, Some, None, Result, Ok, Err, refl, sym, ap, subst, ◌∙◌, inl, inr}
 use Rattle.std.specs.Io.KnownBytes.{Consumes}
 use Rattle.scan_base.specs.declared.fault.Fault.{Fault}
 use Rattle.scan_base.specs.declared.fault.Fault.TheVariants.{MessageTooLarge, OutOfMemory, Transport}
@@ -7,11 +7,10 @@ use Rattle.grpc_frame.specs.Records.{Received, with_more}
 use Rattle.flight_info.specs.Payloads.{Payload}
 use Rattle.client_calls.specs.declared.call.Method.{Method}
 use Rattle.client_calls.specs.declared.failure.Failure.{Failure}
-use Rattle.client_calls.specs.declared.failure.Failure.TheVariants.{Answered, Found}
-use Rattle.client_calls.specs.Answers.{Incoming, AnswersOne}
-use Rattle.client_calls.specs.Calls.{Fit}
-use Rattle.client_calls.specs.Outcome.{Outgoing, Line, left_of, IsWritten, IsBegun, WhyNot, CallsAt, Calls}
-use Rattle.client_calls.specs.inside.Parts.{incoming_of, IsOpen, WritesCall, SendsCall, left_behind, given, Receives}
+use Rattle.client_calls.specs.declared.failure.Failure.TheVariants.{Found}
+use Rattle.client_calls.specs.Answers.{Incoming, Stop, stopped_at, AnswersOne}
+use Rattle.client_calls.specs.Outcome.{Outgoing, Line, left_of, IsWritten, WhyNot, CallsAt, Calls}
+use Rattle.client_calls.specs.inside.Parts.{incoming_of, IsOpen, HasStopped, WritesCall, SendsCall, Receives}
 use Rattle.client_calls.proofs.Ones.{AnswersMessage, reads, does_not_read, gives_none}
 
 -- a connection by its parts
@@ -25,7 +24,7 @@ pub is_none : (a : Option (List ℕ)) (x : ℕ) (stopped : Option Fault) (left :
     → line_of a x stopped left out ≡ line → IsOpen line → stopped ≡ None
 is_none a x None left out line is is_open = refl
 is_none a x (Some fault) left out line is is_open =
-    let e : Err fault ≡ Ok is_open.0 = ap (λ (l : Line). l.incoming.left) is ∙ is_open.1 in absurd cc
+    let e : stopped_at fault left ≡ Ok is_open.0 = ap (λ (l : Line). l.incoming.left) is ∙ is_open.1 in absurd cc
 
 -- how many of its reads and writes failed
 pub few_reads : (a : Option (List ℕ)) (x n : ℕ) (stopped : Option Fault) (left : Received) (out : Outgoing) (line : Line)
@@ -49,11 +48,10 @@ module _ (a : Option (List ℕ)) (x : ℕ) (left : Received) (out out' : Outgoin
   not_written : (next : Option Fault) → WritesCall (Err fault) method messages out out' → (fault ≡ Transport → next ≡ Some Transport) → (fault ≢ Transport → next ≡ None)
       → WhyNot fault method messages (line_of a x None left out) (line_of a x next left out')
   not_written next (inl e) stops stays = inl (e.0, e.1, ap (λ (n : Option Fault). incoming_of a x (left_of n left)) (stops e.0))
-  not_written next (inr (why, same)) stops stays = inr (why, untouched (stays (other why)) same)
+  not_written next (inr (long, unfit, same)) stops stays = inr (inl (long, unfit), untouched (stays other) same)
     where
-      other : ((fault ≡ MessageTooLarge) × ¬ Fit messages) ⊎ (fault ≡ OutOfMemory) → fault ≢ Transport
-      other (inl long) is = let both : MessageTooLarge ≡ Transport = sym long.0 ∙ is in absurd cc
-      other (inr memory) is = let both : OutOfMemory ≡ Transport = sym memory ∙ is in absurd cc
+      other : fault ≢ Transport
+      other is = let both : MessageTooLarge ≡ Transport = sym long ∙ is in absurd cc
 
       untouched : next ≡ None → out' ≡ out → line_of a x next left out' ≡ line_of a x None left out
       untouched none same = rw (none, same) refl
@@ -70,7 +68,7 @@ module _ (a : Option (List ℕ)) (x : ℕ) (left : Received) (out out' : Outgoin
 
 module _ (Answers : Incoming → Incoming → Received → Type 0) (a b : Option (List ℕ)) (x y : ℕ) (stopped : Option Fault) (old new : Received) (out : Outgoing) (line : Line)
     (is : line_of a x stopped old out ≡ line) (is_open : IsOpen line) where
-  abbrev Came : Result Received Fault → Type 0
+  abbrev Came : Result Received Stop → Type 0
   Came left = (came : List ℕ) × Consumes a b came × Answers (incoming_of a x (Ok old)) (incoming_of b y left) (with_more old came)
 
   none : stopped ≡ None
@@ -84,7 +82,7 @@ module _ (Answers : Incoming → Incoming → Received → Type 0) (a b : Option
   received q = subst (λ (s : Option Fault). Receives Answers line (line_of b y s new out)) (sym none) (from_open (line_of b y None new out) (old, refl, q, refl))
 
   -- or not
-  pub stopped_by : (fault : Fault) → Came (Err fault) → Receives Answers line (line_of b y (Some fault) new out)
+  pub stopped_by : (fault : Fault) → Came (stopped_at fault new) → Receives Answers line (line_of b y (Some fault) new out)
   stopped_by fault q = from_open (line_of b y (Some fault) new out) (old, refl, q, refl)
 
 -- ---- a call
@@ -93,7 +91,7 @@ module _ {A : Type 0} (method : Method) (messages : List Payload) (Answers : Res
   -- it was written, and this answers it
   pub called : (result : Result A Failure) (mid new : Line) → SendsCall (Ok tt) method messages old mid → Receives (Answers result) mid new → Calls method messages Answers result old new
   called result mid new p q =
-      subst (λ (at : Result Received Fault). CallsAt at method messages Answers result old new) (sym was)
+      subst (λ (at : Result Received Stop). CallsAt at method messages Answers result old new) (sym was)
       (inl (record {
         written = subst (λ (o : Outgoing). IsWritten method messages old.outgoing o) (sym q.3) p.0;
         came = q.2.0;
@@ -107,15 +105,15 @@ module _ {A : Type 0} (method : Method) (messages : List Payload) (Answers : Res
   -- it was not
   pub not_called : (fault : Fault) (new : Line) → IsOpen old → WhyNot fault method messages old new → Calls method messages Answers (Err (Found fault)) old new
   not_called fault new is_open why =
-      subst (λ (at : Result Received Fault). CallsAt at method messages Answers (Err (Found fault)) old new) (sym is_open.1) (inr (fault, refl, why))
+      subst (λ (at : Result Received Stop). CallsAt at method messages Answers (Err (Found fault)) old new) (sym is_open.1) (inr (fault, refl, why))
 
   -- memory was refused before
   pub no_memory : IsOpen old → Calls method messages Answers (Err (Found OutOfMemory)) old old
   no_memory is_open = not_called OutOfMemory old is_open (inr (inr refl, refl))
 
   -- a call before it stopped
-  pub stopped_before : (fault : Fault) → old.incoming.left ≡ Err fault → Calls method messages Answers (Err (Found fault)) old old
-  stopped_before fault is = subst (λ (at : Result Received Fault). CallsAt at method messages Answers (Err (Found fault)) old old) (sym is) (refl, refl)
+  pub stopped_before : (fault : Fault) → HasStopped fault old → Calls method messages Answers (Err (Found fault)) old old
+  stopped_before fault is = subst (λ (at : Result Received Stop). CallsAt at method messages Answers (Err (Found fault)) old old) (sym is.1) (refl, refl)
 
 -- ---- what the answer says
 
@@ -123,25 +121,25 @@ module _ {A B : Type 0} (method : Method) (messages : List Payload) (Answers : R
     (result : Result A Failure) (result' : Result B Failure)
     (answers : (old new : Incoming) (all : Received) → Answers result old new all → Answers' result' old new all)
     (same : (fault : Fault) → result ≡ Err (Found fault) → result' ≡ Err (Found fault)) (old new : Line) where
-  said_at : (at : Result Received Fault) → CallsAt at method messages Answers result old new → CallsAt at method messages Answers' result' old new
+  said_at : (at : Result Received Stop) → CallsAt at method messages Answers result old new → CallsAt at method messages Answers' result' old new
   said_at (Ok left) (inl p) = inl (record { written = p.written; came = p.came; consumed = p.consumed; answers = answers old.incoming new.incoming (with_more left p.came) p.answers })
   said_at (Ok left) (inr p) = inr (p.0, same p.0 p.1, p.2)
-  said_at (Err fault) p = (same fault p.0, p.1)
+  said_at (Err stop) p = (same stop.fault p.0, p.1)
 
   said : Calls method messages Answers result old new → Calls method messages Answers' result' old new
   said p = said_at old.incoming.left p
 
-module _ {A B : Type 0} (view : A → B) (read : Payload → Result B Fault) (method : Method) (messages : List Payload) (old new : Line) where
-  pub call_reads : (message : Payload) (x : A) → Calls method messages AnswersMessage (Ok message) old new → read message ≡ Ok (view x) → Calls method messages (AnswersOne view read) (Ok x) old new
-  call_reads message x p is = said method messages AnswersMessage (AnswersOne view read) (Ok message) (Ok x) (λ a b all q. reads view read a b all message x q is) (λ fault e. absurd cc) old new p
+module _ {A : Type 0} (Reads : Result A Fault → Payload → Type 0) (method : Method) (messages : List Payload) (old new : Line) where
+  pub call_reads : (message : Payload) (x : A) → Calls method messages AnswersMessage (Ok message) old new → Reads (Ok x) message → Calls method messages (AnswersOne Reads) (Ok x) old new
+  call_reads message x p is = said method messages AnswersMessage (AnswersOne Reads) (Ok message) (Ok x) (λ a b all q. reads Reads a b all message x q is) (λ fault e. absurd cc) old new p
 
-  pub call_does_not_read : (message : Payload) (fault : Fault) → Calls method messages AnswersMessage (Ok message) old new → (fault ≢ OutOfMemory → read message ≡ Err fault) → Calls method messages (AnswersOne view read) (Err (Found fault)) old new
+  pub call_does_not_read : (message : Payload) (fault : Fault) → Calls method messages AnswersMessage (Ok message) old new → Reads (Err fault) message → Calls method messages (AnswersOne Reads) (Err (Found fault)) old new
   call_does_not_read message fault p is =
-      said method messages AnswersMessage (AnswersOne view read) (Ok message) (Err (Found fault)) (λ a b all q. does_not_read view read a b all message fault q is) (λ other e. absurd cc) old new p
+      said method messages AnswersMessage (AnswersOne Reads) (Ok message) (Err (Found fault)) (λ a b all q. does_not_read Reads a b all message fault q is) (λ other e. absurd cc) old new p
 
-  pub call_gives_none : (failure : Failure) → Calls method messages AnswersMessage (Err failure) old new → Calls method messages (AnswersOne view read) (Err failure) old new
+  pub call_gives_none : (failure : Failure) → Calls method messages AnswersMessage (Err failure) old new → Calls method messages (AnswersOne Reads) (Err failure) old new
   call_gives_none failure p =
-      said method messages AnswersMessage (AnswersOne view read) (Err failure) (Err failure) (λ a b all q. gives_none view read a b all failure q) (λ fault e. same fault (Err failure) (Err failure) refl refl e) old new p
+      said method messages AnswersMessage (AnswersOne Reads) (Err failure) (Err failure) (λ a b all q. gives_none Reads a b all failure q) (λ fault e. same fault (Err failure) (Err failure) refl refl e) old new p
     where
       same : (fault : Fault) (one : Result Payload Failure) (other : Result A Failure) → one ≡ Err failure → other ≡ Err failure → one ≡ Err (Found fault) → other ≡ Err (Found fault)
       same fault one other p q e = cc

@@ -1,8 +1,8 @@
 -- An answer of one message.
-use Rattle.std.proofs.Common.{◌≡◌, ◌≢◌, ℕ, List, [], ◌∷◌, Option, Result, Ok, Err, refl, inl, inr}
+use Rattle.std.proofs.Common.{◌≡◌, ℕ, List, [], ◌∷◌, Option, Result, Ok, Err, refl, subst, inl, inr}
 use Rattle.std.specs.Io.KnownBytes.{Consumes}
 use Rattle.scan_base.specs.declared.fault.Fault.{Fault}
-use Rattle.scan_base.specs.declared.fault.Fault.TheVariants.{BadProto, OutOfMemory}
+use Rattle.scan_base.specs.declared.fault.Fault.TheVariants.{BadProto}
 use Rattle.grpc_frame.specs.declared.place.Place.TheVariants.{InAnswer}
 use Rattle.grpc_frame.specs.Records.{Received, with_more}
 use Rattle.flight_info.specs.Payloads.{Payload}
@@ -17,7 +17,7 @@ use Rattle.client_calls.proofs.Taking.{Taken, taken_none, taken_more, more_quiet
 
 -- the message as it came
 abbrev pub AnswersMessage : Result Payload Failure → Incoming → Incoming → Received → Type 0
-AnswersMessage result old new all = AnswersOne (λ (message : Payload). message) (λ (message : Payload). Ok message) result old new all
+AnswersMessage result old new all = AnswersOne (λ (given : Result Payload Fault) (message : Payload). given ≡ Ok message) result old new all
 
 -- what an answer is read as
 abbrev pub Read : Type 0
@@ -31,7 +31,7 @@ module _ (a b : Option (List ℕ)) (x y : ℕ) (old mid : Received) (place : old
   One result = (came : List ℕ) × Consumes a b came × AnswersMessage (given result) (incoming_of a x (Ok old)) (incoming_of b y (left_behind result mid)) (with_more old came)
 
   pub first_stops : (fault : Fault) → First (Err fault) → One (Err fault)
-  first_stops fault q = let s = taken_stop a a b x x y old old mid [] (taken_none a old place) refl fault q in (s.0, s.1, inl s.2)
+  first_stops fault q = let s = taken_stop a a b x x y old old mid [] (taken_none a old place) refl fault q in (s.0, s.1, inl (inl s.2))
 
   pub first_ends : First (Ok (arrival.End (Ok tt))) → One (Ok (Err (Found BadProto)))
   first_ends q = let e = finished a a b x x y old old mid [] (taken_none a old place) refl q in (e.0, e.1, inr (inl (refl, inl e.2)))
@@ -61,7 +61,7 @@ module _ (a b c : Option (List ℕ)) (x y z : ℕ) (old mid new : Received) (pla
   quiet = first_quiet a b x y old mid place message p
 
   pub second_stops : (fault : Fault) → Second (Err fault) → Both (Err fault)
-  second_stops fault q = let s = taken_stop a b c x y z old mid new (message ∷ []) taken quiet fault q in (s.0, s.1, inl s.2)
+  second_stops fault q = let s = taken_stop a b c x y z old mid new (message ∷ []) taken quiet fault q in (s.0, s.1, inl (inr (message, s.2)))
 
   pub second_more : (second : Payload) → Second (Ok (arrival.Message second)) → Both (Err BadProto)
   second_more second q =
@@ -79,21 +79,18 @@ module _ (a b c : Option (List ℕ)) (x y z : ℕ) (old mid new : Received) (pla
 abbrev plain : Payload → Result Payload Fault
 plain message = Ok message
 
-module _ {A B : Type 0} (view : A → B) (read : Payload → Result B Fault) (old new : Incoming) (all : Received) where
-  pub reads : (message : Payload) (x : A) → AnswersMessage (Ok message) old new all → read message ≡ Ok (view x) → AnswersOne view read (Ok x) old new all
-  reads message x p is = (p.0, p.1, rw (same p.0 p.2) is)
-    where
-      same : (other : Payload) → plain other ≡ plain message → other ≡ message
-      same other e = cc
+same : (message other : Payload) → plain message ≡ plain other → message ≡ other
+same message other e = cc
 
-  pub does_not_read : (message : Payload) (fault : Fault) → AnswersMessage (Ok message) old new all → (fault ≢ OutOfMemory → read message ≡ Err fault) → AnswersOne view read (Err (Found fault)) old new all
-  does_not_read message fault p is = inr (inr (p.0, p.1, rw (same p.0 p.2) is))
-    where
-      same : (other : Payload) → plain other ≡ plain message → other ≡ message
-      same other e = cc
+module _ {A : Type 0} (Reads : Result A Fault → Payload → Type 0) (old new : Incoming) (all : Received) where
+  pub reads : (message : Payload) (x : A) → AnswersMessage (Ok message) old new all → Reads (Ok x) message → AnswersOne Reads (Ok x) old new all
+  reads message x p is = (p.0, p.1, subst (Reads (Ok x)) (same message p.0 p.2) is)
 
-  pub gives_none : (failure : Failure) → AnswersMessage (Err failure) old new all → AnswersOne view read (Err failure) old new all
+  pub does_not_read : (message : Payload) (fault : Fault) → AnswersMessage (Ok message) old new all → Reads (Err fault) message → AnswersOne Reads (Err (Found fault)) old new all
+  does_not_read message fault p is = inr (inr (p.0, p.1, subst (Reads (Err fault)) (same message p.0 p.2) is))
+
+  pub gives_none : (failure : Failure) → AnswersMessage (Err failure) old new all → AnswersOne Reads (Err failure) old new all
   gives_none (Answered fault) p = p
   gives_none (Found fault) (inl stops) = inl stops
   gives_none (Found fault) (inr (inl e)) = inr (inl e)
-  gives_none (Found fault) (inr (inr e)) = inr (inr (e.0, e.1, λ other. absurd (let is = e.2 other in cc)))
+  gives_none (Found fault) (inr (inr e)) = absurd (let is = e.2 in cc)

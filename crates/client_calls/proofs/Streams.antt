@@ -1,17 +1,18 @@
 -- The stream of an answer.
-use Rattle.std.proofs.Common.{◌≡◌, ◌≢◌, ◌⊎◌, ℕ, List, [], ◌∷◌, ◌++◌, Option, Some, Result, Ok, Err, refl, sym, ap, subst, ◌∙◌, inl, inr}
+use Rattle.std.proofs.Common.{◌≡◌, ◌≢◌, ℕ, List, [], ◌∷◌, ◌++◌, Option, Some, Result, Ok, Err, refl, ap, inl, inr}
 use Rattle.std.specs.Io.KnownBytes.{Consumes}
 use Rattle.scan_base.specs.declared.fault.Fault.{Fault}
 use Rattle.scan_base.specs.declared.fault.Fault.TheVariants.{OutOfMemory}
+use Rattle.scan_base.specs.Reading.{RefusesFirst}
 use Rattle.grpc_frame.specs.Records.{Received, with_more}
 use Rattle.flight_info.specs.Payloads.{Payload}
-use Rattle.flight_client.specs.Status.{StatusSays}
+use Rattle.flight_proto.specs.FlightData.{data_of}
 use Rattle.flight_client.specs.Stream.{StreamAt, after_payload, Came, Ends}
 use Rattle.client_calls.specs.declared.answer.Arrival.{Arrival}
 use Rattle.client_calls.specs.declared.answer.Arrival.TheVariants as arrival
 use Rattle.client_calls.specs.declared.failure.Failure.{Failure}
-use Rattle.client_calls.specs.declared.failure.Failure.TheVariants.{Answered, Found}
-use Rattle.client_calls.specs.Answers.{AnswersStream, IsStream, IsRefused}
+use Rattle.client_calls.specs.declared.failure.Failure.TheVariants.{Answered}
+use Rattle.client_calls.specs.Answers.{stopped_at, AnswersStream, Stands, IsRefused}
 use Rattle.client_calls.specs.inside.Arriving.{ArrivesAs}
 use Rattle.client_calls.specs.inside.Parts.{incoming_of, left_behind, given}
 use Rattle.client_calls.proofs.Taking.{Taken, taken_more, more_quiet, taken_stop, answered, finished}
@@ -24,14 +25,15 @@ module _ (a b c : Option (List ℕ)) (x y z : ℕ) (old mid new : Received) (pay
   Gives result = (more : List ℕ) × Consumes a c more × AnswersStream (given result) (incoming_of a x (Ok old)) (incoming_of c z (left_behind result new)) (with_more old more)
 
   pub stream_stops : (fault : Fault) → Since (Err fault) → Gives (Err fault)
-  stream_stops fault q = let s = taken_stop a b c x y z old mid new payloads p same fault q in (s.0, s.1, inl s.2)
+  stream_stops fault q = let s = taken_stop a b c x y z old mid new payloads p same fault q in (s.0, s.1, inl (payloads, stream, came, s.2))
 
   pub stream_answers : (fault : Fault) → Since (Ok (arrival.End (Err fault))) → Gives (Ok (Err (Answered fault)))
   stream_answers fault q = answered a b c x y z old mid new payloads p same fault q
 
   -- a payload is refused
-  pub stream_refused : (last : Payload) (fault : Fault) → Since (Ok (arrival.Message last)) → (fault ≢ OutOfMemory → after_payload stream last ≡ Err fault) → Gives (Err fault)
-  stream_refused last fault q why = (t.came, t.consumed, by fault why)
+  pub stream_refused : (last : Payload) (found fault : Fault) → Since (Ok (arrival.Message last)) → RefusesFirst {X = Unit {0}} (Err found) (data_of last)
+      → (found ≢ OutOfMemory → after_payload stream last ≡ Err found) → Stands new found fault → Gives (Err fault)
+  stream_refused last found fault q first why instead = (t.came, t.consumed, inr refused)
     where
       t : Taken a c old new (payloads ++ last ∷ [])
       t = taken_more a b c x y z old mid new payloads p same last q
@@ -39,22 +41,21 @@ module _ (a b c : Option (List ℕ)) (x y z : ℕ) (old mid new : Received) (pay
       quiet : z ≡ x
       quiet = more_quiet a b c x y z old mid new payloads p same last q
 
-      refused : (fault : Fault) → after_payload stream last ≡ Err fault → IsRefused fault (incoming_of a x (Ok old)) (incoming_of c z (Err fault)) (with_more old t.came)
-      refused fault is = record {
+      refused : IsRefused fault (incoming_of a x (Ok old)) (incoming_of c z (stopped_at fault new)) (with_more old t.came)
+      refused = record {
         payloads = payloads;
         last = last;
         stream = stream;
         came = came;
-        refused = is;
-        rest = new;
+        found = found;
+        first = first;
+        refused = why;
+        at = new;
+        instead = instead;
         fronts = t.fronts;
         stopped = refl;
         quiet = quiet;
       }
-
-      by : (fault : Fault) → (fault ≢ OutOfMemory → after_payload stream last ≡ Err fault) → AnswersStream (Err (Found fault)) (incoming_of a x (Ok old)) (incoming_of c z (Err fault)) (with_more old t.came)
-      by OutOfMemory why = inl (refl, inr (inr refl, quiet))
-      by fault why = inr (refused fault (why (λ e. cc)))
 
   -- status 0
   pub stream_ends : (ended : StreamAt) → Since (Ok (arrival.End (Ok tt))) → Ends stream 0 [] ended → Gives (Ok (Ok ended))

@@ -1,5 +1,5 @@
 -- Records taken one after another from an answer.
-use Rattle.std.proofs.Common.{◌≡◌, ◌≢◌, ◌⊎◌, ℕ, List, [], ◌∷◌, ◌++◌, map, All, Option, Some, None, Result, Ok, Err, refl, sym, ap, subst, ◌∙◌, append_assoc, append-nil, inl, inr}
+use Rattle.std.proofs.Common.{◌≡◌, ◌≢◌, ℕ, List, [], ◌∷◌, ◌++◌, map, Option, Some, None, Result, Ok, Err, refl, sym, ap, subst, ◌∙◌, append_assoc, append-nil, inl, inr}
 use Rattle.std.specs.List.{flat_map}
 use Rattle.std.specs.Io.KnownBytes.{Consumes, IsAtEnd}
 use Rattle.std.proofs.KnownBytes.{Consumes-nil, Consumes-trans}
@@ -12,13 +12,13 @@ use Rattle.grpc_frame.specs.declared.place.Place.{Place}
 use Rattle.grpc_frame.specs.declared.place.Place.TheVariants.{InAnswer}
 use Rattle.grpc_frame.specs.declared.record.Record.{Record}
 use Rattle.grpc_frame.specs.declared.record.Record.TheVariants.{Open, Message, End, Status}
-use Rattle.grpc_frame.specs.Records.{spelling, IsRecord, place_after, Received, with_more, Leads, Breaks, IsCut, Flaw, fault_of, wrong_kind, long_path, wrong_flag, long_message, bad_text}
+use Rattle.grpc_frame.specs.Records.{spelling, IsRecord, place_after, Received, with_more, Leads, Breaks, Flaw, fault_of, wrong_kind, long_path, wrong_flag, long_message, bad_text}
 use Rattle.grpc_frame.specs.Arrivals.{Arrives, IsReason, CountsTransport}
 use Rattle.flight_info.specs.Payloads.{Payload}
 use Rattle.flight_client.specs.Status.{StatusSays}
 use Rattle.client_calls.specs.declared.answer.Arrival.{Arrival}
 use Rattle.client_calls.specs.declared.answer.Arrival.TheVariants as arrival
-use Rattle.client_calls.specs.Answers.{Fronts, IsAnswer, NoMore, Unfinished, IsBroken, Stops, IsAnswered}
+use Rattle.client_calls.specs.Answers.{Fronts, stopped_at, IsAnswer, NoMore, Halts, StopsBehind, IsAnswered}
 use Rattle.client_calls.specs.inside.Arriving.{ArrivesAs}
 use Rattle.client_calls.specs.inside.Parts.{incoming_of}
 
@@ -105,20 +105,20 @@ module _ (a b : Option (List ℕ)) (failed failed' : ℕ) (old new : Received) (
   next_end q = let moves = rw place at q.2.moves in absurd cc
 
   pub next_none : Next (Ok None) → IsAtEnd b → failed' ≡ failed → Gave (Err Transport)
-  next_none q at_end quiet = (q.0, q.1, inl (refl, subst IsCut q.2.0 q.2.1, inr (at_end, quiet)))
+  next_none q at_end quiet = (q.0, q.1, (q.2.0, inl (refl, q.2.1, inr (at_end, quiet))))
 
   pub next_stop : (fault : Fault) → Next (Err fault) → CountsTransport {A = Option Record} (Err fault) failed failed' → Gave (Err fault)
-  next_stop fault q counted = (q.0, q.1, by (subst (IsReason fault) q.2.0 q.2.1))
+  next_stop fault q counted = (q.0, q.1, (q.2.0, by q.2.1))
     where
       no_memory : fault ≡ OutOfMemory → fault ≢ Transport
       no_memory e is = let both : OutOfMemory ≡ Transport = sym e ∙ is in absurd cc
 
-      no_flaw : Breaks (with_more old q.0) fault → fault ≢ Transport
+      no_flaw : Breaks new fault → fault ≢ Transport
       no_flaw breaks is = flaw_no_transport breaks.flaw (sym breaks.fault_is ∙ is)
 
-      by : IsReason fault (with_more old q.0) → ArrivesAs (Err fault) (incoming_of a failed (Ok old)) (incoming_of b failed' (Ok new)) (with_more old q.0) new
+      by : IsReason fault new → Halts fault new (incoming_of a failed (Ok old)) (incoming_of b failed' (Ok new))
       by (inl e) = inl (e.0, e.1, inl (counted.0 e.0))
-      by (inr (inl e)) = inr (inr e.0, counted.1 (no_memory e.0))
+      by (inr (inl e)) = inr (inr e, counted.1 (no_memory e.0))
       by (inr (inr breaks)) = inr (inl breaks, counted.1 (no_flaw breaks))
 
 -- ---- the messages so far
@@ -175,18 +175,18 @@ module _ (a b c : Option (List ℕ)) (x y z : ℕ) (old mid new : Received) (mes
 
   -- the answer does not come to it
   pub taken_stop : (fault : Fault) → Since (Err fault)
-      → (came : List ℕ) × Consumes a c came × Stops fault (incoming_of a x (Ok old)) (incoming_of c z (Err fault)) (with_more old came)
-  taken_stop fault q = (all_came q.0, all_consumed q.0 q.1, (refl, by q.2))
+      → (came : List ℕ) × Consumes a c came × StopsBehind messages fault (incoming_of a x (Ok old)) (incoming_of c z (stopped_at fault new)) (with_more old came)
+  taken_stop fault q = (all_came q.0, all_consumed q.0 q.1, record { at = new; fronts = here; stopped = refl; halts = by q.2.1 })
     where
-      no_more : NoMore (incoming_of b y (Ok mid)) (incoming_of c z (Ok new)) → NoMore (incoming_of a x (Ok old)) (incoming_of c z (Err fault))
+      here : Fronts (map Message messages) (with_more old (all_came q.0)) new
+      here = subst (λ (left : Received). Fronts (map Message messages) (with_more old (all_came q.0)) left) (sym q.2.0) (stand q.0)
+
+      no_more : NoMore (incoming_of b y (Ok mid)) (incoming_of c z (Ok new)) → NoMore (incoming_of a x (Ok old)) (incoming_of c z (stopped_at fault new))
       no_more e = rw same at e
 
-      by : ArrivesAs (Err fault) (incoming_of b y (Ok mid)) (incoming_of c z (Ok new)) (with_more mid q.0) new
-          → ((fault ≡ Transport) × Unfinished (with_more old (all_came q.0)) × NoMore (incoming_of a x (Ok old)) (incoming_of c z (Err fault)))
-          ⊎ ((IsBroken fault (with_more old (all_came q.0)) ⊎ (fault ≡ OutOfMemory)) × (z ≡ x))
-      by (inl e) = inl (e.0, record { messages = messages; rest = with_more mid q.0; fronts = stand q.0; is_cut = e.1 }, no_more e.2)
-      by (inr (inl breaks, quiet)) = inr (inl (record { messages = messages; rest = with_more mid q.0; fronts = stand q.0; breaks = breaks }), quiet ∙ same)
-      by (inr (inr memory, quiet)) = inr (inr memory, quiet ∙ same)
+      by : Halts fault new (incoming_of b y (Ok mid)) (incoming_of c z (Ok new)) → Halts fault new (incoming_of a x (Ok old)) (incoming_of c z (stopped_at fault new))
+      by (inl e) = inl (e.0, e.1, no_more e.2)
+      by (inr e) = inr (e.0, e.1 ∙ same)
 
   -- the server's fault
   pub answered : (fault : Fault) → Since (Ok (arrival.End (Err fault)))

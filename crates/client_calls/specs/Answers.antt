@@ -4,11 +4,14 @@ use Rattle.std.specs.List.{flat_map}
 use Rattle.std.specs.Io.KnownBytes.{IsAtEnd}
 use Rattle.scan_base.specs.declared.fault.Fault.{Fault}
 use Rattle.scan_base.specs.declared.fault.Fault.TheVariants.{BadProto, OutOfMemory, Transport}
+use Rattle.scan_base.specs.Reading.{RefusesFirst}
 use Rattle.grpc_frame.specs.declared.place.Place.TheVariants.{InAnswer}
 use Rattle.grpc_frame.specs.declared.record.Record.{Record}
 use Rattle.grpc_frame.specs.declared.record.Record.TheVariants.{Message, Status}
 use Rattle.grpc_frame.specs.Records.{spelling, IsRecord, Received, Breaks, IsCut}
+use Rattle.grpc_frame.specs.Arrivals.{IsSound}
 use Rattle.flight_info.specs.Payloads.{Payload}
+use Rattle.flight_proto.specs.FlightData.{data_of}
 use Rattle.flight_client.specs.Status.{StatusSays}
 use Rattle.flight_client.specs.Stream.{StreamAt, after_payload, Came}
 use Rattle.client_calls.specs.declared.failure.Failure.{Failure}
@@ -24,12 +27,21 @@ pub record Fronts (records : List Record) (all left : Received) : Type 0 where
   pub fits : All IsRecord records
   pub place : left.place ≡ InAnswer
 
+-- why a call stopped: its fault, and what had come then and was not taken
+pub record Stop : Type 0 where
+  pub fault : Fault
+  pub at : Received
+
+-- nothing more is read behind this fault, which was met here
+abbrev pub stopped_at : Fault → Received → Result Received Stop
+stopped_at fault at = Err (record { fault = fault; at = at })
+
 -- the end that is read: the bytes that it will give, where they are known, how many reads failed, and what came and is
--- not taken yet, or the fault by which a call stopped
+-- not taken yet, or why a call stopped
 pub record Incoming : Type 0 where
   pub input : Option (List ℕ)
   pub failed : ℕ
-  pub left : Result Received Fault
+  pub left : Result Received Stop
 
 -- no read failed
 abbrev pub Quiet : Incoming → Incoming → Type 0
@@ -46,27 +58,19 @@ pub record IsAnswer (messages : List Payload) (code : ℕ) (text : List ℕ) (ol
   pub is_left : new.left ≡ Ok left
   pub quiet : Quiet old new
 
--- messages stand in front, and behind them neither a whole record nor a faulty one
-pub record Unfinished (all : Received) : Type 0 where
-  pub messages : List Payload
-  pub rest : Received
-  pub fronts : Fronts (map Message messages) all rest
-  pub is_cut : IsCut rest
+-- Why no record is taken from here: no more comes, and neither a whole record stands here nor a faulty one; or a faulty
+-- one does; or memory was refused, and then no faulty one does.
+abbrev pub Halts : Fault → Received → Incoming → Incoming → Type 0
+Halts fault at old new =
+    ((fault ≡ Transport) × IsCut at × NoMore old new)
+    ⊎ ((Breaks at fault ⊎ ((fault ≡ OutOfMemory) × IsSound at)) × Quiet old new)
 
--- messages stand in front, and behind them a faulty record
-pub record IsBroken (fault : Fault) (all : Received) : Type 0 where
-  pub messages : List Payload
-  pub rest : Received
-  pub fronts : Fronts (map Message messages) all rest
-  pub breaks : Breaks rest fault
-
--- an answer did not come to its Status, since it was not whole where reading ended, a record was faulty, or memory was
--- refused: the connection has stopped
-abbrev pub Stops : Fault → Incoming → Incoming → Received → Type 0
-Stops fault old new all =
-    (new.left ≡ Err fault)
-    × (((fault ≡ Transport) × Unfinished all × NoMore old new)
-    ⊎ ((IsBroken fault all ⊎ (fault ≡ OutOfMemory)) × Quiet old new))
+-- an answer did not come to its Status: these messages stand in front, and behind them the connection has stopped
+pub record StopsBehind (messages : List Payload) (fault : Fault) (old new : Incoming) (all : Received) : Type 0 where
+  pub at : Received
+  pub fronts : Fronts (map Message messages) all at
+  pub stopped : new.left ≡ stopped_at fault at
+  pub halts : Halts fault at old new
 
 -- the server answered this fault
 abbrev pub IsAnswered : Fault → Incoming → Incoming → Received → Type 0
@@ -83,23 +87,27 @@ IsNone old new all = (text : List ℕ) × IsAnswer [] 0 text old new all
 -- a second message came: the connection has stopped
 abbrev pub IsMore : Incoming → Incoming → Received → Type 0
 IsMore old new all =
-    (first : Payload) × (second : Payload) × (rest : Received)
-    × Fronts (Message first ∷ Message second ∷ []) all rest × (new.left ≡ Err BadProto) × Quiet old new
+    (first : Payload) × (second : Payload) × (at : Received)
+    × Fronts (Message first ∷ Message second ∷ []) all at × (new.left ≡ stopped_at BadProto at) × Quiet old new
+
+-- it did not come to its Status, behind one message or none
+abbrev pub Stops : Fault → Incoming → Incoming → Received → Type 0
+Stops fault old new all =
+    StopsBehind [] fault old new all ⊎ ((message : Payload) × StopsBehind (message ∷ []) fault old new all)
 
 -- the answer is this one message and status 0
 abbrev pub IsOne : Payload → Incoming → Incoming → Received → Type 0
 IsOne message old new all = (text : List ℕ) × IsAnswer (message ∷ []) 0 text old new all
 
--- What the one message of an answer says by `read`, seen by `view`; else the server's fault; or one of this end: the
--- answer did not come to its end, is not one message (F4), or its message does not read.
-abbrev pub AnswersOne : {A B : Type 0} → (A → B) → (Payload → Result B Fault) → Result A Failure → Incoming → Incoming → Received → Type 0
-AnswersOne view read (Ok x) old new all =
-    (message : Payload) × IsOne message old new all × (read message ≡ Ok (view x))
-AnswersOne view read (Err (Answered fault)) old new all = IsAnswered fault old new all
-AnswersOne view read (Err (Found fault)) old new all =
+-- What reading the one message of an answer gives, by `Reads`; else the server's fault; or one of this end: the answer did
+-- not come to its end, is not one message (F4), or its message does not read.
+abbrev pub AnswersOne : {A : Type 0} → (Result A Fault → Payload → Type 0) → Result A Failure → Incoming → Incoming → Received → Type 0
+AnswersOne Reads (Ok x) old new all = (message : Payload) × IsOne message old new all × Reads (Ok x) message
+AnswersOne Reads (Err (Answered fault)) old new all = IsAnswered fault old new all
+AnswersOne Reads (Err (Found fault)) old new all =
     Stops fault old new all
     ⊎ (((fault ≡ BadProto) × (IsNone old new all ⊎ IsMore old new all))
-    ⊎ ((message : Payload) × IsOne message old new all × (fault ≢ OutOfMemory → read message ≡ Err fault)))
+    ⊎ ((message : Payload) × IsOne message old new all × Reads (Err fault) message))
 
 -- ---- a stream
 
@@ -111,16 +119,30 @@ pub record IsStream (stream : StreamAt) (old new : Incoming) (all : Received) : 
   pub came : Came payloads stream
   pub ended : stream.end ≡ Some (Ok tt)
 
--- payloads stand in front, and the last of them is refused by this fault behind the others: the connection has stopped
+-- the answer did not come to its Status, behind payloads that came to a stream
+abbrev pub StopsStream : Fault → Incoming → Incoming → Received → Type 0
+StopsStream fault old new all =
+    (payloads : List Payload) × (stream : StreamAt) × Came payloads stream × StopsBehind payloads fault old new all
+
+-- what is answered for a fault that was met here: for want of memory the fault of a faulty record, if one stands here
+abbrev pub Stands : Received → Fault → Fault → Type 0
+Stands at OutOfMemory fault = Breaks at fault ⊎ ((fault ≡ OutOfMemory) × IsSound at)
+Stands at found fault = fault ≡ found
+
+-- Payloads stand in front, and the last of them is refused behind the others, for want of memory only if it is a FlightData.
+-- What is answered for that is this fault, and the connection has stopped.
 pub record IsRefused (fault : Fault) (old new : Incoming) (all : Received) : Type 0 where
   pub payloads : List Payload
   pub last : Payload
   pub stream : StreamAt
   pub came : Came payloads stream
-  pub refused : after_payload stream last ≡ Err fault
-  pub rest : Received
-  pub fronts : Fronts (map Message (payloads ++ last ∷ [])) all rest
-  pub stopped : new.left ≡ Err fault
+  pub found : Fault
+  pub first : RefusesFirst {X = Unit {0}} (Err found) (data_of last)
+  pub refused : found ≢ OutOfMemory → after_payload stream last ≡ Err found
+  pub at : Received
+  pub instead : Stands at found fault
+  pub fronts : Fronts (map Message (payloads ++ last ∷ [])) all at
+  pub stopped : new.left ≡ stopped_at fault at
   pub quiet : Quiet old new
 
 -- the stream of an answer; or the server's fault; or one of this end: the answer did not come to its end, or a payload is
@@ -128,4 +150,4 @@ pub record IsRefused (fault : Fault) (old new : Incoming) (all : Received) : Typ
 abbrev pub AnswersStream : Result StreamAt Failure → Incoming → Incoming → Received → Type 0
 AnswersStream (Ok stream) old new all = IsStream stream old new all
 AnswersStream (Err (Answered fault)) old new all = IsAnswered fault old new all
-AnswersStream (Err (Found fault)) old new all = Stops fault old new all ⊎ IsRefused fault old new all
+AnswersStream (Err (Found fault)) old new all = StopsStream fault old new all ⊎ IsRefused fault old new all

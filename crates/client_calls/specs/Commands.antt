@@ -2,11 +2,11 @@
 use Rattle.std.specs.Prelude.{ℕ, ℤ, pos, negsuc, List, [], ◌∷◌, map, false, Some, None, Result, Ok, Err}
 use Rattle.scan_base.specs.declared.fault.Fault.{Fault}
 use Rattle.scan_base.specs.declared.fault.Fault.TheVariants.{BadProto}
-use Rattle.scan_base.specs.Reading.{◌>>=◌}
+use Rattle.scan_base.specs.Reading.{◌>>=◌, Gives, GivesUnlessMemory, RefusesFirst}
 use Rattle.flight_proto.specs.Any.{AnySaid, any_bytes, type_url_of}
 use Rattle.flight_proto.specs.FlightData.{DataSaid, data_bytes}
 use Rattle.flight_proto.specs.FlightDescriptor.{DescriptorSaid}
-use Rattle.flight_proto.specs.FlightInfo.{EndpointSaid}
+use Rattle.flight_proto.specs.FlightInfo.{EndpointSaid, info_of}
 use Rattle.flight_client.specs.Info.{info_answered}
 use Rattle.flight_proto.specs.Ingest.{statement_ingest_name}
 use Rattle.flight_proto.specs.PutResult.{rows_put_of}
@@ -68,8 +68,16 @@ rows_counted (negsuc rows) = Err BadProto
 abbrev pub count_of : Payload → Result ℕ Fault
 count_of message = rows_put_of message >>= rows_counted
 
+-- reading it gives that count, or its fault: it takes no memory
+abbrev pub ReadsCount : Result ℕ Fault → Payload → Type 0
+ReadsCount result message = Gives (λ (rows : ℕ). rows) result (count_of message)
+
 -- ---- what answers an info
 
 -- the endpoints that an info says, in order: there is one or more
 abbrev pub endpoints_of : Payload → Result (List EndpointSaid) Fault
 endpoints_of message = info_answered message >>= λ info. Ok info.endpoints
+
+-- reading it gives those, seen by `view`, or its fault; want of memory only of what is a FlightInfo
+abbrev pub ReadsEndpoints : {A : Type 0} → (A → List EndpointSaid) → Result A Fault → Payload → Type 0
+ReadsEndpoints view result message = GivesUnlessMemory view result (endpoints_of message) × RefusesFirst result (info_of message)

@@ -9,7 +9,7 @@ use Rattle.flight_info.specs.Payloads.{Payload}
 use Rattle.client_calls.specs.declared.call.Method.{Method}
 use Rattle.client_calls.specs.declared.failure.Failure.{Failure}
 use Rattle.client_calls.specs.declared.failure.Failure.TheVariants.{Found}
-use Rattle.client_calls.specs.Answers.{Incoming}
+use Rattle.client_calls.specs.Answers.{Incoming, Stop, stopped_at}
 use Rattle.client_calls.specs.Calls.{call_bytes, Fit}
 
 -- the end that is written: what it holds, where that is known, and how many writes failed
@@ -22,10 +22,15 @@ pub record Line : Type 0 where
   pub incoming : Incoming
   pub outgoing : Outgoing
 
--- what came and is not taken yet, or the fault by which a call stopped
-abbrev pub left_of : Option Fault → Received → Result Received Fault
+-- what came and is not taken yet; or a call stopped there, by a fault
+abbrev pub left_of : Option Fault → Received → Result Received Stop
 left_of None left = Ok left
-left_of (Some fault) left = Err fault
+left_of (Some fault) left = stopped_at fault left
+
+-- the same behind this fault
+abbrev pub stopped_by : Fault → Result Received Stop → Result Received Stop
+stopped_by fault (Ok left) = stopped_at fault left
+stopped_by fault (Err stop) = Err stop
 
 -- ---- writing
 
@@ -55,16 +60,16 @@ pub record IsCalled (method : Method) (messages : List Payload) (Answers : Incom
 abbrev pub WhyNot : Fault → Method → List Payload → Line → Line → Type 0
 WhyNot fault method messages old new =
     ((fault ≡ Transport) × IsBegun method messages old.outgoing new.outgoing
-    × (new.incoming ≡ record old.incoming { left = Err Transport }))
+    × (new.incoming ≡ record old.incoming { left = stopped_by Transport old.incoming.left }))
     ⊎ ((((fault ≡ MessageTooLarge) × ¬ Fit messages) ⊎ (fault ≡ OutOfMemory)) × (new ≡ old))
 
 -- A call of a method with these messages was made, and the result is what its answer says; or it was not written. Where
 -- a call before it stopped, the fault of that one is the result, and nothing is done.
-abbrev pub CallsAt : {A : Type 0} → Result Received Fault → Method → List Payload → (Result A Failure → Incoming → Incoming → Received → Type 0) → Result A Failure → Line → Line → Type 0
+abbrev pub CallsAt : {A : Type 0} → Result Received Stop → Method → List Payload → (Result A Failure → Incoming → Incoming → Received → Type 0) → Result A Failure → Line → Line → Type 0
 CallsAt (Ok left) method messages Answers result old new =
     IsCalled method messages (Answers result) left old new
     ⊎ ((fault : Fault) × (result ≡ Err (Found fault)) × WhyNot fault method messages old new)
-CallsAt (Err fault) method messages Answers result old new = (result ≡ Err (Found fault)) × (new ≡ old)
+CallsAt (Err stop) method messages Answers result old new = (result ≡ Err (Found stop.fault)) × (new ≡ old)
 
 abbrev pub Calls : {A : Type 0} → Method → List Payload → (Result A Failure → Incoming → Incoming → Received → Type 0) → Result A Failure → Line → Line → Type 0
 Calls method messages Answers result old new = CallsAt old.incoming.left method messages Answers result old new

@@ -6,7 +6,7 @@ ghost use Rattle.grpc_frame.specs.declared.place.Place.TheVariants.{InAnswer};
 ghost use Rattle.grpc_frame.specs.Records.{with_more};
 ghost use Rattle.grpc_frame.specs.Arrivals.{work_left};
 ghost use Rattle.flight_client.specs.Status.{StatusSays};
-ghost use Rattle.client_calls.specs.Answers.{AnswersOne, AnswersStream};
+ghost use Rattle.client_calls.specs.Answers.{AnswersOne, AnswersStream, Stands};
 ghost use Rattle.client_calls.specs.inside.Arriving.{ArrivesAs};
 ghost use Rattle.client_calls.specs.inside.Parts.{incoming_of, left_behind, given};
 
@@ -66,7 +66,7 @@ fn next_arrival<R: Input>(inbox: &mut Inbox, reader: &mut R) -> Result<Arrival, 
 /// Why the answer did not come to its Status:
 /// - F1 (`Fault::BadFrame`) and F2 (`Fault::MessageTooLarge`) where a record is faulty.
 /// - F4 (`Fault::BadProto`) where a second message came.
-/// - F21 (`Fault::OutOfMemory`) where memory is refused.
+/// - F21 (`Fault::OutOfMemory`) where memory is refused, and the record at hand is not faulty.
 /// - F22 (`Fault::Transport`) where a read failed, which is counted, or the input ended inside the answer.
 pub(crate) fn read_one<R: Input>(
     inbox: &mut Inbox,
@@ -76,7 +76,7 @@ pub(crate) fn read_one<R: Input>(
     requires place { inbox.old.place ≡ InAnswer }
     ensures answer { (came : List ℕ)
         × Consumes (R.remaining reader.old) (R.remaining reader.new) came
-        × AnswersOne (λ message. message) (λ message. Ok message) (given result)
+        × AnswersOne (λ given message. given ≡ Ok message) (given result)
         (incoming_of (R.remaining reader.old) (R.failures reader.old) (Ok inbox.old))
         (incoming_of (R.remaining reader.new) (R.failures reader.new) (left_behind result inbox.new))
         (with_more inbox.old came) }
@@ -94,13 +94,24 @@ pub(crate) fn read_one<R: Input>(
     }
 }
 
+// Why an answer is not read on where a payload is refused by this fault: want of memory gives way to a faulty record.
+fn refusal_of(inbox: &Inbox, fault: Fault) -> Fault
+    ensures { Stands inbox.now fault result }
+{
+    match fault {
+        Fault::OutOfMemory => inbox.flaw().unwrap_or(fault),
+        _ => fault,
+    }
+}
+
 /// Reads the answer of a fetch: each payload into the stream as it comes, up to the status.
 ///
 /// # Errors
 ///
 /// Why the answer did not come to its Status:
 /// - F1, F2, F21 and F22 as `read_one` gives them.
-/// - The fault of a payload, as `Stream::message` gives it (F4, F6, F7, F8, F12 or F21).
+/// - The fault of a payload, as `Stream::message` gives it (F4, F6, F7, F8, F12 or F21). For F21 stands the fault of the
+///   record behind it, where that is faulty.
 pub(crate) fn read_stream<R: Input>(
     alloc: Global,
     inbox: &mut Inbox,
@@ -119,7 +130,11 @@ pub(crate) fn read_stream<R: Input>(
     let mut stream = Stream::new(alloc);
     loop {
         match next_arrival(inbox, reader)? {
-            Arrival::Message(message) => stream.message(alloc, &message)?,
+            Arrival::Message(message) => {
+                if let Err(fault) = stream.message(alloc, &message) {
+                    return Err(refusal_of(inbox, fault));
+                }
+            }
             Arrival::End(Ok(())) => {
                 stream.end(0, "");
                 return Ok(Ok(stream));

@@ -1,12 +1,11 @@
 //! Asking where rows are fetched.
 
 ghost use Rattle.std.specs.Prelude.{◌≡◌, ◌∷◌, [], ◌<◌, map, IfOk};
-ghost use Rattle.scan_base.specs.Reading.{GivesUnlessMemory};
 ghost use Rattle.flight_proto.specs.FlightInfo.{endpoint_said};
 ghost use Rattle.flight_proto.specs.Wanted.{wanted_bytes, wanted_said};
 ghost use Rattle.client_calls.specs.declared.call.Method.TheVariants.{GetFlightInfo};
 ghost use Rattle.client_calls.specs.Answers.{AnswersOne};
-ghost use Rattle.client_calls.specs.Commands.{endpoints_of};
+ghost use Rattle.client_calls.specs.Commands.{ReadsEndpoints};
 ghost use Rattle.client_calls.specs.Outcome.{Calls};
 
 use crate::call::{Method, Payload};
@@ -33,7 +32,7 @@ fn wanted_payload(alloc: Global, wanted: Wanted<'_>) -> Result<[Payload; 1], All
 
 // The endpoints of an info, in order.
 fn read_endpoints(alloc: Global, message: &[u8]) -> Result<Vec<FlightEndpoint>, Fault>
-    ensures { GivesUnlessMemory (λ endpoints. map endpoint_said endpoints.items) result (endpoints_of message.now) }
+    ensures { ReadsEndpoints (λ endpoints. map endpoint_said endpoints.items) result message.now }
 {
     let info = read_info(alloc, message)?;
     Ok(info.endpoints)
@@ -48,7 +47,7 @@ fn read_endpoints(alloc: Global, message: &[u8]) -> Result<Vec<FlightEndpoint>, 
 /// - F1 (`Fault::BadFrame`) and F2 (`Fault::MessageTooLarge`) where a record of the answer is faulty.
 /// - F2 where the message of the call would have more than 16,777,216 bytes. Nothing is written then.
 /// - F4 (`Fault::BadProto`) where the answer is not one FlightInfo with an endpoint.
-/// - F21 (`Fault::OutOfMemory`) where memory is refused.
+/// - F21 (`Fault::OutOfMemory`) where memory is refused, the record at hand is not faulty, and what is read is a FlightInfo.
 /// - F22 (`Fault::Transport`) where a read or a write failed, which is counted, or the input ended inside the answer.
 ///
 /// Behind a fault of this end the connection may have stopped.
@@ -60,7 +59,7 @@ pub fn info<R: Input, W: Output>(
     requires reads { connection.old.incoming.failed < 18446744073709551615 }
     requires writes { connection.old.outgoing.failed < 18446744073709551615 }
     ensures { Calls GetFlightInfo (wanted_bytes (wanted_said wanted.entry) ∷ [])
-        (AnswersOne (λ endpoints. map endpoint_said endpoints.items) endpoints_of) result
+        (AnswersOne (ReadsEndpoints (λ endpoints. map endpoint_said endpoints.items))) result
         connection.old connection.new }
 {
     connection.check()?;

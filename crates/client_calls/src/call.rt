@@ -2,7 +2,7 @@
 
 ghost use Rattle.std.specs.Prelude.{◌≡◌, ◌++◌, ◌<◌, ◌≤◌, length, true, false, Result};
 ghost use Rattle.scan_base.specs.Limits.{most_path_bytes};
-ghost use Rattle.grpc_frame.specs.declared.record.Record.TheVariants.{Open, Message, End};
+ghost use Rattle.grpc_frame.specs.declared.record.Record.TheVariants.{Open, Message};
 ghost use Rattle.grpc_frame.specs.Records.{spelling};
 ghost use Rattle.grpc_frame.specs.Ends.{CountsFailure, FailsByTransport};
 ghost use Rattle.grpc_frame.specs.Sending.{Sends};

@@ -6,7 +6,7 @@ ghost use Rattle.grpc_frame.specs.declared.place.Place.TheVariants.{InAnswer};
 ghost use Rattle.client_calls.specs.declared.call.Method.TheVariants.{DoGet};
 ghost use Rattle.client_calls.specs.Answers.{AnswersOne, AnswersStream};
 ghost use Rattle.client_calls.specs.Outcome.{Calls};
-ghost use Rattle.client_calls.specs.inside.Parts.{IsOpen, SendsCall, Receives};
+ghost use Rattle.client_calls.specs.inside.Parts.{IsOpen, HasStopped, SendsCall, Receives};
 
 use crate::answer::{read_one, read_stream};
 use crate::call::{Method, Payload, write_call};
@@ -110,8 +110,7 @@ impl<R: Input, W: Output> Connection<R, W> {
 
     // The fault by which a call stopped.
     pub(crate) fn check(&self) -> Result<(), Fault>
-        ensures { MatchResult result (λ _. IsOpen self.now)
-            (λ fault. self.now.incoming.left ≡ Err fault) }
+        ensures { MatchResult result (λ _. IsOpen self.now) (λ fault. HasStopped fault self.now) }
     {
         match self.stopped {
             None => Ok(()),
@@ -138,8 +137,7 @@ impl<R: Input, W: Output> Connection<R, W> {
     fn receive_one(&mut self) -> Result<Bytes, Failure>
         requires reads { self.old.incoming.failed < 18446744073709551615 }
         requires is_open { IsOpen self.old }
-        ensures { Receives (AnswersOne (λ message. message) (λ message. Ok message) result)
-            self.old self.new }
+        ensures { Receives (AnswersOne (λ given message. given ≡ Ok message) result) self.old self.new }
     {
         match read_one(&mut self.inbox, &mut self.reader) {
             Ok(answer) => answer,
@@ -175,7 +173,7 @@ impl<R: Input, W: Output> Connection<R, W> {
         requires reads { self.old.incoming.failed < 18446744073709551615 }
         requires writes { self.old.outgoing.failed < 18446744073709551615 }
         requires is_open { IsOpen self.old }
-        ensures { Calls method messages.now (AnswersOne (λ message. message) (λ message. Ok message))
+        ensures { Calls method messages.now (AnswersOne (λ given message. given ≡ Ok message))
             result self.old self.new }
     {
         self.send(alloc, method, messages)?;

@@ -34,7 +34,7 @@ fn ticket_payload(alloc: Global, ticket: &[u8]) -> Result<[Payload; 1], AllocErr
 /// - F1 (`Fault::BadFrame`) and F2 (`Fault::MessageTooLarge`) where a record of the answer is faulty.
 /// - F2 where the ticket has more than 16,777,216 bytes. Nothing is written then.
 /// - The fault of a payload, as `Stream::message` gives it (F4, F6, F7, F8 or F12).
-/// - F21 (`Fault::OutOfMemory`) where memory is refused.
+/// - F21 (`Fault::OutOfMemory`) where memory is refused, the record at hand is not faulty, and each payload is a FlightData.
 /// - F22 (`Fault::Transport`) where a read or a write failed, which is counted, or the input ended inside the answer.
 ///
 /// Behind a fault of this end the connection may have stopped.

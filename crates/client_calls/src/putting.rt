@@ -1,12 +1,11 @@
 //! Putting a stream into a table.
 
 ghost use Rattle.std.specs.Prelude.{◌≡◌, ◌++◌, ◌<◌, map, None, IfOk, OnOk};
-ghost use Rattle.scan_base.specs.Reading.{Gives};
 ghost use Rattle.flight_proto.specs.FlightData.{data_bytes};
 ghost use Rattle.flight_proto.specs.StatementIngest.{options_said};
 ghost use Rattle.client_calls.specs.declared.call.Method.TheVariants.{DoPut};
 ghost use Rattle.client_calls.specs.Answers.{AnswersOne};
-ghost use Rattle.client_calls.specs.Commands.{options_of_mode, put_payloads, carried_in, count_of};
+ghost use Rattle.client_calls.specs.Commands.{options_of_mode, put_payloads, carried_in, ReadsCount};
 ghost use Rattle.client_calls.specs.Outcome.{Calls};
 ghost use Rattle.client_calls.specs.inside.Heads.{put_command_bytes, first_payload};
 
@@ -156,7 +155,7 @@ fn put_payloads(
 
 // How many rows a PutResult says.
 fn read_count(message: &[u8]) -> Result<u64, Fault>
-    ensures { Gives (λ rows. rows) result (count_of message.now) }
+    ensures { ReadsCount result message.now }
 {
     let rows = read_rows_put(message)?;
     if rows < 0 {
@@ -174,7 +173,7 @@ fn read_count(message: &[u8]) -> Result<u64, Fault>
 /// - F1 (`Fault::BadFrame`) and F2 (`Fault::MessageTooLarge`) where a record of the answer is faulty.
 /// - F2 where a message of the call would have more than 16,777,216 bytes. Nothing is written then.
 /// - F4 (`Fault::BadProto`) where the answer is not one PutResult of a count.
-/// - F21 (`Fault::OutOfMemory`) where memory is refused.
+/// - F21 (`Fault::OutOfMemory`) where memory is refused, and the record at hand is not faulty: a count takes none.
 /// - F22 (`Fault::Transport`) where a read or a write failed, which is counted, or the input ended inside the answer.
 ///
 /// Behind a fault of this end the connection may have stopped.
@@ -187,7 +186,7 @@ pub fn put<R: Input, W: Output>(
     requires reads { connection.old.incoming.failed < 18446744073709551615 }
     requires writes { connection.old.outgoing.failed < 18446744073709551615 }
     ensures { Calls DoPut (put_payloads target.entry messages.now)
-        (AnswersOne (λ rows. rows) count_of) result connection.old connection.new }
+        (AnswersOne ReadsCount) result connection.old connection.new }
 {
     connection.check()?;
     let payloads = put_payloads(alloc, target, messages)?;

@@ -3,15 +3,16 @@ use Rattle.std.proofs.Common.{◌≡◌, ℕ, ◌+◌, ◌<◌, List, [], ◌∷
 use Rattle.std.proofs.lemmas.List.{map-append, take-append-drop, take_more, drop_more}
 use Rattle.scan_base.specs.declared.fault.Fault.{Fault}
 use Rattle.scan_base.specs.declared.fault.Fault.TheVariants.{OutOfMemory}
-use Rattle.flight_proto.specs.FlightInfo.{EndpointSaid}
+use Rattle.scan_base.specs.Reading.{RefusesFirst}
+use Rattle.flight_proto.specs.FlightInfo.{EndpointSaid, InfoSaid, info_of}
 use Rattle.flight_proto.specs.Wanted.{Wanted, wanted_bytes}
 use Rattle.grpc_frame.specs.Records.{Received}
 use Rattle.flight_client.specs.Stream.{StreamAt}
 use Rattle.client_calls.specs.declared.call.Method.TheVariants.{GetFlightInfo, DoGet}
 use Rattle.client_calls.specs.declared.failure.Failure.{Failure}
 use Rattle.client_calls.specs.declared.failure.Failure.TheVariants.{Answered, Found}
-use Rattle.client_calls.specs.Answers.{Incoming, AnswersOne, AnswersStream}
-use Rattle.client_calls.specs.Commands.{endpoints_of}
+use Rattle.client_calls.specs.Answers.{Incoming, Stop, AnswersOne, AnswersStream}
+use Rattle.client_calls.specs.Commands.{ReadsEndpoints}
 use Rattle.client_calls.specs.Outcome.{Line, Calls, CallsAt}
 use Rattle.client_commands.specs.Fetching.{Asks, FetchesEach, FetchesOne, FailsAt, FetchStops}
 
@@ -90,7 +91,7 @@ pub quiet : (endpoint : EndpointSaid) (stream : StreamAt) (old new : Line) → F
     → (new.incoming.failed ≡ old.incoming.failed) × (new.outgoing.failed ≡ old.outgoing.failed)
 quiet endpoint stream old new = by old.incoming.left
   where
-    by : (left : Result Received Fault) → CallsAt left DoGet (endpoint.ticket ∷ []) AnswersStream (Ok stream) old new
+    by : (left : Result Received Stop) → CallsAt left DoGet (endpoint.ticket ∷ []) AnswersStream (Ok stream) old new
         → (new.incoming.failed ≡ old.incoming.failed) × (new.outgoing.failed ≡ old.outgoing.failed)
     by (Ok left) (inl called) = (called.answers.is.quiet, called.written.quiet)
     by (Ok left) (inr refused) = let e = refused.1 in absurd cc
@@ -98,17 +99,37 @@ quiet endpoint stream old new = by old.incoming.left
 
 -- ---- the endpoints, as plain data
 
+-- the endpoints as they are
+abbrev alone : List EndpointSaid → List EndpointSaid
+alone endpoints = endpoints
+
 module _ {A : Type 0} (view : A → List EndpointSaid) (wanted : Wanted) (old new : Line) where
-  pub asked : (x : A) → Calls GetFlightInfo (wanted_bytes wanted ∷ []) (AnswersOne view endpoints_of) (Ok x) old new → Asks wanted (Ok (view x)) old new
+  pub asked : (x : A) → Calls GetFlightInfo (wanted_bytes wanted ∷ []) (AnswersOne (ReadsEndpoints view)) (Ok x) old new → Asks wanted (Ok (view x)) old new
   asked x = by old.incoming.left
     where
-      by : (left : Result Received Fault) → CallsAt left GetFlightInfo (wanted_bytes wanted ∷ []) (AnswersOne view endpoints_of) (Ok x) old new
-          → CallsAt left GetFlightInfo (wanted_bytes wanted ∷ []) (AnswersOne (λ endpoints. endpoints) endpoints_of) (Ok (view x)) old new
-      by (Ok left) (inl called) = inl (record { written = called.written; came = called.came; consumed = called.consumed; answers = called.answers })
+      by : (left : Result Received Stop) → CallsAt left GetFlightInfo (wanted_bytes wanted ∷ []) (AnswersOne (ReadsEndpoints view)) (Ok x) old new
+          → CallsAt left GetFlightInfo (wanted_bytes wanted ∷ []) (AnswersOne (ReadsEndpoints alone)) (Ok (view x)) old new
+      by (Ok left) (inl called) = inl (record { written = called.written; came = called.came; consumed = called.consumed; answers = said called.answers })
+        where
+          seen : A → Result A Fault
+          seen x = Ok x
+
+          read_so : List EndpointSaid → Result (List EndpointSaid) Fault
+          read_so endpoints = Ok endpoints
+
+          not_refused : (cause : Fault) → seen x ≡ Err cause → ⊥
+          not_refused cause e = absurd cc
+
+          first : (read : Result InfoSaid Fault) → RefusesFirst (seen x) read → RefusesFirst (read_so (view x)) read
+          first (Ok info) is = tt
+          first (Err cause) is = absurd (not_refused cause is)
+
+          said : {a b : Incoming} {r : Received} → AnswersOne (ReadsEndpoints view) (Ok x) a b r → AnswersOne (ReadsEndpoints alone) (Ok (view x)) a b r
+          said one = (one.0, one.1, (one.2.0, first (info_of one.0) one.2.1))
       by (Ok left) (inr refused) = let e = refused.1 in absurd cc
       by (Err fault) stopped = let e = stopped.0 in absurd cc
 
-  pub not_asked : (failure : Failure) → Calls GetFlightInfo (wanted_bytes wanted ∷ []) (AnswersOne view endpoints_of) (Err failure) old new → Asks wanted (Err failure) old new
+  pub not_asked : (failure : Failure) → Calls GetFlightInfo (wanted_bytes wanted ∷ []) (AnswersOne (ReadsEndpoints view)) (Err failure) old new → Asks wanted (Err failure) old new
   not_asked failure = by old.incoming.left
     where
       wrong : Failure → Result A Failure
@@ -117,17 +138,32 @@ module _ {A : Type 0} (view : A → List EndpointSaid) (wanted : Wanted) (old ne
       none : Failure → Result (List EndpointSaid) Failure
       none failure = Err failure
 
-      same : (failure : Failure) (a b : Incoming) (r : Received) → AnswersOne view endpoints_of (Err failure) a b r
-          → AnswersOne (λ (endpoints : List EndpointSaid). endpoints) endpoints_of (Err failure) a b r
+      refused : Fault → Result A Fault
+      refused fault = Err fault
+
+      read_none : Fault → Result (List EndpointSaid) Fault
+      read_none fault = Err fault
+
+      -- a refusal that comes first, whatever would be read
+      first : (fault : Fault) (read : Result InfoSaid Fault) → RefusesFirst (refused fault) read → RefusesFirst (read_none fault) read
+      first fault (Ok info) is = tt
+      first fault (Err cause) is = ap read_none (is_cause is)
+        where
+          is_cause : refused fault ≡ refused cause → fault ≡ cause
+          is_cause e = cc
+
+      same : (failure : Failure) (a b : Incoming) (r : Received) → AnswersOne (ReadsEndpoints view) (Err failure) a b r → AnswersOne (ReadsEndpoints alone) (Err failure) a b r
       same (Answered fault) a b r answers = answers
-      same (Found fault) a b r answers = answers
+      same (Found fault) a b r (inl stops) = inl stops
+      same (Found fault) a b r (inr (inl other)) = inr (inl other)
+      same (Found fault) a b r (inr (inr one)) = inr (inr (one.0, one.1, (one.2.0, first fault (info_of one.0) one.2.1)))
 
       which : (fault : Fault) (e : wrong failure ≡ wrong (Found fault)) → failure ≡ Found fault
       which fault e = cc
 
-      by : (left : Result Received Fault) → CallsAt left GetFlightInfo (wanted_bytes wanted ∷ []) (AnswersOne view endpoints_of) (Err failure) old new
-          → CallsAt left GetFlightInfo (wanted_bytes wanted ∷ []) (AnswersOne (λ endpoints. endpoints) endpoints_of) (Err failure) old new
+      by : (left : Result Received Stop) → CallsAt left GetFlightInfo (wanted_bytes wanted ∷ []) (AnswersOne (ReadsEndpoints view)) (Err failure) old new
+          → CallsAt left GetFlightInfo (wanted_bytes wanted ∷ []) (AnswersOne (ReadsEndpoints alone)) (Err failure) old new
       by (Ok left) (inl called) =
           inl (record { written = called.written; came = called.came; consumed = called.consumed; answers = same failure _ _ _ called.answers })
-      by (Ok left) (inr refused) = inr (refused.0, ap none (which refused.0 refused.1), refused.2)
-      by (Err fault) stopped = (ap none (which fault stopped.0), stopped.1)
+      by (Ok left) (inr other) = inr (other.0, ap none (which other.0 other.1), other.2)
+      by (Err stop) stopped = (ap none (which stop.fault stopped.0), stopped.1)

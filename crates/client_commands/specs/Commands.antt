@@ -1,10 +1,10 @@
 -- What each command of a client does.
-use Rattle.std.specs.Prelude.{◌≡◌, ◌≢◌, ◌⊎◌, ℕ, List, [], Option, Result, Ok, Err, codes}
+use Rattle.std.specs.Prelude.{◌≡◌, ◌≢◌, ◌⊎◌, ℕ, List, [], Option, Some, None, Result, Ok, Err, codes}
 use Rattle.grpc_frame.specs.declared.place.Place.TheVariants.{InAnswer}
 use Rattle.std.specs.List.{flat_map}
 use Rattle.scan_base.specs.declared.fault.Fault.{Fault}
 use Rattle.scan_base.specs.declared.fault.Fault.TheVariants.{OutOfMemory, Transport}
-use Rattle.flight_proto.specs.Wanted.{Wanted, rows_of, tables}
+use Rattle.flight_proto.specs.Wanted.{rows_of, tables}
 use Rattle.ipc_stream.specs.declared.message.IpcMessage.{IpcMessage}
 use Rattle.table_versions.specs.Table.{Table}
 use Rattle.row_lines.specs.Lines.{lines_of, name_line}
@@ -13,8 +13,9 @@ use Rattle.client_calls.specs.declared.failure.Failure.{Failure}
 use Rattle.client_calls.specs.declared.failure.Failure.TheVariants.{Found}
 use Rattle.client_calls.specs.declared.putting.Target.{Target}
 use Rattle.client_calls.specs.Answers.{AnswersOne}
-use Rattle.client_calls.specs.Commands.{put_payloads, count_of}
+use Rattle.client_calls.specs.Commands.{put_payloads, ReadsCount}
 use Rattle.client_calls.specs.Outcome.{Calls, Line}
+use Rattle.command_ends.specs.Network.{Ends}
 use Rattle.command_ends.specs.Printing.{Said, Prints, cause_lines, count_line, fault_line}
 use Rattle.command_ends.specs.Whole.{Source, ReadsMessages}
 use Rattle.command_ends.specs.declared.exit_status.ExitStatus.{ExitStatus}
@@ -23,11 +24,11 @@ use Rattle.client_commands.specs.Fetching.{Fetches}
 use Rattle.client_commands.specs.Names.{names_listed}
 use Rattle.client_commands.specs.Told.{Tells}
 
--- a connection whose ends have these bytes, where they are known: nothing came of it, and no call has failed
-abbrev pub opened_line : Option (List ℕ) → Option (List ℕ) → Line
-opened_line input output = record {
-  incoming = record { input = input; failed = 0; left = Ok (record { bytes = []; place = InAnswer }) };
-  outgoing = record { output = output; failed = 0 };
+-- a connection of these ends: nothing came of it, and no call has failed
+abbrev pub opened_line : Ends → Line
+opened_line ends = record {
+  incoming = record { input = ends.input; failed = 0; left = Ok (record { bytes = []; place = InAnswer }) };
+  outgoing = record { output = ends.output; failed = 0 };
 }
 
 -- what a command prints on: its output and its faults, before and behind it
@@ -44,19 +45,19 @@ pub record EndsBy (lines : List ℕ) (status : ExitStatus) (old new : Desk) : Ty
   pub status_is : status ≡ FaultAtThisEnd
   pub says : Prints lines old.faults new.faults
 
--- a connection was opened, the calls on it gave a result, and that is told
-pub record Over (Opens : Line → Type 0) {A : Type 0} (Made : Result A Failure → Line → Line → Type 0) (text : A → List ℕ) (status : ExitStatus) (old new : Desk) : Type 0 where
-  pub line : Line
-  pub opened : Opens line
+-- the network gave a connection, the calls on it gave a result, and that is told
+pub record Over (Gives : Option Ends → Type 0) {A : Type 0} (Made : Result A Failure → Line → Line → Type 0) (text : A → List ℕ) (status : ExitStatus) (old new : Desk) : Type 0 where
+  pub ends : Ends
+  pub given : Gives (Some ends)
   pub result : Result A Failure
   pub last : Line
-  pub made : Made result line last
+  pub made : Made result (opened_line ends) last
   pub tells : Tells text result status old.out new.out old.faults new.faults
 
--- calls were made over a connection, and their result is told; or there is no connection, and why is said
-abbrev pub Connects : (Line → Type 0) → {A : Type 0} → (Result A Failure → Line → Line → Type 0) → (A → List ℕ) → ExitStatus → Desk → Desk → Type 0
-Connects Opens Made text status old new =
-    ((cause : List ℕ) × EndsBy (cause_lines cause) status old new) ⊎ Over Opens Made text status old new
+-- calls were made over a connection that the network gave, and their result is told; or it gave none, and why is said
+abbrev pub Connects : (Option Ends → Type 0) → {A : Type 0} → (Result A Failure → Line → Line → Type 0) → (A → List ℕ) → ExitStatus → Desk → Desk → Type 0
+Connects Gives Made text status old new =
+    (Gives None × ((cause : List ℕ) × EndsBy (cause_lines cause) status old new)) ⊎ Over Gives Made text status old new
 
 -- ---- query
 
@@ -65,8 +66,8 @@ abbrev pub table_lines : Table → List ℕ
 table_lines table = lines_of table.schema table.rows
 
 -- the lines of the rows that a query answers
-abbrev pub Queries : (Line → Type 0) → List ℕ → ExitStatus → Desk → Desk → Type 0
-Queries Opens sql status old new = Connects Opens (Fetches (rows_of sql)) table_lines status old new
+abbrev pub Queries : (Option Ends → Type 0) → List ℕ → ExitStatus → Desk → Desk → Type 0
+Queries Gives sql status old new = Connects Gives (Fetches (rows_of sql)) table_lines status old new
 
 -- ---- tables
 
@@ -79,8 +80,8 @@ FetchesNames view (Err failure) old new =
     × ((fault : Fault) × (failure ≡ Found fault) × (fault ≢ OutOfMemory → names_listed table ≡ Err fault)))
 
 -- a line for each name
-abbrev pub ListsTables : (Line → Type 0) → ExitStatus → Desk → Desk → Type 0
-ListsTables Opens status old new = Connects Opens (FetchesNames (λ (names : List (List ℕ)). names)) (flat_map name_line) status old new
+abbrev pub ListsTables : (Option Ends → Type 0) → ExitStatus → Desk → Desk → Type 0
+ListsTables Gives status old new = Connects Gives (FetchesNames (λ (names : List (List ℕ)). names)) (flat_map name_line) status old new
 
 -- ---- put
 
@@ -97,11 +98,11 @@ pub record IsUnread (old new : Source) (untouched : Type 0) (status : ExitStatus
   pub ends : EndsBy (reading_lines fault) status desk desk'
 
 -- the whole input is the stream of these messages, which are put, and the line of their count is printed
-pub record IsPut (old new : Source) (Opens : Line → Type 0) (target : Target) (status : ExitStatus) (desk desk' : Desk) : Type 0 where
+pub record IsPut (old new : Source) (Gives : Option Ends → Type 0) (target : Target) (status : ExitStatus) (desk desk' : Desk) : Type 0 where
   pub messages : List IpcMessage
   pub reads : ReadsMessages (λ (messages : List IpcMessage). messages) (Ok messages) old new
-  pub puts : Connects Opens (Calls DoPut (put_payloads target messages) (AnswersOne (λ (rows : ℕ). rows) count_of)) count_line status desk desk'
+  pub puts : Connects Gives (Calls DoPut (put_payloads target messages) (AnswersOne ReadsCount)) count_line status desk desk'
 
-abbrev pub Puts : Source → Source → Type 0 → (Line → Type 0) → Target → ExitStatus → Desk → Desk → Type 0
-Puts old new untouched Opens target status desk desk' =
-    IsUnread old new untouched status desk desk' ⊎ IsPut old new Opens target status desk desk'
+abbrev pub Puts : Source → Source → Type 0 → (Option Ends → Type 0) → Target → ExitStatus → Desk → Desk → Type 0
+Puts old new untouched Gives target status desk desk' =
+    IsUnread old new untouched status desk desk' ⊎ IsPut old new Gives target status desk desk'

@@ -11,12 +11,12 @@ use Rattle.client_calls.specs.declared.call.Method.TheVariants.{GetFlightInfo, D
 use Rattle.client_calls.specs.declared.failure.Failure.{Failure}
 use Rattle.client_calls.specs.declared.failure.Failure.TheVariants.{Found}
 use Rattle.client_calls.specs.Answers.{AnswersOne, AnswersStream}
-use Rattle.client_calls.specs.Commands.{endpoints_of}
+use Rattle.client_calls.specs.Commands.{ReadsEndpoints}
 use Rattle.client_calls.specs.Outcome.{Calls, Line}
 
 -- where rows are fetched is asked
 abbrev pub Asks : Wanted → Result (List EndpointSaid) Failure → Line → Line → Type 0
-Asks wanted result old new = Calls GetFlightInfo (wanted_bytes wanted ∷ []) (AnswersOne (λ endpoints. endpoints) endpoints_of) result old new
+Asks wanted result old new = Calls GetFlightInfo (wanted_bytes wanted ∷ []) (AnswersOne (ReadsEndpoints (λ (endpoints : List EndpointSaid). endpoints))) result old new
 
 -- a stream is fetched
 abbrev pub FetchesOne : EndpointSaid → Result StreamAt Failure → Line → Line → Type 0

@@ -1,6 +1,7 @@
 //! Connecting to the server.
 
-ghost use Rattle.std.specs.Prelude.{◌≡◌, ◌<◌, ℕ, List, IfOk};
+ghost use Rattle.std.specs.Prelude.{◌≡◌, ◌<◌, ℕ, List, Some, None, MatchResult};
+ghost use Rattle.command_ends.specs.Network.{Ends};
 ghost use Rattle.command_ends.specs.Printing.{Prints, cause_lines, said_of};
 ghost use Rattle.client_commands.specs.Commands.{opened_line};
 ghost use Rattle.command_ends.specs.declared.exit_status.ExitStatus.TheVariants.{FaultAtThisEnd};
@@ -22,9 +23,9 @@ pub(crate) fn open<C: Connect>(
     network: &mut C,
     port: u16,
 ) -> io::Result<Connection<C::Reader, C::Writer>>
-    ensures { IfOk result (λ connection. (reader : C.Reader) × (writer : C.Writer)
-        × C.connects network.old port reader writer network.new
-        × (connection ≡ opened_line (C.Reader.remaining reader) (C.Writer.contents writer))) }
+    ensures { MatchResult result
+        (λ connection. (ends : Ends) × C.connects network.old port (Some ends) network.new × (connection ≡ opened_line ends))
+        (λ _. C.connects network.old port None network.new) }
 {
     let (reader, writer) = network.connect(port)?;
     Ok(Connection::new(alloc, reader, writer))

@@ -3,12 +3,12 @@
 ghost use Rattle.std.specs.Prelude.{◌≡◌, ◌<◌};
 ghost use Rattle.client_calls.specs.declared.call.Method.TheVariants.{DoPut};
 ghost use Rattle.client_calls.specs.Answers.{AnswersOne};
-ghost use Rattle.client_calls.specs.Commands.{count_of, put_payloads};
+ghost use Rattle.client_calls.specs.Commands.{ReadsCount, put_payloads};
 ghost use Rattle.client_calls.specs.Outcome.{Calls};
 ghost use Rattle.command_ends.specs.Printing.{count_line, said_of};
 ghost use Rattle.command_ends.specs.Whole.{source_of};
 ghost use Rattle.client_commands.specs.Told.{Tells};
-ghost use Rattle.client_commands.specs.Commands.{Connects, Puts, desk_of, opened_line};
+ghost use Rattle.client_commands.specs.Commands.{Connects, Puts, desk_of};
 
 use crate::connecting::{end_unconnected, open};
 use crate::telling::{end_by_failure, end_by_printing};
@@ -45,9 +45,7 @@ pub fn put<C: Connect, I: Input, W: Output, E: Output>(
     ensures { Puts
         (source_of (I.remaining input.old) (I.failures input.old))
         (source_of (I.remaining input.new) (I.failures input.new)) (network.new ≡ network.old)
-        (λ line. (reader : C.Reader) × (writer : C.Writer)
-        × C.connects network.old putting.entry.port reader writer network.new
-        × (line ≡ opened_line (C.Reader.remaining reader) (C.Writer.contents writer)))
+        (λ ends. C.connects network.old putting.entry.port ends network.new)
         putting.entry.target result
         (desk_of (said_of (W.contents output.old) (W.failures output.old))
         (said_of (E.contents faults.old) (E.failures faults.old)))
@@ -72,10 +70,8 @@ fn put_messages<C: Connect, W: Output, E: Output>(
 ) -> ExitStatus
     requires writes { W.failures output.old < 18446744073709551615 }
     requires prints { E.failures faults.old < 18446744073709551615 }
-    ensures { Connects (λ line. (reader : C.Reader) × (writer : C.Writer)
-        × C.connects network.old putting.entry.port reader writer network.new
-        × (line ≡ opened_line (C.Reader.remaining reader) (C.Writer.contents writer)))
-        (Calls DoPut (put_payloads putting.entry.target messages.now) (AnswersOne (λ rows. rows) count_of))
+    ensures { Connects (λ ends. C.connects network.old putting.entry.port ends network.new)
+        (Calls DoPut (put_payloads putting.entry.target messages.now) (AnswersOne ReadsCount))
         count_line result
         (desk_of (said_of (W.contents output.old) (W.failures output.old))
         (said_of (E.contents faults.old) (E.failures faults.old)))

@@ -1,9 +1,9 @@
 //! `flightscan query`: the rows that a query answers.
 
-ghost use Rattle.std.specs.Prelude.{◌≡◌, ◌<◌};
+ghost use Rattle.std.specs.Prelude.{◌<◌};
 ghost use Rattle.command_ends.specs.Printing.{said_of};
 ghost use Rattle.client_commands.specs.Told.{Tells};
-ghost use Rattle.client_commands.specs.Commands.{table_lines, Queries, desk_of, opened_line};
+ghost use Rattle.client_commands.specs.Commands.{table_lines, Queries, desk_of};
 
 use crate::connecting::{end_unconnected, open};
 use crate::fetching::fetch_rows;
@@ -37,9 +37,7 @@ pub fn query<C: Connect, W: Output, E: Output>(
 ) -> ExitStatus
     requires writes { W.failures output.old < 18446744073709551615 }
     requires prints { E.failures faults.old < 18446744073709551615 }
-    ensures { Queries (λ line. (reader : C.Reader) × (writer : C.Writer)
-        × C.connects network.old query.entry.port reader writer network.new
-        × (line ≡ opened_line (C.Reader.remaining reader) (C.Writer.contents writer)))
+    ensures { Queries (λ ends. C.connects network.old query.entry.port ends network.new)
         query.entry.sql.now result
         (desk_of (said_of (W.contents output.old) (W.failures output.old))
         (said_of (E.contents faults.old) (E.failures faults.old)))

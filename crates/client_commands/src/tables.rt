@@ -1,11 +1,11 @@
 //! `flightscan tables`: the names of the tables.
 
-ghost use Rattle.std.specs.Prelude.{◌≡◌, ◌<◌};
+ghost use Rattle.std.specs.Prelude.{◌<◌};
 ghost use Rattle.command_ends.specs.Printing.{said_of};
 ghost use Rattle.std.specs.List.{flat_map};
 ghost use Rattle.row_lines.specs.Lines.{name_line};
 ghost use Rattle.client_commands.specs.Told.{Tells};
-ghost use Rattle.client_commands.specs.Commands.{FetchesNames, ListsTables, desk_of, opened_line};
+ghost use Rattle.client_commands.specs.Commands.{FetchesNames, ListsTables, desk_of};
 
 use crate::connecting::{end_unconnected, open};
 use crate::fetching::fetch_rows;
@@ -30,9 +30,7 @@ pub fn tables<C: Connect, W: Output, E: Output>(
 ) -> ExitStatus
     requires writes { W.failures output.old < 18446744073709551615 }
     requires prints { E.failures faults.old < 18446744073709551615 }
-    ensures { ListsTables (λ line. (reader : C.Reader) × (writer : C.Writer)
-        × C.connects network.old port reader writer network.new
-        × (line ≡ opened_line (C.Reader.remaining reader) (C.Writer.contents writer)))
+    ensures { ListsTables (λ ends. C.connects network.old port ends network.new)
         result
         (desk_of (said_of (W.contents output.old) (W.failures output.old))
         (said_of (E.contents faults.old) (E.failures faults.old)))

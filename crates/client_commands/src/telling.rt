@@ -1,8 +1,8 @@
 //! Telling what came of calls.
 
-ghost use Rattle.std.specs.Prelude.{◌≡◌, ◌<◌, ℕ, List};
-ghost use Rattle.grpc_frame.specs.Ends.{CountsFailure, FailsByTransport, Writes};
-ghost use Rattle.command_ends.specs.Printing.{Prints, fault_line, said_of};
+ghost use Rattle.std.specs.Prelude.{◌<◌};
+ghost use Rattle.grpc_frame.specs.Ends.{FailsByTransport};
+ghost use Rattle.command_ends.specs.Printing.{said_of};
 ghost use Rattle.client_commands.specs.Told.{TellsFailure, TellsPrinted};
 
 use client_calls::Failure;

@@ -5,7 +5,8 @@ use std::io;
 
 /// Makes connections to a server.
 pub trait Connect {
-    ghost use Rattle.std.specs.Prelude.{◌≡◌, ℕ, IfOk};
+    ghost use Rattle.std.specs.Prelude.{◌≡◌, ℕ, Option, Some, None, IfErr, IfOk};
+    ghost use Rattle.command_ends.specs.Network.{Ends, ends_of};
 
     /// What comes from the server.
     type Reader: Input + Drop;
@@ -13,8 +14,8 @@ pub trait Connect {
     /// What goes to it.
     type Writer: Output + Drop;
 
-    // A connection to a port was made, of these two ends.
-    ghost connects: { Self → ℕ → Self.Reader → Self.Writer → Self → Type 0 };
+    // What came of asking for a connection to a port: one of these ends, or none.
+    ghost connects: { Self → ℕ → Option Ends → Self → Type 0 };
 
     /// Connects to a port of this machine. No call of the connection's ends has failed yet.
     ///
@@ -22,14 +23,17 @@ pub trait Connect {
     ///
     /// The system's.
     fn connect(&mut self, port: u16) -> io::Result<(Self::Reader, Self::Writer)>
-        ensures made { IfOk result (λ ends. connects self.old port ends.0 ends.1 self.new) }
+        ensures made { IfOk result (λ ends. connects self.old port
+            (Some (ends_of (Self.Reader.remaining ends.0) (Self.Writer.contents ends.1))) self.new) }
+        ensures refused { IfErr result (λ _. connects self.old port None self.new) }
         ensures reads { IfOk result (λ ends. Self.Reader.failures ends.0 ≡ 0) }
         ensures writes { IfOk result (λ ends. Self.Writer.failures ends.1 ≡ 0) };
 }
 
 /// Takes connections of clients.
 pub trait Listen {
-    ghost use Rattle.std.specs.Prelude.{◌≡◌, ℕ, IfOk};
+    ghost use Rattle.std.specs.Prelude.{◌≡◌, ℕ, Option, Some, None, IfErr, IfOk};
+    ghost use Rattle.command_ends.specs.Network.{Ends, ends_of};
 
     /// What comes from a client.
     type Reader: Input + Drop;
@@ -37,8 +41,11 @@ pub trait Listen {
     /// What goes to it.
     type Writer: Output + Drop;
 
-    // Where a port is asked for, this port is listened to.
-    ghost listens: { Self → ℕ → ℕ → Self → Type 0 };
+    // What came of asking for a port: this one is listened to, or none.
+    ghost listens: { Self → ℕ → Option ℕ → Self → Type 0 };
+
+    // What came of an accept: a connection of these ends, or none.
+    ghost accepts: { Self → Option Ends → Self → Type 0 };
 
     /// Listens to a port of this machine, 0 for one that is free, and gives the port.
     ///
@@ -46,7 +53,8 @@ pub trait Listen {
     ///
     /// The system's.
     fn listen(&mut self, port: u16) -> io::Result<u16>
-        ensures { IfOk result (λ heard. listens self.old port heard self.new) };
+        ensures heard { IfOk result (λ heard. listens self.old port (Some heard) self.new) }
+        ensures refused { IfErr result (λ _. listens self.old port None self.new) };
 
     /// Waits for the next connection. No call of its ends has failed yet.
     ///
@@ -54,6 +62,9 @@ pub trait Listen {
     ///
     /// The system's.
     fn accept(&mut self) -> io::Result<(Self::Reader, Self::Writer)>
+        ensures taken { IfOk result (λ ends. accepts self.old
+            (Some (ends_of (Self.Reader.remaining ends.0) (Self.Writer.contents ends.1))) self.new) }
+        ensures failed { IfErr result (λ _. accepts self.old None self.new) }
         ensures reads { IfOk result (λ ends. Self.Reader.failures ends.0 ≡ 0) }
         ensures writes { IfOk result (λ ends. Self.Writer.failures ends.1 ≡ 0) };
 }

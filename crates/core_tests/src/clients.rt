@@ -68,6 +68,8 @@ impl<R: Net<Listener = TcpListener, Stream = TcpStream>> Listen for Bound<'_, R>
 
     ghost listens = { λ _ _ _ _. Unit {0} };
 
+    ghost accepts = { λ _ _ _. Unit {0} };
+
     fn listen(&mut self, _port: u16) -> io::Result<u16> {
         Ok(self.number)
     }
@@ -222,7 +224,7 @@ impl<'a> Connect for Answering<'a> {
 
     type Writer = MemoryOutput;
 
-    ghost connects = { λ _ _ _ _ _. Unit {0} };
+    ghost connects = { λ _ _ _ _. Unit {0} };
 
     fn connect(&mut self, _port: u16) -> io::Result<(MemoryInput<'a>, MemoryOutput)> {
         self.made = self.made.saturating_add(1);

@@ -25,7 +25,8 @@ use Rattle.flight_calls.specs.Reacts.{Reacts, Answers}
 use Rattle.flight_calls.specs.Owed.{calls_bytes, answer_bytes, EndsIn, EndsInside, behind_calls, IsCause, last_status, Connection, items_owed, Wrote, Why, Serves, Fails}
 use Rattle.flight_calls.specs.Ending.{RefusesBy}
 use Rattle.flight_calls.specs.Requests.{Holds}
-use Rattle.flight_calls.specs.Reading.{Stops, CallArrives}
+use Rattle.flight_calls.specs.Reading.{IsSoundAt, Stops, CallArrives}
+use Rattle.flight_calls.proofs.Taking.{passed_none}
 
 -- each payload fits a message
 abbrev FitsMessages : ReplyAt → Type 0
@@ -186,10 +187,10 @@ module _ (moves : Moves) (options : Options) (old mid : Connection) (left : Rece
       all_written (Err Transport) new q.0 q.1 log output (rw (behind q.0) at q.2.1, inl (q.2.0, at_end, quiet))
 
   -- why reading stopped
-  cause : (fault : Fault) (more : List ℕ) → fault ≢ Transport → Stops fault (with_more left more) (IsSound (with_more left more)) → IsCause fault (left.bytes ++ more)
-  cause fault more other (inl e) = absurd (other e.0)
-  cause fault more other (inr (inl e)) = inl (e.0, subst IsSound (behind more) e.1)
-  cause fault more other (inr (inr ends)) = inr (rw (behind more) at ends)
+  cause : (fault : Fault) (more : List ℕ) (left' : Received) → fault ≢ Transport → Stops fault (with_more left more) (IsSound (with_more left more) × IsSoundAt (with_more left more) left') → IsCause fault (left.bytes ++ more)
+  cause fault more left' other (inl e) = absurd (other e.0)
+  cause fault more left' other (inr (inl e)) = inl (e.0, subst IsSound (behind more) e.1.0)
+  cause fault more left' other (inr (inr ends)) = inr (rw (behind more) at ends)
 
   -- its status was written
   pub connection_refused : (new : Connection) (left' : Received) (fault : Fault) → (more : List ℕ) × Consumes mid.input new.input more × CallArrives (Err fault) left left' more → fault ≢ Transport
@@ -198,7 +199,7 @@ module _ (moves : Moves) (options : Options) (old mid : Connection) (left : Rece
       let owed = map answer_bytes p.replies in
       ends (Err fault) new q.0 (Some fault) (owed ++ last_status fault ∷ []) [] q.1 log (sym (append-nil (owed ++ last_status fault ∷ [])))
       (rw (joined_more owed (last_status fault)) (Appends-trans old.output mid.output new.output (joined owed) (last_status fault) p.wrote wrote))
-      (by_fault fault (left.bytes ++ q.0) other (cause fault q.0 other q.2))
+      (by_fault fault (left.bytes ++ q.0) other (cause fault q.0 left' other q.2))
     where
       by_fault : (fault : Fault) (rest : List ℕ) → fault ≢ Transport → IsCause fault rest → Why (Err fault) old new rest (Some fault) []
       by_fault Transport rest other is = absurd (other refl)
@@ -208,13 +209,13 @@ module _ (moves : Moves) (options : Options) (old mid : Connection) (left : Rece
   pub status_failed : (new : Connection) (left' : Received) (fault : Fault) → (more : List ℕ) × Consumes mid.input new.input more × CallArrives (Err fault) left left' more → fault ≢ Transport
       → AppendsBeginning mid.output new.output (last_status fault) → new.seat ≡ mid.seat → Fails 0 1 old new → Serves moves options (Err Transport) old new
   status_failed new left' fault q other begun log counted =
-      ends (Err Transport) new q.0 (Some fault) (map answer_bytes p.replies) (last_status fault ∷ []) q.1 log refl (mid.output, p.wrote, begun) (cause fault q.0 other q.2, counted)
+      ends (Err Transport) new q.0 (Some fault) (map answer_bytes p.replies) (last_status fault ∷ []) q.1 log refl (mid.output, p.wrote, begun) (cause fault q.0 left' other q.2, counted)
 
   -- a call of which more has to come, where a read failed
-  waits : (fault : Fault) (more : List ℕ) → fault ≡ Transport → Stops fault (with_more left more) (IsSound (with_more left more)) → EndsInside (behind_calls (left.bytes ++ more))
-  waits fault more is (inl stops) = rw (behind more) at stops.1
-  waits fault more is (inr (inl e)) = let both : OutOfMemory ≡ Transport = sym e.0 ∙ is in absurd cc
-  waits fault more is (inr (inr ends)) = absurd (not_broken fault is ends)
+  waits : (fault : Fault) (more : List ℕ) (left' : Received) → fault ≡ Transport → Stops fault (with_more left more) (IsSound (with_more left more) × IsSoundAt (with_more left more) left') → EndsInside (behind_calls (left.bytes ++ more))
+  waits fault more left' is (inl stops) = rw (behind more) at stops.1
+  waits fault more left' is (inr (inl e)) = let both : OutOfMemory ≡ Transport = sym e.0 ∙ is in absurd cc
+  waits fault more left' is (inr (inr ends)) = absurd (not_broken fault is ends)
     where
       not_broken : (fault : Fault) → fault ≡ Transport → EndsIn (with_more left more) (broken fault) → ⊥
       not_broken fault is ends = let wrong = ends.splits.ends.fault_is in not_flaw ends.splits.ends.flaw (sym is ∙ wrong)
@@ -229,7 +230,7 @@ module _ (moves : Moves) (options : Options) (old mid : Connection) (left : Rece
   -- a read failed
   pub read_failed : (new : Connection) (left' : Received) (fault : Fault) → (more : List ℕ) × Consumes mid.input new.input more × CallArrives (Err fault) left left' more → fault ≡ Transport
       → new.output ≡ mid.output → new.seat ≡ mid.seat → Fails 1 0 old new → Serves moves options (Err Transport) old new
-  read_failed new left' fault q is output log counted = all_written (Err Transport) new q.0 q.1 log output (waits fault q.0 is q.2, inr counted)
+  read_failed new left' fault q is output log counted = all_written (Err Transport) new q.0 q.1 log output (waits fault q.0 left' is q.2, inr counted)
 
   -- by a fault while a call was read
   pub ended_by : (new : Connection) (left' : Received) (fault : Fault) (result : Result (Unit {0}) Fault) (reads writes reads' writes' : ℕ) → (more : List ℕ) × Consumes mid.input new.input more × CallArrives (Err fault) left left' more
@@ -253,4 +254,4 @@ pub refused_first : (moves : Moves) (options : Options) (old new : Connection) (
     → RefusesBy fault result old.output new.output writes writes' → reads ≡ old.failed_reads → writes ≡ old.failed_writes → new.failed_reads ≡ reads → new.failed_writes ≡ writes' → Serves moves options result old new
 refused_first moves options old new fault result reads writes writes' same input memory refuses before before' after after' =
     ended_by moves options old old (behind_calls []) (started moves options old (behind_calls []) refl) new (behind_calls []) fault result reads writes reads writes'
-    ([], rw input (Consumes-nil old.input), inr (inl (memory, none_sound (behind_calls []) refl))) ((λ e. let both : OutOfMemory ≡ Transport = sym memory ∙ e in absurd cc), λ _. refl) refuses same before before' after after'
+    ([], rw input (Consumes-nil old.input), inr (inl (memory, (none_sound (behind_calls []) refl, ([], passed_none (behind_calls []), none_sound (behind_calls []) refl))))) ((λ e. let both : OutOfMemory ≡ Transport = sym memory ∙ e in absurd cc), λ _. refl) refuses same before before' after after'

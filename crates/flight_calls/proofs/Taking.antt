@@ -20,16 +20,9 @@ use Rattle.grpc_frame.proofs.Splitting.{place_after_all-append}
 use Rattle.flight_info.specs.Payloads.{Payload}
 use Rattle.flight_calls.specs.Owed.{EndsIn, EndsInside}
 use Rattle.flight_calls.specs.Requests.{Holds}
-use Rattle.flight_calls.specs.Reading.{Fronts, Stops, RequestArrives, CallArrives}
+use Rattle.flight_calls.specs.Reading.{Fronts, Passed, IsSoundAt, Stops, RequestArrives, CallArrives}
 use Rattle.flight_calls.specs.declared.call.Arrival.TheVariants as arrival
 use Rattle.flight_calls.specs.declared.request.Request.{Request}
-
--- these records stand in front, none ends a call, and what is left follows them
-pub record Passed (from : Received) (records : List Record) (left : Received) : Type 0 where
-  pub whole : from.bytes ≡ flat_map spelling records ++ left.bytes
-  pub fits : All IsRecord records
-  pub places : place_after_all from.place records ≡ Some left.place
-  pub no_end : All (λ found. found ≢ End) records
 
 pub passed_none : (from : Received) → Passed from [] from
 passed_none from = record { whole = refl; fits = All-nil IsRecord; places = refl; no_end = All-nil (λ found. found ≢ End) }
@@ -75,6 +68,21 @@ passed_end from left new records p leads = record {
   fits = All-append IsRecord records (End ∷ []) p.fits (All-cons IsRecord End [] leads.fits (All-nil IsRecord));
   behind = behind_end left.place new.place leads.moves;
 }
+
+-- others behind them
+passed_both : (from left rest : Received) (records others : List Record) → Passed from records left → Passed left others rest → Passed from (records ++ others) rest
+passed_both from left rest records others p q = record {
+  whole = p.whole ∙ ap (λ (b : List ℕ). flat_map spelling records ++ b) q.whole
+      ∙ sym (append_assoc (flat_map spelling records) (flat_map spelling others) rest.bytes)
+      ∙ ap (λ (b : List ℕ). b ++ rest.bytes) (sym (flat_map-append spelling records others));
+  fits = All-append IsRecord records others p.fits q.fits;
+  places = place_after_all-append from.place left.place records others p.places ∙ q.places;
+  no_end = All-append (λ r. r ≢ End) records others p.no_end q.no_end;
+}
+
+-- no flaw where reading stopped
+sound_at : (from left left' : Received) (records : List Record) → left' ≡ left → Passed from records left → IsSound left → IsSoundAt from left'
+sound_at from left left' records same p sound = subst (λ (l : Received). IsSoundAt from l) (sym same) (records, p, sound)
 
 -- how it ends behind them
 pub passed_ends : (from left : Received) (records : List Record) (ending : Ending) → Passed from records left → Ends left ending → EndsIn from ending
@@ -169,9 +177,9 @@ module _ (a b c : Option (List ℕ)) (old mid new : Received) (messages : List P
   pub collected_stop : (path : List ℕ) (fault : Fault) → Since b c mid new (Err fault) → (came : List ℕ) × Consumes a c came × RequestArrives (Err fault) path old new came
   collected_stop path fault q = (all_came q.came, all_consumed q.came q.consumed, by (subst (IsReason fault) q.arrives.0 q.arrives.1))
     where
-      by : IsReason fault (with_more mid q.came) → Stops fault (with_more old (all_came q.came)) (Unit {0})
+      by : IsReason fault (with_more mid q.came) → Stops fault (with_more old (all_came q.came)) (IsSoundAt (with_more old (all_came q.came)) new)
       by (inl e) = inl (e.0, passed_cut (with_more old (all_came q.came)) (with_more mid q.came) (map Message messages) (stand q.came) e.1)
-      by (inr (inl e)) = inr (inl (e.0, tt))
+      by (inr (inl e)) = inr (inl (e.0, sound_at (with_more old (all_came q.came)) (with_more mid q.came) new (map Message messages) q.arrives.0 (stand q.came) e.1))
       by (inr (inr breaks)) = inr (inr (passed_ends (with_more old (all_came q.came)) (with_more mid q.came) (map Message messages) (broken fault) (stand q.came) breaks))
 
 -- ---- a call
@@ -196,9 +204,9 @@ ends_after from left records ending p q = record {
 pub first_stops : (a b : Option (List ℕ)) (old new : Received) (fault : Fault) → Since a b old new (Err fault) → (came : List ℕ) × Consumes a b came × CallArrives (Err fault) old new came
 first_stops a b old new fault q = (q.came, q.consumed, by (subst (IsReason fault) q.arrives.0 q.arrives.1))
   where
-    by : IsReason fault (with_more old q.came) → Stops fault (with_more old q.came) (IsSound (with_more old q.came))
+    by : IsReason fault (with_more old q.came) → Stops fault (with_more old q.came) (IsSound (with_more old q.came) × IsSoundAt (with_more old q.came) new)
     by (inl e) = inl (e.0, passed_cut (with_more old q.came) (with_more old q.came) [] (passed_none (with_more old q.came)) e.1)
-    by (inr (inl e)) = inr (inl e)
+    by (inr (inl e)) = inr (inl (e.0, (e.1, sound_at (with_more old q.came) (with_more old q.came) new [] q.arrives.0 (passed_none (with_more old q.came)) e.1)))
     by (inr (inr breaks)) = inr (inr (passed_ends (with_more old q.came) (with_more old q.came) [] (broken fault) (passed_none (with_more old q.came)) breaks))
 
 -- the input ended before the first record was whole
@@ -276,7 +284,11 @@ module _ (a b c : Option (List ℕ)) (old mid new : Received) (path : List ℕ) 
   pub call_stops : (fault : Fault) → (more : List ℕ) × Consumes b c more × RequestArrives (Err fault) path mid new more → (came : List ℕ) × Consumes a c came × CallArrives (Err fault) old new came
   call_stops fault q = (together q.0, both_consumed q.0 q.1, by q.2)
     where
-      by : Stops fault (with_more mid q.0) (Unit {0}) → Stops fault (with_more old (together q.0)) (IsSound (with_more old (together q.0)))
+      behind_open : IsSoundAt (with_more mid q.0) new → IsSoundAt (with_more old (together q.0)) new
+      behind_open s = (Open path ∷ s.0, passed_both (with_more old (together q.0)) (with_more mid q.0) new (Open path ∷ []) s.0 (opened q.0) s.1, s.2)
+
+      by : Stops fault (with_more mid q.0) (IsSoundAt (with_more mid q.0) new)
+          → Stops fault (with_more old (together q.0)) (IsSound (with_more old (together q.0)) × IsSoundAt (with_more old (together q.0)) new)
       by (inl (e, ends)) = inl (e, still_inside q.0 ends)
-      by (inr (inl e)) = inr (inl (e.0, led_sound (with_more old (together q.0)) (with_more mid q.0) (Open path) (leads q.0)))
+      by (inr (inl e)) = inr (inl (e.0, (led_sound (with_more old (together q.0)) (with_more mid q.0) (Open path) (leads q.0), behind_open e.1)))
       by (inr (inr ends)) = inr (inr (ends_after (with_more old (together q.0)) (with_more mid q.0) (Open path ∷ []) (broken fault) (opened q.0) ends))

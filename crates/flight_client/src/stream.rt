@@ -1,7 +1,8 @@
 //! One stream of an answer.
 
 ghost use Rattle.std.specs.Prelude.{◌≡◌, ◌∷◌, ◌++◌, [], List, OnOk, OnErr};
-ghost use Rattle.scan_base.specs.Reading.{Gives, GivesUnlessMemory};
+ghost use Rattle.scan_base.specs.Reading.{Gives, GivesUnlessMemory, RefusesFirst};
+ghost use Rattle.flight_proto.specs.FlightData.{data_of};
 ghost use Rattle.flight_info.specs.Payloads.{Payload};
 ghost use Rattle.flight_client.specs.Stream.{begun, after_payload, Came, Ends, schema_said};
 
@@ -58,10 +59,11 @@ impl Stream {
     /// The stream is as before then.
     /// - F4 (`Fault::BadProto`) where the payload is no FlightData.
     /// - Those of `ipc_batch::Reader::message` (F6, F7, F8, F12) for its message, also where its header is empty.
-    /// - F21 (`Fault::OutOfMemory`) where memory is refused.
+    /// - F21 (`Fault::OutOfMemory`) where memory is refused, and the payload is a FlightData.
     #[tactic(auto, unfolding(crate::specs::Stream::after_payload))]
     pub fn message(&mut self, alloc: Global, payload: &Bytes) -> Result<(), Fault>
         ensures exact { GivesUnlessMemory (λ _. self.new) result (after_payload self.old payload.now) }
+        ensures first { RefusesFirst result (data_of payload.now) }
         ensures came { OnOk result ((payloads : List Payload) → Came payloads self.old
             → Came (payloads ++ payload.now ∷ []) self.new) }
         ensures kept { OnErr result (self.new ≡ self.old) }

@@ -4,7 +4,9 @@ use Rattle.grpc_frame.specs.declared.record.Record.{Record}
 use Rattle.scan_base.specs.declared.fault.Fault.{Fault}
 use Rattle.grpc_frame.specs.Records.{Received, with_more, Leads, shown_by, Breaks, IsCut}
 use Rattle.grpc_frame.specs.Head.{AreBytes}
-use Rattle.grpc_frame.specs.Front.{Front, Wanting, Faulty, Whole, front_of}
+use Rattle.grpc_frame.specs.Arrivals.{IsSound}
+use Rattle.grpc_frame.specs.declared.head.Head.{Head}
+use Rattle.grpc_frame.specs.Front.{Front, Wanting, Faulty, Whole, front_of, FindsFront}
 use Rattle.grpc_frame.specs.Calls.{TakesFront, KeepsProfile}
 use Rattle.grpc_frame.specs.Laws.{FrontKeepsProfile}
 use Rattle.grpc_frame.proofs.Again.{leads_front, breaks_front}
@@ -36,6 +38,14 @@ front_keeps left fits = record {
   faulty = λ fault. (faulty_breaks left fault fits, breaks_front left fault);
   wanting = (wanting_cut left, cut_wanting left fits);
 }
+
+-- what a look at the front found, in the words of the profile
+pub found_sound : (left : Received) (found : Option Head) → FindsFront (Ok found) left → IsSound left
+found_sound left None finds = (wanting_cut left finds).no_flaw
+found_sound left (Some head) finds = λ fault breaks. absurd (let faulty = breaks_front left fault breaks in let whole = finds.2 in cc)
+
+pub found_flaw : (left : Received) (fault : Fault) → AreBytes left.bytes → FindsFront (Err fault) left → Breaks left fault
+found_flaw left fault fits finds = faulty_breaks left fault fits finds.1
 
 -- what a call of `next` gave, in the words of the profile
 pub next_keeps : (r : Result (Option Record) Fault) (old new : Received) → AreBytes old.bytes → TakesFront r old new → KeepsProfile r old new

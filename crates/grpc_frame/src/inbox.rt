@@ -1,12 +1,13 @@
 //! What has come, cut into records.
 
-ghost use Rattle.std.specs.Prelude.{◌≡◌, ◌++◌, ◌↔◌, ◌<◌, [], ℕ, List, Ok, OnOk, OnErr, IfOk, IfErr, IsTrue, length};
+ghost use Rattle.std.specs.Prelude.{◌≡◌, ◌++◌, ◌↔◌, ◌<◌, [], ℕ, List, Ok, OnOk, OnErr, IfOk, IfErr, IsTrue, MatchOption, length};
 ghost use Rattle.std.specs.Io.KnownBytes.{Consumes, IsAtEnd};
 ghost use Rattle.scan_base.specs.declared.fault.Fault.TheVariants.{OutOfMemory};
 ghost use Rattle.grpc_frame.specs.declared.place.Place.TheVariants.{BetweenCalls, InAnswer};
 ghost use Rattle.grpc_frame.specs.Head.{AreBytes};
 ghost use Rattle.grpc_frame.specs.Calls.{TakesFront, KeepsProfile};
-ghost use Rattle.grpc_frame.specs.Arrivals.{CountsTransport, work_left};
+ghost use Rattle.grpc_frame.specs.Arrivals.{CountsTransport, IsSound, work_left};
+ghost use Rattle.grpc_frame.specs.Records.{Breaks};
 ghost use Rattle.grpc_frame.specs.inside.Reads.{TakesIn};
 
 use crate::block::{BLOCK_LEN, Block};
@@ -101,6 +102,16 @@ impl Inbox {
         ensures profile { KeepsProfile result self.old self.new }
     {
         self.take_front()
+    }
+
+    /// The fault of the record in front, as soon as what came of it shows one: `next` answers it. It takes no memory.
+    pub fn flaw(&self) -> Option<Fault>
+        ensures { MatchOption result (IsSound self.now) (λ fault. Breaks self.now fault) }
+    {
+        match read_front(self.place, self.block.as_slice()) {
+            Ok(_) => None,
+            Err(fault) => Some(fault),
+        }
     }
 
     fn take_front(&mut self) -> Result<Option<Record>, Fault>

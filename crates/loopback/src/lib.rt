@@ -27,7 +27,7 @@ impl<R: Net<Listener = TcpListener, Stream = TcpStream>> Connect for Loopback<'_
 
     type Writer = Counted<TcpStream>;
 
-    ghost connects = { λ _ _ _ _ _. Unit {0} };
+    ghost connects = { λ _ _ _ _. Unit {0} };
 
     fn connect(&mut self, port: u16) -> io::Result<(Counted<TcpStream>, Counted<TcpStream>)> {
         ends_of(TcpStream::connect(self.rt, (Ipv4Addr::LOCALHOST, port))?)
@@ -54,6 +54,8 @@ impl<R: Net<Listener = TcpListener, Stream = TcpStream>> Listen for Port<'_, R> 
     type Writer = Counted<TcpStream>;
 
     ghost listens = { λ _ _ _ _. Unit {0} };
+
+    ghost accepts = { λ _ _ _. Unit {0} };
 
     fn listen(&mut self, port: u16) -> io::Result<u16> {
         let listener = TcpListener::bind(self.rt, (Ipv4Addr::LOCALHOST, port))?;

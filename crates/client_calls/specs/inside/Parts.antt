@@ -2,18 +2,18 @@
 use Rattle.std.specs.Prelude.{◌≡◌, ◌⊎◌, ℕ, List, Option, Result, Ok, Err}
 use Rattle.std.specs.Io.KnownBytes.{Consumes}
 use Rattle.scan_base.specs.declared.fault.Fault.{Fault}
-use Rattle.scan_base.specs.declared.fault.Fault.TheVariants.{MessageTooLarge, OutOfMemory, Transport}
+use Rattle.scan_base.specs.declared.fault.Fault.TheVariants.{MessageTooLarge, Transport}
 use Rattle.grpc_frame.specs.Records.{Received, with_more}
 use Rattle.flight_info.specs.Payloads.{Payload}
 use Rattle.client_calls.specs.declared.call.Method.{Method}
 use Rattle.client_calls.specs.declared.failure.Failure.{Failure}
 use Rattle.client_calls.specs.declared.failure.Failure.TheVariants.{Found}
-use Rattle.client_calls.specs.Answers.{Incoming}
+use Rattle.client_calls.specs.Answers.{Incoming, Stop, stopped_at}
 use Rattle.client_calls.specs.Calls.{Fit}
 use Rattle.client_calls.specs.Outcome.{Outgoing, Line, IsWritten, IsBegun, WhyNot}
 
 -- the ends by their parts
-abbrev pub incoming_of : Option (List ℕ) → ℕ → Result Received Fault → Incoming
+abbrev pub incoming_of : Option (List ℕ) → ℕ → Result Received Stop → Incoming
 incoming_of input failed left = record { input = input; failed = failed; left = left }
 
 abbrev pub outgoing_of : Option (List ℕ) → ℕ → Outgoing
@@ -23,15 +23,18 @@ outgoing_of output failed = record { output = output; failed = failed }
 abbrev pub IsOpen : Line → Type 0
 IsOpen line = (left : Received) × (line.incoming.left ≡ Ok left)
 
+-- a call stopped by this fault
+abbrev pub HasStopped : Fault → Line → Type 0
+HasStopped fault line = (at : Received) × (line.incoming.left ≡ stopped_at fault at)
+
 -- ---- writing
 
--- a call was written; or not, by F22; or nothing of it was, since a message of it is too long (F2) or memory was refused
--- (F21)
+-- a call was written; or not, by F22; or nothing of it was, since a message of it is too long (F2)
 abbrev pub WritesCall : Result (Unit {0}) Fault → Method → List Payload → Outgoing → Outgoing → Type 0
 WritesCall (Ok done) method messages old new = IsWritten method messages old new
 WritesCall (Err fault) method messages old new =
     ((fault ≡ Transport) × IsBegun method messages old new)
-    ⊎ ((((fault ≡ MessageTooLarge) × ¬ Fit messages) ⊎ (fault ≡ OutOfMemory)) × (new ≡ old))
+    ⊎ ((fault ≡ MessageTooLarge) × (¬ Fit messages) × (new ≡ old))
 
 -- the same on a connection
 abbrev pub SendsCall : Result (Unit {0}) Fault → Method → List Payload → Line → Line → Type 0
@@ -41,10 +44,10 @@ SendsCall (Err fault) method messages old new = WhyNot fault method messages old
 
 -- ---- reading
 
--- what is left behind an answer that came to its Status, or the fault by which it did not
-abbrev pub left_behind : {A : Type 0} → Result A Fault → Received → Result Received Fault
+-- what is left behind an answer that came to its Status; or it did not, by a fault
+abbrev pub left_behind : {A : Type 0} → Result A Fault → Received → Result Received Stop
 left_behind (Ok answer) left = Ok left
-left_behind (Err fault) left = Err fault
+left_behind (Err fault) left = stopped_at fault left
 
 -- what such an answer gives
 abbrev pub given : {A : Type 0} → Result (Result A Failure) Fault → Result A Failure

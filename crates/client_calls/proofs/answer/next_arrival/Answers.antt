@@ -1,4 +1,4 @@
-use Rattle.std.proofs.Common.{refl, Some, Ok, Err}
+use Rattle.std.proofs.Common.{refl, Ok, Err}
 use Rattle.std.proofs.lemmas.Result.{err_from_is_err_and}
 use Rattle.client_calls.proofs.Taking.{next_place, next_message, next_status, next_open, next_end, next_none, next_stop}
 use Rattle.client_calls.proofs.answer.next_arrival.Goals as goal

@@ -16,24 +16,23 @@ returns-in_err-message-clause-answer g c =
     let p = err_from_is_err_and c.from_residual.result c.from_residual.ensures.1 in
     rw (p.1, p.2) (stream_stops _ _ _ _ _ _ _ _ c.next_arrival.new.inbox _ i.taken.1 i.count c.loop-stream.stream i.taken.2 c.in_err-message.field-0.0 c.in_err-message.ensures.arrives)
 
-pub returns-in_err-message-in-Message-clause-answer : goal.returns-in_err-message-in-Message-clause-answer
-returns-in_err-message-in-Message-clause-answer g c =
+pub returns-in-Err-clause-answer : goal.returns-in-Err-clause-answer
+returns-in-Err-clause-answer g c =
     let i = c.loop-stream.invariant in
     let arrived = rw c.in-Message.is at c.in_ok-message.ensures.arrives in
-    let p = err_from_is_err_and c.from_residual-in_err-message-in-Message.result c.from_residual-in_err-message-in-Message.ensures.1 in
-    rw (p.1, p.2) (stream_refused _ _ _ _ _ _ _ _ _ _ i.taken.1 i.count c.loop-stream.stream i.taken.2 _ c.in_err-message-in-Message.field-0.0 arrived c.in_err-message-in-Message.ensures.exact)
+    stream_refused _ _ _ _ _ _ _ _ _ _ i.taken.1 i.count c.loop-stream.stream i.taken.2 _ c.in-Err.fault _ arrived c.in-Err.ensures.first c.in-Err.ensures.exact c.refusal_of.ensures
 
-pub loop-stream-preserved-in_ok-message-in-Message : goal.loop-stream-preserved-in_ok-message-in-Message
-loop-stream-preserved-in_ok-message-in-Message g c =
+pub loop-stream-preserved-in_default : goal.loop-stream-preserved-in_default
+loop-stream-preserved-in_default g c =
     let i = c.loop-stream.invariant in
     let arrived = rw c.in-Message.is at c.in_ok-message.ensures.arrives in
-    record { taken = (_, taken_more _ _ _ _ _ _ _ _ _ _ i.taken.1 i.count _ arrived, c.in_ok-message-in-Message.ensures.came _ i.taken.2); count = more_quiet _ _ _ _ _ _ _ _ _ _ i.taken.1 i.count _ arrived }
+    record { taken = (_, taken_more _ _ _ _ _ _ _ _ _ _ i.taken.1 i.count _ arrived, c.in_default.ensures.came _ i.taken.2); count = more_quiet _ _ _ _ _ _ _ _ _ _ i.taken.1 i.count _ arrived }
 
 pub loop-stream-preserved : goal.loop-stream-preserved
 loop-stream-preserved g c =
     let i = c.loop-stream.invariant in
     let arrived = rw c.in-Message.is at c.in_ok-message.ensures.arrives in
-    record { taken = (_, taken_more _ _ _ _ _ _ _ _ _ _ i.taken.1 i.count _ arrived, c.in_ok-message-in-Message.ensures.came _ i.taken.2); count = more_quiet _ _ _ _ _ _ _ _ _ _ i.taken.1 i.count _ arrived }
+    record { taken = (_, taken_more _ _ _ _ _ _ _ _ _ _ i.taken.1 i.count _ arrived, c.in_default.ensures.came _ i.taken.2); count = more_quiet _ _ _ _ _ _ _ _ _ _ i.taken.1 i.count _ arrived }
 
 pub returns-in-End-Ok-clause-answer : goal.returns-in-End-Ok-clause-answer
 returns-in-End-Ok-clause-answer g c =

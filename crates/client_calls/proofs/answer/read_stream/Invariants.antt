@@ -1,4 +1,4 @@
-use Rattle.std.proofs.Common.{◌≡◌, ◌≤◌, List}
+use Rattle.std.proofs.Common.{◌≡◌, List}
 use Rattle.grpc_frame.specs.Arrivals.{work_left}
 use Rattle.flight_info.specs.Payloads.{Payload}
 use Rattle.flight_client.specs.Stream.{Came}

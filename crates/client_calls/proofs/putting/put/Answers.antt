@@ -1,4 +1,5 @@
 use Rattle.std.proofs.lemmas.Result.{err_from_is_err_and}
+use Rattle.client_calls.specs.Commands.{ReadsCount}
 use Rattle.client_calls.proofs.Calling.{stopped_before, no_memory, call_reads, call_does_not_read, call_gives_none}
 use Rattle.client_calls.proofs.putting.put.Goals as goal
 
@@ -15,13 +16,13 @@ returns-in_err-payloads g c =
 pub returns-in_err-message : goal.returns-in_err-message
 returns-in_err-message g c =
     let p = err_from_is_err_and c.from_residual-in_err-message.result c.from_residual-in_err-message.ensures.1 in
-    rw (p.1, p.2) (call_gives_none _ _ _ _ _ _ _ (rw (c.deref.ensures.value, c.in_ok-payloads.ensures) at c.in_err-message.ensures))
+    rw (p.1, p.2) (call_gives_none ReadsCount _ _ _ _ _ (rw (c.deref.ensures.value, c.in_ok-payloads.ensures) at c.in_err-message.ensures))
 
 pub returns-in_err-read_count : goal.returns-in_err-read_count
 returns-in_err-read_count g c =
     let p = err_from_is_err_and c.from_residual-in_err-read_count.result c.from_residual-in_err-read_count.ensures.1 in
-    rw (p.1, p.2) (call_does_not_read _ _ _ _ _ _ _ _ (rw (c.deref.ensures.value, c.in_ok-payloads.ensures) at c.in_ok-message.ensures) (λ e. rw c.as_slice.ensures at c.in_err-read_count.ensures))
+    rw (p.1, p.2) (call_does_not_read ReadsCount _ _ _ _ _ _ (rw (c.deref.ensures.value, c.in_ok-payloads.ensures) at c.in_ok-message.ensures) (rw c.as_slice.ensures at c.in_err-read_count.ensures))
 
 pub returns : goal.returns
 returns g c =
-    call_reads _ _ _ _ _ _ _ _ (rw (c.deref.ensures.value, c.in_ok-payloads.ensures) at c.in_ok-message.ensures) (rw c.as_slice.ensures at c.in_ok-read_count.ensures)
+    call_reads ReadsCount _ _ _ _ _ _ (rw (c.deref.ensures.value, c.in_ok-payloads.ensures) at c.in_ok-message.ensures) (rw c.as_slice.ensures at c.in_ok-read_count.ensures)

@@ -1,4 +1,3 @@
-use Rattle.std.proofs.Common.{refl, take_all, rules}
 use Rattle.std.proofs.lemmas.Result.{err_from_is_err_and}
 use Rattle.client_commands.proofs.Listing.{batch_listed, batch_refused}
 use Rattle.client_commands.proofs.names.names_of.Goals as goal

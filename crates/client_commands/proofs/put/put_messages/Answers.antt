@@ -4,10 +4,10 @@ use Rattle.client_commands.proofs.put.put_messages.Goals as goal
 pub returns : goal.returns
 returns g c =
     inr (record {
-      line = c.in-Ok.connection;
-      opened = c.in-Ok.ensures;
+      ends = c.in-Ok.ensures.0;
+      given = c.in-Ok.ensures.1;
       result = c.put-counted.result;
       last = c.put-counted.new.connection;
-      made = c.put-counted.ensures;
+      made = rw c.in-Ok.ensures.2 at c.put-counted.ensures;
       tells = c.tell_count.ensures;
     })
