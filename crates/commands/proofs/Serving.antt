@@ -1,12 +1,12 @@
 -- Accepts, and connections that are served one behind the other.
 use native.Mathlib.Omega.{arith}
-use Rattle.std.proofs.Common.{◌≡◌, ◌<◌, ◌≤◌, ℕ, zero, suc, ◌+◌, ◌-◌, List, [], ◌∷◌, Option, Some, None, Result, Ok, Err, refl, sym, subst}
+use Rattle.std.proofs.Common.{◌≡◌, ◌<◌, ◌≤◌, ℕ, zero, suc, ◌+◌, ◌-◌, List, [], ◌∷◌, Option, Result, Ok, Err, ap, refl, subst}
 use Rattle.scan_base.specs.declared.fault.Fault.{Fault}
 use Rattle.scan_base.specs.declared.fault.Fault.TheVariants.{Transport}
 use Rattle.flight_calls.specs.declared.setting.Options.{Options}
 use Rattle.flight_calls.specs.Seats.{Moves, Seat}
 use Rattle.flight_calls.specs.Owed.{Connection, Serves, connection_of}
-use Rattle.command_ends.specs.Network.{Ends}
+use Rattle.command_ends.specs.Network.{Ends, ends_of}
 use Rattle.commands.specs.Serve.{Accept, Failed, Took, Server, ServesInTurn, ServesUpTo, server_of}
 use Rattle.commands.specs.inside.Accepting.{FailsSo, TakesNext, TakesNone}
 
@@ -41,31 +41,46 @@ none_served {L} accepts moves options most start result new rest =
     let same : most - 0 ≡ most = omega arith in
     subst (λ (n : ℕ). ServesRest accepts moves options n 100 result start new) same rest
 
+-- how many more connections are served behind the next one
+more_behind : (most served : ℕ) → served < most → suc (most - (served + 1)) ≡ most - served
+more_behind most served few = omega arith
+
+-- how many more accepts may fail, where so many did
+patience_behind : (failed : ℕ) → failed < 100 → suc (99 - failed) + failed ≡ 100
+patience_behind failed few = omega arith
+
+no_patience_behind : (failed : ℕ) → failed ≡ 100 → 0 + failed ≡ 100
+no_patience_behind failed all = omega arith
+
 -- one connection more
-pub one_more : {L : Type 0} (accepts : L → Option Ends → L → Type 0) (moves : Moves) (options : Options) (most served : ℕ) (start : Server L) (old new : L) (seat : Seat) (ends : Ends) (result : Result (Unit {0}) Fault) (last : Connection)
-    → served < most → ServedSo accepts moves options most served start (server_of old seat) → TakesNext accepts ends old new
-    → Serves moves options result (connection_of ends.input ends.output 0 0 seat) last
+pub one_more : {L : Type 0} (accepts : L → Option Ends → L → Type 0) (moves : Moves) (options : Options) (most served : ℕ) (start : Server L) (old new : L) (seat : Seat) (input output : Option (List ℕ)) (reads writes : ℕ) (result : Result (Unit {0}) Fault) (last : Connection)
+    → served < most → ServedSo accepts moves options most served start (server_of old seat)
+    → TakesNext accepts (ends_of input output) old new → reads ≡ 0 → writes ≡ 0
+    → Serves moves options result (connection_of input output reads writes seat) last
     → ServedSo accepts moves options most (served + 1) start (server_of new last.seat)
-one_more {L} accepts moves options most served start old new seat ends result last few so takes serves end final rest =
-    let left : suc (most - (served + 1)) ≡ most - served = omega arith in
-    let patience : suc (99 - takes.failed) + takes.failed ≡ 100 = let few = takes.few in omega arith in
-    let next : ServesRest accepts moves options (suc (most - (served + 1))) (suc (99 - takes.failed)) end (server_of takes.listener seat) final
-        = (Took new ends result last ∷ rest.0, (takes.took, serves, rest.1)) in
-    let all : ServesRest accepts moves options (suc (most - (served + 1))) (suc (99 - takes.failed) + takes.failed) end (server_of old seat) final
-        = failed_before accepts moves options (most - (served + 1)) takes.failed (suc (99 - takes.failed)) end old takes.listener seat final takes.passed next in
-    so end final (rw (← left, ← patience) all)
+one_more {L} accepts moves options most served start old new seat input output reads writes result last few so takes unread unwritten serves end final rest =
+    let more : ℕ = most - (served + 1) in
+    let first : Serves moves options result (connection_of input output 0 0 seat) last = rw (unread, unwritten) at serves in
+    let next : ServesRest accepts moves options (suc more) (suc (99 - takes.failed)) end (server_of takes.listener seat) final
+        = (Took new (ends_of input output) result last ∷ rest.0, (takes.took, first, rest.1)) in
+    let all : ServesRest accepts moves options (suc more) (suc (99 - takes.failed) + takes.failed) end (server_of old seat) final
+        = failed_before accepts moves options more takes.failed (suc (99 - takes.failed)) end old takes.listener seat final takes.passed next in
+    so end final
+    (subst (λ (n : ℕ). ServesRest accepts moves options n 100 end (server_of old seat) final) (more_behind most served few)
+    (subst (λ (n : ℕ). ServesRest accepts moves options (suc more) n end (server_of old seat) final) (patience_behind takes.failed takes.few) all))
 
 -- no connection more
-pub no_more : {L : Type 0} (accepts : L → Option Ends → L → Type 0) (moves : Moves) (options : Options) (most served : ℕ) (start : Server L) (old new : L) (seat : Seat)
-    → served < most → ServedSo accepts moves options most served start (server_of old seat) → TakesNone accepts old new
-    → ServesUpTo accepts moves options most (Err Transport) start (server_of new seat)
-no_more {L} accepts moves options most served start old new seat few so takes =
-    let left : suc (most - (served + 1)) ≡ most - served = omega arith in
-    let patience : 0 + takes.failed ≡ 100 = let all = takes.all in omega arith in
-    let none : ServesRest accepts moves options (suc (most - (served + 1))) 0 (Err Transport) (server_of new seat) (server_of new seat) = ([], (refl, refl)) in
-    let all : ServesRest accepts moves options (suc (most - (served + 1))) (0 + takes.failed) (Err Transport) (server_of old seat) (server_of new seat)
-        = failed_before accepts moves options (most - (served + 1)) takes.failed 0 (Err Transport) old new seat (server_of new seat) takes.passed none in
-    so (Err Transport) (server_of new seat) (rw (← left, ← patience) all)
+pub no_more : {L : Type 0} (accepts : L → Option Ends → L → Type 0) (moves : Moves) (options : Options) (most served : ℕ) (start : Server L) (old new : L) (seat : Seat) (fault : Fault)
+    → served < most → ServedSo accepts moves options most served start (server_of old seat) → TakesNone accepts old new → fault ≡ Transport
+    → ServesUpTo accepts moves options most (Err fault) start (server_of new seat)
+no_more {L} accepts moves options most served start old new seat fault few so takes kind =
+    let more : ℕ = most - (served + 1) in
+    let none : ServesRest accepts moves options (suc more) 0 (Err fault) (server_of new seat) (server_of new seat) = ([], (ap Err kind, refl)) in
+    let all : ServesRest accepts moves options (suc more) (0 + takes.failed) (Err fault) (server_of old seat) (server_of new seat)
+        = failed_before accepts moves options more takes.failed 0 (Err fault) old new seat (server_of new seat) takes.passed none in
+    so (Err fault) (server_of new seat)
+    (subst (λ (n : ℕ). ServesRest accepts moves options n 100 (Err fault) (server_of old seat) (server_of new seat)) (more_behind most served few)
+    (subst (λ (n : ℕ). ServesRest accepts moves options (suc more) n (Err fault) (server_of old seat) (server_of new seat)) (no_patience_behind takes.failed takes.all) all))
 
 -- as many as are asked for
 pub all_served : {L : Type 0} (accepts : L → Option Ends → L → Type 0) (moves : Moves) (options : Options) (most served : ℕ) (start now : Server L)

@@ -35,7 +35,7 @@ pub fn serve<L: Listen, W: Output, E: Output>(
 ) -> ExitStatus
     requires writes { W.failures output.old < 18446744073709551615 }
     requires prints { E.failures faults.old < 18446744073709551615 }
-    ensures { Listens L.accepts (λ port heard. L.listens network.old serving.port port heard)
+    ensures { Listens L.accepts (L.listens network.old serving.port)
         (record { parts = serving.parts; workers = serving.workers }) (most_of serving.accept) result network.new
         (said_of (W.contents output.old) (W.failures output.old))
         (said_of (W.contents output.new) (W.failures output.new))

@@ -8,8 +8,10 @@ loop-init g c = none_served g.L.Listen.accepts g.B.Backend.moves c.args.options 
 
 pub returns-in_err-reader : goal.returns-in_err-reader
 returns-in_err-reader g c =
-    no_more g.L.Listen.accepts g.B.Backend.moves c.args.options c.args.most c.loop.counter _ _ _ _ (search rules) c.loop.invariant (search rules)
+    let p = err_from_is_err_and c.from_residual.result c.from_residual.ensures.1 in
+    rw (p.1, p.2)
+    (no_more g.L.Listen.accepts g.B.Backend.moves c.args.options c.args.most c.loop.counter _ _ _ _ _ (search rules) c.loop.invariant c.in_err-reader.ensures.none c.in_err-reader.ensures.kind)
 
 pub loop-preserved : goal.loop-preserved
 loop-preserved g c =
-    one_more g.L.Listen.accepts g.B.Backend.moves c.args.options c.args.most c.loop.counter _ _ _ _ _ _ _ (search rules) c.loop.invariant (search rules) c.serve.ensures
+    one_more g.L.Listen.accepts g.B.Backend.moves c.args.options c.args.most c.loop.counter _ _ _ _ _ _ _ _ _ _ (search rules) c.loop.invariant c.in_ok-reader.ensures.taken c.in_ok-reader.ensures.reads c.in_ok-reader.ensures.writes c.serve.ensures
