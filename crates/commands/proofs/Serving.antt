@@ -25,7 +25,7 @@ failed_before {L} accepts moves options more zero patience result old middle sea
     (subst (λ (l : L). ServesRest accepts moves options (suc more) patience result (server_of l seat) new) passed rest)
 failed_before {L} accepts moves options more (suc failed) patience result old middle seat new passed rest =
     let before : ServesRest accepts moves options (suc more) (suc patience + failed) result (server_of old seat) new
-        = failed_before accepts moves options more failed (suc patience) result old passed.0 seat new passed.1 (Failed middle ∷ rest.0, (passed.2, rest.1)) in
+    = failed_before accepts moves options more failed (suc patience) result old passed.0 seat new passed.1 (Failed middle ∷ rest.0, (passed.2, rest.1)) in
     let same : suc patience + failed ≡ patience + suc failed = omega arith in
     subst (λ (n : ℕ). ServesRest accepts moves options (suc more) n result (server_of old seat) new) same before
 
@@ -62,9 +62,9 @@ one_more {L} accepts moves options most served start old new seat input output r
     let more : ℕ = most - (served + 1) in
     let first : Serves moves options result (connection_of input output 0 0 seat) last = rw (unread, unwritten) at serves in
     let next : ServesRest accepts moves options (suc more) (suc (99 - takes.failed)) end (server_of takes.listener seat) final
-        = (Took new (ends_of input output) result last ∷ rest.0, (takes.took, first, rest.1)) in
+    = (Took new (ends_of input output) result last ∷ rest.0, (takes.took, first, rest.1)) in
     let all : ServesRest accepts moves options (suc more) (suc (99 - takes.failed) + takes.failed) end (server_of old seat) final
-        = failed_before accepts moves options more takes.failed (suc (99 - takes.failed)) end old takes.listener seat final takes.passed next in
+    = failed_before accepts moves options more takes.failed (suc (99 - takes.failed)) end old takes.listener seat final takes.passed next in
     so end final
     (subst (λ (n : ℕ). ServesRest accepts moves options n 100 end (server_of old seat) final) (more_behind most served few)
     (subst (λ (n : ℕ). ServesRest accepts moves options (suc more) n end (server_of old seat) final) (patience_behind takes.failed takes.few) all))
@@ -77,7 +77,7 @@ no_more {L} accepts moves options most served start old new seat fault few so ta
     let more : ℕ = most - (served + 1) in
     let none : ServesRest accepts moves options (suc more) 0 (Err fault) (server_of new seat) (server_of new seat) = ([], (ap Err kind, refl)) in
     let all : ServesRest accepts moves options (suc more) (0 + takes.failed) (Err fault) (server_of old seat) (server_of new seat)
-        = failed_before accepts moves options more takes.failed 0 (Err fault) old new seat (server_of new seat) takes.passed none in
+    = failed_before accepts moves options more takes.failed 0 (Err fault) old new seat (server_of new seat) takes.passed none in
     so (Err fault) (server_of new seat)
     (subst (λ (n : ℕ). ServesRest accepts moves options n 100 (Err fault) (server_of old seat) (server_of new seat)) (more_behind most served few)
     (subst (λ (n : ℕ). ServesRest accepts moves options (suc more) n (Err fault) (server_of old seat) (server_of new seat)) (no_patience_behind takes.failed takes.all) all))
