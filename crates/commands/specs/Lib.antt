@@ -1,3 +1,4 @@
 pub mod Pipe
 pub mod Serve
 pub mod Words
+pub mod inside

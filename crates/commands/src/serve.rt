@@ -1,10 +1,12 @@
 //! `flightscan serve`: connections to a port, one behind the other.
 
-ghost use Rattle.std.specs.Prelude.{◌≡◌, ◌<◌, ℕ, List, IfOk};
+ghost use Rattle.std.specs.Prelude.{◌≡◌, ◌<◌, ℕ, List, IfErr, IfOk};
 ghost use Rattle.grpc_frame.specs.Ends.{FailsByTransport};
+ghost use Rattle.command_ends.specs.Network.{ends_of};
 ghost use Rattle.command_ends.specs.Printing.{Prints, cause_lines, said_of};
 ghost use Rattle.command_ends.specs.declared.exit_status.ExitStatus.TheVariants.{FaultAtThisEnd};
-ghost use Rattle.commands.specs.Serve.{EndsBehind, Listens, Served, ServesInTurn, ServesPort, most_of};
+ghost use Rattle.commands.specs.Serve.{Listens, ServesPort, ServesUpTo, most_of, server_of};
+ghost use Rattle.commands.specs.inside.Accepting.{TakesNext, TakesNone};
 
 use command_ends::{ExitStatus, Listen, end_by_cause, end_by_fault, print_listening};
 use command_line::Serving;
@@ -33,8 +35,8 @@ pub fn serve<L: Listen, W: Output, E: Output>(
 ) -> ExitStatus
     requires writes { W.failures output.old < 18446744073709551615 }
     requires prints { E.failures faults.old < 18446744073709551615 }
-    ensures { Listens (λ port. (heard : L) × L.listens network.old serving.port port heard)
-        (record { parts = serving.parts; workers = serving.workers }) (most_of serving.accept) result
+    ensures { Listens L.accepts (L.listens network.old serving.port)
+        (record { parts = serving.parts; workers = serving.workers }) (most_of serving.accept) result network.new
         (said_of (W.contents output.old) (W.failures output.old))
         (said_of (W.contents output.new) (W.failures output.new))
         (said_of (E.contents faults.old) (E.failures faults.old))
@@ -73,8 +75,8 @@ fn serve_port<L: Listen, W: Output>(
     serving: Serving,
 ) -> Result<(), Fault>
     requires { W.failures output.old < 18446744073709551615 }
-    ensures { ServesPort (record { parts = serving.parts; workers = serving.workers })
-        (most_of serving.accept) serving.port result
+    ensures { ServesPort L.accepts (record { parts = serving.parts; workers = serving.workers })
+        (most_of serving.accept) serving.port result network.old network.new
         (said_of (W.contents output.old) (W.failures output.old))
         (said_of (W.contents output.new) (W.failures output.new)) }
 {
@@ -103,9 +105,8 @@ pub fn serve_in_turn<L: Listen, B: Backend>(
     options: Options,
     most: u64,
 ) -> Result<(), Fault>
-    ensures { (served : List Served)
-        × ServesInTurn B.moves options served (B.seat backend.old) (B.seat backend.new)
-        × EndsBehind most result served }
+    ensures { ServesUpTo L.accepts B.moves options most result
+        (server_of network.old (B.seat backend.old)) (server_of network.new (B.seat backend.new)) }
 {
     for _ in 0..most {
         let (mut reader, mut writer) = accept_next(network)?;
@@ -116,6 +117,9 @@ pub fn serve_in_turn<L: Listen, B: Backend>(
 
 // The next connection. Accepts that fail are passed over.
 fn accept_next<L: Listen>(network: &mut L) -> Result<(L::Reader, L::Writer), Fault>
+    ensures taken { IfOk result (λ ends. TakesNext L.accepts
+        (ends_of (L.Reader.remaining ends.0) (L.Writer.contents ends.1)) network.old network.new) }
+    ensures none { IfErr result (λ _. TakesNone L.accepts network.old network.new) }
     ensures reads { IfOk result (λ ends. L.Reader.failures ends.0 ≡ 0) }
     ensures writes { IfOk result (λ ends. L.Writer.failures ends.1 ≡ 0) }
     ensures kind { FailsByTransport result }
