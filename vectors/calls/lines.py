@@ -45,10 +45,10 @@ def name_of(records):
     return NAMED[records]
 
 
-def pipe(options, *calls, status=0, printed=""):
-    """A connection: of each call its kind, its records and its answer."""
+def pipe(options, *calls, status=0, printed="", way="pipe"):
+    """A connection: of each call its kind, its records and its answer. By the way `bytewise` it comes in single bytes."""
     named = [f"{kind}:{name_of(records)}" for kind, records, _ in calls]
-    LINES.append(f"pipe {options} | {' '.join(named)}")
+    LINES.append(f"{way} {options} | {' '.join(named)}")
     ANSWERS.extend(answer for _, _, answer in calls)
     ANSWERS.append(f"ends {status} {len(printed)}")
 

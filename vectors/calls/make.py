@@ -39,13 +39,20 @@ note("an info in two parts, an append and a replacement, and then both fetches, 
 FRONT, BACK = query_handle(1, 0, 2, ALL), query_handle(1, 2, 5, ALL)
 OTHER = put(b"t", REPLACE, [("b", UTF8)], words("x"), rows=1)
 LATER = info(PAYLOAD, "b Utf8 or null;", [query_handle(3, 0, 1, ALL)])
-pipe("--parts 2", ONE_TO_FIVE, info(PAYLOAD, A, [FRONT, BACK]), put(b"t", APPEND, COLUMN_A, numbers(6, 7), rows=2), OTHER, LATER,
-     fetch(BACK, A, *whole_numbers(3, 4, 5)), fetch(FRONT, A, *whole_numbers(1, 2)), fetch(query_handle(3, 0, 1, ALL), "b Utf8 or null;", 'Text("x"),'))
+KEPT = (ONE_TO_FIVE, info(PAYLOAD, A, [FRONT, BACK]), put(b"t", APPEND, COLUMN_A, numbers(6, 7), rows=2), OTHER, LATER,
+        fetch(BACK, A, *whole_numbers(3, 4, 5)), fetch(FRONT, A, *whole_numbers(1, 2)),
+        fetch(query_handle(3, 0, 1, ALL), "b Utf8 or null;", 'Text("x"),'))
+pipe("--parts 2", *KEPT)
 SOME = b"SELECT a FROM t AS x WHERE x.a > 1"
 pipe("--parts 3", ONE_TO_FIVE, schema(of_query(SOME), A),
      info(of_query(SOME), A, [query_handle(1, first, end, SOME) for first, end in ((0, 1), (1, 3), (3, 5))]),
      fetch(query_handle(1, 3, 5, SOME), A, *whole_numbers(4, 5)), fetch(query_handle(1, 0, 1, SOME), A),
      fetch(query_handle(1, 1, 3, SOME), A, *whole_numbers(2, 3)))
+
+note("the same calls in one piece and in single bytes; and behind them a put that ends inside its last message")
+CUT = "hex", put(b"t", REPLACE, COLUMN_A, numbers(1), rows=1)[1][:-9], "no answer"
+for way in ("pipe", "bytewise"):
+    pipe("--parts 2", *KEPT, CUT, status=3, printed="fault: F22 Transport\n", way=way)
 
 note("a version that is not reached, and a name of 65 bytes")
 MORE = put(b"t", APPEND, COLUMN_A, numbers(6), rows=1)

@@ -93,12 +93,12 @@ impl Cases {
         Ok(input)
     }
 
-    // The answers, and how the program ends.
-    fn piped(&self, alloc: Global, case: &str) -> Result<String, Fault> {
+    // The answers, and how the program ends. At most so many bytes come at once.
+    fn piped(&self, alloc: Global, case: &str, most: usize) -> Result<String, Fault> {
         let (options, calls) = halves(case, " | ");
         let input = self.input(alloc, calls)?;
         let words = words(alloc, options)?;
-        let mut reader = MemoryInput::new(&input);
+        let mut reader = MemoryInput::new(&input).in_pieces_of(most);
         let mut writer = MemoryOutput::new(alloc);
         let mut faults = MemoryOutput::new(alloc);
         let Ok(Request::Pipe { parts, workers }) = read_words(alloc, &words, &mut faults) else {
@@ -136,7 +136,8 @@ impl Cases {
                 self.keep(alloc, case)?;
                 Ok(None)
             }
-            "pipe" => Ok(Some(self.piped(alloc, case)?)),
+            "pipe" => Ok(Some(self.piped(alloc, case, 65_536)?)),
+            "bytewise" => Ok(Some(self.piped(alloc, case, 1)?)),
             _ => Ok(Some(String::from_str(alloc, line)?)),
         }
     }

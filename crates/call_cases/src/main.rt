@@ -4,8 +4,8 @@
 //! or `N*DIGITS`. `pipe OPTIONS | KIND:NAME KIND:NAME ..` gives them to one `pipe` with these options, and prints a line for
 //! each answer and one for the end: of an answer its status, and what its messages say, which for the KIND `info` is a
 //! FlightInfo, for `schema` a SchemaResult, for `rows` FlightData, for `bodies` the bodies of FlightData, and else bytes; of the
-//! end the exit status and what was printed. Any other line is printed as it is. `vectors/calls/make.py` writes the cases, and
-//! what has to be printed.
+//! end the exit status and how long what was printed is. `bytewise` is `pipe` whose input comes in single bytes. Any other line
+//! is printed as it is. `vectors/calls/make.py` writes the cases, and what has to be printed.
 #![tactic(auto)]
 
 mod answers;

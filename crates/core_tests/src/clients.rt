@@ -77,18 +77,19 @@ impl<R: Net<Listener = TcpListener, Stream = TcpStream>> Listen for Bound<'_, R>
     }
 }
 
-// Serves four connections, and gives the exit status and what is printed.
+// Serves so many connections, and gives the exit status and what is printed.
 fn served<R: Net<Listener = TcpListener, Stream = TcpStream>>(
     alloc: Global,
     seed: HashSeed,
     mut bound: Bound<'_, R>,
+    accept: u16,
 ) -> (u8, MemoryOutput, MemoryOutput) {
     let mut output = MemoryOutput::new(alloc);
     let mut faults = MemoryOutput::new(alloc);
     let serving = Serving {
         port: 0,
         seats: 1,
-        accept: 4,
+        accept,
         parts: 2,
         workers: 1,
     };
@@ -96,42 +97,57 @@ fn served<R: Net<Listener = TcpListener, Stream = TcpStream>>(
     (status, output, faults)
 }
 
-// The exit statuses of a put, a list of the tables, a query and a query whose output is closed; what the first three print,
-// and what the last one says.
-fn asked<R: Net<Listener = TcpListener, Stream = TcpStream>>(
-    rt: &R,
+// Puts the stream, and gives the exit status.
+fn put_stream<R: Net<Listener = TcpListener, Stream = TcpStream>>(
+    network: &mut Loopback<'_, R>,
     alloc: Global,
     port: u16,
-) -> ([u8; 4], MemoryOutput, MemoryOutput) {
-    let mut network = Loopback::new(rt);
+    output: &mut MemoryOutput,
+) -> u8 {
     let mut input = MemoryInput::new(STREAM);
-    let mut output = MemoryOutput::new(alloc);
-    let mut closed = MemoryOutput::new(alloc).failing_after(0);
     let mut faults = MemoryOutput::new(alloc);
     let target = Target {
         table: "t",
         mode: Mode::Create,
     };
     let putting = Putting { port, target };
+    put(alloc, network, &mut input, output, &mut faults, putting).number()
+}
+
+// The exit statuses of a put, a list of the tables and a query, and what they print.
+fn asked<R: Net<Listener = TcpListener, Stream = TcpStream>>(
+    rt: &R,
+    alloc: Global,
+    port: u16,
+) -> ([u8; 3], MemoryOutput) {
+    let mut network = Loopback::new(rt);
+    let mut output = MemoryOutput::new(alloc);
+    let mut faults = MemoryOutput::new(alloc);
     let grouped = Querying { port, sql: GROUPED };
-    let put = put(
-        alloc,
-        &mut network,
-        &mut input,
-        &mut output,
-        &mut faults,
-        putting,
-    )
-    .number();
+    let put = put_stream(&mut network, alloc, port, &mut output);
     let listed = tables(alloc, &mut network, &mut output, &mut faults, port).number();
     let queried = query(alloc, &mut network, &mut output, &mut faults, grouped).number();
-    let mut said = MemoryOutput::new(alloc);
-    let refused = query(alloc, &mut network, &mut closed, &mut said, grouped).number();
-    ([put, listed, queried, refused], output, said)
+    ([put, listed, queried], output)
+}
+
+// The exit statuses of a put, and of a query whose output is closed; and what that says.
+fn refused<R: Net<Listener = TcpListener, Stream = TcpStream>>(
+    rt: &R,
+    alloc: Global,
+    port: u16,
+) -> ([u8; 2], MemoryOutput) {
+    let mut network = Loopback::new(rt);
+    let mut output = MemoryOutput::new(alloc);
+    let mut closed = MemoryOutput::new(alloc).failing_after(0);
+    let mut faults = MemoryOutput::new(alloc);
+    let grouped = Querying { port, sql: GROUPED };
+    let put = put_stream(&mut network, alloc, port, &mut output);
+    let queried = query(alloc, &mut network, &mut closed, &mut faults, grouped).number();
+    ([put, queried], faults)
 }
 
 #[test]
-fn four_commands(rt: HostRuntime) -> Result<(), Fail> {
+fn three_commands(rt: HostRuntime) -> Result<(), Fail> {
     let runtime = &rt;
     let alloc = runtime.alloc();
     let seed = HashSeed::new(runtime)?;
@@ -140,21 +156,39 @@ fn four_commands(rt: HostRuntime) -> Result<(), Fail> {
     let bound = Bound { port, number };
     let (server, client) = thread::join(
         runtime,
-        move || served(alloc, seed, bound),
+        move || served(alloc, seed, bound, 3),
         || asked(runtime, alloc, number),
     );
     assert!(rt; server.0 == 0);
     let listening = format!(in alloc; "listening 127.0.0.1:{number}\n")?;
     assert!(rt; server.1.as_slice() == listening.as_bytes());
     assert!(rt; server.2.as_slice() == NOTHING);
-    assert!(rt; client.0 == [0, 0, 0, 3]);
+    assert!(rt; client.0 == [0, 0, 0]);
     let (counted, lines) = client
         .1
         .as_slice()
         .split_at(9.min(client.1.as_slice().len()));
     assert!(rt; counted == b"5 rows\nt\n".as_slice());
     assert!(rt; lines == GROUPS);
-    assert!(rt; client.2.as_slice() == TRANSPORT_LINE);
+    Ok(())
+}
+
+#[test]
+fn closed_output(rt: HostRuntime) -> Result<(), Fail> {
+    let runtime = &rt;
+    let alloc = runtime.alloc();
+    let seed = HashSeed::new(runtime)?;
+    let mut port = Port::new(runtime);
+    let number = port.listen(0)?;
+    let bound = Bound { port, number };
+    let (server, client) = thread::join(
+        runtime,
+        move || served(alloc, seed, bound, 2),
+        || refused(runtime, alloc, number),
+    );
+    assert!(rt; server.0 == 0);
+    assert!(rt; client.0 == [0, 3]);
+    assert!(rt; client.1.as_slice() == TRANSPORT_LINE);
     Ok(())
 }
 
