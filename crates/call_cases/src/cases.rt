@@ -1,5 +1,7 @@
 //! Cases, line by line.
 
+ghost use Rattle.std.specs.Prelude.{◌<◌};
+
 use crate::answers::push_answer;
 use command_line::Request;
 use commands::pipe::pipe;
@@ -94,7 +96,9 @@ impl Cases {
     }
 
     // The answers, and how the program ends. At most so many bytes come at once.
-    fn piped(&self, alloc: Global, case: &str, most: usize) -> Result<String, Fault> {
+    fn piped(&self, alloc: Global, case: &str, most: usize) -> Result<String, Fault>
+        requires { 0 < most }
+    {
         let (options, calls) = halves(case, " | ");
         let input = self.input(alloc, calls)?;
         let words = words(alloc, options)?;
