@@ -4,6 +4,8 @@
 #[cfg(test)]
 mod alone;
 #[cfg(test)]
+mod index;
+#[cfg(test)]
 mod rows;
 #[cfg(test)]
 mod several;
