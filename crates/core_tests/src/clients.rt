@@ -15,11 +15,12 @@ use loopback::{Loopback, Port};
 use std::alloc::Global;
 use std::net::{Net, TcpListener, TcpStream};
 use std::test::Fail;
+use std::thread::Threads;
 use std::{io, thread};
 
 // An Arrow IPC stream of one nullable column `s` of texts: 'b', NULL, 'a', NULL, 'b'. Its headers are laid out by
 // vectors/arrow/layout.py.
-const STREAM: &[u8] =
+pub(crate) const STREAM: &[u8] =
     b"\xff\xff\xff\xff\x00\x01\x00\x00\x88\x00\x00\x00\x00\x00\x00\x00\xee\xee\xee\xee\xee\xee\xee\xee\
     \x14\x00\x0c\x00\x0a\x00\x08\x00\x04\x00\x00\x00\x00\x00\x00\x00\x00\x00\x00\x00\xee\xee\xee\xee\
     \xee\xee\xee\xee\xee\xee\xee\xee\x12\x00\x08\x00\x00\x00\x04\x00\x00\x00\x00\x00\x00\x00\x00\x00\
@@ -100,7 +101,7 @@ fn served<R: Net<Listener = TcpListener, Stream = TcpStream>>(
 
 // The exit statuses of a put, a list of the tables, a query and a query whose output is closed; what the first three print,
 // and what the last one says.
-fn asked<R: Net<Listener = TcpListener, Stream = TcpStream>>(
+fn asked<R: Net<Listener = TcpListener, Stream = TcpStream> + Threads>(
     rt: &R,
     alloc: Global,
     port: u16,
@@ -115,7 +116,11 @@ fn asked<R: Net<Listener = TcpListener, Stream = TcpStream>>(
         mode: Mode::Create,
     };
     let putting = Putting { port, target };
-    let grouped = Querying { port, sql: GROUPED };
+    let grouped = Querying {
+        port,
+        streams: 2,
+        sql: GROUPED,
+    };
     let put = put(
         alloc,
         &mut network,
@@ -126,9 +131,9 @@ fn asked<R: Net<Listener = TcpListener, Stream = TcpStream>>(
     )
     .number();
     let listed = tables(alloc, &mut network, &mut output, &mut faults, port).number();
-    let queried = query(alloc, &mut network, &mut output, &mut faults, grouped).number();
+    let queried = query(rt, alloc, &mut network, &mut output, &mut faults, grouped).number();
     let mut said = MemoryOutput::new(alloc);
-    let refused = query(alloc, &mut network, &mut closed, &mut said, grouped).number();
+    let refused = query(rt, alloc, &mut network, &mut closed, &mut said, grouped).number();
     ([put, listed, queried, refused], output, said)
 }
 
