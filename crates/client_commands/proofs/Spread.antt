@@ -1,8 +1,8 @@
 -- Streams that are fetched side by side.
-use Rattle.std.proofs.Common.{◌≡◌, ℕ, ◌<◌, List, [], ◌∷◌, ◌++◌, All, map, Option, Some, Result, Ok, Err, refl, subst, sym, ap, ◌∙◌, inl, inr}
+use Rattle.std.proofs.Common.{◌≡◌, ℕ, ◌+◌, ◌<◌, arith, length, List, [], ◌∷◌, ◌++◌, All, map, Option, Some, Result, Ok, Err, refl, subst, sym, ap, ◌∙◌, inl, inr}
 use Rattle.std.specs.Prelude.{MatchResult}
 use Rattle.std.specs.List.{flat_map}
-use Rattle.std.proofs.lemmas.List.{map-append, append-nil, append_assoc}
+use Rattle.std.proofs.lemmas.List.{map-append, append-nil, append_assoc, length-append}
 use Rattle.std.proofs.lemmas.List.Elements.{All-append, All-cons, All-from_recursion}
 use Rattle.std.proofs.lemmas.Grind.{flat_map-append}
 use Rattle.scan_base.specs.declared.fault.Fault.{Fault}
@@ -21,16 +21,16 @@ use Rattle.client_commands.specs.Lines.{CanCount, opened_line}
 use Rattle.client_commands.specs.inside.Parts.{BothGive}
 use Rattle.client_commands.specs.Spread.{Run, IsRun, FetchesOver, StopsOver, FailsOver, GivesEach}
 
-run_of : List EndpointSaid → List StreamAt → Line → Line → Run
+abbrev run_of : List EndpointSaid → List StreamAt → Line → Line → Run
 run_of endpoints streams old new = record { endpoints = endpoints; streams = streams; old = old; new = new }
 
-began : Run → Line
+abbrev began : Run → Line
 began run = run.old
 
-asked : Run → List EndpointSaid
+abbrev asked : Run → List EndpointSaid
 asked run = run.endpoints
 
-gave : Run → List StreamAt
+abbrev gave : Run → List StreamAt
 gave run = run.streams
 
 -- ---- over one connection
@@ -59,6 +59,20 @@ one_stops line last endpoints failure stops = inl (record {
   last = last;
   stops = stops;
 })
+
+module _ {V : Type 0} (items : V → List StreamAt) (line : Line) (endpoints : List EndpointSaid) where
+  -- a connection that is closed is not seen any more
+  pub closed : (new : Line) (result : Result V Failure)
+      → MatchResult result (λ s. FetchesEach endpoints (items s) line new) (λ f. FetchStops endpoints f line new)
+      → MatchResult result (λ s. (last : Line) × FetchesEach endpoints (items s) line last) (λ f. (last : Line) × FetchStops endpoints f line last)
+  closed new (Ok s) fetched = (new, fetched)
+  closed new (Err f) stops = (new, stops)
+
+  pub alone : (result : Result V Failure)
+      → MatchResult result (λ s. (last : Line) × FetchesEach endpoints (items s) line last) (λ f. (last : Line) × FetchStops endpoints f line last)
+      → MatchResult result (λ s. FetchesOver (line ∷ []) endpoints (items s)) (λ f. FailsOver (line ∷ []) endpoints f)
+  alone (Ok s) fetched = one_fetched line fetched.0 endpoints (items s) fetched.1
+  alone (Err f) stops = one_stops line stops.0 endpoints f stops.1
 
 -- ---- over one connection more
 
@@ -115,6 +129,9 @@ pub gives_more : {N : Type 0} (Gives : N → Option Ends → N → Type 0) (made
     → GivesEach Gives made old middle → Gives middle (Some ends) new → GivesEach Gives (made ++ ends ∷ []) old new
 gives_more {N} Gives [] ends old middle new same one = (new, subst (λ (from : N). Gives from (Some ends) new) same one, refl)
 gives_more Gives (e ∷ es) ends old middle new given one = (given.0, given.1, gives_more Gives es ends given.0 middle new given.2 one)
+
+pub one_more : (made : List Ends) (ends : Ends) (n : ℕ) → length made ≡ n → length (made ++ ends ∷ []) ≡ n + 1
+one_more made ends n is = omega (arith, length-append made (ends ∷ []), is)
 
 -- no call of a connection has failed that was opened
 pub opened_count : (made : List Ends) → All CanCount (map opened_line made)

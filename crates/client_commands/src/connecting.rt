@@ -50,10 +50,10 @@ pub(crate) fn open_more<C: Connect>(
 {
     let mut connections = Vec::with_capacity(alloc, most)?;
     for _made in 0..most {
-        let Ok(connection) = open(alloc, network, port) else {
-            return Ok(connections);
-        };
-        connections.push_reserved(connection);
+        match open(alloc, network, port) {
+            Ok(connection) => connections.push_reserved(connection),
+            Err(_) => return Ok(connections),
+        }
     }
     Ok(connections)
 }

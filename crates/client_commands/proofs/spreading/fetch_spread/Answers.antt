@@ -1,9 +1,11 @@
-use Rattle.std.proofs.Common.{◌≡◌, ◌-◌, ℕ, List, ◌∷◌, Vec, inl, inr, map, min, length, refl, subst, sym, ap, ◌∙◌}
+use Rattle.std.proofs.Common.{◌≡◌, ◌-◌, ℕ, List, ◌∷◌, Vec, inl, inr, map, min, length, refl, sym, rules}
 use Rattle.std.specs.Global.{Global}
 use Rattle.std.proofs.lemmas.Result.{err_from_is_err_and}
+use Rattle.std.proofs.lemmas.List.{length-map}
 use Rattle.flight_proto.specs.FlightInfo.{EndpointSaid, endpoint_said}
 use Rattle.flight_proto.specs.Wanted.{rows_of}
 use Rattle.flight_proto.specs.declared.flight_info.FlightEndpoint.{FlightEndpoint}
+use Rattle.client_commands.specs.Spread.{most_others}
 use Rattle.client_commands.proofs.Fetched.{asked, not_asked}
 use Rattle.client_commands.proofs.spreading.fetch_spread.Goals as goal
 
@@ -26,4 +28,38 @@ returns-in_err-others g c =
       asked = asked seen (rows_of c.args.query.sql.now) c.args.connection c.info.new.connection c.in_ok-endpoints.endpoints c.in_ok-endpoints.ensures;
       others = c.in_err-others.ensures.0;
       why = inl (c.in_err-others.ensures.1, refl);
+    }))
+
+pub returns-in_err-streams : goal.returns-in_err-streams
+returns-in_err-streams g c =
+    let p = err_from_is_err_and c.from_residual-in_err-streams.result c.from_residual-in_err-streams.ensures.1 in
+    let o = c.in_ok-others.ensures in
+    let count : c.saturating_sub.result ≡ most_others c.args.query.streams (seen c.in_ok-endpoints.endpoints) =
+        rw (length-map endpoint_said c.in_ok-endpoints.endpoints.items) (search rules) in
+    rw (p.1, p.2)
+    (c.info.new.connection, inr (record {
+      endpoints = seen c.in_ok-endpoints.endpoints;
+      asked = asked seen (rows_of c.args.query.sql.now) c.args.connection c.info.new.connection c.in_ok-endpoints.endpoints c.in_ok-endpoints.ensures;
+      others = o.0;
+      why = inr (rw count at o.1, inl (rw (c.deref.ensures.value, o.2) at c.in_err-streams.ensures));
+    }))
+
+pub returns-in_err-join : goal.returns-in_err-join
+returns-in_err-join g c =
+    let p = err_from_is_err_and c.from_residual-in_err-join.result c.from_residual-in_err-join.ensures.1 in
+    let o = c.in_ok-others.ensures in
+    let count : c.saturating_sub.result ≡ most_others c.args.query.streams (seen c.in_ok-endpoints.endpoints) =
+        rw (length-map endpoint_said c.in_ok-endpoints.endpoints.items) (search rules) in
+    rw (p.1, p.2)
+    (c.info.new.connection, inr (record {
+      endpoints = seen c.in_ok-endpoints.endpoints;
+      asked = asked seen (rows_of c.args.query.sql.now) c.args.connection c.info.new.connection c.in_ok-endpoints.endpoints c.in_ok-endpoints.ensures;
+      others = o.0;
+      why = inr (rw count at o.1, inr (record {
+        streams = c.in_ok-streams.streams.items;
+        fetched = rw (c.deref.ensures.value, o.2) at c.in_ok-streams.ensures;
+        fault = _;
+        failure_is = refl;
+        refused = c.in_err-join.ensures.exact;
+      }));
     }))
