@@ -26,7 +26,7 @@ returns g t c =
     c.join-behind.ensures.second c.join-behind.ensures.first c.both_parts.ensures
 
 pub join-behind-requires-after_bounds : goal.join-behind-requires-after_bounds
-join-behind-requires-after_bounds g t c κs =
+join-behind-requires-after_bounds g t c κs within =
     let both = All-pop CanCount c.args.others.items c.pop.new.self.items c.pop.result c.pop.ensures.items c.requires.1 in
     let last : CanCount c.in-Some.last = rw c.in-Some.is at both.1 in
     (last, (search rules, (search rules, (c.requires.0, both.0))))

@@ -7,6 +7,7 @@ use Rattle.flight_proto.specs.Wanted.{rows_of}
 use Rattle.flight_proto.specs.declared.flight_info.FlightEndpoint.{FlightEndpoint}
 use Rattle.client_commands.specs.Spread.{most_others}
 use Rattle.client_commands.proofs.Fetched.{asked, not_asked}
+use Rattle.client_commands.proofs.Spread.{asked_counts, opened_count}
 use Rattle.client_commands.proofs.spreading.fetch_spread.Goals as goal
 
 -- the endpoints, as plain data
@@ -63,3 +64,11 @@ returns-in_err-join g c =
         refused = c.in_err-join.ensures.exact;
       }));
     }))
+
+pub fetch_over-requires-after_bounds : goal.fetch_over-requires-after_bounds
+fetch_over-requires-after_bounds g c κs within =
+    let wanted = rows_of c.args.query.sql.now in
+    let found = asked seen wanted c.args.connection c.info.new.connection c.in_ok-endpoints.endpoints c.in_ok-endpoints.ensures in (
+      asked_counts wanted (seen c.in_ok-endpoints.endpoints) c.args.connection c.info.new.connection found c.requires,
+      rw c.in_ok-others.ensures.2 (opened_count c.in_ok-others.ensures.0),
+    )
