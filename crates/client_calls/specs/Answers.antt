@@ -58,8 +58,7 @@ pub record IsAnswer (messages : List Payload) (code : ℕ) (text : List ℕ) (ol
   pub is_left : new.left ≡ Ok left
   pub quiet : Quiet old new
 
--- Why no record is taken from here: no more comes, and neither a whole record stands here nor a faulty one; or a faulty
--- one does; or memory was refused, and then no faulty one does.
+-- why no record is taken from here: no more comes, and it is cut; or it is faulty; or memory was refused, and it is not
 abbrev pub Halts : Fault → Received → Incoming → Incoming → Type 0
 Halts fault at old new =
     ((fault ≡ Transport) × IsCut at × NoMore old new)
@@ -129,8 +128,7 @@ abbrev pub Stands : Received → Fault → Fault → Type 0
 Stands at OutOfMemory fault = Breaks at fault ⊎ ((fault ≡ OutOfMemory) × IsSound at)
 Stands at found fault = fault ≡ found
 
--- Payloads stand in front, and the last of them is refused behind the others, for want of memory only if it is a FlightData.
--- What is answered for that is this fault, and the connection has stopped.
+-- the last of the payloads in front is refused, for want of memory only if it is a FlightData: this fault is answered
 pub record IsRefused (fault : Fault) (old new : Incoming) (all : Received) : Type 0 where
   pub payloads : List Payload
   pub last : Payload
@@ -145,8 +143,7 @@ pub record IsRefused (fault : Fault) (old new : Incoming) (all : Received) : Typ
   pub stopped : new.left ≡ stopped_at fault at
   pub quiet : Quiet old new
 
--- the stream of an answer; or the server's fault; or one of this end: the answer did not come to its end, or a payload is
--- refused
+-- the stream of an answer; or the server's fault; or one of this end: the answer did not end, or a payload is refused
 abbrev pub AnswersStream : Result StreamAt Failure → Incoming → Incoming → Received → Type 0
 AnswersStream (Ok stream) old new all = IsStream stream old new all
 AnswersStream (Err (Answered fault)) old new all = IsAnswered fault old new all
