@@ -44,6 +44,9 @@ pub trait Listen {
     // What came of asking for a port: this one is listened to, or none.
     ghost listens: { Self → ℕ → Option ℕ → Self → Type 0 };
 
+    // What came of asking for another listener to the same port: this one, or none.
+    ghost shares: { Self → Option Self → Type 0 };
+
     // What came of an accept: a connection of these ends, or none.
     ghost accepts: { Self → Option Ends → Self → Type 0 };
 
@@ -55,6 +58,15 @@ pub trait Listen {
     fn listen(&mut self, port: u16) -> io::Result<u16>
         ensures heard { IfOk result (λ heard. listens self.old port (Some heard) self.new) }
         ensures refused { IfErr result (λ _. listens self.old port None self.new) };
+
+    /// Another listener to the same port: a connection to it is taken by one of the two.
+    ///
+    /// # Errors
+    ///
+    /// The system's.
+    fn share(&self) -> io::Result<Self>
+        ensures made { IfOk result (λ other. shares self.now (Some other)) }
+        ensures refused { IfErr result (λ _. shares self.now None) };
 
     /// Waits for the next connection. No call of its ends has failed yet.
     ///

@@ -68,10 +68,19 @@ impl<R: Net<Listener = TcpListener, Stream = TcpStream>> Listen for Bound<'_, R>
 
     ghost listens = { λ _ _ _ _. Unit {0} };
 
+    ghost shares = { λ _ _. Unit {0} };
+
     ghost accepts = { λ _ _ _. Unit {0} };
 
     fn listen(&mut self, _port: u16) -> io::Result<u16> {
         Ok(self.number)
+    }
+
+    fn share(&self) -> io::Result<Self> {
+        Ok(Bound {
+            port: self.port.share()?,
+            number: self.number,
+        })
     }
 
     fn accept(&mut self) -> io::Result<(Counted<TcpStream>, Counted<TcpStream>)> {

@@ -55,6 +55,8 @@ impl<R: Net<Listener = TcpListener, Stream = TcpStream>> Listen for Port<'_, R> 
 
     ghost listens = { λ _ _ _ _. Unit {0} };
 
+    ghost shares = { λ _ _. Unit {0} };
+
     ghost accepts = { λ _ _ _. Unit {0} };
 
     fn listen(&mut self, port: u16) -> io::Result<u16> {
@@ -62,6 +64,16 @@ impl<R: Net<Listener = TcpListener, Stream = TcpStream>> Listen for Port<'_, R> 
         let port = listener.local_addr()?.port();
         self.listener = Some(listener);
         Ok(port)
+    }
+
+    fn share(&self) -> io::Result<Self> {
+        let Some(listener) = &self.listener else {
+            return Err(io::Error::from(ErrorKind::NotConnected));
+        };
+        Ok(Port {
+            rt: self.rt,
+            listener: Some(listener.try_clone()?),
+        })
     }
 
     fn accept(&mut self) -> io::Result<(Counted<TcpStream>, Counted<TcpStream>)> {

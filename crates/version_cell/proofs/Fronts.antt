@@ -2,10 +2,12 @@
 use Rattle.std.proofs.lemmas.Bool.Decides.{nat_tests}
 use Rattle.std.specs.Prelude.{MatchBool}
 use lib.Dec.{leb}
-use Rattle.std.proofs.Common.{Bool, true, false, ◌≡◌, ℕ, ◌≤◌, List, [], ◌∷◌, ◌++◌, length, refl, ap, sym, ◌∙◌, arith, append_assoc, length-append}
+use Rattle.std.proofs.Common.{Bool, true, false, ◌≡◌, ◌⊎◌, inl, inr, ℕ, ◌≤◌, List, [], ◌∷◌, ◌++◌, length, refl, ap, sym, ◌∙◌, arith, append_assoc, append-nil, length-append, Result, Ok, Err}
 use mathlib.Core.List.{IsPrefix}
 use Rattle.table_versions.specs.Database.{Put}
-use Rattle.version_cell.specs.Seats.{Begins}
+use Rattle.scan_base.specs.declared.fault.Fault.{Fault}
+use Rattle.version_cell.specs.Puts.{IsAnswered}
+use Rattle.version_cell.specs.Seats.{Log, Begins}
 
 -- each list begins with itself
 pub prefix_self : {A : Type 0} (xs : List A) → IsPrefix xs xs
@@ -41,3 +43,16 @@ pub either_begins : (b : Bool) (xs ys zs : List Put) (m n : ℕ) → m ≡ lengt
     → MatchBool b (Begins xs ys) (Begins ys xs)
 either_begins true xs ys zs m n e f p q is = let front = prefix_shorter xs ys zs p q (grind (arith, nat_tests)) in (front.0, sym front.1)
 either_begins false xs ys zs m n e f p q is = let front = prefix_shorter ys xs zs q p (grind (arith, nat_tests)) in (front.0, sym front.1)
+
+-- the log behind a put goes on from the one that it met
+pub goes_on : {X : Type 0} (result : Result X Fault) (log : Log) (put : Put) (next : Log) → IsAnswered result log put next → Begins log next
+goes_on (Ok receipt) log put next answered = (put ∷ [], answered.0)
+goes_on (Err fault) log put next answered = ([], answered.0 ∙ sym (append-nil log))
+
+-- who had seen no more than a log, and learns of a later one, has seen that
+pub learns_all : (old log next new : Log) → Begins old log → Begins log next → (new ≡ old) ⊎ (new ≡ next) → Begins next new → new ≡ next
+learns_all old log next new met on (inl same) told =
+    let front = prefix_trans old log next (met.0, sym met.1) (on.0, sym on.1) in
+    let back : length next ≤ length old = rw same at (prefix_length next new (told.0, sym told.1)) in
+    same ∙ prefix_whole old next front back
+learns_all old log next new met on (inr same) told = same

@@ -2,8 +2,9 @@
 use Rattle.std.specs.Prelude.{◌≡◌, ◌≢◌, [], ◌∷◌, ◌++◌, length, IsOk, Result, Ok, Err}
 use Rattle.scan_base.specs.declared.fault.Fault.{Fault}
 use Rattle.scan_base.specs.declared.fault.Fault.TheVariants.{OutOfMemory}
+use Rattle.scan_base.specs.Reading.{RefusesFirst}
 use Rattle.table_versions.specs.Database.{Put, Database, after, database_of}
-use Rattle.version_cell.specs.Seats.{Log}
+use Rattle.version_cell.specs.Seats.{Log, Seat, Begins}
 
 -- the database after a put that meets this log, or the first fault
 abbrev pub after_log : Log → Put → Result Database Fault
@@ -14,3 +15,11 @@ after_log log put = after (database_of log) (length log) put
 abbrev pub IsAnswered : {X : Type 0} → Result X Fault → Log → Put → Log → Type 0
 IsAnswered (Ok receipt) log put next = (next ≡ log ++ put ∷ []) × IsOk (after_log log put)
 IsAnswered (Err fault) log put next = (next ≡ log) × (fault ≢ OutOfMemory → after_log log put ≡ Err fault)
+
+-- A put of a seat: it met a log that goes on from all that the seat had seen, and the seat has then seen the log behind it,
+-- and no more.
+pub record PutsBehind {X : Type 0} (result : Result X Fault) (old : Seat) (put : Put) (new : Seat) : Type 0 where
+  pub log : Log
+  pub met : Begins old.log log
+  pub answered : IsAnswered result log put new.log
+  pub first : RefusesFirst result (after_log log put)

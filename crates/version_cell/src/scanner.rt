@@ -1,6 +1,6 @@
 //! Who looks.
 
-ghost use Rattle.std.specs.Prelude.{◌≡◌, ◌+◌, ◌⊎◌, ◌≤◌, ◌<◌, [], length, IfOk, IfErr, IfSome};
+ghost use Rattle.std.specs.Prelude.{◌≡◌, ◌+◌, ◌⊎◌, ◌≤◌, ◌<◌, [], length, IfOk, IfErr, IfSome, MatchBool};
 ghost use Rattle.scan_base.specs.declared.fault.Fault.TheVariants.{OutOfMemory, VersionUnknown};
 ghost use Rattle.table_versions.specs.Database.{database_of, version};
 ghost use Rattle.table_versions.specs.Stored.{tables_of};
@@ -116,13 +116,28 @@ impl<C: CellName> Scanner<C> {
         Ok(store.version(number)?)
     }
 
-    /// From now on the seat sees no less than was told. It makes no enter.
+    // Whether what was told has no fewer puts than the seat has seen. It then goes on from these.
+    pub(crate) fn is_within(&self, told: &Told<C>) -> bool
+        ensures { MatchBool result (Begins self.now.log told.now) (Begins told.now self.now.log) }
+    {
+        self.history.begins(told.history())
+    }
+
+    /// The log that the seat has seen or was told of, for others to learn. It takes no memory.
+    pub fn tell(&self) -> Told<C>
+        ensures { result ≡ self.now.log }
+    {
+        Told::new(self.history.again())
+    }
+
+    /// From now on the seat sees no less than was told, and no more than this and what it had seen. It makes no enter.
     pub fn learn(&mut self, told: &Told<C>)
         ensures begins { Begins self.old.log self.new.log }
         ensures told { Begins told.now self.new.log }
+        ensures longer { (self.new.log ≡ self.old.log) ⊎ (self.new.log ≡ told.now) }
         ensures enters { (self.new.enters ≡ self.old.enters) × (self.new.entered ≡ self.old.entered) }
     {
-        if self.history.begins(told.history()) {
+        if self.is_within(told) {
             self.history = told.history().again();
         }
     }

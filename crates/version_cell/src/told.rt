@@ -1,8 +1,10 @@
 //! What one thread tells another of the log.
 
-ghost use Rattle.std.specs.Prelude.{◌≡◌, length};
+ghost use Rattle.std.specs.Prelude.{◌≡◌, ◌⊎◌, length};
+ghost use Rattle.version_cell.specs.Seats.{Begins};
 
 use crate::book::{CellName, History};
+use crate::scanner::Scanner;
 use std::marker::{Model, PhantomData};
 
 /// A log that was reached. Contracts see it as that log.
@@ -46,5 +48,17 @@ impl<C: CellName> Told<C> {
         ensures { result ≡ length self.now }
     {
         self.history.len()
+    }
+
+    /// The longer of this log and what a seat has seen: it begins with both.
+    pub fn covering(self, seat: &Scanner<C>) -> Told<C>
+        ensures told { Begins self result }
+        ensures seen { Begins seat.now.log result }
+        ensures longer { (result ≡ self) ⊎ (result ≡ seat.now.log) }
+    {
+        if seat.is_within(&self) {
+            return self;
+        }
+        seat.tell()
     }
 }
