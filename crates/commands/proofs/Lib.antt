@@ -1,2 +1,3 @@
 pub mod Refusing
 pub mod Serving
+pub mod Crews

@@ -1,26 +1,30 @@
 -- What `serve` does.
-use Rattle.std.specs.Prelude.{◌≡◌, ◌⊎◌, ℕ, zero, suc, ◌+◌, List, [], ◌∷◌, Option, Some, None, Result, Ok, Err}
+use Rattle.std.specs.Prelude.{◌≡◌, ◌⊎◌, ◌≤◌, ℕ, zero, suc, ◌+◌, length, map, All, List, [], ◌∷◌, Option, Some, None, Result, Ok, Err}
 use Rattle.std.specs.Io.KnownBytes.{Appends}
 use Rattle.scan_base.specs.declared.fault.Fault.{Fault}
 use Rattle.scan_base.specs.declared.fault.Fault.TheVariants.{OutOfMemory, Transport}
 use Rattle.grpc_frame.specs.Ends.{AppendsBeginning}
+use Rattle.flight_core.specs.Headline.{Begins}
+use Rattle.flight_core.specs.Log.{Log}
 use Rattle.flight_calls.specs.declared.setting.Options.{Options}
-use Rattle.flight_calls.specs.Seats.{Moves, Seat, alone, seat_of}
+use Rattle.flight_calls.specs.Seats.{Moves, Seat, seat_of}
 use Rattle.flight_calls.specs.Owed.{Connection, Serves, connection_of}
+use Rattle.shared_calls.specs.Sharing.{onward}
+use Rattle.command_line.specs.declared.request.Serving.{Serving}
 use Rattle.command_ends.specs.Network.{Ends}
 use Rattle.command_ends.specs.Printing.{Said, Prints, cause_lines, fault_line, listening_line}
 use Rattle.command_ends.specs.declared.exit_status.ExitStatus.{ExitStatus}
 use Rattle.command_ends.specs.declared.exit_status.ExitStatus.TheVariants.{Done, FaultAtThisEnd}
 
--- ---- connections
+-- ---- a worker
 
--- what a server is between two connections: its listener, and the seat of its backend
-pub record Server (L : Type 0) : Type 0 where
+-- one of those that serve, between two connections: its listener, and the seat of its backend
+pub record Worker (L : Type 0) : Type 0 where
   pub listener : L
   pub seat : Seat
 
-abbrev pub server_of : {L : Type 0} → L → Seat → Server L
-server_of listener seat = record { listener = listener; seat = seat }
+abbrev pub worker_of : {L : Type 0} → L → Seat → Worker L
+worker_of listener seat = record { listener = listener; seat = seat }
 
 -- An accept, and the listener behind it: it failed; or a connection of these ends was taken, of which serving it came to
 -- this result, and left it so.
@@ -31,22 +35,58 @@ pub data Accept (L : Type 0) : Type 0 where
 -- These are all accepts, in order, where so many more connections are to be served, and so many more accepts may fail
 -- before one takes a connection. Each connection begins from the seat that the one before it left, whatever became of
 -- that. It ends where no more are to be served, or where a hundred accepts failed one behind the other (F22).
-abbrev pub ServesInTurn : {L : Type 0} → (L → Option Ends → L → Type 0) → Moves → Options → List (Accept L) → ℕ → ℕ → Result (Unit {0}) Fault → Server L → Server L → Type 0
+abbrev pub ServesInTurn : {L : Type 0} → (L → Option Ends → L → Type 0) → Moves → Options → List (Accept L) → ℕ → ℕ → Result (Unit {0}) Fault → Worker L → Worker L → Type 0
 ServesInTurn accepts moves options [] zero patience result old new = (result ≡ Ok tt) × (new ≡ old)
 ServesInTurn accepts moves options [] (suc more) zero result old new = (result ≡ Err Transport) × (new ≡ old)
 ServesInTurn accepts moves options (Failed listener ∷ others) (suc more) (suc patience) result old new =
     accepts old.listener None listener
-    × ServesInTurn accepts moves options others (suc more) patience result (server_of listener old.seat) new
+    × ServesInTurn accepts moves options others (suc more) patience result (worker_of listener old.seat) new
 ServesInTurn accepts moves options (Took listener ends served last ∷ others) (suc more) (suc patience) result old new =
     accepts old.listener (Some ends) listener
     × Serves moves options served (connection_of ends.input ends.output 0 0 old.seat) last
-    × ServesInTurn accepts moves options others more 100 result (server_of listener last.seat) new
+    × ServesInTurn accepts moves options others more 100 result (worker_of listener last.seat) new
 ServesInTurn accepts moves options others more patience result old new = ⊥
 
 -- so many connections were served, or fewer where no more could be taken
-abbrev pub ServesUpTo : {L : Type 0} → (L → Option Ends → L → Type 0) → Moves → Options → ℕ → Result (Unit {0}) Fault → Server L → Server L → Type 0
+abbrev pub ServesUpTo : {L : Type 0} → (L → Option Ends → L → Type 0) → Moves → Options → ℕ → Result (Unit {0}) Fault → Worker L → Worker L → Type 0
 ServesUpTo {L} accepts moves options most result old new =
     (all : List (Accept L)) × ServesInTurn accepts moves options all most 100 result old new
+
+-- it served connections one behind the other, no more than so many
+pub record Works {L : Type 0} (accepts : L → Option Ends → L → Type 0) (moves : Moves) (options : Options) (most : ℕ) (result : Result (Unit {0}) Fault) (old new : Worker L) : Type 0 where
+  pub connections : ℕ
+  pub few : connections ≤ most
+  pub in_turn : ServesUpTo accepts moves options connections result old new
+
+-- ---- workers side by side
+
+-- a worker from its start to its end, and its result
+pub record Work (L : Type 0) : Type 0 where
+  pub old : Worker L
+  pub new : Worker L
+  pub result : Result (Unit {0}) Fault
+
+-- a worker served connections, and all that its seat has then seen is of this history
+pub record IsPartOf {L : Type 0} (accepts : L → Option Ends → L → Type 0) (options : Options) (most : ℕ) (history : Log) (work : Work L) : Type 0 where
+  pub works : Works accepts onward options most work.result work.old work.new
+  pub within : Begins work.new.seat.log history
+
+-- the first fault of results, if one has a fault
+abbrev pub both : Result (Unit {0}) Fault → Result (Unit {0}) Fault → Result (Unit {0}) Fault
+both (Ok done) second = second
+both (Err fault) second = Err fault
+
+abbrev pub first_fault : {L : Type 0} → List (Work L) → Result (Unit {0}) Fault
+first_fault [] = Ok tt
+first_fault (work ∷ others) = both work.result (first_fault others)
+
+-- These workers served side by side, each its own connections, and all that their seats have seen is of one history. The
+-- result is the first fault of a worker, if one has a fault.
+pub record ServesSideBySide {L : Type 0} (accepts : L → Option Ends → L → Type 0) (options : Options) (most : ℕ) (workers : List (Worker L)) (history : Log) (result : Result (Unit {0}) Fault) : Type 0 where
+  pub all : List (Work L)
+  pub began : map (λ (work : Work L). work.old) all ≡ workers
+  pub served : All (IsPartOf accepts options most history) all
+  pub ended : result ≡ first_fault all
 
 -- ---- a port
 
@@ -55,26 +95,40 @@ abbrev pub most_of : ℕ → ℕ
 most_of zero = 18446744073709551615
 most_of accept = accept
 
--- the line of the port was printed, and connections were served, from the empty log
-pub record IsServed {L : Type 0} (accepts : L → Option Ends → L → Type 0) (options : Options) (most port : ℕ) (result : Result (Unit {0}) Fault) (heard new : L) (out out' : Said) : Type 0 where
-  pub printed : Appends out.bytes out'.bytes (listening_line port)
+abbrev pub options_of : Serving → Options
+options_of serving = record { parts = serving.parts; workers = serving.workers }
+
+abbrev pub at_port : ℕ → Serving → Serving
+at_port port serving = record { port = port; seats = serving.seats; accept = serving.accept; parts = serving.parts; workers = serving.workers }
+
+-- it listens to the same port, and its seat has seen nothing
+abbrev pub IsFresh : {L : Type 0} → (L → Option L → Type 0) → L → Worker L → Type 0
+IsFresh shares heard worker = shares heard (Some worker.listener) × (worker.seat ≡ seat_of [] 0)
+
+-- the line of the port was printed, and as many workers as there are seats served connections to it, of one history
+pub record IsServed {L : Type 0} (accepts : L → Option Ends → L → Type 0) (shares : L → Option L → Type 0) (serving : Serving) (result : Result (Unit {0}) Fault) (heard : L) (out out' : Said) : Type 0 where
+  pub printed : Appends out.bytes out'.bytes (listening_line serving.port)
   pub quiet : out'.failures ≡ out.failures
-  pub last : Seat
-  pub served : ServesUpTo accepts alone options most result (server_of heard (seat_of [] 0)) (server_of new last)
+  pub workers : List (Worker L)
+  pub many : length workers ≡ serving.seats
+  pub start : All (IsFresh shares heard) workers
+  pub history : Log
+  pub served : ServesSideBySide accepts (options_of serving) (most_of serving.accept) workers history result
 
 -- the line of the port was not printed
 pub record IsNotPrinted (port : ℕ) (out out' : Said) : Type 0 where
   pub begun : AppendsBeginning out.bytes out'.bytes (listening_line port)
   pub counted : out'.failures ≡ out.failures + 1
 
--- connections were served to a port; or memory for the catalog was refused, and nothing is printed; or the line of the port
--- was not printed
-abbrev pub ServesPort : {L : Type 0} → (L → Option Ends → L → Type 0) → Options → ℕ → ℕ → Result (Unit {0}) Fault → L → L → Said → Said → Type 0
-ServesPort accepts options most port (Ok done) heard new out out' = IsServed accepts options most port (Ok done) heard new out out'
-ServesPort accepts options most port (Err fault) heard new out out' =
-    IsServed accepts options most port (Err fault) heard new out out'
-    ⊎ (((fault ≡ OutOfMemory) × (new ≡ heard) × (out' ≡ out))
-    ⊎ ((fault ≡ Transport) × (new ≡ heard) × IsNotPrinted port out out'))
+-- connections were served to a port; or memory for the catalog or the workers was refused, or a listener for one of them, and
+-- nothing is printed; or the line of the port was not printed
+abbrev pub ServesPort : {L : Type 0} → (L → Option Ends → L → Type 0) → (L → Option L → Type 0) → Serving → Result (Unit {0}) Fault → L → Said → Said → Type 0
+ServesPort accepts shares serving (Ok done) heard out out' = IsServed accepts shares serving (Ok done) heard out out'
+ServesPort accepts shares serving (Err fault) heard out out' =
+    IsServed accepts shares serving (Err fault) heard out out'
+    ⊎ (((fault ≡ OutOfMemory) × (out' ≡ out))
+    ⊎ (((fault ≡ Transport) × shares heard None × (out' ≡ out))
+    ⊎ ((fault ≡ Transport) × IsNotPrinted serving.port out out')))
 
 -- nothing is said of faults where all was done, and else the fault, in a line
 abbrev pub TellsFault : Result (Unit {0}) Fault → ExitStatus → Said → Said → Type 0
@@ -82,9 +136,9 @@ TellsFault (Ok done) status said said' = (status ≡ Done) × (said' ≡ said)
 TellsFault (Err fault) status said said' = (status ≡ FaultAtThisEnd) × Prints (fault_line fault) said said'
 
 -- the network gave a port, which is served; or it gave none, nothing is printed, and why is said
-abbrev pub Listens : {L : Type 0} → (L → Option Ends → L → Type 0) → (Option ℕ → L → Type 0) → Options → ℕ → ExitStatus → L → Said → Said → Said → Said → Type 0
-Listens {L} accepts Hears options most status new out out' said said' =
-    ((port : ℕ) × (heard : L) × Hears (Some port) heard × ((result : Result (Unit {0}) Fault)
-    × ServesPort accepts options most port result heard new out out' × TellsFault result status said said'))
+abbrev pub Listens : {L : Type 0} → (L → Option Ends → L → Type 0) → (L → Option L → Type 0) → (Option ℕ → L → Type 0) → Serving → ExitStatus → L → Said → Said → Said → Said → Type 0
+Listens accepts shares Hears serving status new out out' said said' =
+    ((port : ℕ) × Hears (Some port) new × ((result : Result (Unit {0}) Fault)
+    × ServesPort accepts shares (at_port port serving) result new out out' × TellsFault result status said said'))
     ⊎ (Hears None new × ((cause : List ℕ)
     × (out' ≡ out) × (status ≡ FaultAtThisEnd) × Prints (cause_lines cause) said said'))

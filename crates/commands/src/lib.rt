@@ -6,6 +6,10 @@
 #![tactic(auto)]
 
 pub mod arguments;
+mod crew;
+
 pub mod pipe;
 pub mod serve;
+
+pub mod turns;
 pub mod words;

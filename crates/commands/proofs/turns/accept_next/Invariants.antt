@@ -1,5 +1,5 @@
 use Rattle.commands.specs.inside.Accepting.{FailsSo}
-use Rattle.commands.proofs.serve.accept_next.Given as goal
+use Rattle.commands.proofs.turns.accept_next.Given as goal
 
 abbrev pub invariant-loop : goal.invariant-loop
 invariant-loop g l = FailsSo g.L.Listen.accepts l.counter l.initial.network l.network

@@ -1,8 +1,0 @@
-use Rattle.commands.specs.Serve.{server_of}
-use Rattle.commands.proofs.Serving.{ServedSo}
-use Rattle.commands.proofs.serve.serve_in_turn.Given as goal
-
-abbrev pub invariant-loop : goal.invariant-loop
-invariant-loop g l =
-    ServedSo g.L.Listen.accepts g.B.Backend.moves l.options l.most l.counter
-    (server_of l.initial.network (g.B.Backend.seat l.initial.backend)) (server_of l.network (g.B.Backend.seat l.backend))
