@@ -7,19 +7,19 @@ use Rattle.version_cell.specs.Puts.{PutsBehind}
 use Rattle.version_cell.specs.Seats as cell
 use Rattle.flight_core.specs.Headline.{Begins}
 use Rattle.flight_core.specs.Log.{Log}
-use Rattle.flight_calls.specs.Seats.{Seat, Puts}
+use Rattle.flight_calls.specs.Seats.{Puts}
 use Rattle.shared_calls.specs.Sharing.{seat_at, onward}
 
 begins_itself : (log : Log) → Begins log log
 begins_itself log = ([], sym (append-nil log))
 
 -- the cell's putter made it, and its receipt is kept
-pub accepted : {X : Type 0} (receipt : X) (old new : cell.Seat) (made : List Put) (put : Put) → PutsBehind (Ok receipt) old put new → cell.Begins old.log new.log
-    → new.enters ≡ old.enters → Puts onward (Ok tt) (seat_at old made) put (seat_at new (made ++ put ∷ []))
-accepted receipt old new made put behind kept enters = record {
+pub accepted : {X : Type 0} (receipt : X) (old new : cell.Seat) (made more : List Put) (put : Put) → PutsBehind (Ok receipt) old put new → cell.Begins old.log new.log
+    → new.enters ≡ old.enters → more ≡ made ++ put ∷ [] → Puts onward (Ok tt) (seat_at old made) put (seat_at new more)
+accepted receipt old new made more put behind kept enters last = record {
   log = behind.log;
   next = new.log;
-  at = (behind.answered.1, behind.answered.0, refl);
+  at = (behind.answered.1, behind.answered.0, last);
   moved = (behind.met, refl);
   kept = kept;
   learnt = begins_itself new.log;
@@ -27,12 +27,12 @@ accepted receipt old new made put behind kept enters = record {
 }
 
 -- or refused it
-pub refused : {X : Type 0} (fault : Fault) (old new : cell.Seat) (made : List Put) (put : Put) → PutsBehind {X = X} (Err fault) old put new → cell.Begins old.log new.log
-    → new.enters ≡ old.enters → Puts onward (Err fault) (seat_at old made) put (seat_at new made)
-refused fault old new made put behind kept enters = record {
+pub refused : {X : Type 0} (fault : Fault) (old new : cell.Seat) (made same : List Put) (put : Put) → PutsBehind {X = X} (Err fault) old put new → cell.Begins old.log new.log
+    → new.enters ≡ old.enters → same ≡ made → Puts onward (Err fault) (seat_at old made) put (seat_at new same)
+refused fault old new made same put behind kept enters is = record {
   log = behind.log;
   next = new.log;
-  at = (behind.answered.0, refl, behind.answered.1);
+  at = (behind.answered.0, is, behind.answered.1);
   moved = (behind.met, refl);
   kept = kept;
   learnt = begins_itself new.log;
@@ -40,13 +40,13 @@ refused fault old new made put behind kept enters = record {
 }
 
 -- memory is refused for its receipt
-pub unmade : (s : Seat) (put : Put) → Puts onward (Err OutOfMemory) s put s
-unmade s put = record {
-  log = s.log;
-  next = s.log;
-  at = (refl, refl, λ other. absurd (other refl));
-  moved = (begins_itself s.log, refl);
-  kept = begins_itself s.log;
-  learnt = begins_itself s.log;
+pub unmade : (seat : cell.Seat) (made same : List Put) (put : Put) → same ≡ made → Puts onward (Err OutOfMemory) (seat_at seat made) put (seat_at seat same)
+unmade seat made same put is = record {
+  log = seat.log;
+  next = seat.log;
+  at = (refl, is, λ other. absurd (other refl));
+  moved = (begins_itself seat.log, refl);
+  kept = begins_itself seat.log;
+  learnt = begins_itself seat.log;
   looks = refl;
 }

@@ -50,16 +50,29 @@ impl<'a, C: CellName, R: Wait + Drop, H: Wait> Shared<'a, C, R, H> {
         alloc: Global,
         rt: &'a H,
         putter: &'a Mutex<Putter<C, R>>,
-        scanner: Scanner<C>,
+        seat: Scanner<C>,
     ) -> Shared<'a, C, R, H>
-        ensures { result ≡ seat_at scanner [] }
+        ensures { result ≡ seat_at seat [] }
     {
         Shared {
             rt,
             putter,
-            scanner,
+            scanner: seat,
             receipts: Vec::new(alloc),
         }
+    }
+
+    /// The seat, for who shares the cell next. The receipts are let go.
+    pub fn into_seat(self) -> Scanner<C>
+        ensures { seat_at result self.entry.made ≡ self.entry }
+    {
+        let Shared {
+            rt: _,
+            putter: _,
+            scanner,
+            receipts: _,
+        } = self;
+        scanner
     }
 
     /// The receipts of the puts that were made, in order.
@@ -105,7 +118,11 @@ impl<'a, C: CellName, R: Wait + Drop, H: Wait> Backend for Shared<'a, C, R, H> {
 
     ghost stays = { λ s. (([], sym (append-nil s.log)), refl) };
 
-    ghost follows = { λ old middle new log after first second. ((first.0.0 ++ second.0.0,
-        second.0.1 ∙ ap (λ seen. seen ++ second.0.0) first.0.1 ∙ append_assoc old.log first.0.0 second.0.0),
-        second.1) };
+    ghost follows = { λ old middle new log after first second. (
+      (
+        first.0.0 ++ second.0.0,
+        second.0.1 ∙ ap (λ seen. seen ++ second.0.0) first.0.1 ∙ append_assoc old.log first.0.0 second.0.0,
+      ),
+      second.1,
+    ) };
 }
