@@ -82,7 +82,7 @@ no_more {L} accepts moves options most served start old new seat fault few so ta
       connections = served + 1;
       few = omega arith;
       in_turn = so 1 (Err fault) (worker_of new seat)
-      (subst (λ (n : ℕ). ServesRest accepts moves options 1 n (Err fault) (worker_of old seat) (worker_of new seat)) (no_patience_behind takes.failed takes.all) all);
+          (subst (λ (n : ℕ). ServesRest accepts moves options 1 n (Err fault) (worker_of old seat) (worker_of new seat)) (no_patience_behind takes.failed takes.all) all);
     }
 
 -- as many as were drawn

@@ -1,10 +1,10 @@
 -- What `serve` does.
-use Rattle.std.specs.Prelude.{◌≡◌, ◌⊎◌, ◌≤◌, ℕ, zero, suc, ◌+◌, length, map, All, List, [], ◌∷◌, Option, Some, None, Result, Ok, Err}
+use Rattle.std.specs.Prelude.{◌≡◌, ◌⊎◌, ◌≤◌, ℕ, zero, suc, ◌+◌, length, All, List, [], ◌∷◌, Option, Some, None, Result, Ok, Err}
 use Rattle.std.specs.Io.KnownBytes.{Appends}
 use Rattle.scan_base.specs.declared.fault.Fault.{Fault}
 use Rattle.scan_base.specs.declared.fault.Fault.TheVariants.{OutOfMemory, Transport}
 use Rattle.grpc_frame.specs.Ends.{AppendsBeginning}
-use Rattle.flight_core.specs.Headline.{Begins}
+use Rattle.flight_core.specs.Headline.{Begins, Pairwise}
 use Rattle.flight_core.specs.Log.{Log}
 use Rattle.flight_calls.specs.declared.setting.Options.{Options}
 use Rattle.flight_calls.specs.Seats.{Moves, Seat, seat_of}
@@ -60,18 +60,12 @@ pub record Works {L : Type 0} (accepts : L → Option Ends → L → Type 0) (mo
 
 -- ---- workers side by side
 
--- a worker from its start to its end, and its result
+-- a worker, and what came of its work
 pub record Work (L : Type 0) : Type 0 where
-  pub old : Worker L
-  pub new : Worker L
+  pub worker : Worker L
   pub result : Result (Unit {0}) Fault
 
--- a worker served connections, and all that its seat has then seen is of this history
-pub record IsPartOf {L : Type 0} (accepts : L → Option Ends → L → Type 0) (options : Options) (most : ℕ) (history : Log) (work : Work L) : Type 0 where
-  pub works : Works accepts onward options most work.result work.old work.new
-  pub within : Begins work.new.seat.log history
-
--- the first fault of results, if one has a fault
+-- the first fault of the works, if one has a fault
 abbrev pub both : Result (Unit {0}) Fault → Result (Unit {0}) Fault → Result (Unit {0}) Fault
 both (Ok done) second = second
 both (Err fault) second = Err fault
@@ -80,13 +74,18 @@ abbrev pub first_fault : {L : Type 0} → List (Work L) → Result (Unit {0}) Fa
 first_fault [] = Ok tt
 first_fault (work ∷ others) = both work.result (first_fault others)
 
+-- a worker served connections, and all that its seat has then seen is of this history
+pub record IsPartOf {L : Type 0} (accepts : L → Option Ends → L → Type 0) (options : Options) (most : ℕ) (history : Log) (old new : Work L) : Type 0 where
+  pub works : Works accepts onward options most new.result old.worker new.worker
+  pub within : Begins new.worker.seat.log history
+
 -- These workers served side by side, each its own connections, and all that their seats have seen is of one history. The
 -- result is the first fault of a worker, if one has a fault.
-pub record ServesSideBySide {L : Type 0} (accepts : L → Option Ends → L → Type 0) (options : Options) (most : ℕ) (workers : List (Worker L)) (history : Log) (result : Result (Unit {0}) Fault) : Type 0 where
-  pub all : List (Work L)
-  pub began : map (λ (work : Work L). work.old) all ≡ workers
-  pub served : All (IsPartOf accepts options most history) all
-  pub ended : result ≡ first_fault all
+pub record ServesSideBySide {L : Type 0} (accepts : L → Option Ends → L → Type 0) (options : Options) (most : ℕ) (workers : List (Work L)) (result : Result (Unit {0}) Fault) : Type 0 where
+  pub history : Log
+  pub ends : List (Work L)
+  pub served : Pairwise (IsPartOf accepts options most history) workers ends
+  pub ended : result ≡ first_fault ends
 
 -- ---- a port
 
@@ -102,18 +101,17 @@ abbrev pub at_port : ℕ → Serving → Serving
 at_port port serving = record { port = port; seats = serving.seats; accept = serving.accept; parts = serving.parts; workers = serving.workers }
 
 -- it listens to the same port, and its seat has seen nothing
-abbrev pub IsFresh : {L : Type 0} → (L → Option L → Type 0) → L → Worker L → Type 0
-IsFresh shares heard worker = shares heard (Some worker.listener) × (worker.seat ≡ seat_of [] 0)
+abbrev pub IsFresh : {L : Type 0} → (L → Option L → Type 0) → L → Work L → Type 0
+IsFresh shares heard work = shares heard (Some work.worker.listener) × (work.worker.seat ≡ seat_of [] 0)
 
 -- the line of the port was printed, and as many workers as there are seats served connections to it, of one history
 pub record IsServed {L : Type 0} (accepts : L → Option Ends → L → Type 0) (shares : L → Option L → Type 0) (serving : Serving) (result : Result (Unit {0}) Fault) (heard : L) (out out' : Said) : Type 0 where
   pub printed : Appends out.bytes out'.bytes (listening_line serving.port)
   pub quiet : out'.failures ≡ out.failures
-  pub workers : List (Worker L)
+  pub workers : List (Work L)
   pub many : length workers ≡ serving.seats
   pub start : All (IsFresh shares heard) workers
-  pub history : Log
-  pub served : ServesSideBySide accepts (options_of serving) (most_of serving.accept) workers history result
+  pub served : ServesSideBySide accepts (options_of serving) (most_of serving.accept) workers result
 
 -- the line of the port was not printed
 pub record IsNotPrinted (port : ℕ) (out out' : Said) : Type 0 where

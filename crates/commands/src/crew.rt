@@ -1,12 +1,13 @@
 //! Workers that serve connections side by side, over one history.
 
-ghost use Rattle.std.specs.Prelude.{◌≡◌, ◌×◌, ◌⊎◌, All, MatchResult, None, length};
-ghost use Rattle.std.specs.Thread.{IsSend, IsSync};
+ghost use Rattle.std.specs.Prelude.{◌≡◌, ◌⊎◌, ◌<◌, [], All, MatchResult, None, ℕ, length, slice_index_or};
 ghost use Rattle.scan_base.specs.declared.fault.Fault.TheVariants.{OutOfMemory, Transport};
-ghost use Rattle.flight_core.specs.Headline.{Begins};
+ghost use Rattle.flight_core.specs.Log.{Log};
 ghost use Rattle.version_cell.specs.Seats.{seat};
-ghost use Rattle.shared_calls.specs.Sharing.{onward, seat_at};
-ghost use Rattle.commands.specs.Serve.{IsFresh, ServesSideBySide, Works, worker_of};
+ghost use Rattle.shared_calls.specs.Sharing.{onward};
+ghost use Rattle.commands.specs.Serve as serving;
+ghost use Rattle.commands.specs.Serve.{IsFresh, ServesSideBySide, Works, first_fault};
+ghost use Rattle.commands.specs.inside.Gathering.{IsWithin};
 
 use crate::turns::{Turns, serve_in_turn};
 use command_ends::Listen;
@@ -20,29 +21,34 @@ use std::thread;
 use std::thread::Threads;
 use version_cell::{CellName, Putter, Scanner, Told};
 
-/// One of those that serve: its listener, and its seat of the cell. Contracts see it as a worker that made no put yet.
+/// One of those that serve: its listener, its seat of the cell, and what came of its work. Contracts see it as a worker that
+/// made no put.
 #[derive(Drop)]
 pub(crate) struct Worker<L, C: CellName> {
     listener: L,
-    scanner: Scanner<C>,
+    // None while a connection is served.
+    scanner: Option<Scanner<C>>,
+    served: Result<(), Fault>,
 }
 
 impl<L, C: CellName> Model for Worker<L, C> {
-    ghost use Rattle.std.specs.Prelude.{[]};
-    ghost use Rattle.shared_calls.specs.Sharing.{seat_at};
+    ghost use Rattle.std.specs.Prelude.{IsSome};
+    ghost use Rattle.commands.specs.inside.Gathering.{seat_in};
     ghost use Rattle.commands.specs.Serve as serving;
 
-    ghost Value = { serving.Worker L };
+    ghost Value = { serving.Work L };
 
-    ghost view = { λ w. serving.worker_of w.listener (seat_at w.scanner []) };
+    ghost view = { λ w. record { worker = serving.worker_of w.listener (seat_in w.scanner); result = w.served } };
+
+    ghost invariant = { λ w. IsSome w.scanner };
 }
 
 /// What all workers share: the putter of their cell, how they answer, and which connections are still to be accepted.
-#[derive(Clone, Copy)]
-pub(crate) struct Crew<'a, C: CellName, T: Wait> {
-    pub rt: &'a T,
+#[derive(Drop)]
+pub(crate) struct Crew<'a, 'h, C: CellName, T: Wait> {
+    pub rt: &'h T,
     pub alloc: Global,
-    pub putter: &'a Mutex<Putter<C, &'a T>>,
+    pub putter: &'a Mutex<Putter<C, &'h T>>,
     pub options: Options,
     pub turns: &'a Turns,
 }
@@ -53,7 +59,7 @@ pub(crate) struct Crew<'a, C: CellName, T: Wait> {
 ///
 /// - `Fault::OutOfMemory` (F21) where memory is refused.
 /// - `Fault::Transport` (F22) where the network gives no further listener.
-pub(crate) fn crew_of<L: Listen + Drop, C: CellName>(
+pub(crate) fn workers_of<L: Listen + Drop, C: CellName>(
     alloc: Global,
     network: &L,
     scanners: Vec<Scanner<C>>,
@@ -63,68 +69,97 @@ pub(crate) fn crew_of<L: Listen + Drop, C: CellName>(
         (λ workers. (length workers.items ≡ length scanners.items) × All (IsFresh L.shares network.now) workers.items)
         (λ fault. (fault ≡ OutOfMemory) ⊎ ((fault ≡ Transport) × L.shares network.now None)) }
 {
-    let mut workers = Vec::with_capacity(alloc, scanners.len())?;
+    let mut workers = Vec::new(alloc);
     for scanner in scanners {
         let Ok(listener) = network.share() else {
             return Err(Fault::Transport);
         };
-        workers.push_reserved(Worker { listener, scanner });
+        let worker = Worker {
+            listener,
+            scanner: Some(scanner),
+            served: Ok(()),
+        };
+        if workers.push(worker).is_err() {
+            return Err(Fault::OutOfMemory);
+        }
     }
     Ok(workers)
 }
 
-// Serves the connections of one worker, and gives its seat back.
-fn work<L: Listen + Drop, C: CellName, T: Wait>(
-    crew: Crew<'_, C, T>,
-    worker: Worker<L, C>,
-) -> (Scanner<C>, Result<(), Fault>)
-    ensures { (new : Worker L) × Works L.accepts onward crew.options crew.turns.now.most result.1 worker new
-        × (new.seat.log ≡ result.0.log) }
+// Serves the connections of one worker.
+fn work<L: Listen, C: CellName, T: Wait>(crew: &Crew<'_, '_, C, T>, worker: &mut Worker<L, C>)
+    ensures { (last : serving.Worker L) × Works L.accepts onward crew.now.options crew.now.turns.now.most worker.new.result
+        worker.old.worker last × (last.seat.log ≡ worker.new.worker.seat.log) }
 {
-    let Worker {
-        mut listener,
-        scanner,
-    } = worker;
+    let scanner = worker.scanner.take().unwrap();
     let mut backend = Shared::new(crew.alloc, crew.rt, crew.putter, scanner);
-    let served = serve_in_turn(
+    worker.served = serve_in_turn(
         crew.alloc,
-        &mut listener,
+        &mut worker.listener,
         &mut backend,
         crew.options,
         crew.turns,
     );
-    (backend.into_seat(), served)
+    worker.scanner = Some(backend.into_seat());
 }
 
-/// Serves connections by all workers side by side, each in a thread of its own where one can be made. Behind them, it gives the
-/// longest log that one of them has seen.
+// Serves the connections of all workers, each in a thread of its own where one can be made.
+fn work_side_by_side<L, C, T>(crew: &Crew<'_, '_, C, T>, workers: &mut [Worker<L, C>])
+where
+    L: Listen + Send,
+    L::Reader: Send,
+    L::Writer: Send,
+    C: CellName + Send + Sync,
+    T: Threads + Wait + Sync,
+    ensures { (i : ℕ) (d : _) → i < length workers.old
+        → (last : serving.Worker L) × Works L.accepts onward crew.now.options crew.now.turns.now.most
+        (slice_index_or workers.new i d).result (slice_index_or workers.old i d).worker last
+        × (last.seat.log ≡ (slice_index_or workers.new i d).worker.seat.log) }
+{
+    let threads = workers.len().max(1);
+    let each = |_place: usize, worker: &mut Worker<L, C>|
+        ensures { (last : serving.Worker L) × Works L.accepts onward crew.entry.now.options crew.entry.now.turns.now.most
+            worker.exit.now.result worker.entry.now.worker last × (last.seat.log ≡ worker.exit.now.worker.seat.log) }
+    { work(crew, worker) };
+    thread::for_each_mut(crew.rt, workers, threads, &each);
+}
+
+// The first fault of workers that have ended. The longest of the log that was told and those that they have seen is the
+// history of all.
+fn first_of<L: Drop, C: CellName>(
+    told: Told<C>,
+    mut workers: Vec<Worker<L, C>>,
+) -> Result<(), Fault>
+    ensures first { result ≡ first_fault workers.items }
+    ensures within { (history : Log) × All (IsWithin history) workers.items }
+{
+    let mut told = told;
+    let mut first = Ok(());
+    while let Some(worker) = workers.pop() {
+        told = told.covering(worker.scanner.as_ref().unwrap());
+        first = worker.served.and(first);
+    }
+    first
+}
+
+/// Serves connections by all workers side by side, until each of them has ended.
 ///
 /// # Errors
 ///
 /// The first fault of a worker.
-#[cycle(crew)]
 pub(crate) fn serve_side_by_side<L, C, T>(
-    crew: Crew<'_, C, T>,
+    crew: &Crew<'_, '_, C, T>,
     mut workers: Vec<Worker<L, C>>,
-) -> (Told<C>, Result<(), Fault>)
+) -> Result<(), Fault>
 where
     L: Listen + Drop + Send,
+    L::Reader: Send,
+    L::Writer: Send,
     C: CellName + Send + Sync,
     T: Threads + Wait + Sync,
-    ensures { ServesSideBySide L.accepts crew.options crew.turns.now.most workers.items result.0 result.1 }
+    ensures { ServesSideBySide L.accepts crew.now.options crew.now.turns.now.most workers.items result }
 {
-    let Some(worker) = workers.pop() else {
-        return (crew.putter.lock(crew.rt).tell(), Ok(()));
-    };
-    let last = move || -> (Scanner<C>, Result<(), Fault>)
-        requires { IsSync T.row × IsSend L.row × IsSend C.row × IsSync C.row }
-        ensures { (new : Worker L) × Works L.accepts onward crew.options crew.turns.now.most result.1 worker new
-            × (new.seat.log ≡ result.0.log) }
-    { work(crew, worker) };
-    let others = move || -> (Told<C>, Result<(), Fault>)
-        requires { IsSync T.row × IsSend L.row × IsSend C.row × IsSync C.row }
-        ensures { ServesSideBySide L.accepts crew.options crew.turns.now.most workers.items result.0 result.1 }
-    { serve_side_by_side(crew, workers) };
-    let ((scanner, served), (told, before)) = thread::join(crew.rt, last, others);
-    (told.covering(&scanner), before.and(served))
+    work_side_by_side(crew, workers.as_mut_slice());
+    let told = crew.putter.lock(crew.rt).tell();
+    first_of(told, workers)
 }

@@ -7,9 +7,7 @@
 
 pub mod arguments;
 mod crew;
-
 pub mod pipe;
 pub mod serve;
-
 pub mod turns;
 pub mod words;

@@ -6,7 +6,7 @@ ghost use Rattle.command_ends.specs.Printing.{Prints, cause_lines, said_of};
 ghost use Rattle.command_ends.specs.declared.exit_status.ExitStatus.TheVariants.{FaultAtThisEnd};
 ghost use Rattle.commands.specs.Serve.{Listens, ServesPort};
 
-use crate::crew::{Crew, crew_of, serve_side_by_side};
+use crate::crew::{Crew, serve_side_by_side, workers_of};
 use crate::turns::Turns;
 use command_ends::{ExitStatus, Listen, end_by_cause, end_by_fault, print_listening};
 use command_line::Serving;
@@ -42,6 +42,8 @@ pub fn serve<T, L, W: Output, E: Output>(
 where
     T: Threads + Wait + Sync,
     L: Listen + Drop + Send,
+    L::Reader: Send,
+    L::Writer: Send,
     requires seats { (0 < serving.seats) × (serving.seats ≤ most_seats) }
     requires writes { W.failures output.old < 18446744073709551615 }
     requires prints { E.failures faults.old < 18446744073709551615 }
@@ -85,6 +87,8 @@ fn serve_port<T, L, W: Output>(
 where
     T: Threads + Wait + Sync,
     L: Listen + Drop + Send,
+    L::Reader: Send,
+    L::Writer: Send,
     requires seats { (0 < serving.seats) × (serving.seats ≤ most_seats) }
     requires writes { W.failures output.old < 18446744073709551615 }
     ensures { ServesPort L.accepts L.shares serving result network.now
@@ -106,17 +110,17 @@ fn serve_cell<C: CellName + Send + Sync, T, L, W: Output>(
 where
     T: Threads + Wait + Sync,
     L: Listen + Drop + Send,
+    L::Reader: Send,
+    L::Writer: Send,
     requires cell { (blank.book ≡ C.book) × (blank.seats ≡ serving.seats) }
     requires writes { W.failures output.old < 18446744073709551615 }
     ensures { ServesPort L.accepts L.shares serving result network.now
         (said_of (W.contents output.old) (W.failures output.old))
         (said_of (W.contents output.new) (W.failures output.new)) }
 {
+    let turns = Turns::new(serving.accept);
     let (putter, scanners) = blank.named::<C, &T>(host.alloc, host.rt)?;
     let putter = Mutex::new(putter);
-    let workers = crew_of(host.alloc, network, scanners)?;
-    print_listening(host.alloc, output, serving.port)?;
-    let turns = Turns::new(serving.accept);
     let crew = Crew {
         rt: host.rt,
         alloc: host.alloc,
@@ -127,6 +131,7 @@ where
         },
         turns: &turns,
     };
-    let (_, served) = serve_side_by_side(crew, workers);
-    served
+    let workers = workers_of(host.alloc, network, scanners)?;
+    print_listening(host.alloc, output, serving.port)?;
+    serve_side_by_side(&crew, workers)
 }

@@ -16,6 +16,7 @@ use std::sync::atomic::{AtomicU64, Ordering};
 const MOST_FAILED_ACCEPTS: u32 = 100;
 
 /// The numbers of the connections that are still to be accepted, which workers draw.
+#[derive(Drop)]
 pub struct Turns {
     drawn: AtomicU64,
     pub most: u64,

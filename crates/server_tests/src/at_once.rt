@@ -92,5 +92,56 @@ fn open_connection(rt: HostRuntime) -> Result<(), Fail> {
     Ok(())
 }
 
-// The records of a put that begins, and goes no further than into its first message.
-const CUT_PUT: &[u8] = b"\x01\x00\x35/arrow.flight.protocol.FlightService/DoPut\x02\x00\x00\x00\x01\x00\x0a";
+// The first records of a put, up to a message of which a part is missing.
+const CUT_PUT: &[u8] = b"\x01\x00\x2a/arrow.flight.protocol.FlightService/DoPut\x02\x00\x00\x00\x00\x04\x0a\x02";
+
+// Begins a put, and closes the connection.
+fn cut_a_put<R: Net<Listener = TcpListener, Stream = TcpStream>>(
+    rt: &R,
+    port: u16,
+) -> Result<(), Failure> {
+    let mut stream = connected(rt, port)?;
+    match stream.write_all(CUT_PUT) {
+        Ok(()) => Ok(()),
+        Err(_) => Err(Failure::Found(Fault::Transport)),
+    }
+}
+
+// Puts five rows, has another connection cut its put, and fetches the rows.
+fn stay_whole<R>(rt: &R, alloc: Global, port: u16) -> Result<MemoryOutput, Failure>
+where
+    R: Net<Listener = TcpListener, Stream = TcpStream>,
+{
+    let stream = connected(rt, port)?;
+    put_into(alloc, &stream, Mode::Create, ONE_TO_FIVE)?;
+    cut_a_put(rt, port)?;
+    let endpoints = endpoints_of(alloc, &stream)?;
+    lines_of(alloc, &stream, &endpoints)
+}
+
+// A connection that is cut inside a put ends alone, and has put nothing.
+#[test]
+fn cut_connection(rt: HostRuntime) -> Result<(), Fail> {
+    let runtime = &rt;
+    let alloc = runtime.alloc();
+    let seed = HashSeed::new(runtime)?;
+    let mut port = Port::new(runtime);
+    let number = port.listen(0)?;
+    let bound = Bound { port, number };
+    let host = Host {
+        rt: runtime,
+        alloc,
+        seed,
+    };
+    let (server, client) = thread::join(
+        runtime,
+        move || served(host, bound, 2),
+        || stay_whole(runtime, alloc, number),
+    );
+    assert!(rt; server.0 == 0);
+    let Ok(lines) = client else {
+        return Err(Fail::from("a call failed"));
+    };
+    assert!(rt; lines.as_slice() == FIVE_LINES);
+    Ok(())
+}
