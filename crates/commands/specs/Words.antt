@@ -1,5 +1,5 @@
 -- What becomes of the program's words.
-use Rattle.std.specs.Prelude.{◌≡◌, ◌≢◌, ◌⊎◌, ℕ, List, ◌∷◌, [], ◌++◌, Result, Ok, Err, codes}
+use Rattle.std.specs.Prelude.{◌≡◌, ◌≢◌, ◌⊎◌, ◌<◌, ◌≤◌, ℕ, List, ◌∷◌, [], ◌++◌, Result, Ok, Err, codes}
 use Rattle.clap.specs.Words.{Text, fault_of}
 use Rattle.clap.specs.declared.builder.value_parser.ValueParser.{ValueParser}
 use Rattle.clap.specs.declared.error.kind.ErrorKind.{ErrorKind}
@@ -8,6 +8,8 @@ use Rattle.scan_base.specs.declared.fault.Fault.TheVariants.{OutOfMemory}
 use Rattle.command_line.specs.Line.{program}
 use Rattle.command_line.specs.Request.{IsAskedBy}
 use Rattle.command_line.specs.declared.request.Request.{Request}
+use Rattle.command_line.specs.declared.request.Request.TheVariants.{Serve}
+use Rattle.version_cell.specs.Blanks.{most_seats}
 use Rattle.command_ends.specs.Printing.{Said, Prints, fault_line}
 use Rattle.command_ends.specs.declared.exit_status.ExitStatus.{ExitStatus}
 use Rattle.command_ends.specs.declared.exit_status.ExitStatus.TheVariants.{BadCommandLine, FaultAtThisEnd}
@@ -35,6 +37,11 @@ ReadsWords modes words (Ok request) said said' =
     (fault_of (program modes) words ≡ []) × IsAskedBy modes words request × (said' ≡ said)
 ReadsWords modes words (Err status) said said' =
     LacksMemory status said said' ⊎ ((fault_of (program modes) words ≢ []) × RefusesWords status said said')
+
+-- a server that is asked for has a seat, and no more than a cell takes
+abbrev pub HasSeats : Request → Type 0
+HasSeats (Serve serving) = (0 < serving.seats) × (serving.seats ≤ most_seats)
+HasSeats _ = Unit {0}
 
 -- Inside: what is done for an error of this kind.
 abbrev pub RefusesFor : ErrorKind → ExitStatus → Said → Said → Type 0

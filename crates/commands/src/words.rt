@@ -1,11 +1,11 @@
 //! The program's words.
 
-ghost use Rattle.std.specs.Prelude.{◌<◌, ℕ, List, map, string_bytes};
+ghost use Rattle.std.specs.Prelude.{◌<◌, ℕ, List, IfOk, map, string_bytes};
 ghost use Rattle.clap.specs.Words.{kind_of};
 ghost use Rattle.clap.specs.declared.builder.value_parser.ValueParser.{ValueParser};
 ghost use Rattle.command_line.specs.Line.{TakesNames, mode_names};
 ghost use Rattle.command_ends.specs.Printing.{Prints, said_of};
-ghost use Rattle.commands.specs.Words.{ReadsWords, RefusesFor};
+ghost use Rattle.commands.specs.Words.{HasSeats, ReadsWords, RefusesFor};
 
 use clap::Error;
 use clap::error::ErrorKind;
@@ -27,10 +27,11 @@ pub fn read_words<'a, E: Output>(
     faults: &mut E,
 ) -> Result<Request<'a>, ExitStatus>
     requires { E.failures faults.old < 18446744073709551615 }
-    ensures { (modes : ValueParser) × TakesNames mode_names modes
+    ensures reads { (modes : ValueParser) × TakesNames mode_names modes
         × ReadsWords modes (map string_bytes words.now) result
         (said_of (E.contents faults.old) (E.failures faults.old))
         (said_of (E.contents faults.new) (E.failures faults.new)) }
+    ensures seats { IfOk result HasSeats }
 {
     match options(alloc, words) {
         Ok(request) => Ok(request),

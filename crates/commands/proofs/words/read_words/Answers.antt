@@ -1,7 +1,13 @@
 use Rattle.std.proofs.Common.{map, string_bytes}
 use Rattle.commands.proofs.Refusing.{refused}
+use Rattle.commands.proofs.Seated.{has_seats}
 use Rattle.commands.proofs.words.read_words.Goals as goal
 
-pub returns-in-Err : goal.returns-in-Err
-returns-in-Err g c =
+pub returns-in-Err-clause-reads : goal.returns-in-Err-clause-reads
+returns-in-Err-clause-reads g c =
     (c.in-Err.ensures.0, c.in-Err.ensures.1, refused c.in-Err.ensures.0 (map string_bytes c.args.words.now) _ _ _ _ c.in-Err.ensures.2 c.refuse.ensures)
+
+pub returns-in-Ok-clause-seats : goal.returns-in-Ok-clause-seats
+returns-in-Ok-clause-seats g c =
+    let asked = c.in-Ok.ensures in
+    has_seats asked.0 (map string_bytes c.args.words.now) c.in-Ok.request asked.3

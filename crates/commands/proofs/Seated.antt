@@ -1,0 +1,24 @@
+-- The seats of a server that is asked for.
+use native.Mathlib.Omega.{arith}
+use Rattle.std.proofs.Common.{List, Option, Some, None}
+use Rattle.std.specs.Prelude.{IsSomeAnd}
+use Rattle.clap.specs.Words.{Row, Text}
+use Rattle.clap.specs.Simple.{subcommand_of}
+use Rattle.clap.specs.declared.builder.value_parser.ValueParser.{ValueParser}
+use Rattle.command_line.specs.Line.{program}
+use Rattle.command_line.specs.Request.{Asks, IsAskedBy}
+use Rattle.command_line.specs.declared.request.Mode.{Mode}
+use Rattle.command_line.specs.declared.request.Request.{Request}
+use Rattle.command_line.specs.declared.request.Request.TheVariants.{Pipe, Serve, Put, Query, Tables}
+use Rattle.commands.specs.Words.{HasSeats}
+
+asked_seats : (found : Option (Text × List Row)) (request : Request) → IsSomeAnd found (λ entered. Asks entered request) → HasSeats request
+asked_seats None request asked = absurd asked
+asked_seats (Some (name, rows)) (Pipe parts workers) asked = tt
+asked_seats (Some (name, rows)) (Serve serving) asked = (omega (arith, asked.1.seats.1), asked.1.seats.2)
+asked_seats (Some (name, rows)) (Put port table mode) asked = tt
+asked_seats (Some (name, rows)) (Query port streams sql) asked = tt
+asked_seats (Some (name, rows)) (Tables port) asked = tt
+
+pub has_seats : (modes : ValueParser) (words : List Text) (request : Request) → IsAskedBy modes words request → HasSeats request
+has_seats modes words request asked = asked_seats (subcommand_of (program modes) words) request asked
