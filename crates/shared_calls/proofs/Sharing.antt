@@ -1,5 +1,5 @@
 -- A put over a seat of a cell.
-use Rattle.std.proofs.Common.{◌≡◌, List, [], ◌∷◌, ◌++◌, Ok, Err, refl, sym, append-nil}
+use Rattle.std.proofs.Common.{◌≡◌, [], ◌∷◌, ◌++◌, Ok, Err, refl, sym, ◌∙◌, append-nil}
 use Rattle.scan_base.specs.declared.fault.Fault.{Fault}
 use Rattle.scan_base.specs.declared.fault.Fault.TheVariants.{OutOfMemory}
 use Rattle.table_versions.specs.Database.{Put}
@@ -7,46 +7,53 @@ use Rattle.version_cell.specs.Puts.{PutsBehind}
 use Rattle.version_cell.specs.Seats as cell
 use Rattle.flight_core.specs.Headline.{Begins}
 use Rattle.flight_core.specs.Log.{Log}
-use Rattle.flight_calls.specs.Seats.{Puts}
-use Rattle.shared_calls.specs.Sharing.{seat_at, onward}
+use Rattle.flight_calls.specs.Seats.{Seat, Puts}
+use Rattle.shared_calls.specs.Sharing.{onward}
 
-begins_itself : (log : Log) → Begins log log
-begins_itself log = ([], sym (append-nil log))
+-- the same log begins with all of it
+begins_same : (log same : Log) → same ≡ log → Begins log same
+begins_same log same is = ([], is ∙ sym (append-nil log))
+
+-- and with what it began with
+begins_as : (log more old new : Log) → Begins log more → old ≡ log → new ≡ more → Begins old new
+begins_as log more old new begins old_is new_is = rw (old_is, new_is) begins
 
 -- the cell's putter made it, and its receipt is kept
-pub accepted : {X : Type 0} (receipt : X) (old new : cell.Seat) (made more : List Put) (put : Put) → PutsBehind (Ok receipt) old put new → cell.Begins old.log new.log
-    → new.enters ≡ old.enters → more ≡ made ++ put ∷ [] → Puts onward (Ok tt) (seat_at old made) put (seat_at new more)
-accepted receipt old new made more put behind kept enters last = record {
+pub accepted : {X : Type 0} (receipt : X) (seat next : cell.Seat) (old new : Seat) (put : Put) → PutsBehind (Ok receipt) seat put next → cell.Begins seat.log next.log
+    → next.enters ≡ seat.enters → old.log ≡ seat.log → old.looks ≡ seat.enters → new.log ≡ next.log → new.looks ≡ next.enters → new.made ≡ old.made ++ put ∷ []
+    → Puts onward (Ok tt) old put new
+accepted receipt seat next old new put behind kept enters log looks new_log new_looks last = record {
   log = behind.log;
-  next = new.log;
+  next = next.log;
   at = (behind.answered.1, behind.answered.0, last);
-  moved = (behind.met, refl);
-  kept = kept;
-  learnt = begins_itself new.log;
-  looks = enters;
+  moved = (begins_as seat.log behind.log old.log behind.log behind.met log refl, new_log);
+  kept = begins_as seat.log next.log old.log new.log kept log new_log;
+  learnt = begins_same next.log new.log new_log;
+  looks = new_looks ∙ enters ∙ sym looks;
 }
 
 -- or refused it
-pub refused : {X : Type 0} (fault : Fault) (old new : cell.Seat) (made same : List Put) (put : Put) → PutsBehind {X = X} (Err fault) old put new → cell.Begins old.log new.log
-    → new.enters ≡ old.enters → same ≡ made → Puts onward (Err fault) (seat_at old made) put (seat_at new same)
-refused fault old new made same put behind kept enters is = record {
+pub refused : {X : Type 0} (fault : Fault) (seat next : cell.Seat) (old new : Seat) (put : Put) → PutsBehind {X = X} (Err fault) seat put next → cell.Begins seat.log next.log
+    → next.enters ≡ seat.enters → old.log ≡ seat.log → old.looks ≡ seat.enters → new.log ≡ next.log → new.looks ≡ next.enters → new.made ≡ old.made
+    → Puts onward (Err fault) old put new
+refused fault seat next old new put behind kept enters log looks new_log new_looks same = record {
   log = behind.log;
-  next = new.log;
-  at = (behind.answered.0, is, behind.answered.1);
-  moved = (behind.met, refl);
-  kept = kept;
-  learnt = begins_itself new.log;
-  looks = enters;
+  next = next.log;
+  at = (behind.answered.0, same, behind.answered.1);
+  moved = (begins_as seat.log behind.log old.log behind.log behind.met log refl, new_log);
+  kept = begins_as seat.log next.log old.log new.log kept log new_log;
+  learnt = begins_same next.log new.log new_log;
+  looks = new_looks ∙ enters ∙ sym looks;
 }
 
 -- memory is refused for its receipt
-pub unmade : (seat : cell.Seat) (made same : List Put) (put : Put) → same ≡ made → Puts onward (Err OutOfMemory) (seat_at seat made) put (seat_at seat same)
-unmade seat made same put is = record {
-  log = seat.log;
-  next = seat.log;
-  at = (refl, is, λ other. absurd (other refl));
-  moved = (begins_itself seat.log, refl);
-  kept = begins_itself seat.log;
-  learnt = begins_itself seat.log;
+pub unmade : (old new : Seat) (put : Put) → new ≡ old → Puts onward (Err OutOfMemory) old put new
+unmade old new put is = rw is record {
+  log = old.log;
+  next = old.log;
+  at = (refl, refl, λ other. absurd (other refl));
+  moved = (begins_same old.log old.log refl, refl);
+  kept = begins_same old.log old.log refl;
+  learnt = begins_same old.log old.log refl;
   looks = refl;
 }

@@ -62,7 +62,7 @@ impl<'a, C: CellName, R: Wait + Drop, H: Wait> Shared<'a, C, R, H> {
         }
     }
 
-    /// The seat, for who shares the cell next. The receipts are let go.
+    /// Gives the cell's seat back, as it then is. The receipts are let go.
     pub fn into_seat(self) -> Scanner<C>
         ensures { seat_at result self.entry.made ≡ self.entry }
     {
