@@ -1,3 +1,5 @@
+use denote.Param.{param}
+use denote.Param.Send.{IsSend, sendable}
 use Rattle.std.proofs.Common.{◌≡◌, List, [], ◌∷◌, ◌++◌, Vec, map, sym, ap, ◌∙◌, rules}
 use Rattle.std.specs.Global.{Global}
 use Rattle.std.proofs.lemmas.List.{map-append, take-append-drop}
@@ -29,4 +31,6 @@ pub join-behind-requires-after_bounds : goal.join-behind-requires-after_bounds
 join-behind-requires-after_bounds g t c κs within =
     let both = All-pop CanCount c.args.others.items c.pop.new.self.items c.pop.result c.pop.ensures.items c.requires.1 in
     let last : CanCount c.in-Some.last = rw c.in-Some.is at both.1 in
-    (last, (search rules, (search rules, (c.requires.0, both.0))))
+    let reads : IsSend (param 1 g.row.R) = search sendable in
+    let writes : IsSend (param 2 g.row.W) = search sendable in
+    (last, (search rules, (search rules, ((λ a m. m), ((λ a m. m), ((reads, writes, c.requires.0, both.0), (reads, writes)))))))
