@@ -35,8 +35,8 @@ pub returns-in_err-streams : goal.returns-in_err-streams
 returns-in_err-streams g c =
     let p = err_from_is_err_and c.from_residual-in_err-streams.result c.from_residual-in_err-streams.ensures.1 in
     let o = c.in_ok-others.ensures in
-    let count : c.saturating_sub.result ≡ most_others c.args.query.streams (seen c.in_ok-endpoints.endpoints) =
-        rw (length-map endpoint_said c.in_ok-endpoints.endpoints.items) (search rules) in
+    let count : c.saturating_sub-most.result ≡ most_others c.args.query.streams (seen c.in_ok-endpoints.endpoints) =
+        rw (length-map c.in_ok-endpoints.endpoints.items endpoint_said) (search rules) in
     rw (p.1, p.2)
     (c.info.new.connection, inr (record {
       endpoints = seen c.in_ok-endpoints.endpoints;
@@ -49,8 +49,8 @@ pub returns-in_err-join : goal.returns-in_err-join
 returns-in_err-join g c =
     let p = err_from_is_err_and c.from_residual-in_err-join.result c.from_residual-in_err-join.ensures.1 in
     let o = c.in_ok-others.ensures in
-    let count : c.saturating_sub.result ≡ most_others c.args.query.streams (seen c.in_ok-endpoints.endpoints) =
-        rw (length-map endpoint_said c.in_ok-endpoints.endpoints.items) (search rules) in
+    let count : c.saturating_sub-most.result ≡ most_others c.args.query.streams (seen c.in_ok-endpoints.endpoints) =
+        rw (length-map c.in_ok-endpoints.endpoints.items endpoint_said) (search rules) in
     rw (p.1, p.2)
     (c.info.new.connection, inr (record {
       endpoints = seen c.in_ok-endpoints.endpoints;
@@ -72,3 +72,18 @@ fetch_over-requires-after_bounds g c κs within =
       asked_counts wanted (seen c.in_ok-endpoints.endpoints) c.args.connection c.info.new.connection found c.requires,
       rw c.in_ok-others.ensures.2 (opened_count c.in_ok-others.ensures.0),
     )
+
+pub returns : goal.returns
+returns g c =
+    let o = c.in_ok-others.ensures in
+    let count : c.saturating_sub-most.result ≡ most_others c.args.query.streams (seen c.in_ok-endpoints.endpoints) =
+        rw (length-map c.in_ok-endpoints.endpoints.items endpoint_said) (search rules) in
+    (c.info.new.connection, record {
+      endpoints = seen c.in_ok-endpoints.endpoints;
+      asked = asked seen (rows_of c.args.query.sql.now) c.args.connection c.info.new.connection c.in_ok-endpoints.endpoints c.in_ok-endpoints.ensures;
+      others = o.0;
+      opened = rw count at o.1;
+      fetched = c.in_ok-streams.streams.items;
+      over = rw (c.deref.ensures.value, o.2) at c.in_ok-streams.ensures;
+      rows_are = c.in_ok-join.ensures.exact;
+    })
