@@ -18,7 +18,7 @@ use Rattle.command_ends.specs.Network.{Ends}
 use Rattle.client_commands.specs.Fetching.{Asks, FetchesEach, FetchStops}
 use Rattle.client_commands.specs.Lines.{CanCount, opened_line}
 use Rattle.client_commands.specs.inside.Parts.{BothGive}
-use Rattle.client_commands.specs.Spread.{Run, IsRun, FetchesOver, StopsOver, FailsOver, GivesEach}
+use Rattle.client_commands.specs.Spread.{Run, IsRun, FetchesOver, FailsOver, GivesEach}
 
 abbrev run_of : List EndpointSaid → List StreamAt → Line → Line → Run
 run_of endpoints streams old new = record { endpoints = endpoints; streams = streams; old = old; new = new }

@@ -29,8 +29,8 @@ pub struct Querying<'a> {
 
 /// Prints the rows that a query answers: a line of the columns' names, and a line for each row, in the order of the
 /// endpoints. These are fetched over up to `streams` connections at a time, each but the first in a thread of its own, or
-/// over as many as the network gives. Nothing is printed before all came. A fault is printed on `faults` in a line, as far as that takes
-/// it; where no connection was made, a second line says so.
+/// over as many as the network gives. Nothing is printed before all came. A fault is printed on `faults` in a line, as far
+/// as that takes it; where no connection was made, a second line says so.
 pub fn query<T: Threads, C: Connect, W: Output, E: Output>(
     rt: &T,
     alloc: Global,

@@ -44,7 +44,9 @@ where
         (rows_of query.entry.sql.now) network.old network.new result connection last }
 {
     let endpoints = info(alloc, &mut connection, Wanted::Rows(query.sql))?;
-    let most = (query.streams as usize).min(endpoints.len()).saturating_sub(1);
+    let most = (query.streams as usize)
+        .min(endpoints.len())
+        .saturating_sub(1);
     let others = open_more(alloc, network, query.port, most)?;
     let streams = fetch_over(rt, alloc, connection, others, &endpoints)?;
     Ok(join(streams)?)

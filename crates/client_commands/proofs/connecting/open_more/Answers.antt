@@ -1,4 +1,4 @@
-use Rattle.std.proofs.Common.{◌≡◌, ◌<◌, ◌++◌, ◌∷◌, ℕ, List, [], map, length, arith, refl, sym, ap, ◌∙◌, inl, inr, rules}
+use Rattle.std.proofs.Common.{◌++◌, ◌∷◌, [], arith, refl, sym, inl, inr, rules}
 use Rattle.std.proofs.lemmas.List.{map-append}
 use Rattle.client_commands.specs.Lines.{opened_line}
 use Rattle.client_commands.proofs.Spread.{gives_more, one_more}

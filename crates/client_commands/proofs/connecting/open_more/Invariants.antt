@@ -1,4 +1,4 @@
-use Rattle.std.proofs.Common.{◌≡◌, ◌≤◌, ℕ, List, map, length}
+use Rattle.std.proofs.Common.{◌≡◌, ◌≤◌, List, map, length}
 use Rattle.std.specs.Prelude.{vec_capacity, vec_len}
 use Rattle.command_ends.specs.Network.{Ends}
 use Rattle.client_commands.specs.Lines.{opened_line}

@@ -1,4 +1,4 @@
-use Rattle.std.proofs.Common.{◌≡◌, ◌-◌, ℕ, List, ◌∷◌, Vec, inl, inr, map, min, length, refl, sym, rules}
+use Rattle.std.proofs.Common.{◌≡◌, List, Vec, inl, inr, map, refl, rules}
 use Rattle.std.specs.Global.{Global}
 use Rattle.std.proofs.lemmas.Result.{err_from_is_err_and}
 use Rattle.std.proofs.lemmas.List.{length-map}
@@ -23,47 +23,56 @@ returns-in_err-endpoints g c =
 pub returns-in_err-others : goal.returns-in_err-others
 returns-in_err-others g c =
     let p = err_from_is_err_and c.from_residual-in_err-others.result c.from_residual-in_err-others.ensures.1 in
-    rw (p.1, p.2)
-    (c.info.new.connection, inr (record {
-      endpoints = seen c.in_ok-endpoints.endpoints;
-      asked = asked seen (rows_of c.args.query.sql.now) c.args.connection c.info.new.connection c.in_ok-endpoints.endpoints c.in_ok-endpoints.ensures;
-      others = c.in_err-others.ensures.0;
-      why = inl (c.in_err-others.ensures.1, refl);
-    }))
+    rw (p.1, p.2) (
+      c.info.new.connection,
+      inr (record {
+        endpoints = seen c.in_ok-endpoints.endpoints;
+        asked = asked seen (rows_of c.args.query.sql.now) c.args.connection c.info.new.connection c.in_ok-endpoints.endpoints c.in_ok-endpoints.ensures;
+        others = c.in_err-others.ensures.0;
+        why = inl (c.in_err-others.ensures.1, refl);
+      }),
+    )
 
 pub returns-in_err-streams : goal.returns-in_err-streams
 returns-in_err-streams g c =
     let p = err_from_is_err_and c.from_residual-in_err-streams.result c.from_residual-in_err-streams.ensures.1 in
     let o = c.in_ok-others.ensures in
     let count : c.saturating_sub-most.result ≡ most_others c.args.query.streams (seen c.in_ok-endpoints.endpoints) =
-        rw (length-map c.in_ok-endpoints.endpoints.items endpoint_said) (search rules) in
-    rw (p.1, p.2)
-    (c.info.new.connection, inr (record {
-      endpoints = seen c.in_ok-endpoints.endpoints;
-      asked = asked seen (rows_of c.args.query.sql.now) c.args.connection c.info.new.connection c.in_ok-endpoints.endpoints c.in_ok-endpoints.ensures;
-      others = o.0;
-      why = inr (rw count at o.1, inl (rw (c.deref.ensures.value, o.2) at c.in_err-streams.ensures));
-    }))
+    rw (length-map c.in_ok-endpoints.endpoints.items endpoint_said) (search rules) in
+    rw (p.1, p.2) (
+      c.info.new.connection,
+      inr (record {
+        endpoints = seen c.in_ok-endpoints.endpoints;
+        asked = asked seen (rows_of c.args.query.sql.now) c.args.connection c.info.new.connection c.in_ok-endpoints.endpoints c.in_ok-endpoints.ensures;
+        others = o.0;
+        why = inr (rw count at o.1, inl (rw (c.deref.ensures.value, o.2) at c.in_err-streams.ensures));
+      }),
+    )
 
 pub returns-in_err-join : goal.returns-in_err-join
 returns-in_err-join g c =
     let p = err_from_is_err_and c.from_residual-in_err-join.result c.from_residual-in_err-join.ensures.1 in
     let o = c.in_ok-others.ensures in
     let count : c.saturating_sub-most.result ≡ most_others c.args.query.streams (seen c.in_ok-endpoints.endpoints) =
-        rw (length-map c.in_ok-endpoints.endpoints.items endpoint_said) (search rules) in
-    rw (p.1, p.2)
-    (c.info.new.connection, inr (record {
-      endpoints = seen c.in_ok-endpoints.endpoints;
-      asked = asked seen (rows_of c.args.query.sql.now) c.args.connection c.info.new.connection c.in_ok-endpoints.endpoints c.in_ok-endpoints.ensures;
-      others = o.0;
-      why = inr (rw count at o.1, inr (record {
-        streams = c.in_ok-streams.streams.items;
-        fetched = rw (c.deref.ensures.value, o.2) at c.in_ok-streams.ensures;
-        fault = _;
-        failure_is = refl;
-        refused = c.in_err-join.ensures.exact;
-      }));
-    }))
+    rw (length-map c.in_ok-endpoints.endpoints.items endpoint_said) (search rules) in
+    rw (p.1, p.2) (
+      c.info.new.connection,
+      inr (record {
+        endpoints = seen c.in_ok-endpoints.endpoints;
+        asked = asked seen (rows_of c.args.query.sql.now) c.args.connection c.info.new.connection c.in_ok-endpoints.endpoints c.in_ok-endpoints.ensures;
+        others = o.0;
+        why = inr (
+          rw count at o.1,
+          inr (record {
+            streams = c.in_ok-streams.streams.items;
+            fetched = rw (c.deref.ensures.value, o.2) at c.in_ok-streams.ensures;
+            fault = _;
+            failure_is = refl;
+            refused = c.in_err-join.ensures.exact;
+          }),
+        );
+      }),
+    )
 
 pub fetch_over-requires-after_bounds : goal.fetch_over-requires-after_bounds
 fetch_over-requires-after_bounds g c κs within =
@@ -77,13 +86,15 @@ pub returns : goal.returns
 returns g c =
     let o = c.in_ok-others.ensures in
     let count : c.saturating_sub-most.result ≡ most_others c.args.query.streams (seen c.in_ok-endpoints.endpoints) =
-        rw (length-map c.in_ok-endpoints.endpoints.items endpoint_said) (search rules) in
-    (c.info.new.connection, record {
-      endpoints = seen c.in_ok-endpoints.endpoints;
-      asked = asked seen (rows_of c.args.query.sql.now) c.args.connection c.info.new.connection c.in_ok-endpoints.endpoints c.in_ok-endpoints.ensures;
-      others = o.0;
-      opened = rw count at o.1;
-      fetched = c.in_ok-streams.streams.items;
-      over = rw (c.deref.ensures.value, o.2) at c.in_ok-streams.ensures;
-      rows_are = c.in_ok-join.ensures.exact;
-    })
+    rw (length-map c.in_ok-endpoints.endpoints.items endpoint_said) (search rules) in (
+      c.info.new.connection,
+      record {
+        endpoints = seen c.in_ok-endpoints.endpoints;
+        asked = asked seen (rows_of c.args.query.sql.now) c.args.connection c.info.new.connection c.in_ok-endpoints.endpoints c.in_ok-endpoints.ensures;
+        others = o.0;
+        opened = rw count at o.1;
+        fetched = c.in_ok-streams.streams.items;
+        over = rw (c.deref.ensures.value, o.2) at c.in_ok-streams.ensures;
+        rows_are = c.in_ok-join.ensures.exact;
+      },
+    )
