@@ -1,4 +1,4 @@
-//! Fetching rows side by side: over several connections, each in a thread of its own.
+//! Fetching rows side by side: over several connections, each but the first in a thread of its own.
 
 ghost use Rattle.std.specs.Prelude.{◌≡◌, ◌<◌, [], ◌∷◌, All, map, MatchResult};
 ghost use Rattle.flight_proto.specs.FlightInfo.{endpoint_said};

@@ -57,9 +57,9 @@ const NOTHING: &[u8] = b"";
 
 // A port that is listened to already.
 #[derive(Drop)]
-struct Bound<'a, R> {
-    port: Port<'a, R>,
-    number: u16,
+pub(crate) struct Bound<'a, R> {
+    pub(crate) port: Port<'a, R>,
+    pub(crate) number: u16,
 }
 
 impl<R: Net<Listener = TcpListener, Stream = TcpStream>> Listen for Bound<'_, R> {
@@ -90,7 +90,7 @@ impl<R: Net<Listener = TcpListener, Stream = TcpStream>> Listen for Bound<'_, R>
 }
 
 // Serves so many connections, and gives the exit status and what is printed.
-fn served<R: Net<Listener = TcpListener, Stream = TcpStream>>(
+pub(crate) fn served<R: Net<Listener = TcpListener, Stream = TcpStream>>(
     alloc: Global,
     seed: HashSeed,
     mut bound: Bound<'_, R>,
@@ -110,7 +110,7 @@ fn served<R: Net<Listener = TcpListener, Stream = TcpStream>>(
 }
 
 // Puts the stream, and gives the exit status and what is printed.
-fn put_stream<R: Net<Listener = TcpListener, Stream = TcpStream>>(
+pub(crate) fn put_stream<R: Net<Listener = TcpListener, Stream = TcpStream>>(
     network: &mut Loopback<'_, R>,
     alloc: Global,
     port: u16,

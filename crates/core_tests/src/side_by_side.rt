@@ -1,18 +1,68 @@
-//! A query over two connections whose second one ends first, over answers in memory.
+//! Queries over two connections: over loopback, and over answers in memory of which the second ends first.
 
 ghost use Rattle.std.specs.Prelude.{◌<◌, ◌≡◌};
 
-use crate::clients::STREAM;
+use crate::clients::{Bound, STREAM, put_stream, served};
 use client_commands::query::{Querying, query};
-use command_ends::Connect;
+use command_ends::{Connect, Listen};
 use grpc_frame::{Input, MemoryInput, MemoryOutput};
+use hash_seed::HashSeed;
+use loopback::{Loopback, Port};
 use scan_base::Fault;
 use std::alloc::{AllocError, Global};
 use std::io::ErrorKind;
+use std::net::{Net, TcpListener, TcpStream};
 use std::sync::atomic::{AtomicU64, Ordering};
 use std::test::Fail;
+use std::thread::Threads;
 use std::time::{Clock, Duration};
 use std::{io, thread};
+
+// ---- over loopback
+
+// The rows that are put, which `serve` cuts in two ranges.
+const ROWS: &[u8] = b"s\n'b'\nNULL\n'a'\nNULL\n'b'\n";
+
+// The exit statuses of a put and of a query over two connections; and what the query prints.
+fn asked<R: Net<Listener = TcpListener, Stream = TcpStream> + Threads>(
+    rt: &R,
+    alloc: Global,
+    port: u16,
+) -> ([u8; 2], MemoryOutput) {
+    let mut network = Loopback::new(rt);
+    let mut output = MemoryOutput::new(alloc);
+    let mut faults = MemoryOutput::new(alloc);
+    let querying = Querying {
+        port,
+        streams: 2,
+        sql: "SELECT s FROM t",
+    };
+    let (put, _) = put_stream(&mut network, alloc, port);
+    let queried = query(rt, alloc, &mut network, &mut output, &mut faults, querying).number();
+    ([put, queried], output)
+}
+
+// One connection for the put and two for the query are served, one at a time.
+#[test]
+fn two_connections(rt: HostRuntime) -> Result<(), Fail> {
+    let runtime = &rt;
+    let alloc = runtime.alloc();
+    let seed = HashSeed::new(runtime)?;
+    let mut port = Port::new(runtime);
+    let number = port.listen(0)?;
+    let bound = Bound { port, number };
+    let (server, client) = thread::join(
+        runtime,
+        move || served(alloc, seed, bound, 3),
+        || asked(runtime, alloc, number),
+    );
+    assert!(rt; server.0 == 0);
+    assert!(rt; client.0 == [0, 0]);
+    assert!(rt; client.1.as_slice() == ROWS);
+    Ok(())
+}
+
+// ---- over answers in memory
 
 // The answer to an info: one FlightInfo of two endpoints, with the tickets `A` and `B`, and status 0.
 const INFO: &[u8] =
@@ -43,6 +93,9 @@ impl<R> Drop for Gated<'_, R> {
     }
 }
 
+// What is added to the number of connections that were closed where none was in time.
+const LATE: u64 = 1_000;
+
 // Waits until a connection was closed, or for 10,000 turns.
 fn wait_for<R: Clock>(rt: &R, closed: &AtomicU64) {
     for _ in 0..10_000 {
@@ -51,6 +104,7 @@ fn wait_for<R: Clock>(rt: &R, closed: &AtomicU64) {
         }
         thread::sleep(rt, Duration::from_millis(1));
     }
+    closed.fetch_add(LATE, Ordering::SeqCst);
 }
 
 impl<R: Clock> Input for Gated<'_, R> {
@@ -152,6 +206,7 @@ fn second_ends_first(rt: HostRuntime) -> Result<(), Fail> {
     let status = query(&rt, alloc, &mut network, &mut output, &mut faults, querying);
     assert!(rt; status.number() == 0);
     assert!(rt; network.made == 2);
+    assert!(rt; closed.load(Ordering::SeqCst) == 2);
     assert!(rt; output.as_slice() == LINES);
     Ok(())
 }
