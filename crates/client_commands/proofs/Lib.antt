@@ -1,3 +1,4 @@
 pub mod Fetched
+pub mod Spread
 pub mod Listing
 pub mod Listed

@@ -7,7 +7,8 @@ use Rattle.client_calls.specs.Outcome.{Line}
 use Rattle.command_ends.specs.Network.{Ends}
 use Rattle.command_ends.specs.declared.exit_status.ExitStatus.{ExitStatus}
 use Rattle.client_commands.specs.Told.{Tells}
-use Rattle.client_commands.specs.Commands.{Desk, FetchesNames, Over, opened_line}
+use Rattle.client_commands.specs.Commands.{Desk, FetchesNames, Over}
+use Rattle.client_commands.specs.Lines.{opened_line}
 
 pub names_told : {A : Type 0} (Gives : Option Ends → Type 0) (view : A → List (List ℕ)) (result : Result A Failure) (ends : Ends) (last : Line) (status : ExitStatus) (old new : Desk)
     → Gives (Some ends) → FetchesNames view result (opened_line ends) last

@@ -1,6 +1,5 @@
 -- What each command of a client does.
-use Rattle.std.specs.Prelude.{◌≡◌, ◌≢◌, ◌⊎◌, ℕ, List, [], Option, Some, None, Result, Ok, Err, codes}
-use Rattle.grpc_frame.specs.declared.place.Place.TheVariants.{InAnswer}
+use Rattle.std.specs.Prelude.{◌≡◌, ◌≢◌, ◌⊎◌, ℕ, List, Option, Some, None, Result, Ok, Err, codes}
 use Rattle.std.specs.List.{flat_map}
 use Rattle.scan_base.specs.declared.fault.Fault.{Fault}
 use Rattle.scan_base.specs.declared.fault.Fault.TheVariants.{OutOfMemory, Transport}
@@ -21,15 +20,10 @@ use Rattle.command_ends.specs.Whole.{Source, ReadsMessages}
 use Rattle.command_ends.specs.declared.exit_status.ExitStatus.{ExitStatus}
 use Rattle.command_ends.specs.declared.exit_status.ExitStatus.TheVariants.{FaultAtThisEnd}
 use Rattle.client_commands.specs.Fetching.{Fetches}
+use Rattle.client_commands.specs.Lines.{opened_line}
+use Rattle.client_commands.specs.Spread.{FetchesSpread}
 use Rattle.client_commands.specs.Names.{names_listed}
 use Rattle.client_commands.specs.Told.{Tells}
-
--- a connection of these ends: nothing came of it, and no call has failed
-abbrev pub opened_line : Ends → Line
-opened_line ends = record {
-  incoming = record { input = ends.input; failed = 0; left = Ok (record { bytes = []; place = InAnswer }) };
-  outgoing = record { output = ends.output; failed = 0 };
-}
 
 -- what a command prints on: its output and its faults, before and behind it
 pub record Desk : Type 0 where
@@ -65,9 +59,15 @@ Connects Gives Made text status old new =
 abbrev pub table_lines : Table → List ℕ
 table_lines table = lines_of table.schema table.rows
 
--- the lines of the rows that a query answers
-abbrev pub Queries : (Option Ends → Type 0) → List ℕ → ExitStatus → Desk → Desk → Type 0
-Queries Gives sql status old new = Connects Gives (Fetches (rows_of sql)) table_lines status old new
+-- what came of asking for the first connection; where the network gave none, no other is asked for
+abbrev pub GivesFirst : {N : Type 0} → (N → Option Ends → N → Type 0) → N → N → N → Option Ends → Type 0
+GivesFirst Gives old middle new None = Gives old None new
+GivesFirst Gives old middle new (Some ends) = Gives old (Some ends) middle
+
+-- the lines of the rows that a query answers, fetched over up to `streams` connections
+abbrev pub Queries : {N : Type 0} → (N → Option Ends → N → Type 0) → ℕ → List ℕ → N → N → ExitStatus → Desk → Desk → Type 0
+Queries {N} Gives streams sql before behind status old new =
+    (middle : N) × Connects (GivesFirst Gives before middle behind) (FetchesSpread Gives streams (rows_of sql) middle behind) table_lines status old new
 
 -- ---- tables
 

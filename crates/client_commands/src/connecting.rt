@@ -1,9 +1,10 @@
 //! Connecting to the server.
 
-ghost use Rattle.std.specs.Prelude.{◌≡◌, ◌<◌, ℕ, List, Some, None, MatchResult};
+ghost use Rattle.std.specs.Prelude.{◌≡◌, ◌<◌, ℕ, List, Some, None, map, MatchResult};
 ghost use Rattle.command_ends.specs.Network.{Ends};
 ghost use Rattle.command_ends.specs.Printing.{Prints, cause_lines, said_of};
-ghost use Rattle.client_commands.specs.Commands.{opened_line};
+ghost use Rattle.client_commands.specs.Lines.{opened_line};
+ghost use Rattle.client_commands.specs.Spread.{GivesEach, Opens};
 ghost use Rattle.command_ends.specs.declared.exit_status.ExitStatus.TheVariants.{FaultAtThisEnd};
 
 use client_calls::Connection;
@@ -29,6 +30,32 @@ pub(crate) fn open<C: Connect>(
 {
     let (reader, writer) = network.connect(port)?;
     Ok(Connection::new(alloc, reader, writer))
+}
+
+/// Opens further connections: `most`, or as many as the network gives. Nothing came of them yet.
+///
+/// # Errors
+///
+/// Where memory is refused for so many.
+pub(crate) fn open_more<C: Connect>(
+    alloc: Global,
+    network: &mut C,
+    port: u16,
+    most: usize,
+) -> Result<Vec<Connection<C::Reader, C::Writer>>, AllocError>
+    ensures { MatchResult result
+        (λ connections. (made : List Ends) × Opens (λ old ends new. C.connects old port ends new) most made network.old network.new
+        × (connections.items ≡ map opened_line made))
+        (λ _. (made : List Ends) × GivesEach (λ old ends new. C.connects old port ends new) made network.old network.new) }
+{
+    let mut connections = Vec::with_capacity(alloc, most)?;
+    for _made in 0..most {
+        match open(alloc, network, port) {
+            Ok(connection) => connections.push_reserved(connection),
+            Err(_) => return Ok(connections),
+        }
+    }
+    Ok(connections)
 }
 
 /// Prints F22, and in a second line that no connection was made to this port, and why.

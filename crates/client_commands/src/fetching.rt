@@ -36,7 +36,7 @@ pub(crate) fn fetch_rows<R: Input, W: Output>(
 }
 
 // The streams of the endpoints, in their order.
-fn fetch_each<R: Input, W: Output>(
+pub(crate) fn fetch_each<R: Input, W: Output>(
     alloc: Global,
     connection: &mut Connection<R, W>,
     endpoints: &[FlightEndpoint],

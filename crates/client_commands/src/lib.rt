@@ -1,7 +1,7 @@
 //! The commands of a client, as functions over the network, what they read from and what they print on.
 //!
-//! `specs/Told.antt` says how a command ends by what came of its calls, `specs/Fetching.antt` how rows are fetched, and
-//! `specs/Commands.antt` what each command does.
+//! `specs/Told.antt` says how a command ends by what came of its calls, `specs/Fetching.antt` how rows are fetched over one
+//! connection, `specs/Spread.antt` how over several, and `specs/Commands.antt` what each command does.
 #![tactic(auto)]
 
 mod connecting;
@@ -9,5 +9,6 @@ mod fetching;
 mod names;
 pub mod put;
 pub mod query;
+mod spreading;
 pub mod tables;
 mod telling;

@@ -6,49 +6,56 @@ ghost use Rattle.client_commands.specs.Told.{Tells};
 ghost use Rattle.client_commands.specs.Commands.{table_lines, Queries, desk_of};
 
 use crate::connecting::{end_unconnected, open};
-use crate::fetching::fetch_rows;
+use crate::spreading::fetch_spread;
 use crate::telling::{end_by_failure, end_by_printing};
 use client_calls::Failure;
 use command_ends::{Connect, ExitStatus};
 use flight_client::Rows;
-use flight_proto::Wanted;
 use grpc_frame::Output;
 use row_lines::write_rows;
 use std::alloc::Global;
+use std::thread::Threads;
 
 /// A query, and where the server listens.
 #[derive(Clone, Copy, Debug, PartialEq, Eq)]
 pub struct Querying<'a> {
     /// The server's port.
     pub port: u16,
+    /// The most connections at a time.
+    pub streams: u32,
     /// The query's text.
     pub sql: &'a str,
 }
 
-/// Prints the rows that a query answers: a line of the columns' names, and a line for each row. Each endpoint's rows are
-/// fetched in turn, and nothing is printed before all came. A fault is printed on `faults` in a line, as far as that takes
-/// it; where no connection was made, a second line says so.
-pub fn query<C: Connect, W: Output, E: Output>(
+/// Prints the rows that a query answers: a line of the columns' names, and a line for each row, in the order of the
+/// endpoints. These are fetched over up to `streams` connections at a time, each but the first in a thread of its own, or
+/// over as many as the network gives. Nothing is printed before all came. A fault is printed on `faults` in a line, as far
+/// as that takes it; where no connection was made, a second line says so.
+pub fn query<T: Threads, C: Connect, W: Output, E: Output>(
+    rt: &T,
     alloc: Global,
     network: &mut C,
     output: &mut W,
     faults: &mut E,
     query: Querying<'_>,
 ) -> ExitStatus
+where
+    C::Reader: Send,
+    C::Writer: Send,
     requires writes { W.failures output.old < 18446744073709551615 }
     requires prints { E.failures faults.old < 18446744073709551615 }
-    ensures { Queries (λ ends. C.connects network.old query.entry.port ends network.new)
-        query.entry.sql.now result
+    ensures { Queries (λ old ends new. C.connects old query.entry.port ends new) query.entry.streams
+        query.entry.sql.now network.old network.new result
         (desk_of (said_of (W.contents output.old) (W.failures output.old))
         (said_of (E.contents faults.old) (E.failures faults.old)))
         (desk_of (said_of (W.contents output.new) (W.failures output.new))
         (said_of (E.contents faults.new) (E.failures faults.new))) }
 {
-    let mut connection = match open(alloc, network, query.port) {
+    let connection = match open(alloc, network, query.port) {
         Ok(connection) => connection,
         Err(error) => return end_unconnected(alloc, faults, query.port, &error),
     };
-    let fetched = fetch_rows(alloc, &mut connection, Wanted::Rows(query.sql));
+    let fetched = fetch_spread(rt, alloc, network, connection, query);
     tell_rows(alloc, output, faults, fetched)
 }
 

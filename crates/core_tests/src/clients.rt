@@ -15,11 +15,12 @@ use loopback::{Loopback, Port};
 use std::alloc::Global;
 use std::net::{Net, TcpListener, TcpStream};
 use std::test::Fail;
+use std::thread::Threads;
 use std::{io, thread};
 
 // An Arrow IPC stream of one nullable column `s` of texts: 'b', NULL, 'a', NULL, 'b'. Its headers are laid out by
 // vectors/arrow/layout.py.
-const STREAM: &[u8] =
+pub(crate) const STREAM: &[u8] =
     b"\xff\xff\xff\xff\x00\x01\x00\x00\x88\x00\x00\x00\x00\x00\x00\x00\xee\xee\xee\xee\xee\xee\xee\xee\
     \x14\x00\x0c\x00\x0a\x00\x08\x00\x04\x00\x00\x00\x00\x00\x00\x00\x00\x00\x00\x00\xee\xee\xee\xee\
     \xee\xee\xee\xee\xee\xee\xee\xee\x12\x00\x08\x00\x00\x00\x04\x00\x00\x00\x00\x00\x00\x00\x00\x00\
@@ -56,9 +57,9 @@ const NOTHING: &[u8] = b"";
 
 // A port that is listened to already.
 #[derive(Drop)]
-struct Bound<'a, R> {
-    port: Port<'a, R>,
-    number: u16,
+pub(crate) struct Bound<'a, R> {
+    pub(crate) port: Port<'a, R>,
+    pub(crate) number: u16,
 }
 
 impl<R: Net<Listener = TcpListener, Stream = TcpStream>> Listen for Bound<'_, R> {
@@ -89,7 +90,7 @@ impl<R: Net<Listener = TcpListener, Stream = TcpStream>> Listen for Bound<'_, R>
 }
 
 // Serves so many connections, and gives the exit status and what is printed.
-fn served<R: Net<Listener = TcpListener, Stream = TcpStream>>(
+pub(crate) fn served<R: Net<Listener = TcpListener, Stream = TcpStream>>(
     alloc: Global,
     seed: HashSeed,
     mut bound: Bound<'_, R>,
@@ -109,7 +110,7 @@ fn served<R: Net<Listener = TcpListener, Stream = TcpStream>>(
 }
 
 // Puts the stream, and gives the exit status and what is printed.
-fn put_stream<R: Net<Listener = TcpListener, Stream = TcpStream>>(
+pub(crate) fn put_stream<R: Net<Listener = TcpListener, Stream = TcpStream>>(
     network: &mut Loopback<'_, R>,
     alloc: Global,
     port: u16,
@@ -134,7 +135,7 @@ fn put_stream<R: Net<Listener = TcpListener, Stream = TcpStream>>(
 }
 
 // The exit statuses of a put, a list of the tables and a query; what the put prints, and what the others print.
-fn asked<R: Net<Listener = TcpListener, Stream = TcpStream>>(
+fn asked<R: Net<Listener = TcpListener, Stream = TcpStream> + Threads>(
     rt: &R,
     alloc: Global,
     port: u16,
@@ -142,15 +143,19 @@ fn asked<R: Net<Listener = TcpListener, Stream = TcpStream>>(
     let mut network = Loopback::new(rt);
     let mut output = MemoryOutput::new(alloc);
     let mut faults = MemoryOutput::new(alloc);
-    let grouped = Querying { port, sql: GROUPED };
+    let grouped = Querying {
+        port,
+        streams: 2,
+        sql: GROUPED,
+    };
     let (put, counted) = put_stream(&mut network, alloc, port);
     let listed = tables(alloc, &mut network, &mut output, &mut faults, port).number();
-    let queried = query(alloc, &mut network, &mut output, &mut faults, grouped).number();
+    let queried = query(rt, alloc, &mut network, &mut output, &mut faults, grouped).number();
     ([put, listed, queried], counted, output)
 }
 
 // The exit statuses of a put, and of a query whose output is closed; and what that says.
-fn refused<R: Net<Listener = TcpListener, Stream = TcpStream>>(
+fn refused<R: Net<Listener = TcpListener, Stream = TcpStream> + Threads>(
     rt: &R,
     alloc: Global,
     port: u16,
@@ -158,9 +163,13 @@ fn refused<R: Net<Listener = TcpListener, Stream = TcpStream>>(
     let mut network = Loopback::new(rt);
     let mut closed = MemoryOutput::new(alloc).failing_after(0);
     let mut faults = MemoryOutput::new(alloc);
-    let grouped = Querying { port, sql: GROUPED };
+    let grouped = Querying {
+        port,
+        streams: 2,
+        sql: GROUPED,
+    };
     let (put, _) = put_stream(&mut network, alloc, port);
-    let queried = query(alloc, &mut network, &mut closed, &mut faults, grouped).number();
+    let queried = query(rt, alloc, &mut network, &mut closed, &mut faults, grouped).number();
     ([put, queried], faults)
 }
 

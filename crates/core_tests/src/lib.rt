@@ -14,6 +14,8 @@ mod program;
 #[cfg(test)]
 mod ranges;
 #[cfg(test)]
+mod side_by_side;
+#[cfg(test)]
 mod steps;
 #[cfg(test)]
 mod tables;

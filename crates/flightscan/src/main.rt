@@ -25,6 +25,7 @@ use std::io::ErrorKind;
 use std::net::{Net, TcpListener, TcpStream};
 use std::process::ExitCode;
 use std::random::RandomSource;
+use std::thread::Threads;
 
 // The mode of a put, as the client calls it.
 fn mode_of(mode: Mode) -> client_calls::Mode
@@ -86,7 +87,7 @@ fn run<R, I: Input, W: Output, E: Output>(
     faults: &mut E,
 ) -> ExitStatus
 where
-    R: Net<Listener = TcpListener, Stream = TcpStream> + RandomSource + AllocGlobal,
+    R: Net<Listener = TcpListener, Stream = TcpStream> + RandomSource + AllocGlobal + Threads,
     requires reads { I.failures input.old < 18446744073709551615 }
     requires writes { W.failures output.old < 18446744073709551615 }
     requires prints { E.failures faults.old < 18446744073709551615 }
@@ -99,14 +100,9 @@ where
             let putting = Putting { port, target };
             put(rt.alloc(), &mut network, input, output, faults, putting)
         }
-        Request::Query { port, sql, .. } => {
-            query(
-                rt.alloc(),
-                &mut network,
-                output,
-                faults,
-                Querying { port, sql },
-            )
+        Request::Query { port, streams, sql } => {
+            let querying = Querying { port, streams, sql };
+            query(rt, rt.alloc(), &mut network, output, faults, querying)
         }
         Request::Tables { port } => tables(rt.alloc(), &mut network, output, faults, port),
         request => run_server(rt, request, input, output, faults),

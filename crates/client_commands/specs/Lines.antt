@@ -1,0 +1,16 @@
+-- A connection as it is opened.
+use Rattle.std.specs.Prelude.{◌<◌, [], Ok}
+use Rattle.grpc_frame.specs.declared.place.Place.TheVariants.{InAnswer}
+use Rattle.client_calls.specs.Outcome.{Line}
+use Rattle.command_ends.specs.Network.{Ends}
+
+-- a connection of these ends: nothing came of it, and no call has failed
+abbrev pub opened_line : Ends → Line
+opened_line ends = record {
+  incoming = record { input = ends.input; failed = 0; left = Ok (record { bytes = []; place = InAnswer }) };
+  outgoing = record { output = ends.output; failed = 0 };
+}
+
+-- a failure more of each end can be counted
+abbrev pub CanCount : Line → Type 0
+CanCount line = (line.incoming.failed < 18446744073709551615) × (line.outgoing.failed < 18446744073709551615)

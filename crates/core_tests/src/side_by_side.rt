@@ -1,0 +1,212 @@
+//! Queries over two connections: over loopback, and over answers in memory of which the second ends first.
+
+ghost use Rattle.std.specs.Prelude.{◌<◌, ◌≡◌};
+
+use crate::clients::{Bound, STREAM, put_stream, served};
+use client_commands::query::{Querying, query};
+use command_ends::{Connect, Listen};
+use grpc_frame::{Input, MemoryInput, MemoryOutput};
+use hash_seed::HashSeed;
+use loopback::{Loopback, Port};
+use scan_base::Fault;
+use std::alloc::{AllocError, Global};
+use std::io::ErrorKind;
+use std::net::{Net, TcpListener, TcpStream};
+use std::sync::atomic::{AtomicU64, Ordering};
+use std::test::Fail;
+use std::thread::Threads;
+use std::time::{Clock, Duration};
+use std::{io, thread};
+
+// ---- over loopback
+
+// The rows that are put, which `serve` cuts in two ranges.
+const ROWS: &[u8] = b"s\n'b'\nNULL\n'a'\nNULL\n'b'\n";
+
+// The exit statuses of a put and of a query over two connections; and what the query prints.
+fn asked<R: Net<Listener = TcpListener, Stream = TcpStream> + Threads>(
+    rt: &R,
+    alloc: Global,
+    port: u16,
+) -> ([u8; 2], MemoryOutput) {
+    let mut network = Loopback::new(rt);
+    let mut output = MemoryOutput::new(alloc);
+    let mut faults = MemoryOutput::new(alloc);
+    let querying = Querying {
+        port,
+        streams: 2,
+        sql: "SELECT s FROM t",
+    };
+    let (put, _) = put_stream(&mut network, alloc, port);
+    let queried = query(rt, alloc, &mut network, &mut output, &mut faults, querying).number();
+    ([put, queried], output)
+}
+
+// One connection for the put and two for the query are served, one at a time.
+#[test]
+fn two_connections(rt: HostRuntime) -> Result<(), Fail> {
+    let runtime = &rt;
+    let alloc = runtime.alloc();
+    let seed = HashSeed::new(runtime)?;
+    let mut port = Port::new(runtime);
+    let number = port.listen(0)?;
+    let bound = Bound { port, number };
+    let (server, client) = thread::join(
+        runtime,
+        move || served(alloc, seed, bound, 3),
+        || asked(runtime, alloc, number),
+    );
+    assert!(rt; server.0 == 0);
+    assert!(rt; client.0 == [0, 0]);
+    assert!(rt; client.1.as_slice() == ROWS);
+    Ok(())
+}
+
+// ---- over answers in memory
+
+// The answer to an info: one FlightInfo of two endpoints, with the tickets `A` and `B`, and status 0.
+const INFO: &[u8] =
+    b"\x02\x00\x00\x00\x00\x0e\x1a\x05\x0a\x03\x0a\x01A\x1a\x05\x0a\x03\x0a\x01B\x04\x00\x00\x00";
+
+// The lines of both streams, in the order of the endpoints.
+const LINES: &[u8] = b"s\n'b'\nNULL\n'a'\nNULL\n'b'\n'v'\nNULL\n'x'\nNULL\n'z'\n";
+
+// An input whose reads behind the first one wait until another connection was closed, or for 10,000 turns.
+struct Gated<'a, R> {
+    rt: &'a R,
+    input: MemoryInput<'a>,
+    closed: &'a AtomicU64,
+    is_first: bool,
+    waits: bool,
+}
+
+impl<R> Drop for Gated<'_, R> {
+    fn drop(self) {
+        let Gated {
+            rt: _,
+            input: _,
+            closed,
+            is_first: _,
+            waits: _,
+        } = self;
+        closed.fetch_add(1, Ordering::SeqCst);
+    }
+}
+
+// What is added to the number of connections that were closed where none was in time.
+const LATE: u64 = 1_000;
+
+// Waits until a connection was closed, or for 10,000 turns.
+fn wait_for<R: Clock>(rt: &R, closed: &AtomicU64) {
+    for _ in 0..10_000 {
+        if closed.load(Ordering::SeqCst) > 0 {
+            return;
+        }
+        thread::sleep(rt, Duration::from_millis(1));
+    }
+    closed.fetch_add(LATE, Ordering::SeqCst);
+}
+
+impl<R: Clock> Input for Gated<'_, R> {
+    ghost use Rattle.std.specs.Prelude.{Some, length};
+
+    ghost remaining = { λ g. Some g.input.bytes };
+
+    ghost failures = { λ g. g.input.failures };
+
+    ghost turns = { λ g. length g.input.bytes };
+
+    fn read(&mut self, piece: &mut [u8]) -> Result<usize, Fault> {
+        if self.waits {
+            wait_for(self.rt, self.closed);
+        }
+        self.waits = self.is_first;
+        self.input.read(piece)
+    }
+
+    fn failures(&self) -> u64 {
+        self.input.failures()
+    }
+}
+
+// A network of two connections: the first one's answers are read behind the second one's end.
+#[derive(Drop)]
+struct Two<'a, R> {
+    rt: &'a R,
+    alloc: Global,
+    first: &'a [u8],
+    second: &'a [u8],
+    closed: &'a AtomicU64,
+    made: u32,
+}
+
+impl<'a, R: Clock> Connect for Two<'a, R> {
+    type Reader = Gated<'a, R>;
+
+    type Writer = MemoryOutput;
+
+    ghost connects = { λ _ _ _ _. Unit {0} };
+
+    fn connect(&mut self, _port: u16) -> io::Result<(Gated<'a, R>, MemoryOutput)> {
+        self.made = self.made.saturating_add(1);
+        let (bytes, is_first) = match self.made {
+            1 => (self.first, true),
+            2 => (self.second, false),
+            _ => return Err(io::Error::from(ErrorKind::NotConnected)),
+        };
+        let input = MemoryInput::new(bytes).in_pieces_of(INFO.len().max(1));
+        let gated = Gated {
+            rt: self.rt,
+            input,
+            closed: self.closed,
+            is_first,
+            waits: false,
+        };
+        Ok((gated, MemoryOutput::new(self.alloc)))
+    }
+}
+
+// Adds the answer to a fetch: the schema, a batch of five rows with these letters of texts, and status 0.
+fn add_stream(answer: &mut Vec<u8>, letters: &[u8; 5]) -> Result<(), AllocError> {
+    answer.extend_from_slice(b"\x02\x00\x00\x00\x01\x03\x12\x80\x02")?;
+    answer.extend_from_slice(&STREAM[8..264])?;
+    answer.extend_from_slice(b"\x02\x00\x00\x00\x01\x16\x12\xe8\x01")?;
+    answer.extend_from_slice(&STREAM[272..504])?;
+    answer.extend_from_slice(b"\xc2\x3e\x28")?;
+    answer.extend_from_slice(&STREAM[504..536])?;
+    answer.extend_from_slice(letters)?;
+    answer.extend_from_slice(&STREAM[541..544])?;
+    answer.extend_from_slice(b"\x04\x00\x00\x00")
+}
+
+#[test]
+fn second_ends_first(rt: HostRuntime) -> Result<(), Fail> {
+    let alloc = rt.alloc();
+    let mut first = Vec::new(alloc);
+    first.extend_from_slice(INFO)?;
+    add_stream(&mut first, b"baaab")?;
+    let mut second = Vec::new(alloc);
+    add_stream(&mut second, b"vwxyz")?;
+    let closed = AtomicU64::new(0);
+    let mut network = Two {
+        rt: &rt,
+        alloc,
+        first: first.as_slice(),
+        second: second.as_slice(),
+        closed: &closed,
+        made: 0,
+    };
+    let mut output = MemoryOutput::new(alloc);
+    let mut faults = MemoryOutput::new(alloc);
+    let querying = Querying {
+        port: 1,
+        streams: 3,
+        sql: "SELECT s FROM t",
+    };
+    let status = query(&rt, alloc, &mut network, &mut output, &mut faults, querying);
+    assert!(rt; status.number() == 0);
+    assert!(rt; network.made == 2);
+    assert!(rt; closed.load(Ordering::SeqCst) == 2);
+    assert!(rt; output.as_slice() == LINES);
+    Ok(())
+}
