@@ -5,6 +5,7 @@
 ghost use Rattle.std.specs.Prelude.{◌<◌, ◌≡◌};
 ghost use Rattle.command_line.specs.declared.request.Mode.TheVariants as asked;
 ghost use Rattle.client_calls.specs.declared.putting.Mode.TheVariants as sent;
+ghost use Rattle.commands.specs.Words.{HasSeats};
 
 use client_calls::Target;
 use client_commands::put::{Putting, put};
@@ -14,7 +15,7 @@ use command_ends::{ExitStatus, end_by_fault};
 use command_line::{Mode, Request};
 use commands::arguments::refuse_arguments;
 use commands::pipe::pipe;
-use commands::serve::serve;
+use commands::serve::{Host, serve};
 use commands::words::read_words;
 use flight_calls::Options;
 use grpc_frame::{Counted, Input, Output};
@@ -25,6 +26,7 @@ use std::io::ErrorKind;
 use std::net::{Net, TcpListener, TcpStream};
 use std::process::ExitCode;
 use std::random::RandomSource;
+use std::sync::Wait;
 use std::thread::Threads;
 
 // The mode of a put, as the client calls it.
@@ -50,7 +52,9 @@ fn run_server<R, I: Input, W: Output, E: Output>(
     faults: &mut E,
 ) -> ExitStatus
 where
-    R: Net<Listener = TcpListener, Stream = TcpStream> + RandomSource + AllocGlobal,
+    R: Net<Listener = TcpListener, Stream = TcpStream>,
+    R: RandomSource + AllocGlobal + Threads + Wait + Sync,
+    requires seats { HasSeats request }
     requires reads { I.failures input.old < 18446744073709551615 }
     requires writes { W.failures output.old < 18446744073709551615 }
     requires prints { E.failures faults.old < 18446744073709551615 }
@@ -60,14 +64,9 @@ where
     };
     match request {
         Request::Serve(serving) => {
-            serve(
-                rt.alloc(),
-                seed,
-                &mut Port::new(rt),
-                output,
-                faults,
-                serving,
-            )
+            let alloc = rt.alloc();
+            let host = Host { rt, alloc, seed };
+            serve(host, &mut Port::new(rt), output, faults, serving)
         }
         Request::Pipe { parts, workers } => {
             let workers = workers as usize;
@@ -87,7 +86,9 @@ fn run<R, I: Input, W: Output, E: Output>(
     faults: &mut E,
 ) -> ExitStatus
 where
-    R: Net<Listener = TcpListener, Stream = TcpStream> + RandomSource + AllocGlobal + Threads,
+    R: Net<Listener = TcpListener, Stream = TcpStream>,
+    R: RandomSource + AllocGlobal + Threads + Wait + Sync,
+    requires seats { HasSeats request }
     requires reads { I.failures input.old < 18446744073709551615 }
     requires writes { W.failures output.old < 18446744073709551615 }
     requires prints { E.failures faults.old < 18446744073709551615 }
