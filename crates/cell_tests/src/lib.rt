@@ -4,6 +4,10 @@
 #[cfg(test)]
 mod alone;
 #[cfg(test)]
+mod index;
+#[cfg(test)]
 mod rows;
 #[cfg(test)]
 mod several;
+#[cfg(test)]
+mod told;
