@@ -4,8 +4,6 @@
 #[cfg(test)]
 mod calls;
 #[cfg(test)]
-mod clients;
-#[cfg(test)]
 mod command_lines;
 #[cfg(test)]
 mod first_run;
@@ -13,8 +11,6 @@ mod first_run;
 mod program;
 #[cfg(test)]
 mod ranges;
-#[cfg(test)]
-mod side_by_side;
 #[cfg(test)]
 mod steps;
 #[cfg(test)]

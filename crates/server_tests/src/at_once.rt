@@ -93,7 +93,8 @@ fn open_connection(rt: HostRuntime) -> Result<(), Fail> {
 }
 
 // The first records of a put, up to a message of which a part is missing.
-const CUT_PUT: &[u8] = b"\x01\x00\x2a/arrow.flight.protocol.FlightService/DoPut\x02\x00\x00\x00\x00\x04\x0a\x02";
+const CUT_PUT: &[u8] =
+    b"\x01\x00\x2a/arrow.flight.protocol.FlightService/DoPut\x02\x00\x00\x00\x00\x04\x0a\x02";
 
 // Begins a put, and closes the connection.
 fn cut_a_put<R: Net<Listener = TcpListener, Stream = TcpStream>>(

@@ -2,9 +2,11 @@
 
 ghost use Rattle.std.specs.Prelude.{◌<◌, ◌≡◌};
 
-use crate::clients::{Bound, STREAM, put_stream, served};
+use crate::clients::{STREAM, put_stream};
+use crate::serving::{Bound, served};
 use client_commands::query::{Querying, query};
 use command_ends::{Connect, Listen};
+use commands::serve::Host;
 use grpc_frame::{Input, MemoryInput, MemoryOutput};
 use hash_seed::HashSeed;
 use loopback::{Loopback, Port};
@@ -42,7 +44,7 @@ fn asked<R: Net<Listener = TcpListener, Stream = TcpStream> + Threads>(
     ([put, queried], output)
 }
 
-// One connection for the put and two for the query are served, one at a time.
+// One connection for the put and two for the query are served.
 #[test]
 fn two_connections(rt: HostRuntime) -> Result<(), Fail> {
     let runtime = &rt;
@@ -51,9 +53,14 @@ fn two_connections(rt: HostRuntime) -> Result<(), Fail> {
     let mut port = Port::new(runtime);
     let number = port.listen(0)?;
     let bound = Bound { port, number };
+    let host = Host {
+        rt: runtime,
+        alloc,
+        seed,
+    };
     let (server, client) = thread::join(
         runtime,
-        move || served(alloc, seed, bound, 3),
+        move || served(host, bound, 3),
         || asked(runtime, alloc, number),
     );
     assert!(rt; server.0 == 0);

@@ -2,14 +2,14 @@
 
 ghost use Rattle.std.specs.Prelude.{◌<◌, ◌≡◌, IfOk};
 
+use crate::serving::{Bound, served};
 use client_calls::{Mode, Target};
 use client_commands::put::{Putting, put};
 use client_commands::query::{Querying, query};
 use client_commands::tables::tables;
 use command_ends::{Connect, Listen};
-use command_line::Serving;
-use commands::serve::serve;
-use grpc_frame::{Counted, MemoryInput, MemoryOutput};
+use commands::serve::Host;
+use grpc_frame::{MemoryInput, MemoryOutput};
 use hash_seed::HashSeed;
 use loopback::{Loopback, Port};
 use std::alloc::Global;
@@ -54,60 +54,6 @@ const TRANSPORT_LINE: &[u8] = b"fault: F22 Transport\n";
 const NOTHING: &[u8] = b"";
 
 // ---- over loopback
-
-// A port that is listened to already.
-#[derive(Drop)]
-pub(crate) struct Bound<'a, R> {
-    pub(crate) port: Port<'a, R>,
-    pub(crate) number: u16,
-}
-
-impl<R: Net<Listener = TcpListener, Stream = TcpStream>> Listen for Bound<'_, R> {
-    type Reader = Counted<TcpStream>;
-
-    type Writer = Counted<TcpStream>;
-
-    ghost listens = { λ _ _ _ _. Unit {0} };
-
-    ghost shares = { λ _ _. Unit {0} };
-
-    ghost accepts = { λ _ _ _. Unit {0} };
-
-    fn listen(&mut self, _port: u16) -> io::Result<u16> {
-        Ok(self.number)
-    }
-
-    fn share(&self) -> io::Result<Self> {
-        Ok(Bound {
-            port: self.port.share()?,
-            number: self.number,
-        })
-    }
-
-    fn accept(&mut self) -> io::Result<(Counted<TcpStream>, Counted<TcpStream>)> {
-        self.port.accept()
-    }
-}
-
-// Serves so many connections, and gives the exit status and what is printed.
-pub(crate) fn served<R: Net<Listener = TcpListener, Stream = TcpStream>>(
-    alloc: Global,
-    seed: HashSeed,
-    mut bound: Bound<'_, R>,
-    accept: u16,
-) -> (u8, MemoryOutput, MemoryOutput) {
-    let mut output = MemoryOutput::new(alloc);
-    let mut faults = MemoryOutput::new(alloc);
-    let serving = Serving {
-        port: 0,
-        seats: 1,
-        accept,
-        parts: 2,
-        workers: 1,
-    };
-    let status = serve(alloc, seed, &mut bound, &mut output, &mut faults, serving).number();
-    (status, output, faults)
-}
 
 // Puts the stream, and gives the exit status and what is printed.
 pub(crate) fn put_stream<R: Net<Listener = TcpListener, Stream = TcpStream>>(
@@ -181,9 +127,14 @@ fn three_commands(rt: HostRuntime) -> Result<(), Fail> {
     let mut port = Port::new(runtime);
     let number = port.listen(0)?;
     let bound = Bound { port, number };
+    let host = Host {
+        rt: runtime,
+        alloc,
+        seed,
+    };
     let (server, client) = thread::join(
         runtime,
-        move || served(alloc, seed, bound, 3),
+        move || served(host, bound, 3),
         || asked(runtime, alloc, number),
     );
     assert!(rt; server.0 == 0);
@@ -209,9 +160,14 @@ fn closed_output(rt: HostRuntime) -> Result<(), Fail> {
     let mut port = Port::new(runtime);
     let number = port.listen(0)?;
     let bound = Bound { port, number };
+    let host = Host {
+        rt: runtime,
+        alloc,
+        seed,
+    };
     let (server, client) = thread::join(
         runtime,
-        move || served(alloc, seed, bound, 2),
+        move || served(host, bound, 2),
         || refused(runtime, alloc, number),
     );
     assert!(rt; server.0 == 0);
