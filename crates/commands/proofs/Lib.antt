@@ -2,3 +2,4 @@ pub mod Refusing
 pub mod Serving
 pub mod Crews
 pub mod Seated
+pub mod Together

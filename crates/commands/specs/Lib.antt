@@ -1,4 +1,5 @@
 pub mod Pipe
 pub mod Serve
+pub mod Together
 pub mod Words
 pub mod inside

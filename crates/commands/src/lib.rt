@@ -7,6 +7,7 @@
 
 pub mod arguments;
 mod crew;
+pub mod laws;
 pub mod pipe;
 pub mod serve;
 pub mod turns;

@@ -17,7 +17,8 @@ use Rattle.flight_calls.specs.Seats.{Seat, Moves}
 use Rattle.flight_calls.specs.Reacts.{StartsAt, Reacts, Answers}
 use Rattle.flight_calls.specs.Joining.{LaterCallsSee, logs_of, Replied, FetchServed, InfoServed, SeatsMeetJoined}
 
-answers_keep : (moves : Moves) (options : Options) (old new : Seat) (calls : List Call) (replies : List ReplyAt) → Answers moves options old calls replies new → Begins old.log new.log
+-- a seat only grows
+pub answers_keep : (moves : Moves) (options : Options) (old new : Seat) (calls : List Call) (replies : List ReplyAt) → Answers moves options old calls replies new → Begins old.log new.log
 answers_keep moves options old new [] [] a = begins_same old.log new.log (ap (λ (s : Seat). s.log) a)
 answers_keep moves options old new [] (reply ∷ replies) a = absurd a
 answers_keep moves options old new (call ∷ calls) [] a = absurd a
@@ -61,6 +62,13 @@ stepped moves options old new (c ∷ calls) (r ∷ replies) a zero call reply lo
 stepped moves options old new (c ∷ calls) (r ∷ replies) a (suc place) call reply log e f at =
     stepped moves options a.0 new calls replies a.2 place call reply log e f at
 
+-- the log from which a reply was a step is a beginning of what the connection's seat has seen
+pub begins_last : (moves : Moves) (told log : Log) (asked : Asked) (reply : ReplyAt) (r : Replied moves told asked reply log) → Begins log r.new.seat.log
+begins_last moves told log asked reply r =
+    let s = stepped moves r.options r.old.seat r.new.seat r.serves.calls r.serves.replies r.serves.answers r.place r.call reply log r.called r.replied r.at in
+    let step : StepOn log asked reply s.after = subst (λ (q : Result Asked Fault). ReplyTo q log reply s.after) r.asks s.step in
+    begins_on log s.after r.new.seat.log (step_grows log asked reply s.after step) s.seen
+
 -- the step of a reply of a connection, and its seat
 record Known (told log : Log) (asked : Asked) (reply : ReplyAt) : Type 0 where
   after : Log
@@ -70,13 +78,14 @@ record Known (told log : Log) (asked : Asked) (reply : ReplyAt) : Type 0 where
 known : (moves : Moves) (told log : Log) (asked : Asked) (reply : ReplyAt) → Replied moves told asked reply log → Known told log asked reply
 known moves told log asked reply r =
     let s = stepped moves r.options r.old.seat r.new.seat r.serves.calls r.serves.replies r.serves.answers r.place r.call reply log r.called r.replied r.at in
-    let step : StepOn log asked reply s.after = subst (λ (q : Result Asked Fault). ReplyTo q log reply s.after) r.asks s.step in
-    let last = r.new.seat.log in
-    let grown = begins_on log s.after last (step_grows log asked reply s.after step) s.seen in
     record {
       after = s.after;
-      step = step;
-      saw = record { seat = r.seen; saw = begins_on log last r.seen grown r.kept; learnt = r.learnt };
+      step = subst (λ (q : Result Asked Fault). ReplyTo q log reply s.after) r.asks s.step;
+      saw = record {
+        seat = r.seen;
+        saw = begins_on log r.new.seat.log r.seen (begins_last moves told log asked reply r) r.kept;
+        learnt = r.learnt;
+      };
     }
 
 -- ---- several connections

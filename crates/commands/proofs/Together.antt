@@ -1,0 +1,142 @@
+-- All that the connections of a worker have left is of its history.
+use Rattle.std.proofs.Common.{◌≡◌, ◌≤◌, ℕ, zero, suc, ◌+◌, List, [], ◌∷◌, ◌++◌, Option, Some, None, Result, Ok, Err, ap, refl, length, arith, length-append}
+use Rattle.std.specs.List.{slice_get}
+use Rattle.scan_base.specs.declared.fault.Fault.{Fault}
+use Rattle.endpoint_split.specs.Handle.{HandleAt}
+use Rattle.ipc_batch.specs.Said.{Rows}
+use Rattle.flight_proto.specs.Wanted.{Wanted}
+use Rattle.flight_info.proofs.Results.{same_some}
+use Rattle.flight_info.specs.Replies.{ReplyAt, whole}
+use Rattle.flight_core.specs.Asked.{Asked, info, tables, fetch}
+use Rattle.flight_core.specs.Headline.{Begins, Joined, Pairwise}
+use Rattle.flight_core.specs.Log.{Log, puts_in}
+use Rattle.flight_core.proofs.Running.{begins_on, begins_same}
+use Rattle.flight_calls.specs.declared.setting.Options.{Options}
+use Rattle.flight_calls.specs.Seats.{Moves, Seat}
+use Rattle.flight_calls.specs.Owed.{Connection, Serves, connection_of}
+use Rattle.flight_calls.specs.Joining.{Replied, FetchServed, InfoServed}
+use Rattle.flight_calls.proofs.Joining.{answers_keep, begins_last, seats_meet_joined}
+use Rattle.shared_calls.specs.Sharing.{onward}
+use Rattle.command_ends.specs.Network.{Ends}
+use Rattle.commands.specs.Serve.{Accept, Failed, Took, Worker, ServesInTurn, worker_of}
+use Rattle.commands.specs.Together.{Takes, InfoOf, FetchOf, ServerMeetsHeadline}
+
+serves_keeps : (moves : Moves) (options : Options) (result : Result (Unit {0}) Fault) (old new : Connection) → Serves moves options result old new → Begins old.seat.log new.seat.log
+serves_keeps moves options result old new serves = answers_keep moves options old.seat new.seat serves.calls serves.replies serves.answers
+
+-- ---- a worker's connections
+
+-- the seat only grows
+turns_keep : {L : Type 0} (accepts : L → Option Ends → L → Type 0) (moves : Moves) (options : Options) (all : List (Accept L)) (more patience : ℕ) (result : Result (Unit {0}) Fault) (old new : Worker L)
+    → ServesInTurn accepts moves options all more patience result old new → Begins old.seat.log new.seat.log
+turns_keep {L} accepts moves options [] zero patience result old new s = begins_same old.seat.log new.seat.log (ap (λ (w : Worker L). w.seat.log) s.1)
+turns_keep {L} accepts moves options [] (suc more) zero result old new s = begins_same old.seat.log new.seat.log (ap (λ (w : Worker L). w.seat.log) s.1)
+turns_keep {L} accepts moves options [] (suc more) (suc patience) result old new s = absurd s
+turns_keep {L} accepts moves options (Failed listener ∷ all) zero patience result old new s = absurd s
+turns_keep {L} accepts moves options (Failed listener ∷ all) (suc more) zero result old new s = absurd s
+turns_keep {L} accepts moves options (Failed listener ∷ all) (suc more) (suc patience) result old new s =
+    turns_keep accepts moves options all (suc more) patience result (worker_of listener old.seat) new s.1
+turns_keep {L} accepts moves options (Took listener ends served last ∷ all) zero patience result old new s = absurd s
+turns_keep {L} accepts moves options (Took listener ends served last ∷ all) (suc more) zero result old new s = absurd s
+turns_keep {L} accepts moves options (Took listener ends served last ∷ all) (suc more) (suc patience) result old new s =
+    begins_on old.seat.log last.seat.log new.seat.log
+    (serves_keeps moves options served (connection_of ends.input ends.output 0 0 old.seat) last s.1)
+    (turns_keep accepts moves options all more 100 result (worker_of listener last.seat) new s.2)
+
+-- so each connection has left no more than the last one
+left_within : {L : Type 0} (accepts : L → Option Ends → L → Type 0) (moves : Moves) (options : Options) (all : List (Accept L)) (more patience : ℕ) (result : Result (Unit {0}) Fault) (old new : Worker L)
+    (place : ℕ) (at : L) (ends : Ends) (served : Result (Unit {0}) Fault) (last : Connection)
+    → ServesInTurn accepts moves options all more patience result old new → slice_get all place ≡ Some (Took at ends served last) → Begins last.seat.log new.seat.log
+left_within {L} accepts moves options [] more patience result old new place at ends served last s e = absurd cc
+left_within {L} accepts moves options (Failed listener ∷ all) zero patience result old new place at ends served last s e = absurd s
+left_within {L} accepts moves options (Failed listener ∷ all) (suc more) zero result old new place at ends served last s e = absurd s
+left_within {L} accepts moves options (Failed listener ∷ all) (suc more) (suc patience) result old new zero at ends served last s e = absurd cc
+left_within {L} accepts moves options (Failed listener ∷ all) (suc more) (suc patience) result old new (suc place) at ends served last s e =
+    left_within accepts moves options all (suc more) patience result (worker_of listener old.seat) new place at ends served last s.1 e
+left_within {L} accepts moves options (Took listener its found end ∷ all) zero patience result old new place at ends served last s e = absurd s
+left_within {L} accepts moves options (Took listener its found end ∷ all) (suc more) zero result old new place at ends served last s e = absurd s
+left_within {L} accepts moves options (Took listener its found end ∷ all) (suc more) (suc patience) result old new zero at ends served last s e =
+    let same : end ≡ last = cc (same_some e) in
+    rw same at (turns_keep accepts moves options all more 100 result (worker_of listener end.seat) new s.2)
+left_within {L} accepts moves options (Took listener its found end ∷ all) (suc more) (suc patience) result old new (suc place) at ends served last s e =
+    left_within accepts moves options all more 100 result (worker_of listener end.seat) new place at ends served last s.2 e
+
+taken_within : {L : Type 0} (accepts : L → Option Ends → L → Type 0) (options : Options) (most : ℕ) (history : Log) (result : Result (Unit {0}) Fault) (last : Connection)
+    → Takes accepts options most history result last → Begins last.seat.log history
+taken_within {L} accepts options most history result last t =
+    let works = t.part.works in
+    begins_on last.seat.log t.new.worker.seat.log history
+    (left_within accepts onward options works.in_turn.0 works.connections 100 t.new.result t.old.worker t.new.worker t.place t.listener t.ends result last works.in_turn.1 t.took)
+    t.part.within
+
+-- ---- replies of one history
+
+replied_in : (history log : Log) (asked : Asked) (reply : ReplyAt) (r : Replied onward [] asked reply log) → Begins r.new.seat.log history → Replied onward history asked reply log
+replied_in history log asked reply r within = record {
+  options = r.options;
+  result = r.result;
+  old = r.old;
+  new = r.new;
+  serves = r.serves;
+  place = r.place;
+  call = r.call;
+  called = r.called;
+  asks = r.asks;
+  replied = r.replied;
+  at = r.at;
+  seen = history;
+  kept = within;
+  learnt = begins_same history history refl;
+}
+
+info_in : {L : Type 0} (accepts : L → Option Ends → L → Type 0) (options : Options) (most : ℕ) (history log : Log) (wanted : Wanted) (handles : List HandleAt)
+    → InfoOf accepts options most history log wanted handles → InfoServed onward history log wanted handles
+info_in {L} accepts options most history log wanted handles i =
+    let s = i.served in
+    record {
+      payload = s.payload;
+      parts = s.parts;
+      said = s.said;
+      given = s.given;
+      asked = s.asked;
+      kind = s.kind;
+      answered = replied_in history log s.asked (whole (s.said ∷ [])) s.answered (taken_within accepts options most history s.answered.result s.answered.new i.taken);
+      wants = s.wants;
+      read = s.read;
+      gives = s.gives;
+    }
+
+fetch_in : {L : Type 0} (accepts : L → Option Ends → L → Type 0) (options : Options) (most : ℕ) (history : Log) (handle : HandleAt) (rows : Rows)
+    → FetchOf accepts options most history handle rows → FetchServed onward history handle rows
+fetch_in {L} accepts options most history handle rows f =
+    let s = f.served in
+    record {
+      log = s.log;
+      ticket = s.ticket;
+      workers = s.workers;
+      payloads = s.payloads;
+      schema = s.schema;
+      answered = replied_in history s.log (fetch s.ticket s.workers) (whole s.payloads) s.answered (taken_within accepts options most history s.answered.result s.answered.new f.taken);
+      is_handle = s.is_handle;
+      says = s.says;
+    }
+
+fetches_in : {L : Type 0} (accepts : L → Option Ends → L → Type 0) (options : Options) (most : ℕ) (history : Log) (handles : List HandleAt) (streams : List Rows)
+    → Pairwise (FetchOf accepts options most history) handles streams → Pairwise (FetchServed onward history) handles streams
+fetches_in {L} accepts options most history [] [] f = f
+fetches_in {L} accepts options most history (h ∷ hs) (s ∷ ss) f = (fetch_in accepts options most history h s f.0, fetches_in accepts options most history hs ss f.1)
+fetches_in {L} accepts options most history [] (s ∷ ss) f = absurd f
+fetches_in {L} accepts options most history (h ∷ hs) [] f = absurd f
+
+no_longer : (log history : Log) → Begins log history → puts_in log ≤ puts_in history
+no_longer log history b = omega (arith, ap length b.1, length-append log b.0)
+
+pub server_meets_headline : {L : Type 0} (accepts : L → Option Ends → L → Type 0) → Joined → ServerMeetsHeadline accepts
+server_meets_headline {L} accepts law options most history log wanted handles streams answer i answers fetched =
+    let served = info_in accepts options most history log wanted handles i in
+    let last = i.served.answered.new.seat.log in
+    let begins : Begins log history = begins_on log last history
+    (begins_last onward [] log i.served.asked (whole (i.served.said ∷ [])) i.served.answered)
+    (taken_within accepts options most history i.served.answered.result i.served.answered.new i.taken) in
+    seats_meet_joined law onward history log wanted handles streams answer served (no_longer log history begins)
+    answers (fetches_in accepts options most history handles streams fetched)
