@@ -1,5 +1,5 @@
 -- All that the connections of a worker have left is of its history.
-use Rattle.std.proofs.Common.{◌≡◌, ◌≤◌, ℕ, zero, suc, ◌+◌, List, [], ◌∷◌, ◌++◌, Option, Some, None, Result, Ok, Err, ap, refl, length, arith, length-append}
+use Rattle.std.proofs.Common.{◌≡◌, ◌≤◌, ℕ, zero, suc, List, [], ◌∷◌, Option, Some, Result, ap, refl, length, arith, length-append}
 use Rattle.std.specs.List.{slice_get}
 use Rattle.scan_base.specs.declared.fault.Fault.{Fault}
 use Rattle.endpoint_split.specs.Handle.{HandleAt}
@@ -7,12 +7,12 @@ use Rattle.ipc_batch.specs.Said.{Rows}
 use Rattle.flight_proto.specs.Wanted.{Wanted}
 use Rattle.flight_info.proofs.Results.{same_some}
 use Rattle.flight_info.specs.Replies.{ReplyAt, whole}
-use Rattle.flight_core.specs.Asked.{Asked, info, tables, fetch}
+use Rattle.flight_core.specs.Asked.{Asked, fetch}
 use Rattle.flight_core.specs.Headline.{Begins, Joined, Pairwise}
 use Rattle.flight_core.specs.Log.{Log, puts_in}
 use Rattle.flight_core.proofs.Running.{begins_on, begins_same}
 use Rattle.flight_calls.specs.declared.setting.Options.{Options}
-use Rattle.flight_calls.specs.Seats.{Moves, Seat}
+use Rattle.flight_calls.specs.Seats.{Moves}
 use Rattle.flight_calls.specs.Owed.{Connection, Serves, connection_of}
 use Rattle.flight_calls.specs.Joining.{Replied, FetchServed, InfoServed}
 use Rattle.flight_calls.proofs.Joining.{answers_keep, begins_last, seats_meet_joined}

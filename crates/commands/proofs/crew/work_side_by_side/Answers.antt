@@ -1,4 +1,3 @@
-use Rattle.std.proofs.Common.{rules}
 use Rattle.commands.proofs.crew.work_side_by_side.Goals as goal
 
 pub returns : goal.returns
