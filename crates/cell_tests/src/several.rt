@@ -80,8 +80,9 @@ fn looked_at_by_two<C: CellName + Send + Sync, R: Threads + Wait + Abort + Sync>
     let told = putter.tell();
     let first = learnt(&mut one, &told, &table);
     let second = learnt(&mut two, &told, &table);
-    assert!(rt; put == Ok(true) && looks == (Ok(true), Ok(true)));
-    assert!(rt; told.number() == 1_000 && first == Ok(500) && second == Ok(500));
+    assert_eq!(rt; (put, looks), (Ok(true), (Ok(true), Ok(true))));
+    assert_eq!(rt; told.number(), 1_000);
+    assert_eq!(rt; (first, second), (Ok(500), Ok(500)));
     Ok(())
 }
 
