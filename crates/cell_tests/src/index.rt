@@ -1,6 +1,6 @@
 //! The versions by number, without a cell.
 
-ghost use Rattle.std.specs.Prelude.{◌≡◌, ◌≤◌, ◌+◌, length, IfOk};
+ghost use Rattle.std.specs.Prelude.{◌≡◌, ◌<◌, ◌≤◌, ◌+◌, length, IfOk};
 ghost use Rattle.scan_base.specs.Limits.{most_commits};
 
 use crate::rows::{one_row, rows_of};
@@ -20,17 +20,56 @@ fn longer(alloc: Global, index: &VersionIndex) -> Result<VersionIndex, Fault>
     Ok(index.with(alloc, catalog)?)
 }
 
-// Each version is found by its number, and those of an index stay when a longer one was made of it.
+// Versions 0 and 1.
+fn of_one_put(alloc: Global, seed: HashSeed) -> Result<VersionIndex, Fault>
+    ensures { IfOk result (λ index. length index ≡ 2) }
+{
+    let opened = VersionIndex::new(alloc, seed)?;
+    longer(alloc, &opened)
+}
+
+// The number and the rows of the newest version, behind a longer index that was made of this one; and those of its newest.
+fn newest_of_both(
+    alloc: Global,
+    index: &VersionIndex,
+    table: &Text,
+) -> Result<((u64, u64), (u64, u64)), Fault>
+    requires { length index.now ≤ most_commits }
+{
+    let next = longer(alloc, index)?;
+    Ok((newest(index, table), newest(&next, table)))
+}
+
+// The number and the rows of the newest version.
+fn newest(index: &VersionIndex, table: &Text) -> (u64, u64) {
+    (index.newest().number(), rows_of(index.newest(), table))
+}
+
+// The number and the rows of the version of a number.
+fn found(index: &VersionIndex, number: u64, table: &Text) -> Result<(u64, u64), Fault>
+    requires { number < length index.now }
+{
+    let version = index.at(number)?;
+    Ok((version.number(), rows_of(&version, table)))
+}
+
+// An index stays as it is when a longer one is made of it.
+#[test]
+fn an_index_stays(rt: HostRuntime) -> Result<(), Fail> {
+    let table = Text::new(rt.alloc(), "t")?;
+    let index = of_one_put(rt.alloc(), HashSeed::new(&rt)?)?;
+    let both = newest_of_both(rt.alloc(), &index, &table);
+    assert!(rt; both == Ok(((1, 1), (2, 2))));
+    Ok(())
+}
+
+// Each version is found by its number.
 #[test]
 fn versions_by_number(rt: HostRuntime) -> Result<(), Fail> {
     let table = Text::new(rt.alloc(), "t")?;
-    let opened = VersionIndex::new(rt.alloc(), HashSeed::new(&rt)?)?;
-    let one = longer(rt.alloc(), &opened)?;
-    let two = longer(rt.alloc(), &one)?;
-    assert_eq!(rt; (opened.newest().number(), one.newest().number()), (0, 1));
-    assert_eq!(rt; rows_of(two.newest(), &table), 2);
-    let (first, second) = (two.at(0)?, two.at(1)?);
-    assert_eq!(rt; (first.number(), second.number()), (0, 1));
-    assert_eq!(rt; (rows_of(&first, &table), rows_of(&second, &table)), (0, 1));
+    let index = of_one_put(rt.alloc(), HashSeed::new(&rt)?)?;
+    let first = found(&index, 0, &table);
+    let second = found(&index, 1, &table);
+    assert!(rt; first == Ok((0, 0)) && second == Ok((1, 1)));
     Ok(())
 }

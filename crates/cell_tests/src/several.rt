@@ -46,6 +46,31 @@ fn learnt<C: CellName>(seat: &mut Scanner<C>, told: &Told<C>, table: &Text) -> R
     Ok(rows_of(&version, table))
 }
 
+// 1,000 puts in one thread, beside 1,000 looks of each seat in threads of their own.
+fn put_while_two_look<C: CellName + Send + Sync, R: Threads + Wait + Abort + Sync>(
+    rt: &R,
+    alloc: Global,
+    putter: &mut Putter<C, &R>,
+    seats: (&mut Scanner<C>, &mut Scanner<C>),
+    table: &Text,
+) -> (
+    Result<bool, Fault>,
+    (Result<bool, Fault>, Result<bool, Fault>),
+) {
+    let (one, two) = seats;
+    thread::join(
+        rt,
+        || put_many(alloc, putter, 1_000),
+        || {
+            thread::join(
+                rt,
+                || look_many(one, table, 1_000),
+                || look_many(two, table, 1_000),
+            )
+        },
+    )
+}
+
 // One thread puts 1,000 times, while two look 1,000 times each.
 #[test]
 fn two_look_while_one_puts(rt: HostRuntime) -> Result<(), Fail> {
@@ -66,17 +91,7 @@ fn looked_at_by_two<C: CellName + Send + Sync, R: Threads + Wait + Abort + Sync>
         return Err(Fail::from("two seats"));
     };
     let table = Text::new(alloc, "t")?;
-    let (put, looks) = thread::join(
-        rt,
-        || put_many(alloc, &mut putter, 1_000),
-        || {
-            thread::join(
-                rt,
-                || look_many(&mut one, &table, 1_000),
-                || look_many(&mut two, &table, 1_000),
-            )
-        },
-    );
+    let (put, looks) = put_while_two_look(rt, alloc, &mut putter, (&mut one, &mut two), &table);
     let told = putter.tell();
     let first = learnt(&mut one, &told, &table);
     let second = learnt(&mut two, &told, &table);
