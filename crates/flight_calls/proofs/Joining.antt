@@ -1,5 +1,5 @@
 -- Later calls of a connection, and several connections over one history.
-use Rattle.std.proofs.Common.{◌≡◌, ◌⊎◌, ◌≤◌, ℕ, zero, suc, List, [], ◌∷◌, Some, None, Result, Ok, Err, ap, sym, subst, inl, inr}
+use Rattle.std.proofs.Common.{◌≡◌, ℕ, zero, suc, List, [], ◌∷◌, Some, Result, Ok, Err, ap, subst, inl, inr}
 use Rattle.std.specs.List.{slice_get}
 use Rattle.scan_base.specs.declared.fault.Fault.{Fault}
 use Rattle.endpoint_split.specs.Handle.{HandleAt}
@@ -14,8 +14,8 @@ use Rattle.flight_core.proofs.Running.{begins_on, begins_same, step_grows, info_
 use Rattle.flight_calls.specs.declared.setting.Options.{Options}
 use Rattle.flight_calls.specs.Calls.{Call, asked_by, ReplyTo}
 use Rattle.flight_calls.specs.Seats.{Seat, Moves}
-use Rattle.flight_calls.specs.Reacts.{StartsAt, Reacts, Answers}
-use Rattle.flight_calls.specs.Joining.{LaterCallsSee, logs_of, Replied, FetchServed, InfoServed, SeatsMeetJoined}
+use Rattle.flight_calls.specs.Reacts.{StartsAt, Answers}
+use Rattle.flight_calls.specs.Joining.{LaterCallsSee, logs_of, Replied, FetchServed, SeatsMeetJoined}
 
 -- a seat only grows
 pub answers_keep : (moves : Moves) (options : Options) (old new : Seat) (calls : List Call) (replies : List ReplyAt) → Answers moves options old calls replies new → Begins old.log new.log

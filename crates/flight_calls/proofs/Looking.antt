@@ -1,14 +1,14 @@
 -- Infos, schemas and fetches at a version, and without one.
-use Rattle.std.proofs.Common.{◌≡◌, ◌≢◌, ◌<◌, ℕ, List, [], Option, Some, None, Result, Ok, Err, refl, sym, ap, subst}
+use Rattle.std.proofs.Common.{◌≡◌, ◌≢◌, ◌<◌, ℕ, [], Option, Some, None, Result, Ok, Err, refl, sym, ap, subst}
 use Rattle.std.specs.Prelude.{IsOk}
 use Rattle.scan_base.specs.declared.fault.Fault.{Fault}
 use Rattle.scan_base.specs.declared.fault.Fault.TheVariants.{OutOfMemory}
 use Rattle.scan_base.specs.Reading.{◌>>=◌}
 use Rattle.flight_proto.specs.Wanted.{Wanted, wanted_in, rows_of, tables}
 use Rattle.table_versions.specs.Database.{Database}
-use Rattle.flight_info.specs.Infos.{handle_asked, only_rows, only_tables, short_enough, rows_wanted, tables_wanted, schema_wanted, InfoAt, SchemaAt}
+use Rattle.flight_info.specs.Infos.{handle_asked, only_rows, only_tables, short_enough, schema_wanted, InfoAt, SchemaAt}
 use Rattle.flight_info.specs.Payloads.{Payload}
-use Rattle.flight_info.specs.Replies.{ReplyAt, refusal}
+use Rattle.flight_info.specs.Replies.{refusal}
 use Rattle.fetch_stream.specs.Streams.{StreamAt}
 use Rattle.flight_core.specs.Asked.{schema, fetch}
 use Rattle.flight_core.specs.Log.{Log, database_of, puts_in}

@@ -1,5 +1,5 @@
 -- Steps over a backend.
-use Rattle.std.proofs.Common.{◌≡◌, ◌≢◌, ◌<◌, ◌+◌, ℕ, List, [], ◌∷◌, ◌++◌, length, Option, Some, None, Result, Ok, Err, refl, sym, ap, subst, ◌∙◌, append-nil, inl, inr, arith}
+use Rattle.std.proofs.Common.{◌≡◌, ◌≢◌, ◌<◌, ℕ, List, [], ◌∷◌, ◌++◌, length, Some, Result, Ok, Err, refl, sym, ◌∙◌, append-nil, inl, inr, arith}
 use Rattle.std.specs.Prelude.{IfErr, IsOk}
 use Rattle.scan_base.specs.declared.fault.Fault.{Fault}
 use Rattle.scan_base.specs.declared.fault.Fault.TheVariants.{OutOfMemory}
@@ -11,17 +11,17 @@ use Rattle.flight_core.specs.Headline.{Begins}
 use Rattle.flight_core.specs.Log.{Log}
 use Rattle.flight_core.specs.Puts.{command_in, put_said}
 use Rattle.flight_core.specs.Refusals.{RefusedFor}
-use Rattle.flight_core.specs.Machine.{PutStep, StepOn}
-use Rattle.flight_core.proofs.Replies.{accepted_reply, refused_reply, unread_reply}
+use Rattle.flight_core.specs.Machine.{PutStep}
+use Rattle.flight_core.proofs.Replies.{refused_reply, unread_reply}
 use Rattle.flight_calls.specs.declared.answer.Answer.{Answer}
 use Rattle.flight_calls.specs.declared.answer.Answer.TheVariants.{Whole, Stream}
 use Rattle.flight_calls.specs.declared.request.Single.{Single}
 use Rattle.flight_calls.specs.declared.setting.Options.{Options}
 use Rattle.flight_calls.specs.Calls.{ReplyTo, asked_with}
 use Rattle.flight_calls.specs.Requests.{IsRefused}
-use Rattle.flight_calls.specs.Seats.{Seat, seat_of, Moves, Learns, LooksOnce, Puts, PutsAt, alone}
-use Rattle.flight_calls.specs.Reacts.{StartsAt, Looks, AddsTo, Goes, HasLooked, Reacts}
-use Rattle.flight_calls.specs.Answered.{AnsweredBy, IsBegun, IsReplyOf, ReactsBy}
+use Rattle.flight_calls.specs.Seats.{Seat, seat_of, Moves, Learns, LooksOnce, Puts, alone}
+use Rattle.flight_calls.specs.Reacts.{StartsAt, Looks, Goes, Reacts}
+use Rattle.flight_calls.specs.Answered.{IsReplyOf, ReactsBy}
 
 -- ---- the backend of a log that nobody shares
 

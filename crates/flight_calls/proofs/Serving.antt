@@ -10,7 +10,7 @@ use Rattle.scan_base.specs.declared.fault.Fault.{Fault}
 use Rattle.scan_base.specs.declared.fault.Fault.TheVariants.{OutOfMemory, Transport}
 use Rattle.grpc_frame.specs.declared.place.Place.{Place}
 use Rattle.grpc_frame.specs.declared.place.Place.TheVariants.{BetweenCalls}
-use Rattle.grpc_frame.specs.Records.{spelling, IsRecord, Received, with_more, Breaks, broken, Flaw, fault_of, wrong_kind, long_path, wrong_flag, long_message, bad_text}
+use Rattle.grpc_frame.specs.Records.{spelling, IsRecord, Received, with_more, broken, Flaw, fault_of, wrong_kind, long_path, wrong_flag, long_message, bad_text}
 use Rattle.grpc_frame.specs.Arrivals.{IsSound}
 use Rattle.grpc_frame.specs.Ends.{AppendsBeginning}
 use Rattle.grpc_frame.proofs.Coming.{none_sound}
@@ -24,7 +24,6 @@ use Rattle.flight_calls.specs.Seats.{Seat, Moves}
 use Rattle.flight_calls.specs.Reacts.{Reacts, Answers}
 use Rattle.flight_calls.specs.Owed.{calls_bytes, answer_bytes, EndsIn, EndsInside, behind_calls, IsCause, last_status, Connection, items_owed, Wrote, Why, Serves, Fails}
 use Rattle.flight_calls.specs.Ending.{RefusesBy}
-use Rattle.flight_calls.specs.Requests.{Holds}
 use Rattle.flight_calls.specs.Reading.{IsSoundAt, Stops, CallArrives}
 use Rattle.flight_calls.proofs.Taking.{passed_none}
 

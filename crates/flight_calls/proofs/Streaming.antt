@@ -9,7 +9,7 @@ use Rattle.grpc_frame.specs.Records.{spelling}
 use Rattle.grpc_frame.specs.Calls.{status_of}
 use Rattle.grpc_frame.specs.Sending.{Sent, NotSent, Sends}
 use Rattle.endpoint_split.specs.Handle.{HandleAt}
-use Rattle.table_versions.specs.Table.{Row, Table}
+use Rattle.table_versions.specs.Table.{Table}
 use Rattle.table_versions.specs.Database.{Database}
 use Rattle.flight_info.specs.Payloads.{Payload, FitMessages}
 use Rattle.flight_info.specs.Replies.{ReplyAt}

@@ -1,5 +1,5 @@
 -- Records taken one after another from what comes.
-use Rattle.std.proofs.Common.{◌≡◌, ◌≢◌, ◌⊎◌, ℕ, List, [], ◌∷◌, ◌++◌, map, All, Option, Some, None, Result, Ok, Err, refl, sym, ap, subst, ◌∙◌, append_assoc, append-nil, inl, inr}
+use Rattle.std.proofs.Common.{◌≡◌, ◌≢◌, ℕ, List, [], ◌∷◌, ◌++◌, map, Option, Some, None, Result, Ok, Err, refl, sym, ap, subst, ◌∙◌, append_assoc, append-nil, inl, inr}
 use Rattle.std.specs.List.{flat_map}
 use Rattle.std.specs.Option.{option_and_then}
 use Rattle.std.proofs.lemmas.Grind.{flat_map-append}
@@ -8,12 +8,11 @@ use Rattle.std.proofs.lemmas.List.Elements.{All-append, All-cons, All-nil}
 use Rattle.std.specs.Io.KnownBytes.{Consumes}
 use Rattle.std.proofs.KnownBytes.{Consumes-nil, Consumes-trans}
 use Rattle.scan_base.specs.declared.fault.Fault.{Fault}
-use Rattle.scan_base.specs.declared.fault.Fault.TheVariants.{OutOfMemory, Transport}
 use Rattle.grpc_frame.specs.declared.place.Place.{Place}
 use Rattle.grpc_frame.specs.declared.place.Place.TheVariants.{BetweenCalls, InsideCall, InAnswer}
 use Rattle.grpc_frame.specs.declared.record.Record.{Record}
 use Rattle.grpc_frame.specs.declared.record.Record.TheVariants.{Open, Message, End, Status}
-use Rattle.grpc_frame.specs.Records.{spelling, IsRecord, place_after, place_after_all, Received, with_more, Leads, Breaks, IsCut, Ending, nothing_more, cut, broken, Ends}
+use Rattle.grpc_frame.specs.Records.{spelling, IsRecord, place_after, Received, with_more, Leads, IsCut, Ending, nothing_more, cut, broken, Ends}
 use Rattle.grpc_frame.specs.Arrivals.{Arrives, IsReason, IsSound}
 use Rattle.grpc_frame.proofs.Coming.{led_sound}
 use Rattle.grpc_frame.proofs.Splitting.{place_after_all-append}

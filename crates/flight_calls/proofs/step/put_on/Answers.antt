@@ -1,4 +1,3 @@
-use Rattle.std.proofs.Common.{rules}
 use Rattle.table_versions.specs.Stored.{put_of}
 use Rattle.flight_core.proofs.Replies.{accepted_reply}
 use Rattle.flight_calls.proofs.Reacting.{put_unread, put_tired, put_made, put_refused}
