@@ -77,7 +77,8 @@ def steps_of(folder, rows):
     """The calls, the first of which makes the table."""
     calls = [("table", serve.put(b"t", rows, STEP)), ("all rows", [serve.fetch(1, b"t", rows)]),
              ("filter", [serve.fetch(1, b"t", rows, b" WHERE b < %d" % KEPT)]),
-             ("small put", serve.put(b"u", SMALL_ROWS, there=REPLACE)), ("large put", serve.put(b"v", LARGE_ROWS, there=REPLACE))]
+             ("small put", serve.put(b"u", SMALL_ROWS, there=REPLACE)),
+             ("large put", serve.put(b"v", LARGE_ROWS, there=REPLACE))]
     for number, (name, pieces) in enumerate(calls):
         file = folder / str(number)
         with open(file, "wb") as out:
@@ -156,8 +157,9 @@ def print_puts(found):
         words = []
         for writer in WRITERS[1:]:
             calls = [run.calls[writer] for run in found[fetch, readers, writer]]
+            times = min(one.median for one in calls), min(one.slow for one in calls)
             words.append(f"{max(one.rate for one in calls):,.0f}")
-            words += [f"{1e6 * min(one.median for one in calls):,.0f} \u00b5s", f"{1e6 * min(one.slow for one in calls):,.0f} \u00b5s"]
+            words += [f"{1e6 * seconds:,.0f} \u00b5s" for seconds in times]
         beside = f"{readers} reader{'s' * (readers > 1)} of {fetch}" if readers else "nobody"
         print(f"| {beside} | {' | '.join(words)} |")
     print()
