@@ -36,22 +36,23 @@ BATCH_ROWS, COLUMNS, WIDTH = 65_536, "abc", 8
 # ---- the calls
 
 
-def put(table, rows):
-    """The records of a put, piece by piece. The command stands in the first message."""
-    ingest = chunk(1, scalar(1, 1)) + chunk(2, table)
+def put(table, rows, step=1, there=0):
+    """The records of a put, piece by piece. The command stands in the first message. In each column a row has its number
+    times a step, modulo the rows."""
+    ingest = chunk(1, scalar(1, 1) + (scalar(2, there) if there else b"")) + chunk(2, table)
     front = chunk(1, descriptor(packed(b"CommandStatementIngest", ingest)))
     head = schema(*(field(name, integer(64, True)) for name in COLUMNS))
     yield record_open(b"DoPut")
     yield record_message(front + chunk(2, written("Message", head, "spread")))
     for first in range(0, rows, BATCH_ROWS):
-        values = array("q", range(first, min(rows, first + BATCH_ROWS)))
+        values = array("q", (row * step % rows for row in range(first, min(rows, first + BATCH_ROWS))))
         tree, body = batch(len(values), *[(0, b"", values.tobytes())] * len(COLUMNS))
         yield record_message(chunk(2, written("Message", tree, "spread")) + chunk(1000, body))
     yield END
 
 
-def fetch(version, table, rows):
-    return call(b"DoGet", [ticket(query_handle(version, 0, rows, b"SELECT * FROM " + table))])
+def fetch(version, table, rows, where=b""):
+    return call(b"DoGet", [ticket(query_handle(version, 0, rows, b"SELECT * FROM " + table + where))])
 
 
 @dataclass

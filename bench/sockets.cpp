@@ -1,21 +1,32 @@
-// Plain ends of a connection on loopback, for bench/serve.py: what sockets alone cost.
+// Plain ends of connections on loopback, for bench/serve.py and bench/readers.py.
 //
-//     sockets answer {READ WRITE COUNT}        # listens, prints the port, and serves one connection
-//     sockets ask PORT {FILE ANSWER COUNT}     # the other end
+//     sockets answer {READ WRITE COUNT}                     # listens, prints the port, and serves one connection
+//     sockets ask PORT {FILE ANSWER COUNT}                  # the other end
+//     sockets crowd PORT SECONDS {FILE ANSWER COUNT MOST}   # many connections to a flightscan
 //
 // Both ends go through the same steps, each COUNT times: one reads READ bytes, looks at none of them, and writes WRITE
 // bytes; the other sends the bytes of a file and reads ANSWER bytes. Behind each step `ask` prints the median and the least
 // of its times, in nanoseconds, and waits for a line of its standard input.
+//
+// `crowd` has COUNT connections for each file, each in a thread of its own. Each calls once; then a line is printed, and
+// each goes on for so many seconds, or until one of them has called MOST times. The kernel throws the answers away, but for
+// the Status, which has to be 0. For each file are printed the calls a second of all its connections, how many they were,
+// and of their times the median and the 99th percentile; then the process's own processor time, and how long it all took.
+// All times are nanoseconds.
 
 #include <algorithm>
 #include <arpa/inet.h>
+#include <atomic>
+#include <barrier>
 #include <chrono>
 #include <cstdio>
 #include <cstdlib>
 #include <cstring>
 #include <netinet/tcp.h>
 #include <string>
+#include <sys/resource.h>
 #include <sys/socket.h>
+#include <thread>
 #include <unistd.h>
 #include <vector>
 
@@ -25,6 +36,8 @@ constexpr size_t piece = 262144;
   perror(said);
   exit(1);
 }
+
+int64_t now() { return std::chrono::nanoseconds(std::chrono::steady_clock::now().time_since_epoch()).count(); }
 
 size_t number(const char *word) { return strtoull(word, nullptr, 10); }
 
@@ -98,10 +111,10 @@ std::string contents(const char *path) {
 void ask_step(int connection, const std::string &request, size_t size, size_t count) {
   std::vector<int64_t> times;
   for (size_t turn = 0; turn < count; turn++) {
-    auto began = std::chrono::steady_clock::now();
+    int64_t began = now();
     send_all(connection, request.data(), request.size());
     pass_over(connection, size);
-    times.push_back(std::chrono::nanoseconds(std::chrono::steady_clock::now() - began).count());
+    times.push_back(now() - began);
   }
   std::sort(times.begin(), times.end());
   printf("%lld %lld\n", (long long)times[count / 2], (long long)times[0]);
@@ -109,18 +122,106 @@ void ask_step(int connection, const std::string &request, size_t size, size_t co
   while (getchar() != '\n') {}
 }
 
-int ask(uint16_t port, char **steps) {
+int connected(uint16_t port) {
   int connection = socket(AF_INET, SOCK_STREAM, 0);
   sockaddr_in place = loopback(port);
   if (connect(connection, (sockaddr *)&place, sizeof place) != 0) fail("connect");
   without_delay(connection);
+  return connection;
+}
+
+int ask(uint16_t port, char **steps) {
+  int connection = connected(port);
   for (; *steps; steps += 3) ask_step(connection, contents(steps[0]), number(steps[1]), number(steps[2]));
+  return 0;
+}
+
+// What the connections of one file do, and what came of it.
+struct Group {
+  std::string request;
+  size_t answer, count, most;
+  std::vector<double> rates = std::vector<double>(count);
+  std::vector<std::vector<int64_t>> times = std::vector<std::vector<int64_t>>(count);
+};
+
+void call(int connection, const Group &group) {
+  char status[4];
+  send_all(connection, group.request.data(), group.request.size());
+  for (size_t left = group.answer - sizeof status; left > 0;) {
+    ssize_t came = recv(connection, nullptr, left, MSG_TRUNC);
+    if (came <= 0) fail("recv");
+    left -= came;
+  }
+  if (recv(connection, status, sizeof status, MSG_WAITALL) != sizeof status) fail("recv");
+  if (memcmp(status, "\4\0\0", sizeof status) != 0) {
+    fputs("an answer without status 0\n", stderr);
+    exit(1);
+  }
+}
+
+void print_group(Group &group) {
+  std::vector<int64_t> all;
+  double rate = 0;
+  for (double one : group.rates) rate += one;
+  for (auto &times : group.times) all.insert(all.end(), times.begin(), times.end());
+  std::sort(all.begin(), all.end());
+  printf("%f %zu %lld %lld\n", rate, all.size(), (long long)all[all.size() / 2], (long long)all[all.size() * 99 / 100]);
+}
+
+int64_t processor_time() {
+  rusage used;
+  getrusage(RUSAGE_SELF, &used);
+  return 1000000000 * (used.ru_utime.tv_sec + used.ru_stime.tv_sec) + 1000 * (used.ru_utime.tv_usec + used.ru_stime.tv_usec);
+}
+
+int crowd(uint16_t port, double seconds, char **words) {
+  std::vector<Group> groups;
+  size_t count = 0;
+  for (; *words; words += 4) {
+    groups.push_back({contents(words[0]), number(words[1]), number(words[2]), number(words[3])});
+    count += groups.back().count;
+  }
+  int64_t began = 0, used = 0;
+  std::atomic<bool> ended = false;
+  std::barrier together(count, [&]() noexcept {
+    puts("begun");
+    fflush(stdout);
+    used = processor_time();
+    began = now();
+  });
+  auto run = [&](Group &group, size_t place) {
+    int connection = connected(port);
+    std::vector<int64_t> &times = group.times[place];
+    call(connection, group);
+    together.arrive_and_wait();
+    int64_t last = began, end = began + int64_t(seconds * 1e9);
+    do {
+      int64_t before = now();
+      call(connection, group);
+      last = now();
+      times.push_back(last - before);
+      if (times.size() == group.most) ended = true;
+    } while (last < end && !ended);
+    group.rates[place] = times.size() * 1e9 / (last - began);
+  };
+  std::vector<std::thread> threads;
+  for (Group &group : groups) {
+    for (size_t place = 0; place < group.count; place++) threads.emplace_back(run, std::ref(group), place);
+  }
+  for (std::thread &thread : threads) thread.join();
+  int64_t took = now() - began;
+  used = processor_time() - used;
+  for (Group &group : groups) print_group(group);
+  printf("%lld %lld\n", (long long)used, (long long)took);
   return 0;
 }
 
 int main(int count, char **words) {
   if (count > 1 && count % 3 == 2 && strcmp(words[1], "answer") == 0) return answer(words + 2);
   if (count > 2 && count % 3 == 0 && strcmp(words[1], "ask") == 0) return ask(number(words[2]), words + 3);
-  fputs("sockets answer {READ WRITE COUNT}, or sockets ask PORT {FILE ANSWER COUNT}\n", stderr);
+  if (count > 3 && count % 4 == 0 && strcmp(words[1], "crowd") == 0) {
+    return crowd(number(words[2]), atof(words[3]), words + 4);
+  }
+  fputs("the ways to call it stand at the top of sockets.cpp\n", stderr);
   return 2;
 }

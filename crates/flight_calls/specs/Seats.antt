@@ -24,10 +24,6 @@ Moves = Seat → Log → Log → Seat → Type 0
 abbrev pub alone : Moves
 alone old log after new = (log ≡ old.log) × (after ≡ new.log)
 
--- where others put into the log too: no more is known of a step
-abbrev pub shared : Moves
-shared old log after new = Unit {0}
-
 -- a seat has seen no less than before, and made no put: a step that leaves the log that it has then seen
 abbrev pub Learns : Moves → Seat → Seat → Type 0
 Learns moves old new = Begins old.log new.log × (new.made ≡ old.made) × moves old new.log new.log new
