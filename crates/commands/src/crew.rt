@@ -26,7 +26,7 @@ use version_cell::{CellName, Putter, Scanner, Told};
 #[derive(Drop)]
 pub(crate) struct Worker<L, C: CellName> {
     listener: L,
-    // None while a connection is served.
+    // None while the worker works.
     scanner: Option<Scanner<C>>,
     served: Result<(), Fault>,
 }

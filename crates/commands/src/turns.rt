@@ -12,7 +12,7 @@ use scan_base::Fault;
 use std::alloc::Global;
 use std::sync::atomic::{AtomicU64, Ordering};
 
-// How many accepts may fail one behind the other.
+// So many accepts that fail one behind the other end a worker.
 const MOST_FAILED_ACCEPTS: u32 = 100;
 
 /// The numbers of the connections that are still to be accepted, which workers draw.
@@ -43,7 +43,7 @@ impl Turns {
     }
 }
 
-/// Serves connections one behind the other, over one backend, until no more are to be accepted.
+/// Serves connections one behind the other, over one backend: one for each number that it draws, while there are more.
 ///
 /// # Errors
 ///

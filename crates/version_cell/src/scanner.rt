@@ -82,7 +82,8 @@ impl<C: CellName> Scanner<C> {
     ///
     /// # Errors
     ///
-    /// F21 (`Fault::OutOfMemory`) where the putter is gone, or one handle more of a version is refused.
+    /// F21 (`Fault::OutOfMemory`) where the putter is gone, or one handle more of a version is refused; and were a log entered that is
+    /// behind what the seat has seen, which never is.
     pub fn current(&mut self) -> Result<Snapshot, Fault>
         ensures begins { Begins self.old.log self.new.log }
         ensures ok { IfOk result (λ snapshot. EntersOnce self.old self.new
@@ -98,8 +99,7 @@ impl<C: CellName> Scanner<C> {
     ///
     /// # Errors
     ///
-    /// F18 (`Fault::VersionUnknown`) where that log has fewer puts, and F21 (`Fault::OutOfMemory`) where the putter is gone,
-    /// or one handle more of a version is refused.
+    /// F18 (`Fault::VersionUnknown`) where that log has fewer puts, and F21 (`Fault::OutOfMemory`) as `current` does.
     pub fn at(&mut self, number: u64) -> Result<Snapshot, Fault>
         ensures begins { Begins self.old.log self.new.log }
         ensures ok { IfOk result (λ snapshot. EntersOnce self.old self.new
