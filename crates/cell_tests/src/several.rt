@@ -7,11 +7,11 @@ use hash_seed::HashSeed;
 use scan_base::{Fault, Text};
 use std::alloc::Global;
 use std::process::Abort;
-use std::sync::{Mutex, Wait};
+use std::sync::Wait;
 use std::test::Fail;
 use std::thread;
 use std::thread::Threads;
-use version_cell::{Blank, Brand, CellName, Putter, Scanner, Told, open, put_and_learn};
+use version_cell::{Blank, Brand, CellName, Putter, Scanner, SharedPutter, Told, open};
 
 // So many puts of one row each. It tells whether each had its number.
 fn put_many<C: CellName, R: Wait + Drop>(
@@ -137,11 +137,11 @@ fn two_put_by_one_lock(rt: HostRuntime) -> Result<(), Fail> {
 fn put_and_look<C: CellName, R: Wait + Drop>(
     rt: &impl Wait,
     alloc: Global,
-    putter: &Mutex<Putter<C, R>>,
+    putter: &SharedPutter<C, R>,
     seat: &mut Scanner<C>,
 ) -> Result<(u64, u64), Fault> {
-    let receipt = put_and_learn(rt, alloc, putter, seat, one_row(alloc, "t")?)?;
-    Ok((receipt.number, seat.current()?.number()))
+    let number = putter.put(rt, alloc, seat, one_row(alloc, "t")?)?;
+    Ok((number, seat.current()?.number()))
 }
 
 fn put_by_two<C: CellName + Send + Sync, R: Threads + Wait + Abort + Sync>(
@@ -152,7 +152,7 @@ fn put_by_two<C: CellName + Send + Sync, R: Threads + Wait + Abort + Sync>(
     requires { blank.book ≡ C.book }
 {
     let (putter, mut seats) = blank.named::<C, &R>(alloc, rt)?;
-    let shared = Mutex::new(putter);
+    let shared = SharedPutter::new(putter);
     let (Some(mut one), Some(mut two)) = (seats.pop(), seats.pop()) else {
         return Err(Fail::from("two seats"));
     };

@@ -1,9 +1,10 @@
 -- Workers side by side.
 use native.Mathlib.Omega.{arith}
-use Rattle.std.proofs.Common.{◌≡◌, ◌<◌, ℕ, zero, suc, List, [], ◌∷◌, ◌++◌, ◌+◌, All, Option, Some, Result, Ok, length, take, drop, refl, sym, subst, ap, ◌∙◌, append_assoc, append-nil}
+use Rattle.std.proofs.Common.{◌≡◌, ◌≢◌, ◌≤◌, ◌<◌, ◌⊎◌, inl, inr, ℕ, zero, suc, List, [], ◌∷◌, ◌++◌, ◌+◌, ◌-◌, All, IfOk, IsErr, Option, Some, Result, Ok, Err, length, map, take, drop, refl, sym, subst, ap, ◌∙◌, append_assoc, append-nil}
 use Rattle.std.specs.Prelude.{slice_index_or}
 use Rattle.std.proofs.lemmas.List.Elements.{All-nil, All-cons, All-head, All-tail, All-push}
 use Rattle.std.proofs.lemmas.List.{length-append}
+use Rattle.atomic_table.specs.Seated.{TableId}
 use Rattle.scan_base.specs.declared.fault.Fault.{Fault}
 use Rattle.flight_core.specs.Headline.{Begins, Pairwise}
 use Rattle.flight_core.specs.Log.{Log}
@@ -11,124 +12,165 @@ use Rattle.flight_calls.specs.declared.setting.Options.{Options}
 use Rattle.flight_calls.specs.Seats.{Seat}
 use Rattle.version_cell.specs.Seats as cell
 use Rattle.shared_calls.specs.Sharing.{onward, seat_at}
+use Rattle.connection_turns.specs.Drawers.{DrawerAt, drawer}
 use Rattle.command_ends.specs.Network.{Ends}
-use Rattle.commands.specs.Serve.{Worker, Work, Works, IsPartOf, IsFresh, ServesSideBySide, both, first_fault, worker_of}
-use Rattle.commands.specs.inside.Gathering.{IsWithin, Gathered, seat_in}
+use Rattle.commands.specs.Serve.{DrawsAll, Worker, Work, IsPartOf, IsFresh, ServesSideBySide, ServesUpTo, both, drawn_by, first_fault, worker_of}
+use Rattle.commands.specs.inside.Gathering.{Begun, Gathered, HasDrawn, HasWorked, Hired, IsNew, IsWithin, seat_in, work_of}
 
 begins_through : (first second third : Log) → Begins first second → Begins second third → Begins first third
 begins_through first second third one other =
     (one.0 ++ other.0, other.1 ∙ ap (λ log. log ++ other.0) one.1 ∙ append_assoc first one.0 other.0)
 
 -- all that is of a history is of one that goes on from it
-within_more : {L : Type 0} (told history : Log) → Begins told history → (all : List (Work L)) → All (IsWithin told) all → All (IsWithin history) all
+within_more : {L : Type 0} (told history : Log) → Begins told history → (all : List (Hired L)) → All (IsWithin told) all → All (IsWithin history) all
 within_more {L} told history more [] parts = All-nil (IsWithin history)
-within_more {L} told history more (work ∷ all) parts =
-    All-cons (IsWithin history) work all
-    (begins_through work.worker.seat.log told history (All-head (IsWithin told) work all parts) more)
-    (within_more told history more all (All-tail (IsWithin told) work all parts))
+within_more {L} told history more (hired ∷ all) parts =
+    All-cons (IsWithin history) hired all
+    (begins_through hired.worker.seat.log told history (All-head (IsWithin told) hired all parts) more)
+    (within_more told history more all (All-tail (IsWithin told) hired all parts))
 
 -- ---- workers that begin
 
+pub none_begun : {L : Type 0} (shares : L → Option L → Type 0) (heard : L) (name : TableId) (hub : DrawerAt) (left : List cell.Seat) → All (λ found. found ≡ cell.seat [] [] 0 []) left → hub ≡ drawer name (length left + 1) 0 0
+    → Begun shares heard name hub [] left (length left)
+none_begun {L} shares heard name hub left seats parts = record {
+  counted = omega arith;
+  fresh = All-nil (λ (hired : Hired L). IsFresh shares heard hired.worker);
+  new = All-nil (IsNew name);
+  seats = seats;
+  parts = parts;
+}
+
 -- a worker for one seat more
-pub one_begins : {L : Type 0} (shares : L → Option L → Type 0) (heard listener : L) (workers after : List (Work L)) (scanner : cell.Seat) (left rest : List cell.Seat) (count : ℕ)
-    → (length workers + length left ≡ count) × All (IsFresh shares heard) workers × All (λ found. found ≡ cell.seat [] [] 0) left
-    → after ≡ workers ++ record { worker = worker_of listener (seat_in (Some scanner)); result = Ok tt } ∷ [] → left ≡ scanner ∷ rest → shares heard (Some listener)
-    → (length after + length rest ≡ count) × All (IsFresh shares heard) after × All (λ found. found ≡ cell.seat [] [] 0) rest
-one_begins {L} shares heard listener workers after scanner left rest count so pushed next shared =
-    let work : Work L = record { worker = worker_of listener (seat_in (Some scanner)); result = Ok tt } in
-    let here : All (λ found. found ≡ cell.seat [] [] 0) (scanner ∷ rest) = rw next at so.2 in
-    let fresh : scanner ≡ cell.seat [] [] 0 = All-head (λ found. found ≡ cell.seat [] [] 0) scanner rest here in
-    let longer : length after ≡ length workers + 1 = rw pushed (length-append workers (work ∷ [])) in
-    let counted : length workers + suc (length rest) ≡ count = rw next at so.0 in (
-      omega (arith, longer, counted),
-      rw pushed (All-push (IsFresh shares heard) workers work so.1 (shared, ap (λ (found : cell.Seat). seat_at found []) fresh)),
-      All-tail (λ found. found ≡ cell.seat [] [] 0) scanner rest here,
-    )
+pub one_begins : {L : Type 0} (shares : L → Option L → Type 0) (heard listener : L) (name : TableId) (hub after other : DrawerAt) (workers more : List (Hired L)) (scanner : cell.Seat) (left rest : List cell.Seat) (count : ℕ)
+    → Begun shares heard name hub workers left count → left ≡ scanner ∷ rest → shares heard (Some listener)
+    → after ≡ drawer hub.name (hub.parts - 1) hub.drawn hub.ended → other ≡ drawer hub.name 1 0 0
+    → more ≡ workers ++ record { worker = worker_of listener (seat_in (Some scanner)); drawer = other; result = Ok tt } ∷ []
+    → Begun shares heard name after more rest count
+one_begins {L} shares heard listener name hub after other workers more scanner left rest count so next shared cut part pushed =
+    let hired : Hired L = record { worker = worker_of listener (seat_in (Some scanner)); drawer = other; result = Ok tt } in
+    let here : All (λ found. found ≡ cell.seat [] [] 0 []) (scanner ∷ rest) = rw next at so.seats in
+    let fresh : scanner ≡ cell.seat [] [] 0 [] = All-head (λ found. found ≡ cell.seat [] [] 0 []) scanner rest here in
+    let longer : length more ≡ length workers + 1 = rw pushed (length-append workers (hired ∷ [])) in
+    let counted : length workers + suc (length rest) ≡ count = rw next at so.counted in
+    let held : hub ≡ drawer name (suc (length rest) + 1) 0 0 = rw next at so.parts in
+    let one_less : suc (length rest) + 1 - 1 ≡ length rest + 1 = omega arith in
+    let new : other ≡ drawer name 1 0 0 = rw held at part in record {
+      counted = omega (arith, longer, counted);
+      fresh = rw pushed (All-push (λ (worker : Hired L). IsFresh shares heard worker.worker) workers hired so.fresh (shared, ap seat_at fresh));
+      new = rw pushed (All-push (IsNew name) workers hired so.new new);
+      seats = All-tail (λ found. found ≡ cell.seat [] [] 0 []) scanner rest here;
+      parts = (rw held at cut) ∙ ap (λ (n : ℕ). drawer name n 0 0) one_less;
+    }
 
 -- ---- looking at workers that have ended
 
-pub none_gathered : {L : Type 0} (all : List (Work L)) (history : Log) → Gathered all all history (Ok tt)
-none_gathered {L} all history = record {
+pub none_gathered : {L : Type 0} (all : List (Hired L)) (history : Log) (name : TableId) (hub : DrawerAt) → hub ≡ drawer name 1 0 0 → Gathered all all history (Ok tt) name hub
+none_gathered {L} all history name hub is = record {
   done = [];
   whole = sym (append-nil all);
   within = All-nil (IsWithin history);
   first = refl;
+  named = ap (λ (d : DrawerAt). d.name) is;
+  parts = ap (λ (d : DrawerAt). d.parts) is;
+  drawn = ap (λ (d : DrawerAt). d.drawn) is;
+  ended = inr (All-nil (λ (work : Work L). IsErr work.result));
 }
 
+-- one that ended well was told that none is left
+ends_so : {L : Type 0} (name : TableId) (hired : Hired L) (done : List (Hired L)) (before more : ℕ) (result : Result (Unit {0}) Fault) → result ≡ hired.result → IfOk result (λ _. 0 < more)
+    → (0 < before) ⊎ All (λ work. IsErr work.result) (map work_of done) → (0 < before + more) ⊎ All (λ work. IsErr work.result) (map work_of (hired ∷ done))
+ends_so {L} name hired done before more (Ok good) is none (inl some) = inl (omega (arith, some))
+ends_so {L} name hired done before more (Ok good) is none (inr failed) = inl (omega (arith, none))
+ends_so {L} name hired done before more (Err fault) is none (inl some) = inl (omega (arith, some))
+ends_so {L} name hired done before more (Err fault) is none (inr failed) =
+    inr (All-cons (λ (work : Work L). IsErr work.result) (work_of hired) (map work_of done) (rw ← is tt) failed)
+
 -- the last one of those that are left
-pub one_gathered : {L : Type 0} (all left rest : List (Work L)) (work : Work L) (told history : Log) (result after : Result (Unit {0}) Fault)
-    → Gathered all left told result → left ≡ rest ++ work ∷ [] → Begins told history → Begins work.worker.seat.log history
-    → after ≡ both work.result result → Gathered all rest history after
-one_gathered {L} all left rest work told history result after gathered last more within ends = record {
-  done = work ∷ gathered.done;
-  whole = gathered.whole ∙ ap (λ (list : List (Work L)). list ++ gathered.done) last ∙ append_assoc rest (work ∷ []) gathered.done;
-  within = All-cons (IsWithin history) work gathered.done within (within_more told history more gathered.done gathered.within);
-  first = ends ∙ ap (both work.result) gathered.first;
+pub one_gathered : {L : Type 0} (all left rest : List (Hired L)) (hired : Hired L) (told history : Log) (result after : Result (Unit {0}) Fault) (name : TableId) (hub next : DrawerAt)
+    → Gathered all left told result name hub → left ≡ rest ++ hired ∷ [] → Begins told history → Begins hired.worker.seat.log history
+    → after ≡ both hired.result result → HasDrawn name hired
+    → next ≡ drawer hub.name (hub.parts + hired.drawer.parts) (hub.drawn + hired.drawer.drawn) (hub.ended + hired.drawer.ended)
+    → Gathered all rest history after name next
+one_gathered {L} all left rest hired told history result after name hub next gathered last more within ends drawn taken = record {
+  done = hired ∷ gathered.done;
+  whole = gathered.whole ∙ ap (λ (list : List (Hired L)). list ++ gathered.done) last ∙ append_assoc rest (hired ∷ []) gathered.done;
+  within = All-cons (IsWithin history) hired gathered.done within (within_more told history more gathered.done gathered.within);
+  first = ends ∙ ap (both hired.result) gathered.first;
+  named = ap (λ (d : DrawerAt). d.name) taken ∙ gathered.named;
+  parts = (let p = ap (λ (d : DrawerAt). d.parts) taken in let q = gathered.parts in let r = drawn.1 in omega (arith, p, q, r));
+  drawn = (let p = ap (λ (d : DrawerAt). d.drawn) taken in let q = gathered.drawn in omega (arith, p, q));
+  ended = subst (λ (n : ℕ). (0 < n) ⊎ All (λ work. IsErr work.result) (map work_of (hired ∷ gathered.done))) (sym (ap (λ (d : DrawerAt). d.ended) taken))
+      (ends_so name hired gathered.done hub.ended hired.drawer.ended hired.result refl drawn.2 gathered.ended);
 }
 
 -- what a worker's seat has seen
-pub sees_so : {L : Type 0} (listener : L) (found : Option cell.Seat) (before : Result (Unit {0}) Fault) (work : Work L) (scanner : cell.Seat) (history : Log)
-    → record { worker = worker_of listener (seat_in found); result = before } ≡ work → found ≡ Some scanner → Begins scanner.log history → Begins work.worker.seat.log history
-sees_so {L} listener found before work scanner history seen there within =
-    let same : scanner.log ≡ work.worker.seat.log = rw (← seen, there) refl in
+pub sees_so : {L : Type 0} (listener : L) (found : Option cell.Seat) (other : DrawerAt) (before : Result (Unit {0}) Fault) (hired : Hired L) (scanner : cell.Seat) (history : Log)
+    → record { worker = worker_of listener (seat_in found); drawer = other; result = before } ≡ hired → found ≡ Some scanner → Begins scanner.log history → Begins hired.worker.seat.log history
+sees_so {L} listener found other before hired scanner history seen there within =
+    let same : scanner.log ≡ hired.worker.seat.log = rw (← seen, there) refl in
     subst (λ (log : Log). Begins log history) same within
 
-pub all_gathered : {L : Type 0} (all : List (Work L)) (history : Log) (result : Result (Unit {0}) Fault) → Gathered all [] history result
-    → (result ≡ first_fault all) × All (IsWithin history) all
-all_gathered {L} all history result gathered = rw gathered.whole (gathered.first, gathered.within)
+pub all_gathered : {L : Type 0} (all : List (Hired L)) (history : Log) (result : Result (Unit {0}) Fault) (name : TableId) (hub : DrawerAt) → Gathered all [] history result name hub
+    → (result ≡ first_fault (map work_of all)) × All (IsWithin history) all
+all_gathered {L} all history result name hub gathered = rw gathered.whole (gathered.first, gathered.within)
+
+-- the hub has every part
+pub all_parts : {L : Type 0} (all : List (Hired L)) (history : Log) (result : Result (Unit {0}) Fault) (name : TableId) (hub : DrawerAt) (parts : ℕ) → Gathered all [] history result name hub → parts ≡ length all + 1
+    → hub.parts ≡ parts
+all_parts {L} all history result name hub parts gathered whole =
+    let same : length all ≡ length gathered.done = ap length gathered.whole in
+    let held = gathered.parts in
+    omega (arith, same, held, whole)
+
+-- so all was drawn, or each worker failed
+pub all_drawn : {L : Type 0} (all : List (Hired L)) (history : Log) (result : Result (Unit {0}) Fault) (name : TableId) (hub : DrawerAt) (most : ℕ) → Gathered all [] history result name hub
+    → hub.drawn ≤ most → (0 < hub.ended → hub.drawn ≡ most) → DrawsAll most (map work_of all)
+all_drawn {L} all history result name hub most gathered few none =
+    rw gathered.whole (by_end gathered.ended)
+  where
+    by_end : (0 < hub.ended) ⊎ All (λ work. IsErr work.result) (map work_of gathered.done) → DrawsAll most (map work_of gathered.done)
+    by_end (inl some) = inl (sym gathered.drawn ∙ none some)
+    by_end (inr failed) = inr (rw ← gathered.drawn few, failed)
 
 -- ---- what all did
 
--- a worker served connections, of which it now knows no more than the log
-abbrev HasWorked : {L : Type 0} → (L → Option Ends → L → Type 0) → Options → ℕ → Work L → Work L → Type 0
-HasWorked {L} accepts options most old new =
-    (last : Worker L) × Works accepts onward options most new.result old.worker last × (last.seat.log ≡ new.worker.seat.log)
-
--- a worker takes its seat for a backend, and keeps no more of what that leaves than its log
-pub has_worked : {L : Type 0} (accepts : L → Option Ends → L → Type 0) (options : Options) (most : ℕ) (listener : L) (found : Option cell.Seat) (before : Result (Unit {0}) Fault) (old : Work L) (scanner given : cell.Seat) (begun : Seat) (last : Worker L) (result : Result (Unit {0}) Fault)
-    → record { worker = worker_of listener (seat_in found); result = before } ≡ old → found ≡ Some scanner → begun ≡ seat_at scanner []
-    → Works accepts onward options most result (worker_of listener begun) last → seat_at given last.seat.made ≡ last.seat
-    → (end : Worker L) × Works accepts onward options most result old.worker end × (end.seat.log ≡ given.log)
-has_worked {L} accepts options most listener found before old scanner given begun last result seen there new works back =
-    let start : worker_of listener begun ≡ old.worker = rw (new, ← seen, there) refl in
-    (last, subst (λ (w : Worker L). Works accepts onward options most result w last) start works, sym (ap (λ (s : Seat). s.log) back))
-
--- what became of workers, as far as they served
-record Worked {L : Type 0} (accepts : L → Option Ends → L → Type 0) (options : Options) (most : ℕ) (history : Log) (olds news : List (Work L)) : Type 0 where
-  ends : List (Work L)
-  served : Pairwise (IsPartOf accepts options most history) olds ends
-  first : first_fault ends ≡ first_fault news
+-- a worker takes its seat for a backend, and gets it back
+pub has_worked : {L : Type 0} (accepts : L → Option Ends → L → Type 0) (options : Options) (name : TableId) (listener : L) (found : Option cell.Seat) (before : Result (Unit {0}) Fault) (start : DrawerAt) (old : Hired L) (scanner given : cell.Seat) (begun ended : Seat) (after : L) (left : DrawerAt) (result : Result (Unit {0}) Fault)
+    → record { worker = worker_of listener (seat_in found); drawer = start; result = before } ≡ old → found ≡ Some scanner → begun ≡ seat_at scanner
+    → ServesUpTo accepts onward options left.drawn result (worker_of listener begun) (worker_of after ended) → seat_at given ≡ ended
+    → left.name ≡ name → left.parts ≡ 1 → IfOk result (λ _. 0 < left.ended)
+    → HasWorked accepts options name old (record { worker = worker_of after (seat_in (Some given)); drawer = left; result = result })
+has_worked {L} accepts options name listener found before start old scanner given begun ended after left result seen there new serves back named part none =
+    let first : worker_of listener begun ≡ old.worker = rw (new, ← seen, there) refl in record {
+      serves = rw (← first, back) serves;
+      drawn = (named, part, none);
+    }
 
 -- items at the same places, one by one
-works_at : {L : Type 0} (accepts : L → Option Ends → L → Type 0) (options : Options) (most : ℕ) (history : Log) (olds news : List (Work L)) → length news ≡ length olds
-    → ((i : ℕ) (d : Work L) → i < length olds → HasWorked accepts options most (slice_index_or olds i d) (slice_index_or news i d))
-    → All (IsWithin history) news → Worked accepts options most history olds news
-works_at {L} accepts options most history [] [] same each within = record { ends = []; served = tt; first = refl }
-works_at {L} accepts options most history [] (new ∷ news) same each within = absurd (cc same)
-works_at {L} accepts options most history (old ∷ olds) [] same each within = absurd (cc same)
-works_at {L} accepts options most history (old ∷ olds) (new ∷ news) same each within =
-    let one : HasWorked accepts options most old new = each zero old (omega arith) in
-    let end : Work L = record { worker = one.0; result = new.result } in
-    let seen : Begins one.0.seat.log history = rw one.2 (All-head (IsWithin history) new news within) in
-    let others = works_at accepts options most history olds news (omega (arith, same)) (λ i d few. each (suc i) d (omega (arith, few)))
-    (All-tail (IsWithin history) new news within) in
-    record {
-      ends = end ∷ others.ends;
-      served = (record { works = one.1; within = seen }, others.served);
-      first = ap (both new.result) others.first;
-    }
+served_at : {L : Type 0} (accepts : L → Option Ends → L → Type 0) (options : Options) (name : TableId) (history : Log) (olds news : List (Hired L)) → length news ≡ length olds
+    → ((i : ℕ) (d : Hired L) → i < length olds → HasWorked accepts options name (slice_index_or olds i d) (slice_index_or news i d))
+    → All (IsWithin history) news → Pairwise (IsPartOf accepts options history) (map (λ hired. hired.worker) olds) (map work_of news)
+served_at {L} accepts options name history [] [] same each within = tt
+served_at {L} accepts options name history [] (new ∷ news) same each within = absurd (cc same)
+served_at {L} accepts options name history (old ∷ olds) [] same each within = absurd (cc same)
+served_at {L} accepts options name history (old ∷ olds) (new ∷ news) same each within =
+    let one : HasWorked accepts options name old new = each zero old (omega arith) in (
+      record { serves = one.serves; within = All-head (IsWithin history) new news within },
+      served_at accepts options name history olds news (omega (arith, same)) (λ i d few. each (suc i) d (omega (arith, few)))
+      (All-tail (IsWithin history) new news within),
+    )
 
-all_served : {L : Type 0} (accepts : L → Option Ends → L → Type 0) (options : Options) (most : ℕ) (history : Log) (olds news : List (Work L)) (result : Result (Unit {0}) Fault) → length news ≡ length olds
-    → ((i : ℕ) (d : Work L) → i < length olds → HasWorked accepts options most (slice_index_or olds i d) (slice_index_or news i d))
-    → All (IsWithin history) news → result ≡ first_fault news → ServesSideBySide accepts options most olds result
-all_served {L} accepts options most history olds news result same each within ends =
-    let worked = works_at accepts options most history olds news same each within in
-    record {
-      history = history;
-      ends = worked.ends;
-      served = worked.served;
-      ended = ends ∙ sym worked.first;
-    }
+drawn_at : {L : Type 0} (accepts : L → Option Ends → L → Type 0) (options : Options) (name : TableId) (olds news : List (Hired L)) → length news ≡ length olds
+    → ((i : ℕ) (d : Hired L) → i < length olds → HasWorked accepts options name (slice_index_or olds i d) (slice_index_or news i d))
+    → All (HasDrawn name) news
+drawn_at {L} accepts options name [] [] same each = All-nil (HasDrawn name)
+drawn_at {L} accepts options name [] (new ∷ news) same each = absurd (cc same)
+drawn_at {L} accepts options name (old ∷ olds) [] same each = absurd (cc same)
+drawn_at {L} accepts options name (old ∷ olds) (new ∷ news) same each =
+    let one : HasWorked accepts options name old new = each zero old (omega arith) in
+    All-cons (HasDrawn name) new news one.drawn
+    (drawn_at accepts options name olds news (omega (arith, same)) (λ i d few. each (suc i) d (omega (arith, few))))
 
 -- what is written over a whole list
 written_whole : {X : Type 0} (olds news : List X) → length news ≡ length olds → take (length olds) (news ++ drop (length news) olds) ≡ news
@@ -137,13 +179,23 @@ written_whole [] (new ∷ news) same = absurd (cc same)
 written_whole (old ∷ olds) [] same = absurd (cc same)
 written_whole (old ∷ olds) (new ∷ news) same = ap (λ list. new ∷ list) (written_whole olds news (omega (arith, same)))
 
-pub all_served_in : {L : Type 0} (accepts : L → Option Ends → L → Type 0) (options : Options) (most : ℕ) (history : Log) (olds news : List (Work L)) (count : ℕ) (result : Result (Unit {0}) Fault)
-    → count ≡ length olds → length news ≡ length olds
-    → ((i : ℕ) (d : Work L) → i < length olds → HasWorked accepts options most (slice_index_or olds i d) (slice_index_or news i d))
-    → All (IsWithin history) (take count (news ++ drop (length news) olds)) → result ≡ first_fault (take count (news ++ drop (length news) olds))
-    → ServesSideBySide accepts options most olds result
-all_served_in {L} accepts options most history olds news count result all same each within ends =
-    let whole : take count (news ++ drop (length news) olds) ≡ news = rw all (written_whole olds news same) in
-    all_served accepts options most history olds news result same each
-    (subst (λ (list : List (Work L)). All (IsWithin history) list) whole within)
-    (ends ∙ ap first_fault whole)
+-- the items of a vector whose whole was changed in place
+pub written : {X : Type 0} (olds news : List X) (count : ℕ) → count ≡ length olds → length news ≡ length olds → take count (news ++ drop (length news) olds) ≡ news
+written olds news count all same = rw all (written_whole olds news same)
+
+pub all_have_drawn : {L : Type 0} (accepts : L → Option Ends → L → Type 0) (options : Options) (name : TableId) (olds news items : List (Hired L)) → items ≡ news → length news ≡ length olds
+    → ((i : ℕ) (d : Hired L) → i < length olds → HasWorked accepts options name (slice_index_or olds i d) (slice_index_or news i d))
+    → All (HasDrawn name) items
+all_have_drawn {L} accepts options name olds news items is same each = rw is (drawn_at accepts options name olds news same each)
+
+pub all_served : {L : Type 0} (accepts : L → Option Ends → L → Type 0) (options : Options) (name : TableId) (most : ℕ) (history : Log) (olds news items : List (Hired L)) (result : Result (Unit {0}) Fault) → items ≡ news → length news ≡ length olds
+    → ((i : ℕ) (d : Hired L) → i < length olds → HasWorked accepts options name (slice_index_or olds i d) (slice_index_or news i d))
+    → All (IsWithin history) items → DrawsAll most (map work_of items) → result ≡ first_fault (map work_of items)
+    → ServesSideBySide accepts options most (map (λ hired. hired.worker) olds) result
+all_served {L} accepts options name most history olds news items result is same each within drawn ends = record {
+  history = history;
+  ends = map work_of items;
+  served = rw is (served_at accepts options name history olds news same each (rw is at within));
+  drawn = drawn;
+  ended = ends;
+}

@@ -1,13 +1,13 @@
 -- Accepts, and connections that are served one behind the other.
 use native.Mathlib.Omega.{arith}
-use Rattle.std.proofs.Common.{◌≡◌, ◌<◌, ◌≤◌, ℕ, zero, suc, ◌+◌, ◌-◌, List, [], ◌∷◌, Option, Result, Ok, Err, ap, refl, subst}
+use Rattle.std.proofs.Common.{◌≡◌, ◌<◌, ℕ, zero, suc, ◌+◌, ◌-◌, List, [], ◌∷◌, Option, Result, Ok, Err, ap, refl, subst}
 use Rattle.scan_base.specs.declared.fault.Fault.{Fault}
 use Rattle.scan_base.specs.declared.fault.Fault.TheVariants.{Transport}
 use Rattle.flight_calls.specs.declared.setting.Options.{Options}
 use Rattle.flight_calls.specs.Seats.{Moves, Seat}
 use Rattle.flight_calls.specs.Owed.{Connection, Serves, connection_of}
 use Rattle.command_ends.specs.Network.{Ends, ends_of}
-use Rattle.commands.specs.Serve.{Accept, Failed, Took, Worker, Works, ServesInTurn, ServesUpTo, worker_of}
+use Rattle.commands.specs.Serve.{Accept, Failed, Took, Worker, ServesInTurn, ServesUpTo, worker_of}
 use Rattle.commands.specs.inside.Accepting.{FailsSo, TakesNext, TakesNone}
 
 -- so many connections more, where so many more accepts may fail
@@ -70,28 +70,20 @@ one_more {L} accepts moves options served start old new seat input output reads 
     = so (suc more) end final (subst (λ (n : ℕ). ServesRest accepts moves options (suc more) n end (worker_of old seat) final) (patience_behind takes.failed takes.few) all) in
     subst (λ (n : ℕ). ServesUpTo accepts moves options n end start final) (counted_once served more) whole
 
--- no connection more, where one was still to be served
-pub no_more : {L : Type 0} (accepts : L → Option Ends → L → Type 0) (moves : Moves) (options : Options) (most served : ℕ) (start : Worker L) (old new : L) (seat : Seat) (fault : Fault)
-    → served < most → ServedSo accepts moves options served start (worker_of old seat) → TakesNone accepts old new → fault ≡ Transport
-    → Works accepts moves options most (Err fault) start (worker_of new seat)
-no_more {L} accepts moves options most served start old new seat fault few so takes kind =
+-- no connection more, where one was drawn
+pub no_more : {L : Type 0} (accepts : L → Option Ends → L → Type 0) (moves : Moves) (options : Options) (served drawn : ℕ) (start : Worker L) (old new : L) (seat : Seat) (fault : Fault)
+    → drawn ≡ served + 1 → ServedSo accepts moves options served start (worker_of old seat) → TakesNone accepts old new → fault ≡ Transport
+    → ServesUpTo accepts moves options drawn (Err fault) start (worker_of new seat)
+no_more {L} accepts moves options served drawn start old new seat fault one so takes kind =
     let none : ServesRest accepts moves options 1 0 (Err fault) (worker_of new seat) (worker_of new seat) = ([], (ap Err kind, refl)) in
     let all : ServesRest accepts moves options 1 (0 + takes.failed) (Err fault) (worker_of old seat) (worker_of new seat)
     = failed_before accepts moves options 0 takes.failed 0 (Err fault) old new seat (worker_of new seat) takes.passed none in
-    record {
-      connections = served + 1;
-      few = omega arith;
-      in_turn = so 1 (Err fault) (worker_of new seat)
-          (subst (λ (n : ℕ). ServesRest accepts moves options 1 n (Err fault) (worker_of old seat) (worker_of new seat)) (no_patience_behind takes.failed takes.all) all);
-    }
+    rw one (so 1 (Err fault) (worker_of new seat)
+        (subst (λ (n : ℕ). ServesRest accepts moves options 1 n (Err fault) (worker_of old seat) (worker_of new seat)) (no_patience_behind takes.failed takes.all) all))
 
 -- as many as were drawn
-pub all_served : {L : Type 0} (accepts : L → Option Ends → L → Type 0) (moves : Moves) (options : Options) (most served : ℕ) (start now : Worker L)
-    → served ≤ most → ServedSo accepts moves options served start now → Works accepts moves options most (Ok tt) start now
-all_served {L} accepts moves options most served start now few so =
+pub all_served : {L : Type 0} (accepts : L → Option Ends → L → Type 0) (moves : Moves) (options : Options) (served drawn : ℕ) (start now : Worker L)
+    → drawn ≡ served → ServedSo accepts moves options served start now → ServesUpTo accepts moves options drawn (Ok tt) start now
+all_served {L} accepts moves options served drawn start now same so =
     let whole : ServesUpTo accepts moves options (served + 0) (Ok tt) start now = so 0 (Ok tt) now ([], (refl, refl)) in
-    record {
-      connections = served;
-      few = few;
-      in_turn = subst (λ (n : ℕ). ServesUpTo accepts moves options n (Ok tt) start now) (counted_all served) whole;
-    }
+    rw same (subst (λ (n : ℕ). ServesUpTo accepts moves options n (Ok tt) start now) (counted_all served) whole)

@@ -61,12 +61,12 @@ left_within {L} accepts moves options (Took listener its found end ∷ all) (suc
 left_within {L} accepts moves options (Took listener its found end ∷ all) (suc more) (suc patience) result old new (suc place) at ends served last s e =
     left_within accepts moves options all more 100 result (worker_of listener end.seat) new place at ends served last s.2 e
 
-taken_within : {L : Type 0} (accepts : L → Option Ends → L → Type 0) (options : Options) (most : ℕ) (history : Log) (result : Result (Unit {0}) Fault) (last : Connection)
-    → Takes accepts options most history result last → Begins last.seat.log history
-taken_within {L} accepts options most history result last t =
-    let works = t.part.works in
+taken_within : {L : Type 0} (accepts : L → Option Ends → L → Type 0) (options : Options) (history : Log) (result : Result (Unit {0}) Fault) (last : Connection)
+    → Takes accepts options history result last → Begins last.seat.log history
+taken_within {L} accepts options history result last t =
+    let serves = t.part.serves in
     begins_on last.seat.log t.new.worker.seat.log history
-    (left_within accepts onward options works.in_turn.0 works.connections 100 t.new.result t.old.worker t.new.worker t.place t.listener t.ends result last works.in_turn.1 t.took)
+    (left_within accepts onward options serves.0 t.new.drawn 100 t.new.result t.old t.new.worker t.place t.listener t.ends result last serves.1 t.took)
     t.part.within
 
 -- ---- replies of one history
@@ -89,9 +89,9 @@ replied_in history log asked reply r within = record {
   learnt = begins_same history history refl;
 }
 
-info_in : {L : Type 0} (accepts : L → Option Ends → L → Type 0) (options : Options) (most : ℕ) (history log : Log) (wanted : Wanted) (handles : List HandleAt)
-    → InfoOf accepts options most history log wanted handles → InfoServed onward history log wanted handles
-info_in {L} accepts options most history log wanted handles i =
+info_in : {L : Type 0} (accepts : L → Option Ends → L → Type 0) (options : Options) (history log : Log) (wanted : Wanted) (handles : List HandleAt)
+    → InfoOf accepts options history log wanted handles → InfoServed onward history log wanted handles
+info_in {L} accepts options history log wanted handles i =
     let s = i.served in
     record {
       payload = s.payload;
@@ -100,15 +100,15 @@ info_in {L} accepts options most history log wanted handles i =
       given = s.given;
       asked = s.asked;
       kind = s.kind;
-      answered = replied_in history log s.asked (whole (s.said ∷ [])) s.answered (taken_within accepts options most history s.answered.result s.answered.new i.taken);
+      answered = replied_in history log s.asked (whole (s.said ∷ [])) s.answered (taken_within accepts options history s.answered.result s.answered.new i.taken);
       wants = s.wants;
       read = s.read;
       gives = s.gives;
     }
 
-fetch_in : {L : Type 0} (accepts : L → Option Ends → L → Type 0) (options : Options) (most : ℕ) (history : Log) (handle : HandleAt) (rows : Rows)
-    → FetchOf accepts options most history handle rows → FetchServed onward history handle rows
-fetch_in {L} accepts options most history handle rows f =
+fetch_in : {L : Type 0} (accepts : L → Option Ends → L → Type 0) (options : Options) (history : Log) (handle : HandleAt) (rows : Rows)
+    → FetchOf accepts options history handle rows → FetchServed onward history handle rows
+fetch_in {L} accepts options history handle rows f =
     let s = f.served in
     record {
       log = s.log;
@@ -116,27 +116,27 @@ fetch_in {L} accepts options most history handle rows f =
       workers = s.workers;
       payloads = s.payloads;
       schema = s.schema;
-      answered = replied_in history s.log (fetch s.ticket s.workers) (whole s.payloads) s.answered (taken_within accepts options most history s.answered.result s.answered.new f.taken);
+      answered = replied_in history s.log (fetch s.ticket s.workers) (whole s.payloads) s.answered (taken_within accepts options history s.answered.result s.answered.new f.taken);
       is_handle = s.is_handle;
       says = s.says;
     }
 
-fetches_in : {L : Type 0} (accepts : L → Option Ends → L → Type 0) (options : Options) (most : ℕ) (history : Log) (handles : List HandleAt) (streams : List Rows)
-    → Pairwise (FetchOf accepts options most history) handles streams → Pairwise (FetchServed onward history) handles streams
-fetches_in {L} accepts options most history [] [] f = f
-fetches_in {L} accepts options most history (h ∷ hs) (s ∷ ss) f = (fetch_in accepts options most history h s f.0, fetches_in accepts options most history hs ss f.1)
-fetches_in {L} accepts options most history [] (s ∷ ss) f = absurd f
-fetches_in {L} accepts options most history (h ∷ hs) [] f = absurd f
+fetches_in : {L : Type 0} (accepts : L → Option Ends → L → Type 0) (options : Options) (history : Log) (handles : List HandleAt) (streams : List Rows)
+    → Pairwise (FetchOf accepts options history) handles streams → Pairwise (FetchServed onward history) handles streams
+fetches_in {L} accepts options history [] [] f = f
+fetches_in {L} accepts options history (h ∷ hs) (s ∷ ss) f = (fetch_in accepts options history h s f.0, fetches_in accepts options history hs ss f.1)
+fetches_in {L} accepts options history [] (s ∷ ss) f = absurd f
+fetches_in {L} accepts options history (h ∷ hs) [] f = absurd f
 
 no_longer : (log history : Log) → Begins log history → puts_in log ≤ puts_in history
 no_longer log history b = omega (arith, ap length b.1, length-append log b.0)
 
 pub server_meets_headline : {L : Type 0} (accepts : L → Option Ends → L → Type 0) → Joined → ServerMeetsHeadline accepts
-server_meets_headline {L} accepts law options most history log wanted handles streams answer i answers fetched =
-    let served = info_in accepts options most history log wanted handles i in
+server_meets_headline {L} accepts law options history log wanted handles streams answer i answers fetched =
+    let served = info_in accepts options history log wanted handles i in
     let last = i.served.answered.new.seat.log in
     let begins : Begins log history = begins_on log last history
     (begins_last onward [] log i.served.asked (whole (i.served.said ∷ [])) i.served.answered)
-    (taken_within accepts options most history i.served.answered.result i.served.answered.new i.taken) in
+    (taken_within accepts options history i.served.answered.result i.served.answered.new i.taken) in
     seats_meet_joined law onward history log wanted handles streams answer served (no_longer log history begins)
-    answers (fetches_in accepts options most history handles streams fetched)
+    answers (fetches_in accepts options history handles streams fetched)

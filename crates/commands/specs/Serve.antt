@@ -1,5 +1,5 @@
 -- What `serve` does.
-use Rattle.std.specs.Prelude.{◌≡◌, ◌⊎◌, ◌≤◌, ℕ, zero, suc, ◌+◌, length, All, List, [], ◌∷◌, Option, Some, None, Result, Ok, Err}
+use Rattle.std.specs.Prelude.{◌≡◌, ◌⊎◌, ◌≤◌, ℕ, zero, suc, ◌+◌, length, All, IsErr, List, [], ◌∷◌, Option, Some, None, Result, Ok, Err}
 use Rattle.std.specs.Io.KnownBytes.{Appends}
 use Rattle.scan_base.specs.declared.fault.Fault.{Fault}
 use Rattle.scan_base.specs.declared.fault.Fault.TheVariants.{OutOfMemory, Transport}
@@ -47,22 +47,17 @@ ServesInTurn accepts moves options (Took listener ends served last ∷ others) (
     × ServesInTurn accepts moves options others more 100 result (worker_of listener last.seat) new
 ServesInTurn accepts moves options others more patience result old new = ⊥
 
--- so many connections were served, or fewer where no more could be taken
+-- these were served, one behind the other, of so many that were to be; or fewer, where no more could be taken
 abbrev pub ServesUpTo : {L : Type 0} → (L → Option Ends → L → Type 0) → Moves → Options → ℕ → Result (Unit {0}) Fault → Worker L → Worker L → Type 0
-ServesUpTo {L} accepts moves options most result old new =
-    (all : List (Accept L)) × ServesInTurn accepts moves options all most 100 result old new
-
--- it served connections one behind the other, no more than so many
-pub record Works {L : Type 0} (accepts : L → Option Ends → L → Type 0) (moves : Moves) (options : Options) (most : ℕ) (result : Result (Unit {0}) Fault) (old new : Worker L) : Type 0 where
-  pub connections : ℕ
-  pub few : connections ≤ most
-  pub in_turn : ServesUpTo accepts moves options connections result old new
+ServesUpTo {L} accepts moves options drawn result old new =
+    (all : List (Accept L)) × ServesInTurn accepts moves options all drawn 100 result old new
 
 -- ---- workers side by side
 
--- a worker, and what came of its work
+-- a worker that has ended: how many connections it drew, to serve them, and what came of that
 pub record Work (L : Type 0) : Type 0 where
   pub worker : Worker L
+  pub drawn : ℕ
   pub result : Result (Unit {0}) Fault
 
 -- the first fault of the works, if one has a fault
@@ -74,22 +69,32 @@ abbrev pub first_fault : {L : Type 0} → List (Work L) → Result (Unit {0}) Fa
 first_fault [] = Ok tt
 first_fault (work ∷ others) = both work.result (first_fault others)
 
--- a worker served connections, and all that its seat has then seen is of this history
-pub record IsPartOf {L : Type 0} (accepts : L → Option Ends → L → Type 0) (options : Options) (most : ℕ) (history : Log) (old new : Work L) : Type 0 where
-  pub works : Works accepts onward options most new.result old.worker new.worker
+-- how many connections all of them drew
+abbrev pub drawn_by : {L : Type 0} → List (Work L) → ℕ
+drawn_by [] = 0
+drawn_by (work ∷ others) = work.drawn + drawn_by others
+
+-- so many connections were drawn; or fewer, where every worker ended by a fault
+abbrev pub DrawsAll : {L : Type 0} → ℕ → List (Work L) → Type 0
+DrawsAll most works = (drawn_by works ≡ most) ⊎ ((drawn_by works ≤ most) × All (λ work. IsErr work.result) works)
+
+-- a worker served the connections that it drew, and all that its seat has then seen is of this history
+pub record IsPartOf {L : Type 0} (accepts : L → Option Ends → L → Type 0) (options : Options) (history : Log) (old : Worker L) (new : Work L) : Type 0 where
+  pub serves : ServesUpTo accepts onward options new.drawn new.result old new.worker
   pub within : Begins new.worker.seat.log history
 
--- These workers served side by side, each its own connections, and all that their seats have seen is of one history. The
--- result is the first fault of a worker, if one has a fault.
-pub record ServesSideBySide {L : Type 0} (accepts : L → Option Ends → L → Type 0) (options : Options) (most : ℕ) (workers : List (Work L)) (result : Result (Unit {0}) Fault) : Type 0 where
+-- These workers served side by side, each the connections that it drew, so many in all, and all that their seats have seen is
+-- of one history. The result is the first fault of a worker, if one has a fault.
+pub record ServesSideBySide {L : Type 0} (accepts : L → Option Ends → L → Type 0) (options : Options) (most : ℕ) (workers : List (Worker L)) (result : Result (Unit {0}) Fault) : Type 0 where
   pub history : Log
   pub ends : List (Work L)
-  pub served : Pairwise (IsPartOf accepts options most history) workers ends
+  pub served : Pairwise (IsPartOf accepts options history) workers ends
+  pub drawn : DrawsAll most ends
   pub ended : result ≡ first_fault ends
 
 -- ---- a port
 
--- how many connections are served, where so many are to be accepted: 0 stands for no end
+-- how many connections are drawn, where so many are to be accepted: 0 stands for no end
 abbrev pub most_of : ℕ → ℕ
 most_of zero = 18446744073709551615
 most_of accept = accept
@@ -101,14 +106,14 @@ abbrev pub at_port : ℕ → Serving → Serving
 at_port port serving = record { port = port; seats = serving.seats; accept = serving.accept; parts = serving.parts; workers = serving.workers }
 
 -- it listens to the same port, and its seat has seen nothing
-abbrev pub IsFresh : {L : Type 0} → (L → Option L → Type 0) → L → Work L → Type 0
-IsFresh shares heard work = shares heard (Some work.worker.listener) × (work.worker.seat ≡ seat_of [] 0)
+abbrev pub IsFresh : {L : Type 0} → (L → Option L → Type 0) → L → Worker L → Type 0
+IsFresh shares heard worker = shares heard (Some worker.listener) × (worker.seat ≡ seat_of [] 0)
 
 -- the line of the port was printed, and as many workers as there are seats served connections to it, of one history
 pub record IsServed {L : Type 0} (accepts : L → Option Ends → L → Type 0) (shares : L → Option L → Type 0) (serving : Serving) (result : Result (Unit {0}) Fault) (heard : L) (out out' : Said) : Type 0 where
   pub printed : Appends out.bytes out'.bytes (listening_line serving.port)
   pub quiet : out'.failures ≡ out.failures
-  pub workers : List (Work L)
+  pub workers : List (Worker L)
   pub many : length workers ≡ serving.seats
   pub start : All (IsFresh shares heard) workers
   pub served : ServesSideBySide accepts (options_of serving) (most_of serving.accept) workers result

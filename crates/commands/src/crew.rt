@@ -1,75 +1,76 @@
 //! Workers that serve connections side by side, over one history.
 
-ghost use Rattle.std.specs.Prelude.{◌≡◌, ◌⊎◌, ◌<◌, [], All, MatchResult, None, ℕ, length, slice_index_or};
+ghost use Rattle.std.specs.Prelude.{◌≡◌, ◌⊎◌, ◌<◌, ◌+◌, [], All, MatchResult, None, ℕ, length, map, slice_index_or, IfOk};
 ghost use Rattle.scan_base.specs.declared.fault.Fault.TheVariants.{OutOfMemory, Transport};
 ghost use Rattle.flight_core.specs.Log.{Log};
 ghost use Rattle.version_cell.specs.Seats.{seat};
-ghost use Rattle.shared_calls.specs.Sharing.{onward};
-ghost use Rattle.commands.specs.Serve as serving;
-ghost use Rattle.commands.specs.Serve.{IsFresh, ServesSideBySide, Works, first_fault};
-ghost use Rattle.commands.specs.inside.Gathering.{IsWithin};
+ghost use Rattle.connection_turns.specs.Drawers as drawers;
+ghost use Rattle.commands.specs.Serve.{DrawsAll, IsFresh, ServesSideBySide, first_fault};
+ghost use Rattle.commands.specs.inside.Gathering.{HasDrawn, HasWorked, IsNew, IsWithin, work_of};
 
-use crate::turns::{Turns, serve_in_turn};
+use crate::turns::{Service, serve_in_turn};
 use command_ends::Listen;
-use flight_calls::Options;
+use connection_turns::{Drawer, Turns};
 use scan_base::Fault;
 use shared_calls::Shared;
-use std::alloc::Global;
 use std::marker::Model;
-use std::sync::{Mutex, Wait};
+use std::sync::Wait;
 use std::thread;
 use std::thread::Threads;
-use version_cell::{CellName, Putter, Scanner, Told};
+use std::time::Clock;
+use version_cell::{CellName, Scanner, SharedPutter, Told};
 
-/// One of those that serve: its listener, its seat of the cell, and what came of its work. Contracts see it as a worker that
-/// made no put.
+/// One of those that serve: its listener, its seat of the cell, what it has drawn, and what came of its work.
 #[derive(Drop)]
 pub(crate) struct Worker<L, C: CellName> {
     listener: L,
     // None while the worker works.
     scanner: Option<Scanner<C>>,
+    drawer: Drawer,
     served: Result<(), Fault>,
 }
 
 impl<L, C: CellName> Model for Worker<L, C> {
     ghost use Rattle.std.specs.Prelude.{IsSome};
-    ghost use Rattle.commands.specs.inside.Gathering.{seat_in};
-    ghost use Rattle.commands.specs.Serve as serving;
+    ghost use Rattle.commands.specs.inside.Gathering.{Hired, seat_in};
+    ghost use Rattle.commands.specs.Serve.{worker_of};
 
-    ghost Value = { serving.Work L };
+    ghost Value = { Hired L };
 
-    ghost view = { λ w. record { worker = serving.worker_of w.listener (seat_in w.scanner); result = w.served } };
+    ghost view = { λ w. record { worker = worker_of w.listener (seat_in w.scanner); drawer = w.drawer; result = w.served } };
 
     ghost invariant = { λ w. IsSome w.scanner };
 }
 
-/// What all workers share: the putter of their cell, how they answer, and which connections are still to be accepted.
+/// What all workers share: how they serve, and the putter of their cell.
 #[derive(Drop)]
 pub(crate) struct Crew<'a, 'h, C: CellName, T: Wait> {
-    pub rt: &'h T,
-    pub alloc: Global,
-    pub putter: &'a Mutex<Putter<C, &'h T>>,
-    pub options: Options,
-    pub turns: &'a Turns,
+    pub service: Service<'a, 'h, T>,
+    pub putter: &'a SharedPutter<C, &'h T>,
 }
 
-/// A worker for each seat, with a listener of its own.
+/// A worker for each seat, with a listener of its own. Each draws by a part of the first drawer's.
 ///
 /// # Errors
 ///
 /// - `Fault::OutOfMemory` (F21) where memory is refused.
 /// - `Fault::Transport` (F22) where the network gives no further listener.
-pub(crate) fn workers_of<L: Listen + Drop, C: CellName>(
-    alloc: Global,
+pub(crate) fn workers_of<L: Listen + Drop, C: CellName, T: Wait>(
+    service: &Service<'_, '_, T>,
+    drawer: &mut Drawer,
     network: &L,
     scanners: Vec<Scanner<C>>,
 ) -> Result<Vec<Worker<L, C>>, Fault>
-    requires { All (λ scanner. scanner ≡ seat [] [] 0) scanners.items }
-    ensures { MatchResult result
-        (λ workers. (length workers.items ≡ length scanners.items) × All (IsFresh L.shares network.now) workers.items)
+    requires seats { All (λ scanner. scanner ≡ seat [] [] 0 []) scanners.items }
+    requires drawer { drawer.old ≡ drawers.drawer service.now.turns.now.name (length scanners.items + 1) 0 0 }
+    ensures made { MatchResult result
+        (λ workers. (length workers.items ≡ length scanners.items)
+            × All (λ hired. IsFresh L.shares network.now hired.worker) workers.items
+            × All (IsNew service.now.turns.now.name) workers.items)
         (λ fault. (fault ≡ OutOfMemory) ⊎ ((fault ≡ Transport) × L.shares network.now None)) }
+    ensures drawer { IfOk result (λ _. drawer.new ≡ drawers.drawer service.now.turns.now.name 1 0 0) }
 {
-    let mut workers = Vec::new(alloc);
+    let mut workers = Vec::new(service.alloc);
     for scanner in scanners {
         let Ok(listener) = network.share() else {
             return Err(Fault::Transport);
@@ -77,6 +78,7 @@ pub(crate) fn workers_of<L: Listen + Drop, C: CellName>(
         let worker = Worker {
             listener,
             scanner: Some(scanner),
+            drawer: service.turns.cut(drawer),
             served: Ok(()),
         };
         if workers.push(worker).is_err() {
@@ -87,18 +89,20 @@ pub(crate) fn workers_of<L: Listen + Drop, C: CellName>(
 }
 
 // Serves the connections of one worker.
-fn work<L: Listen, C: CellName, T: Wait>(crew: &Crew<'_, '_, C, T>, worker: &mut Worker<L, C>)
-    ensures { (last : serving.Worker L) × Works L.accepts onward crew.now.options crew.now.turns.now.most worker.new.result
-        worker.old.worker last × (last.seat.log ≡ worker.new.worker.seat.log) }
+fn work<L: Listen, C: CellName, T: Wait + Clock>(
+    crew: &Crew<'_, '_, C, T>,
+    worker: &mut Worker<L, C>,
+)
+    requires { IsNew crew.now.service.turns.now.name worker.old }
+    ensures { HasWorked L.accepts crew.now.service.options crew.now.service.turns.now.name worker.old worker.new }
 {
     let scanner = worker.scanner.take().unwrap();
-    let mut backend = Shared::new(crew.alloc, crew.rt, crew.putter, scanner);
+    let mut backend = Shared::new(crew.service.rt, crew.putter, scanner);
     worker.served = serve_in_turn(
-        crew.alloc,
+        &crew.service,
+        &mut worker.drawer,
         &mut worker.listener,
         &mut backend,
-        crew.options,
-        crew.turns,
     );
     worker.scanner = Some(backend.into_seat());
 }
@@ -110,35 +114,50 @@ where
     L::Reader: Send,
     L::Writer: Send,
     C: CellName + Send + Sync,
-    T: Threads + Wait + Sync,
+    T: Threads + Wait + Clock + Sync,
+    requires { All (IsNew crew.now.service.turns.now.name) workers.old }
     ensures { (i : ℕ) (d : _) → i < length workers.old
-        → (last : serving.Worker L) × Works L.accepts onward crew.now.options crew.now.turns.now.most
-        (slice_index_or workers.new i d).result (slice_index_or workers.old i d).worker last
-        × (last.seat.log ≡ (slice_index_or workers.new i d).worker.seat.log) }
+        → HasWorked L.accepts crew.now.service.options crew.now.service.turns.now.name
+        (slice_index_or workers.old i d) (slice_index_or workers.new i d) }
 {
     let threads = workers.len().max(1);
     let each = |_place: usize, worker: &mut Worker<L, C>|
-        ensures { (last : serving.Worker L) × Works L.accepts onward crew.entry.now.options crew.entry.now.turns.now.most
-            worker.exit.now.result worker.entry.now.worker last × (last.seat.log ≡ worker.exit.now.worker.seat.log) }
+        requires { IsNew crew.now.service.turns.now.name worker.now }
+        ensures { HasWorked L.accepts crew.entry.now.service.options crew.entry.now.service.turns.now.name
+            worker.entry.now worker.exit.now }
     { work(crew, worker) };
-    thread::for_each_mut(crew.rt, workers, threads, &each);
+    thread::for_each_mut(crew.service.rt, workers, threads, &each);
 }
 
 // The first fault of workers that have ended. The longest of the log that was told and those that they have seen is the
-// history of all.
+// history of all, and the drawer takes in what they drew.
 fn first_of<L: Drop, C: CellName>(
+    turns: &Turns,
+    mut drawer: Drawer,
     told: Told<C>,
     mut workers: Vec<Worker<L, C>>,
 ) -> Result<(), Fault>
-    ensures first { result ≡ first_fault workers.items }
+    requires parts { turns.now.parts ≡ length workers.items + 1 }
+    requires drawer { drawer ≡ drawers.drawer turns.now.name 1 0 0 }
+    requires worked { All (HasDrawn turns.now.name) workers.items }
+    ensures first { result ≡ first_fault (map work_of workers.items) }
     ensures within { (history : Log) × All (IsWithin history) workers.items }
+    ensures drawn { DrawsAll turns.now.most (map work_of workers.items) }
 {
     let mut told = told;
     let mut first = Ok(());
     while let Some(worker) = workers.pop() {
-        told = told.covering(worker.scanner.as_ref().unwrap());
-        first = worker.served.and(first);
+        let Worker {
+            listener: _,
+            scanner,
+            drawer: other,
+            served,
+        } = worker;
+        told = told.covering(scanner.as_ref().unwrap());
+        first = served.and(first);
+        turns.take_back(&mut drawer, other);
     }
+    turns.learn(&mut drawer);
     first
 }
 
@@ -149,6 +168,7 @@ fn first_of<L: Drop, C: CellName>(
 /// The first fault of a worker.
 pub(crate) fn serve_side_by_side<L, C, T>(
     crew: &Crew<'_, '_, C, T>,
+    drawer: Drawer,
     mut workers: Vec<Worker<L, C>>,
 ) -> Result<(), Fault>
 where
@@ -156,10 +176,14 @@ where
     L::Reader: Send,
     L::Writer: Send,
     C: CellName + Send + Sync,
-    T: Threads + Wait + Sync,
-    ensures { ServesSideBySide L.accepts crew.now.options crew.now.turns.now.most workers.items result }
+    T: Threads + Wait + Clock + Sync,
+    requires parts { crew.now.service.turns.now.parts ≡ length workers.items + 1 }
+    requires drawer { drawer ≡ drawers.drawer crew.now.service.turns.now.name 1 0 0 }
+    requires new { All (IsNew crew.now.service.turns.now.name) workers.items }
+    ensures { ServesSideBySide L.accepts crew.now.service.options crew.now.service.turns.now.most
+        (map (λ hired. hired.worker) workers.items) result }
 {
     work_side_by_side(crew, workers.as_mut_slice());
-    let told = crew.putter.lock(crew.rt).tell();
-    first_of(told, workers)
+    let told = crew.putter.tell(crew.service.rt);
+    first_of(crew.service.turns, drawer, told, workers)
 }

@@ -4,21 +4,24 @@ ghost use Rattle.std.specs.Prelude.{◌≡◌, ◌≤◌, ◌<◌, ℕ, List};
 ghost use Rattle.version_cell.specs.Blanks.{most_seats};
 ghost use Rattle.command_ends.specs.Printing.{Prints, cause_lines, said_of};
 ghost use Rattle.command_ends.specs.declared.exit_status.ExitStatus.TheVariants.{FaultAtThisEnd};
+ghost use Rattle.commands.specs.Serve as serves;
 ghost use Rattle.commands.specs.Serve.{Listens, ServesPort};
 
 use crate::crew::{Crew, serve_side_by_side, workers_of};
-use crate::turns::Turns;
+use crate::turns::Service;
 use command_ends::{ExitStatus, Listen, end_by_cause, end_by_fault, print_listening};
 use command_line::Serving;
+use connection_turns::open as open_turns;
 use flight_calls::Options;
 use grpc_frame::Output;
 use hash_seed::HashSeed;
 use scan_base::Fault;
 use std::alloc::{AllocError, Global};
 use std::io::Error;
-use std::sync::{Mutex, Wait};
+use std::sync::Wait;
 use std::thread::Threads;
-use version_cell::{Blank, Brand, CellName, open};
+use std::time::Clock;
+use version_cell::{Blank, Brand, CellName, SharedPutter, open};
 
 /// What a server has of its machine: threads, memory, and the seed with which hashes of clients' values begin.
 #[derive(Clone, Copy)]
@@ -41,7 +44,7 @@ pub fn serve<T, L, W: Output, E: Output>(
     serving: Serving,
 ) -> ExitStatus
 where
-    T: Threads + Wait + Sync,
+    T: Threads + Wait + Clock + Sync,
     L: Listen + Drop + Send,
     L::Reader: Send,
     L::Writer: Send,
@@ -86,7 +89,7 @@ fn serve_port<T, L, W: Output>(
     serving: Serving,
 ) -> Result<(), Fault>
 where
-    T: Threads + Wait + Sync,
+    T: Threads + Wait + Clock + Sync,
     L: Listen + Drop + Send,
     L::Reader: Send,
     L::Writer: Send,
@@ -109,7 +112,7 @@ fn serve_cell<C: CellName + Send + Sync, T, L, W: Output>(
     serving: Serving,
 ) -> Result<(), Fault>
 where
-    T: Threads + Wait + Sync,
+    T: Threads + Wait + Clock + Sync,
     L: Listen + Drop + Send,
     L::Reader: Send,
     L::Writer: Send,
@@ -119,20 +122,37 @@ where
         (said_of (W.contents output.old) (W.failures output.old))
         (said_of (W.contents output.new) (W.failures output.new)) }
 {
-    let turns = Turns::new(serving.accept);
+    let (turns, mut drawer) = open_turns(
+        host.alloc,
+        most_of(serving.accept),
+        serving.seats as usize,
+    )?;
     let (putter, scanners) = blank.named::<C, &T>(host.alloc, host.rt)?;
-    let putter = Mutex::new(putter);
-    let crew = Crew {
+    let putter = SharedPutter::new(putter);
+    let service = Service {
         rt: host.rt,
         alloc: host.alloc,
-        putter: &putter,
         options: Options {
             parts: serving.parts,
             workers: serving.workers as usize,
         },
         turns: &turns,
     };
-    let workers = workers_of(host.alloc, network, scanners)?;
+    let workers = workers_of(&service, &mut drawer, network, scanners)?;
     print_listening(host.alloc, output, serving.port)?;
-    serve_side_by_side(&crew, workers)
+    let crew = Crew {
+        service,
+        putter: &putter,
+    };
+    serve_side_by_side(&crew, drawer, workers)
+}
+
+// How many connections to draw; 0 stands for no end.
+fn most_of(accept: u16) -> u64
+    ensures { result ≡ serves.most_of accept }
+{
+    match accept {
+        0 => u64::MAX,
+        accept => u64::from(accept),
+    }
 }

@@ -1,75 +1,74 @@
 //! Connections that one worker serves, one behind the other.
 
-ghost use Rattle.std.specs.Prelude.{◌≡◌, IfErr, IfOk};
+ghost use Rattle.std.specs.Prelude.{◌≡◌, ◌<◌, IfErr, IfOk};
 ghost use Rattle.grpc_frame.specs.Ends.{FailsByTransport};
+ghost use Rattle.connection_turns.specs.Drawers as drawers;
 ghost use Rattle.command_ends.specs.Network.{ends_of};
-ghost use Rattle.commands.specs.Serve.{Works, most_of, worker_of};
+ghost use Rattle.commands.specs.Serve.{ServesUpTo, worker_of};
 ghost use Rattle.commands.specs.inside.Accepting.{TakesNext, TakesNone};
 
 use command_ends::Listen;
+use connection_turns::{Drawer, Turns};
 use flight_calls::{Backend, Options};
 use scan_base::Fault;
 use std::alloc::Global;
-use std::sync::atomic::{AtomicU64, Ordering};
+use std::sync::Wait;
+use std::thread;
+use std::time::{Clock, Duration};
 
 // So many accepts that fail one behind the other end a worker.
 const MOST_FAILED_ACCEPTS: u32 = 100;
 
-/// The numbers of the connections that are still to be accepted, which workers draw.
+// It waits so long behind each: what keeps a connection from being accepted may pass.
+const PAUSE_MILLISECONDS: u64 = 20;
+
+/// How all workers serve, and how many connections are still to be accepted.
 #[derive(Drop)]
-pub struct Turns {
-    drawn: AtomicU64,
-    pub most: u64,
+pub struct Service<'a, 'h, T: Wait> {
+    pub rt: &'h T,
+    pub alloc: Global,
+    pub options: Options,
+    pub turns: &'a Turns,
 }
 
-impl Turns {
-    /// So many; 0 stands for no end.
-    pub fn new(accept: u16) -> Turns
-        ensures { result.most ≡ most_of accept }
-    {
-        let most = match accept {
-            0 => u64::MAX,
-            accept => u64::from(accept),
-        };
-        Turns {
-            drawn: AtomicU64::new(0),
-            most,
-        }
-    }
-
-    // Whether there is one more.
-    fn draw(&self) -> bool {
-        self.drawn.fetch_add(1, Ordering::SeqCst) < self.most
-    }
-}
-
-/// Serves connections one behind the other, over one backend: one for each number that it draws, while there are more.
+/// Serves connections one behind the other, over one backend: one for each turn that it draws, until none is left.
 ///
 /// # Errors
 ///
 /// `Fault::Transport` (F22) where a hundred accepts failed one behind the other.
-pub fn serve_in_turn<L: Listen, B: Backend>(
-    alloc: Global,
+pub fn serve_in_turn<L: Listen, B: Backend, T: Wait + Clock>(
+    service: &Service<'_, '_, T>,
+    drawer: &mut Drawer,
     network: &mut L,
     backend: &mut B,
-    options: Options,
-    turns: &Turns,
 ) -> Result<(), Fault>
-    ensures { Works L.accepts B.moves options turns.now.most result
+    requires { drawer.old ≡ drawers.drawer service.now.turns.now.name 1 0 0 }
+    ensures serves { ServesUpTo L.accepts B.moves service.now.options drawer.new.drawn result
         (worker_of network.old (B.seat backend.old)) (worker_of network.new (B.seat backend.new)) }
+    ensures drawer { (drawer.new.name ≡ service.now.turns.now.name) × (drawer.new.parts ≡ 1) }
+    ensures ended { IfOk result (λ _. 0 < drawer.new.ended) }
 {
-    for _ in 0..turns.most {
-        if !turns.draw() {
-            break;
+    for _ in service.rt.forever() {
+        if !service.turns.draw(service.rt, drawer) {
+            return Ok(());
         }
-        let (mut reader, mut writer) = accept_next(network)?;
-        let _ = flight_calls::serve(alloc, &mut reader, &mut writer, backend, options);
+        let (mut reader, mut writer) = accept_next(service.rt, network)?;
+        let _ = flight_calls::serve(
+            service.alloc,
+            &mut reader,
+            &mut writer,
+            backend,
+            service.options,
+        );
     }
-    Ok(())
+    unreachable!()
 }
 
-// The next connection. Accepts that fail are passed over.
-fn accept_next<L: Listen>(network: &mut L) -> Result<(L::Reader, L::Writer), Fault>
+// The next connection. Accepts that fail are passed over, each behind a pause.
+fn accept_next<L: Listen>(
+    clock: &impl Clock,
+    network: &mut L,
+) -> Result<(L::Reader, L::Writer), Fault>
     ensures taken { IfOk result (λ ends. TakesNext L.accepts
         (ends_of (L.Reader.remaining ends.0) (L.Writer.contents ends.1)) network.old network.new) }
     ensures none { IfErr result (λ _. TakesNone L.accepts network.old network.new) }
@@ -81,6 +80,7 @@ fn accept_next<L: Listen>(network: &mut L) -> Result<(L::Reader, L::Writer), Fau
         if let Ok(ends) = network.accept() {
             return Ok(ends);
         }
+        thread::sleep(clock, Duration::from_millis(PAUSE_MILLISECONDS));
     }
     Err(Fault::Transport)
 }

@@ -1,7 +1,6 @@
 -- A put over a seat of a cell.
 use Rattle.std.proofs.Common.{◌≡◌, [], ◌∷◌, ◌++◌, Ok, Err, refl, sym, ◌∙◌, append-nil}
 use Rattle.scan_base.specs.declared.fault.Fault.{Fault}
-use Rattle.scan_base.specs.declared.fault.Fault.TheVariants.{OutOfMemory}
 use Rattle.table_versions.specs.Database.{Put}
 use Rattle.version_cell.specs.Puts.{PutsBehind}
 use Rattle.version_cell.specs.Seats as cell
@@ -18,7 +17,7 @@ begins_same log same is = ([], is ∙ sym (append-nil log))
 begins_as : (log more old new : Log) → Begins log more → old ≡ log → new ≡ more → Begins old new
 begins_as log more old new begins old_is new_is = rw (old_is, new_is) begins
 
--- the cell's putter made it, and its receipt is kept
+-- the cell's putter made it
 pub accepted : {X : Type 0} (receipt : X) (seat next : cell.Seat) (old new : Seat) (put : Put) → PutsBehind (Ok receipt) seat put next → cell.Begins seat.log next.log
     → next.enters ≡ seat.enters → old.log ≡ seat.log → old.looks ≡ seat.enters → new.log ≡ next.log → new.looks ≡ next.enters → new.made ≡ old.made ++ put ∷ []
     → Puts onward (Ok tt) old put new
@@ -44,16 +43,4 @@ refused fault seat next old new put behind kept enters log looks new_log new_loo
   kept = begins_as seat.log next.log old.log new.log kept log new_log;
   learnt = begins_same next.log new.log new_log;
   looks = new_looks ∙ enters ∙ sym looks;
-}
-
--- memory is refused for its receipt
-pub unmade : (old new : Seat) (put : Put) → new ≡ old → Puts onward (Err OutOfMemory) old put new
-unmade old new put is = rw is record {
-  log = old.log;
-  next = old.log;
-  at = (refl, refl, λ other. absurd (other refl));
-  moved = (begins_same old.log old.log refl, refl);
-  kept = begins_same old.log old.log refl;
-  learnt = begins_same old.log old.log refl;
-  looks = refl;
 }

@@ -1,13 +1,12 @@
 -- A seat of a version cell, as a connection's.
-use Rattle.std.specs.Prelude.{◌≡◌, List}
-use Rattle.table_versions.specs.Database.{Put}
+use Rattle.std.specs.Prelude.{◌≡◌}
 use Rattle.version_cell.specs.Seats as cell
 use Rattle.flight_core.specs.Headline.{Begins}
 use Rattle.flight_calls.specs.Seats.{Seat, Moves}
 
--- it looks by entering the cell; and it made these puts
-abbrev pub seat_at : cell.Seat → List Put → Seat
-seat_at scanner made = record { log = scanner.log; looks = scanner.enters; made = made }
+-- it looks by entering the cell
+abbrev pub seat_at : cell.Seat → Seat
+seat_at scanner = record { log = scanner.log; looks = scanner.enters; made = scanner.made }
 
 -- Where others put into the log too: a step, also that of a put, goes from a log that goes on from what the seat had seen,
 -- and the seat has then seen the log behind it, and no more.

@@ -1,24 +1,21 @@
 //! A backend over a seat of a version cell.
 
-ghost use Rattle.std.specs.Prelude.{◌≡◌, [], map};
-ghost use Rattle.table_versions.specs.Stored.{put_of};
+ghost use Rattle.std.specs.Prelude.{◌≡◌};
 ghost use Rattle.shared_calls.specs.Sharing.{seat_at};
 
 use flight_calls::Backend;
 use scan_base::Fault;
 use std::alloc::Global;
 use std::marker::Model;
-use std::sync::{Mutex, Wait};
+use std::sync::Wait;
 use table_versions::{Put, Snapshot};
-use version_cell::{CellName, Putter, Receipt, Scanner, put_and_learn};
+use version_cell::{CellName, Scanner, SharedPutter};
 
-/// The versions of a connection that shares them with others: its seat of their cell, the cell's putter under one lock, and
-/// the receipts of the puts that it made.
+/// The versions of a connection that shares them with others: its seat of their cell, and the cell's putter.
 pub struct Shared<'a, C: CellName, R: Wait + Drop, H: Wait> {
     rt: &'a H,
-    putter: &'a Mutex<Putter<C, R>>,
+    putter: &'a SharedPutter<C, R>,
     scanner: Scanner<C>,
-    receipts: Vec<Receipt<C>>,
 }
 
 // Written out, so that dropping it is one call (docs/DECISIONS.md).
@@ -28,58 +25,45 @@ impl<'a, C: CellName, R: Wait + Drop, H: Wait> Drop for Shared<'a, C, R, H> {
             rt: _,
             putter: _,
             scanner: _,
-            receipts: _,
         } = self;
     }
 }
 
 impl<'a, C: CellName, R: Wait + Drop, H: Wait> Model for Shared<'a, C, R, H> {
-    ghost use Rattle.std.specs.Prelude.{map};
-    ghost use Rattle.table_versions.specs.Stored.{put_of};
     ghost use Rattle.flight_calls.specs.Seats.{Seat};
     ghost use Rattle.shared_calls.specs.Sharing.{seat_at};
 
     ghost Value = { Seat };
 
-    ghost view = { λ s. seat_at s.scanner (map (λ receipt. put_of receipt.put.value) s.receipts.items) };
+    ghost view = { λ s. seat_at s.scanner };
 }
 
 impl<'a, C: CellName, R: Wait + Drop, H: Wait> Shared<'a, C, R, H> {
-    /// Those of a seat, which made no put yet.
+    /// Those of a seat.
     pub fn new(
-        alloc: Global,
         rt: &'a H,
-        putter: &'a Mutex<Putter<C, R>>,
+        putter: &'a SharedPutter<C, R>,
         seat: Scanner<C>,
     ) -> Shared<'a, C, R, H>
-        ensures { result ≡ seat_at seat [] }
+        ensures { result ≡ seat_at seat }
     {
         Shared {
             rt,
             putter,
             scanner: seat,
-            receipts: Vec::new(alloc),
         }
     }
 
-    /// Gives the cell's seat back, as it then is. The receipts are let go.
+    /// Gives the cell's seat back, as it then is.
     pub fn into_seat(self) -> Scanner<C>
-        ensures { seat_at result self.entry.made ≡ self.entry }
+        ensures { seat_at result ≡ self.entry }
     {
         let Shared {
             rt: _,
             putter: _,
             scanner,
-            receipts: _,
         } = self;
         scanner
-    }
-
-    /// The receipts of the puts that were made, in order.
-    pub fn receipts(&self) -> &[Receipt<C>]
-        ensures { map (λ receipt. put_of receipt.put.value) result.now ≡ self.now.made }
-    {
-        self.receipts.as_slice()
     }
 }
 
@@ -92,11 +76,8 @@ impl<'a, C: CellName, R: Wait + Drop, H: Wait> Backend for Shared<'a, C, R, H> {
 
     ghost moves = { onward };
 
-    // The growth of the receipts comes before the put.
     fn put(&mut self, alloc: Global, put: Put) -> Result<(), Fault> {
-        self.receipts.reserve(1)?;
-        let receipt = put_and_learn(self.rt, alloc, self.putter, &mut self.scanner, put)?;
-        self.receipts.push_reserved(receipt);
+        self.putter.put(self.rt, alloc, &mut self.scanner, put)?;
         Ok(())
     }
 
@@ -110,10 +91,7 @@ impl<'a, C: CellName, R: Wait + Drop, H: Wait> Backend for Shared<'a, C, R, H> {
 
     // The putter's lock is taken once.
     fn learn(&mut self) {
-        let guard = self.putter.lock(self.rt);
-        let told = guard.tell();
-        drop(guard);
-        self.scanner.learn(&told);
+        self.scanner.learn(&self.putter.tell(self.rt));
     }
 
     ghost stays = { λ s. (([], sym (append-nil s.log)), refl) };

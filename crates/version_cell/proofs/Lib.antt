@@ -1,3 +1,4 @@
 pub mod Fronts
+pub mod Answering
 pub mod Adding
 pub mod Versions

@@ -1,4 +1,5 @@
 pub mod Rules
+pub mod Made
 pub mod Seats
 pub mod Puts
 pub mod Blanks

@@ -4,7 +4,7 @@ use Rattle.scan_base.specs.declared.fault.Fault.{Fault}
 use Rattle.scan_base.specs.declared.fault.Fault.TheVariants.{OutOfMemory}
 use Rattle.scan_base.specs.Reading.{RefusesFirst}
 use Rattle.table_versions.specs.Database.{Put, Database, after, database_of}
-use Rattle.version_cell.specs.Seats.{Log, Seat, Begins}
+use Rattle.version_cell.specs.Seats.{Log, Seat, Begins, MakesNone}
 
 -- the database after a put that meets this log, or the first fault
 abbrev pub after_log : Log → Put → Result Database Fault
@@ -23,3 +23,8 @@ pub record PutsBehind {X : Type 0} (result : Result X Fault) (old : Seat) (put :
   pub met : Begins old.log log
   pub answered : IsAnswered result log put new.log
   pub first : RefusesFirst result (after_log log put)
+
+-- an accepted put is the last of those that were made through the seat, and a refused one is none of them
+abbrev pub CountsPut : {X : Type 0} → Result X Fault → Seat → Put → Seat → Type 0
+CountsPut (Ok done) old put new = new.made ≡ old.made ++ put ∷ []
+CountsPut (Err fault) old put new = MakesNone old new

@@ -6,14 +6,16 @@ use Rattle.table_versions.specs.Database.{Put}
 abbrev pub Log : Type 0
 Log = List Put
 
--- the log that the seat has seen or was told of, the log that it entered last, and how often it entered the cell
+-- the log that the seat has seen or was told of, the log that it entered last, how often it entered the cell, and the puts
+-- that were made through it, in order
 pub record Seat : Type 0 where
   pub log : Log
   pub entered : Log
   pub enters : ℕ
+  pub made : List Put
 
-abbrev pub seat : Log → Log → ℕ → Seat
-seat log entered enters = record { log = log; entered = entered; enters = enters }
+abbrev pub seat : Log → Log → ℕ → List Put → Seat
+seat log entered enters made = record { log = log; entered = entered; enters = enters; made = made }
 
 -- a log goes on from another
 abbrev pub Begins : Log → Log → Type 0
@@ -26,3 +28,7 @@ EntersOnce old new = (new.enters ≡ old.enters + 1) × (new.entered ≡ new.log
 -- one enter, or none
 abbrev pub MayEnter : Seat → Seat → Type 0
 MayEnter old new = (new.enters ≡ old.enters) ⊎ (new.enters ≡ old.enters + 1)
+
+-- no put is made through the seat
+abbrev pub MakesNone : Seat → Seat → Type 0
+MakesNone old new = new.made ≡ old.made

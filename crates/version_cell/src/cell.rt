@@ -74,7 +74,7 @@ impl Blank {
     ) -> Result<(Putter<C, R>, Vec<Scanner<C>>), Fault>
         requires { self.book ≡ C.book }
         ensures ok { IfOk result (λ cell. (cell.0 ≡ []) × (length cell.1.items ≡ self.seats)
-            × All (λ scanner. scanner ≡ seat [] [] 0) cell.1.items) }
+            × All (λ scanner. scanner ≡ seat [] [] 0 []) cell.1.items) }
         ensures err { IfErr result (λ fault. fault ≡ OutOfMemory) }
     {
         let Blank {
@@ -145,7 +145,7 @@ fn seat_all<C: CellName>(
 ) -> Option<Vec<Scanner<C>>>
     requires { history.now.seen.book ≡ C.book }
     ensures { IfSome result (λ all. (length all.items ≡ seats)
-        × All (λ scanner. scanner ≡ seat history.now.seen.log [] 0) all.items) }
+        × All (λ scanner. scanner ≡ seat history.now.seen.log [] 0 []) all.items) }
 {
     let mut scanners = Vec::new(alloc);
     for _ in 0..seats {

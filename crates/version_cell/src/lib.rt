@@ -3,6 +3,7 @@
 
 mod book;
 pub mod cell;
+mod made;
 pub mod putter;
 pub mod scanner;
 pub mod shared;
@@ -13,6 +14,6 @@ pub use crate::book::CellName;
 pub use crate::cell::{Blank, open};
 pub use crate::putter::{Putter, Receipt};
 pub use crate::scanner::Scanner;
-pub use crate::shared::put_and_learn;
+pub use crate::shared::SharedPutter;
 pub use crate::told::Told;
 pub use std::marker::Brand;

@@ -1,28 +1,31 @@
 //! Who looks.
 
-ghost use Rattle.std.specs.Prelude.{◌≡◌, ◌+◌, ◌⊎◌, ◌≤◌, ◌<◌, [], length, IfOk, IfErr, IfSome, MatchBool};
+ghost use Rattle.std.specs.Prelude.{◌≡◌, ◌+◌, ◌⊎◌, ◌≤◌, ◌<◌, ◌++◌, ◌∷◌, [], length, IfOk, IfErr, IfSome, MatchBool};
 ghost use Rattle.scan_base.specs.declared.fault.Fault.TheVariants.{OutOfMemory, VersionUnknown};
 ghost use Rattle.table_versions.specs.Database.{database_of, version};
-ghost use Rattle.table_versions.specs.Stored.{tables_of};
-ghost use Rattle.version_cell.specs.Seats.{seat, Begins, EntersOnce, MayEnter};
+ghost use Rattle.table_versions.specs.Stored.{put_of, tables_of};
+ghost use Rattle.version_cell.specs.Seats.{seat, Begins, EntersOnce, MakesNone, MayEnter};
 
 use crate::book::{CellName, History};
+use crate::made::Made;
 use crate::putter::CellWriter;
 use crate::shown::{Entered, Enters, Shown, Store};
 use crate::told::Told;
 use left_right::reader::Reader;
 use scan_base::Fault;
 use std::marker::Model;
-use table_versions::Snapshot;
+use std::snapshot;
+use table_versions::{Put, Snapshot};
 
 type CellReader<C> = Reader<Store, Entered, Shown<C>>;
 
-/// A seat of a cell. Contracts see it as the log that it has seen or was told of, the log that it entered last, and the
-/// number of its enters. Its calls wait for nobody and take no memory.
+/// A seat of a cell. Contracts see it as the log that it has seen or was told of, the log that it entered last, the
+/// number of its enters, and the puts that were made through it. Its calls wait for nobody and take no memory.
 #[derive(Drop)]
 pub struct Scanner<C: CellName> {
     history: History,
     reader: Option<CellReader<C>>,
+    made: Made,
 }
 
 impl<C: CellName> Model for Scanner<C> {
@@ -33,7 +36,7 @@ impl<C: CellName> Model for Scanner<C> {
     ghost Value = { Seat };
 
     ghost view = { λ s. seat s.history.seen.log (read_or [] (λ reader. reader.place.me.0.client.log) s.reader)
-        (read_or 0 (λ reader. reader.place.me.0.client.enters) s.reader) };
+        (read_or 0 (λ reader. reader.place.me.0.client.enters) s.reader) s.made.puts };
 
     ghost invariant = { λ s. (s.history.seen.book ≡ C.book) × IsSome s.reader };
 }
@@ -42,17 +45,19 @@ impl<C: CellName> Scanner<C> {
     // A seat of what the writer shows, which has seen this log.
     pub(crate) fn new(writer: &CellWriter<C>, history: &History) -> Option<Scanner<C>>
         requires { history.now.seen.book ≡ C.book }
-        ensures { IfSome result (λ s. s ≡ seat history.now.seen.log [] 0) }
+        ensures { IfSome result (λ s. s ≡ seat history.now.seen.log [] 0 []) }
     {
         let reader = writer.factory().reader().ok()?;
         Some(Scanner {
             history: history.again(),
             reader: Some(reader),
+            made: Made::none(),
         })
     }
 
     // One enter.
     fn enter(&mut self) -> Result<Store, Fault>
+        ensures made { MakesNone self.old self.new }
         ensures begins { Begins self.old.log self.new.log }
         ensures ok { IfOk result (λ store. EntersOnce self.old self.new × (store.history.seen.log ≡ self.new.log)) }
         ensures err { IfErr result (λ fault. (fault ≡ OutOfMemory) × MayEnter self.old self.new) }
@@ -85,6 +90,7 @@ impl<C: CellName> Scanner<C> {
     /// F21 (`Fault::OutOfMemory`) where the putter is gone, or one handle more of a version is refused; and were a log entered that is
     /// behind what the seat has seen, which never is.
     pub fn current(&mut self) -> Result<Snapshot, Fault>
+        ensures made { MakesNone self.old self.new }
         ensures begins { Begins self.old.log self.new.log }
         ensures ok { IfOk result (λ snapshot. EntersOnce self.old self.new
             × (snapshot.number ≡ length self.new.log)
@@ -101,6 +107,7 @@ impl<C: CellName> Scanner<C> {
     ///
     /// F18 (`Fault::VersionUnknown`) where that log has fewer puts, and F21 (`Fault::OutOfMemory`) as `current` does.
     pub fn at(&mut self, number: u64) -> Result<Snapshot, Fault>
+        ensures made { MakesNone self.old self.new }
         ensures begins { Begins self.old.log self.new.log }
         ensures ok { IfOk result (λ snapshot. EntersOnce self.old self.new
             × (number ≤ length self.new.log) × (snapshot.number ≡ number)
@@ -132,6 +139,7 @@ impl<C: CellName> Scanner<C> {
 
     /// From now on the seat sees no less than was told, and no more than this and what it had seen. It makes no enter.
     pub fn learn(&mut self, told: &Told<C>)
+        ensures made { MakesNone self.old self.new }
         ensures begins { Begins self.old.log self.new.log }
         ensures told { Begins told.now self.new.log }
         ensures longer { (self.new.log ≡ self.old.log) ⊎ (self.new.log ≡ told.now) }
@@ -140,5 +148,12 @@ impl<C: CellName> Scanner<C> {
         if self.is_within(told) {
             self.history = told.history().again();
         }
+    }
+
+    // One put more was made through the seat.
+    pub(crate) fn count_made(&mut self, put: snapshot::Snapshot<Put>)
+        ensures { self.new ≡ seat self.old.log self.old.entered self.old.enters (self.old.made ++ put_of put.value ∷ []) }
+    {
+        self.made.add(put);
     }
 }

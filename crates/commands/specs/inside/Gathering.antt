@@ -1,25 +1,63 @@
--- Inside: workers that have ended, looked at from the last one.
-use Rattle.std.specs.Prelude.{◌≡◌, List, [], ◌++◌, All, Option, Some, None, Result}
+-- Inside: workers, with what they drew.
+use Rattle.std.specs.Prelude.{◌≡◌, ◌⊎◌, ◌<◌, ℕ, ◌+◌, length, List, [], ◌++◌, map, All, IsErr, IfOk, Option, Some, None, Result}
+use Rattle.atomic_table.specs.Seated.{TableId}
 use Rattle.scan_base.specs.declared.fault.Fault.{Fault}
 use Rattle.flight_core.specs.Headline.{Begins}
 use Rattle.flight_core.specs.Log.{Log}
 use Rattle.version_cell.specs.Seats as cell
+use Rattle.flight_calls.specs.declared.setting.Options.{Options}
 use Rattle.flight_calls.specs.Seats.{Seat, seat_of}
-use Rattle.shared_calls.specs.Sharing.{seat_at}
-use Rattle.commands.specs.Serve.{Work, first_fault}
+use Rattle.shared_calls.specs.Sharing.{onward, seat_at}
+use Rattle.connection_turns.specs.Drawers.{DrawerAt, drawer}
+use Rattle.command_ends.specs.Network.{Ends}
+use Rattle.commands.specs.Serve.{Work, Worker, IsFresh, ServesUpTo, drawn_by, first_fault}
 
 -- a worker's seat of the cell, which is always there between two connections
 abbrev pub seat_in : Option cell.Seat → Seat
-seat_in (Some scanner) = seat_at scanner []
+seat_in (Some scanner) = seat_at scanner
 seat_in None = seat_of [] 0
 
--- all that the seat of a worker has seen is of this history
-abbrev pub IsWithin : {L : Type 0} → Log → Work L → Type 0
-IsWithin history work = Begins work.worker.seat.log history
+-- a worker, what it has drawn, and what came of it
+pub record Hired (L : Type 0) : Type 0 where
+  pub worker : Worker L
+  pub drawer : DrawerAt
+  pub result : Result (Unit {0}) Fault
 
--- those behind the ones that are left have been looked at
-pub record Gathered {L : Type 0} (all left : List (Work L)) (history : Log) (result : Result (Unit {0}) Fault) : Type 0 where
-  pub done : List (Work L)
+abbrev pub work_of : {L : Type 0} → Hired L → Work L
+work_of hired = record { worker = hired.worker; drawn = hired.drawer.drawn; result = hired.result }
+
+-- it may draw, and has not yet
+abbrev pub IsNew : {L : Type 0} → TableId → Hired L → Type 0
+IsNew name hired = hired.drawer ≡ drawer name 1 0 0
+
+-- where it ended well, it was told that no turn is left
+abbrev pub HasDrawn : {L : Type 0} → TableId → Hired L → Type 0
+HasDrawn name hired = (hired.drawer.name ≡ name) × (hired.drawer.parts ≡ 1) × IfOk hired.result (λ _. 0 < hired.drawer.ended)
+
+-- a worker served the connections that it drew
+pub record HasWorked {L : Type 0} (accepts : L → Option Ends → L → Type 0) (options : Options) (name : TableId) (old new : Hired L) : Type 0 where
+  pub serves : ServesUpTo accepts onward options new.drawer.drawn new.result old.worker new.worker
+  pub drawn : HasDrawn name new
+
+-- all that the seat of a worker has seen is of this history
+abbrev pub IsWithin : {L : Type 0} → Log → Hired L → Type 0
+IsWithin history hired = Begins hired.worker.seat.log history
+
+-- those behind the ones that are left have been looked at, and the hub has all that they drew
+pub record Gathered {L : Type 0} (all left : List (Hired L)) (history : Log) (result : Result (Unit {0}) Fault) (name : TableId) (hub : DrawerAt) : Type 0 where
+  pub done : List (Hired L)
   pub whole : all ≡ left ++ done
   pub within : All (IsWithin history) done
-  pub first : result ≡ first_fault done
+  pub first : result ≡ first_fault (map work_of done)
+  pub named : hub.name ≡ name
+  pub parts : hub.parts ≡ length done + 1
+  pub drawn : hub.drawn ≡ drawn_by (map work_of done)
+  pub ended : (0 < hub.ended) ⊎ All (λ work. IsErr work.result) (map work_of done)
+
+-- workers were made for the seats that were taken, and the first drawer has a part for each that is left
+pub record Begun {L : Type 0} (shares : L → Option L → Type 0) (heard : L) (name : TableId) (hub : DrawerAt) (workers : List (Hired L)) (left : List cell.Seat) (count : ℕ) : Type 0 where
+  pub counted : length workers + length left ≡ count
+  pub fresh : All (λ hired. IsFresh shares heard hired.worker) workers
+  pub new : All (IsNew name) workers
+  pub seats : All (λ found. found ≡ cell.seat [] [] 0 []) left
+  pub parts : hub ≡ drawer name (length left + 1) 0 0

@@ -1,0 +1,33 @@
+-- The same answer of a put, with another value.
+use Rattle.std.proofs.Common.{◌≡◌, ◌∙◌, Result, Ok, Err}
+use Rattle.scan_base.specs.declared.fault.Fault.{Fault}
+use Rattle.scan_base.specs.Reading.{RefusesFirst}
+use Rattle.table_versions.specs.Database.{Put}
+use Rattle.version_cell.specs.Puts.{PutsBehind, after_log}
+use Rattle.version_cell.specs.Seats.{Seat}
+
+first_so : {X Y Z : Type 0} (x : X) (y : Y) (due : Result Z Fault) → RefusesFirst (Ok x) due → RefusesFirst (Ok y) due
+first_so x y (Ok z) first = tt
+first_so x y (Err fault) first = absurd (cc first)
+
+refused_first_so : {X Y Z : Type 0} (fault : Fault) (due : Result Z Fault) → RefusesFirst {X} (Err fault) due → RefusesFirst {Y} (Err fault) due
+refused_first_so fault (Ok z) first = tt
+refused_first_so fault (Err cause) first = cc first
+
+-- a put that was accepted, by a seat that has then seen the same
+pub accepted_so : {X Y : Type 0} (x : X) (y : Y) (old : Seat) (put : Put) (seen new : Seat) → PutsBehind (Ok x) old put seen → new.log ≡ seen.log → PutsBehind (Ok y) old put new
+accepted_so {X} {Y} x y old put seen new behind same = record {
+  log = behind.log;
+  met = behind.met;
+  answered = (same ∙ behind.answered.0, behind.answered.1);
+  first = first_so x y (after_log behind.log put) behind.first;
+}
+
+-- a put that was refused
+pub refused_so : {X Y : Type 0} (fault : Fault) (old : Seat) (put : Put) (new : Seat) → PutsBehind {X} (Err fault) old put new → PutsBehind {Y} (Err fault) old put new
+refused_so {X} {Y} fault old put new behind = record {
+  log = behind.log;
+  met = behind.met;
+  answered = behind.answered;
+  first = refused_first_so {X} {Y} fault (after_log behind.log put) behind.first;
+}

@@ -1,0 +1,48 @@
+//! The puts that a seat made, which contracts alone see.
+
+ghost use Rattle.std.specs.Prelude.{◌≡◌, ◌++◌, ◌∷◌, []};
+ghost use Rattle.table_versions.specs.Stored.{put_of};
+
+use std::marker::Model;
+use std::snapshot::Snapshot;
+use table_versions::Put;
+
+// Puts in order, without a bound. It has no bytes of them.
+#[derive(Drop)]
+pub(crate) struct Made {
+    before: Option<Snapshot<Made>>,
+    last: Option<Snapshot<Put>>,
+}
+
+impl Model for Made {
+    ghost use Rattle.table_versions.specs.Stored.{put_of};
+    ghost use Rattle.version_cell.specs.Made.{MadeAt, added};
+
+    ghost Value = { MadeAt };
+
+    ghost size = { λ made. made.steps };
+
+    ghost view = { λ m. added (λ before. before.value) (λ put. put_of put.value) m.before m.last };
+}
+
+impl Made {
+    // No put.
+    pub(crate) fn none() -> Made
+        ensures { result.puts ≡ [] }
+    {
+        Made {
+            before: None,
+            last: None,
+        }
+    }
+
+    // One put more.
+    pub(crate) fn add(&mut self, put: Snapshot<Put>)
+        ensures { self.new.puts ≡ self.old.puts ++ put_of put.value ∷ [] }
+    {
+        *self = Made {
+            before: Some(Snapshot::of(self)),
+            last: Some(put),
+        };
+    }
+}
