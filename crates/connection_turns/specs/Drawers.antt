@@ -15,8 +15,10 @@ pub record DrawerAt : Type 0 where
   pub drawn : ℕ
   pub ended : ℕ
 
-abbrev pub turns : TableId → ℕ → ℕ → TurnsAt
-turns name most parts = record { name = name; most = most; parts = parts }
+-- such turns
+abbrev pub turns_at : TableId → ℕ → ℕ → TurnsAt
+turns_at name most parts = record { name = name; most = most; parts = parts }
 
-abbrev pub drawer : TableId → ℕ → ℕ → ℕ → DrawerAt
-drawer name parts drawn ended = record { name = name; parts = parts; drawn = drawn; ended = ended }
+-- such a drawer
+abbrev pub drawer_at : TableId → ℕ → ℕ → ℕ → DrawerAt
+drawer_at name parts drawn ended = record { name = name; parts = parts; drawn = drawn; ended = ended }

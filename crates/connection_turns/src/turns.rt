@@ -1,7 +1,7 @@
 //! The turns, and who draws them.
 
 ghost use Rattle.std.specs.Prelude.{◌≡◌, ◌+◌, ◌-◌, ◌<◌, ◌≤◌, ◌==◌, IfOk, MatchBool};
-ghost use Rattle.connection_turns.specs.Drawers.{turns, drawer};
+ghost use Rattle.connection_turns.specs.Drawers.{turns_at, drawer_at};
 ghost use Rattle.connection_turns.specs.Rules.{one_if};
 
 use crate::rule::{Apart, Back, Draws, Hand, Key, Law, Learns, Looks};
@@ -20,11 +20,11 @@ pub struct Turns {
 
 impl Model for Turns {
     ghost use Rattle.std.specs.Prelude.{◌≡◌, ◌+◌};
-    ghost use Rattle.connection_turns.specs.Drawers.{TurnsAt, turns};
+    ghost use Rattle.connection_turns.specs.Drawers.{TurnsAt, turns_at};
 
     ghost Value = { TurnsAt };
 
-    ghost view = { λ t. turns t.table.shared.table_id t.most (t.table.shared.key.drawers + 1) };
+    ghost view = { λ t. turns_at t.table.shared.table_id t.most (t.table.shared.key.drawers + 1) };
 
     ghost invariant = { λ t. (t.table.shared.table_id.words ≡ 1) × (t.table.shared.key.most ≡ t.most) };
 }
@@ -38,11 +38,11 @@ pub struct Drawer {
 
 impl Model for Drawer {
     ghost use Rattle.std.specs.Prelude.{◌≡◌, []};
-    ghost use Rattle.connection_turns.specs.Drawers.{DrawerAt, drawer};
+    ghost use Rattle.connection_turns.specs.Drawers.{DrawerAt, drawer_at};
 
     ghost Value = { DrawerAt };
 
-    ghost view = { λ d. drawer d.seat.table_id d.seat.me.0.parts d.seat.me.0.drawn d.seat.me.0.ended };
+    ghost view = { λ d. drawer_at d.seat.table_id d.seat.me.0.parts d.seat.me.0.drawn d.seat.me.0.ended };
 
     ghost invariant = { λ d. d.seat.me.1 ≡ [] };
 }
@@ -53,8 +53,8 @@ impl Model for Drawer {
 ///
 /// `AllocError` where memory is refused.
 pub fn open(alloc: Global, most: u64, drawers: usize) -> Result<(Turns, Drawer), AllocError>
-    ensures turns { IfOk result (λ pair. pair.0 ≡ turns pair.0.name most (drawers + 1)) }
-    ensures drawer { IfOk result (λ pair. pair.1 ≡ drawer pair.0.name (drawers + 1) 0 0) }
+    ensures turns { IfOk result (λ pair. pair.0 ≡ turns_at pair.0.name most (drawers + 1)) }
+    ensures drawer { IfOk result (λ pair. pair.1 ≡ drawer_at pair.0.name (drawers + 1) 0 0) }
 {
     let (table, seat) = Table::of_words(alloc, &[most], &Key { most, drawers })?;
     Ok((Turns { table, most }, Drawer { seat }))
@@ -66,8 +66,8 @@ impl Turns {
         requires name { mine.old.name ≡ self.now.name }
         requires part { 0 < mine.old.parts }
         ensures { MatchBool result
-            (mine.new ≡ drawer mine.old.name mine.old.parts (mine.old.drawn + 1) mine.old.ended)
-            (mine.new ≡ drawer mine.old.name mine.old.parts mine.old.drawn (mine.old.ended + 1)) }
+            (mine.new ≡ drawer_at mine.old.name mine.old.parts (mine.old.drawn + 1) mine.old.ended)
+            (mine.new ≡ drawer_at mine.old.name mine.old.parts mine.old.drawn (mine.old.ended + 1)) }
     {
         for _ in rt.forever() {
             let left = self.look(mine);
@@ -85,7 +85,7 @@ impl Turns {
     fn look(&self, mine: &mut Drawer) -> u64
         requires name { mine.old.name ≡ self.now.name }
         requires part { 0 < mine.old.parts }
-        ensures { mine.new ≡ drawer mine.old.name mine.old.parts mine.old.drawn (mine.old.ended + one_if (result == 0)) }
+        ensures { mine.new ≡ drawer_at mine.old.name mine.old.parts mine.old.drawn (mine.old.ended + one_if (result == 0)) }
     {
         self.table.shared.load::<Looks>(&mut mine.seat, 0)
     }
@@ -95,7 +95,7 @@ impl Turns {
         requires name { mine.old.name ≡ self.now.name }
         requires part { 0 < mine.old.parts }
         requires left { 0 < left }
-        ensures { mine.new ≡ drawer mine.old.name mine.old.parts (mine.old.drawn + one_if result) mine.old.ended }
+        ensures { mine.new ≡ drawer_at mine.old.name mine.old.parts (mine.old.drawn + one_if result) mine.old.ended }
     {
         let shared = &self.table.shared;
         shared.compare_exchange::<Draws>(&mut mine.seat, 0, left, left - 1) == left
@@ -105,8 +105,8 @@ impl Turns {
     pub fn cut(&self, mine: &mut Drawer) -> Drawer
         requires name { mine.old.name ≡ self.now.name }
         requires part { 1 < mine.old.parts }
-        ensures mine { mine.new ≡ drawer mine.old.name (mine.old.parts - 1) mine.old.drawn mine.old.ended }
-        ensures other { result ≡ drawer mine.old.name 1 0 0 }
+        ensures mine { mine.new ≡ drawer_at mine.old.name (mine.old.parts - 1) mine.old.drawn mine.old.ended }
+        ensures other { result ≡ drawer_at mine.old.name 1 0 0 }
     {
         Drawer {
             seat: self.table.shared.split_seat::<Apart>(&mut mine.seat),
@@ -117,7 +117,7 @@ impl Turns {
     pub fn take_back(&self, mine: &mut Drawer, other: Drawer)
         requires mine { mine.old.name ≡ self.now.name }
         requires other { other.name ≡ self.now.name }
-        ensures { mine.new ≡ drawer mine.old.name (mine.old.parts + other.parts)
+        ensures { mine.new ≡ drawer_at mine.old.name (mine.old.parts + other.parts)
             (mine.old.drawn + other.drawn) (mine.old.ended + other.ended) }
     {
         let Drawer { seat } = other;
