@@ -1,0 +1,2 @@
+pub mod Drawers
+pub mod Rules
