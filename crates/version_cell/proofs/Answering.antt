@@ -10,9 +10,9 @@ first_so : {X Y Z : Type 0} (x : X) (y : Y) (due : Result Z Fault) → RefusesFi
 first_so x y (Ok z) first = tt
 first_so x y (Err fault) first = absurd (cc first)
 
-refused_first_so : {X Y Z : Type 0} (fault : Fault) (due : Result Z Fault) → RefusesFirst {X} (Err fault) due → RefusesFirst {Y} (Err fault) due
-refused_first_so fault (Ok z) first = tt
-refused_first_so fault (Err cause) first = cc first
+refused_first_so : {Z : Type 0} (X Y : Type 0) (fault : Fault) (due : Result Z Fault) → RefusesFirst {X = X} (Err fault) due → RefusesFirst {X = Y} (Err fault) due
+refused_first_so X Y fault (Ok z) first = tt
+refused_first_so X Y fault (Err cause) first = cc first
 
 -- a put that was accepted, by a seat that has then seen the same
 pub accepted_so : {X Y : Type 0} (x : X) (y : Y) (old : Seat) (put : Put) (seen new : Seat) → PutsBehind (Ok x) old put seen → new.log ≡ seen.log → PutsBehind (Ok y) old put new
@@ -24,10 +24,10 @@ accepted_so {X} {Y} x y old put seen new behind same = record {
 }
 
 -- a put that was refused
-pub refused_so : {X Y : Type 0} (fault : Fault) (old : Seat) (put : Put) (new : Seat) → PutsBehind {X} (Err fault) old put new → PutsBehind {Y} (Err fault) old put new
-refused_so {X} {Y} fault old put new behind = record {
+pub refused_so : (X Y : Type 0) (fault : Fault) (old : Seat) (put : Put) (new : Seat) → PutsBehind {X = X} (Err fault) old put new → PutsBehind {X = Y} (Err fault) old put new
+refused_so X Y fault old put new behind = record {
   log = behind.log;
   met = behind.met;
   answered = behind.answered;
-  first = refused_first_so {X} {Y} fault (after_log behind.log put) behind.first;
+  first = refused_first_so X Y fault (after_log behind.log put) behind.first;
 }
