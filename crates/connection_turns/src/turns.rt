@@ -108,9 +108,8 @@ impl Turns {
         ensures mine { mine.new ≡ drawer_at mine.old.name (mine.old.parts - 1) mine.old.drawn mine.old.ended }
         ensures other { result ≡ drawer_at mine.old.name 1 0 0 }
     {
-        Drawer {
-            seat: self.table.shared.split_seat::<Apart>(&mut mine.seat),
-        }
+        let seat = self.table.shared.split_seat::<Apart>(&mut mine.seat);
+        Drawer { seat }
     }
 
     /// Takes a drawer back.
