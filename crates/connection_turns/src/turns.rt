@@ -65,9 +65,10 @@ impl Turns {
     pub fn draw(&self, rt: &impl Wait, mine: &mut Drawer) -> bool
         requires name { mine.old.name ≡ self.now.name }
         requires part { 0 < mine.old.parts }
-        ensures { MatchBool result
-            (mine.new ≡ drawer_at mine.old.name mine.old.parts (mine.old.drawn + 1) mine.old.ended)
-            (mine.new ≡ drawer_at mine.old.name mine.old.parts mine.old.drawn (mine.old.ended + 1)) }
+        ensures same { (mine.new.name ≡ mine.old.name) × (mine.new.parts ≡ mine.old.parts) }
+        ensures turn { MatchBool result
+            ((mine.new.drawn ≡ mine.old.drawn + 1) × (mine.new.ended ≡ mine.old.ended))
+            ((mine.new.drawn ≡ mine.old.drawn) × (mine.new.ended ≡ mine.old.ended + 1)) }
     {
         for _ in rt.forever() {
             let left = self.look(mine);
@@ -108,9 +109,8 @@ impl Turns {
         ensures mine { mine.new ≡ drawer_at mine.old.name (mine.old.parts - 1) mine.old.drawn mine.old.ended }
         ensures other { result ≡ drawer_at mine.old.name 1 0 0 }
     {
-        Drawer {
-            seat: self.table.shared.split_seat::<Apart>(&mut mine.seat),
-        }
+        let seat = self.table.shared.split_seat::<Apart>(&mut mine.seat);
+        Drawer { seat }
     }
 
     /// Takes a drawer back.
