@@ -12,7 +12,7 @@ use Rattle.flight_calls.specs.declared.setting.Options.{Options}
 use Rattle.flight_calls.specs.Seats.{Seat}
 use Rattle.version_cell.specs.Seats as cell
 use Rattle.shared_calls.specs.Sharing.{onward, seat_at}
-use Rattle.connection_turns.specs.Drawers.{DrawerAt, drawer}
+use Rattle.connection_turns.specs.Drawers.{DrawerAt, drawer_at}
 use Rattle.command_ends.specs.Network.{Ends}
 use Rattle.commands.specs.Serve.{DrawsAll, Worker, Work, IsPartOf, IsFresh, ServesSideBySide, ServesUpTo, both, drawn_by, first_fault, worker_of}
 use Rattle.commands.specs.inside.Gathering.{Begun, Gathered, HasDrawn, HasWorked, Hired, IsNew, IsWithin, seat_in, work_of}
@@ -31,7 +31,7 @@ within_more {L} told history more (hired ∷ all) parts =
 
 -- ---- workers that begin
 
-pub none_begun : {L : Type 0} (shares : L → Option L → Type 0) (heard : L) (name : TableId) (hub : DrawerAt) (left : List cell.Seat) → All (λ found. found ≡ cell.seat [] [] 0 []) left → hub ≡ drawer name (length left + 1) 0 0
+pub none_begun : {L : Type 0} (shares : L → Option L → Type 0) (heard : L) (name : TableId) (hub : DrawerAt) (left : List cell.Seat) → All (λ found. found ≡ cell.seat [] [] 0 []) left → hub ≡ drawer_at name (length left + 1) 0 0
     → Begun shares heard name hub [] left (length left)
 none_begun {L} shares heard name hub left seats parts = record {
   counted = omega arith;
@@ -44,7 +44,7 @@ none_begun {L} shares heard name hub left seats parts = record {
 -- a worker for one seat more
 pub one_begins : {L : Type 0} (shares : L → Option L → Type 0) (heard listener : L) (name : TableId) (hub after other : DrawerAt) (workers more : List (Hired L)) (scanner : cell.Seat) (left rest : List cell.Seat) (count : ℕ)
     → Begun shares heard name hub workers left count → left ≡ scanner ∷ rest → shares heard (Some listener)
-    → after ≡ drawer hub.name (hub.parts - 1) hub.drawn hub.ended → other ≡ drawer hub.name 1 0 0
+    → after ≡ drawer_at hub.name (hub.parts - 1) hub.drawn hub.ended → other ≡ drawer_at hub.name 1 0 0
     → more ≡ workers ++ record { worker = worker_of listener (seat_in (Some scanner)); drawer = other; result = Ok tt } ∷ []
     → Begun shares heard name after more rest count
 one_begins {L} shares heard listener name hub after other workers more scanner left rest count so next shared cut part pushed =
@@ -53,19 +53,19 @@ one_begins {L} shares heard listener name hub after other workers more scanner l
     let fresh : scanner ≡ cell.seat [] [] 0 [] = All-head (λ found. found ≡ cell.seat [] [] 0 []) scanner rest here in
     let longer : length more ≡ length workers + 1 = rw pushed (length-append workers (hired ∷ [])) in
     let counted : length workers + suc (length rest) ≡ count = rw next at so.counted in
-    let held : hub ≡ drawer name (suc (length rest) + 1) 0 0 = rw next at so.parts in
+    let held : hub ≡ drawer_at name (suc (length rest) + 1) 0 0 = rw next at so.parts in
     let one_less : suc (length rest) + 1 - 1 ≡ length rest + 1 = omega arith in
-    let new : other ≡ drawer name 1 0 0 = rw held at part in record {
+    let new : other ≡ drawer_at name 1 0 0 = rw held at part in record {
       counted = omega (arith, longer, counted);
       fresh = rw pushed (All-push (λ (worker : Hired L). IsFresh shares heard worker.worker) workers hired so.fresh (shared, ap seat_at fresh));
       new = rw pushed (All-push (IsNew name) workers hired so.new new);
       seats = All-tail (λ found. found ≡ cell.seat [] [] 0 []) scanner rest here;
-      parts = (rw held at cut) ∙ ap (λ (n : ℕ). drawer name n 0 0) one_less;
+      parts = (rw held at cut) ∙ ap (λ (n : ℕ). drawer_at name n 0 0) one_less;
     }
 
 -- ---- looking at workers that have ended
 
-pub none_gathered : {L : Type 0} (all : List (Hired L)) (history : Log) (name : TableId) (hub : DrawerAt) → hub ≡ drawer name 1 0 0 → Gathered all all history (Ok tt) name hub
+pub none_gathered : {L : Type 0} (all : List (Hired L)) (history : Log) (name : TableId) (hub : DrawerAt) → hub ≡ drawer_at name 1 0 0 → Gathered all all history (Ok tt) name hub
 none_gathered {L} all history name hub is = record {
   done = [];
   whole = sym (append-nil all);
@@ -90,7 +90,7 @@ ends_so {L} name hired done before more (Err fault) is none (inr failed) =
 pub one_gathered : {L : Type 0} (all left rest : List (Hired L)) (hired : Hired L) (told history : Log) (result after : Result (Unit {0}) Fault) (name : TableId) (hub next : DrawerAt)
     → Gathered all left told result name hub → left ≡ rest ++ hired ∷ [] → Begins told history → Begins hired.worker.seat.log history
     → after ≡ both hired.result result → HasDrawn name hired
-    → next ≡ drawer hub.name (hub.parts + hired.drawer.parts) (hub.drawn + hired.drawer.drawn) (hub.ended + hired.drawer.ended)
+    → next ≡ drawer_at hub.name (hub.parts + hired.drawer.parts) (hub.drawn + hired.drawer.drawn) (hub.ended + hired.drawer.ended)
     → Gathered all rest history after name next
 one_gathered {L} all left rest hired told history result after name hub next gathered last more within ends drawn taken = record {
   done = hired ∷ gathered.done;

@@ -62,13 +62,13 @@ pub(crate) fn workers_of<L: Listen + Drop, C: CellName, T: Wait>(
     scanners: Vec<Scanner<C>>,
 ) -> Result<Vec<Worker<L, C>>, Fault>
     requires seats { All (λ scanner. scanner ≡ seat [] [] 0 []) scanners.items }
-    requires drawer { drawer.old ≡ drawers.drawer service.now.turns.now.name (length scanners.items + 1) 0 0 }
+    requires drawer { drawer.old ≡ drawers.drawer_at service.now.turns.now.name (length scanners.items + 1) 0 0 }
     ensures made { MatchResult result
         (λ workers. (length workers.items ≡ length scanners.items)
             × All (λ hired. IsFresh L.shares network.now hired.worker) workers.items
             × All (IsNew service.now.turns.now.name) workers.items)
         (λ fault. (fault ≡ OutOfMemory) ⊎ ((fault ≡ Transport) × L.shares network.now None)) }
-    ensures drawer { IfOk result (λ _. drawer.new ≡ drawers.drawer service.now.turns.now.name 1 0 0) }
+    ensures drawer { IfOk result (λ _. drawer.new ≡ drawers.drawer_at service.now.turns.now.name 1 0 0) }
 {
     let mut workers = Vec::new(service.alloc);
     for scanner in scanners {
@@ -138,7 +138,7 @@ fn first_of<L: Drop, C: CellName>(
     mut workers: Vec<Worker<L, C>>,
 ) -> Result<(), Fault>
     requires parts { turns.now.parts ≡ length workers.items + 1 }
-    requires drawer { drawer ≡ drawers.drawer turns.now.name 1 0 0 }
+    requires drawer { drawer ≡ drawers.drawer_at turns.now.name 1 0 0 }
     requires worked { All (HasDrawn turns.now.name) workers.items }
     ensures first { result ≡ first_fault (map work_of workers.items) }
     ensures within { (history : Log) × All (IsWithin history) workers.items }
@@ -178,7 +178,7 @@ where
     C: CellName + Send + Sync,
     T: Threads + Wait + Clock + Sync,
     requires parts { crew.now.service.turns.now.parts ≡ length workers.items + 1 }
-    requires drawer { drawer ≡ drawers.drawer crew.now.service.turns.now.name 1 0 0 }
+    requires drawer { drawer ≡ drawers.drawer_at crew.now.service.turns.now.name 1 0 0 }
     requires new { All (IsNew crew.now.service.turns.now.name) workers.items }
     ensures { ServesSideBySide L.accepts crew.now.service.options crew.now.service.turns.now.most
         (map (λ hired. hired.worker) workers.items) result }

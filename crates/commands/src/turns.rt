@@ -42,7 +42,7 @@ pub fn serve_in_turn<L: Listen, B: Backend, T: Wait + Clock>(
     network: &mut L,
     backend: &mut B,
 ) -> Result<(), Fault>
-    requires { drawer.old ≡ drawers.drawer service.now.turns.now.name 1 0 0 }
+    requires { drawer.old ≡ drawers.drawer_at service.now.turns.now.name 1 0 0 }
     ensures serves { ServesUpTo L.accepts B.moves service.now.options drawer.new.drawn result
         (worker_of network.old (B.seat backend.old)) (worker_of network.new (B.seat backend.new)) }
     ensures drawer { (drawer.new.name ≡ service.now.turns.now.name) × (drawer.new.parts ≡ 1) }

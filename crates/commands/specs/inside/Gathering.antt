@@ -8,7 +8,7 @@ use Rattle.version_cell.specs.Seats as cell
 use Rattle.flight_calls.specs.declared.setting.Options.{Options}
 use Rattle.flight_calls.specs.Seats.{Seat, seat_of}
 use Rattle.shared_calls.specs.Sharing.{onward, seat_at}
-use Rattle.connection_turns.specs.Drawers.{DrawerAt, drawer}
+use Rattle.connection_turns.specs.Drawers.{DrawerAt, drawer_at}
 use Rattle.command_ends.specs.Network.{Ends}
 use Rattle.commands.specs.Serve.{Work, Worker, IsFresh, ServesUpTo, drawn_by, first_fault}
 
@@ -28,7 +28,7 @@ work_of hired = record { worker = hired.worker; drawn = hired.drawer.drawn; resu
 
 -- it may draw, and has not yet
 abbrev pub IsNew : {L : Type 0} → TableId → Hired L → Type 0
-IsNew name hired = hired.drawer ≡ drawer name 1 0 0
+IsNew name hired = hired.drawer ≡ drawer_at name 1 0 0
 
 -- where it ended well, it was told that no turn is left
 abbrev pub HasDrawn : {L : Type 0} → TableId → Hired L → Type 0
@@ -60,4 +60,4 @@ pub record Begun {L : Type 0} (shares : L → Option L → Type 0) (heard : L) (
   pub fresh : All (λ hired. IsFresh shares heard hired.worker) workers
   pub new : All (IsNew name) workers
   pub seats : All (λ found. found ≡ cell.seat [] [] 0 []) left
-  pub parts : hub ≡ drawer name (length left + 1) 0 0
+  pub parts : hub ≡ drawer_at name (length left + 1) 0 0
