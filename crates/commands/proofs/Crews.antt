@@ -84,7 +84,7 @@ ends_so {L} name hired done before more (Ok good) is none (inl some) = inl (omeg
 ends_so {L} name hired done before more (Ok good) is none (inr failed) = inl (omega (arith, none))
 ends_so {L} name hired done before more (Err fault) is none (inl some) = inl (omega (arith, some))
 ends_so {L} name hired done before more (Err fault) is none (inr failed) =
-    inr (All-cons (λ (work : Work L). IsErr work.result) (work_of hired) (map work_of done) (rw ← is tt) failed)
+    inr (All-cons (λ (work : Work L). IsErr work.result) (work_of hired) (map work_of done) (rw (← is) tt) failed)
 
 -- the last one of those that are left
 pub one_gathered : {L : Type 0} (all left rest : List (Hired L)) (hired : Hired L) (told history : Log) (result after : Result (Unit {0}) Fault) (name : TableId) (hub next : DrawerAt)
@@ -131,7 +131,7 @@ all_drawn {L} all history result name hub most gathered few none =
   where
     by_end : (0 < hub.ended) ⊎ All (λ work. IsErr work.result) (map work_of gathered.done) → DrawsAll most (map work_of gathered.done)
     by_end (inl some) = inl (sym gathered.drawn ∙ none some)
-    by_end (inr failed) = inr (rw ← gathered.drawn few, failed)
+    by_end (inr failed) = inr (rw (← gathered.drawn) few, failed)
 
 -- ---- what all did
 
@@ -143,7 +143,8 @@ pub has_worked : {L : Type 0} (accepts : L → Option Ends → L → Type 0) (op
     → HasWorked accepts options name old (record { worker = worker_of after (seat_in (Some given)); drawer = left; result = result })
 has_worked {L} accepts options name listener found before start old scanner given begun ended after left result seen there new serves back named part none =
     let first : worker_of listener begun ≡ old.worker = rw (new, ← seen, there) refl in record {
-      serves = rw (← first, back) serves;
+      serves = subst (λ (w : Worker L). ServesUpTo accepts onward options left.drawn result w (worker_of after (seat_in (Some given)))) first
+          (subst (λ (s : Seat). ServesUpTo accepts onward options left.drawn result (worker_of listener begun) (worker_of after s)) (sym back) serves);
       drawn = (named, part, none);
     }
 

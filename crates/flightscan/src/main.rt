@@ -28,6 +28,7 @@ use std::process::ExitCode;
 use std::random::RandomSource;
 use std::sync::Wait;
 use std::thread::Threads;
+use std::time::Clock;
 
 // The mode of a put, as the client calls it.
 fn mode_of(mode: Mode) -> client_calls::Mode
@@ -53,7 +54,7 @@ fn run_server<R, I: Input, W: Output, E: Output>(
 ) -> ExitStatus
 where
     R: Net<Listener = TcpListener, Stream = TcpStream>,
-    R: RandomSource + AllocGlobal + Threads + Wait + Sync,
+    R: RandomSource + AllocGlobal + Threads + Wait + Clock + Sync,
     requires seats { HasSeats request }
     requires reads { I.failures input.old < 18446744073709551615 }
     requires writes { W.failures output.old < 18446744073709551615 }
@@ -87,7 +88,7 @@ fn run<R, I: Input, W: Output, E: Output>(
 ) -> ExitStatus
 where
     R: Net<Listener = TcpListener, Stream = TcpStream>,
-    R: RandomSource + AllocGlobal + Threads + Wait + Sync,
+    R: RandomSource + AllocGlobal + Threads + Wait + Clock + Sync,
     requires seats { HasSeats request }
     requires reads { I.failures input.old < 18446744073709551615 }
     requires writes { W.failures output.old < 18446744073709551615 }

@@ -9,6 +9,7 @@ use std::io;
 use std::net::{Net, TcpListener, TcpStream};
 use std::sync::Wait;
 use std::thread::Threads;
+use std::time::Clock;
 
 // A port that is listened to already.
 #[derive(Drop)]
@@ -51,7 +52,7 @@ pub(crate) fn served<R>(
     accept: u16,
 ) -> (u8, MemoryOutput, MemoryOutput)
 where
-    R: Net<Listener = TcpListener, Stream = TcpStream> + Threads + Wait + Sync,
+    R: Net<Listener = TcpListener, Stream = TcpStream> + Threads + Wait + Clock + Sync,
 {
     let mut output = MemoryOutput::new(host.alloc);
     let mut faults = MemoryOutput::new(host.alloc);

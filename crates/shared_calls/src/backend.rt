@@ -40,11 +40,7 @@ impl<'a, C: CellName, R: Wait + Drop, H: Wait> Model for Shared<'a, C, R, H> {
 
 impl<'a, C: CellName, R: Wait + Drop, H: Wait> Shared<'a, C, R, H> {
     /// Those of a seat.
-    pub fn new(
-        rt: &'a H,
-        putter: &'a SharedPutter<C, R>,
-        seat: Scanner<C>,
-    ) -> Shared<'a, C, R, H>
+    pub fn new(rt: &'a H, putter: &'a SharedPutter<C, R>, seat: Scanner<C>) -> Shared<'a, C, R, H>
         ensures { result ≡ seat_at seat }
     {
         Shared {
