@@ -79,7 +79,7 @@ no_more {L} accepts moves options served drawn start old new seat fault one so t
     let all : ServesRest accepts moves options 1 (0 + takes.failed) (Err fault) (worker_of old seat) (worker_of new seat)
     = failed_before accepts moves options 0 takes.failed 0 (Err fault) old new seat (worker_of new seat) takes.passed none in
     rw one (so 1 (Err fault) (worker_of new seat)
-        (subst (λ (n : ℕ). ServesRest accepts moves options 1 n (Err fault) (worker_of old seat) (worker_of new seat)) (no_patience_behind takes.failed takes.all) all))
+    (subst (λ (n : ℕ). ServesRest accepts moves options 1 n (Err fault) (worker_of old seat) (worker_of new seat)) (no_patience_behind takes.failed takes.all) all))
 
 -- as many as were drawn
 pub all_served : {L : Type 0} (accepts : L → Option Ends → L → Type 0) (moves : Moves) (options : Options) (served drawn : ℕ) (start now : Worker L)

@@ -34,10 +34,11 @@ pub data Accept (L : Type 0) : Type 0 where
 
 -- These are all accepts, in order, where so many more connections are to be served, and so many more accepts may fail
 -- before one takes a connection. Each connection begins from the seat that the one before it left, whatever became of
--- that. It ends where no more are to be served, or where a hundred accepts failed one behind the other (F22).
+-- that. It ends where no more are to be served, or where a hundred accepts failed one behind the other (F22): one alone is
+-- then not served.
 abbrev pub ServesInTurn : {L : Type 0} → (L → Option Ends → L → Type 0) → Moves → Options → List (Accept L) → ℕ → ℕ → Result (Unit {0}) Fault → Worker L → Worker L → Type 0
 ServesInTurn accepts moves options [] zero patience result old new = (result ≡ Ok tt) × (new ≡ old)
-ServesInTurn accepts moves options [] (suc more) zero result old new = (result ≡ Err Transport) × (new ≡ old)
+ServesInTurn accepts moves options [] (suc zero) zero result old new = (result ≡ Err Transport) × (new ≡ old)
 ServesInTurn accepts moves options (Failed listener ∷ others) (suc more) (suc patience) result old new =
     accepts old.listener None listener
     × ServesInTurn accepts moves options others (suc more) patience result (worker_of listener old.seat) new
@@ -47,7 +48,7 @@ ServesInTurn accepts moves options (Took listener ends served last ∷ others) (
     × ServesInTurn accepts moves options others more 100 result (worker_of listener last.seat) new
 ServesInTurn accepts moves options others more patience result old new = ⊥
 
--- these were served, one behind the other, of so many that were to be; or fewer, where no more could be taken
+-- so many were served, one behind the other; or all but one of them, where none could be taken any more
 abbrev pub ServesUpTo : {L : Type 0} → (L → Option Ends → L → Type 0) → Moves → Options → ℕ → Result (Unit {0}) Fault → Worker L → Worker L → Type 0
 ServesUpTo {L} accepts moves options drawn result old new =
     (all : List (Accept L)) × ServesInTurn accepts moves options all drawn 100 result old new

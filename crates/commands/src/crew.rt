@@ -1,6 +1,7 @@
 //! Workers that serve connections side by side, over one history.
 
 ghost use Rattle.std.specs.Prelude.{◌≡◌, ◌⊎◌, ◌<◌, ◌+◌, [], All, MatchResult, None, ℕ, length, map, slice_index_or, IfOk};
+ghost use Rattle.std.specs.Fork.{AcceptsEach, ChangesEach};
 ghost use Rattle.scan_base.specs.declared.fault.Fault.TheVariants.{OutOfMemory, Transport};
 ghost use Rattle.flight_core.specs.Log.{Log};
 ghost use Rattle.version_cell.specs.Seats.{seat};
@@ -20,27 +21,35 @@ use std::thread::Threads;
 use std::time::Clock;
 use version_cell::{CellName, Scanner, SharedPutter, Told};
 
-/// One of those that serve: its listener, its seat of the cell, what it has drawn, and what came of its work.
+/// One of those that serve: its listener, its seat of the cell, and what came of its work.
 #[derive(Drop)]
 pub(crate) struct Worker<L, C: CellName> {
     listener: L,
     // None while the worker works.
     scanner: Option<Scanner<C>>,
-    drawer: Drawer,
     served: Result<(), Fault>,
 }
 
 impl<L, C: CellName> Model for Worker<L, C> {
     ghost use Rattle.std.specs.Prelude.{IsSome};
-    ghost use Rattle.commands.specs.inside.Gathering.{Hired, seat_in};
+    ghost use Rattle.commands.specs.inside.Gathering.{Ended, seat_in};
     ghost use Rattle.commands.specs.Serve.{worker_of};
 
-    ghost Value = { Hired L };
+    ghost Value = { Ended L };
 
-    ghost view = { λ w. record { worker = worker_of w.listener (seat_in w.scanner); drawer = w.drawer; result = w.served } };
+    ghost view = { λ w. record { state = worker_of w.listener (seat_in w.scanner); result = w.served } };
 
     ghost invariant = { λ w. IsSome w.scanner };
 }
+
+/// A worker, and what it draws by. That both may cross threads is asked of each by itself.
+#[derive(Drop)]
+pub(crate) struct Post<W, D> {
+    pub worker: W,
+    pub drawer: D,
+}
+
+type ServingPost<L, C> = Post<Worker<L, C>, Drawer>;
 
 /// What all workers share: how they serve, and the putter of their cell.
 #[derive(Drop)]
@@ -60,17 +69,17 @@ pub(crate) fn workers_of<L: Listen + Drop, C: CellName, T: Wait>(
     drawer: &mut Drawer,
     network: &L,
     scanners: Vec<Scanner<C>>,
-) -> Result<Vec<Worker<L, C>>, Fault>
+) -> Result<Vec<ServingPost<L, C>>, Fault>
     requires seats { All (λ scanner. scanner ≡ seat [] [] 0 []) scanners.items }
     requires drawer { drawer.old ≡ drawers.drawer_at service.now.turns.now.name (length scanners.items + 1) 0 0 }
     ensures made { MatchResult result
-        (λ workers. (length workers.items ≡ length scanners.items)
-            × All (λ hired. IsFresh L.shares network.now hired.worker) workers.items
-            × All (IsNew service.now.turns.now.name) workers.items)
+        (λ posts. (length posts.items ≡ length scanners.items)
+        × All (λ post. IsFresh L.shares network.now post.worker.state) posts.items
+        × All (IsNew service.now.turns.now.name) posts.items)
         (λ fault. (fault ≡ OutOfMemory) ⊎ ((fault ≡ Transport) × L.shares network.now None)) }
     ensures drawer { IfOk result (λ _. drawer.new ≡ drawers.drawer_at service.now.turns.now.name 1 0 0) }
 {
-    let mut workers = Vec::new(service.alloc);
+    let mut posts = Vec::new(service.alloc);
     for scanner in scanners {
         let Ok(listener) = network.share() else {
             return Err(Fault::Transport);
@@ -78,55 +87,64 @@ pub(crate) fn workers_of<L: Listen + Drop, C: CellName, T: Wait>(
         let worker = Worker {
             listener,
             scanner: Some(scanner),
-            drawer: service.turns.cut(drawer),
             served: Ok(()),
         };
-        if workers.push(worker).is_err() {
+        let drawer = service.turns.cut(drawer);
+        if posts.push(Post { worker, drawer }).is_err() {
             return Err(Fault::OutOfMemory);
         }
     }
-    Ok(workers)
+    Ok(posts)
 }
 
 // Serves the connections of one worker.
 fn work<L: Listen, C: CellName, T: Wait + Clock>(
     crew: &Crew<'_, '_, C, T>,
-    worker: &mut Worker<L, C>,
+    post: &mut ServingPost<L, C>,
 )
-    requires { IsNew crew.now.service.turns.now.name worker.old }
-    ensures { HasWorked L.accepts crew.now.service.options crew.now.service.turns.now.name worker.old worker.new }
+    requires { IsNew crew.now.service.turns.now.name post.old }
+    ensures { HasWorked L.accepts crew.now.service.options crew.now.service.turns.now.name post.old post.new }
 {
+    let Post { worker, drawer } = post;
     let scanner = worker.scanner.take().unwrap();
     let mut backend = Shared::new(crew.service.rt, crew.putter, scanner);
-    worker.served = serve_in_turn(
-        &crew.service,
-        &mut worker.drawer,
-        &mut worker.listener,
-        &mut backend,
-    );
+    worker.served = serve_in_turn(&crew.service, drawer, &mut worker.listener, &mut backend);
     worker.scanner = Some(backend.into_seat());
 }
 
-// Serves the connections of all workers, each in a thread of its own where one can be made.
-fn work_side_by_side<L, C, T>(crew: &Crew<'_, '_, C, T>, workers: &mut [Worker<L, C>])
+// Calls a function at each post, in a thread of its own where one can be made.
+fn each_side_by_side<W, D, F, T>(rt: &T, posts: &mut [Post<W, D>], each: &F)
+where
+    W: Send,
+    D: Send,
+    F: Fn(usize, &mut Post<W, D>) + Sync,
+    T: Threads + Sync,
+    requires { AcceptsEach F.Fn each.now posts.old }
+    ensures { ChangesEach F.Fn each.now posts.old posts.new }
+{
+    let threads = posts.len().max(1);
+    thread::for_each_mut(rt, posts, threads, each);
+}
+
+// Serves the connections of all workers.
+fn work_side_by_side<L, C, T>(crew: &Crew<'_, '_, C, T>, posts: &mut [ServingPost<L, C>])
 where
     L: Listen + Send,
     L::Reader: Send,
     L::Writer: Send,
     C: CellName + Send + Sync,
     T: Threads + Wait + Clock + Sync,
-    requires { All (IsNew crew.now.service.turns.now.name) workers.old }
-    ensures { (i : ℕ) (d : _) → i < length workers.old
+    requires { All (IsNew crew.now.service.turns.now.name) posts.old }
+    ensures { (i : ℕ) (d : _) → i < length posts.old
         → HasWorked L.accepts crew.now.service.options crew.now.service.turns.now.name
-        (slice_index_or workers.old i d) (slice_index_or workers.new i d) }
+        (slice_index_or posts.old i d) (slice_index_or posts.new i d) }
 {
-    let threads = workers.len().max(1);
-    let each = |_place: usize, worker: &mut Worker<L, C>|
-        requires { IsNew crew.now.service.turns.now.name worker.now }
+    let each = |_place: usize, post: &mut ServingPost<L, C>|
+        requires { IsNew crew.now.service.turns.now.name post.now }
         ensures { HasWorked L.accepts crew.entry.now.service.options crew.entry.now.service.turns.now.name
-            worker.entry.now worker.exit.now }
-    { work(crew, worker) };
-    thread::for_each_mut(crew.service.rt, workers, threads, &each);
+            post.entry.now post.exit.now }
+    { work(crew, post) };
+    each_side_by_side(crew.service.rt, posts, &each);
 }
 
 // The first fault of workers that have ended. The longest of the log that was told and those that they have seen is the
@@ -134,27 +152,24 @@ where
 fn first_of<L: Drop, C: CellName>(
     turns: &Turns,
     mut drawer: Drawer,
-    told: Told<C>,
-    mut workers: Vec<Worker<L, C>>,
+    mut told: Told<C>,
+    mut posts: Vec<ServingPost<L, C>>,
 ) -> Result<(), Fault>
-    requires parts { turns.now.parts ≡ length workers.items + 1 }
+    requires parts { turns.now.parts ≡ length posts.items + 1 }
     requires drawer { drawer ≡ drawers.drawer_at turns.now.name 1 0 0 }
-    requires worked { All (HasDrawn turns.now.name) workers.items }
-    ensures first { result ≡ first_fault (map work_of workers.items) }
-    ensures within { (history : Log) × All (IsWithin history) workers.items }
-    ensures drawn { DrawsAll turns.now.most (map work_of workers.items) }
+    requires worked { All (HasDrawn turns.now.name) posts.items }
+    ensures first { result ≡ first_fault (map work_of posts.items) }
+    ensures within { (history : Log) × All (IsWithin history) posts.items }
+    ensures drawn { DrawsAll turns.now.most (map work_of posts.items) }
 {
-    let mut told = told;
     let mut first = Ok(());
-    while let Some(worker) = workers.pop() {
-        let Worker {
-            listener: _,
-            scanner,
+    while let Some(post) = posts.pop() {
+        let Post {
+            worker,
             drawer: other,
-            served,
-        } = worker;
-        told = told.covering(scanner.as_ref().unwrap());
-        first = served.and(first);
+        } = post;
+        told = told.covering(worker.scanner.as_ref().unwrap());
+        first = worker.served.and(first);
         turns.take_back(&mut drawer, other);
     }
     turns.learn(&mut drawer);
@@ -169,7 +184,7 @@ fn first_of<L: Drop, C: CellName>(
 pub(crate) fn serve_side_by_side<L, C, T>(
     crew: &Crew<'_, '_, C, T>,
     drawer: Drawer,
-    mut workers: Vec<Worker<L, C>>,
+    mut posts: Vec<ServingPost<L, C>>,
 ) -> Result<(), Fault>
 where
     L: Listen + Drop + Send,
@@ -177,13 +192,13 @@ where
     L::Writer: Send,
     C: CellName + Send + Sync,
     T: Threads + Wait + Clock + Sync,
-    requires parts { crew.now.service.turns.now.parts ≡ length workers.items + 1 }
+    requires parts { crew.now.service.turns.now.parts ≡ length posts.items + 1 }
     requires drawer { drawer ≡ drawers.drawer_at crew.now.service.turns.now.name 1 0 0 }
-    requires new { All (IsNew crew.now.service.turns.now.name) workers.items }
+    requires new { All (IsNew crew.now.service.turns.now.name) posts.items }
     ensures { ServesSideBySide L.accepts crew.now.service.options crew.now.service.turns.now.most
-        (map (λ hired. hired.worker) workers.items) result }
+        (map (λ post. post.worker.state) posts.items) result }
 {
-    work_side_by_side(crew, workers.as_mut_slice());
+    work_side_by_side(crew, posts.as_mut_slice());
     let told = crew.putter.tell(crew.service.rt);
-    first_of(crew.service.turns, drawer, told, workers)
+    first_of(crew.service.turns, drawer, told, posts)
 }

@@ -138,13 +138,13 @@ where
         },
         turns: &turns,
     };
-    let workers = workers_of(&service, &mut drawer, network, scanners)?;
+    let posts = workers_of(&service, &mut drawer, network, scanners)?;
     print_listening(host.alloc, output, serving.port)?;
     let crew = Crew {
         service,
         putter: &putter,
     };
-    serve_side_by_side(&crew, drawer, workers)
+    serve_side_by_side(&crew, drawer, posts)
 }
 
 // How many connections to draw; 0 stands for no end.

@@ -25,24 +25,22 @@ impl Model for Made {
     ghost view = { λ m. added (λ before. before.value) (λ put. put_of put.value) m.before m.last };
 }
 
-impl Made {
-    // No put.
-    pub(crate) fn none() -> Made
-        ensures { result.puts ≡ [] }
-    {
-        Made {
-            before: None,
-            last: None,
-        }
-    }
+// No put.
+pub(crate) fn none_made() -> Snapshot<Made>
+    ensures { result.value.puts ≡ [] }
+{
+    Snapshot::of(&Made {
+        before: None,
+        last: None,
+    })
+}
 
-    // One put more.
-    pub(crate) fn add(&mut self, put: Snapshot<Put>)
-        ensures { self.new.puts ≡ self.old.puts ++ put_of put.value ∷ [] }
-    {
-        *self = Made {
-            before: Some(Snapshot::of(self)),
-            last: Some(put),
-        };
-    }
+// One put more.
+pub(crate) fn one_more(before: Snapshot<Made>, put: Snapshot<Put>) -> Snapshot<Made>
+    ensures { result.value.puts ≡ before.value.puts ++ put_of put.value ∷ [] }
+{
+    Snapshot::of(&Made {
+        before: Some(before),
+        last: Some(put),
+    })
 }

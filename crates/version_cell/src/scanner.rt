@@ -7,14 +7,14 @@ ghost use Rattle.table_versions.specs.Stored.{put_of, tables_of};
 ghost use Rattle.version_cell.specs.Seats.{seat, Begins, EntersOnce, MakesNone, MayEnter};
 
 use crate::book::{CellName, History};
-use crate::made::Made;
+use crate::made::{Made, none_made, one_more};
 use crate::putter::CellWriter;
 use crate::shown::{Entered, Enters, Shown, Store};
 use crate::told::Told;
 use left_right::reader::Reader;
 use scan_base::Fault;
 use std::marker::Model;
-use std::snapshot;
+use std::{mem, snapshot};
 use table_versions::{Put, Snapshot};
 
 type CellReader<C> = Reader<Store, Entered, Shown<C>>;
@@ -25,7 +25,7 @@ type CellReader<C> = Reader<Store, Entered, Shown<C>>;
 pub struct Scanner<C: CellName> {
     history: History,
     reader: Option<CellReader<C>>,
-    made: Made,
+    made: snapshot::Snapshot<Made>,
 }
 
 impl<C: CellName> Model for Scanner<C> {
@@ -36,7 +36,7 @@ impl<C: CellName> Model for Scanner<C> {
     ghost Value = { Seat };
 
     ghost view = { λ s. seat s.history.seen.log (read_or [] (λ reader. reader.place.me.0.client.log) s.reader)
-        (read_or 0 (λ reader. reader.place.me.0.client.enters) s.reader) s.made.puts };
+        (read_or 0 (λ reader. reader.place.me.0.client.enters) s.reader) s.made.value.puts };
 
     ghost invariant = { λ s. (s.history.seen.book ≡ C.book) × IsSome s.reader };
 }
@@ -51,7 +51,7 @@ impl<C: CellName> Scanner<C> {
         Some(Scanner {
             history: history.again(),
             reader: Some(reader),
-            made: Made::none(),
+            made: none_made(),
         })
     }
 
@@ -154,6 +154,7 @@ impl<C: CellName> Scanner<C> {
     pub(crate) fn count_made(&mut self, put: snapshot::Snapshot<Put>)
         ensures { self.new ≡ seat self.old.log self.old.entered self.old.enters (self.old.made ++ put_of put.value ∷ []) }
     {
-        self.made.add(put);
+        let before = mem::replace(&mut self.made, none_made());
+        self.made = one_more(before, put);
     }
 }

@@ -1,6 +1,6 @@
 //! A putter that threads share under one lock.
 
-ghost use Rattle.std.specs.Prelude.{◌≡◌, length, IfOk};
+ghost use Rattle.std.specs.Prelude.{◌≡◌, [], length, IfOk};
 ghost use Rattle.table_versions.specs.Stored.{put_of};
 ghost use Rattle.table_versions.specs.Valid.{IsPut};
 ghost use Rattle.version_cell.specs.Puts.{CountsPut, PutsBehind};
@@ -23,8 +23,10 @@ pub struct SharedPutter<C: CellName, R: Wait + Drop> {
 }
 
 impl<C: CellName, R: Wait + Drop> SharedPutter<C, R> {
-    /// Shares a putter.
-    pub fn new(putter: Putter<C, R>) -> SharedPutter<C, R> {
+    /// Shares a putter that has put nothing.
+    pub fn new(putter: Putter<C, R>) -> SharedPutter<C, R>
+        requires { putter ≡ [] }
+    {
         SharedPutter {
             putter: Mutex::new(putter),
         }
@@ -50,48 +52,48 @@ impl<C: CellName, R: Wait + Drop> SharedPutter<C, R> {
         ensures begins { Begins seat.old.log seat.new.log }
         ensures enters { (seat.new.enters ≡ seat.old.enters) × (seat.new.entered ≡ seat.old.entered) }
     {
-        let receipt = put_and_learn(rt, alloc, &self.putter, seat, put)?;
+        let receipt = self.put_and_learn(rt, alloc, seat, put)?;
         let Receipt { number, put, .. } = receipt;
         seat.count_made(put);
         Ok(number)
+    }
+
+    // Puts, and lets the seat see the log behind the put.
+    //
+    // The log that a put meets goes on from what its seat has seen. No seat is ever ahead of the putter, so it is held once;
+    // were one, it would be let go, and asked again.
+    fn put_and_learn(
+        &self,
+        rt: &impl Wait,
+        alloc: Global,
+        seat: &mut Scanner<C>,
+        put: Put,
+    ) -> Result<Receipt<C>, Fault>
+        ensures put { PutsBehind result seat.old (put_of put) seat.new }
+        ensures receipt { IfOk result (λ receipt. (receipt.number ≡ length seat.new.log)
+            × (receipt.put.value ≡ put)) }
+        ensures typed { IfOk result (λ _. IsPut (put_of put)) }
+        ensures begins { Begins seat.old.log seat.new.log }
+        ensures enters { (seat.new.enters ≡ seat.old.enters) × (seat.new.entered ≡ seat.old.entered) }
+        ensures made { MakesNone seat.old seat.new }
+    {
+        for _ in rt.forever() {
+            let mut guard = self.putter.lock(rt);
+            if seat.is_within(&guard.tell()) {
+                let answer = guard.put(alloc, put);
+                let told = guard.tell();
+                drop(guard);
+                seat.learn(&told);
+                return answer;
+            }
+            drop(guard);
+            thread::yield_now();
+        }
+        unreachable!()
     }
 
     /// The log so far, for seats to learn. It waits for the lock, and takes no memory.
     pub fn tell(&self, rt: &impl Wait) -> Told<C> {
         self.putter.lock(rt).tell()
     }
-}
-
-// Puts, and lets the seat see the log behind the put.
-//
-// The log that a put meets goes on from what its seat has seen. No seat is ever ahead of the putter, so it is held once;
-// were one, it would be let go, and asked again.
-fn put_and_learn<C: CellName, R: Wait + Drop>(
-    rt: &impl Wait,
-    alloc: Global,
-    putter: &Mutex<Putter<C, R>>,
-    seat: &mut Scanner<C>,
-    put: Put,
-) -> Result<Receipt<C>, Fault>
-    ensures put { PutsBehind result seat.old (put_of put) seat.new }
-    ensures receipt { IfOk result (λ receipt. (receipt.number ≡ length seat.new.log)
-        × (receipt.put.value ≡ put)) }
-    ensures typed { IfOk result (λ _. IsPut (put_of put)) }
-    ensures begins { Begins seat.old.log seat.new.log }
-    ensures enters { (seat.new.enters ≡ seat.old.enters) × (seat.new.entered ≡ seat.old.entered) }
-    ensures made { MakesNone seat.old seat.new }
-{
-    for _ in rt.forever() {
-        let mut guard = putter.lock(rt);
-        if seat.is_within(&guard.tell()) {
-            let answer = guard.put(alloc, put);
-            let told = guard.tell();
-            drop(guard);
-            seat.learn(&told);
-            return answer;
-        }
-        drop(guard);
-        thread::yield_now();
-    }
-    unreachable!()
 }

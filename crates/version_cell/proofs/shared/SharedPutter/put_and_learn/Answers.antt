@@ -3,8 +3,8 @@ use Rattle.table_versions.specs.Stored.{put_of}
 use Rattle.version_cell.specs.Puts.{IsAnswered}
 use Rattle.version_cell.specs.Seats.{Log, Begins}
 use Rattle.version_cell.proofs.Fronts.{goes_on, learns_all}
-use Rattle.version_cell.proofs.shared.put_and_learn.Given as given
-use Rattle.version_cell.proofs.shared.put_and_learn.Goals as goal
+use Rattle.version_cell.proofs.shared.SharedPutter.put_and_learn.Given as given
+use Rattle.version_cell.proofs.shared.SharedPutter.put_and_learn.Goals as goal
 
 -- the seat has then seen the log behind the put, and no more
 learnt : (g : given.Over) (c : goal.After-drop-iterator g) → c.learn.new.self.log ≡ c.put-answer.new.self

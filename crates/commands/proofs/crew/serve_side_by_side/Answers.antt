@@ -1,0 +1,12 @@
+use Rattle.std.proofs.Common.{rules}
+use Rattle.commands.proofs.Crews.{all_served, written}
+use Rattle.commands.proofs.crew.serve_side_by_side.Goals as goal
+
+pub returns : goal.returns
+returns g c =
+    let each = rw c.as_mut_slice.ensures.value at c.work_side_by_side.ensures in
+    let f = c.first_of.ensures in
+    all_served g.L.Listen.accepts c.args.crew.now.service.options c.args.crew.now.service.turns.now.name c.args.crew.now.service.turns.now.most f.within.0
+    c.args.posts.items c.work_side_by_side.new.posts _ c.first_of.result
+    (written c.args.posts.items c.work_side_by_side.new.posts c.args.posts.len (search rules) (search rules)) (search rules) each
+    f.within.1 f.drawn f.first

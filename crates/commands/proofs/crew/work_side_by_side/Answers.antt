@@ -1,0 +1,6 @@
+use Rattle.commands.proofs.crew.work_side_by_side.Goals as goal
+
+pub returns : goal.returns
+returns g c i d few =
+    let at = (c.each_side_by_side.ensures i d few).1 in
+    rw (at.argument_is, at.left) at at.call
