@@ -19,14 +19,14 @@ use Rattle.command_line.specs.declared.request.Serving.{Serving}
 use Rattle.command_ends.specs.Network.{Ends}
 use Rattle.command_ends.specs.Printing.{Said, listening_line}
 use Rattle.commands.specs.Serve.{DrawsAll, Worker, Work, IsPartOf, IsFresh, IsServed, ServesPort, ServesSideBySide, ServesUpTo, both, drawn_by, first_fault, most_of, options_of, worker_of}
-use Rattle.commands.specs.inside.Gathering.{Begun, Ended, Gathered, HasDrawn, HasWorked, Hired, IsNew, IsWithin, seat_in, work_of}
+use Rattle.commands.specs.inside.Gathering.{Begun, Gathered, HasDrawn, HasWorked, Hired, IsNew, IsWithin, seat_in, state_of, work_of}
 
 -- all that is of a history is of one that goes on from it
 within_more : {L : Type 0} (told history : Log) → Begins told history → (all : List (Hired L)) → All (IsWithin told) all → All (IsWithin history) all
 within_more {L} told history more [] parts = All-nil (IsWithin history)
 within_more {L} told history more (hired ∷ all) parts =
     All-cons (IsWithin history) hired all
-    (begins_on hired.worker.state.seat.log told history (All-head (IsWithin told) hired all parts) more)
+    (begins_on (seat_in hired.scanner).log told history (All-head (IsWithin told) hired all parts) more)
     (within_more told history more all (All-tail (IsWithin told) hired all parts))
 
 -- ---- workers that begin
@@ -35,7 +35,7 @@ pub none_begun : {L : Type 0} (shares : L → Option L → Type 0) (heard : L) (
     → Begun shares heard name hub [] left (length left)
 none_begun {L} shares heard name hub left seats parts = record {
   counted = omega arith;
-  fresh = All-nil (λ (hired : Hired L). IsFresh shares heard hired.worker.state);
+  fresh = All-nil (λ (hired : Hired L). IsFresh shares heard (state_of hired));
   new = All-nil (IsNew name);
   seats = seats;
   parts = parts;
@@ -45,10 +45,10 @@ none_begun {L} shares heard name hub left seats parts = record {
 pub one_begins : {L : Type 0} (shares : L → Option L → Type 0) (heard listener : L) (name : TableId) (hub after other : DrawerAt) (workers more : List (Hired L)) (scanner : cell.Seat) (left rest : List cell.Seat) (count : ℕ)
     → Begun shares heard name hub workers left count → left ≡ scanner ∷ rest → shares heard (Some listener)
     → after ≡ drawer_at hub.name (hub.parts - 1) hub.drawn hub.ended → other ≡ drawer_at hub.name 1 0 0
-    → more ≡ workers ++ record { worker = record { state = worker_of listener (seat_in (Some scanner)); result = Ok tt }; drawer = other } ∷ []
+    → more ≡ workers ++ record { listener = listener; scanner = Some scanner; drawer = other; served = Ok tt } ∷ []
     → Begun shares heard name after more rest count
 one_begins {L} shares heard listener name hub after other workers more scanner left rest count so next shared cut part pushed =
-    let hired : Hired L = record { worker = record { state = worker_of listener (seat_in (Some scanner)); result = Ok tt }; drawer = other } in
+    let hired : Hired L = record { listener = listener; scanner = Some scanner; drawer = other; served = Ok tt } in
     let here : All (λ found. found ≡ cell.seat [] [] 0 []) (scanner ∷ rest) = rw next at so.seats in
     let fresh : scanner ≡ cell.seat [] [] 0 [] = All-head (λ found. found ≡ cell.seat [] [] 0 []) scanner rest here in
     let longer : length more ≡ length workers + 1 = rw pushed (length-append workers (hired ∷ [])) in
@@ -57,8 +57,8 @@ one_begins {L} shares heard listener name hub after other workers more scanner l
     let one_less : suc (length rest) + 1 - 1 ≡ length rest + 1 = omega arith in
     let new : other ≡ drawer_at name 1 0 0 = rw held at part in record {
       counted = omega (arith, longer, counted);
-      fresh = rw pushed (All-push (λ (worker : Hired L). IsFresh shares heard worker.worker.state) workers hired so.fresh (shared, ap seat_at fresh));
-      new = rw pushed (All-push (IsNew name) workers hired so.new new);
+      fresh = rw pushed (All-push (λ (worker : Hired L). IsFresh shares heard (state_of worker)) workers hired so.fresh (shared, ap seat_at fresh));
+      new = rw pushed (All-push (IsNew name) workers hired so.new (refl, new));
       seats = All-tail (λ found. found ≡ cell.seat [] [] 0 []) scanner rest here;
       parts = (rw held at cut) ∙ ap (λ (n : ℕ). drawer_at name n 0 0) one_less;
     }
@@ -79,7 +79,7 @@ none_gathered {L} all history name hub is drawn = record {
 }
 
 -- one that ended well was told that none is left
-ends_so : {L : Type 0} (name : TableId) (hired : Hired L) (done : List (Hired L)) (before more : ℕ) (result : Result (Unit {0}) Fault) → result ≡ hired.worker.result → IfOk result (λ _. 0 < more)
+ends_so : {L : Type 0} (name : TableId) (hired : Hired L) (done : List (Hired L)) (before more : ℕ) (result : Result (Unit {0}) Fault) → result ≡ hired.served → IfOk result (λ _. 0 < more)
     → (0 < before) ⊎ All (λ work. IsErr work.result) (map work_of done) → (0 < before + more) ⊎ All (λ work. IsErr work.result) (map work_of (hired ∷ done))
 ends_so {L} name hired done before more (Ok good) is none (inl some) = inl (omega (arith, some))
 ends_so {L} name hired done before more (Ok good) is none (inr failed) = inl (omega (arith, none))
@@ -93,16 +93,13 @@ pub last_drawn : {L : Type 0} (name : TableId) (all left rest : List (Hired L)) 
 last_drawn {L} name all left rest hired told result hub gathered last = (All-pop (HasDrawn name) left rest (Some hired) last gathered.others).1
 
 -- it is looked at
-pub one_gathered : {L : Type 0} (all left rest : List (Hired L)) (hired : Hired L) (listener : L) (found : Option cell.Seat) (served : Result (Unit {0}) Fault)
-    (told history : Log) (result after : Result (Unit {0}) Fault) (name : TableId) (hub next : DrawerAt)
+pub one_gathered : {L : Type 0} (all left rest : List (Hired L)) (hired : Hired L) (told history : Log) (result after : Result (Unit {0}) Fault) (name : TableId) (hub next : DrawerAt)
     → Gathered all left told result name hub → left ≡ rest ++ hired ∷ []
-    → record { state = worker_of listener (seat_in found); result = served } ≡ hired.worker
-    → Begins told history → Begins hired.worker.state.seat.log history → after ≡ both served result
+    → Begins told history → Begins (seat_in hired.scanner).log history → after ≡ both hired.served result
     → next ≡ drawer_at hub.name (hub.parts + hired.drawer.parts) (hub.drawn + hired.drawer.drawn) (hub.ended + hired.drawer.ended)
     → Gathered all rest history after name next
-one_gathered {L} all left rest hired listener found served told history result after name hub next gathered last seen more within ends taken =
+one_gathered {L} all left rest hired told history result after name hub next gathered last more within ends taken =
     let drawn : HasDrawn name hired = last_drawn name all left rest hired told result hub gathered last in
-    let its : served ≡ hired.worker.result = ap (λ (w : Ended L). w.result) seen in
     let parts : next.parts ≡ hub.parts + hired.drawer.parts = ap (λ (d : DrawerAt). d.parts) taken in
     let count : next.drawn ≡ hub.drawn + hired.drawer.drawn = ap (λ (d : DrawerAt). d.drawn) taken in
     let told_none : next.ended ≡ hub.ended + hired.drawer.ended = ap (λ (d : DrawerAt). d.ended) taken in record {
@@ -110,20 +107,17 @@ one_gathered {L} all left rest hired listener found served told history result a
       whole = gathered.whole ∙ ap (λ (list : List (Hired L)). list ++ gathered.done) last ∙ append_assoc rest (hired ∷ []) gathered.done;
       others = (All-pop (HasDrawn name) left rest (Some hired) last gathered.others).0;
       within = All-cons (IsWithin history) hired gathered.done within (within_more told history more gathered.done gathered.within);
-      first = ends ∙ ap (λ (r : Result (Unit {0}) Fault). both r result) its ∙ ap (both hired.worker.result) gathered.first;
+      first = ends ∙ ap (both hired.served) gathered.first;
       named = ap (λ (d : DrawerAt). d.name) taken ∙ gathered.named;
-      parts = (let before = gathered.parts in let one = drawn.1 in omega (arith, parts, before, one));
+      parts = (let before = gathered.parts in let one = drawn.2 in omega (arith, parts, before, one));
       drawn = (let before = gathered.drawn in omega (arith, count, before));
       ended = subst (λ (n : ℕ). (0 < n) ⊎ All (λ work. IsErr work.result) (map work_of (hired ∷ gathered.done))) (sym told_none)
-          (ends_so name hired gathered.done hub.ended hired.drawer.ended hired.worker.result refl drawn.2 gathered.ended);
+          (ends_so name hired gathered.done hub.ended hired.drawer.ended hired.served refl drawn.3 gathered.ended);
     }
 
 -- what a worker's seat has seen
-pub sees_so : {L : Type 0} (listener : L) (found : Option cell.Seat) (before : Result (Unit {0}) Fault) (hired : Hired L) (scanner : cell.Seat) (history : Log)
-    → record { state = worker_of listener (seat_in found); result = before } ≡ hired.worker → found ≡ Some scanner → Begins scanner.log history → Begins hired.worker.state.seat.log history
-sees_so {L} listener found before hired scanner history seen there within =
-    let same : scanner.log ≡ hired.worker.state.seat.log = rw (← seen, there) refl in
-    subst (λ (log : Log). Begins log history) same within
+pub sees_so : (found : Option cell.Seat) (scanner : cell.Seat) (history : Log) → found ≡ Some scanner → Begins scanner.log history → Begins (seat_in found).log history
+sees_so found scanner history there within = rw there within
 
 pub all_gathered : {L : Type 0} (all : List (Hired L)) (history : Log) (result : Result (Unit {0}) Fault) (name : TableId) (hub : DrawerAt) → Gathered all [] history result name hub
     → (result ≡ first_fault (map work_of all)) × All (IsWithin history) all
@@ -152,7 +146,7 @@ all_drawn {L} all history result name hub most gathered few none =
 -- items at the same places, one by one
 served_at : {L : Type 0} (accepts : L → Option Ends → L → Type 0) (options : Options) (name : TableId) (history : Log) (olds news : List (Hired L)) → length news ≡ length olds
     → ((i : ℕ) (d : Hired L) → i < length olds → HasWorked accepts options name (slice_index_or olds i d) (slice_index_or news i d))
-    → All (IsWithin history) news → Pairwise (IsPartOf accepts options history) (map (λ hired. hired.worker.state) olds) (map work_of news)
+    → All (IsWithin history) news → Pairwise (IsPartOf accepts options history) (map state_of olds) (map work_of news)
 served_at {L} accepts options name history [] [] same each within = tt
 served_at {L} accepts options name history [] (new ∷ news) same each within = absurd (cc same)
 served_at {L} accepts options name history (old ∷ olds) [] same each within = absurd (cc same)
@@ -193,7 +187,7 @@ all_have_drawn {L} accepts options name olds news items is same each = rw is (dr
 pub all_served : {L : Type 0} (accepts : L → Option Ends → L → Type 0) (options : Options) (name : TableId) (most : ℕ) (history : Log) (olds news items : List (Hired L)) (result : Result (Unit {0}) Fault) → items ≡ news → length news ≡ length olds
     → ((i : ℕ) (d : Hired L) → i < length olds → HasWorked accepts options name (slice_index_or olds i d) (slice_index_or news i d))
     → All (IsWithin history) items → DrawsAll most (map work_of items) → result ≡ first_fault (map work_of items)
-    → ServesSideBySide accepts options most (map (λ hired. hired.worker.state) olds) result
+    → ServesSideBySide accepts options most (map state_of olds) result
 all_served {L} accepts options name most history olds news items result is same each within drawn ends = record {
   history = history;
   ends = map work_of items;
@@ -204,13 +198,13 @@ all_served {L} accepts options name most history olds news items result is same 
 
 -- ---- the port
 
-fresh_workers : {L : Type 0} (shares : L → Option L → Type 0) (heard : L) (all : List (Hired L)) → All (λ hired. IsFresh shares heard hired.worker.state) all
-    → All (IsFresh shares heard) (map (λ hired. hired.worker.state) all)
+fresh_workers : {L : Type 0} (shares : L → Option L → Type 0) (heard : L) (all : List (Hired L)) → All (λ hired. IsFresh shares heard (state_of hired)) all
+    → All (IsFresh shares heard) (map state_of all)
 fresh_workers {L} shares heard [] fresh = All-nil (IsFresh shares heard)
 fresh_workers {L} shares heard (hired ∷ all) fresh =
-    All-cons (IsFresh shares heard) hired.worker.state (map (λ hired. hired.worker.state) all)
-    (All-head (λ (h : Hired L). IsFresh shares heard h.worker.state) hired all fresh)
-    (fresh_workers shares heard all (All-tail (λ (h : Hired L). IsFresh shares heard h.worker.state) hired all fresh))
+    All-cons (IsFresh shares heard) (state_of hired) (map state_of all)
+    (All-head (λ (h : Hired L). IsFresh shares heard (state_of h)) hired all fresh)
+    (fresh_workers shares heard all (All-tail (λ (h : Hired L). IsFresh shares heard (state_of h)) hired all fresh))
 
 as_served : {L : Type 0} (accepts : L → Option Ends → L → Type 0) (shares : L → Option L → Type 0) (serving : Serving) (result : Result (Unit {0}) Fault) (heard : L) (out out' : Said)
     → IsServed accepts shares serving result heard out out' → ServesPort accepts shares serving result heard out out'
@@ -218,15 +212,15 @@ as_served accepts shares serving (Ok done) heard out out' served = served
 as_served accepts shares serving (Err fault) heard out out' served = inl served
 
 pub port_served : {L : Type 0} (accepts : L → Option Ends → L → Type 0) (shares : L → Option L → Type 0) (serving : Serving) (result : Result (Unit {0}) Fault) (heard : L) (out out' : Said) (all : List (Hired L))
-    → Appends out.bytes out'.bytes (listening_line serving.port) → out'.failures ≡ out.failures → length all ≡ serving.seats → All (λ hired. IsFresh shares heard hired.worker.state) all
-    → ServesSideBySide accepts (options_of serving) (most_of serving.accept) (map (λ hired. hired.worker.state) all) result
+    → Appends out.bytes out'.bytes (listening_line serving.port) → out'.failures ≡ out.failures → length all ≡ serving.seats → All (λ hired. IsFresh shares heard (state_of hired)) all
+    → ServesSideBySide accepts (options_of serving) (most_of serving.accept) (map state_of all) result
     → ServesPort accepts shares serving result heard out out'
 port_served {L} accepts shares serving result heard out out' all printed quiet many fresh served =
     as_served accepts shares serving result heard out out' (record {
       printed = printed;
       quiet = quiet;
-      workers = map (λ hired. hired.worker.state) all;
-      many = length-map all (λ (hired : Hired L). hired.worker.state) ∙ many;
+      workers = map state_of all;
+      many = length-map all state_of ∙ many;
       start = fresh_workers shares heard all fresh;
       served = served;
     })

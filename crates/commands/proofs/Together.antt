@@ -31,8 +31,9 @@ turns_keep : {L : Type 0} (accepts : L → Option Ends → L → Type 0) (moves 
     → ServesInTurn accepts moves options all more patience result old new → Begins old.seat.log new.seat.log
 turns_keep {L} accepts moves options [] zero patience result old new s = begins_same old.seat.log new.seat.log (ap (λ (w : Worker L). w.seat.log) s.1)
 turns_keep {L} accepts moves options [] (suc zero) zero result old new s = begins_same old.seat.log new.seat.log (ap (λ (w : Worker L). w.seat.log) s.1)
+turns_keep {L} accepts moves options [] (suc zero) (suc patience) result old new s = absurd s
 turns_keep {L} accepts moves options [] (suc (suc more)) zero result old new s = absurd s
-turns_keep {L} accepts moves options [] (suc more) (suc patience) result old new s = absurd s
+turns_keep {L} accepts moves options [] (suc (suc more)) (suc patience) result old new s = absurd s
 turns_keep {L} accepts moves options (Failed listener ∷ all) zero patience result old new s = absurd s
 turns_keep {L} accepts moves options (Failed listener ∷ all) (suc more) zero result old new s = absurd s
 turns_keep {L} accepts moves options (Failed listener ∷ all) (suc more) (suc patience) result old new s =

@@ -7,49 +7,30 @@ ghost use Rattle.flight_core.specs.Log.{Log};
 ghost use Rattle.version_cell.specs.Seats.{seat};
 ghost use Rattle.connection_turns.specs.Drawers as drawers;
 ghost use Rattle.commands.specs.Serve.{DrawsAll, IsFresh, ServesSideBySide, first_fault};
-ghost use Rattle.commands.specs.inside.Gathering.{HasDrawn, HasWorked, IsNew, IsWithin, work_of};
+ghost use Rattle.commands.specs.inside.Gathering.{HasDrawn, HasWorked, IsNew, IsWithin, state_of, work_of};
 
 use crate::turns::{Service, serve_in_turn};
 use command_ends::Listen;
 use connection_turns::{Drawer, Turns};
 use scan_base::Fault;
 use shared_calls::Shared;
-use std::marker::Model;
 use std::sync::Wait;
 use std::thread;
 use std::thread::Threads;
 use std::time::Clock;
 use version_cell::{CellName, Scanner, SharedPutter, Told};
 
-/// One of those that serve: its listener, its seat of the cell, and what came of its work.
+/// One of those that serve: its listener, its seat of the cell, what it draws by, and what came of its work.
 #[derive(Drop)]
-pub(crate) struct Worker<L, C: CellName> {
-    listener: L,
+pub(crate) struct Worker<L, S, D> {
+    pub listener: L,
     // None while the worker works.
-    scanner: Option<Scanner<C>>,
-    served: Result<(), Fault>,
-}
-
-impl<L, C: CellName> Model for Worker<L, C> {
-    ghost use Rattle.std.specs.Prelude.{IsSome};
-    ghost use Rattle.commands.specs.inside.Gathering.{Ended, seat_in};
-    ghost use Rattle.commands.specs.Serve.{worker_of};
-
-    ghost Value = { Ended L };
-
-    ghost view = { λ w. record { state = worker_of w.listener (seat_in w.scanner); result = w.served } };
-
-    ghost invariant = { λ w. IsSome w.scanner };
-}
-
-/// A worker, and what it draws by. That both may cross threads is asked of each by itself.
-#[derive(Drop)]
-pub(crate) struct Post<W, D> {
-    pub worker: W,
+    pub scanner: Option<S>,
     pub drawer: D,
+    pub served: Result<(), Fault>,
 }
 
-type ServingPost<L, C> = Post<Worker<L, C>, Drawer>;
+type ServingWorker<L, C> = Worker<L, Scanner<C>, Drawer>;
 
 /// What all workers share: how they serve, and the putter of their cell.
 #[derive(Drop)]
@@ -69,17 +50,17 @@ pub(crate) fn workers_of<L: Listen + Drop, C: CellName, T: Wait>(
     drawer: &mut Drawer,
     network: &L,
     scanners: Vec<Scanner<C>>,
-) -> Result<Vec<ServingPost<L, C>>, Fault>
+) -> Result<Vec<ServingWorker<L, C>>, Fault>
     requires seats { All (λ scanner. scanner ≡ seat [] [] 0 []) scanners.items }
     requires drawer { drawer.old ≡ drawers.drawer_at service.now.turns.now.name (length scanners.items + 1) 0 0 }
     ensures made { MatchResult result
-        (λ posts. (length posts.items ≡ length scanners.items)
-        × All (λ post. IsFresh L.shares network.now post.worker.state) posts.items
-        × All (IsNew service.now.turns.now.name) posts.items)
+        (λ workers. (length workers.items ≡ length scanners.items)
+        × All (λ hired. IsFresh L.shares network.now (state_of hired)) workers.items
+        × All (IsNew service.now.turns.now.name) workers.items)
         (λ fault. (fault ≡ OutOfMemory) ⊎ ((fault ≡ Transport) × L.shares network.now None)) }
     ensures drawer { IfOk result (λ _. drawer.new ≡ drawers.drawer_at service.now.turns.now.name 1 0 0) }
 {
-    let mut posts = Vec::new(service.alloc);
+    let mut workers = Vec::new(service.alloc);
     for scanner in scanners {
         let Ok(listener) = network.share() else {
             return Err(Fault::Transport);
@@ -87,64 +68,70 @@ pub(crate) fn workers_of<L: Listen + Drop, C: CellName, T: Wait>(
         let worker = Worker {
             listener,
             scanner: Some(scanner),
+            drawer: service.turns.cut(drawer),
             served: Ok(()),
         };
-        let drawer = service.turns.cut(drawer);
-        if posts.push(Post { worker, drawer }).is_err() {
+        if workers.push(worker).is_err() {
             return Err(Fault::OutOfMemory);
         }
     }
-    Ok(posts)
+    Ok(workers)
 }
 
 // Serves the connections of one worker.
 fn work<L: Listen, C: CellName, T: Wait + Clock>(
     crew: &Crew<'_, '_, C, T>,
-    post: &mut ServingPost<L, C>,
+    worker: &mut ServingWorker<L, C>,
 )
-    requires { IsNew crew.now.service.turns.now.name post.old }
-    ensures { HasWorked L.accepts crew.now.service.options crew.now.service.turns.now.name post.old post.new }
+    requires { IsNew crew.now.service.turns.now.name worker.old }
+    ensures { HasWorked L.accepts crew.now.service.options crew.now.service.turns.now.name worker.old worker.new }
 {
-    let Post { worker, drawer } = post;
     let scanner = worker.scanner.take().unwrap();
     let mut backend = Shared::new(crew.service.rt, crew.putter, scanner);
-    worker.served = serve_in_turn(&crew.service, drawer, &mut worker.listener, &mut backend);
+    worker.served = serve_in_turn(
+        &crew.service,
+        &mut worker.drawer,
+        &mut worker.listener,
+        &mut backend,
+    );
     worker.scanner = Some(backend.into_seat());
 }
 
-// Calls a function at each post, in a thread of its own where one can be made.
-fn each_side_by_side<W, D, F, T>(rt: &T, posts: &mut [Post<W, D>], each: &F)
+// Calls a function with each worker, in a thread of its own where one can be made. That a worker's parts may cross threads
+// is asked of each by itself.
+fn each_side_by_side<L, S, D, F, T>(rt: &T, workers: &mut [Worker<L, S, D>], each: &F)
 where
-    W: Send,
+    L: Send,
+    S: Send,
     D: Send,
-    F: Fn(usize, &mut Post<W, D>) + Sync,
+    F: Fn(usize, &mut Worker<L, S, D>) + Sync,
     T: Threads + Sync,
-    requires { AcceptsEach F.Fn each.now posts.old }
-    ensures { ChangesEach F.Fn each.now posts.old posts.new }
+    requires { AcceptsEach F.Fn each.now workers.old }
+    ensures { ChangesEach F.Fn each.now workers.old workers.new }
 {
-    let threads = posts.len().max(1);
-    thread::for_each_mut(rt, posts, threads, each);
+    let threads = workers.len().max(1);
+    thread::for_each_mut(rt, workers, threads, each);
 }
 
 // Serves the connections of all workers.
-fn work_side_by_side<L, C, T>(crew: &Crew<'_, '_, C, T>, posts: &mut [ServingPost<L, C>])
+fn work_side_by_side<L, C, T>(crew: &Crew<'_, '_, C, T>, workers: &mut [ServingWorker<L, C>])
 where
     L: Listen + Send,
     L::Reader: Send,
     L::Writer: Send,
     C: CellName + Send + Sync,
     T: Threads + Wait + Clock + Sync,
-    requires { All (IsNew crew.now.service.turns.now.name) posts.old }
-    ensures { (i : ℕ) (d : _) → i < length posts.old
+    requires { All (IsNew crew.now.service.turns.now.name) workers.old }
+    ensures { (i : ℕ) (d : _) → i < length workers.old
         → HasWorked L.accepts crew.now.service.options crew.now.service.turns.now.name
-        (slice_index_or posts.old i d) (slice_index_or posts.new i d) }
+        (slice_index_or workers.old i d) (slice_index_or workers.new i d) }
 {
-    let each = |_place: usize, post: &mut ServingPost<L, C>|
-        requires { IsNew crew.now.service.turns.now.name post.now }
+    let each = |_place: usize, worker: &mut ServingWorker<L, C>|
+        requires { IsNew crew.now.service.turns.now.name worker.now }
         ensures { HasWorked L.accepts crew.entry.now.service.options crew.entry.now.service.turns.now.name
-            post.entry.now post.exit.now }
-    { work(crew, post) };
-    each_side_by_side(crew.service.rt, posts, &each);
+            worker.entry.now worker.exit.now }
+    { work(crew, worker) };
+    each_side_by_side(crew.service.rt, workers, &each);
 }
 
 // The first fault of workers that have ended. The longest of the log that was told and those that they have seen is the
@@ -153,24 +140,20 @@ fn first_of<L: Drop, C: CellName>(
     turns: &Turns,
     mut drawer: Drawer,
     mut told: Told<C>,
-    mut posts: Vec<ServingPost<L, C>>,
+    mut workers: Vec<ServingWorker<L, C>>,
 ) -> Result<(), Fault>
-    requires parts { turns.now.parts ≡ length posts.items + 1 }
+    requires parts { turns.now.parts ≡ length workers.items + 1 }
     requires drawer { drawer ≡ drawers.drawer_at turns.now.name 1 0 0 }
-    requires worked { All (HasDrawn turns.now.name) posts.items }
-    ensures first { result ≡ first_fault (map work_of posts.items) }
-    ensures within { (history : Log) × All (IsWithin history) posts.items }
-    ensures drawn { DrawsAll turns.now.most (map work_of posts.items) }
+    requires worked { All (HasDrawn turns.now.name) workers.items }
+    ensures first { result ≡ first_fault (map work_of workers.items) }
+    ensures within { (history : Log) × All (IsWithin history) workers.items }
+    ensures drawn { DrawsAll turns.now.most (map work_of workers.items) }
 {
     let mut first = Ok(());
-    while let Some(post) = posts.pop() {
-        let Post {
-            worker,
-            drawer: other,
-        } = post;
+    while let Some(worker) = workers.pop() {
         told = told.covering(worker.scanner.as_ref().unwrap());
         first = worker.served.and(first);
-        turns.take_back(&mut drawer, other);
+        turns.take_back(&mut drawer, worker.drawer);
     }
     turns.learn(&mut drawer);
     first
@@ -184,7 +167,7 @@ fn first_of<L: Drop, C: CellName>(
 pub(crate) fn serve_side_by_side<L, C, T>(
     crew: &Crew<'_, '_, C, T>,
     drawer: Drawer,
-    mut posts: Vec<ServingPost<L, C>>,
+    mut workers: Vec<ServingWorker<L, C>>,
 ) -> Result<(), Fault>
 where
     L: Listen + Drop + Send,
@@ -192,13 +175,13 @@ where
     L::Writer: Send,
     C: CellName + Send + Sync,
     T: Threads + Wait + Clock + Sync,
-    requires parts { crew.now.service.turns.now.parts ≡ length posts.items + 1 }
+    requires parts { crew.now.service.turns.now.parts ≡ length workers.items + 1 }
     requires drawer { drawer ≡ drawers.drawer_at crew.now.service.turns.now.name 1 0 0 }
-    requires new { All (IsNew crew.now.service.turns.now.name) posts.items }
+    requires new { All (IsNew crew.now.service.turns.now.name) workers.items }
     ensures { ServesSideBySide L.accepts crew.now.service.options crew.now.service.turns.now.most
-        (map (λ post. post.worker.state) posts.items) result }
+        (map state_of workers.items) result }
 {
-    work_side_by_side(crew, posts.as_mut_slice());
+    work_side_by_side(crew, workers.as_mut_slice());
     let told = crew.putter.tell(crew.service.rt);
-    first_of(crew.service.turns, drawer, told, posts)
+    first_of(crew.service.turns, drawer, told, workers)
 }

@@ -138,13 +138,13 @@ where
         },
         turns: &turns,
     };
-    let posts = workers_of(&service, &mut drawer, network, scanners)?;
+    let workers = workers_of(&service, &mut drawer, network, scanners)?;
     print_listening(host.alloc, output, serving.port)?;
     let crew = Crew {
         service,
         putter: &putter,
     };
-    serve_side_by_side(&crew, drawer, posts)
+    serve_side_by_side(&crew, drawer, workers)
 }
 
 // How many connections to draw; 0 stands for no end.

@@ -1,5 +1,5 @@
 -- Inside: workers, with what they drew.
-use Rattle.std.specs.Prelude.{◌≡◌, ◌⊎◌, ◌<◌, ℕ, ◌+◌, length, List, [], ◌++◌, map, All, IsErr, IfOk, Option, Some, None, Result}
+use Rattle.std.specs.Prelude.{◌≡◌, ◌⊎◌, ◌<◌, ℕ, ◌+◌, length, List, [], ◌++◌, map, All, IsErr, IfOk, IsSome, Option, Some, None, Result}
 use Rattle.atomic_table.specs.Seated.{TableId}
 use Rattle.scan_base.specs.declared.fault.Fault.{Fault}
 use Rattle.flight_core.specs.Headline.{Begins}
@@ -10,42 +10,40 @@ use Rattle.flight_calls.specs.Seats.{Seat, seat_of}
 use Rattle.shared_calls.specs.Sharing.{onward, seat_at}
 use Rattle.connection_turns.specs.Drawers.{DrawerAt, drawer_at}
 use Rattle.command_ends.specs.Network.{Ends}
-use Rattle.commands.specs.declared.crew.Post.{Post}
-use Rattle.commands.specs.Serve.{Work, Worker, IsFresh, ServesUpTo, drawn_by, first_fault}
+use Rattle.commands.specs.declared.crew.Worker as declared
+use Rattle.commands.specs.Serve.{Work, Worker, IsFresh, ServesUpTo, drawn_by, first_fault, worker_of}
 
 -- a worker's seat of the cell, which is always there between two connections
 abbrev pub seat_in : Option cell.Seat → Seat
 seat_in (Some scanner) = seat_at scanner
 seat_in None = seat_of [] 0
 
--- a worker, and what came of its work
-pub record Ended (L : Type 0) : Type 0 where
-  pub state : Worker L
-  pub result : Result (Unit {0}) Fault
-
--- with what it draws by
+-- a worker as the code has it
 abbrev pub Hired : Type 0 → Type 0
-Hired L = Post (Ended L) DrawerAt
+Hired L = declared.Worker L cell.Seat DrawerAt
+
+abbrev pub state_of : {L : Type 0} → Hired L → Worker L
+state_of hired = worker_of hired.listener (seat_in hired.scanner)
 
 abbrev pub work_of : {L : Type 0} → Hired L → Work L
-work_of hired = record { worker = hired.worker.state; drawn = hired.drawer.drawn; result = hired.worker.result }
+work_of hired = record { worker = state_of hired; drawn = hired.drawer.drawn; result = hired.served }
 
 -- it may draw, and has not yet
 abbrev pub IsNew : {L : Type 0} → TableId → Hired L → Type 0
-IsNew name hired = hired.drawer ≡ drawer_at name 1 0 0
+IsNew name hired = IsSome hired.scanner × (hired.drawer ≡ drawer_at name 1 0 0)
 
 -- where it ended well, it was told that no turn is left
 abbrev pub HasDrawn : {L : Type 0} → TableId → Hired L → Type 0
-HasDrawn name hired = (hired.drawer.name ≡ name) × (hired.drawer.parts ≡ 1) × IfOk hired.worker.result (λ _. 0 < hired.drawer.ended)
+HasDrawn name hired = IsSome hired.scanner × (hired.drawer.name ≡ name) × (hired.drawer.parts ≡ 1) × IfOk hired.served (λ _. 0 < hired.drawer.ended)
 
 -- a worker served the connections that it drew
 pub record HasWorked {L : Type 0} (accepts : L → Option Ends → L → Type 0) (options : Options) (name : TableId) (old new : Hired L) : Type 0 where
-  pub serves : ServesUpTo accepts onward options new.drawer.drawn new.worker.result old.worker.state new.worker.state
+  pub serves : ServesUpTo accepts onward options new.drawer.drawn new.served (state_of old) (state_of new)
   pub drawn : HasDrawn name new
 
 -- all that the seat of a worker has seen is of this history
 abbrev pub IsWithin : {L : Type 0} → Log → Hired L → Type 0
-IsWithin history hired = Begins hired.worker.state.seat.log history
+IsWithin history hired = Begins (seat_in hired.scanner).log history
 
 -- those behind the ones that are left have been looked at, and the hub has all that they drew
 pub record Gathered {L : Type 0} (all left : List (Hired L)) (history : Log) (result : Result (Unit {0}) Fault) (name : TableId) (hub : DrawerAt) : Type 0 where
@@ -62,7 +60,7 @@ pub record Gathered {L : Type 0} (all left : List (Hired L)) (history : Log) (re
 -- workers were made for the seats that were taken, and the first drawer has a part for each that is left
 pub record Begun {L : Type 0} (shares : L → Option L → Type 0) (heard : L) (name : TableId) (hub : DrawerAt) (workers : List (Hired L)) (left : List cell.Seat) (count : ℕ) : Type 0 where
   pub counted : length workers + length left ≡ count
-  pub fresh : All (λ hired. IsFresh shares heard hired.worker.state) workers
+  pub fresh : All (λ hired. IsFresh shares heard (state_of hired)) workers
   pub new : All (IsNew name) workers
   pub seats : All (λ found. found ≡ cell.seat [] [] 0 []) left
   pub parts : hub ≡ drawer_at name (length left + 1) 0 0

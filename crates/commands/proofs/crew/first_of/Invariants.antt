@@ -1,8 +1,8 @@
 use Rattle.commands.specs.inside.Gathering.{Gathered}
 use Rattle.commands.proofs.crew.first_of.Given as goal
 
-abbrev pub invariant-loop-post : goal.invariant-loop-post
-invariant-loop-post g l = Gathered l.initial.posts.items l.posts.items l.told l.first l.turns.name l.drawer
+abbrev pub invariant-loop-worker : goal.invariant-loop-worker
+invariant-loop-worker g l = Gathered l.initial.workers.items l.workers.items l.told l.first l.turns.name l.drawer
 
-abbrev pub decreases-loop-post : goal.decreases-loop-post
-decreases-loop-post g l = goal.left-loop-post g l
+abbrev pub decreases-loop-worker : goal.decreases-loop-worker
+decreases-loop-worker g l = goal.left-loop-worker g l
