@@ -26,12 +26,12 @@ pub record Takes {L : Type 0} (accepts : L → Option Ends → L → Type 0) (op
   pub ends : Ends
   pub took : slice_get part.serves.0 place ≡ Some (Took listener ends result last)
 
--- one of these connections answered an info for what was wanted, at this log, by these handles
+-- a connection that ended as one of these did answered an info for what was wanted, at this log, by these handles
 pub record InfoOf {L : Type 0} (accepts : L → Option Ends → L → Type 0) (options : Options) (history log : Log) (wanted : Wanted) (handles : List HandleAt) : Type 0 where
   pub served : InfoServed onward [] log wanted handles
   pub taken : Takes accepts options history served.answered.result served.answered.new
 
--- one of these connections answered a fetch of this handle to its end, and said these rows
+-- a connection that ended as one of these did answered a fetch of this handle to its end, and said these rows
 pub record FetchOf {L : Type 0} (accepts : L → Option Ends → L → Type 0) (options : Options) (history : Log) (handle : HandleAt) (rows : Rows) : Type 0 where
   pub served : FetchServed onward [] handle rows
   pub taken : Takes accepts options history served.answered.result served.answered.new

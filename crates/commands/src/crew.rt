@@ -1,7 +1,6 @@
 //! Workers that serve connections side by side, over one history.
 
 ghost use Rattle.std.specs.Prelude.{◌≡◌, ◌⊎◌, ◌<◌, ◌+◌, [], All, MatchResult, None, ℕ, length, map, slice_index_or, IfOk};
-ghost use Rattle.std.specs.Fork.{AcceptsEach, ChangesEach};
 ghost use Rattle.scan_base.specs.declared.fault.Fault.TheVariants.{OutOfMemory, Transport};
 ghost use Rattle.flight_core.specs.Log.{Log};
 ghost use Rattle.version_cell.specs.Seats.{seat};
@@ -78,60 +77,59 @@ pub(crate) fn workers_of<L: Listen + Drop, C: CellName, T: Wait>(
     Ok(workers)
 }
 
-// Serves the connections of one worker.
-fn work<L: Listen, C: CellName, T: Wait + Clock>(
-    crew: &Crew<'_, '_, C, T>,
-    worker: &mut ServingWorker<L, C>,
-)
-    requires { IsNew crew.now.service.turns.now.name worker.old }
-    ensures { HasWorked L.accepts crew.now.service.options crew.now.service.turns.now.name worker.old worker.new }
-{
-    let scanner = worker.scanner.take().unwrap();
-    let mut backend = Shared::new(crew.service.rt, crew.putter, scanner);
-    worker.served = serve_in_turn(
-        &crew.service,
-        &mut worker.drawer,
-        &mut worker.listener,
-        &mut backend,
-    );
-    worker.scanner = Some(backend.into_seat());
+// What is done with each worker, by whichever thread has it.
+trait Job<L, C: CellName> {
+    ghost use Rattle.commands.specs.inside.Gathering.{Hired};
+
+    // Which workers it takes.
+    ghost takes: { Self → Hired L → Type 0 };
+
+    // What becomes of one.
+    ghost leaves: { Self → Hired L → Hired L → Type 0 };
+
+    fn work(&self, worker: &mut ServingWorker<L, C>)
+        requires { takes self.now worker.old }
+        ensures { leaves self.now worker.old worker.new };
 }
 
-// Calls a function with each worker, in a thread of its own where one can be made. That a worker's parts may cross threads
-// is asked of each by itself.
-fn each_side_by_side<L, S, D, F, T>(rt: &T, workers: &mut [Worker<L, S, D>], each: &F)
+// A worker serves connections.
+impl<'a, 'h, L: Listen, C: CellName, T: Wait + Clock> Job<L, C> for Crew<'a, 'h, C, T> {
+    ghost use Rattle.commands.specs.inside.Gathering.{HasWorked, IsNew};
+
+    ghost takes = { λ crew worker. IsNew crew.service.turns.now.name worker };
+
+    ghost leaves = { λ crew old new. HasWorked L.accepts crew.service.options crew.service.turns.now.name old new };
+
+    fn work(&self, worker: &mut ServingWorker<L, C>) {
+        let scanner = worker.scanner.take().unwrap();
+        let mut backend = Shared::new(self.service.rt, self.putter, scanner);
+        worker.served = serve_in_turn(
+            &self.service,
+            &mut worker.drawer,
+            &mut worker.listener,
+            &mut backend,
+        );
+        worker.scanner = Some(backend.into_seat());
+    }
+}
+
+// Does a job with all workers, with each in a thread of its own where one can be made.
+fn work_side_by_side<L, C, J, T>(rt: &T, job: &J, workers: &mut [ServingWorker<L, C>])
 where
     L: Send,
-    S: Send,
-    D: Send,
-    F: Fn(usize, &mut Worker<L, S, D>) + Sync,
+    C: CellName + Send + Sync,
+    J: Job<L, C> + Sync,
     T: Threads + Sync,
-    requires { AcceptsEach F.Fn each.now workers.old }
-    ensures { ChangesEach F.Fn each.now workers.old workers.new }
+    requires { All (J.takes job.now) workers.old }
+    ensures { (i : ℕ) (d : _) → i < length workers.old
+        → J.leaves job.now (slice_index_or workers.old i d) (slice_index_or workers.new i d) }
 {
     let threads = workers.len().max(1);
-    thread::for_each_mut(rt, workers, threads, each);
-}
-
-// Serves the connections of all workers.
-fn work_side_by_side<L, C, T>(crew: &Crew<'_, '_, C, T>, workers: &mut [ServingWorker<L, C>])
-where
-    L: Listen + Send,
-    L::Reader: Send,
-    L::Writer: Send,
-    C: CellName + Send + Sync,
-    T: Threads + Wait + Clock + Sync,
-    requires { All (IsNew crew.now.service.turns.now.name) workers.old }
-    ensures { (i : ℕ) (d : _) → i < length workers.old
-        → HasWorked L.accepts crew.now.service.options crew.now.service.turns.now.name
-        (slice_index_or workers.old i d) (slice_index_or workers.new i d) }
-{
     let each = |_place: usize, worker: &mut ServingWorker<L, C>|
-        requires { IsNew crew.now.service.turns.now.name worker.now }
-        ensures { HasWorked L.accepts crew.entry.now.service.options crew.entry.now.service.turns.now.name
-            worker.entry.now worker.exit.now }
-    { work(crew, worker) };
-    each_side_by_side(crew.service.rt, workers, &each);
+        requires { J.takes job.now worker.now }
+        ensures { J.leaves job.entry.now worker.entry.now worker.exit.now }
+    { job.work(worker) };
+    thread::for_each_mut(rt, workers, threads, &each);
 }
 
 // The first fault of workers that have ended. The longest of the log that was told and those that they have seen is the
@@ -181,7 +179,7 @@ where
     ensures { ServesSideBySide L.accepts crew.now.service.options crew.now.service.turns.now.most
         (map state_of workers.items) result }
 {
-    work_side_by_side(crew, workers.as_mut_slice());
+    work_side_by_side(crew.service.rt, crew, workers.as_mut_slice());
     let told = crew.putter.tell(crew.service.rt);
     first_of(crew.service.turns, drawer, told, workers)
 }
