@@ -8,6 +8,7 @@ use scan_base::{Fault, Text};
 use std::alloc::Global;
 use std::process::Abort;
 use std::sync::Wait;
+use std::sync::atomic::{AtomicU64, Ordering};
 use std::test::Fail;
 use std::thread;
 use std::thread::Threads;
@@ -144,6 +145,48 @@ fn put_and_look<C: CellName, R: Wait + Drop>(
     Ok((number, seat.current()?.number()))
 }
 
+// What came of puts: their numbers added up, and how many were seen by their seats.
+#[derive(Drop)]
+struct Tally {
+    numbers: AtomicU64,
+    seen: AtomicU64,
+}
+
+// What is done with a seat, in a thread of its own.
+trait Job<C: CellName> {
+    fn work(&self, seat: &mut Scanner<C>);
+}
+
+// A put, and a look.
+#[derive(Drop)]
+struct Putting<'a, C: CellName, R: Wait> {
+    rt: &'a R,
+    alloc: Global,
+    shared: SharedPutter<C, &'a R>,
+    tally: Tally,
+}
+
+impl<'a, C: CellName, R: Wait> Job<C> for Putting<'a, C, R> {
+    fn work(&self, seat: &mut Scanner<C>) {
+        if let Ok((number, newest)) = put_and_look(self.rt, self.alloc, &self.shared, seat) {
+            self.tally.numbers.fetch_add(number, Ordering::SeqCst);
+            let sees = u64::from(newest >= number);
+            self.tally.seen.fetch_add(sees, Ordering::SeqCst);
+        }
+    }
+}
+
+// Works with each seat at once.
+fn work_at_once<C, J, T>(rt: &T, job: &J, seats: &mut [Scanner<C>])
+where
+    C: CellName + Send + Sync,
+    J: Job<C> + Sync,
+    T: Threads + Sync,
+{
+    let each = |_place: usize, seat: &mut Scanner<C>| job.work(seat);
+    thread::for_each_mut(rt, seats, 2, &each);
+}
+
 fn put_by_two<C: CellName + Send + Sync, R: Threads + Wait + Abort + Sync>(
     rt: &R,
     alloc: Global,
@@ -152,17 +195,17 @@ fn put_by_two<C: CellName + Send + Sync, R: Threads + Wait + Abort + Sync>(
     requires { blank.book ≡ C.book }
 {
     let (putter, mut seats) = blank.named::<C, &R>(alloc, rt)?;
-    let shared = SharedPutter::new(putter);
-    let (Some(mut one), Some(mut two)) = (seats.pop(), seats.pop()) else {
-        return Err(Fail::from("two seats"));
-    };
-    let (a, b) = thread::join(
+    let putting = Putting {
         rt,
-        || put_and_look(rt, alloc, &shared, &mut one),
-        || put_and_look(rt, alloc, &shared, &mut two),
-    );
-    let (a, b) = (a?, b?);
-    assert!(rt; matches!((a.0, b.0), (1, 2) | (2, 1)));
-    assert!(rt; a.1 >= a.0 && b.1 >= b.0);
+        alloc,
+        shared: SharedPutter::new(putter),
+        tally: Tally {
+            numbers: AtomicU64::new(0),
+            seen: AtomicU64::new(0),
+        },
+    };
+    work_at_once(rt, &putting, seats.as_mut_slice());
+    assert_eq!(rt; putting.tally.numbers.load(Ordering::SeqCst), 3);
+    assert_eq!(rt; putting.tally.seen.load(Ordering::SeqCst), 2);
     Ok(())
 }
