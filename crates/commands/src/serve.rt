@@ -31,11 +31,12 @@ pub struct Host<'a, T> {
     pub seed: HashSeed,
 }
 
-/// Listens to a port, says which, and serves connections: as many at once as there are seats, on one catalog that is empty
-/// at first. A fault of a connection ends that one alone, and nothing is printed of it. Where `accept` is not 0, it is done
-/// behind so many connections, one fewer for each worker that ended by a fault. A fault of this end is printed on `faults` in a line, as far as that takes it: F21 where
-/// memory for the catalog or the workers is refused, F22 where a further listener is, the line of the port is not printed, or
-/// a hundred accepts of a worker failed one behind the other; where it does not listen, a second line says so.
+/// Listens to a port, says which, and serves connections: as many at once as there are seats, on one catalog that is
+/// empty at first. A fault of a connection ends that one alone, and nothing is printed of it. Where `accept` is not 0,
+/// it is done behind so many connections, one fewer for each worker that ended by a fault. A fault of this end is
+/// printed on `faults` in a line, as far as that takes it: F21 where memory for the catalog or the workers is refused,
+/// F22 where a further listener is, the line of the port is not printed, or a hundred accepts of a worker failed one
+/// behind the other; where it does not listen, a second line says so.
 pub fn serve<T, L, W: Output, E: Output>(
     host: Host<'_, T>,
     network: &mut L,
