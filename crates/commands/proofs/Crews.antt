@@ -18,7 +18,7 @@ use Rattle.connection_turns.specs.Drawers.{DrawerAt, drawer_at}
 use Rattle.command_line.specs.declared.request.Serving.{Serving}
 use Rattle.command_ends.specs.Network.{Ends}
 use Rattle.command_ends.specs.Printing.{Said, listening_line}
-use Rattle.commands.specs.Serve.{DrawsAll, Worker, Work, IsPartOf, IsFresh, IsServed, ServesPort, ServesSideBySide, ServesUpTo, both, drawn_by, first_fault, most_of, options_of, worker_of}
+use Rattle.commands.specs.Serve.{DrawsAll, Worker, Work, IsPartOf, IsFresh, IsServed, ServesPort, ServesSideBySide, ServesUpTo, both, drawn_by, first_fault, made_by, most_of, options_of, worker_of}
 use Rattle.commands.specs.inside.Gathering.{Begun, Gathered, HasDrawn, HasWorked, Hired, IsNew, IsWithin, seat_in, state_of, work_of}
 
 -- all that is of a history is of one that goes on from it
@@ -63,14 +63,17 @@ one_begins {L} shares heard listener name hub after other workers more scanner l
       parts = (rw held at cut) ∙ ap (λ (n : ℕ). drawer_at name n 0 0) one_less;
     }
 
--- ---- looking at workers that have ended
+-- ---- workers that have ended
 
-pub none_gathered : {L : Type 0} (all : List (Hired L)) (history : Log) (name : TableId) (hub : DrawerAt) → hub ≡ drawer_at name 1 0 0 → All (HasDrawn name) all → Gathered all all history (Ok tt) name hub
-none_gathered {L} all history name hub is drawn = record {
+pub none_gathered : {L : Type 0} (all : List (Hired L)) (seats : cell.GatheredAt) (name : TableId) (hub : DrawerAt) → seats.seats ≡ 0 → seats.made ≡ 0 → hub ≡ drawer_at name 1 0 0 → All (HasDrawn name) all
+    → Gathered all all seats (Ok tt) name hub
+none_gathered {L} all seats name hub none made is drawn = record {
   done = [];
   whole = sym (append-nil all);
   others = drawn;
-  within = All-nil (IsWithin history);
+  within = All-nil (IsWithin seats.log);
+  many = none;
+  made = made;
   first = refl;
   named = ap (λ (d : DrawerAt). d.name) is;
   parts = ap (λ (d : DrawerAt). d.parts) is;
@@ -88,25 +91,38 @@ ends_so {L} name hired done before more (Err fault) is none (inr failed) =
     inr (All-cons (λ (work : Work L). IsErr work.result) (work_of hired) (map work_of done) (rw (← is) refl) failed)
 
 -- the last one of those that are left has drawn, by the same word
-pub last_drawn : {L : Type 0} (name : TableId) (all left rest : List (Hired L)) (hired : Hired L) (told : Log) (result : Result (Unit {0}) Fault) (hub : DrawerAt)
-    → Gathered all left told result name hub → left ≡ rest ++ hired ∷ [] → HasDrawn name hired
-last_drawn {L} name all left rest hired told result hub gathered last = (All-pop (HasDrawn name) left rest (Some hired) last gathered.others).1
+pub last_drawn : {L : Type 0} (name : TableId) (all left rest : List (Hired L)) (hired : Hired L) (seats : cell.GatheredAt) (result : Result (Unit {0}) Fault) (hub : DrawerAt)
+    → Gathered all left seats result name hub → left ≡ rest ++ hired ∷ [] → HasDrawn name hired
+last_drawn {L} name all left rest hired seats result hub gathered last = (All-pop (HasDrawn name) left rest (Some hired) last gathered.others).1
 
--- it is looked at
-pub one_gathered : {L : Type 0} (all left rest : List (Hired L)) (hired : Hired L) (told history : Log) (result after : Result (Unit {0}) Fault) (name : TableId) (hub next : DrawerAt)
-    → Gathered all left told result name hub → left ≡ rest ++ hired ∷ []
-    → Begins told history → Begins (seat_in hired.scanner).log history → after ≡ both hired.served result
+-- what it means to take in the seat of a worker
+pub record Takes (found : Option cell.Seat) (seats after : cell.GatheredAt) : Type 0 where
+  pub more : Begins seats.log after.log
+  pub within : Begins (seat_in found).log after.log
+  pub many : after.seats ≡ seats.seats + 1
+  pub made : after.made ≡ seats.made + length (seat_in found).made
+
+pub takes_so : (found : Option cell.Seat) (scanner : cell.Seat) (seats after : cell.GatheredAt) → found ≡ Some scanner → Begins seats.log after.log → Begins scanner.log after.log → after.seats ≡ seats.seats + 1
+    → after.made ≡ seats.made + length scanner.made → Takes found seats after
+takes_so found scanner seats after there more within many made = rw there (record { more = more; within = within; many = many; made = made })
+
+-- it is done with
+pub one_gathered : {L : Type 0} (all left rest : List (Hired L)) (hired : Hired L) (seats after : cell.GatheredAt) (result next_result : Result (Unit {0}) Fault) (name : TableId) (hub next : DrawerAt)
+    → Gathered all left seats result name hub → left ≡ rest ++ hired ∷ []
+    → Takes hired.scanner seats after → next_result ≡ both hired.served result
     → next ≡ drawer_at hub.name (hub.parts + hired.drawer.parts) (hub.drawn + hired.drawer.drawn) (hub.ended + hired.drawer.ended)
-    → Gathered all rest history after name next
-one_gathered {L} all left rest hired told history result after name hub next gathered last more within ends taken =
-    let drawn : HasDrawn name hired = last_drawn name all left rest hired told result hub gathered last in
+    → Gathered all rest after next_result name next
+one_gathered {L} all left rest hired seats after result next_result name hub next gathered last takes ends taken =
+    let drawn : HasDrawn name hired = last_drawn name all left rest hired seats result hub gathered last in
     let parts : next.parts ≡ hub.parts + hired.drawer.parts = ap (λ (d : DrawerAt). d.parts) taken in
     let count : next.drawn ≡ hub.drawn + hired.drawer.drawn = ap (λ (d : DrawerAt). d.drawn) taken in
     let told_none : next.ended ≡ hub.ended + hired.drawer.ended = ap (λ (d : DrawerAt). d.ended) taken in record {
       done = hired ∷ gathered.done;
       whole = gathered.whole ∙ ap (λ (list : List (Hired L)). list ++ gathered.done) last ∙ append_assoc rest (hired ∷ []) gathered.done;
       others = (All-pop (HasDrawn name) left rest (Some hired) last gathered.others).0;
-      within = All-cons (IsWithin history) hired gathered.done within (within_more told history more gathered.done gathered.within);
+      within = All-cons (IsWithin after.log) hired gathered.done takes.within (within_more seats.log after.log takes.more gathered.done gathered.within);
+      many = (let before = gathered.many in let one = takes.many in omega (arith, before, one));
+      made = (let before = gathered.made in let one = takes.made in omega (arith, before, one));
       first = ends ∙ ap (both hired.served) gathered.first;
       named = ap (λ (d : DrawerAt). d.name) taken ∙ gathered.named;
       parts = (let before = gathered.parts in let one = drawn.2 in omega (arith, parts, before, one));
@@ -115,26 +131,29 @@ one_gathered {L} all left rest hired told history result after name hub next gat
           (ends_so name hired gathered.done hub.ended hired.drawer.ended hired.served refl drawn.3 gathered.ended);
     }
 
--- what a worker's seat has seen
-pub sees_so : (found : Option cell.Seat) (scanner : cell.Seat) (history : Log) → found ≡ Some scanner → Begins scanner.log history → Begins (seat_in found).log history
-sees_so found scanner history there within = rw there within
+-- what is known of workers that are all done with
+pub record AllGathered {L : Type 0} (all : List (Hired L)) (seats : cell.GatheredAt) (result : Result (Unit {0}) Fault) : Type 0 where
+  pub first : result ≡ first_fault (map work_of all)
+  pub within : All (IsWithin seats.log) all
+  pub many : seats.seats ≡ length all
+  pub made : seats.made ≡ made_by (map work_of all)
 
-pub all_gathered : {L : Type 0} (all : List (Hired L)) (history : Log) (result : Result (Unit {0}) Fault) (name : TableId) (hub : DrawerAt) → Gathered all [] history result name hub
-    → (result ≡ first_fault (map work_of all)) × All (IsWithin history) all
-all_gathered {L} all history result name hub gathered = rw gathered.whole (gathered.first, gathered.within)
+pub all_gathered : {L : Type 0} (all : List (Hired L)) (seats : cell.GatheredAt) (result : Result (Unit {0}) Fault) (name : TableId) (hub : DrawerAt) → Gathered all [] seats result name hub
+    → AllGathered all seats result
+all_gathered {L} all seats result name hub gathered = rw gathered.whole (record { first = gathered.first; within = gathered.within; many = gathered.many; made = gathered.made })
 
 -- the hub has every part
-pub all_parts : {L : Type 0} (all : List (Hired L)) (history : Log) (result : Result (Unit {0}) Fault) (name : TableId) (hub : DrawerAt) (parts : ℕ) → Gathered all [] history result name hub → parts ≡ length all + 1
+pub all_parts : {L : Type 0} (all : List (Hired L)) (seats : cell.GatheredAt) (result : Result (Unit {0}) Fault) (name : TableId) (hub : DrawerAt) (parts : ℕ) → Gathered all [] seats result name hub → parts ≡ length all + 1
     → hub.parts ≡ parts
-all_parts {L} all history result name hub parts gathered whole =
+all_parts {L} all seats result name hub parts gathered whole =
     let same : length all ≡ length gathered.done = ap length gathered.whole in
     let held = gathered.parts in
     omega (arith, same, held, whole)
 
 -- so all was drawn, or each worker failed
-pub all_drawn : {L : Type 0} (all : List (Hired L)) (history : Log) (result : Result (Unit {0}) Fault) (name : TableId) (hub : DrawerAt) (most : ℕ) → Gathered all [] history result name hub
+pub all_drawn : {L : Type 0} (all : List (Hired L)) (seats : cell.GatheredAt) (result : Result (Unit {0}) Fault) (name : TableId) (hub : DrawerAt) (most : ℕ) → Gathered all [] seats result name hub
     → hub.drawn ≤ most → (0 < hub.ended → hub.drawn ≡ most) → DrawsAll most (map work_of all)
-all_drawn {L} all history result name hub most gathered few none =
+all_drawn {L} all seats result name hub most gathered few none =
     rw gathered.whole (by_end gathered.ended)
   where
     by_end : (0 < hub.ended) ⊎ All (λ work. IsErr work.result) (map work_of gathered.done) → DrawsAll most (map work_of gathered.done)
@@ -186,12 +205,14 @@ all_have_drawn {L} accepts options name olds news items is same each = rw is (dr
 
 pub all_served : {L : Type 0} (accepts : L → Option Ends → L → Type 0) (options : Options) (name : TableId) (most : ℕ) (history : Log) (olds news items : List (Hired L)) (result : Result (Unit {0}) Fault) → items ≡ news → length news ≡ length olds
     → ((i : ℕ) (d : Hired L) → i < length olds → HasWorked accepts options name (slice_index_or olds i d) (slice_index_or news i d))
-    → All (IsWithin history) items → DrawsAll most (map work_of items) → result ≡ first_fault (map work_of items)
+    → (seen : Log) → All (IsWithin seen) items → Begins seen history → length history ≡ made_by (map work_of items)
+    → DrawsAll most (map work_of items) → result ≡ first_fault (map work_of items)
     → ServesSideBySide accepts options most (map state_of olds) result
-all_served {L} accepts options name most history olds news items result is same each within drawn ends = record {
+all_served {L} accepts options name most history olds news items result is same each seen within more made drawn ends = record {
   history = history;
   ends = map work_of items;
-  served = rw is (served_at accepts options name history olds news same each (rw is at within));
+  served = rw is (served_at accepts options name history olds news same each (rw is at (within_more seen history more items within)));
+  made = made;
   drawn = drawn;
   ended = ends;
 }

@@ -75,6 +75,11 @@ abbrev pub drawn_by : {L : Type 0} → List (Work L) → ℕ
 drawn_by [] = 0
 drawn_by (work ∷ others) = work.drawn + drawn_by others
 
+-- how many puts the connections of all of them made
+abbrev pub made_by : {L : Type 0} → List (Work L) → ℕ
+made_by [] = 0
+made_by (work ∷ others) = length work.worker.seat.made + made_by others
+
 -- so many connections were drawn; or fewer, where every worker ended by a fault
 abbrev pub DrawsAll : {L : Type 0} → ℕ → List (Work L) → Type 0
 DrawsAll most works = (drawn_by works ≡ most) ⊎ ((drawn_by works ≤ most) × All (λ work. IsErr work.result) works)
@@ -85,11 +90,13 @@ pub record IsPartOf {L : Type 0} (accepts : L → Option Ends → L → Type 0) 
   pub within : Begins new.worker.seat.log history
 
 -- These workers served side by side, each the connections that it drew, so many in all, and all that their seats have seen is
--- of one history. The result is the first fault of a worker, if one has a fault.
+-- of one history, which has as many puts as their connections made. The result is the first fault of a worker, if one has a
+-- fault.
 pub record ServesSideBySide {L : Type 0} (accepts : L → Option Ends → L → Type 0) (options : Options) (most : ℕ) (workers : List (Worker L)) (result : Result (Unit {0}) Fault) : Type 0 where
   pub history : Log
   pub ends : List (Work L)
   pub served : Pairwise (IsPartOf accepts options history) workers ends
+  pub made : length history ≡ made_by ends
   pub drawn : DrawsAll most ends
   pub ended : result ≡ first_fault ends
 

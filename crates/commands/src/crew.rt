@@ -2,10 +2,9 @@
 
 ghost use Rattle.std.specs.Prelude.{◌≡◌, ◌⊎◌, ◌<◌, ◌+◌, [], All, MatchResult, None, ℕ, length, map, slice_index_or, IfOk};
 ghost use Rattle.scan_base.specs.declared.fault.Fault.TheVariants.{OutOfMemory, Transport};
-ghost use Rattle.flight_core.specs.Log.{Log};
 ghost use Rattle.version_cell.specs.Seats.{seat};
 ghost use Rattle.connection_turns.specs.Drawers as drawers;
-ghost use Rattle.commands.specs.Serve.{DrawsAll, IsFresh, ServesSideBySide, first_fault};
+ghost use Rattle.commands.specs.Serve.{DrawsAll, IsFresh, ServesSideBySide, first_fault, made_by};
 ghost use Rattle.commands.specs.inside.Gathering.{HasDrawn, HasWorked, IsNew, IsWithin, state_of, work_of};
 
 use crate::turns::{Service, serve_in_turn};
@@ -17,7 +16,7 @@ use std::sync::Wait;
 use std::thread;
 use std::thread::Threads;
 use std::time::Clock;
-use version_cell::{CellName, Scanner, SharedPutter, Told};
+use version_cell::{CellName, Gathered, Scanner, SharedPutter};
 
 /// One of those that serve: its listener, its seat of the cell, what it draws by, and what came of its work.
 #[derive(Drop)]
@@ -132,29 +131,37 @@ where
     thread::for_each_mut(rt, workers, threads, &each);
 }
 
-// The first fault of workers that have ended. The longest of the log that was told and those that they have seen is the
-// history of all, and the drawer takes in what they drew.
+// The first fault of workers that have ended, and their seats as one. The drawer takes in what they drew.
 fn first_of<L: Drop, C: CellName>(
     turns: &Turns,
     mut drawer: Drawer,
-    mut told: Told<C>,
+    mut seats: Gathered<C>,
     mut workers: Vec<ServingWorker<L, C>>,
-) -> Result<(), Fault>
+) -> (Result<(), Fault>, Gathered<C>)
     requires parts { turns.now.parts ≡ length workers.items + 1 }
     requires drawer { drawer ≡ drawers.drawer_at turns.now.name 1 0 0 }
     requires worked { All (HasDrawn turns.now.name) workers.items }
-    ensures first { result ≡ first_fault (map work_of workers.items) }
-    ensures within { (history : Log) × All (IsWithin history) workers.items }
+    requires none { (seats.seats ≡ 0) × (seats.made ≡ 0) }
+    ensures first { result.0 ≡ first_fault (map work_of workers.items) }
+    ensures within { All (IsWithin result.1.log) workers.items }
+    ensures many { result.1.seats ≡ length workers.items }
+    ensures made { result.1.made ≡ made_by (map work_of workers.items) }
     ensures drawn { DrawsAll turns.now.most (map work_of workers.items) }
 {
     let mut first = Ok(());
     while let Some(worker) = workers.pop() {
-        told = told.covering(worker.scanner.as_ref().unwrap());
-        first = worker.served.and(first);
-        turns.take_back(&mut drawer, worker.drawer);
+        let Worker {
+            listener: _,
+            scanner,
+            drawer: part,
+            served,
+        } = worker;
+        seats.take(scanner.unwrap());
+        first = served.and(first);
+        turns.take_back(&mut drawer, part);
     }
     turns.learn(&mut drawer);
-    first
+    (first, seats)
 }
 
 /// Serves connections by all workers side by side, until each of them has ended.
@@ -176,10 +183,14 @@ where
     requires parts { crew.now.service.turns.now.parts ≡ length workers.items + 1 }
     requires drawer { drawer ≡ drawers.drawer_at crew.now.service.turns.now.name 1 0 0 }
     requires new { All (IsNew crew.now.service.turns.now.name) workers.items }
+    requires seats { length workers.items ≡ C.parts }
     ensures { ServesSideBySide L.accepts crew.now.service.options crew.now.service.turns.now.most
         (map state_of workers.items) result }
 {
     work_side_by_side(crew.service.rt, crew, workers.as_mut_slice());
-    let told = crew.putter.tell(crew.service.rt);
-    first_of(crew.service.turns, drawer, told, workers)
+    let none = crew.putter.gather(crew.service.rt);
+    let (first, seats) = first_of(crew.service.turns, drawer, none, workers);
+    // The history of all: contracts alone look at it.
+    crew.putter.whole_log(crew.service.rt, seats);
+    first
 }

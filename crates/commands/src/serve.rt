@@ -117,7 +117,8 @@ where
     L: Listen + Drop + Send,
     L::Reader: Send,
     L::Writer: Send,
-    requires cell { (blank.book ≡ C.book) × (blank.seats ≡ serving.seats) }
+    requires cell { (blank.book ≡ C.book) × (blank.ledger ≡ C.name) × (blank.seats ≡ C.parts) }
+    requires seats { blank.seats ≡ serving.seats }
     requires writes { W.failures output.old < 18446744073709551615 }
     ensures { ServesPort L.accepts L.shares serving result network.now
         (said_of (W.contents output.old) (W.failures output.old))

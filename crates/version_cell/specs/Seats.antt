@@ -32,3 +32,13 @@ MayEnter old new = (new.enters ≡ old.enters) ⊎ (new.enters ≡ old.enters + 
 -- no put is made through the seat
 abbrev pub MakesNone : Seat → Seat → Type 0
 MakesNone old new = new.made ≡ old.made
+
+-- Seats that are done with: a log that goes on from all that they had seen, how many they are, and how many puts were made
+-- through them.
+pub record GatheredAt : Type 0 where
+  pub log : Log
+  pub seats : ℕ
+  pub made : ℕ
+
+abbrev pub gathered_at : Log → ℕ → ℕ → GatheredAt
+gathered_at log seats made = record { log = log; seats = seats; made = made }

@@ -7,6 +7,7 @@ ghost use Rattle.version_cell.specs.Seats.{Begins};
 use logbook::{Gain, Offer, Plain, Play, Rule, Seen, Start, Word};
 use std::marker::{Brand, Model};
 use std::snapshot::Snapshot;
+use std::sync::ledger::Ledger;
 use table_versions::Put;
 
 /// A put as the log has it: rows, and no batches. It has no bytes.
@@ -72,8 +73,8 @@ impl Plain<Snapshot<Put>, Entry, u64> for Add {
     ghost state = { λ put. None };
 }
 
-/// Which cell it is. Each call of a program picks it.
-pub trait CellName {
+/// Which cell it is: the book of its log, and the ledger in which its puts are counted. Each call of a program picks it.
+pub trait CellName: Ledger {
     ghost use Rattle.logbook.specs.Pages.{Book};
 
     ghost book: { Book };

@@ -9,20 +9,25 @@ ghost use Rattle.version_cell.specs.Seats.{seat};
 ghost use Rattle.version_cell.specs.Versions.{versions_of};
 
 use crate::book::{CellName, History, Opened};
-use crate::putter::{CellWriter, Putter};
+use crate::publisher::{CellWriter, Publisher};
+use crate::putter::Putter;
 use crate::scanner::Scanner;
 use crate::shown::{Publishes, Store};
+use crate::tally::Tally;
 use hash_seed::HashSeed;
 use scan_base::Fault;
 use std::alloc::Global;
 use std::marker::Model;
-use std::sync::{Arc, Wait};
+use std::sync::ledger::Share;
+use std::sync::{Arc, Wait, ledger};
 use version_index::VersionIndex;
 
-/// A cell of version 0 alone, which has no name yet. Contracts see it as the book of its log, and the number of its seats.
+/// A cell of version 0 alone, which has no name yet. Contracts see it as the book of its log, the ledger of its puts, and the
+/// number of its seats.
 #[derive(Drop)]
 pub struct Blank {
     opened: Opened,
+    ledger: ledger::Blank,
     seats: usize,
     index: Arc<VersionIndex>,
 }
@@ -36,9 +41,9 @@ impl Model for Blank {
 
     ghost Value = { BlankAt };
 
-    ghost view = { λ b. record { book = b.opened.seen.book; seats = b.seats } };
+    ghost view = { λ b. record { book = b.opened.seen.book; ledger = b.ledger.name; seats = b.seats } };
 
-    ghost invariant = { λ b. (0 < b.seats) × (b.seats ≤ most_seats)
+    ghost invariant = { λ b. (0 < b.seats) × (b.seats ≤ most_seats) × (b.ledger.parts ≡ b.seats)
         × (map tables_of (arc_value b.index) ≡ versions_of []) };
 }
 
@@ -56,6 +61,7 @@ pub fn open(alloc: Global, seed: HashSeed, seats: usize) -> Result<Blank, Fault>
     let index = VersionIndex::new(alloc, seed)?;
     Ok(Blank {
         opened: Opened::new(),
+        ledger: ledger::Blank::new(seats as u64),
         seats,
         index: Arc::new(alloc, index)?,
     })
@@ -72,17 +78,20 @@ impl Blank {
         alloc: Global,
         rt: R,
     ) -> Result<(Putter<C, R>, Vec<Scanner<C>>), Fault>
-        requires { self.book ≡ C.book }
+        requires book { self.book ≡ C.book }
+        requires ledger { (self.ledger ≡ C.name) × (self.seats ≡ C.parts) }
         ensures ok { IfOk result (λ cell. (cell.0 ≡ []) × (length cell.1.items ≡ self.seats)
             × All (λ scanner. scanner ≡ seat [] [] 0 []) cell.1.items) }
         ensures err { IfErr result (λ fault. fault ≡ OutOfMemory) }
     {
         let Blank {
             opened,
+            ledger,
             seats,
             index,
         } = self;
         let (head, history) = opened.into_parts();
+        let (book, mut shares) = ledger.open::<C>();
         let store = Store::new(index, history.again());
         let Some(writer) = first_writer::<C>(alloc, store, seats) else {
             return Err(Fault::OutOfMemory);
@@ -90,8 +99,12 @@ impl Blank {
         let Some(writer) = with_room(&rt, writer) else {
             return Err(Fault::OutOfMemory);
         };
-        match seat_all(alloc, &writer, &history, seats) {
-            Some(scanners) => Ok((Putter::new(head, writer, rt), scanners)),
+        match seat_all(alloc, &writer, &history, &mut shares, seats) {
+            Some(scanners) => {
+                let publisher = Publisher::new(head, writer, rt);
+                let tally = Tally::new(book, shares);
+                Ok((Putter::new(publisher, tally), scanners))
+            }
             None => {
                 drop(writer.take(&rt));
                 Err(Fault::OutOfMemory)
@@ -136,20 +149,22 @@ fn with_room<C: CellName, R: Wait>(rt: &R, writer: CellWriter<C>) -> Option<Cell
     Some(writer)
 }
 
-// So many seats of what the writer shows.
+// So many seats of what the writer shows, each with a part of the shares.
 fn seat_all<C: CellName>(
     alloc: Global,
     writer: &CellWriter<C>,
     history: &History,
+    shares: &mut Share<C>,
     seats: usize,
 ) -> Option<Vec<Scanner<C>>>
-    requires { history.now.seen.book ≡ C.book }
+    requires book { history.now.seen.book ≡ C.book }
+    requires shares { (shares.old.parts ≡ seats) × (shares.old.amount ≡ 0) }
     ensures { IfSome result (λ all. (length all.items ≡ seats)
         × All (λ scanner. scanner ≡ seat history.now.seen.log [] 0 []) all.items) }
 {
     let mut scanners = Vec::new(alloc);
     for _ in 0..seats {
-        let scanner = Scanner::new(writer, history)?;
+        let scanner = Scanner::new(writer, history, shares.split_off(1, 0))?;
         scanners.push(scanner).ok()?;
     }
     Some(scanners)

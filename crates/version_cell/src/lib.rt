@@ -3,16 +3,21 @@
 
 mod book;
 pub mod cell;
+pub mod gathered;
 mod made;
+mod publisher;
 pub mod putter;
 pub mod scanner;
 pub mod shared;
 mod shown;
+mod tally;
 pub mod told;
 
 pub use crate::book::CellName;
 pub use crate::cell::{Blank, open};
-pub use crate::putter::{Putter, Receipt};
+pub use crate::gathered::Gathered;
+pub use crate::publisher::Receipt;
+pub use crate::putter::Putter;
 pub use crate::scanner::Scanner;
 pub use crate::shared::SharedPutter;
 pub use crate::told::Told;

@@ -8,12 +8,14 @@ ghost use Rattle.version_cell.specs.Seats.{seat, Begins, EntersOnce, MakesNone, 
 
 use crate::book::{CellName, History};
 use crate::made::{Made, none_made, one_more};
-use crate::putter::CellWriter;
+use crate::publisher::CellWriter;
 use crate::shown::{Entered, Enters, Shown, Store};
+use crate::tally::Tally;
 use crate::told::Told;
 use left_right::reader::Reader;
 use scan_base::Fault;
 use std::marker::Model;
+use std::sync::ledger::Share;
 use std::{mem, snapshot};
 use table_versions::{Put, Snapshot};
 
@@ -26,10 +28,12 @@ pub struct Scanner<C: CellName> {
     history: History,
     reader: Option<CellReader<C>>,
     made: snapshot::Snapshot<Made>,
+    // Each of these puts is counted in it.
+    share: Share<C>,
 }
 
 impl<C: CellName> Model for Scanner<C> {
-    ghost use Rattle.std.specs.Prelude.{◌≡◌, [], IsSome};
+    ghost use Rattle.std.specs.Prelude.{◌≡◌, [], length, IsSome};
     ghost use Rattle.version_cell.specs.Rules.{read_or};
     ghost use Rattle.version_cell.specs.Seats.{Seat, seat};
 
@@ -38,13 +42,19 @@ impl<C: CellName> Model for Scanner<C> {
     ghost view = { λ s. seat s.history.seen.log (read_or [] (λ reader. reader.place.me.0.client.log) s.reader)
         (read_or 0 (λ reader. reader.place.me.0.client.enters) s.reader) s.made.value.puts };
 
-    ghost invariant = { λ s. (s.history.seen.book ≡ C.book) × IsSome s.reader };
+    ghost invariant = { λ s. (s.history.seen.book ≡ C.book) × IsSome s.reader
+        × (s.share.parts ≡ 1) × (s.share.amount ≡ length s.made.value.puts) };
 }
 
 impl<C: CellName> Scanner<C> {
-    // A seat of what the writer shows, which has seen this log.
-    pub(crate) fn new(writer: &CellWriter<C>, history: &History) -> Option<Scanner<C>>
-        requires { history.now.seen.book ≡ C.book }
+    // A seat of what the writer shows, which has seen this log, and a share of what is counted.
+    pub(crate) fn new(
+        writer: &CellWriter<C>,
+        history: &History,
+        share: Share<C>,
+    ) -> Option<Scanner<C>>
+        requires book { history.now.seen.book ≡ C.book }
+        requires share { (share.parts ≡ 1) × (share.amount ≡ 0) }
         ensures { IfSome result (λ s. s ≡ seat history.now.seen.log [] 0 []) }
     {
         let reader = writer.factory().reader().ok()?;
@@ -52,6 +62,7 @@ impl<C: CellName> Scanner<C> {
             history: history.again(),
             reader: Some(reader),
             made: none_made(),
+            share,
         })
     }
 
@@ -150,11 +161,26 @@ impl<C: CellName> Scanner<C> {
         }
     }
 
-    // One put more was made through the seat.
-    pub(crate) fn count_made(&mut self, put: snapshot::Snapshot<Put>)
-        ensures { self.new ≡ seat self.old.log self.old.entered self.old.enters (self.old.made ++ put_of put.value ∷ []) }
+    // One put more was made through the seat, and is counted.
+    pub(crate) fn count_made(&mut self, tally: &mut Tally<C>, put: snapshot::Snapshot<Put>)
+        ensures tally { tally.new ≡ tally.old + 1 }
+        ensures made { self.new ≡ seat self.old.log self.old.entered self.old.enters (self.old.made ++ put_of put.value ∷ []) }
     {
         let before = mem::replace(&mut self.made, none_made());
         self.made = one_more(before, put);
+        tally.count(&mut self.share);
+    }
+
+    // The share of a seat that is done with.
+    pub(crate) fn into_share(self) -> Share<C>
+        ensures { (result.parts ≡ 1) × (result.amount ≡ length self.made) }
+    {
+        let Scanner {
+            history: _,
+            reader: _,
+            made: _,
+            share,
+        } = self;
+        share
     }
 }

@@ -1,10 +1,9 @@
 //! What one thread tells another of the log.
 
-ghost use Rattle.std.specs.Prelude.{◌≡◌, ◌⊎◌, length};
+ghost use Rattle.std.specs.Prelude.{◌≡◌, length, MatchBool};
 ghost use Rattle.version_cell.specs.Seats.{Begins};
 
 use crate::book::{CellName, History};
-use crate::scanner::Scanner;
 use std::marker::{Model, PhantomData};
 
 /// A log that was reached. Contracts see it as that log.
@@ -50,15 +49,10 @@ impl<C: CellName> Told<C> {
         self.history.len()
     }
 
-    /// The longer of this log and what a seat has seen: it begins with both.
-    pub fn covering(self, seat: &Scanner<C>) -> Told<C>
-        ensures told { Begins self result }
-        ensures seen { Begins seat.now.log result }
-        ensures longer { (result ≡ self) ⊎ (result ≡ seat.now.log) }
+    // Whether the other has no fewer puts. It then begins with this.
+    pub(crate) fn is_within(&self, other: &Told<C>) -> bool
+        ensures { MatchBool result (Begins self.now other.now) (Begins other.now self.now) }
     {
-        if seat.is_within(&self) {
-            return self;
-        }
-        seat.tell()
+        self.history.begins(&other.history)
     }
 }

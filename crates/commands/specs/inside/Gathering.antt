@@ -11,7 +11,7 @@ use Rattle.shared_calls.specs.Sharing.{onward, seat_at}
 use Rattle.connection_turns.specs.Drawers.{DrawerAt, drawer_at}
 use Rattle.command_ends.specs.Network.{Ends}
 use Rattle.commands.specs.declared.crew.Worker as declared
-use Rattle.commands.specs.Serve.{Work, Worker, IsFresh, ServesUpTo, drawn_by, first_fault, worker_of}
+use Rattle.commands.specs.Serve.{Work, Worker, IsFresh, ServesUpTo, drawn_by, first_fault, made_by, worker_of}
 
 -- a worker's seat of the cell, which is always there between two connections
 abbrev pub seat_in : Option cell.Seat → Seat
@@ -45,12 +45,14 @@ pub record HasWorked {L : Type 0} (accepts : L → Option Ends → L → Type 0)
 abbrev pub IsWithin : {L : Type 0} → Log → Hired L → Type 0
 IsWithin history hired = Begins (seat_in hired.scanner).log history
 
--- those behind the ones that are left have been looked at, and the hub has all that they drew
-pub record Gathered {L : Type 0} (all left : List (Hired L)) (history : Log) (result : Result (Unit {0}) Fault) (name : TableId) (hub : DrawerAt) : Type 0 where
+-- those behind the ones that are left are done with: their seats are taken in, and the hub has all that they drew
+pub record Gathered {L : Type 0} (all left : List (Hired L)) (seats : cell.GatheredAt) (result : Result (Unit {0}) Fault) (name : TableId) (hub : DrawerAt) : Type 0 where
   pub done : List (Hired L)
   pub whole : all ≡ left ++ done
   pub others : All (HasDrawn name) left
-  pub within : All (IsWithin history) done
+  pub within : All (IsWithin seats.log) done
+  pub many : seats.seats ≡ length done
+  pub made : seats.made ≡ made_by (map work_of done)
   pub first : result ≡ first_fault (map work_of done)
   pub named : hub.name ≡ name
   pub parts : hub.parts ≡ length done + 1

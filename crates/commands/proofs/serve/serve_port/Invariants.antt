@@ -1,5 +1,8 @@
 use Rattle.commands.proofs.serve.serve_port.Given as goal
 
 -- the cell that was just opened
-abbrev pub ghosts-serve_cell : goal.ghosts-serve_cell
-ghosts-serve_cell g a = record { book = a.blank.book }
+abbrev pub ghosts-serve_cell-C-CellName : goal.ghosts-serve_cell-C-CellName
+ghosts-serve_cell-C-CellName g a = record { book = a.blank.book }
+
+abbrev pub ghosts-serve_cell-C-Ledger : goal.ghosts-serve_cell-C-Ledger
+ghosts-serve_cell-C-Ledger g a = record { name = a.blank.ledger; parts = a.blank.seats }

@@ -1,5 +1,5 @@
 use Rattle.std.proofs.Common.{◌≡◌}
-use Rattle.version_cell.proofs.shared.SharedPutter.put_and_learn.Given as goal
+use Rattle.version_cell.proofs.shared.SharedPutter.put.Given as goal
 
 abbrev pub invariant-loop : goal.invariant-loop
 invariant-loop g l =

@@ -4,7 +4,7 @@ use Rattle.scan_base.specs.Limits.{most_commits}
 use Rattle.table_versions.specs.Stored.{put_of}
 use Rattle.version_cell.specs.Puts.{after_log}
 use Rattle.version_cell.proofs.Versions.{few_accepted, first_for, none_first}
-use Rattle.version_cell.proofs.putter.Putter.next.Goals as goal
+use Rattle.version_cell.proofs.publisher.Publisher.next.Goals as goal
 
 pub returns-in_err-index-clause-first : goal.returns-in_err-index-clause-first
 returns-in_err-index-clause-first g c =

@@ -1,5 +1,5 @@
 use Rattle.std.proofs.Common.{◌≡◌, drop}
-use Rattle.version_cell.proofs.putter.show.Given as goal
+use Rattle.version_cell.proofs.publisher.show.Given as goal
 
 abbrev pub invariant-loop : goal.invariant-loop
 invariant-loop g l =

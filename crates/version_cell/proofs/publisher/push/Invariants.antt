@@ -1,5 +1,5 @@
 use Rattle.std.proofs.Common.{◌≡◌, drop}
-use Rattle.version_cell.proofs.putter.push.Given as goal
+use Rattle.version_cell.proofs.publisher.push.Given as goal
 
 abbrev pub invariant-loop : goal.invariant-loop
 invariant-loop g l =

@@ -1,7 +1,7 @@
 use Rattle.std.proofs.Common.{rules}
 use Rattle.std.proofs.lemmas.Result.{err_from_is_err_and}
 use Rattle.version_cell.proofs.Answering.{accepted_so, refused_so}
-use Rattle.version_cell.proofs.shared.SharedPutter.put.Goals as goal
+use Rattle.version_cell.proofs.shared.Counting.put.Goals as goal
 
 pub returns-in_err-receipt-clause-put : goal.returns-in_err-receipt-clause-put
 returns-in_err-receipt-clause-put g c =
