@@ -1,6 +1,6 @@
 //! A cell in one thread.
 
-ghost use Rattle.std.specs.Prelude.{◌≡◌};
+ghost use Rattle.version_cell.specs.Blanks.{IsNamed};
 
 use crate::rows::one_row;
 use hash_seed::HashSeed;
@@ -19,7 +19,7 @@ fn refusals(rt: HostRuntime) -> Result<(), Fail> {
 }
 
 fn refuses<C: CellName, R: Wait + Abort>(rt: &R, alloc: Global, blank: Blank) -> Result<(), Fail>
-    requires { blank.book ≡ C.book }
+    requires { IsNamed blank C.book C.name C.parts }
 {
     let (mut putter, mut seats) = blank.named::<C, &R>(alloc, rt)?;
     let Some(mut seat) = seats.pop() else {

@@ -1,6 +1,6 @@
 //! A cell that several threads share.
 
-ghost use Rattle.std.specs.Prelude.{◌≡◌};
+ghost use Rattle.version_cell.specs.Blanks.{IsNamed};
 
 use crate::rows::{one_row, rows_of};
 use hash_seed::HashSeed;
@@ -84,7 +84,7 @@ fn looked_at_by_two<C: CellName + Send + Sync, R: Threads + Wait + Abort + Sync>
     alloc: Global,
     blank: Blank,
 ) -> Result<(), Fail>
-    requires { blank.book ≡ C.book }
+    requires { IsNamed blank C.book C.name C.parts }
 {
     let (mut putter, mut seats) = blank.named::<C, &R>(alloc, rt)?;
     let (Some(mut one), Some(mut two)) = (seats.pop(), seats.pop()) else {
@@ -114,7 +114,7 @@ fn seen_unasked<C: CellName + Send + Sync, R: Threads + Wait + Abort + Sync>(
     alloc: Global,
     blank: Blank,
 ) -> Result<(), Fail>
-    requires { blank.book ≡ C.book }
+    requires { IsNamed blank C.book C.name C.parts }
 {
     let (mut putter, mut seats) = blank.named::<C, &R>(alloc, rt)?;
     let Some(mut seat) = seats.pop() else {
@@ -192,7 +192,7 @@ fn put_by_two<C: CellName + Send + Sync, R: Threads + Wait + Abort + Sync>(
     alloc: Global,
     blank: Blank,
 ) -> Result<(), Fail>
-    requires { blank.book ≡ C.book }
+    requires { IsNamed blank C.book C.name C.parts }
 {
     let (putter, mut seats) = blank.named::<C, &R>(alloc, rt)?;
     let putting = Putting {

@@ -1,34 +1,17 @@
-//! What one seat tells another.
+//! What one seat tells another, and what all have seen in the end.
 
 ghost use Rattle.std.specs.Prelude.{◌≡◌};
+ghost use Rattle.version_cell.specs.Blanks.{IsNamed};
 
 use crate::rows::one_row;
 use hash_seed::HashSeed;
-use scan_base::Fault;
 use std::alloc::Global;
 use std::process::Abort;
 use std::sync::Wait;
 use std::test::Fail;
-use version_cell::{Blank, Brand, CellName, Putter, Scanner, open};
+use version_cell::{Blank, Brand, CellName, SharedPutter, open};
 
-// The numbers of what the first tells, of what it tells so that it covers the second, and the other way round.
-fn numbers<C: CellName>(first: &Scanner<C>, second: &Scanner<C>) -> (u64, u64, u64) {
-    (
-        first.tell().number(),
-        first.tell().covering(second).number(),
-        second.tell().covering(first).number(),
-    )
-}
-
-// The number of a put of one row.
-fn put_one<C: CellName, R: Wait + Drop>(
-    alloc: Global,
-    putter: &mut Putter<C, R>,
-) -> Result<u64, Fault> {
-    Ok(putter.put(alloc, one_row(alloc, "t")?)?.number)
-}
-
-// One of two seats has seen a put, and the other is told of it.
+// A put is made through one of two seats, and the other is told of it.
 #[test]
 fn one_seat_tells_another(rt: HostRuntime) -> Result<(), Fail> {
     let blank = open(rt.alloc(), HashSeed::new(&rt)?, 2)?;
@@ -40,19 +23,23 @@ fn told_by_another<C: CellName, R: Wait + Abort>(
     alloc: Global,
     blank: Blank,
 ) -> Result<(), Fail>
-    requires { blank.book ≡ C.book }
+    requires cell { IsNamed blank C.book C.name C.parts }
+    requires seats { blank.seats ≡ 2 }
 {
-    let (mut putter, mut seats) = blank.named::<C, &R>(alloc, rt)?;
+    let (putter, mut seats) = blank.named::<C, &R>(alloc, rt)?;
+    let shared = SharedPutter::new(putter);
     let (Some(mut ahead), Some(mut behind)) = (seats.pop(), seats.pop()) else {
-        drop(putter);
         return Err(Fail::from("two seats"));
     };
-    let put = put_one(alloc, &mut putter);
-    let seen = ahead.current().map(|version| version.number());
-    let before = (numbers(&ahead, &behind), numbers(&behind, &ahead));
+    let put = shared.put(rt, alloc, &mut ahead, one_row(alloc, "t")?);
+    let before = (ahead.tell().number(), behind.tell().number());
     behind.learn(&ahead.tell());
-    let after = numbers(&behind, &ahead);
-    assert!(rt; put == Ok(1) && seen == Ok(1));
-    assert!(rt; before == ((1, 1, 1), (0, 1, 1)) && after == (1, 1, 1));
+    let after = behind.tell().number();
+    let mut all = shared.gather(rt);
+    all.take(ahead);
+    all.take(behind);
+    let whole = shared.whole_log(rt, all);
+    assert!(rt; put == Ok(1) && before == (1, 0));
+    assert!(rt; after == 1 && whole.number() == 1);
     Ok(())
 }

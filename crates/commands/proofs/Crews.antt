@@ -19,10 +19,10 @@ use Rattle.command_line.specs.declared.request.Serving.{Serving}
 use Rattle.command_ends.specs.Network.{Ends}
 use Rattle.command_ends.specs.Printing.{Said, listening_line}
 use Rattle.commands.specs.Serve.{DrawsAll, Worker, Work, IsPartOf, IsFresh, IsServed, ServesPort, ServesSideBySide, ServesUpTo, both, drawn_by, first_fault, made_by, most_of, options_of, worker_of}
-use Rattle.commands.specs.inside.Gathering.{Begun, Gathered, HasDrawn, HasWorked, Hired, IsNew, IsWithin, seat_in, state_of, work_of}
+use Rattle.commands.specs.inside.Gathering.{Begun, Gathered, HasDrawn, HasWorked, HiredWorker, IsNew, IsWithin, seat_in, state_of, work_of}
 
 -- all that is of a history is of one that goes on from it
-within_more : {L : Type 0} (told history : Log) → Begins told history → (all : List (Hired L)) → All (IsWithin told) all → All (IsWithin history) all
+within_more : {L : Type 0} (told history : Log) → Begins told history → (all : List (HiredWorker L)) → All (IsWithin told) all → All (IsWithin history) all
 within_more {L} told history more [] parts = All-nil (IsWithin history)
 within_more {L} told history more (hired ∷ all) parts =
     All-cons (IsWithin history) hired all
@@ -35,20 +35,20 @@ pub none_begun : {L : Type 0} (shares : L → Option L → Type 0) (heard : L) (
     → Begun shares heard name hub [] left (length left)
 none_begun {L} shares heard name hub left seats parts = record {
   counted = omega arith;
-  fresh = All-nil (λ (hired : Hired L). IsFresh shares heard (state_of hired));
+  fresh = All-nil (λ (hired : HiredWorker L). IsFresh shares heard (state_of hired));
   new = All-nil (IsNew name);
   seats = seats;
   parts = parts;
 }
 
 -- a worker for one seat more
-pub one_begins : {L : Type 0} (shares : L → Option L → Type 0) (heard listener : L) (name : TableId) (hub after other : DrawerAt) (workers more : List (Hired L)) (scanner : cell.Seat) (left rest : List cell.Seat) (count : ℕ)
+pub one_begins : {L : Type 0} (shares : L → Option L → Type 0) (heard listener : L) (name : TableId) (hub after other : DrawerAt) (workers more : List (HiredWorker L)) (scanner : cell.Seat) (left rest : List cell.Seat) (count : ℕ)
     → Begun shares heard name hub workers left count → left ≡ scanner ∷ rest → shares heard (Some listener)
     → after ≡ drawer_at hub.name (hub.parts - 1) hub.drawn hub.ended → other ≡ drawer_at hub.name 1 0 0
     → more ≡ workers ++ record { listener = listener; scanner = Some scanner; drawer = other; served = Ok tt } ∷ []
     → Begun shares heard name after more rest count
 one_begins {L} shares heard listener name hub after other workers more scanner left rest count so next shared cut part pushed =
-    let hired : Hired L = record { listener = listener; scanner = Some scanner; drawer = other; served = Ok tt } in
+    let hired : HiredWorker L = record { listener = listener; scanner = Some scanner; drawer = other; served = Ok tt } in
     let here : All (λ found. found ≡ cell.seat [] [] 0 []) (scanner ∷ rest) = rw next at so.seats in
     let fresh : scanner ≡ cell.seat [] [] 0 [] = All-head (λ found. found ≡ cell.seat [] [] 0 []) scanner rest here in
     let longer : length more ≡ length workers + 1 = rw pushed (length-append workers (hired ∷ [])) in
@@ -57,7 +57,7 @@ one_begins {L} shares heard listener name hub after other workers more scanner l
     let one_less : suc (length rest) + 1 - 1 ≡ length rest + 1 = omega arith in
     let new : other ≡ drawer_at name 1 0 0 = rw held at part in record {
       counted = omega (arith, longer, counted);
-      fresh = rw pushed (All-push (λ (worker : Hired L). IsFresh shares heard (state_of worker)) workers hired so.fresh (shared, ap seat_at fresh));
+      fresh = rw pushed (All-push (λ (worker : HiredWorker L). IsFresh shares heard (state_of worker)) workers hired so.fresh (shared, ap seat_at fresh));
       new = rw pushed (All-push (IsNew name) workers hired so.new (refl, new));
       seats = All-tail (λ found. found ≡ cell.seat [] [] 0 []) scanner rest here;
       parts = (rw held at cut) ∙ ap (λ (n : ℕ). drawer_at name n 0 0) one_less;
@@ -65,7 +65,7 @@ one_begins {L} shares heard listener name hub after other workers more scanner l
 
 -- ---- workers that have ended
 
-pub none_gathered : {L : Type 0} (all : List (Hired L)) (seats : cell.GatheredAt) (name : TableId) (hub : DrawerAt) → seats.seats ≡ 0 → seats.made ≡ 0 → hub ≡ drawer_at name 1 0 0 → All (HasDrawn name) all
+pub none_gathered : {L : Type 0} (all : List (HiredWorker L)) (seats : cell.GatheredAt) (name : TableId) (hub : DrawerAt) → seats.seats ≡ 0 → seats.made ≡ 0 → hub ≡ drawer_at name 1 0 0 → All (HasDrawn name) all
     → Gathered all all seats (Ok tt) name hub
 none_gathered {L} all seats name hub none made is drawn = record {
   done = [];
@@ -82,7 +82,7 @@ none_gathered {L} all seats name hub none made is drawn = record {
 }
 
 -- one that ended well was told that none is left
-ends_so : {L : Type 0} (name : TableId) (hired : Hired L) (done : List (Hired L)) (before more : ℕ) (result : Result (Unit {0}) Fault) → result ≡ hired.served → IfOk result (λ _. 0 < more)
+ends_so : {L : Type 0} (name : TableId) (hired : HiredWorker L) (done : List (HiredWorker L)) (before more : ℕ) (result : Result (Unit {0}) Fault) → result ≡ hired.served → IfOk result (λ _. 0 < more)
     → (0 < before) ⊎ All (λ work. IsErr work.result) (map work_of done) → (0 < before + more) ⊎ All (λ work. IsErr work.result) (map work_of (hired ∷ done))
 ends_so {L} name hired done before more (Ok good) is none (inl some) = inl (omega (arith, some))
 ends_so {L} name hired done before more (Ok good) is none (inr failed) = inl (omega (arith, none))
@@ -91,7 +91,7 @@ ends_so {L} name hired done before more (Err fault) is none (inr failed) =
     inr (All-cons (λ (work : Work L). IsErr work.result) (work_of hired) (map work_of done) (rw (← is) refl) failed)
 
 -- the last one of those that are left has drawn, by the same word
-pub last_drawn : {L : Type 0} (name : TableId) (all left rest : List (Hired L)) (hired : Hired L) (seats : cell.GatheredAt) (result : Result (Unit {0}) Fault) (hub : DrawerAt)
+pub last_drawn : {L : Type 0} (name : TableId) (all left rest : List (HiredWorker L)) (hired : HiredWorker L) (seats : cell.GatheredAt) (result : Result (Unit {0}) Fault) (hub : DrawerAt)
     → Gathered all left seats result name hub → left ≡ rest ++ hired ∷ [] → HasDrawn name hired
 last_drawn {L} name all left rest hired seats result hub gathered last = (All-pop (HasDrawn name) left rest (Some hired) last gathered.others).1
 
@@ -107,7 +107,7 @@ pub takes_so : (found : Option cell.Seat) (scanner : cell.Seat) (seats after : c
 takes_so found scanner seats after there more within many made = rw there (record { more = more; within = within; many = many; made = made })
 
 -- it is done with
-pub one_gathered : {L : Type 0} (all left rest : List (Hired L)) (hired : Hired L) (seats after : cell.GatheredAt) (result next_result : Result (Unit {0}) Fault) (name : TableId) (hub next : DrawerAt)
+pub one_gathered : {L : Type 0} (all left rest : List (HiredWorker L)) (hired : HiredWorker L) (seats after : cell.GatheredAt) (result next_result : Result (Unit {0}) Fault) (name : TableId) (hub next : DrawerAt)
     → Gathered all left seats result name hub → left ≡ rest ++ hired ∷ []
     → Takes hired.scanner seats after → next_result ≡ both hired.served result
     → next ≡ drawer_at hub.name (hub.parts + hired.drawer.parts) (hub.drawn + hired.drawer.drawn) (hub.ended + hired.drawer.ended)
@@ -118,7 +118,7 @@ one_gathered {L} all left rest hired seats after result next_result name hub nex
     let count : next.drawn ≡ hub.drawn + hired.drawer.drawn = ap (λ (d : DrawerAt). d.drawn) taken in
     let told_none : next.ended ≡ hub.ended + hired.drawer.ended = ap (λ (d : DrawerAt). d.ended) taken in record {
       done = hired ∷ gathered.done;
-      whole = gathered.whole ∙ ap (λ (list : List (Hired L)). list ++ gathered.done) last ∙ append_assoc rest (hired ∷ []) gathered.done;
+      whole = gathered.whole ∙ ap (λ (list : List (HiredWorker L)). list ++ gathered.done) last ∙ append_assoc rest (hired ∷ []) gathered.done;
       others = (All-pop (HasDrawn name) left rest (Some hired) last gathered.others).0;
       within = All-cons (IsWithin after.log) hired gathered.done takes.within (within_more seats.log after.log takes.more gathered.done gathered.within);
       many = (let before = gathered.many in let one = takes.many in omega (arith, before, one));
@@ -132,18 +132,18 @@ one_gathered {L} all left rest hired seats after result next_result name hub nex
     }
 
 -- what is known of workers that are all done with
-pub record AllGathered {L : Type 0} (all : List (Hired L)) (seats : cell.GatheredAt) (result : Result (Unit {0}) Fault) : Type 0 where
+pub record AllGathered {L : Type 0} (all : List (HiredWorker L)) (seats : cell.GatheredAt) (result : Result (Unit {0}) Fault) : Type 0 where
   pub first : result ≡ first_fault (map work_of all)
   pub within : All (IsWithin seats.log) all
   pub many : seats.seats ≡ length all
   pub made : seats.made ≡ made_by (map work_of all)
 
-pub all_gathered : {L : Type 0} (all : List (Hired L)) (seats : cell.GatheredAt) (result : Result (Unit {0}) Fault) (name : TableId) (hub : DrawerAt) → Gathered all [] seats result name hub
+pub all_gathered : {L : Type 0} (all : List (HiredWorker L)) (seats : cell.GatheredAt) (result : Result (Unit {0}) Fault) (name : TableId) (hub : DrawerAt) → Gathered all [] seats result name hub
     → AllGathered all seats result
 all_gathered {L} all seats result name hub gathered = rw gathered.whole (record { first = gathered.first; within = gathered.within; many = gathered.many; made = gathered.made })
 
 -- the hub has every part
-pub all_parts : {L : Type 0} (all : List (Hired L)) (seats : cell.GatheredAt) (result : Result (Unit {0}) Fault) (name : TableId) (hub : DrawerAt) (parts : ℕ) → Gathered all [] seats result name hub → parts ≡ length all + 1
+pub all_parts : {L : Type 0} (all : List (HiredWorker L)) (seats : cell.GatheredAt) (result : Result (Unit {0}) Fault) (name : TableId) (hub : DrawerAt) (parts : ℕ) → Gathered all [] seats result name hub → parts ≡ length all + 1
     → hub.parts ≡ parts
 all_parts {L} all seats result name hub parts gathered whole =
     let same : length all ≡ length gathered.done = ap length gathered.whole in
@@ -151,7 +151,7 @@ all_parts {L} all seats result name hub parts gathered whole =
     omega (arith, same, held, whole)
 
 -- so all was drawn, or each worker failed
-pub all_drawn : {L : Type 0} (all : List (Hired L)) (seats : cell.GatheredAt) (result : Result (Unit {0}) Fault) (name : TableId) (hub : DrawerAt) (most : ℕ) → Gathered all [] seats result name hub
+pub all_drawn : {L : Type 0} (all : List (HiredWorker L)) (seats : cell.GatheredAt) (result : Result (Unit {0}) Fault) (name : TableId) (hub : DrawerAt) (most : ℕ) → Gathered all [] seats result name hub
     → hub.drawn ≤ most → (0 < hub.ended → hub.drawn ≡ most) → DrawsAll most (map work_of all)
 all_drawn {L} all seats result name hub most gathered few none =
     rw gathered.whole (by_end gathered.ended)
@@ -163,8 +163,8 @@ all_drawn {L} all seats result name hub most gathered few none =
 -- ---- what all did
 
 -- items at the same places, one by one
-served_at : {L : Type 0} (accepts : L → Option Ends → L → Type 0) (options : Options) (name : TableId) (history : Log) (olds news : List (Hired L)) → length news ≡ length olds
-    → ((i : ℕ) (d : Hired L) → i < length olds → HasWorked accepts options name (slice_index_or olds i d) (slice_index_or news i d))
+served_at : {L : Type 0} (accepts : L → Option Ends → L → Type 0) (options : Options) (name : TableId) (history : Log) (olds news : List (HiredWorker L)) → length news ≡ length olds
+    → ((i : ℕ) (d : HiredWorker L) → i < length olds → HasWorked accepts options name (slice_index_or olds i d) (slice_index_or news i d))
     → All (IsWithin history) news → Pairwise (IsPartOf accepts options history) (map state_of olds) (map work_of news)
 served_at {L} accepts options name history [] [] same each within = tt
 served_at {L} accepts options name history [] (new ∷ news) same each within = absurd (cc same)
@@ -176,8 +176,8 @@ served_at {L} accepts options name history (old ∷ olds) (new ∷ news) same ea
           (All-tail (IsWithin history) new news within),
     )
 
-drawn_at : {L : Type 0} (accepts : L → Option Ends → L → Type 0) (options : Options) (name : TableId) (olds news : List (Hired L)) → length news ≡ length olds
-    → ((i : ℕ) (d : Hired L) → i < length olds → HasWorked accepts options name (slice_index_or olds i d) (slice_index_or news i d))
+drawn_at : {L : Type 0} (accepts : L → Option Ends → L → Type 0) (options : Options) (name : TableId) (olds news : List (HiredWorker L)) → length news ≡ length olds
+    → ((i : ℕ) (d : HiredWorker L) → i < length olds → HasWorked accepts options name (slice_index_or olds i d) (slice_index_or news i d))
     → All (HasDrawn name) news
 drawn_at {L} accepts options name [] [] same each = All-nil (HasDrawn name)
 drawn_at {L} accepts options name [] (new ∷ news) same each = absurd (cc same)
@@ -198,13 +198,13 @@ written_whole (old ∷ olds) (new ∷ news) same = ap (λ list. new ∷ list) (w
 pub written : {X : Type 0} (olds news : List X) (count : ℕ) → count ≡ length olds → length news ≡ length olds → take count (news ++ drop (length news) olds) ≡ news
 written olds news count all same = rw all (written_whole olds news same)
 
-pub all_have_drawn : {L : Type 0} (accepts : L → Option Ends → L → Type 0) (options : Options) (name : TableId) (olds news items : List (Hired L)) → items ≡ news → length news ≡ length olds
-    → ((i : ℕ) (d : Hired L) → i < length olds → HasWorked accepts options name (slice_index_or olds i d) (slice_index_or news i d))
+pub all_have_drawn : {L : Type 0} (accepts : L → Option Ends → L → Type 0) (options : Options) (name : TableId) (olds news items : List (HiredWorker L)) → items ≡ news → length news ≡ length olds
+    → ((i : ℕ) (d : HiredWorker L) → i < length olds → HasWorked accepts options name (slice_index_or olds i d) (slice_index_or news i d))
     → All (HasDrawn name) items
 all_have_drawn {L} accepts options name olds news items is same each = rw is (drawn_at accepts options name olds news same each)
 
-pub all_served : {L : Type 0} (accepts : L → Option Ends → L → Type 0) (options : Options) (name : TableId) (most : ℕ) (history : Log) (olds news items : List (Hired L)) (result : Result (Unit {0}) Fault) → items ≡ news → length news ≡ length olds
-    → ((i : ℕ) (d : Hired L) → i < length olds → HasWorked accepts options name (slice_index_or olds i d) (slice_index_or news i d))
+pub all_served : {L : Type 0} (accepts : L → Option Ends → L → Type 0) (options : Options) (name : TableId) (most : ℕ) (history : Log) (olds news items : List (HiredWorker L)) (result : Result (Unit {0}) Fault) → items ≡ news → length news ≡ length olds
+    → ((i : ℕ) (d : HiredWorker L) → i < length olds → HasWorked accepts options name (slice_index_or olds i d) (slice_index_or news i d))
     → (seen : Log) → All (IsWithin seen) items → Begins seen history → length history ≡ made_by (map work_of items)
     → DrawsAll most (map work_of items) → result ≡ first_fault (map work_of items)
     → ServesSideBySide accepts options most (map state_of olds) result
@@ -219,20 +219,20 @@ all_served {L} accepts options name most history olds news items result is same 
 
 -- ---- the port
 
-fresh_workers : {L : Type 0} (shares : L → Option L → Type 0) (heard : L) (all : List (Hired L)) → All (λ hired. IsFresh shares heard (state_of hired)) all
+fresh_workers : {L : Type 0} (shares : L → Option L → Type 0) (heard : L) (all : List (HiredWorker L)) → All (λ hired. IsFresh shares heard (state_of hired)) all
     → All (IsFresh shares heard) (map state_of all)
 fresh_workers {L} shares heard [] fresh = All-nil (IsFresh shares heard)
 fresh_workers {L} shares heard (hired ∷ all) fresh =
     All-cons (IsFresh shares heard) (state_of hired) (map state_of all)
-    (All-head (λ (h : Hired L). IsFresh shares heard (state_of h)) hired all fresh)
-    (fresh_workers shares heard all (All-tail (λ (h : Hired L). IsFresh shares heard (state_of h)) hired all fresh))
+    (All-head (λ (h : HiredWorker L). IsFresh shares heard (state_of h)) hired all fresh)
+    (fresh_workers shares heard all (All-tail (λ (h : HiredWorker L). IsFresh shares heard (state_of h)) hired all fresh))
 
 as_served : {L : Type 0} (accepts : L → Option Ends → L → Type 0) (shares : L → Option L → Type 0) (serving : Serving) (result : Result (Unit {0}) Fault) (heard : L) (out out' : Said)
     → IsServed accepts shares serving result heard out out' → ServesPort accepts shares serving result heard out out'
 as_served accepts shares serving (Ok done) heard out out' served = served
 as_served accepts shares serving (Err fault) heard out out' served = inl served
 
-pub port_served : {L : Type 0} (accepts : L → Option Ends → L → Type 0) (shares : L → Option L → Type 0) (serving : Serving) (result : Result (Unit {0}) Fault) (heard : L) (out out' : Said) (all : List (Hired L))
+pub port_served : {L : Type 0} (accepts : L → Option Ends → L → Type 0) (shares : L → Option L → Type 0) (serving : Serving) (result : Result (Unit {0}) Fault) (heard : L) (out out' : Said) (all : List (HiredWorker L))
     → Appends out.bytes out'.bytes (listening_line serving.port) → out'.failures ≡ out.failures → length all ≡ serving.seats → All (λ hired. IsFresh shares heard (state_of hired)) all
     → ServesSideBySide accepts (options_of serving) (most_of serving.accept) (map state_of all) result
     → ServesPort accepts shares serving result heard out out'

@@ -26,22 +26,19 @@ pub record Worker (L : Type 0) : Type 0 where
 abbrev pub worker_of : {L : Type 0} → L → Seat → Worker L
 worker_of listener seat = record { listener = listener; seat = seat }
 
--- An accept, and the listener behind it: it failed; or a connection of these ends was taken, of which serving it came to
--- this result, and left it so.
+-- An accept, and the listener behind it: it failed; or it took a connection of these ends, and serving that ended so
 pub data Accept (L : Type 0) : Type 0 where
   Failed : L → Accept L
   Took : L → Ends → Result (Unit {0}) Fault → Connection → Accept L
 
--- These are all accepts, in order, where so many more connections are to be served, and so many more accepts may fail
--- before one takes a connection. Each connection begins from the seat that the one before it left, whatever became of
--- that. It ends where no more are to be served, or where a hundred accepts failed one behind the other (F22): one alone is
--- then not served.
+-- These are all accepts, in order, where so many more connections are to be served, and so many more accepts may fail before one
+-- takes a connection. Each connection begins from the seat that the one before it left, whatever became of that. It ends where no
+-- more are to be served, or where a hundred accepts failed one behind the other (F22): one alone is then not served.
 abbrev pub ServesInTurn : {L : Type 0} → (L → Option Ends → L → Type 0) → Moves → Options → List (Accept L) → ℕ → ℕ → Result (Unit {0}) Fault → Worker L → Worker L → Type 0
 ServesInTurn accepts moves options [] zero patience result old new = (result ≡ Ok tt) × (new ≡ old)
 ServesInTurn accepts moves options [] (suc zero) zero result old new = (result ≡ Err Transport) × (new ≡ old)
 ServesInTurn accepts moves options (Failed listener ∷ others) (suc more) (suc patience) result old new =
-    accepts old.listener None listener
-    × ServesInTurn accepts moves options others (suc more) patience result (worker_of listener old.seat) new
+    accepts old.listener None listener × ServesInTurn accepts moves options others (suc more) patience result (worker_of listener old.seat) new
 ServesInTurn accepts moves options (Took listener ends served last ∷ others) (suc more) (suc patience) result old new =
     accepts old.listener (Some ends) listener
     × Serves moves options served (connection_of ends.input ends.output 0 0 old.seat) last
@@ -55,7 +52,7 @@ ServesUpTo {L} accepts moves options drawn result old new =
 
 -- ---- workers side by side
 
--- a worker that has ended: how many connections it drew, to serve them, and what came of that
+-- a worker that has ended: how many connections it drew, and what came of serving them
 pub record Work (L : Type 0) : Type 0 where
   pub worker : Worker L
   pub drawn : ℕ
@@ -89,9 +86,8 @@ pub record IsPartOf {L : Type 0} (accepts : L → Option Ends → L → Type 0) 
   pub serves : ServesUpTo accepts onward options new.drawn new.result old new.worker
   pub within : Begins new.worker.seat.log history
 
--- These workers served side by side, each the connections that it drew, so many in all, and all that their seats have seen is
--- of one history, which has as many puts as their connections made. The result is the first fault of a worker, if one has a
--- fault.
+-- These workers served side by side, each the connections that it drew, so many in all, and all that their seats have seen is of
+-- one history, which has as many puts as their connections made. The result is the first fault of a worker, if one has a fault.
 pub record ServesSideBySide {L : Type 0} (accepts : L → Option Ends → L → Type 0) (options : Options) (most : ℕ) (workers : List (Worker L)) (result : Result (Unit {0}) Fault) : Type 0 where
   pub history : Log
   pub ends : List (Work L)
@@ -109,7 +105,6 @@ most_of accept = accept
 
 abbrev pub options_of : Serving → Options
 options_of serving = record { parts = serving.parts; workers = serving.workers }
-
 abbrev pub at_port : ℕ → Serving → Serving
 at_port port serving = record { port = port; seats = serving.seats; accept = serving.accept; parts = serving.parts; workers = serving.workers }
 
@@ -131,8 +126,8 @@ pub record IsNotPrinted (port : ℕ) (out out' : Said) : Type 0 where
   pub begun : AppendsBeginning out.bytes out'.bytes (listening_line port)
   pub counted : out'.failures ≡ out.failures + 1
 
--- connections were served to a port; or memory for the catalog or the workers was refused, or a listener for one of them, and
--- nothing is printed; or the line of the port was not printed
+-- connections were served; or memory for the catalog or the workers was refused, or a listener for one of them, and nothing is
+-- printed; or the line of the port was not printed
 abbrev pub ServesPort : {L : Type 0} → (L → Option Ends → L → Type 0) → (L → Option L → Type 0) → Serving → Result (Unit {0}) Fault → L → Said → Said → Type 0
 ServesPort accepts shares serving (Ok done) heard out out' = IsServed accepts shares serving (Ok done) heard out out'
 ServesPort accepts shares serving (Err fault) heard out out' =

@@ -20,7 +20,7 @@ use version_cell::{CellName, Gathered, Scanner, SharedPutter};
 
 /// One of those that serve: its listener, its seat of the cell, what it draws by, and what came of its work.
 #[derive(Drop)]
-pub(crate) struct Worker<L, S, D> {
+pub(crate) struct Hired<L, S, D> {
     pub listener: L,
     // None while the worker works.
     pub scanner: Option<S>,
@@ -28,7 +28,7 @@ pub(crate) struct Worker<L, S, D> {
     pub served: Result<(), Fault>,
 }
 
-type ServingWorker<L, C> = Worker<L, Scanner<C>, Drawer>;
+type ServingWorker<L, C> = Hired<L, Scanner<C>, Drawer>;
 
 /// What all workers share: how they serve, and the putter of their cell.
 #[derive(Drop)]
@@ -63,7 +63,7 @@ pub(crate) fn workers_of<L: Listen + Drop, C: CellName, T: Wait>(
         let Ok(listener) = network.share() else {
             return Err(Fault::Transport);
         };
-        let worker = Worker {
+        let worker = Hired {
             listener,
             scanner: Some(scanner),
             drawer: service.turns.cut(drawer),
@@ -78,13 +78,13 @@ pub(crate) fn workers_of<L: Listen + Drop, C: CellName, T: Wait>(
 
 // What is done with each worker, by whichever thread has it.
 trait Job<L, C: CellName> {
-    ghost use Rattle.commands.specs.inside.Gathering.{Hired};
+    ghost use Rattle.commands.specs.inside.Gathering.{HiredWorker};
 
     // Which workers it takes.
-    ghost takes: { Self → Hired L → Type 0 };
+    ghost takes: { Self → HiredWorker L → Type 0 };
 
     // What becomes of one.
-    ghost leaves: { Self → Hired L → Hired L → Type 0 };
+    ghost leaves: { Self → HiredWorker L → HiredWorker L → Type 0 };
 
     fn work(&self, worker: &mut ServingWorker<L, C>)
         requires { takes self.now worker.old }
@@ -150,7 +150,7 @@ fn first_of<L: Drop, C: CellName>(
 {
     let mut first = Ok(());
     while let Some(worker) = workers.pop() {
-        let Worker {
+        let Hired {
             listener: _,
             scanner,
             drawer: part,

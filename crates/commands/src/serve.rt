@@ -1,7 +1,7 @@
 //! `flightscan serve`: connections to a port, several at once.
 
 ghost use Rattle.std.specs.Prelude.{◌≡◌, ◌≤◌, ◌<◌, ℕ, List};
-ghost use Rattle.version_cell.specs.Blanks.{most_seats};
+ghost use Rattle.version_cell.specs.Blanks.{IsNamed, most_seats};
 ghost use Rattle.command_ends.specs.Printing.{Prints, cause_lines, said_of};
 ghost use Rattle.command_ends.specs.declared.exit_status.ExitStatus.TheVariants.{FaultAtThisEnd};
 ghost use Rattle.commands.specs.Serve as serves;
@@ -117,7 +117,7 @@ where
     L: Listen + Drop + Send,
     L::Reader: Send,
     L::Writer: Send,
-    requires cell { (blank.book ≡ C.book) × (blank.ledger ≡ C.name) × (blank.seats ≡ C.parts) }
+    requires cell { IsNamed blank C.book C.name C.parts }
     requires seats { blank.seats ≡ serving.seats }
     requires writes { W.failures output.old < 18446744073709551615 }
     ensures { ServesPort L.accepts L.shares serving result network.now
@@ -134,10 +134,7 @@ where
     let service = Service {
         rt: host.rt,
         alloc: host.alloc,
-        options: Options {
-            parts: serving.parts,
-            workers: serving.workers as usize,
-        },
+        options: options_of(&serving),
         turns: &turns,
     };
     let workers = workers_of(&service, &mut drawer, network, scanners)?;
@@ -147,6 +144,16 @@ where
         putter: &putter,
     };
     serve_side_by_side(&crew, drawer, workers)
+}
+
+// How calls are answered.
+fn options_of(serving: &Serving) -> Options
+    ensures { result ≡ serves.options_of serving.now }
+{
+    Options {
+        parts: serving.parts,
+        workers: serving.workers as usize,
+    }
 }
 
 // How many connections to draw; 0 stands for no end.

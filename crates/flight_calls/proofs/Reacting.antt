@@ -3,6 +3,7 @@ use Rattle.std.proofs.Common.{◌≡◌, ◌≢◌, ◌<◌, ℕ, List, [], ◌�
 use Rattle.std.specs.Prelude.{IfErr, IsOk}
 use Rattle.scan_base.specs.declared.fault.Fault.{Fault}
 use Rattle.scan_base.specs.declared.fault.Fault.TheVariants.{OutOfMemory}
+use Rattle.scan_base.specs.Reading.{RefusesFirst}
 use Rattle.table_versions.specs.Database.{Put, after, database_of}
 use Rattle.flight_info.specs.Payloads.{Payload}
 use Rattle.flight_info.specs.Replies.{ReplyAt, refusal}
@@ -27,12 +28,13 @@ use Rattle.flight_calls.specs.Answered.{IsReplyOf, ReactsBy}
 
 pub puts_alone : (result : Result (Unit {0}) Fault) (old new : Log) (looks : ℕ) (made : Put) → (result ≡ Ok tt → (new ≡ old ++ made ∷ []) × IsOk (after (database_of old) (length old) made))
     → IfErr result (λ fault. (new ≡ old) × (fault ≢ OutOfMemory → after (database_of old) (length old) made ≡ Err fault))
+    → RefusesFirst result (after (database_of old) (length old) made)
     → Puts alone result (seat_of old looks) made (seat_of new looks)
-puts_alone (Ok tt) old new looks made ok err =
+puts_alone (Ok tt) old new looks made ok err first =
     let is = ok refl in
-    record { log = old; next = new; at = (is.1, is.0, is.0); moved = (refl, refl); kept = (made ∷ [], is.0); learnt = ([], sym (append-nil new)); looks = refl }
-puts_alone (Err fault) old new looks made ok err =
-    record { log = old; next = new; at = (err.0, err.0, err.1); moved = (refl, refl); kept = ([], err.0 ∙ sym (append-nil old)); learnt = ([], sym (append-nil new)); looks = refl }
+    record { log = old; next = new; at = (is.1, is.0, is.0); first = first; moved = (refl, refl); kept = (made ∷ [], is.0); learnt = ([], sym (append-nil new)); looks = refl }
+puts_alone (Err fault) old new looks made ok err first =
+    record { log = old; next = new; at = (err.0, err.0, err.1); first = first; moved = (refl, refl); kept = ([], err.0 ∙ sym (append-nil old)); learnt = ([], sym (append-nil new)); looks = refl }
 
 -- ---- how a step goes
 

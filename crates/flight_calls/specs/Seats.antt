@@ -2,6 +2,7 @@
 use Rattle.std.specs.Prelude.{◌≡◌, ◌≢◌, ◌⊎◌, ℕ, ◌+◌, ◌∷◌, ◌++◌, List, [], IsOk, Result, Ok, Err}
 use Rattle.scan_base.specs.declared.fault.Fault.{Fault}
 use Rattle.scan_base.specs.declared.fault.Fault.TheVariants.{OutOfMemory}
+use Rattle.scan_base.specs.Reading.{RefusesFirst}
 use Rattle.table_versions.specs.Database.{Put, after}
 use Rattle.flight_core.specs.Headline.{Begins}
 use Rattle.flight_core.specs.Log.{Log, puts_in, database_of}
@@ -44,11 +45,13 @@ PutsAt (Ok done) old log put next new = IsOk (after (database_of log) (puts_in l
 PutsAt (Err fault) old log put next new = (next ≡ log) × (new.made ≡ old.made)
     × (fault ≢ OutOfMemory → after (database_of log) (puts_in log) put ≡ Err fault)
 
--- a put at the log that it meets: behind it the seat has seen that log with the put, and all that it had seen
+-- A put at the log that it meets, which is refused by its first fault if it has one. Behind it the seat has seen that log with
+-- the put, and all that it had seen.
 pub record Puts (moves : Moves) (result : Result (Unit {0}) Fault) (old : Seat) (put : Put) (new : Seat) : Type 0 where
   pub log : Log
   pub next : Log
   pub at : PutsAt result old log put next new
+  pub first : RefusesFirst result (after (database_of log) (puts_in log) put)
   pub moved : moves old log next new
   pub kept : Begins old.log new.log
   pub learnt : Begins next new.log

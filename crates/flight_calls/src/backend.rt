@@ -27,7 +27,8 @@ pub trait Backend {
     ///
     /// # Errors
     ///
-    /// The first fault for which the put is refused, or F21 (`Fault::OutOfMemory`). Nothing has changed then.
+    /// The first fault for which the put is refused, and F21 (`Fault::OutOfMemory`) only for a put that none of them refuses.
+    /// Nothing has changed then.
     fn put(&mut self, alloc: Global, put: Put) -> Result<(), Fault>
         ensures { Puts moves result (seat self.old) (put_of put) (seat self.new) };
 

@@ -1,8 +1,9 @@
 -- A put over a seat of a cell.
-use Rattle.std.proofs.Common.{◌≡◌, [], ◌∷◌, ◌++◌, Ok, Err, refl, sym, ◌∙◌, append-nil}
+use Rattle.std.proofs.Common.{◌≡◌, [], ◌∷◌, ◌++◌, Result, Ok, Err, refl, sym, ◌∙◌, append-nil}
 use Rattle.scan_base.specs.declared.fault.Fault.{Fault}
-use Rattle.table_versions.specs.Database.{Put}
-use Rattle.version_cell.specs.Puts.{PutsBehind}
+use Rattle.scan_base.specs.Reading.{RefusesFirst}
+use Rattle.table_versions.specs.Database.{Database, Put}
+use Rattle.version_cell.specs.Puts.{PutsBehind, after_log}
 use Rattle.version_cell.specs.Seats as cell
 use Rattle.flight_core.specs.Headline.{Begins}
 use Rattle.flight_core.specs.Log.{Log}
@@ -17,6 +18,15 @@ begins_same log same is = ([], is ∙ sym (append-nil log))
 begins_as : (log more old new : Log) → Begins log more → old ≡ log → new ≡ more → Begins old new
 begins_as log more old new begins old_is new_is = rw (old_is, new_is) begins
 
+-- the first fault, of another value
+first_made : {X : Type 0} (receipt : X) (due : Result Database Fault) → RefusesFirst (Ok receipt) due → RefusesFirst (Ok tt) due
+first_made receipt (Ok database) first = tt
+first_made receipt (Err cause) first = absurd (cc first)
+
+first_refused : {X : Type 0} (fault : Fault) (due : Result Database Fault) → RefusesFirst {X = X} (Err fault) due → RefusesFirst {X = Unit {0}} (Err fault) due
+first_refused fault (Ok database) first = tt
+first_refused fault (Err cause) first = cc first
+
 -- the cell's putter made it
 pub accepted : {X : Type 0} (receipt : X) (seat next : cell.Seat) (old new : Seat) (put : Put) → PutsBehind (Ok receipt) seat put next → cell.Begins seat.log next.log
     → next.enters ≡ seat.enters → old.log ≡ seat.log → old.looks ≡ seat.enters → new.log ≡ next.log → new.looks ≡ next.enters → new.made ≡ old.made ++ put ∷ []
@@ -25,6 +35,7 @@ accepted receipt seat next old new put behind kept enters log looks new_log new_
   log = behind.log;
   next = next.log;
   at = (behind.answered.1, behind.answered.0, last);
+  first = first_made receipt (after_log behind.log put) behind.first;
   moved = (begins_as seat.log behind.log old.log behind.log behind.met log refl, new_log);
   kept = begins_as seat.log next.log old.log new.log kept log new_log;
   learnt = begins_same next.log new.log new_log;
@@ -35,10 +46,11 @@ accepted receipt seat next old new put behind kept enters log looks new_log new_
 pub refused : {X : Type 0} (fault : Fault) (seat next : cell.Seat) (old new : Seat) (put : Put) → PutsBehind {X = X} (Err fault) seat put next → cell.Begins seat.log next.log
     → next.enters ≡ seat.enters → old.log ≡ seat.log → old.looks ≡ seat.enters → new.log ≡ next.log → new.looks ≡ next.enters → new.made ≡ old.made
     → Puts onward (Err fault) old put new
-refused fault seat next old new put behind kept enters log looks new_log new_looks same = record {
+refused {X} fault seat next old new put behind kept enters log looks new_log new_looks same = record {
   log = behind.log;
   next = next.log;
   at = (behind.answered.0, same, behind.answered.1);
+  first = first_refused {X = X} fault (after_log behind.log put) behind.first;
   moved = (begins_as seat.log behind.log old.log behind.log behind.met log refl, new_log);
   kept = begins_as seat.log next.log old.log new.log kept log new_log;
   learnt = begins_same next.log new.log new_log;

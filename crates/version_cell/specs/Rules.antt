@@ -13,7 +13,7 @@ head_of book = record { tracked = true; key = 0; book = book }
 
 -- the put was added to all that had been seen; or the log was longer, and was seen
 abbrev pub Adds : Step Put → View Put ℕ → ℕ → View Put ℕ → Type 0
-Adds s v found w = MatchBool (found == s.old) (w.0 ≡ v.0 ++ s.ask ∷ []) (length w.0 ≡ found)
+Adds step before found after = MatchBool (found == step.old) (after.0 ≡ before.0 ++ step.ask ∷ []) (length after.0 ≡ found)
 
 -- what is read of a value that is there
 abbrev pub read_or : {X Y : Type 0} → Y → (X → Y) → Option X → Y

@@ -4,7 +4,7 @@ ghost use Rattle.std.specs.Prelude.{◌≡◌, ◌≤◌, ◌<◌, [], length, d
 ghost use Rattle.std.specs.Arc.{arc_value};
 ghost use Rattle.scan_base.specs.declared.fault.Fault.TheVariants.{OutOfMemory};
 ghost use Rattle.table_versions.specs.Stored.{tables_of};
-ghost use Rattle.version_cell.specs.Blanks.{most_seats};
+ghost use Rattle.version_cell.specs.Blanks.{IsNamed, most_seats};
 ghost use Rattle.version_cell.specs.Seats.{seat};
 ghost use Rattle.version_cell.specs.Versions.{versions_of};
 
@@ -78,8 +78,7 @@ impl Blank {
         alloc: Global,
         rt: R,
     ) -> Result<(Putter<C, R>, Vec<Scanner<C>>), Fault>
-        requires book { self.book ≡ C.book }
-        requires ledger { (self.ledger ≡ C.name) × (self.seats ≡ C.parts) }
+        requires { IsNamed self C.book C.name C.parts }
         ensures ok { IfOk result (λ cell. (cell.0 ≡ []) × (length cell.1.items ≡ self.seats)
             × All (λ scanner. scanner ≡ seat [] [] 0 []) cell.1.items) }
         ensures err { IfErr result (λ fault. fault ≡ OutOfMemory) }

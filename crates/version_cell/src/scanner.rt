@@ -175,12 +175,7 @@ impl<C: CellName> Scanner<C> {
     pub(crate) fn into_share(self) -> Share<C>
         ensures { (result.parts ≡ 1) × (result.amount ≡ length self.made) }
     {
-        let Scanner {
-            history: _,
-            reader: _,
-            made: _,
-            share,
-        } = self;
+        let Scanner { share, .. } = self;
         share
     }
 }

@@ -10,7 +10,7 @@ use Rattle.flight_calls.specs.Seats.{Seat, seat_of}
 use Rattle.shared_calls.specs.Sharing.{onward, seat_at}
 use Rattle.connection_turns.specs.Drawers.{DrawerAt, drawer_at}
 use Rattle.command_ends.specs.Network.{Ends}
-use Rattle.commands.specs.declared.crew.Worker as declared
+use Rattle.commands.specs.declared.crew.Hired as declared
 use Rattle.commands.specs.Serve.{Work, Worker, IsFresh, ServesUpTo, drawn_by, first_fault, made_by, worker_of}
 
 -- a worker's seat of the cell, which is always there between two connections
@@ -19,35 +19,35 @@ seat_in (Some scanner) = seat_at scanner
 seat_in None = seat_of [] 0
 
 -- a worker as the code has it
-abbrev pub Hired : Type 0 → Type 0
-Hired L = declared.Worker L cell.Seat DrawerAt
+abbrev pub HiredWorker : Type 0 → Type 0
+HiredWorker L = declared.Hired L cell.Seat DrawerAt
 
-abbrev pub state_of : {L : Type 0} → Hired L → Worker L
+abbrev pub state_of : {L : Type 0} → HiredWorker L → Worker L
 state_of hired = worker_of hired.listener (seat_in hired.scanner)
 
-abbrev pub work_of : {L : Type 0} → Hired L → Work L
+abbrev pub work_of : {L : Type 0} → HiredWorker L → Work L
 work_of hired = record { worker = state_of hired; drawn = hired.drawer.drawn; result = hired.served }
 
 -- it may draw, and has not yet
-abbrev pub IsNew : {L : Type 0} → TableId → Hired L → Type 0
+abbrev pub IsNew : {L : Type 0} → TableId → HiredWorker L → Type 0
 IsNew name hired = IsSome hired.scanner × (hired.drawer ≡ drawer_at name 1 0 0)
 
 -- where it ended well, it was told that no turn is left
-abbrev pub HasDrawn : {L : Type 0} → TableId → Hired L → Type 0
+abbrev pub HasDrawn : {L : Type 0} → TableId → HiredWorker L → Type 0
 HasDrawn name hired = IsSome hired.scanner × (hired.drawer.name ≡ name) × (hired.drawer.parts ≡ 1) × IfOk hired.served (λ _. 0 < hired.drawer.ended)
 
 -- a worker served the connections that it drew
-pub record HasWorked {L : Type 0} (accepts : L → Option Ends → L → Type 0) (options : Options) (name : TableId) (old new : Hired L) : Type 0 where
+pub record HasWorked {L : Type 0} (accepts : L → Option Ends → L → Type 0) (options : Options) (name : TableId) (old new : HiredWorker L) : Type 0 where
   pub serves : ServesUpTo accepts onward options new.drawer.drawn new.served (state_of old) (state_of new)
   pub drawn : HasDrawn name new
 
 -- all that the seat of a worker has seen is of this history
-abbrev pub IsWithin : {L : Type 0} → Log → Hired L → Type 0
+abbrev pub IsWithin : {L : Type 0} → Log → HiredWorker L → Type 0
 IsWithin history hired = Begins (seat_in hired.scanner).log history
 
 -- those behind the ones that are left are done with: their seats are taken in, and the hub has all that they drew
-pub record Gathered {L : Type 0} (all left : List (Hired L)) (seats : cell.GatheredAt) (result : Result (Unit {0}) Fault) (name : TableId) (hub : DrawerAt) : Type 0 where
-  pub done : List (Hired L)
+pub record Gathered {L : Type 0} (all left : List (HiredWorker L)) (seats : cell.GatheredAt) (result : Result (Unit {0}) Fault) (name : TableId) (hub : DrawerAt) : Type 0 where
+  pub done : List (HiredWorker L)
   pub whole : all ≡ left ++ done
   pub others : All (HasDrawn name) left
   pub within : All (IsWithin seats.log) done
@@ -60,7 +60,7 @@ pub record Gathered {L : Type 0} (all left : List (Hired L)) (seats : cell.Gathe
   pub ended : (0 < hub.ended) ⊎ All (λ work. IsErr work.result) (map work_of done)
 
 -- workers were made for the seats that were taken, and the first drawer has a part for each that is left
-pub record Begun {L : Type 0} (shares : L → Option L → Type 0) (heard : L) (name : TableId) (hub : DrawerAt) (workers : List (Hired L)) (left : List cell.Seat) (count : ℕ) : Type 0 where
+pub record Begun {L : Type 0} (shares : L → Option L → Type 0) (heard : L) (name : TableId) (hub : DrawerAt) (workers : List (HiredWorker L)) (left : List cell.Seat) (count : ℕ) : Type 0 where
   pub counted : length workers + length left ≡ count
   pub fresh : All (λ hired. IsFresh shares heard (state_of hired)) workers
   pub new : All (IsNew name) workers

@@ -1,5 +1,8 @@
 use Rattle.cell_tests.proofs.alone.refusals.Given as goal
 
 -- the cell that was just opened
-abbrev pub ghosts-refuses : goal.ghosts-refuses
-ghosts-refuses g a = record { book = a.blank.book }
+abbrev pub ghosts-refuses-C-CellName : goal.ghosts-refuses-C-CellName
+ghosts-refuses-C-CellName g a = record { book = a.blank.book }
+
+abbrev pub ghosts-refuses-C-Ledger : goal.ghosts-refuses-C-Ledger
+ghosts-refuses-C-Ledger g a = record { name = a.blank.ledger; parts = a.blank.seats }

@@ -1,5 +1,8 @@
 use Rattle.cell_tests.proofs.several.two_look_while_one_puts.Given as goal
 
 -- the cell that was just opened
-abbrev pub ghosts-looked_at_by_two : goal.ghosts-looked_at_by_two
-ghosts-looked_at_by_two g a = record { book = a.blank.book }
+abbrev pub ghosts-looked_at_by_two-C-CellName : goal.ghosts-looked_at_by_two-C-CellName
+ghosts-looked_at_by_two-C-CellName g a = record { book = a.blank.book }
+
+abbrev pub ghosts-looked_at_by_two-C-Ledger : goal.ghosts-looked_at_by_two-C-Ledger
+ghosts-looked_at_by_two-C-Ledger g a = record { name = a.blank.ledger; parts = a.blank.seats }
