@@ -105,6 +105,7 @@ most_of accept = accept
 
 abbrev pub options_of : Serving → Options
 options_of serving = record { parts = serving.parts; workers = serving.workers }
+
 abbrev pub at_port : ℕ → Serving → Serving
 at_port port serving = record { port = port; seats = serving.seats; accept = serving.accept; parts = serving.parts; workers = serving.workers }
 

@@ -18,8 +18,8 @@ take_back-requires-clause-other g c =
     (last_drawn c.args.turns.now.name c.args.workers.items c.loop-worker.workers.items c.pop.new.self.items c.in-Some.worker c.loop-worker.seats
     c.loop-worker.first c.loop-worker.drawer c.loop-worker.invariant (search rules)).1
 
-pub loop-worker-preserved-in-Some : goal.loop-worker-preserved-in-Some
-loop-worker-preserved-in-Some g c =
+pub loop-worker-preserved : goal.loop-worker-preserved
+loop-worker-preserved g c =
     one_gathered c.args.workers.items c.loop-worker.workers.items c.pop.new.self.items c.in-Some.worker c.loop-worker.seats c.take.new.self
     c.loop-worker.first c.and-first.result c.args.turns.now.name c.loop-worker.drawer c.take_back.new.mine c.loop-worker.invariant (search rules)
     (takes_so c.in-Some.worker.scanner c.unwrap.result c.loop-worker.seats c.take.new.self (search rules) c.take.ensures.log c.take.ensures.seen c.take.ensures.seats c.take.ensures.made)
