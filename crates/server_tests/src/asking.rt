@@ -9,19 +9,33 @@ use ipc_stream::ipc_messages;
 use row_lines::write_rows;
 use scan_base::Fault;
 use std::alloc::Global;
+use std::io;
 use std::net::{Ipv4Addr, Net, TcpListener, TcpStream};
+use std::time::Duration;
 
 const ALL: &str = "SELECT * FROM t";
+
+// A read that waits longer fails, so that no call waits for ever.
+const LONGEST_READ_SECONDS: u64 = 10;
 
 // Connects to a port of this machine.
 pub(crate) fn connected<R: Net<Listener = TcpListener, Stream = TcpStream>>(
     rt: &R,
     port: u16,
 ) -> Result<TcpStream, Failure> {
-    match TcpStream::connect(rt, (Ipv4Addr::LOCALHOST, port)) {
+    match connect(rt, port) {
         Ok(stream) => Ok(stream),
         Err(_) => Err(Failure::Found(Fault::Transport)),
     }
+}
+
+fn connect<R: Net<Listener = TcpListener, Stream = TcpStream>>(
+    rt: &R,
+    port: u16,
+) -> io::Result<TcpStream> {
+    let stream = TcpStream::connect(rt, (Ipv4Addr::LOCALHOST, port))?;
+    stream.set_read_timeout(Some(Duration::from_secs(LONGEST_READ_SECONDS)))?;
+    Ok(stream)
 }
 
 // Puts an Arrow IPC stream into table t, and tells how many rows were put.
@@ -54,6 +68,12 @@ fn fetched(
 ) -> Result<Stream, Failure> {
     let mut connection = Connection::new(alloc, Counted::new(stream), Counted::new(stream));
     fetch(alloc, &mut connection, &endpoint.ticket)
+}
+
+// What is printed of all rows of table t.
+pub(crate) fn all_lines(alloc: Global, stream: &TcpStream) -> Result<MemoryOutput, Failure> {
+    let endpoints = endpoints_of(alloc, stream)?;
+    lines_of(alloc, stream, &endpoints)
 }
 
 // What is printed of the rows of two endpoints. The second is fetched first.

@@ -1,18 +1,17 @@
 //! Connections that are open at once.
 
-use crate::asking::{connected, endpoints_of, lines_of, put_into};
+use crate::asking::{all_lines, connected, endpoints_of, lines_of, put_into};
 use crate::serving::{Bound, served};
-use crate::streams::{FIVE_LINES, ONE_TO_FIVE, OTHER_SCHEMA, SIX_AND_SEVEN};
+use crate::streams::{CUT_PUT, FIVE_LINES, ONE_TO_FIVE, OTHER_SCHEMA, SEVEN_LINES, SIX_AND_SEVEN};
 use client_calls::{Failure, Mode};
 use command_ends::Listen;
 use commands::serve::Host;
-use grpc_frame::MemoryOutput;
+use grpc_frame::{Counted, Input, MemoryOutput, Output};
 use hash_seed::HashSeed;
 use loopback::Port;
 use scan_base::Fault;
 use std::alloc::Global;
-use std::io::Write;
-use std::net::{Net, TcpListener, TcpStream};
+use std::net::{Net, Shutdown, TcpListener, TcpStream};
 use std::sync::atomic::{AtomicBool, Ordering};
 use std::test::Fail;
 use std::thread;
@@ -92,35 +91,40 @@ fn open_connection(rt: HostRuntime) -> Result<(), Fail> {
     Ok(())
 }
 
-// The first records of a put, up to a message of which a part is missing.
-const CUT_PUT: &[u8] =
-    b"\x01\x00\x2a/arrow.flight.protocol.FlightService/DoPut\x02\x00\x00\x00\x00\x04\x0a\x02";
-
-// Begins a put, and closes the connection.
+// Writes a put that is cut, and ends what it writes. The server then closes its end, and has answered nothing before: a read tells
+// that it has met the cut.
 fn cut_a_put<R: Net<Listener = TcpListener, Stream = TcpStream>>(
     rt: &R,
     port: u16,
 ) -> Result<(), Failure> {
-    let mut stream = connected(rt, port)?;
-    match stream.write_all(CUT_PUT) {
-        Ok(()) => Ok(()),
-        Err(_) => Err(Failure::Found(Fault::Transport)),
+    let stream = connected(rt, port)?;
+    Counted::new(&stream).write(CUT_PUT)?;
+    if stream.shutdown(Shutdown::Write).is_err() {
+        return Err(Failure::Found(Fault::Transport));
+    }
+    let mut answer = [0; 1];
+    match Counted::new(&stream).read(&mut answer)? {
+        0 => Ok(()),
+        _ => Err(Failure::Found(Fault::BadFrame)),
     }
 }
 
-// Puts five rows, has another connection cut its put, and fetches the rows.
-fn stay_whole<R>(rt: &R, alloc: Global, port: u16) -> Result<MemoryOutput, Failure>
+// Puts five rows, has another connection cut its put, and fetches all rows: at once, and once it has put two more.
+fn stay_whole<R>(rt: &R, alloc: Global, port: u16) -> Result<[MemoryOutput; 2], Failure>
 where
     R: Net<Listener = TcpListener, Stream = TcpStream>,
 {
     let stream = connected(rt, port)?;
     put_into(alloc, &stream, Mode::Create, ONE_TO_FIVE)?;
     cut_a_put(rt, port)?;
-    let endpoints = endpoints_of(alloc, &stream)?;
-    lines_of(alloc, &stream, &endpoints)
+    let before = all_lines(alloc, &stream)?;
+    put_into(alloc, &stream, Mode::Append, SIX_AND_SEVEN)?;
+    Ok([before, all_lines(alloc, &stream)?])
 }
 
-// A connection that is cut inside a put ends alone, and has put nothing.
+// A connection that is cut inside the last message of a put ends alone, and has put nothing: of what it would have left in the
+// table, not one of the five rows would be. The open connection need not be told of puts of others before it puts itself, so its
+// own two rows tell: they are appended to the five.
 #[test]
 fn cut_connection(rt: HostRuntime) -> Result<(), Fail> {
     let runtime = &rt;
@@ -140,9 +144,10 @@ fn cut_connection(rt: HostRuntime) -> Result<(), Fail> {
         || stay_whole(runtime, alloc, number),
     );
     assert!(rt; server.0 == 0);
-    let Ok(lines) = client else {
+    let Ok([before, behind]) = client else {
         return Err(Fail::from("a call failed"));
     };
-    assert!(rt; lines.as_slice() == FIVE_LINES);
+    assert!(rt; before.as_slice() == FIVE_LINES);
+    assert!(rt; behind.as_slice() == SEVEN_LINES);
     Ok(())
 }
