@@ -1,6 +1,6 @@
 //! Connections that are open at once.
 
-use crate::asking::{all_lines, connected, endpoints_of, lines_of, put_into};
+use crate::asking::{Wire, all_lines, connected, endpoints_of, lines_of, put_into};
 use crate::serving::{Bound, served};
 use crate::streams::{CUT_PUT, FIVE_LINES, ONE_TO_FIVE, OTHER_SCHEMA, SEVEN_LINES, SIX_AND_SEVEN};
 use client_calls::{Failure, Mode};
@@ -11,57 +11,69 @@ use hash_seed::HashSeed;
 use loopback::Port;
 use scan_base::Fault;
 use std::alloc::Global;
-use std::net::{Net, Shutdown, TcpListener, TcpStream};
+use std::net::{Net, TcpListener, TcpStream};
 use std::sync::atomic::{AtomicBool, Ordering};
 use std::test::Fail;
 use std::thread;
 use std::thread::Threads;
 use std::time::{Clock, Duration};
 
+// Each piece is written whole.
+const WHOLE: usize = usize::MAX;
+
+// A port of this machine, and how many bytes are written at most by one write.
+#[derive(Clone, Copy)]
+struct Way {
+    port: u16,
+    most: usize,
+}
+
 // The later puts: rows are appended, and then the table is replaced by one of another schema.
 fn put_later<R: Net<Listener = TcpListener, Stream = TcpStream>>(
     rt: &R,
     alloc: Global,
-    port: u16,
+    way: Way,
     answered: &AtomicBool,
 ) -> Result<(), Failure> {
-    let stream = connected(rt, port)?;
-    put_into(alloc, &stream, Mode::Append, SIX_AND_SEVEN)?;
-    put_into(alloc, &stream, Mode::Replace, OTHER_SCHEMA)?;
+    let wire = connected(rt, way.port, way.most)?;
+    put_into(alloc, &wire, Mode::Append, SIX_AND_SEVEN)?;
+    put_into(alloc, &wire, Mode::Replace, OTHER_SCHEMA)?;
     answered.store(true, Ordering::SeqCst);
     Ok(())
 }
 
-// The stream, once the puts are answered. Behind 10,000 turns it is closed.
-fn wait_for<T: Clock>(clock: &T, answered: &AtomicBool, stream: TcpStream) -> Option<TcpStream> {
+// The wire, once the puts are answered. Behind 10,000 turns it is closed.
+fn wait_for<T: Clock>(clock: &T, answered: &AtomicBool, wire: Wire) -> Option<Wire> {
     for _ in 0..10_000 {
         if answered.load(Ordering::SeqCst) {
-            return Some(stream);
+            return Some(wire);
         }
         thread::sleep(clock, Duration::from_millis(1));
     }
     None
 }
 
-// Puts five rows and asks where they are; stays open while others put; and then fetches them.
-fn stay_open<R>(rt: &R, alloc: Global, port: u16) -> Result<MemoryOutput, Failure>
+// Puts five rows and asks where they are; stays open while others put; and then fetches them, the second endpoint over a further
+// connection: the first one has its seat still, so that is served over the seat by which the others put.
+fn stay_open<R>(rt: &R, alloc: Global, way: Way) -> Result<MemoryOutput, Failure>
 where
     R: Net<Listener = TcpListener, Stream = TcpStream> + Threads + Clock + Sync,
 {
-    let stream = connected(rt, port)?;
-    put_into(alloc, &stream, Mode::Create, ONE_TO_FIVE)?;
-    let endpoints = endpoints_of(alloc, &stream)?;
+    let wire = connected(rt, way.port, way.most)?;
+    put_into(alloc, &wire, Mode::Create, ONE_TO_FIVE)?;
+    let endpoints = endpoints_of(alloc, &wire)?;
     let answered = AtomicBool::new(false);
-    let (later, stream) = thread::join(
+    let (later, wire) = thread::join(
         rt,
-        || put_later(rt, alloc, port, &answered),
-        || wait_for(rt, &answered, stream),
+        || put_later(rt, alloc, way, &answered),
+        || wait_for(rt, &answered, wire),
     );
     later?;
-    match stream {
-        Some(stream) => lines_of(alloc, &stream, &endpoints),
-        None => Err(Failure::Found(Fault::Transport)),
-    }
+    let Some(wire) = wire else {
+        return Err(Failure::Found(Fault::Transport));
+    };
+    let further = connected(rt, way.port, way.most)?;
+    lines_of(alloc, [&wire, &further], &endpoints)
 }
 
 // An open connection keeps no other from being served, and what its info names stays.
@@ -78,10 +90,45 @@ fn open_connection(rt: HostRuntime) -> Result<(), Fail> {
         alloc,
         seed,
     };
+    let way = Way {
+        port: number,
+        most: WHOLE,
+    };
     let (server, client) = thread::join(
         runtime,
-        move || served(host, bound, 2),
-        || stay_open(runtime, alloc, number),
+        move || served(host, bound, 3),
+        || stay_open(runtime, alloc, way),
+    );
+    assert!(rt; server.0 == 0);
+    let Ok(lines) = client else {
+        return Err(Fail::from("a call failed"));
+    };
+    assert!(rt; lines.as_slice() == FIVE_LINES);
+    Ok(())
+}
+
+// How a client's bytes arrive does not matter: the same calls, of which each byte is written by itself.
+#[test]
+fn byte_by_byte(rt: HostRuntime) -> Result<(), Fail> {
+    let runtime = &rt;
+    let alloc = runtime.alloc();
+    let seed = HashSeed::new(runtime)?;
+    let mut port = Port::new(runtime);
+    let number = port.listen(0)?;
+    let bound = Bound { port, number };
+    let host = Host {
+        rt: runtime,
+        alloc,
+        seed,
+    };
+    let way = Way {
+        port: number,
+        most: 1,
+    };
+    let (server, client) = thread::join(
+        runtime,
+        move || served(host, bound, 3),
+        || stay_open(runtime, alloc, way),
     );
     assert!(rt; server.0 == 0);
     let Ok(lines) = client else {
@@ -97,13 +144,11 @@ fn cut_a_put<R: Net<Listener = TcpListener, Stream = TcpStream>>(
     rt: &R,
     port: u16,
 ) -> Result<(), Failure> {
-    let stream = connected(rt, port)?;
-    Counted::new(&stream).write(CUT_PUT)?;
-    if stream.shutdown(Shutdown::Write).is_err() {
-        return Err(Failure::Found(Fault::Transport));
-    }
+    let wire = connected(rt, port, WHOLE)?;
+    Counted::new(&wire).write(CUT_PUT)?;
+    wire.end()?;
     let mut answer = [0; 1];
-    match Counted::new(&stream).read(&mut answer)? {
+    match Counted::new(&wire).read(&mut answer)? {
         0 => Ok(()),
         _ => Err(Failure::Found(Fault::BadFrame)),
     }
@@ -114,12 +159,12 @@ fn stay_whole<R>(rt: &R, alloc: Global, port: u16) -> Result<[MemoryOutput; 2], 
 where
     R: Net<Listener = TcpListener, Stream = TcpStream>,
 {
-    let stream = connected(rt, port)?;
-    put_into(alloc, &stream, Mode::Create, ONE_TO_FIVE)?;
+    let wire = connected(rt, port, WHOLE)?;
+    put_into(alloc, &wire, Mode::Create, ONE_TO_FIVE)?;
     cut_a_put(rt, port)?;
-    let before = all_lines(alloc, &stream)?;
-    put_into(alloc, &stream, Mode::Append, SIX_AND_SEVEN)?;
-    Ok([before, all_lines(alloc, &stream)?])
+    let before = all_lines(alloc, &wire)?;
+    put_into(alloc, &wire, Mode::Append, SIX_AND_SEVEN)?;
+    Ok([before, all_lines(alloc, &wire)?])
 }
 
 // A connection that is cut inside the last message of a put ends alone, and has put nothing: of what it would have left in the
