@@ -1,14 +1,11 @@
 //! Connections that are open at once.
 
 use crate::asking::{Wire, all_lines, connected, endpoints_of, lines_of, put_into};
-use crate::serving::{Bound, served};
+use crate::serving::{Client, beside};
 use crate::streams::{CUT_PUT, FIVE_LINES, ONE_TO_FIVE, OTHER_SCHEMA, SEVEN_LINES, SIX_AND_SEVEN};
 use client_calls::{Failure, Mode};
-use command_ends::Listen;
-use commands::serve::Host;
 use grpc_frame::{Counted, Input, MemoryOutput, Output};
 use hash_seed::HashSeed;
-use loopback::Port;
 use scan_base::Fault;
 use std::alloc::Global;
 use std::net::{Net, TcpListener, TcpStream};
@@ -21,21 +18,15 @@ use std::time::{Clock, Duration};
 // Each piece is written whole.
 const WHOLE: usize = usize::MAX;
 
-// A port of this machine, and how many bytes are written at most by one write.
-#[derive(Clone, Copy)]
-struct Way {
-    port: u16,
-    most: usize,
-}
-
 // The later puts: rows are appended, and then the table is replaced by one of another schema.
 fn put_later<R: Net<Listener = TcpListener, Stream = TcpStream>>(
     rt: &R,
     alloc: Global,
-    way: Way,
+    port: u16,
+    most: usize,
     answered: &AtomicBool,
 ) -> Result<(), Failure> {
-    let wire = connected(rt, way.port, way.most)?;
+    let wire = connected(rt, port, most)?;
     put_into(alloc, &wire, Mode::Append, SIX_AND_SEVEN)?;
     put_into(alloc, &wire, Mode::Replace, OTHER_SCHEMA)?;
     answered.store(true, Ordering::SeqCst);
@@ -54,55 +45,46 @@ fn wait_for<T: Clock>(clock: &T, answered: &AtomicBool, wire: Wire) -> Option<Wi
 }
 
 // Puts five rows and asks where they are; stays open while others put; and then fetches them, the second endpoint over a further
-// connection: the first one has its seat still, so that is served over the seat by which the others put.
-fn stay_open<R>(rt: &R, alloc: Global, way: Way) -> Result<MemoryOutput, Failure>
+// connection: the first one has its seat still, so that is served over the seat by which the others put. It writes so many bytes
+// at most by one write.
+#[derive(Drop)]
+struct StaysOpen {
+    most: usize,
+}
+
+impl<R> Client<R> for StaysOpen
 where
     R: Net<Listener = TcpListener, Stream = TcpStream> + Threads + Clock + Sync,
 {
-    let wire = connected(rt, way.port, way.most)?;
-    put_into(alloc, &wire, Mode::Create, ONE_TO_FIVE)?;
-    let endpoints = endpoints_of(alloc, &wire)?;
-    let answered = AtomicBool::new(false);
-    let (later, wire) = thread::join(
-        rt,
-        || put_later(rt, alloc, way, &answered),
-        || wait_for(rt, &answered, wire),
-    );
-    later?;
-    let Some(wire) = wire else {
-        return Err(Failure::Found(Fault::Transport));
-    };
-    let further = connected(rt, way.port, way.most)?;
-    lines_of(alloc, [&wire, &further], &endpoints)
+    type Answer = MemoryOutput;
+
+    fn call(&self, rt: &R, alloc: Global, port: u16) -> Result<MemoryOutput, Failure> {
+        let most = self.most;
+        let wire = connected(rt, port, most)?;
+        put_into(alloc, &wire, Mode::Create, ONE_TO_FIVE)?;
+        let endpoints = endpoints_of(alloc, &wire)?;
+        let answered = AtomicBool::new(false);
+        let (later, wire) = thread::join(
+            rt,
+            || put_later(rt, alloc, port, most, &answered),
+            || wait_for(rt, &answered, wire),
+        );
+        later?;
+        let Some(wire) = wire else {
+            return Err(Failure::Found(Fault::Transport));
+        };
+        let further = connected(rt, port, most)?;
+        lines_of(alloc, [&wire, &further], &endpoints)
+    }
 }
 
-// An open connection keeps no other from being served, and what its info names stays.
+// An open connection keeps no other from being served, and what its info names stays, for each connection.
 #[test]
 fn open_connection(rt: HostRuntime) -> Result<(), Fail> {
-    let runtime = &rt;
-    let alloc = runtime.alloc();
-    let seed = HashSeed::new(runtime)?;
-    let mut port = Port::new(runtime);
-    let number = port.listen(0)?;
-    let bound = Bound { port, number };
-    let host = Host {
-        rt: runtime,
-        alloc,
-        seed,
-    };
-    let way = Way {
-        port: number,
-        most: WHOLE,
-    };
-    let (server, client) = thread::join(
-        runtime,
-        move || served(host, bound, 3),
-        || stay_open(runtime, alloc, way),
-    );
-    assert!(rt; server.0 == 0);
-    let Ok(lines) = client else {
-        return Err(Fail::from("a call failed"));
-    };
+    let seed = HashSeed::new(&rt)?;
+    let client = StaysOpen { most: WHOLE };
+    let (server, lines) = beside(&rt, rt.alloc(), seed, 3, &client)?;
+    assert!(rt; server.status == 0);
     assert!(rt; lines.as_slice() == FIVE_LINES);
     Ok(())
 }
@@ -110,30 +92,10 @@ fn open_connection(rt: HostRuntime) -> Result<(), Fail> {
 // How a client's bytes arrive does not matter: the same calls, of which each byte is written by itself.
 #[test]
 fn byte_by_byte(rt: HostRuntime) -> Result<(), Fail> {
-    let runtime = &rt;
-    let alloc = runtime.alloc();
-    let seed = HashSeed::new(runtime)?;
-    let mut port = Port::new(runtime);
-    let number = port.listen(0)?;
-    let bound = Bound { port, number };
-    let host = Host {
-        rt: runtime,
-        alloc,
-        seed,
-    };
-    let way = Way {
-        port: number,
-        most: 1,
-    };
-    let (server, client) = thread::join(
-        runtime,
-        move || served(host, bound, 3),
-        || stay_open(runtime, alloc, way),
-    );
-    assert!(rt; server.0 == 0);
-    let Ok(lines) = client else {
-        return Err(Fail::from("a call failed"));
-    };
+    let seed = HashSeed::new(&rt)?;
+    let client = StaysOpen { most: 1 };
+    let (server, lines) = beside(&rt, rt.alloc(), seed, 3, &client)?;
+    assert!(rt; server.status == 0);
     assert!(rt; lines.as_slice() == FIVE_LINES);
     Ok(())
 }
@@ -155,16 +117,20 @@ fn cut_a_put<R: Net<Listener = TcpListener, Stream = TcpStream>>(
 }
 
 // Puts five rows, has another connection cut its put, and fetches all rows: at once, and once it has put two more.
-fn stay_whole<R>(rt: &R, alloc: Global, port: u16) -> Result<[MemoryOutput; 2], Failure>
-where
-    R: Net<Listener = TcpListener, Stream = TcpStream>,
-{
-    let wire = connected(rt, port, WHOLE)?;
-    put_into(alloc, &wire, Mode::Create, ONE_TO_FIVE)?;
-    cut_a_put(rt, port)?;
-    let before = all_lines(alloc, &wire)?;
-    put_into(alloc, &wire, Mode::Append, SIX_AND_SEVEN)?;
-    Ok([before, all_lines(alloc, &wire)?])
+#[derive(Drop)]
+struct StaysWhole;
+
+impl<R: Net<Listener = TcpListener, Stream = TcpStream>> Client<R> for StaysWhole {
+    type Answer = [MemoryOutput; 2];
+
+    fn call(&self, rt: &R, alloc: Global, port: u16) -> Result<[MemoryOutput; 2], Failure> {
+        let wire = connected(rt, port, WHOLE)?;
+        put_into(alloc, &wire, Mode::Create, ONE_TO_FIVE)?;
+        cut_a_put(rt, port)?;
+        let before = all_lines(alloc, &wire)?;
+        put_into(alloc, &wire, Mode::Append, SIX_AND_SEVEN)?;
+        Ok([before, all_lines(alloc, &wire)?])
+    }
 }
 
 // A connection that is cut inside the last message of a put ends alone, and has put nothing: of what it would have left in the
@@ -172,26 +138,9 @@ where
 // own two rows tell: they are appended to the five.
 #[test]
 fn cut_connection(rt: HostRuntime) -> Result<(), Fail> {
-    let runtime = &rt;
-    let alloc = runtime.alloc();
-    let seed = HashSeed::new(runtime)?;
-    let mut port = Port::new(runtime);
-    let number = port.listen(0)?;
-    let bound = Bound { port, number };
-    let host = Host {
-        rt: runtime,
-        alloc,
-        seed,
-    };
-    let (server, client) = thread::join(
-        runtime,
-        move || served(host, bound, 2),
-        || stay_whole(runtime, alloc, number),
-    );
-    assert!(rt; server.0 == 0);
-    let Ok([before, behind]) = client else {
-        return Err(Fail::from("a call failed"));
-    };
+    let seed = HashSeed::new(&rt)?;
+    let (server, [before, behind]) = beside(&rt, rt.alloc(), seed, 2, &StaysWhole)?;
+    assert!(rt; server.status == 0);
     assert!(rt; before.as_slice() == FIVE_LINES);
     assert!(rt; behind.as_slice() == SEVEN_LINES);
     Ok(())

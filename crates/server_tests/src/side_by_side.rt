@@ -3,13 +3,13 @@
 ghost use Rattle.std.specs.Prelude.{◌<◌, ◌≡◌};
 
 use crate::clients::{STREAM, put_stream};
-use crate::serving::{Bound, served};
+use crate::serving::{Client, beside};
+use client_calls::Failure;
 use client_commands::query::{Querying, query};
-use command_ends::{Connect, Listen};
-use commands::serve::Host;
+use command_ends::Connect;
 use grpc_frame::{Input, MemoryInput, MemoryOutput};
 use hash_seed::HashSeed;
-use loopback::{Loopback, Port};
+use loopback::Loopback;
 use scan_base::Fault;
 use std::alloc::{AllocError, Global};
 use std::io::ErrorKind;
@@ -26,46 +26,35 @@ use std::{io, thread};
 const ROWS: &[u8] = b"s\n'b'\nNULL\n'a'\nNULL\n'b'\n";
 
 // The exit statuses of a put and of a query over two connections; and what the query prints.
-fn asked<R: Net<Listener = TcpListener, Stream = TcpStream> + Threads>(
-    rt: &R,
-    alloc: Global,
-    port: u16,
-) -> ([u8; 2], MemoryOutput) {
-    let mut network = Loopback::new(rt);
-    let mut output = MemoryOutput::new(alloc);
-    let mut faults = MemoryOutput::new(alloc);
-    let querying = Querying {
-        port,
-        streams: 2,
-        sql: "SELECT s FROM t",
-    };
-    let (put, _) = put_stream(&mut network, alloc, port);
-    let queried = query(rt, alloc, &mut network, &mut output, &mut faults, querying).number();
-    ([put, queried], output)
+#[derive(Drop)]
+struct Asks;
+
+impl<R: Net<Listener = TcpListener, Stream = TcpStream> + Threads> Client<R> for Asks {
+    type Answer = ([u8; 2], MemoryOutput);
+
+    fn call(&self, rt: &R, alloc: Global, port: u16) -> Result<Self::Answer, Failure> {
+        let mut network = Loopback::new(rt);
+        let mut output = MemoryOutput::new(alloc);
+        let mut faults = MemoryOutput::new(alloc);
+        let querying = Querying {
+            port,
+            streams: 2,
+            sql: "SELECT s FROM t",
+        };
+        let (put, _) = put_stream(&mut network, alloc, port);
+        let queried = query(rt, alloc, &mut network, &mut output, &mut faults, querying).number();
+        Ok(([put, queried], output))
+    }
 }
 
 // One connection for the put and two for the query are served.
 #[test]
 fn two_connections(rt: HostRuntime) -> Result<(), Fail> {
-    let runtime = &rt;
-    let alloc = runtime.alloc();
-    let seed = HashSeed::new(runtime)?;
-    let mut port = Port::new(runtime);
-    let number = port.listen(0)?;
-    let bound = Bound { port, number };
-    let host = Host {
-        rt: runtime,
-        alloc,
-        seed,
-    };
-    let (server, client) = thread::join(
-        runtime,
-        move || served(host, bound, 3),
-        || asked(runtime, alloc, number),
-    );
-    assert!(rt; server.0 == 0);
-    assert!(rt; client.0 == [0, 0]);
-    assert!(rt; client.1.as_slice() == ROWS);
+    let seed = HashSeed::new(&rt)?;
+    let (server, (statuses, lines)) = beside(&rt, rt.alloc(), seed, 3, &Asks)?;
+    assert!(rt; server.status == 0);
+    assert!(rt; statuses == [0, 0]);
+    assert!(rt; lines.as_slice() == ROWS);
     Ok(())
 }
 
