@@ -1,7 +1,7 @@
 //! Connections that are open at once.
 
 use crate::asking::{Wire, all_lines, connected, endpoints_of, lines_of, put_into};
-use crate::serving::{Client, beside};
+use crate::serving::beside;
 use crate::streams::{CUT_PUT, FIVE_LINES, ONE_TO_FIVE, OTHER_SCHEMA, SEVEN_LINES, SIX_AND_SEVEN};
 use client_calls::{Failure, Mode};
 use grpc_frame::{Counted, Input, MemoryOutput, Output};
@@ -45,45 +45,35 @@ fn wait_for<T: Clock>(clock: &T, answered: &AtomicBool, wire: Wire) -> Option<Wi
 }
 
 // Puts five rows and asks where they are; stays open while others put; and then fetches them, the second endpoint over a further
-// connection: the first one has its seat still, so that is served over the seat by which the others put. It writes so many bytes
-// at most by one write.
-#[derive(Drop)]
-struct StaysOpen {
-    most: usize,
-}
-
-impl<R> Client<R> for StaysOpen
+// connection: the first one has its seat still, so that is served over the seat by which the others put.
+fn stay_open<R>(rt: &R, alloc: Global, port: u16, most: usize) -> Result<MemoryOutput, Failure>
 where
     R: Net<Listener = TcpListener, Stream = TcpStream> + Threads + Clock + Sync,
 {
-    type Answer = MemoryOutput;
-
-    fn call(&self, rt: &R, alloc: Global, port: u16) -> Result<MemoryOutput, Failure> {
-        let most = self.most;
-        let wire = connected(rt, port, most)?;
-        put_into(alloc, &wire, Mode::Create, ONE_TO_FIVE)?;
-        let endpoints = endpoints_of(alloc, &wire)?;
-        let answered = AtomicBool::new(false);
-        let (later, wire) = thread::join(
-            rt,
-            || put_later(rt, alloc, port, most, &answered),
-            || wait_for(rt, &answered, wire),
-        );
-        later?;
-        let Some(wire) = wire else {
-            return Err(Failure::Found(Fault::Transport));
-        };
-        let further = connected(rt, port, most)?;
-        lines_of(alloc, [&wire, &further], &endpoints)
-    }
+    let wire = connected(rt, port, most)?;
+    put_into(alloc, &wire, Mode::Create, ONE_TO_FIVE)?;
+    let endpoints = endpoints_of(alloc, &wire)?;
+    let answered = AtomicBool::new(false);
+    let (later, wire) = thread::join(
+        rt,
+        || put_later(rt, alloc, port, most, &answered),
+        || wait_for(rt, &answered, wire),
+    );
+    later?;
+    let Some(wire) = wire else {
+        return Err(Failure::Found(Fault::Transport));
+    };
+    let further = connected(rt, port, most)?;
+    lines_of(alloc, [&wire, &further], &endpoints)
 }
 
 // An open connection keeps no other from being served, and what its info names stays, for each connection.
 #[test]
 fn open_connection(rt: HostRuntime) -> Result<(), Fail> {
-    let seed = HashSeed::new(&rt)?;
-    let client = StaysOpen { most: WHOLE };
-    let (server, lines) = beside(&rt, rt.alloc(), seed, 3, &client)?;
+    let (runtime, alloc) = (&rt, rt.alloc());
+    let seed = HashSeed::new(runtime)?;
+    let client = |port| stay_open(runtime, alloc, port, WHOLE);
+    let (server, lines) = beside(runtime, alloc, seed, 3, client)?;
     assert!(rt; server.status == 0);
     assert!(rt; lines.as_slice() == FIVE_LINES);
     Ok(())
@@ -92,16 +82,17 @@ fn open_connection(rt: HostRuntime) -> Result<(), Fail> {
 // How a client's bytes arrive does not matter: the same calls, of which each byte is written by itself.
 #[test]
 fn byte_by_byte(rt: HostRuntime) -> Result<(), Fail> {
-    let seed = HashSeed::new(&rt)?;
-    let client = StaysOpen { most: 1 };
-    let (server, lines) = beside(&rt, rt.alloc(), seed, 3, &client)?;
+    let (runtime, alloc) = (&rt, rt.alloc());
+    let seed = HashSeed::new(runtime)?;
+    let client = |port| stay_open(runtime, alloc, port, 1);
+    let (server, lines) = beside(runtime, alloc, seed, 3, client)?;
     assert!(rt; server.status == 0);
     assert!(rt; lines.as_slice() == FIVE_LINES);
     Ok(())
 }
 
-// Writes a put that is cut, and ends what it writes. The server then closes its end, and has answered nothing before: a read tells
-// that it has met the cut.
+// Writes a put that is cut, and ends what is written. The read waits until the server has met the cut and has closed its end,
+// with nothing answered before.
 fn cut_a_put<R: Net<Listener = TcpListener, Stream = TcpStream>>(
     rt: &R,
     port: u16,
@@ -116,30 +107,30 @@ fn cut_a_put<R: Net<Listener = TcpListener, Stream = TcpStream>>(
     }
 }
 
-// Puts five rows, has another connection cut its put, and fetches all rows: at once, and once it has put two more.
-#[derive(Drop)]
-struct StaysWhole;
-
-impl<R: Net<Listener = TcpListener, Stream = TcpStream>> Client<R> for StaysWhole {
-    type Answer = [MemoryOutput; 2];
-
-    fn call(&self, rt: &R, alloc: Global, port: u16) -> Result<[MemoryOutput; 2], Failure> {
-        let wire = connected(rt, port, WHOLE)?;
-        put_into(alloc, &wire, Mode::Create, ONE_TO_FIVE)?;
-        cut_a_put(rt, port)?;
-        let before = all_lines(alloc, &wire)?;
-        put_into(alloc, &wire, Mode::Append, SIX_AND_SEVEN)?;
-        Ok([before, all_lines(alloc, &wire)?])
-    }
+// Puts five rows, has another connection cut its put, and fetches all rows; then a further connection, which the seat of the cut
+// one serves, puts two more and fetches all.
+fn stay_whole<R>(rt: &R, alloc: Global, port: u16) -> Result<(MemoryOutput, MemoryOutput), Failure>
+where
+    R: Net<Listener = TcpListener, Stream = TcpStream>,
+{
+    let wire = connected(rt, port, WHOLE)?;
+    put_into(alloc, &wire, Mode::Create, ONE_TO_FIVE)?;
+    cut_a_put(rt, port)?;
+    let before = all_lines(alloc, &wire)?;
+    let further = connected(rt, port, WHOLE)?;
+    put_into(alloc, &further, Mode::Append, SIX_AND_SEVEN)?;
+    Ok((before, all_lines(alloc, &further)?))
 }
 
 // A connection that is cut inside the last message of a put ends alone, and has put nothing: of what it would have left in the
-// table, not one of the five rows would be. The open connection need not be told of puts of others before it puts itself, so its
-// own two rows tell: they are appended to the five.
+// table, not one of the five rows would be. A seat need not be told of puts of others before it puts itself, so the two rows
+// tell: they are appended to the five.
 #[test]
 fn cut_connection(rt: HostRuntime) -> Result<(), Fail> {
-    let seed = HashSeed::new(&rt)?;
-    let (server, [before, behind]) = beside(&rt, rt.alloc(), seed, 2, &StaysWhole)?;
+    let (runtime, alloc) = (&rt, rt.alloc());
+    let seed = HashSeed::new(runtime)?;
+    let client = |port| stay_whole(runtime, alloc, port);
+    let (server, (before, behind)) = beside(runtime, alloc, seed, 3, client)?;
     assert!(rt; server.status == 0);
     assert!(rt; before.as_slice() == FIVE_LINES);
     assert!(rt; behind.as_slice() == SEVEN_LINES);

@@ -2,7 +2,7 @@
 
 ghost use Rattle.std.specs.Prelude.{◌<◌, ◌≡◌, IfOk};
 
-use crate::serving::{Client, beside};
+use crate::serving::beside;
 use client_calls::{Failure, Mode, Target};
 use client_commands::put::{Putting, put};
 use client_commands::query::{Querying, query};
@@ -81,34 +81,33 @@ pub(crate) fn put_stream<R: Net<Listener = TcpListener, Stream = TcpStream>>(
 }
 
 // The exit statuses of a put, a list of the tables and a query; what the put prints, and what the others print.
-#[derive(Drop)]
-struct Asks;
-
-impl<R: Net<Listener = TcpListener, Stream = TcpStream> + Threads> Client<R> for Asks {
-    type Answer = ([u8; 3], MemoryOutput, MemoryOutput);
-
-    fn call(&self, rt: &R, alloc: Global, port: u16) -> Result<Self::Answer, Failure> {
-        let mut network = Loopback::new(rt);
-        let mut output = MemoryOutput::new(alloc);
-        let mut faults = MemoryOutput::new(alloc);
-        let grouped = Querying {
-            port,
-            streams: 2,
-            sql: GROUPED,
-        };
-        let (put, counted) = put_stream(&mut network, alloc, port);
-        let listed = tables(alloc, &mut network, &mut output, &mut faults, port).number();
-        let queried = query(rt, alloc, &mut network, &mut output, &mut faults, grouped).number();
-        Ok(([put, listed, queried], counted, output))
-    }
+fn asked<R: Net<Listener = TcpListener, Stream = TcpStream> + Threads>(
+    rt: &R,
+    alloc: Global,
+    port: u16,
+) -> Result<([u8; 3], MemoryOutput, MemoryOutput), Failure> {
+    let mut network = Loopback::new(rt);
+    let mut output = MemoryOutput::new(alloc);
+    let mut faults = MemoryOutput::new(alloc);
+    let grouped = Querying {
+        port,
+        streams: 2,
+        sql: GROUPED,
+    };
+    let (put, counted) = put_stream(&mut network, alloc, port);
+    let listed = tables(alloc, &mut network, &mut output, &mut faults, port).number();
+    let queried = query(rt, alloc, &mut network, &mut output, &mut faults, grouped).number();
+    Ok(([put, listed, queried], counted, output))
 }
 
 #[test]
 fn three_commands(rt: HostRuntime) -> Result<(), Fail> {
-    let seed = HashSeed::new(&rt)?;
-    let (server, (statuses, counted, lines)) = beside(&rt, rt.alloc(), seed, 3, &Asks)?;
+    let (runtime, alloc) = (&rt, rt.alloc());
+    let seed = HashSeed::new(runtime)?;
+    let client = |port| asked(runtime, alloc, port);
+    let (server, (statuses, counted, lines)) = beside(runtime, alloc, seed, 3, client)?;
     assert!(rt; server.status == 0);
-    let listening = format!(in rt.alloc(); "listening 127.0.0.1:{}\n", server.port)?;
+    let listening = format!(in alloc; "listening 127.0.0.1:{}\n", server.port)?;
     assert!(rt; server.output.as_slice() == listening.as_bytes());
     assert!(rt; server.faults.as_slice() == NOTHING);
     assert!(rt; statuses == [0, 0, 0]);
@@ -118,31 +117,30 @@ fn three_commands(rt: HostRuntime) -> Result<(), Fail> {
 }
 
 // The exit statuses of a put, and of a query whose output is closed; and what that says.
-#[derive(Drop)]
-struct IsClosed;
-
-impl<R: Net<Listener = TcpListener, Stream = TcpStream> + Threads> Client<R> for IsClosed {
-    type Answer = ([u8; 2], MemoryOutput);
-
-    fn call(&self, rt: &R, alloc: Global, port: u16) -> Result<Self::Answer, Failure> {
-        let mut network = Loopback::new(rt);
-        let mut closed = MemoryOutput::new(alloc).failing_after(0);
-        let mut faults = MemoryOutput::new(alloc);
-        let grouped = Querying {
-            port,
-            streams: 2,
-            sql: GROUPED,
-        };
-        let (put, _) = put_stream(&mut network, alloc, port);
-        let queried = query(rt, alloc, &mut network, &mut closed, &mut faults, grouped).number();
-        Ok(([put, queried], faults))
-    }
+fn refused<R: Net<Listener = TcpListener, Stream = TcpStream> + Threads>(
+    rt: &R,
+    alloc: Global,
+    port: u16,
+) -> Result<([u8; 2], MemoryOutput), Failure> {
+    let mut network = Loopback::new(rt);
+    let mut closed = MemoryOutput::new(alloc).failing_after(0);
+    let mut faults = MemoryOutput::new(alloc);
+    let grouped = Querying {
+        port,
+        streams: 2,
+        sql: GROUPED,
+    };
+    let (put, _) = put_stream(&mut network, alloc, port);
+    let queried = query(rt, alloc, &mut network, &mut closed, &mut faults, grouped).number();
+    Ok(([put, queried], faults))
 }
 
 #[test]
 fn closed_output(rt: HostRuntime) -> Result<(), Fail> {
-    let seed = HashSeed::new(&rt)?;
-    let (server, (statuses, said)) = beside(&rt, rt.alloc(), seed, 2, &IsClosed)?;
+    let (runtime, alloc) = (&rt, rt.alloc());
+    let seed = HashSeed::new(runtime)?;
+    let client = |port| refused(runtime, alloc, port);
+    let (server, (statuses, said)) = beside(runtime, alloc, seed, 2, client)?;
     assert!(rt; server.status == 0);
     assert!(rt; statuses == [0, 3]);
     assert!(rt; said.as_slice() == TRANSPORT_LINE);

@@ -82,27 +82,19 @@ where
     }
 }
 
-// What is done beside a server.
-pub(crate) trait Client<R> {
-    // What it comes to.
-    type Answer;
-
-    // Calls the server at this port.
-    fn call(&self, rt: &R, alloc: Global, port: u16) -> Result<Self::Answer, Failure>;
-}
-
-// What a client comes to. Where it fails it may not have made all connections: so many are made then, that the server ends.
-fn called<R, C: Client<R>>(
+// What a client comes to, that calls the server at this port. Where it fails it may not have made all connections: so many are
+// made then, that the server ends.
+fn called<R, A, C: FnOnce(u16) -> Result<A, Failure>>(
     rt: &R,
-    alloc: Global,
-    client: &C,
+    client: C,
     port: u16,
     accept: u16,
-) -> Result<C::Answer, Failure>
+) -> Result<A, Failure>
 where
     R: Net<Listener = TcpListener, Stream = TcpStream>,
+    requires { C.IsAlwaysCallable client }
 {
-    let answer = client.call(rt, alloc, port);
+    let answer = client(port);
     if answer.is_err() {
         for _ in 0..accept {
             let _ = connected(rt, port, 1);
@@ -112,15 +104,16 @@ where
 }
 
 // What a server that serves so many connections and a client beside it come to. A client that fails is an error.
-pub(crate) fn beside<R, C: Client<R>>(
+pub(crate) fn beside<R, A, C: FnOnce(u16) -> Result<A, Failure>>(
     rt: &R,
     alloc: Global,
     seed: HashSeed,
     accept: u16,
-    client: &C,
-) -> Result<(Served, C::Answer), Fail>
+    client: C,
+) -> Result<(Served, A), Fail>
 where
     R: Net<Listener = TcpListener, Stream = TcpStream> + Threads + Wait + Clock + Sync,
+    requires { C.IsAlwaysCallable client }
 {
     let mut port = Port::new(rt);
     let number = port.listen(0)?;
@@ -129,7 +122,7 @@ where
     let (server, answer) = thread::join(
         rt,
         move || serve_bound(host, bound, accept),
-        || called(rt, alloc, client, number, accept),
+        move || called(rt, client, number, accept),
     );
     match answer {
         Ok(answer) => Ok((server, answer)),

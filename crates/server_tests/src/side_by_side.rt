@@ -3,7 +3,7 @@
 ghost use Rattle.std.specs.Prelude.{◌<◌, ◌≡◌};
 
 use crate::clients::{STREAM, put_stream};
-use crate::serving::{Client, beside};
+use crate::serving::beside;
 use client_calls::Failure;
 use client_commands::query::{Querying, query};
 use command_ends::Connect;
@@ -26,32 +26,31 @@ use std::{io, thread};
 const ROWS: &[u8] = b"s\n'b'\nNULL\n'a'\nNULL\n'b'\n";
 
 // The exit statuses of a put and of a query over two connections; and what the query prints.
-#[derive(Drop)]
-struct Asks;
-
-impl<R: Net<Listener = TcpListener, Stream = TcpStream> + Threads> Client<R> for Asks {
-    type Answer = ([u8; 2], MemoryOutput);
-
-    fn call(&self, rt: &R, alloc: Global, port: u16) -> Result<Self::Answer, Failure> {
-        let mut network = Loopback::new(rt);
-        let mut output = MemoryOutput::new(alloc);
-        let mut faults = MemoryOutput::new(alloc);
-        let querying = Querying {
-            port,
-            streams: 2,
-            sql: "SELECT s FROM t",
-        };
-        let (put, _) = put_stream(&mut network, alloc, port);
-        let queried = query(rt, alloc, &mut network, &mut output, &mut faults, querying).number();
-        Ok(([put, queried], output))
-    }
+fn asked<R: Net<Listener = TcpListener, Stream = TcpStream> + Threads>(
+    rt: &R,
+    alloc: Global,
+    port: u16,
+) -> Result<([u8; 2], MemoryOutput), Failure> {
+    let mut network = Loopback::new(rt);
+    let mut output = MemoryOutput::new(alloc);
+    let mut faults = MemoryOutput::new(alloc);
+    let querying = Querying {
+        port,
+        streams: 2,
+        sql: "SELECT s FROM t",
+    };
+    let (put, _) = put_stream(&mut network, alloc, port);
+    let queried = query(rt, alloc, &mut network, &mut output, &mut faults, querying).number();
+    Ok(([put, queried], output))
 }
 
 // One connection for the put and two for the query are served.
 #[test]
 fn two_connections(rt: HostRuntime) -> Result<(), Fail> {
-    let seed = HashSeed::new(&rt)?;
-    let (server, (statuses, lines)) = beside(&rt, rt.alloc(), seed, 3, &Asks)?;
+    let (runtime, alloc) = (&rt, rt.alloc());
+    let seed = HashSeed::new(runtime)?;
+    let client = |port| asked(runtime, alloc, port);
+    let (server, (statuses, lines)) = beside(runtime, alloc, seed, 3, client)?;
     assert!(rt; server.status == 0);
     assert!(rt; statuses == [0, 0]);
     assert!(rt; lines.as_slice() == ROWS);
