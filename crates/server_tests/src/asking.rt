@@ -1,4 +1,4 @@
-//! Calls over a stream, each by itself.
+//! Calls over a stream that stays open, each by itself.
 
 use bytes::Bytes;
 use client_calls::{Connection, Failure, Mode, Target, fetch, info, put};
@@ -9,17 +9,73 @@ use ipc_stream::ipc_messages;
 use row_lines::write_rows;
 use scan_base::Fault;
 use std::alloc::Global;
-use std::net::{Ipv4Addr, Net, TcpListener, TcpStream};
+use std::io;
+use std::io::{Read, Write};
+use std::net::{Ipv4Addr, Net, Shutdown, TcpListener, TcpStream};
+use std::time::Duration;
 
 const ALL: &str = "SELECT * FROM t";
 
-// Connects to a port of this machine.
+// A read that waits longer fails, so that no call waits for ever.
+const LONGEST_READ_SECONDS: u64 = 10;
+
+// A stream, and how many bytes it takes at most by one write. What is written goes out at once.
+#[derive(Drop)]
+pub(crate) struct Wire {
+    stream: TcpStream,
+    most: usize,
+}
+
+impl Wire {
+    // Connects to a port of this machine.
+    fn connect<R: Net<Listener = TcpListener, Stream = TcpStream>>(
+        rt: &R,
+        port: u16,
+        most: usize,
+    ) -> io::Result<Wire> {
+        let stream = TcpStream::connect(rt, (Ipv4Addr::LOCALHOST, port))?;
+        stream.set_nodelay(true)?;
+        stream.set_read_timeout(Some(Duration::from_secs(LONGEST_READ_SECONDS)))?;
+        Ok(Wire { stream, most })
+    }
+
+    // Ends what is written.
+    pub(crate) fn end(&self) -> Result<(), Failure> {
+        match self.stream.shutdown(Shutdown::Write) {
+            Ok(()) => Ok(()),
+            Err(_) => Err(Failure::Found(Fault::Transport)),
+        }
+    }
+}
+
+impl Read for &Wire {
+    fn read(&mut self, piece: &mut [u8]) -> io::Result<usize> {
+        let mut stream = &self.stream;
+        stream.read(piece)
+    }
+}
+
+impl Write for &Wire {
+    fn write(&mut self, piece: &[u8]) -> io::Result<usize> {
+        let mut stream = &self.stream;
+        let count = self.most.min(piece.len());
+        stream.write(&piece[..count])
+    }
+
+    fn flush(&mut self) -> io::Result<()> {
+        let mut stream = &self.stream;
+        stream.flush()
+    }
+}
+
+// Connects to a port of this machine by a wire that takes so many bytes by one write.
 pub(crate) fn connected<R: Net<Listener = TcpListener, Stream = TcpStream>>(
     rt: &R,
     port: u16,
-) -> Result<TcpStream, Failure> {
-    match TcpStream::connect(rt, (Ipv4Addr::LOCALHOST, port)) {
-        Ok(stream) => Ok(stream),
+    most: usize,
+) -> Result<Wire, Failure> {
+    match Wire::connect(rt, port, most) {
+        Ok(wire) => Ok(wire),
         Err(_) => Err(Failure::Found(Fault::Transport)),
     }
 }
@@ -27,47 +83,46 @@ pub(crate) fn connected<R: Net<Listener = TcpListener, Stream = TcpStream>>(
 // Puts an Arrow IPC stream into table t, and tells how many rows were put.
 pub(crate) fn put_into(
     alloc: Global,
-    stream: &TcpStream,
+    wire: &Wire,
     mode: Mode,
     rows: &'static [u8],
 ) -> Result<u64, Failure> {
     let messages = ipc_messages(alloc, &Bytes::from_static(rows))?;
-    let mut connection = Connection::new(alloc, Counted::new(stream), Counted::new(stream));
+    let mut connection = Connection::new(alloc, Counted::new(wire), Counted::new(wire));
     let target = Target { table: "t", mode };
     put(alloc, &mut connection, target, &messages)
 }
 
 // The endpoints of all rows of table t.
-pub(crate) fn endpoints_of(
-    alloc: Global,
-    stream: &TcpStream,
-) -> Result<Vec<FlightEndpoint>, Failure> {
-    let mut connection = Connection::new(alloc, Counted::new(stream), Counted::new(stream));
+pub(crate) fn endpoints_of(alloc: Global, wire: &Wire) -> Result<Vec<FlightEndpoint>, Failure> {
+    let mut connection = Connection::new(alloc, Counted::new(wire), Counted::new(wire));
     info(alloc, &mut connection, Wanted::Rows(ALL))
 }
 
 // The stream of an endpoint.
-fn fetched(
-    alloc: Global,
-    stream: &TcpStream,
-    endpoint: &FlightEndpoint,
-) -> Result<Stream, Failure> {
-    let mut connection = Connection::new(alloc, Counted::new(stream), Counted::new(stream));
+fn fetched(alloc: Global, wire: &Wire, endpoint: &FlightEndpoint) -> Result<Stream, Failure> {
+    let mut connection = Connection::new(alloc, Counted::new(wire), Counted::new(wire));
     fetch(alloc, &mut connection, &endpoint.ticket)
 }
 
-// What is printed of the rows of two endpoints. The second is fetched first.
+// What is printed of all rows of table t.
+pub(crate) fn all_lines(alloc: Global, wire: &Wire) -> Result<MemoryOutput, Failure> {
+    let endpoints = endpoints_of(alloc, wire)?;
+    lines_of(alloc, [wire, wire], &endpoints)
+}
+
+// What is printed of the rows of two endpoints, each fetched over the wire in its place. The second is fetched first.
 pub(crate) fn lines_of(
     alloc: Global,
-    stream: &TcpStream,
+    wires: [&Wire; 2],
     endpoints: &[FlightEndpoint],
 ) -> Result<MemoryOutput, Failure> {
     let mut output = MemoryOutput::new(alloc);
     let [first, second] = endpoints else {
         return Err(Failure::Found(Fault::BadTicket));
     };
-    let behind = fetched(alloc, stream, second)?;
-    let before = fetched(alloc, stream, first)?;
+    let behind = fetched(alloc, wires[1], second)?;
+    let before = fetched(alloc, wires[0], first)?;
     let Ok(streams) = vec![in alloc; before, behind] else {
         return Err(Failure::Found(Fault::OutOfMemory));
     };

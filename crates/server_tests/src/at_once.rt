@@ -1,17 +1,13 @@
 //! Connections that are open at once.
 
-use crate::asking::{connected, endpoints_of, lines_of, put_into};
-use crate::serving::{Bound, served};
-use crate::streams::{FIVE_LINES, ONE_TO_FIVE, OTHER_SCHEMA, SIX_AND_SEVEN};
+use crate::asking::{Wire, all_lines, connected, endpoints_of, lines_of, put_into};
+use crate::serving::beside;
+use crate::streams::{CUT_PUT, FIVE_LINES, ONE_TO_FIVE, OTHER_SCHEMA, SEVEN_LINES, SIX_AND_SEVEN};
 use client_calls::{Failure, Mode};
-use command_ends::Listen;
-use commands::serve::Host;
-use grpc_frame::MemoryOutput;
+use grpc_frame::{Counted, Input, MemoryOutput, Output};
 use hash_seed::HashSeed;
-use loopback::Port;
 use scan_base::Fault;
 use std::alloc::Global;
-use std::io::Write;
 use std::net::{Net, TcpListener, TcpStream};
 use std::sync::atomic::{AtomicBool, Ordering};
 use std::test::Fail;
@@ -19,130 +15,124 @@ use std::thread;
 use std::thread::Threads;
 use std::time::{Clock, Duration};
 
+// Each piece is written whole.
+const WHOLE: usize = usize::MAX;
+
 // The later puts: rows are appended, and then the table is replaced by one of another schema.
 fn put_later<R: Net<Listener = TcpListener, Stream = TcpStream>>(
     rt: &R,
     alloc: Global,
     port: u16,
+    most: usize,
     answered: &AtomicBool,
 ) -> Result<(), Failure> {
-    let stream = connected(rt, port)?;
-    put_into(alloc, &stream, Mode::Append, SIX_AND_SEVEN)?;
-    put_into(alloc, &stream, Mode::Replace, OTHER_SCHEMA)?;
+    let wire = connected(rt, port, most)?;
+    put_into(alloc, &wire, Mode::Append, SIX_AND_SEVEN)?;
+    put_into(alloc, &wire, Mode::Replace, OTHER_SCHEMA)?;
     answered.store(true, Ordering::SeqCst);
     Ok(())
 }
 
-// The stream, once the puts are answered. Behind 10,000 turns it is closed.
-fn wait_for<T: Clock>(clock: &T, answered: &AtomicBool, stream: TcpStream) -> Option<TcpStream> {
+// The wire, once the puts are answered. Behind 10,000 turns it is closed.
+fn wait_for<T: Clock>(clock: &T, answered: &AtomicBool, wire: Wire) -> Option<Wire> {
     for _ in 0..10_000 {
         if answered.load(Ordering::SeqCst) {
-            return Some(stream);
+            return Some(wire);
         }
         thread::sleep(clock, Duration::from_millis(1));
     }
     None
 }
 
-// Puts five rows and asks where they are; stays open while others put; and then fetches them.
-fn stay_open<R>(rt: &R, alloc: Global, port: u16) -> Result<MemoryOutput, Failure>
+// Puts five rows and asks where they are; stays open while others put; and then fetches them, the second endpoint over a further
+// connection: the first one has its seat still, so that is served over the seat by which the others put.
+fn stay_open<R>(rt: &R, alloc: Global, port: u16, most: usize) -> Result<MemoryOutput, Failure>
 where
     R: Net<Listener = TcpListener, Stream = TcpStream> + Threads + Clock + Sync,
 {
-    let stream = connected(rt, port)?;
-    put_into(alloc, &stream, Mode::Create, ONE_TO_FIVE)?;
-    let endpoints = endpoints_of(alloc, &stream)?;
+    let wire = connected(rt, port, most)?;
+    put_into(alloc, &wire, Mode::Create, ONE_TO_FIVE)?;
+    let endpoints = endpoints_of(alloc, &wire)?;
     let answered = AtomicBool::new(false);
-    let (later, stream) = thread::join(
+    let (later, wire) = thread::join(
         rt,
-        || put_later(rt, alloc, port, &answered),
-        || wait_for(rt, &answered, stream),
+        || put_later(rt, alloc, port, most, &answered),
+        || wait_for(rt, &answered, wire),
     );
     later?;
-    match stream {
-        Some(stream) => lines_of(alloc, &stream, &endpoints),
-        None => Err(Failure::Found(Fault::Transport)),
-    }
+    let Some(wire) = wire else {
+        return Err(Failure::Found(Fault::Transport));
+    };
+    let further = connected(rt, port, most)?;
+    lines_of(alloc, [&wire, &further], &endpoints)
 }
 
-// An open connection keeps no other from being served, and what its info names stays.
+// An open connection keeps no other from being served, and what its info names stays, for each connection.
 #[test]
 fn open_connection(rt: HostRuntime) -> Result<(), Fail> {
-    let runtime = &rt;
-    let alloc = runtime.alloc();
+    let (runtime, alloc) = (&rt, rt.alloc());
     let seed = HashSeed::new(runtime)?;
-    let mut port = Port::new(runtime);
-    let number = port.listen(0)?;
-    let bound = Bound { port, number };
-    let host = Host {
-        rt: runtime,
-        alloc,
-        seed,
-    };
-    let (server, client) = thread::join(
-        runtime,
-        move || served(host, bound, 2),
-        || stay_open(runtime, alloc, number),
-    );
-    assert!(rt; server.0 == 0);
-    let Ok(lines) = client else {
-        return Err(Fail::from("a call failed"));
-    };
+    let client = |port| stay_open(runtime, alloc, port, WHOLE);
+    let (server, lines) = beside(runtime, alloc, seed, 3, client)?;
+    assert!(rt; server.status == 0);
     assert!(rt; lines.as_slice() == FIVE_LINES);
     Ok(())
 }
 
-// The first records of a put, up to a message of which a part is missing.
-const CUT_PUT: &[u8] =
-    b"\x01\x00\x2a/arrow.flight.protocol.FlightService/DoPut\x02\x00\x00\x00\x00\x04\x0a\x02";
+// How a client's bytes arrive does not matter: the same calls, of which each byte is written by itself.
+#[test]
+fn byte_by_byte(rt: HostRuntime) -> Result<(), Fail> {
+    let (runtime, alloc) = (&rt, rt.alloc());
+    let seed = HashSeed::new(runtime)?;
+    let client = |port| stay_open(runtime, alloc, port, 1);
+    let (server, lines) = beside(runtime, alloc, seed, 3, client)?;
+    assert!(rt; server.status == 0);
+    assert!(rt; lines.as_slice() == FIVE_LINES);
+    Ok(())
+}
 
-// Begins a put, and closes the connection.
+// Writes a put that is cut, and ends what is written. The read waits until the server has met the cut and has closed its end,
+// with nothing answered before.
 fn cut_a_put<R: Net<Listener = TcpListener, Stream = TcpStream>>(
     rt: &R,
     port: u16,
 ) -> Result<(), Failure> {
-    let mut stream = connected(rt, port)?;
-    match stream.write_all(CUT_PUT) {
-        Ok(()) => Ok(()),
-        Err(_) => Err(Failure::Found(Fault::Transport)),
+    let wire = connected(rt, port, WHOLE)?;
+    Counted::new(&wire).write(CUT_PUT)?;
+    wire.end()?;
+    let mut answer = [0; 1];
+    match Counted::new(&wire).read(&mut answer)? {
+        0 => Ok(()),
+        _ => Err(Failure::Found(Fault::BadFrame)),
     }
 }
 
-// Puts five rows, has another connection cut its put, and fetches the rows.
-fn stay_whole<R>(rt: &R, alloc: Global, port: u16) -> Result<MemoryOutput, Failure>
+// Puts five rows, has another connection cut its put, and fetches all rows; then a further connection, which the seat of the cut
+// one serves, puts two more and fetches all.
+fn stay_whole<R>(rt: &R, alloc: Global, port: u16) -> Result<(MemoryOutput, MemoryOutput), Failure>
 where
     R: Net<Listener = TcpListener, Stream = TcpStream>,
 {
-    let stream = connected(rt, port)?;
-    put_into(alloc, &stream, Mode::Create, ONE_TO_FIVE)?;
+    let wire = connected(rt, port, WHOLE)?;
+    put_into(alloc, &wire, Mode::Create, ONE_TO_FIVE)?;
     cut_a_put(rt, port)?;
-    let endpoints = endpoints_of(alloc, &stream)?;
-    lines_of(alloc, &stream, &endpoints)
+    let before = all_lines(alloc, &wire)?;
+    let further = connected(rt, port, WHOLE)?;
+    put_into(alloc, &further, Mode::Append, SIX_AND_SEVEN)?;
+    Ok((before, all_lines(alloc, &further)?))
 }
 
-// A connection that is cut inside a put ends alone, and has put nothing.
+// A connection that is cut inside the last message of a put ends alone, and has put nothing: of what it would have left in the
+// table, not one of the five rows would be. A seat need not be told of puts of others before it puts itself, so the two rows
+// tell: they are appended to the five.
 #[test]
 fn cut_connection(rt: HostRuntime) -> Result<(), Fail> {
-    let runtime = &rt;
-    let alloc = runtime.alloc();
+    let (runtime, alloc) = (&rt, rt.alloc());
     let seed = HashSeed::new(runtime)?;
-    let mut port = Port::new(runtime);
-    let number = port.listen(0)?;
-    let bound = Bound { port, number };
-    let host = Host {
-        rt: runtime,
-        alloc,
-        seed,
-    };
-    let (server, client) = thread::join(
-        runtime,
-        move || served(host, bound, 2),
-        || stay_whole(runtime, alloc, number),
-    );
-    assert!(rt; server.0 == 0);
-    let Ok(lines) = client else {
-        return Err(Fail::from("a call failed"));
-    };
-    assert!(rt; lines.as_slice() == FIVE_LINES);
+    let client = |port| stay_whole(runtime, alloc, port);
+    let (server, (before, behind)) = beside(runtime, alloc, seed, 3, client)?;
+    assert!(rt; server.status == 0);
+    assert!(rt; before.as_slice() == FIVE_LINES);
+    assert!(rt; behind.as_slice() == SEVEN_LINES);
     Ok(())
 }

@@ -2,21 +2,20 @@
 
 ghost use Rattle.std.specs.Prelude.{◌<◌, ◌≡◌, IfOk};
 
-use crate::serving::{Bound, served};
-use client_calls::{Mode, Target};
+use crate::serving::beside;
+use client_calls::{Failure, Mode, Target};
 use client_commands::put::{Putting, put};
 use client_commands::query::{Querying, query};
 use client_commands::tables::tables;
 use command_ends::{Connect, Listen};
-use commands::serve::Host;
 use grpc_frame::{MemoryInput, MemoryOutput};
 use hash_seed::HashSeed;
 use loopback::{Loopback, Port};
 use std::alloc::Global;
+use std::io;
 use std::net::{Net, TcpListener, TcpStream};
 use std::test::Fail;
 use std::thread::Threads;
-use std::{io, thread};
 
 // An Arrow IPC stream of one nullable column `s` of texts: 'b', NULL, 'a', NULL, 'b'. Its headers are laid out by
 // vectors/arrow/layout.py.
@@ -47,7 +46,8 @@ pub(crate) const STREAM: &[u8] =
 
 const GROUPED: &str = "SELECT s, COUNT(*) FROM t GROUP BY s";
 
-const GROUPS: &[u8] = b"s\tcol2\n'b'\t2\nNULL\t2\n'a'\t1\n";
+// What is printed of the tables, and then of the groups.
+const TABLE_AND_GROUPS: &[u8] = b"t\ns\tcol2\n'b'\t2\nNULL\t2\n'a'\t1\n";
 
 const TRANSPORT_LINE: &[u8] = b"fault: F22 Transport\n";
 
@@ -85,7 +85,7 @@ fn asked<R: Net<Listener = TcpListener, Stream = TcpStream> + Threads>(
     rt: &R,
     alloc: Global,
     port: u16,
-) -> ([u8; 3], MemoryOutput, MemoryOutput) {
+) -> Result<([u8; 3], MemoryOutput, MemoryOutput), Failure> {
     let mut network = Loopback::new(rt);
     let mut output = MemoryOutput::new(alloc);
     let mut faults = MemoryOutput::new(alloc);
@@ -97,7 +97,23 @@ fn asked<R: Net<Listener = TcpListener, Stream = TcpStream> + Threads>(
     let (put, counted) = put_stream(&mut network, alloc, port);
     let listed = tables(alloc, &mut network, &mut output, &mut faults, port).number();
     let queried = query(rt, alloc, &mut network, &mut output, &mut faults, grouped).number();
-    ([put, listed, queried], counted, output)
+    Ok(([put, listed, queried], counted, output))
+}
+
+#[test]
+fn three_commands(rt: HostRuntime) -> Result<(), Fail> {
+    let (runtime, alloc) = (&rt, rt.alloc());
+    let seed = HashSeed::new(runtime)?;
+    let client = |port| asked(runtime, alloc, port);
+    let (server, (statuses, counted, lines)) = beside(runtime, alloc, seed, 3, client)?;
+    assert!(rt; server.status == 0);
+    let listening = format!(in alloc; "listening 127.0.0.1:{}\n", server.port)?;
+    assert!(rt; server.output.as_slice() == listening.as_bytes());
+    assert!(rt; server.faults.as_slice() == NOTHING);
+    assert!(rt; statuses == [0, 0, 0]);
+    assert!(rt; counted.as_slice() == b"5 rows\n".as_slice());
+    assert!(rt; lines.as_slice() == TABLE_AND_GROUPS);
+    Ok(())
 }
 
 // The exit statuses of a put, and of a query whose output is closed; and what that says.
@@ -105,7 +121,7 @@ fn refused<R: Net<Listener = TcpListener, Stream = TcpStream> + Threads>(
     rt: &R,
     alloc: Global,
     port: u16,
-) -> ([u8; 2], MemoryOutput) {
+) -> Result<([u8; 2], MemoryOutput), Failure> {
     let mut network = Loopback::new(rt);
     let mut closed = MemoryOutput::new(alloc).failing_after(0);
     let mut faults = MemoryOutput::new(alloc);
@@ -116,63 +132,18 @@ fn refused<R: Net<Listener = TcpListener, Stream = TcpStream> + Threads>(
     };
     let (put, _) = put_stream(&mut network, alloc, port);
     let queried = query(rt, alloc, &mut network, &mut closed, &mut faults, grouped).number();
-    ([put, queried], faults)
-}
-
-#[test]
-fn three_commands(rt: HostRuntime) -> Result<(), Fail> {
-    let runtime = &rt;
-    let alloc = runtime.alloc();
-    let seed = HashSeed::new(runtime)?;
-    let mut port = Port::new(runtime);
-    let number = port.listen(0)?;
-    let bound = Bound { port, number };
-    let host = Host {
-        rt: runtime,
-        alloc,
-        seed,
-    };
-    let (server, client) = thread::join(
-        runtime,
-        move || served(host, bound, 3),
-        || asked(runtime, alloc, number),
-    );
-    assert!(rt; server.0 == 0);
-    let listening = format!(in alloc; "listening 127.0.0.1:{number}\n")?;
-    assert!(rt; server.1.as_slice() == listening.as_bytes());
-    assert!(rt; server.2.as_slice() == NOTHING);
-    assert!(rt; client.0 == [0, 0, 0]);
-    assert!(rt; client.1.as_slice() == b"5 rows\n".as_slice());
-    let (listed, lines) = client
-        .2
-        .as_slice()
-        .split_at(2.min(client.2.as_slice().len()));
-    assert!(rt; listed == b"t\n".as_slice());
-    assert!(rt; lines == GROUPS);
-    Ok(())
+    Ok(([put, queried], faults))
 }
 
 #[test]
 fn closed_output(rt: HostRuntime) -> Result<(), Fail> {
-    let runtime = &rt;
-    let alloc = runtime.alloc();
+    let (runtime, alloc) = (&rt, rt.alloc());
     let seed = HashSeed::new(runtime)?;
-    let mut port = Port::new(runtime);
-    let number = port.listen(0)?;
-    let bound = Bound { port, number };
-    let host = Host {
-        rt: runtime,
-        alloc,
-        seed,
-    };
-    let (server, client) = thread::join(
-        runtime,
-        move || served(host, bound, 2),
-        || refused(runtime, alloc, number),
-    );
-    assert!(rt; server.0 == 0);
-    assert!(rt; client.0 == [0, 3]);
-    assert!(rt; client.1.as_slice() == TRANSPORT_LINE);
+    let client = |port| refused(runtime, alloc, port);
+    let (server, (statuses, said)) = beside(runtime, alloc, seed, 2, client)?;
+    assert!(rt; server.status == 0);
+    assert!(rt; statuses == [0, 3]);
+    assert!(rt; said.as_slice() == TRANSPORT_LINE);
     Ok(())
 }
 

@@ -3,13 +3,13 @@
 ghost use Rattle.std.specs.Prelude.{◌<◌, ◌≡◌};
 
 use crate::clients::{STREAM, put_stream};
-use crate::serving::{Bound, served};
+use crate::serving::beside;
+use client_calls::Failure;
 use client_commands::query::{Querying, query};
-use command_ends::{Connect, Listen};
-use commands::serve::Host;
+use command_ends::Connect;
 use grpc_frame::{Input, MemoryInput, MemoryOutput};
 use hash_seed::HashSeed;
-use loopback::{Loopback, Port};
+use loopback::Loopback;
 use scan_base::Fault;
 use std::alloc::{AllocError, Global};
 use std::io::ErrorKind;
@@ -30,7 +30,7 @@ fn asked<R: Net<Listener = TcpListener, Stream = TcpStream> + Threads>(
     rt: &R,
     alloc: Global,
     port: u16,
-) -> ([u8; 2], MemoryOutput) {
+) -> Result<([u8; 2], MemoryOutput), Failure> {
     let mut network = Loopback::new(rt);
     let mut output = MemoryOutput::new(alloc);
     let mut faults = MemoryOutput::new(alloc);
@@ -41,31 +41,19 @@ fn asked<R: Net<Listener = TcpListener, Stream = TcpStream> + Threads>(
     };
     let (put, _) = put_stream(&mut network, alloc, port);
     let queried = query(rt, alloc, &mut network, &mut output, &mut faults, querying).number();
-    ([put, queried], output)
+    Ok(([put, queried], output))
 }
 
 // One connection for the put and two for the query are served.
 #[test]
 fn two_connections(rt: HostRuntime) -> Result<(), Fail> {
-    let runtime = &rt;
-    let alloc = runtime.alloc();
+    let (runtime, alloc) = (&rt, rt.alloc());
     let seed = HashSeed::new(runtime)?;
-    let mut port = Port::new(runtime);
-    let number = port.listen(0)?;
-    let bound = Bound { port, number };
-    let host = Host {
-        rt: runtime,
-        alloc,
-        seed,
-    };
-    let (server, client) = thread::join(
-        runtime,
-        move || served(host, bound, 3),
-        || asked(runtime, alloc, number),
-    );
-    assert!(rt; server.0 == 0);
-    assert!(rt; client.0 == [0, 0]);
-    assert!(rt; client.1.as_slice() == ROWS);
+    let client = |port| asked(runtime, alloc, port);
+    let (server, (statuses, lines)) = beside(runtime, alloc, seed, 3, client)?;
+    assert!(rt; server.status == 0);
+    assert!(rt; statuses == [0, 0]);
+    assert!(rt; lines.as_slice() == ROWS);
     Ok(())
 }
 
