@@ -127,8 +127,7 @@ pub record IsNotPrinted (port : ℕ) (out out' : Said) : Type 0 where
   pub begun : AppendsBeginning out.bytes out'.bytes (listening_line port)
   pub counted : out'.failures ≡ out.failures + 1
 
--- connections were served; or memory for the catalog or the workers was refused, or a listener for one of them, and nothing is
--- printed; or the line of the port was not printed
+-- connections were served; or no memory or no listener was there for it, and nothing is printed; or the port was not printed
 abbrev pub ServesPort : {L : Type 0} → (L → Option Ends → L → Type 0) → (L → Option L → Type 0) → Serving → Result (Unit {0}) Fault → L → Said → Said → Type 0
 ServesPort accepts shares serving (Ok done) heard out out' = IsServed accepts shares serving (Ok done) heard out out'
 ServesPort accepts shares serving (Err fault) heard out out' =
