@@ -9,7 +9,7 @@ use Rattle.std.proofs.lemmas.Grind.{common_steps}
 use Rattle.std.proofs.lemmas.Option.{slice_get_within}
 use Rattle.scan_base.specs.declared.fault.Fault.{Fault}
 use Rattle.table_versions.specs.Table.{Name}
-use Rattle.table_versions.specs.Database.{Database, Put, table_at, with_table, after, accepted, after_all, database_of, version, IsLog, logged}
+use Rattle.table_versions.specs.Database.{Database, Put, table_at, with_table, after, accepted, after_all, database_of, version, AreAccepted, logged}
 use Rattle.table_versions.specs.Laws.{TablesAreFound, LogsGrow, LogsStay, LogsHoldAcceptedPuts}
 
 -- two tests that do not both hold go in either order
@@ -73,8 +73,8 @@ pushed_at (x ∷ xs) y z zero h old new = old h
 pushed_at (x ∷ xs) y z (suc n) h old new = pushed_at xs y z n h old (λ e. new (ap suc e))
 
 -- a log with an accepted put behind it
-longer_log : (log : List Put) (put : Put) (database : Database) → IsLog log → after (database_of log) (length log) put ≡ Ok database →
-    IsLog (log ++ put ∷ [])
+pub longer_log : (log : List Put) (put : Put) (database : Database) → AreAccepted log → after (database_of log) (length log) put ≡ Ok database →
+    AreAccepted (log ++ put ∷ [])
 longer_log log put database is h n other at = pushed_at log put other n at old new
   where
     earlier : (i : ℕ) → i ≤ length log → version (log ++ put ∷ []) i ≡ version log i
@@ -101,7 +101,7 @@ longer_log log put database is h n other at = pushed_at log put other n at old n
 pub logs_hold_accepted_puts : LogsHoldAcceptedPuts
 logs_hold_accepted_puts = (λ n put at. cc, λ log put is. kept log put is (after (database_of log) (length log) put) refl)
   where
-    kept : (log : List Put) (put : Put) → IsLog log → (result : Result Database Fault) → after (database_of log) (length log) put ≡ result →
-        IsLog (logged log put)
-    kept log put is (Ok database) h = subst (λ (l : List Put). IsLog l) (sym (logs_grow log put database h).0) (longer_log log put database is h)
-    kept log put is (Err fault) h = subst (λ (l : List Put). IsLog l) (sym (logs_stay log put fault h)) is
+    kept : (log : List Put) (put : Put) → AreAccepted log → (result : Result Database Fault) → after (database_of log) (length log) put ≡ result →
+        AreAccepted (logged log put)
+    kept log put is (Ok database) h = subst (λ (l : List Put). AreAccepted l) (sym (logs_grow log put database h).0) (longer_log log put database is h)
+    kept log put is (Err fault) h = subst (λ (l : List Put). AreAccepted l) (sym (logs_stay log put fault h)) is

@@ -13,7 +13,7 @@ use Rattle.scan_base.specs.declared.put_options.IfExists.TheVariants.{Unspecifie
 use Rattle.scan_base.specs.declared.put_options.IfNotExist.{IfNotExist}
 use Rattle.scan_base.specs.declared.put_options.IfNotExist.TheVariants as absent
 use Rattle.table_versions.specs.Table.{Name, Row, Table}
-use Rattle.table_versions.specs.Database.{Database, Put, after, database_of, version, IsLog, logged}
+use Rattle.table_versions.specs.Database.{Database, Put, after, database_of, version, AreAccepted, logged}
 use Rattle.table_versions.specs.Stored.{stored_after}
 
 abbrev field : Name → DataType → Field
@@ -173,7 +173,7 @@ not_logged = refl
 is_logged : logged (created ∷ []) replaced ≡ created ∷ replaced ∷ []
 is_logged = refl
 
-refused_in_log : IsLog (created ∷ created ∷ []) → ⊥
+refused_in_log : AreAccepted (created ∷ created ∷ []) → ⊥
 refused_in_log is = let no : Err TableExists ≡ Ok (version (created ∷ created ∷ []) 2) = is 1 created refl in cc
 
 -- batches without rows are not stored, and an append's stand behind the old ones

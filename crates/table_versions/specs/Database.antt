@@ -99,8 +99,8 @@ abbrev pub version : List Put → ℕ → Database
 version log n = database_of (take n log)
 
 -- a log holds accepted puts alone: put n of it is accepted by version n, and gives version n + 1
-abbrev pub IsLog : List Put → Type 0
-IsLog log = (n : ℕ) (put : Put) → slice_get log n ≡ Some put → after (version log n) n put ≡ Ok (version log (n + 1))
+abbrev pub AreAccepted : List Put → Type 0
+AreAccepted log = (n : ℕ) (put : Put) → slice_get log n ≡ Some put → after (version log n) n put ≡ Ok (version log (n + 1))
 
 -- the log after a put: an accepted one stands at its end, and a refused one changes nothing
 abbrev pub logged : List Put → Put → List Put

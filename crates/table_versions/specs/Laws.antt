@@ -5,7 +5,7 @@ use Rattle.scan_base.specs.declared.fault.Fault.{Fault}
 use Rattle.scan_base.specs.Limits.{most_rows}
 use Rattle.table_versions.specs.Table.{Name, Table}
 use Rattle.table_versions.specs.Order.{IsInOrder}
-use Rattle.table_versions.specs.Database.{Database, Put, table_at, with_table, after, database_of, version, IsLog, logged}
+use Rattle.table_versions.specs.Database.{Database, Put, table_at, with_table, after, database_of, version, AreAccepted, logged}
 use Rattle.table_versions.specs.Valid.{IsDatabase, IsPut, HasDatabases}
 
 -- the table that was put is found at its name, and each other name has what it had
@@ -28,7 +28,7 @@ LogsStay =
 
 -- no puts are a log, and what is logged behind a log is one
 abbrev pub LogsHoldAcceptedPuts : Type 0
-LogsHoldAcceptedPuts = IsLog [] × ((log : List Put) (put : Put) → IsLog log → IsLog (logged log put))
+LogsHoldAcceptedPuts = AreAccepted [] × ((log : List Put) (put : Put) → AreAccepted log → AreAccepted (logged log put))
 
 -- the names of every version are in byte order, and each stands once
 abbrev pub NamesAreInOrder : Type 0

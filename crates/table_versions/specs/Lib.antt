@@ -9,3 +9,4 @@ pub mod Order
 pub mod Standing
 pub mod Laws
 pub mod Place
+pub mod Log

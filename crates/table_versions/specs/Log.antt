@@ -1,0 +1,40 @@
+-- The log: what was accepted, in order. A put is the one kind of entry so far.
+use Rattle.std.specs.Prelude.{◌≡◌, ℕ, List, [], ◌∷◌, ◌++◌, length, All}
+use Rattle.table_versions.specs.Database.{Database, Put}
+use Rattle.table_versions.specs.Database as puts
+use Rattle.table_versions.specs.Valid.{IsPut}
+
+-- an entry of a log
+pub data Entry : Type 0 where
+  added : Put → Entry
+
+abbrev pub Log : Type 0
+Log = List Entry
+
+-- the puts of a log, in order
+abbrev pub puts_of : Log → List Put
+puts_of [] = []
+puts_of (added put ∷ log) = put ∷ puts_of log
+
+-- how many puts a log has: the number of its newest version
+abbrev pub puts_in : Log → ℕ
+puts_in log = length (puts_of log)
+
+-- the newest database of a log, and that of its first n puts
+abbrev pub database_of : Log → Database
+database_of log = puts.database_of (puts_of log)
+
+abbrev pub version : Log → ℕ → Database
+version log n = puts.version (puts_of log) n
+
+-- each put of a log was accepted by the version before it
+abbrev pub IsLog : Log → Type 0
+IsLog log = puts.AreAccepted (puts_of log)
+
+-- each put of a log comes with one column or more, and with rows of their types
+abbrev pub ArePuts : Log → Type 0
+ArePuts log = All IsPut (puts_of log)
+
+-- a log goes on from another
+abbrev pub Begins : Log → Log → Type 0
+Begins log more = (rest : Log) × (more ≡ log ++ rest)
