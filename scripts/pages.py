@@ -7,7 +7,8 @@
 Made: the column "Stands on" of docs/ARCHITECTURE.md, from crates.txt; and the list of files in docs/SEMANTICS.md, from
 what scripts/trusted_base.py counts and what public contracts cite. Looked at, in each page: that the files and headings
 that links lead to are there; that a name in a link to a source file stands in that file; that files and wrong bodies
-named in backticks are there; that code which is shown stands so in a source file; that the tour of docs/SEMANTICS.md
+named in backticks are there; that each wrong body has its row in the README of its crate, with a link to where it
+stands; that code which is shown stands so in a source file; that the tour of docs/SEMANTICS.md
 leaves out no file to believe; and that README.md has at most 10,000 bytes.
 """
 
@@ -195,6 +196,20 @@ def look_at_names(page, text, amiss):
             amiss.append(f"{page.relative_to(TOP)}: no file {path}")
 
 
+def look_at_wrong_bodies(amiss):
+    """Tells which wrong bodies have no row in the README of their crate, and which rows have no wrong body. A row links
+    to its file, as must-fail/NAME where the gate tries it, and as plants/NAME where a landing does."""
+    found = {(path.relative_to(CRATES).parts[0], "must-fail", path.stem) for path in CRATES.glob("*/must-fail/*.edit")}
+    found |= {(path.parent.name, "plants", path.stem) for path in TOP.glob("plants/*/*.edit")}
+    named = set()
+    for page in CRATES.glob("*/README.md"):
+        crate = page.parent.name
+        row = rf"(?m)^\| \[(must-fail|plants)/(\w+)\]\((?:must-fail|\.\./\.\./plants/{crate})/\2\.edit\) \|"
+        named |= {(crate, folder, name) for folder, name in re.findall(row, page.read_text())}
+    amiss.extend(f"crates/{crate}/README.md: no row for {folder}/{name}" for crate, folder, name in sorted(found - named))
+    amiss.extend(f"crates/{crate}/README.md: no wrong body {folder}/{name}" for crate, folder, name in sorted(named - found))
+
+
 def look_at_tour(page, text, amiss):
     """Tells which files the tour of SEMANTICS names that are not there, and which of those to believe it leaves out."""
     toured = set()
@@ -224,7 +239,7 @@ def look_at_code(page, text, sources, amiss):
 
 def pages():
     yield from sorted(TOP.glob("*.md"))
-    for folder in ("docs", "bench", "vectors", "crates"):
+    for folder in ("docs", "bench", "plants", "scripts", "vectors", "crates"):
         yield from sorted(path for path in (TOP / folder).rglob("*.md") if "/out/" not in str(path))
 
 
@@ -247,6 +262,7 @@ def main(words):
             look_at_tour(page, text, amiss)
         look_at_links(page, text, amiss)
         look_at_names(page, text, amiss)
+    look_at_wrong_bodies(amiss)
     listed = stands_on()
     of_kit = {name for below in listed.values() for name in below} - set(listed)
     amiss.extend(f"{page}: no word of the kit's {name}" for name in sorted(of_kit) for page in ("README.md", "docs/ARCHITECTURE.md")
