@@ -119,7 +119,8 @@ def passes(step, path):
         said, why = step.run(path), None
     except Failed as failed:
         said, why = None, failed
-    print(f"{step.name}: {'FAILED' if why else 'passed'}, {time.monotonic() - began:.0f} s{f' ({said})' if said else ''}", flush=True)
+    how = "FAILED" if why else "passed"
+    print(f"{step.name}: {how}, {time.monotonic() - began:.0f} s{f' ({said})' if said else ''}", flush=True)
     if why:
         print(why, flush=True)
     return why is None

@@ -241,11 +241,12 @@ def table_of(log):
     """The table, in markdown, with the budget and what was measured above it."""
     counts, last = counts_of(pathlib.Path(log).read_text(errors="replace"))
     path = pathlib.Path(f"{log}.times")
-    seconds, whole, measured = times_of(path) if path.exists() else (collections.Counter(), None, f"No times: there is no {path}.")
+    none = collections.Counter(), None, f"No times: there is no {path}."
+    seconds, whole, measured = times_of(path) if path.exists() else none
     slower = slower_by(seconds)
-    lines = [f"The budget, in processor time of a quiet machine: at most {WHOLE_MINUTES} minutes with all stages, and {NOW_MINUTES} for what is "
-             f"built today; {PROOF_SECONDS} seconds for the proof of a crate, {TEST_SECONDS} for a test function; {MOST_EDITS} wrong "
-             "bodies in all.", "", measured, "", *rows_of(counts, seconds), ""]
+    lines = [f"The budget, in processor time of a quiet machine: at most {WHOLE_MINUTES} minutes with all stages, and {NOW_MINUTES} "
+             f"for what is built today; {PROOF_SECONDS} seconds for the proof of a crate, {TEST_SECONDS} for a test function; "
+             f"{MOST_EDITS} wrong bodies in all.", "", measured, "", *rows_of(counts, seconds), ""]
     if whole is not None:
         total, wall, held = whole
         lines.append(f"{total / 60:.0f} processor minutes in {wall / 60:.0f} minutes, with at most {held / 1e9:.1f} GB held at once. "
