@@ -1,4 +1,4 @@
-use Rattle.std.proofs.Common.{◌≡◌, suc, Ok, map, rules, arith, subst, sym, ap, ◌∙◌}
+use Rattle.std.proofs.Common.{◌≡◌, suc, Ok, rules, arith, subst, sym, ap, ◌∙◌}
 use Rattle.std.proofs.lemmas.Result.{err_from_is_err_and}
 use Rattle.table_versions.specs.Database.{after}
 use Rattle.table_versions.specs.Log.{Log, puts_in, database_of}
