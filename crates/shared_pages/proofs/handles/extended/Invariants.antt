@@ -1,6 +1,6 @@
 use Rattle.std.proofs.Common.{◌≡◌, ◌++◌, map, take}
 use Rattle.std.specs.Arc.{arc_value}
-use Rattle.table_versions.proofs.handles.extended.Given as goal
+use Rattle.shared_pages.proofs.handles.extended.Given as goal
 
 abbrev pub invariant-loop-handle : goal.invariant-loop-handle
 invariant-loop-handle g l =

@@ -1,4 +1,4 @@
--- Inside: how a list of versions is kept: full pages, and the last one, which is not full.
+-- Inside: how a list is kept: full pages, and the last one, which is not full.
 use Rattle.std.specs.Prelude.{ℕ, ◌==◌, ◌<◌, Bool, IsTrue, List, ◌++◌, length}
 use Rattle.std.specs.List.{flat_map, list_all}
 
