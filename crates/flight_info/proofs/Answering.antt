@@ -64,39 +64,20 @@ shown {X} x wanted first = by (short_enough wanted) refl first
 
 -- ---- infos
 
-module _ (database : Database) (n : ℕ) (payload : Payload) (parts : ℕ) (kind : Wanted → Result Wanted Fault) where
+module _ (database : Database) (n : ℕ) (payload : Payload) (parts : ℕ) (wanted : Wanted) where
   abbrev Answer : List Payload → Option Fault → Type 0
-  Answer answers fault = InfoAt database n payload parts ((wanted_in payload >>= kind) >>= short_enough) answers fault
+  Answer answers fault = InfoAt database n payload parts (short_enough wanted) answers fault
 
-  pub info_unread : (fault : Fault) → wanted_in payload ≡ Err fault → Answer [] (Some fault)
-  info_unread fault e = rw e (refl, refl)
-
-  -- a command of the other kind
-  pub info_other : (wanted : Wanted) (fault : Fault) → wanted_in payload ≡ Ok wanted → kind wanted ≡ Err fault → Answer [] (Some fault)
-  info_other wanted fault e k = rw (e, k) (refl, refl)
-
-  -- what is wanted was taken
-  module _ (wanted : Wanted) (e : wanted_in payload ≡ Ok wanted) (k : kind wanted ≡ Ok wanted) where
-    pub info_missed : (fault : Fault) → (fault ≢ OutOfMemory → Misses database wanted fault) → RefusesFirst {X = Wanted} (Err fault) (short_enough wanted) → Answer [] (Some fault)
-    info_missed fault missed first = rw (e, k) (by (short_enough wanted) refl first)
-      where
-        by : (result : Result Wanted Fault) → short_enough wanted ≡ result → RefusesFirst {X = Wanted} (Err fault) result → InfoAt database n payload parts result [] (Some fault)
-        by (Ok other) s first = rw (short_kept wanted (Ok other) s other refl) (refl, missed)
-        by (Err cause) s first = let same : fault ≡ cause = cc in (refl, ap Some same)
-
-    pub info_unwritten : (fault : Fault) → fault ≡ OutOfMemory → short_enough wanted ≡ Ok wanted → Answer [] (Some fault)
-    info_unwritten fault memory s = rw (e, k, s) (refl, λ other. absurd (other memory))
-
-    pub info_made : (form : List ℕ) (tickets : List (List ℕ)) → Describes database n parts wanted form tickets → short_enough wanted ≡ Ok wanted
-        → (answers : List Payload) → answers ≡ info_bytes (info_with form payload tickets) ∷ [] → Answer answers None
-    info_made form tickets told s answers is =
-        let asked = request_is payload wanted e in
-        rw (e, k, s) (
-          info_with form payload tickets,
-          is,
-          info_reads database n parts wanted form tickets told payload asked,
-          info_right database n parts wanted form tickets told payload asked,
-        )
+  pub info_made : (form : List ℕ) (tickets : List (List ℕ)) → Describes database n parts wanted form tickets → wanted_in payload ≡ Ok wanted → short_enough wanted ≡ Ok wanted
+      → (answers : List Payload) → answers ≡ info_bytes (info_with form payload tickets) ∷ [] → Answer answers None
+  info_made form tickets told e s answers is =
+      let asked = request_is payload wanted e in
+      rw s (
+        info_with form payload tickets,
+        is,
+        info_reads database n parts wanted form tickets told payload asked,
+        info_right database n parts wanted form tickets told payload asked,
+      )
 
 -- ---- schemas
 
@@ -104,20 +85,7 @@ module _ (database : Database) (payload : Payload) where
   abbrev SchemaAnswer : List Payload → Option Fault → Type 0
   SchemaAnswer answers fault = SchemaAt database (wanted_in payload >>= short_enough) answers fault
 
-  pub schema_unread : (fault : Fault) → wanted_in payload ≡ Err fault → SchemaAnswer [] (Some fault)
-  schema_unread fault e = rw e (refl, refl)
-
   module _ (wanted : Wanted) (e : wanted_in payload ≡ Ok wanted) where
-    pub schema_missed : (fault : Fault) → (fault ≢ OutOfMemory → Misses database wanted fault) → RefusesFirst {X = Wanted} (Err fault) (short_enough wanted) → SchemaAnswer [] (Some fault)
-    schema_missed fault missed first = rw e (by (short_enough wanted) refl first)
-      where
-        by : (result : Result Wanted Fault) → short_enough wanted ≡ result → RefusesFirst {X = Wanted} (Err fault) result → SchemaAt database result [] (Some fault)
-        by (Ok other) s first = rw (short_kept wanted (Ok other) s other refl) (refl, missed)
-        by (Err cause) s first = let same : fault ≡ cause = cc in (refl, ap Some same)
-
-    pub schema_unwritten : (fault : Fault) → fault ≡ OutOfMemory → short_enough wanted ≡ Ok wanted → SchemaAnswer [] (Some fault)
-    schema_unwritten fault memory s = rw (e, s) (refl, λ other. absurd (other memory))
-
     pub schema_made : (form : List ℕ) → HasForm database wanted form → short_enough wanted ≡ Ok wanted → (answers : List Payload) → answers ≡ wrapped_bytes form ∷ [] → SchemaAnswer answers None
     schema_made form has s answers is =
         rw (e, s) (form, has.answer, is, wrapped_back form (omega (arith, has.small)), has.answers, has.schema)
