@@ -14,6 +14,10 @@ nulls   a nullable column a of Int64, in two rows; none  the same, of no rows
 words   a nullable column s of texts and a column a of Int64
 twice   a column c of a dictionary in which one text stands twice
 pairs   two columns of Int64, a and i
+three   the same, in three rows of one a
+lefts   a nullable column n of decimals, a column f of truth values and a number i
+rights  the same with n of Int64, in three batches, of which the second has no row
+letters a nullable column s of texts, and a number i
 """
 import json
 import pathlib
@@ -134,6 +138,19 @@ def one_text_twice():
     return "twice", columns, [(schema(*fields(columns)), b""), entries, batch(2, column(None, ["x", "x"], [0, 1]))]
 
 
+# Keys of two parts: a number, and whether it is marked.
+LEFTS = [(2, False), (1, False), (None, True), (3, True), (2, False), (4, True), (1, True), (2, True)]
+RIGHTS = [(2, False), (2, True), (None, False), (1, False), (2, False), (None, True), (1, True)]
+RIGHTS += [(1, True), (2, False), (None, True), (1, False), (2, False), (3, False)]
+
+
+def keyed(of, keys, first):
+    """The columns of such keys, with numbers of the rows from `first` on."""
+    i64 = integer(64, True)
+    rows = list(range(first, first + len(keys)))
+    return [("n", of, [number for number, _ in keys]), ("f", BOOL, [flag for _, flag in keys]), ("i", i64, rows)]
+
+
 def for_joins_and_groups():
     i64 = integer(64, True)
     yield few_rows("p", ("a", i64, [1, None, 1]))
@@ -145,6 +162,13 @@ def for_joins_and_groups():
     yield few_rows("words", ("s", UTF8, ["b", None, "a", None, "b"]), ("a", i64, [1, 2, 3, 4, 5]))
     yield one_text_twice()
     yield few_rows("pairs", ("a", i64, [1, 1]), ("i", i64, [10, 20]))
+    yield few_rows("three", ("a", i64, [1, 1, 1]), ("i", i64, [1, 2, 3]))
+    yield few_rows("lefts", *keyed(DECIMAL, LEFTS, 1))
+    for first, keys in [(1, RIGHTS[:7]), (8, []), (8, RIGHTS[7:])]:
+        columns = keyed(i64, keys, first)
+        heads = schema(field("n", i64, True), field("f", BOOL, False), field("i", i64, False)), b""
+        yield "rights", columns, [heads, batch(len(keys), *(column(of, values, []) for _, of, values in columns))]
+    yield few_rows("letters", ("s", UTF8, ["b", None, "a"]), ("i", i64, [1, 2, 3]))
 
 
 def hexed(data):

@@ -361,6 +361,9 @@ CLASHES = [
 
 # Rows of joins and of groups. A null is equal to nothing in a join, and to a null in a key. Rows that are joined come in the
 # order of nested loops, and groups in that of their first rows. A sum is exact, however large.
+OF_TWO_PARTS = [(1, 1), (1, 5), (1, 9), (1, 12), (2, 4), (2, 11)]
+OF_TWO_PARTS += [(5, 1), (5, 5), (5, 9), (5, 12), (7, 7), (7, 8), (8, 2)]
+
 JOINED_OR_GROUPED = [
     ("SELECT * FROM p JOIN q ON p.a = q.a", [(1, 1)] * 4),
     ("SELECT * FROM p JOIN none ON p.a = none.a", []),
@@ -369,6 +372,14 @@ JOINED_OR_GROUPED = [
     ("SELECT x.i, y.i FROM pairs x JOIN pairs y ON y.a = x.a AND x.i = y.i", [(10, 10), (20, 20)]),
     ("SELECT x.i, y.i FROM pairs x JOIN pairs y ON x.a = y.a WHERE x.i < y.i", [(10, 20)]),
     ("SELECT x.a, y.i, z.i FROM q x JOIN pairs y ON x.a = y.a JOIN pairs z ON y.i = z.i", [(1, 10, 10), (1, 20, 20)] * 2),
+    # a key of two parts: a decimal and an integer, and a truth value
+    ("SELECT x.i, y.i FROM lefts x JOIN rights y ON x.n = y.n AND x.f = y.f", OF_TWO_PARTS),
+    ("SELECT x.i, y.i FROM lefts x JOIN rights y ON y.f = x.f AND y.n = x.n", OF_TWO_PARTS),
+    ("SELECT x.i, y.i FROM rights y JOIN lefts x ON x.n = y.n AND x.f = y.f", sorted(OF_TWO_PARTS, key=lambda pair: pair[1])),
+    # texts, and those of a dictionary
+    ("SELECT x.i, y.a FROM letters x JOIN words y ON x.s = y.s", [(1, 1), (1, 5), (3, 3)]),
+    ("SELECT x.a, y.i FROM words x JOIN letters y ON x.s = y.s", [(1, 1), (3, 3), (5, 1)]),
+    ("SELECT x.k, y.k FROM types x JOIN types y ON x.c = y.s", [(1, 1), (3, 5), (4, 4), (5, 5)]),
     ("SELECT COUNT(*) FROM t", [6]),
     ("SELECT SUM(a) FROM least", [-256]),
     ("SELECT SUM(a) FROM most", [36893488147419103230]),
@@ -394,6 +405,30 @@ OF_JOINS_AND_GROUPS = [
     (LEFT_OUT, "SELECT p.a FROM p JOIN q ON p.a = p.a"),
     (LEFT_OUT, "SELECT s, COUNT(*) FROM words GROUP BY a"),
     (LEFT_OUT, "SELECT COUNT(*) FROM p JOIN q ON p.a = q.a"),
+]
+
+# Rows of a key and a number in two parts, of which the groups of the second are merged behind those of the first; and what is
+# answered: of each key, how many rows it has, how many numbers, and their sum.
+FIRST_PART, SECOND_PART = "7:1 -:2 8:- 7:4", "8:8 9:16 -:32 7:-"
+MERGED = [
+    (FIRST_PART, SECOND_PART, [(7, 3, 2, 5), (None, 2, 2, 34), (8, 2, 1, 8), (9, 1, 1, 16)]),
+    (SECOND_PART, FIRST_PART, [(8, 2, 1, 8), (9, 1, 1, 16), (None, 2, 2, 34), (7, 3, 2, 5)]),
+    (FIRST_PART, FIRST_PART, [(7, 4, 4, 10), (None, 2, 2, 4), (8, 2, 0, None)]),
+    ("-:32 7:-", "", [(None, 1, 1, 32), (7, 1, 0, None)]),
+    ("", "-:32 7:-", [(None, 1, 1, 32), (7, 1, 0, None)]),
+    ("", "", []),
+    ("1:9223372036854775807", "1:9223372036854775807", [(1, 2, 2, 18446744073709551614)]),
+    ("1:-5 2:7", "3:1 2:-7", [(1, 1, 1, -5), (2, 2, 2, 0), (3, 1, 1, 1)]),
+]
+
+# The same without a key: there is one group, also of no rows.
+MERGED_WHOLE = [
+    (FIRST_PART, FIRST_PART, [(8, 6, 14)]),
+    (FIRST_PART, SECOND_PART, [(8, 6, 63)]),
+    ("", FIRST_PART, [(4, 3, 7)]),
+    (FIRST_PART, "", [(4, 3, 7)]),
+    ("", "7:-", [(1, 0, None)]),
+    ("", "", [(0, 0, None)]),
 ]
 
 # The columns a and b of a range of the rows of `t`, how many batches are given, and of how many that are opened.
@@ -478,6 +513,10 @@ def large():
     yield "count SELECT * FROM large WHERE k = 1", f"{ROWS - 2} rows"
     yield f"range {ODD - 1} {ODD + 2} SELECT k, i8, u64, d, f, c FROM large", "1,1,1,1,false,'x',;3,null,null,null,null,null,;1,1,1,1,false,'x',; 1 of 1"
     yield rows("SELECT k, i8, u64, d, f, c FROM large WHERE k = 2", [(2, 2, 2, 2, "true", "'y'")])
+    # a join that is given by pieces: those of a row are cut where a batch is full
+    joined = "SELECT x.k, y.i FROM large x JOIN three y ON x.k = y.a"
+    yield f"count {joined}", f"{3 * (ROWS - 2)} rows"
+    yield f"count {joined} WHERE y.i = 2", f"{ROWS - 2} rows"
     for name, first, last, only in LARGE:
         where = "SELECT k FROM large WHERE "
         yield f"count {where}{name} = {first}", f"{ROWS - 2} rows"
@@ -499,6 +538,8 @@ def cases():
     for predicate, wanted in NUMBERS + TEXTS + TRUTH_VALUES:
         yield rows(f"SELECT k FROM types WHERE {predicate}", wanted)
     yield from (rows(query, wanted) for query, wanted in JOINED_OR_GROUPED)
+    yield from ((f"merged {first}/{second}", "".join(map(shown, wanted))) for first, second, wanted in MERGED)
+    yield from ((f"whole {first}/{second}", "".join(map(shown, wanted))) for first, second, wanted in MERGED_WHOLE)
     yield from ((f"columns {query}", wanted) for query, wanted in COLUMNS)
     yield from refused()
     yield from large()

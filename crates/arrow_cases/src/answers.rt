@@ -22,18 +22,14 @@ fn push_text(alloc: Global, told: &mut String, text: &str) -> Result<(), AllocEr
     Ok(())
 }
 
+// Writes a value; of a text those bytes.
 fn push_value(alloc: Global, told: &mut String, value: ValueRef<'_>) -> Result<(), AllocError> {
-    match value {
-        ValueRef::Null => told.push_str("null"),
-        ValueRef::Bool(true) => told.push_str("true"),
-        ValueRef::Bool(false) => told.push_str("false"),
-        ValueRef::Int(number) => told.push_str(&format!(in alloc; "{number}")?),
-        ValueRef::Text(text) => {
-            told.push('"')?;
-            push_text(alloc, told, text)?;
-            told.push('"')
-        }
-    }
+    let ValueRef::Text(text) = value else {
+        return told_rows::push_value(told, value);
+    };
+    told.push('"')?;
+    push_text(alloc, told, text)?;
+    told.push('"')
 }
 
 // A row: its values with a comma between, and a semicolon.

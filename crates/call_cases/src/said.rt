@@ -1,39 +1,28 @@
 //! What messages say, in words.
 
 use arrays::{Batch, Cells};
-use arrow_schema::{Schema, read_schema};
+use arrow_schema::read_schema;
 use bytes::Bytes;
 use flight_proto::{FlightData, FlightInfo, read_wrapped};
 use ipc_batch::Reader;
 use proto_wire::put_bytes;
 use scan_base::Fault;
 use std::alloc::{AllocError, Global};
+use told_rows::push_schema;
 
-// Of each column its name, its type, and whether a cell may be null.
-fn push_schema(alloc: Global, told: &mut String, schema: &Schema) -> Result<(), AllocError> {
-    for field in schema.fields.as_slice() {
-        let data_type = format!(in alloc; "{:?}", field.data_type)?;
-        told.push_str(field.name.as_str())?;
-        told.push(' ')?;
-        told.push_str(&data_type)?;
-        told.push_str(if field.nullable { " or null;" } else { ";" })?;
-    }
-    Ok(())
-}
-
-fn push_row(alloc: Global, told: &mut String, batch: &Batch, row: usize) -> Result<(), AllocError> {
+// A row: its values by their kinds, each with a comma behind, and a semicolon.
+fn push_row(told: &mut String, batch: &Batch, row: usize) -> Result<(), AllocError> {
     for column in batch.columns() {
         if row < column.len() {
-            let value = format!(in alloc; "{:?},", column.value_at(row))?;
-            told.push_str(&value)?;
+            write!(told, "{:?},", column.value_at(row))?;
         }
     }
     told.push(';')
 }
 
-fn push_batch(alloc: Global, told: &mut String, batch: &Batch) -> Result<(), AllocError> {
+fn push_batch(told: &mut String, batch: &Batch) -> Result<(), AllocError> {
     for row in 0..batch.rows() {
-        push_row(alloc, told, batch, row)?;
+        push_row(told, batch, row)?;
     }
     Ok(())
 }
@@ -70,7 +59,7 @@ fn push_described(
         .strip_prefix(first.as_slice())
         .ok_or(Fault::BadProto)?;
     let schema = read_schema(alloc, header_in(form)?)?;
-    push_schema(alloc, told, &schema)?;
+    push_schema(told, &schema)?;
     told.push(' ')?;
     Ok(push_digits(alloc, told, rest)?)
 }
@@ -100,10 +89,10 @@ pub fn push_rows(alloc: Global, told: &mut String, messages: &[Bytes]) -> Result
     for message in messages {
         let data = FlightData::read(message)?;
         if let Some(batch) = reader.message(alloc, data.data_header, data.data_body)? {
-            push_batch(alloc, &mut rows, &batch)?;
+            push_batch(&mut rows, &batch)?;
         }
     }
-    push_schema(alloc, told, reader.schema().ok_or(Fault::BadBatch)?)?;
+    push_schema(told, reader.schema().ok_or(Fault::BadBatch)?)?;
     told.push(' ')?;
     Ok(told.push_str(&rows)?)
 }

@@ -47,29 +47,50 @@ fn learnt<C: CellName>(seat: &mut Scanner<C>, told: &Told<C>, table: &Text) -> R
     Ok(rows_of(&version, table))
 }
 
-// 1,000 puts in one thread, beside 1,000 looks of each seat in threads of their own.
+// 1,000 looks of each of two seats at once. It tells whether all were right.
+fn two_look<C: CellName + Send + Sync, R: Threads + Sync>(
+    rt: &R,
+    seats: (&mut Scanner<C>, &mut Scanner<C>),
+    table: &Text,
+) -> Result<bool, Fault> {
+    let (one, two) = seats;
+    let (first, second) = thread::join(
+        rt,
+        || look_many(one, table, 1_000),
+        || look_many(two, table, 1_000),
+    );
+    Ok(first? && second?)
+}
+
+// 1,000 puts in one thread, beside 1,000 looks of each seat in threads of their own. It tells whether all were right.
 fn put_while_two_look<C: CellName + Send + Sync, R: Threads + Wait + Abort + Sync>(
     rt: &R,
     alloc: Global,
     putter: &mut Putter<C, &R>,
     seats: (&mut Scanner<C>, &mut Scanner<C>),
     table: &Text,
-) -> (
-    Result<bool, Fault>,
-    (Result<bool, Fault>, Result<bool, Fault>),
-) {
-    let (one, two) = seats;
-    thread::join(
+) -> Result<bool, Fault> {
+    let (put, looks) = thread::join(
         rt,
         || put_many(alloc, putter, 1_000),
-        || {
-            thread::join(
-                rt,
-                || look_many(one, table, 1_000),
-                || look_many(two, table, 1_000),
-            )
-        },
-    )
+        || two_look(rt, seats, table),
+    );
+    Ok(put? && looks?)
+}
+
+// The number of the newest version, for a seat that nobody told of it, behind the threads; and what the two seats then learn: the
+// number of puts, and the rows of version 500.
+fn seen_behind<C: CellName, R: Wait + Drop>(
+    putter: &Putter<C, R>,
+    seats: (&mut Scanner<C>, &mut Scanner<C>),
+    table: &Text,
+) -> Result<[u64; 4], Fault> {
+    let (one, two) = seats;
+    let newest = one.current()?.number();
+    let told = putter.tell();
+    let first = learnt(one, &told, table)?;
+    let second = learnt(two, &told, table)?;
+    Ok([newest, told.number(), first, second])
 }
 
 // One thread puts 1,000 times, while two look 1,000 times each.
@@ -86,44 +107,15 @@ fn looked_at_by_two<C: CellName + Send + Sync, R: Threads + Wait + Abort + Sync>
 ) -> Result<(), Fail>
     requires { IsNamed blank C.book C.name C.parts }
 {
+    let table = Text::new(alloc, "t")?;
     let (mut putter, mut seats) = blank.named::<C, &R>(alloc, rt)?;
-    let (Some(mut one), Some(mut two)) = (seats.pop(), seats.pop()) else {
-        drop(putter);
+    let [one, two] = seats.as_mut_slice() else {
         return Err(Fail::from("two seats"));
     };
-    let table = Text::new(alloc, "t")?;
-    let (put, looks) = put_while_two_look(rt, alloc, &mut putter, (&mut one, &mut two), &table);
-    let told = putter.tell();
-    let first = learnt(&mut one, &told, &table);
-    let second = learnt(&mut two, &told, &table);
-    assert_eq!(rt; (put, looks), (Ok(true), (Ok(true), Ok(true))));
-    assert_eq!(rt; told.number(), 1_000);
-    assert_eq!(rt; (first, second), (Ok(500), Ok(500)));
-    Ok(())
-}
-
-// A seat that was told nothing sees the put of a thread that has ended.
-#[test]
-fn seen_behind_a_join(rt: HostRuntime) -> Result<(), Fail> {
-    let blank = open(rt.alloc(), HashSeed::new(&rt)?, 1)?;
-    seen_unasked::<Brand, _>(&rt, rt.alloc(), blank)
-}
-
-fn seen_unasked<C: CellName + Send + Sync, R: Threads + Wait + Abort + Sync>(
-    rt: &R,
-    alloc: Global,
-    blank: Blank,
-) -> Result<(), Fail>
-    requires { IsNamed blank C.book C.name C.parts }
-{
-    let (mut putter, mut seats) = blank.named::<C, &R>(alloc, rt)?;
-    let Some(mut seat) = seats.pop() else {
-        drop(putter);
-        return Err(Fail::from("one seat"));
-    };
-    let (put, _) = thread::join(rt, || put_many(alloc, &mut putter, 1), || ());
-    let seen = seat.current().map(|version| version.number());
-    assert_eq!(rt; (put, seen), (Ok(true), Ok(1)));
+    let right = put_while_two_look(rt, alloc, &mut putter, (&mut *one, &mut *two), &table);
+    assert!(rt; right == Ok(true));
+    let seen = seen_behind(&putter, (one, two), &table);
+    assert!(rt; seen == Ok([1_000, 1_000, 500, 500]));
     Ok(())
 }
 

@@ -5,11 +5,26 @@ ghost use Rattle.version_cell.specs.Blanks.{IsNamed};
 
 use crate::rows::one_row;
 use hash_seed::HashSeed;
+use scan_base::Fault;
 use std::alloc::Global;
 use std::process::Abort;
 use std::sync::Wait;
 use std::test::Fail;
-use version_cell::{Blank, Brand, CellName, SharedPutter, open};
+use version_cell::{Blank, Brand, CellName, Scanner, SharedPutter, open};
+
+// The number of a put through one of two seats, how many puts each has then seen, and how many the other one learns.
+fn told_of_a_put<C: CellName, R: Wait + Drop>(
+    rt: &impl Wait,
+    alloc: Global,
+    shared: &SharedPutter<C, R>,
+    (ahead, behind): (&mut Scanner<C>, &mut Scanner<C>),
+) -> Result<[u64; 4], Fault> {
+    let put = shared.put(rt, alloc, ahead, one_row(alloc, "t")?)?;
+    let told = ahead.tell();
+    let before = behind.tell().number();
+    behind.learn(&told);
+    Ok([put, told.number(), before, behind.tell().number()])
+}
 
 // A put is made through one of two seats, and the other is told of it.
 #[test]
@@ -31,15 +46,12 @@ fn told_by_another<C: CellName, R: Wait + Abort>(
     let (Some(mut ahead), Some(mut behind)) = (seats.pop(), seats.pop()) else {
         return Err(Fail::from("two seats"));
     };
-    let put = shared.put(rt, alloc, &mut ahead, one_row(alloc, "t")?);
-    let before = (ahead.tell().number(), behind.tell().number());
-    behind.learn(&ahead.tell());
-    let after = behind.tell().number();
+    let told = told_of_a_put(rt, alloc, &shared, (&mut ahead, &mut behind));
     let mut all = shared.gather(rt);
     all.take(ahead);
     all.take(behind);
     let whole = shared.whole_log(rt, all);
-    assert!(rt; put == Ok(1) && before == (1, 0));
-    assert!(rt; after == 1 && whole.number() == 1);
+    assert!(rt; told == Ok([1, 1, 0, 1]));
+    assert!(rt; whole.number() == 1);
     Ok(())
 }

@@ -110,7 +110,7 @@ impl Cases {
             }
         }
         match join(streams) {
-            Ok(rows) => push_told(alloc, &mut answer, &rows)?,
+            Ok(rows) => push_told(&mut answer, &rows)?,
             Err(fault) => answer.push_str(fault.text().as_str())?,
         }
         Ok(answer)

@@ -1,66 +1,12 @@
 //! Answers in words.
 
-use arrays::{Batch, Cells};
-use arrow_schema::Schema;
+use arrays::Batch;
 use bytes::Bytes;
 use flight_proto::FlightData;
 use ipc_batch::Reader;
-use scan_base::{Fault, ValueRef};
+use scan_base::Fault;
 use std::alloc::{AllocError, Global};
-
-fn push_value(alloc: Global, told: &mut String, value: ValueRef<'_>) -> Result<(), AllocError> {
-    match value {
-        ValueRef::Null => told.push_str("null"),
-        ValueRef::Bool(true) => told.push_str("true"),
-        ValueRef::Bool(false) => told.push_str("false"),
-        ValueRef::Int(number) => {
-            let digits = format!(in alloc; "{number}")?;
-            told.push_str(&digits)
-        }
-        ValueRef::Text(text) => {
-            told.push('"')?;
-            told.push_str(text)?;
-            told.push('"')
-        }
-    }
-}
-
-/// Adds a row: its values with a comma between, and a semicolon.
-pub fn push_row(
-    alloc: Global,
-    told: &mut String,
-    batch: &Batch,
-    row: usize,
-) -> Result<(), AllocError> {
-    let mut between = "";
-    for column in batch.columns() {
-        told.push_str(between)?;
-        if row < column.len() {
-            push_value(alloc, told, column.value_at(row))?;
-        }
-        between = ",";
-    }
-    told.push(';')
-}
-
-fn push_rows(alloc: Global, told: &mut String, batch: &Batch) -> Result<(), AllocError> {
-    for row in 0..batch.rows() {
-        push_row(alloc, told, batch, row)?;
-    }
-    Ok(())
-}
-
-// Of each column its name, its type, and whether a cell may be null.
-fn push_schema(alloc: Global, told: &mut String, schema: &Schema) -> Result<(), AllocError> {
-    for field in schema.fields.as_slice() {
-        let data_type = format!(in alloc; "{:?}", field.data_type)?;
-        told.push_str(field.name.as_str())?;
-        told.push(' ')?;
-        told.push_str(&data_type)?;
-        told.push_str(if field.nullable { " or null;" } else { ";" })?;
-    }
-    Ok(())
-}
+use told_rows::{push_rows, push_schema};
 
 /// The batch of the next payload, if it has one.
 pub fn next_batch(
@@ -78,11 +24,11 @@ pub fn told(alloc: Global, payloads: &[Bytes]) -> Result<String, Fault> {
     let mut rows = String::new(alloc);
     for payload in payloads {
         if let Some(batch) = next_batch(alloc, &mut reader, payload)? {
-            push_rows(alloc, &mut rows, &batch)?;
+            push_rows(&mut rows, &batch)?;
         }
     }
     let mut all = String::new(alloc);
-    push_schema(alloc, &mut all, reader.schema().ok_or(Fault::BadBatch)?)?;
+    push_schema(&mut all, reader.schema().ok_or(Fault::BadBatch)?)?;
     all.push(' ')?;
     all.push_str(&rows)?;
     Ok(all)

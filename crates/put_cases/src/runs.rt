@@ -1,11 +1,12 @@
 //! Many rows in few words.
 
-use crate::answers::{next_batch, push_row};
+use crate::answers::next_batch;
 use arrays::Batch;
 use bytes::Bytes;
 use ipc_batch::Reader;
 use scan_base::Fault;
 use std::alloc::{AllocError, Global};
+use told_rows::push_row;
 
 // Rows so far: those before the last ones that are equal, how many these are, and one of them.
 #[derive(Drop)]
@@ -42,7 +43,7 @@ impl Runs {
     fn push_batch(&mut self, alloc: Global, batch: &Batch) -> Result<(), AllocError> {
         for row in 0..batch.rows() {
             let mut text = String::new(alloc);
-            push_row(alloc, &mut text, batch, row)?;
+            push_row(&mut text, batch, row)?;
             self.push(alloc, text)?;
         }
         Ok(())

@@ -1,6 +1,6 @@
 //! The kinds of cases.
 
-use crate::{rows, sentences, texts};
+use crate::{merges, rows, sentences, texts};
 use std::alloc::{AllocError, Global};
 use table_versions::CatalogVersion;
 
@@ -19,6 +19,8 @@ pub fn answer(
         "rows" => rows::all(alloc, catalog, case),
         "count" => rows::count(alloc, catalog, case),
         "range" => rows::of_range(alloc, catalog, case),
+        "merged" => merges::by_key(alloc, catalog.seed(), case),
+        "whole" => merges::whole(alloc, catalog.seed(), case),
         _ => return String::from_str(alloc, "no such case"),
     };
     match answer {

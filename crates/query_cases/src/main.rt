@@ -3,6 +3,7 @@
 #![tactic(auto)]
 
 mod cases;
+mod merges;
 mod puts;
 mod rows;
 mod sentences;

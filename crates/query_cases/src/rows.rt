@@ -27,8 +27,8 @@ fn push_cell(alloc: Global, cells: &mut String, value: ValueRef<'_>) -> Result<(
     cells.push_str(told.as_str())
 }
 
-// Appends the cells of a batch, with a comma behind each and a semicolon behind each row.
-fn push_rows(alloc: Global, cells: &mut String, batch: &Batch) -> Result<(), AllocError> {
+/// Appends the cells of a batch, with a comma behind each and a semicolon behind each row.
+pub fn push_rows(alloc: Global, cells: &mut String, batch: &Batch) -> Result<(), AllocError> {
     for row in 0..batch.rows() {
         for column in batch.columns() {
             push_cell(alloc, cells, column.value_at(row))?;
