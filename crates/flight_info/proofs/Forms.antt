@@ -1,12 +1,12 @@
 -- A schema that is written says itself and nothing else.
-use Rattle.std.proofs.Common.{◌≡◌, ◌≤◌, ◌<◌, ◌^◌, ◌+◌, ◌*◌, ℕ, zero, suc, List, [], ◌∷◌, length, map, Some, None, Ok, refl, sym, ap, subst, arith, ◌∙◌}
+use Rattle.std.proofs.Common.{◌≡◌, ◌<◌, ◌+◌, ◌*◌, ℕ, zero, suc, List, [], ◌∷◌, length, map, Some, None, Ok, refl, subst, arith}
 use Rattle.std.specs.List.{AllByRecursion}
 use Rattle.std.proofs.lemmas.List.{length-map}
 use Rattle.std.proofs.lemmas.List.Elements.{recursion_from_All}
 use Rattle.std.proofs.lemmas.Bool.{lt-ltb}
-use Rattle.flatbuf.specs.Place.{TableAt, VectorAt, root_of, field_of, table_of, vector_of, element_of}
+use Rattle.flatbuf.specs.Place.{TableAt, VectorAt, field_of, table_of, element_of}
 use Rattle.flatbuf.specs.Layout.{Stands}
-use Rattle.flatbuf.specs.Block.{Given, Absent, Number, Offset, IsWhole, AreWhole, table_part, text_part, tables_part, buffer_of}
+use Rattle.flatbuf.specs.Block.{Given, Absent, Number, Offset, IsWhole, AreWhole, table_part, tables_part, buffer_of}
 use Rattle.flatbuf.specs.Written.{table_at, SlotReads}
 use Rattle.flatbuf.specs.Fits.{FitsTable}
 use Rattle.flatbuf.proofs.Written.{vtable_reads, table_reads}
@@ -23,7 +23,7 @@ use Rattle.arrow_schema.specs.DataType.{bit_width, is_signed}
 use Rattle.arrow_schema.specs.Fields.{table_wanted, vector_wanted}
 use Rattle.arrow_schema.specs.Header.{schema_in, schema_message_of, schema_of}
 use Rattle.arrow_schema.specs.Schema.{IsField, IsSchema}
-use Rattle.arrow_schema.specs.Message.{kind_number, message_part}
+use Rattle.arrow_schema.specs.Message.{message_part}
 use Rattle.arrow_schema.specs.Written.{flag, integer_part, type_part, dictionary_part, dictionary_given, field_slots, field_part, schema_part, schema_bytes, encapsulated}
 use Rattle.arrow_schema.proofs.Messages.{short_message, fits_message, messages_read}
 use Rattle.arrow_schema.proofs.Again.{fits_dictionary, fits_field, fits_fields, fits_schema, whole_schema, short_schema, schemas_read}
@@ -154,7 +154,7 @@ schema_ends schema is bytes place stands =
     }
 
 -- a schema's message is plain
-pub schema_plain : (schema : Schema) → IsSchema schema → IsPlain (schema_bytes schema)
+schema_plain : (schema : Schema) → IsSchema schema → IsPlain (schema_bytes schema)
 unfolding message_part table_wanted
 schema_plain schema is =
     let part = schema_part schema in
