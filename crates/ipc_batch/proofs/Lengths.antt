@@ -1,7 +1,9 @@
 -- What a reading gave, step by step, and how long things are.
-use Rattle.std.proofs.Common.{◌≡◌, ℕ, ◌+◌, ◌-◌, ◌/◌, ◌%◌, ◌∙◌, Bool, true, false, List, length, Result, Ok, Err, refl, ap, sym, IfOk}
+use Rattle.std.proofs.Common.{◌≡◌, ℕ, ◌+◌, ◌-◌, ◌/◌, ◌%◌, ◌∙◌, ◌&&◌, Bool, true, false, List, [], ◌∷◌, map, length, arith, Result, Ok, Err, refl, ap, sym, IfOk}
 use Rattle.std.proofs.lemmas.List.{length-append}
-use Rattle.std.proofs.lemmas.List.FromFn.{length-map-range_with_len}
+use Rattle.std.specs.List.{list_all, range_with_len}
+use Rattle.std.proofs.lemmas.List.Folds.{list_all-append}
+use Rattle.std.proofs.lemmas.List.FromFn.{length-map-range_with_len, map-range_with_len_more}
 use Rattle.scan_base.specs.declared.fault.Fault.{Fault}
 use Rattle.scan_base.specs.Reading.{◌>>=◌, demand}
 use Rattle.flatbuf.specs.Block.{padding, padded}
@@ -37,3 +39,13 @@ places_many structs = sym (length-map-range_with_len (place_at structs) 0 (struc
 -- how many bytes a buffer has with its zeros
 pub length_with_zeros : (buffer : List ℕ) → length (padded buffer) ≡ length buffer + (8 - length buffer % 8) % 8
 length_with_zeros buffer = length-append buffer (padding (length buffer)) ∙ ap (λ (n : ℕ). length buffer + n) (length_padding (length buffer))
+
+-- whether a test holds of so many items and one more
+pub all_more : {X : Type 0} (test : X → Bool) (item : ℕ → X) (j : ℕ) → list_all test (map item (range_with_len 0 (j + 1))) ≡ (list_all test (map item (range_with_len 0 j)) && test (item j))
+all_more test item j =
+    ap (list_all test) (map-range_with_len_more item 0 j j (omega arith)) ∙ list_all-append test (map item (range_with_len 0 j)) (item j ∷ [])
+    ∙ ap (λ (last : Bool). list_all test (map item (range_with_len 0 j)) && last) (and_one (test (item j)))
+  where
+    and_one : (b : Bool) → (b && true) ≡ b
+    and_one true = refl
+    and_one false = refl

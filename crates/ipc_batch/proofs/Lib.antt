@@ -1,5 +1,8 @@
 pub mod Entries
 pub mod Glances
+pub mod Only
+pub mod Placed
+pub mod Unstinted
 pub mod Lengths
 pub mod Held
 pub mod Brought

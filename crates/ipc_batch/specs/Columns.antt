@@ -1,6 +1,7 @@
 -- The columns of a record batch: nodes and buffers stand in the order of the fields.
-use Rattle.std.specs.Prelude.{ℕ, ◌==◌, List, [], ◌∷◌, length, Option, Some, None, Result, Ok, Err, if◌then◌else◌}
+use Rattle.std.specs.Prelude.{ℕ, ◌==◌, ◌&&◌, List, [], ◌∷◌, length, Option, Some, None, Result, Ok, Err, if◌then◌else◌}
 use Rattle.std.specs.Prelude.{sum_by}
+use Rattle.std.specs.List.{list_all}
 use Rattle.scan_base.specs.declared.fault.Fault.{Fault}
 use Rattle.scan_base.specs.declared.fault.Fault.TheVariants.{BadBatch}
 use Rattle.scan_base.specs.declared.value.Value.{Value}
@@ -15,7 +16,7 @@ use Rattle.arrays.specs.Column.{ColumnAt, whole}
 use Rattle.arrays.specs.Buffers.{buffer_count, values_layout}
 use Rattle.ipc_batch.specs.declared.parts.FieldNode.{FieldNode}
 use Rattle.ipc_batch.specs.declared.parts.BufferPlace.{BufferPlace}
-use Rattle.ipc_batch.specs.Parts.{PartsAt, placed_in, buffer_at}
+use Rattle.ipc_batch.specs.Parts.{PartsAt, lies_in, placed_in, buffer_at}
 use Rattle.ipc_batch.specs.State.{Dictionaries, values_under}
 
 -- the layout at the front, and where the buffers behind it lie
@@ -91,6 +92,12 @@ unfoldable pub counts_agree : ℕ → ℕ → PartsAt → Result (Unit {0}) Faul
 counts_agree nodes buffers parts = do
   _ ← demand (length parts.nodes == nodes) BadBatch
   demand (length parts.places == buffers) BadBatch
+
+-- Each node has as many slots as there are rows, and each buffer lies within the body. Columns of which this is not so
+-- are refused (F8), whatever else they hold: so it may be looked at before any column is.
+unfoldable pub columns_placed : List ℕ → PartsAt → Result (Unit {0}) Fault
+columns_placed body parts =
+    demand (list_all (λ node. node.length == parts.rows) parts.nodes && list_all (lies_in body) parts.places) BadBatch
 
 -- the one column of texts that these nodes and buffers make
 abbrev pub one_texts : ℕ → List ℕ → List FieldNode → List BufferPlace → Result TextsAt Fault

@@ -15,7 +15,7 @@ use Rattle.arrow_schema.specs.Header.{MessageAt, message_of, header_of, schema_i
 use Rattle.arrays.specs.Dictionary.{extended_by}
 use Rattle.arrays.specs.Batch.{BatchAt}
 use Rattle.ipc_batch.specs.Parts.{PartsAt, DictionaryParts, body_claimed, parts_of, dictionary_parts}
-use Rattle.ipc_batch.specs.Columns.{buffers_wanted, columns_from, counts_agree, one_texts}
+use Rattle.ipc_batch.specs.Columns.{buffers_wanted, columns_from, counts_agree, columns_placed, one_texts}
 use Rattle.ipc_batch.specs.State.{Known, State, values_under, with_values}
 
 -- a message as it comes: its header and its body
@@ -103,23 +103,29 @@ news_in (Some known) message body = next_news message.kind known message body
 unfoldable pub news_of : State → Sent → Result News Fault
 news_of state sent = message_of sent.header >>= λ message. news_in state message sent.body
 
--- What is looked at of a message before anything grows: its header, its kind, the parts of a batch or of a
--- dictionary, the dictionary's id, and how many nodes and buffers there are.
-abbrev pub next_glance : HeaderKind → Known → MessageAt → List ℕ → Result (Unit {0}) Fault
-next_glance header.RecordBatch known message body = batch_parts known message body >>= λ _. Ok tt
-next_glance header.DictionaryBatch known message body = dictionary_sent known message body >>= λ _. Ok tt
-next_glance header.Schema known message body = Err BadBatch
+-- What is looked at of a message before anything grows or is cut: of a first one all that it says, ..
+abbrev pub first_glance : HeaderKind → MessageAt → List ℕ → Result (Unit {0}) Fault
+first_glance kind message body = first_schema kind message body >>= λ _. Ok tt
 
--- of a first message its kind, and all that its schema says
-abbrev pub first_glance : HeaderKind → MessageAt → Result (Unit {0}) Fault
-first_glance header.Schema message = schema_in message >>= λ _. Ok tt
-first_glance _ message = Err BadBatch
+-- .. of a record batch its parts, the length of each node and the place of each buffer, ..
+abbrev pub batch_glance : Known → MessageAt → List ℕ → Result (Unit {0}) Fault
+batch_glance known message body = batch_parts known message body >>= λ parts. columns_placed body parts
+
+-- .. and of a dictionary its id too
+abbrev pub dictionary_glance : Known → MessageAt → List ℕ → Result (Unit {0}) Fault
+dictionary_glance known message body = dictionary_sent known message body >>= λ sent. columns_placed body sent.parts
+
+-- the same of a message behind the schema
+abbrev pub next_glance : HeaderKind → Known → MessageAt → List ℕ → Result (Unit {0}) Fault
+next_glance header.RecordBatch known message body = batch_glance known message body
+next_glance header.DictionaryBatch known message body = dictionary_glance known message body
+next_glance header.Schema known message body = Err BadBatch
 
 -- the same of the message that comes next
 abbrev pub glance_in : State → MessageAt → List ℕ → Result (Unit {0}) Fault
-glance_in None message body = first_glance message.kind message
+glance_in None message body = first_glance message.kind message body
 glance_in (Some known) message body = next_glance message.kind known message body
 
--- what is refused of a message before anything grows
+-- what is refused of a message before anything grows or is cut
 unfoldable pub glance_of : State → Sent → Result (Unit {0}) Fault
 glance_of state sent = message_of sent.header >>= λ message. glance_in state message sent.body

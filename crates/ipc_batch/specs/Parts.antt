@@ -46,9 +46,13 @@ places_in structs = map (place_at structs) (range_with_len 0 (struct_count struc
 unfoldable pub structs_wanted : TableAt → ℕ → Result (List ℕ) Fault
 structs_wanted table slot = structs_of 16 table slot >>= λ found. wanted found BadFlatbuffer
 
+-- whether a buffer lies within the body
+abbrev pub lies_in : List ℕ → BufferPlace → Bool
+lies_in body place = nat_le (place.offset + place.length) (length body)
+
 -- a buffer lies within the body
 abbrev pub placed_in : List ℕ → BufferPlace → Result (Unit {0}) Fault
-placed_in body place = demand (nat_le (place.offset + place.length) (length body)) BadBatch
+placed_in body place = demand (lies_in body place) BadBatch
 
 -- the bytes of a buffer
 unfoldable pub buffer_at : List ℕ → BufferPlace → Result (List ℕ) Fault

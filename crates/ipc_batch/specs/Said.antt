@@ -7,7 +7,7 @@ use Rattle.arrow_schema.specs.declared.schema.Schema.{Schema}
 use Rattle.arrays.specs.Batch.{BatchAt, rows_of}
 use Rattle.arrays.specs.Typed.{AreOfTypes}
 use Rattle.ipc_batch.specs.State.{Known, State}
-pub use Rattle.ipc_batch.specs.News.{Sent, News, first_schema, first_glance, has_id, leads_to, kept_of, next_news, next_glance, news_in, glance_in}
+pub use Rattle.ipc_batch.specs.News.{Sent, News, first_schema, first_glance, batch_glance, dictionary_glance, has_id, leads_to, kept_of, next_news, next_glance, news_in, glance_in}
 unfoldable pub use Rattle.ipc_batch.specs.News.{schema_sent, batch_parts, batch_sent, dictionary_sent, known_after, news_of, glance_of}
 
 -- a row is a value for each field

@@ -91,7 +91,7 @@ fn validity(body: &Bytes, node: FieldNode, place: BufferPlace) -> Result<Option<
     ensures { GivesUnlessMemory (λ bits. bits) result (validity_at body.now node place) }
 {
     if node.null_count == 0 {
-        check_place(body, place)?;
+        check_place(body.as_slice(), place)?;
         return Ok(None);
     }
     Ok(Some(buffer(body, place)?))

@@ -1,11 +1,13 @@
 //! The parts of a record batch, before any type is looked at.
 
-ghost use Rattle.std.specs.Prelude.{◌≡◌, ◌≤◌, ◌<◌, ◌+◌, ◌*◌, ◌^◌, length, IfOk, OnOk};
+ghost use Rattle.std.specs.Prelude.{◌≡◌, ◌==◌, ◌≤◌, ◌<◌, ◌+◌, ◌*◌, ◌^◌, length, IfOk, OnOk};
+ghost use Rattle.std.specs.List.{list_all};
 ghost use Rattle.scan_base.specs.Reading.{Gives, GivesUnlessMemory};
 ghost use Rattle.arrow_schema.specs.Seen.{message_seen};
 ghost use Rattle.ipc_batch.specs.Parts.{word_at, node_at, place_at, nodes_in, places_in};
-ghost use Rattle.ipc_batch.specs.Parts.{structs_wanted, placed_in, buffer_at, body_claimed};
+ghost use Rattle.ipc_batch.specs.Parts.{structs_wanted, lies_in, placed_in, buffer_at, body_claimed};
 ghost use Rattle.ipc_batch.specs.Parts.{parts_of, dictionary_parts};
+ghost use Rattle.ipc_batch.specs.Columns.{columns_placed};
 ghost use Rattle.ipc_batch.specs.inside.Seen.{parts_seen, dictionary_seen};
 
 use arrow_schema::Message;
@@ -59,6 +61,18 @@ impl Parts<'_> {
         self.places.len() / STRUCT_BYTES
     }
 
+    /// That each node has as many slots as there are rows, and that each buffer lies within the body: F8 where it is
+    /// not so. It takes no memory.
+    #[tactic(auto, unfolding(crate::specs::Columns::columns_placed))]
+    pub fn check_placed(&self, body: &[u8]) -> Result<(), Fault>
+        ensures { Gives (λ done. done) result (columns_placed body.now (parts_seen self.now)) }
+    {
+        if !are_long(self.nodes, self.rows) || !lie_within(self.places, body) {
+            return Err(Fault::BadBatch);
+        }
+        Ok(())
+    }
+
     /// The nodes, in order.
     pub fn nodes(&self, alloc: Global) -> Result<Vec<FieldNode>, AllocError>
         ensures { IfOk result (λ nodes. nodes.items ≡ (parts_seen self.now).nodes) }
@@ -93,6 +107,17 @@ fn node(structs: &[u8], j: usize) -> FieldNode
     }
 }
 
+// Whether each node of packed structs has so many slots.
+fn are_long(structs: &[u8], rows: u64) -> bool
+    ensures { result ≡ list_all (λ node. node.length == rows) (nodes_in structs.now) }
+{
+    let mut all = true;
+    for j in 0..structs.len() / STRUCT_BYTES {
+        all = all & (node(structs, j).length == rows);
+    }
+    all
+}
+
 // The nodes that lie in packed structs.
 fn unpacked_nodes(alloc: Global, structs: &[u8]) -> Result<Vec<FieldNode>, AllocError>
     ensures { IfOk result (λ nodes. nodes.items ≡ nodes_in structs.now) }
@@ -116,6 +141,17 @@ fn place(structs: &[u8], j: usize) -> BufferPlace
     }
 }
 
+// Whether each place of packed structs lies within the body.
+fn lie_within(structs: &[u8], body: &[u8]) -> bool
+    ensures { result ≡ list_all (lies_in body.now) (places_in structs.now) }
+{
+    let mut all = true;
+    for j in 0..structs.len() / STRUCT_BYTES {
+        all = all & lies_in(body, place(structs, j));
+    }
+    all
+}
+
 // The places that lie in packed structs.
 fn unpacked_places(alloc: Global, structs: &[u8]) -> Result<Vec<BufferPlace>, AllocError>
     ensures { IfOk result (λ places. places.items ≡ places_in structs.now) }
@@ -136,14 +172,21 @@ fn structs<'a>(table: &Table<'a>, slot: u16) -> Result<&'a [u8], Fault>
     table.structs(slot, 16)?.ok_or(Fault::BadFlatbuffer)
 }
 
+// Whether a buffer lies within the body.
+fn lies_in(body: &[u8], place: BufferPlace) -> bool
+    ensures { result ≡ lies_in body.now place }
+{
+    let room = body.len() as u64;
+    place.offset <= room && place.length <= room - place.offset
+}
+
 /// That a buffer lies within the body: F8 where it does not.
-pub(crate) fn check_place(body: &Bytes, place: BufferPlace) -> Result<(), Fault>
+pub(crate) fn check_place(body: &[u8], place: BufferPlace) -> Result<(), Fault>
     ensures exact { Gives (λ done. done) result (placed_in body.now place) }
     ensures within { OnOk result (place.offset + place.length ≤ length body.now) }
     ensures fits { OnOk result (place.offset + place.length < 2 ^ 64) }
 {
-    let room = body.len() as u64;
-    if place.offset > room || room - place.offset < place.length {
+    if !lies_in(body, place) {
         return Err(Fault::BadBatch);
     }
     Ok(())
@@ -155,14 +198,14 @@ pub(crate) fn check_place(body: &Bytes, place: BufferPlace) -> Result<(), Fault>
 pub(crate) fn buffer(body: &Bytes, place: BufferPlace) -> Result<Bytes, Fault>
     ensures { GivesUnlessMemory (λ buffer. buffer) result (buffer_at body.now place) }
 {
-    check_place(body, place)?;
+    check_place(body.as_slice(), place)?;
     let end = place.offset + place.length;
     Ok(body.slice(place.offset as usize..end as usize)?)
 }
 
 /// That the body has as many bytes as the message claims: F8 where it has less.
 #[tactic(auto, unfolding(crate::specs::Parts::body_claimed))]
-pub(crate) fn check_body(message: &Message<'_>, body: &Bytes) -> Result<(), Fault>
+pub(crate) fn check_body(message: &Message<'_>, body: &[u8]) -> Result<(), Fault>
     ensures { Gives (λ done. done) result (body_claimed (message_seen message.now) body.now) }
 {
     if message.body_length()? > body.len() as u64 {
@@ -176,7 +219,7 @@ pub(crate) fn check_body(message: &Message<'_>, body: &Bytes) -> Result<(), Faul
 pub(crate) fn read_parts<'a>(
     message: &Message<'a>,
     table: &Table<'a>,
-    body: &Bytes,
+    body: &[u8],
 ) -> Result<Parts<'a>, Fault>
     ensures { Gives parts_seen result (parts_of (message_seen message.now) table.now body.now) }
 {
@@ -207,7 +250,7 @@ pub(crate) struct DictionaryMessage<'a> {
 #[tactic(auto, unfolding(crate::specs::Parts::dictionary_parts, arrow_schema::specs::Header::table_wanted))]
 pub(crate) fn read_dictionary<'a>(
     message: &Message<'a>,
-    body: &Bytes,
+    body: &[u8],
 ) -> Result<DictionaryMessage<'a>, Fault>
     ensures { Gives dictionary_seen result (dictionary_parts (message_seen message.now) body.now) }
 {

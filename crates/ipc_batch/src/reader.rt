@@ -7,8 +7,8 @@ ghost use Rattle.scan_base.specs.declared.fault.Fault.TheVariants.{OutOfMemory, 
 ghost use Rattle.scan_base.specs.Reading.{Gives, GivesUnlessMemory, RefusesFirst, demand};
 ghost use Rattle.arrow_schema.specs.Schema.{IsSchema};
 ghost use Rattle.arrow_schema.specs.Seen.{message_seen};
-ghost use Rattle.ipc_batch.specs.Said.{first_schema, first_glance, batch_parts, batch_sent, has_id, leads_to, dictionary_sent};
-ghost use Rattle.ipc_batch.specs.Said.{known_after, next_news, next_glance, glance_of};
+ghost use Rattle.ipc_batch.specs.Said.{schema_sent, first_schema, batch_parts, batch_sent, has_id, leads_to, dictionary_sent};
+ghost use Rattle.ipc_batch.specs.Said.{known_after, next_news, first_glance, batch_glance, dictionary_glance, next_glance, glance_of};
 ghost use Rattle.ipc_batch.specs.Said.{Answers, Tells, HasColumns};
 ghost use Rattle.ipc_batch.specs.inside.Seen.{parts_seen, dictionary_seen};
 
@@ -94,8 +94,9 @@ impl Reader {
     ///
     /// After each the reader is as before. Where several causes stand in one message, the one that is met
     /// first in reading is answered: the header and its tables, the body that it claims, the id of a
-    /// dictionary, the counts of nodes and buffers, and then column by column. What is refused before the
-    /// columns is refused for that, and never by want of memory.
+    /// dictionary, the counts of nodes and buffers, and then column by column. What is refused of all that
+    /// before the columns, and of the length of a node or the place of a buffer, is refused for that, and
+    /// never by want of memory.
     ///
     /// - F6 (`Fault::BadFlatbuffer`) where something that is read lies outside the header, and where an
     ///   offset that has to be there is absent.
@@ -122,6 +123,25 @@ impl Reader {
         self.read(alloc, &header, &body)
     }
 
+    /// What is refused of the next message before anything grows or is cut: the header, the body that it claims, a
+    /// dictionary's id, the counts and lengths of nodes, and the counts and places of buffers. No want of memory can
+    /// hide it.
+    ///
+    /// # Errors
+    ///
+    /// Those faults of [`Reader::message`] (F6, F7, F8, F12), and never F21.
+    #[tactic(auto, unfolding(crate::specs::Said::glance_of))]
+    pub fn glance(&self, alloc: Global, header: &[u8], body: &[u8]) -> Result<(), Fault>
+        ensures { Gives (λ done. done) result
+            (glance_of self.now (record { header = header.now; body = body.now })) }
+    {
+        let message = read_message(header)?;
+        match &self.known {
+            None => first_glance(alloc, &message, body),
+            Some(stream) => stream.glance(&message, body),
+        }
+    }
+
     // What a message tells.
     #[tactic(auto, unfolding(crate::specs::Said::news_of, crate::specs::Said::glance_of))]
     fn read(&mut self, alloc: Global, header: &Bytes, body: &Bytes) -> Result<Option<Batch>, Fault>
@@ -132,7 +152,7 @@ impl Reader {
         let message = read_message(header.as_slice())?;
         match &mut self.known {
             None => {
-                self.known = Some(begin(alloc, &message, body)?);
+                self.known = Some(begin(alloc, &message, body.as_slice())?);
                 Ok(None)
             }
             Some(stream) => stream.next(alloc, &message, body),
@@ -140,24 +160,58 @@ impl Reader {
     }
 }
 
-// What is known after the first message, which is a schema.
+// The schema of a message. Its names alone take memory, and where that is refused, the body that the message claims is
+// looked at before that is told.
 #[tactic(auto, unfolding(crate::specs::Said::schema_sent))]
-fn begin(alloc: Global, message: &Message<'_>, body: &Bytes) -> Result<Stream, Fault>
+fn read_schema(alloc: Global, message: &Message<'_>, body: &[u8]) -> Result<Schema, Fault>
+    ensures value { GivesUnlessMemory (λ schema. schema) result
+        (schema_sent (message_seen message.now) body.now) }
+    ensures first { RefusesFirst result (schema_sent (message_seen message.now) body.now) }
+    ensures valid { IfOk result IsSchema }
+{
+    match message.schema(alloc) {
+        Ok(schema) => {
+            check_body(message, body)?;
+            Ok(schema)
+        }
+        Err(Fault::OutOfMemory) => {
+            check_body(message, body)?;
+            Err(Fault::OutOfMemory)
+        }
+        Err(fault) => Err(fault),
+    }
+}
+
+// What is known after the first message, which is a schema.
+fn begin(alloc: Global, message: &Message<'_>, body: &[u8]) -> Result<Stream, Fault>
     ensures schema { GivesUnlessMemory (λ stream. stream.schema) result
         (first_schema (message_seen message.now).kind (message_seen message.now) body.now) }
     ensures dictionaries { IfOk result (λ stream. stream.dictionaries ≡ []) }
     ensures first { RefusesFirst result
-        (first_glance (message_seen message.now).kind (message_seen message.now)) }
+        (first_schema (message_seen message.now).kind (message_seen message.now) body.now) }
 {
     if message.kind != HeaderKind::Schema {
         return Err(Fault::BadBatch);
     }
-    let schema = message.schema(alloc)?;
-    check_body(message, body)?;
+    let schema = read_schema(alloc, message, body)?;
     Ok(Stream {
         schema,
         dictionaries: Dictionaries::new(alloc),
     })
+}
+
+// What is refused of a first message. Want of memory for its names refuses it for no other cause.
+fn first_glance(alloc: Global, message: &Message<'_>, body: &[u8]) -> Result<(), Fault>
+    ensures { Gives (λ done. done) result
+        (first_glance (message_seen message.now).kind (message_seen message.now) body.now) }
+{
+    let Err(fault) = begin(alloc, message, body) else {
+        return Ok(());
+    };
+    if fault == Fault::OutOfMemory {
+        return Ok(());
+    }
+    Err(fault)
 }
 
 // Whether a type's dictionary has this id.
@@ -205,9 +259,21 @@ impl Stream {
         }
     }
 
+    // What is refused of a message behind the schema.
+    fn glance(&self, message: &Message<'_>, body: &[u8]) -> Result<(), Fault>
+        ensures { Gives (λ done. done) result (next_glance (message_seen message.now).kind self.now
+            (message_seen message.now) body.now) }
+    {
+        match message.kind {
+            HeaderKind::RecordBatch => self.batch_parts(message, body)?.check_placed(body),
+            HeaderKind::DictionaryBatch => self.dictionary(message, body)?.parts.check_placed(body),
+            HeaderKind::Schema => Err(Fault::BadBatch),
+        }
+    }
+
     // The parts of a record batch.
     #[tactic(auto, unfolding(crate::specs::Said::batch_parts))]
-    fn batch_parts<'a>(&self, message: &Message<'a>, body: &Bytes) -> Result<Parts<'a>, Fault>
+    fn batch_parts<'a>(&self, message: &Message<'a>, body: &[u8]) -> Result<Parts<'a>, Fault>
         ensures value { Gives parts_seen result
             (batch_parts self.now (message_seen message.now) body.now) }
         ensures nodes { IfOk result (λ parts. length (parts_seen parts).nodes
@@ -225,9 +291,10 @@ impl Stream {
         ensures value { GivesUnlessMemory (λ batch. batch) result
             (batch_sent self.now (message_seen message.now) body.now) }
         ensures first { RefusesFirst result
-            (batch_parts self.now (message_seen message.now) body.now) }
+            (batch_glance self.now (message_seen message.now) body.now) }
     {
-        let parts = self.batch_parts(message, body)?;
+        let parts = self.batch_parts(message, body.as_slice())?;
+        parts.check_placed(body.as_slice())?;
         let source = Source {
             rows: parts.rows,
             body,
@@ -245,7 +312,7 @@ impl Stream {
     fn dictionary<'a>(
         &self,
         message: &Message<'a>,
-        body: &Bytes,
+        body: &[u8],
     ) -> Result<DictionaryMessage<'a>, Fault>
         ensures { Gives dictionary_seen result
             (dictionary_sent self.now (message_seen message.now) body.now) }
@@ -268,9 +335,10 @@ impl Stream {
             known_after self.old (message_seen message.now) body.now ≡ Err fault) }
         ensures stays { OnErr result (self.new ≡ self.old) }
         ensures first { RefusesFirst result
-            (dictionary_sent self.old (message_seen message.now) body.now) }
+            (dictionary_glance self.old (message_seen message.now) body.now) }
     {
-        let sent = self.dictionary(message, body)?;
+        let sent = self.dictionary(message, body.as_slice())?;
+        sent.parts.check_placed(body.as_slice())?;
         let texts = read_texts(alloc, &sent.parts, body)?;
         let values = if sent.is_delta {
             self.dictionaries
