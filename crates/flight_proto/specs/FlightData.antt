@@ -11,6 +11,7 @@ use Rattle.flight_proto.specs.Lookup.{last_bytes, embedded_within}
 use Rattle.flight_proto.specs.Message.{set_fields, embedded_field, spelled}
 use Rattle.flight_proto.specs.FlightDescriptor.{DescriptorSaid, descriptor_in, descriptor_bytes, descriptor_said}
 use Rattle.flight_proto.specs.declared.flight_data.FlightData.{FlightData}
+use Rattle.flight_proto.specs.declared.flight_data.BorrowedData.{BorrowedData}
 use Rattle.flight_proto.specs.declared.flight_data.StreamDescriptor.{StreamDescriptor}
 
 -- ---- the descriptor of a stream
@@ -57,3 +58,6 @@ data_head data_header len = spelled (set_fields (chunk_entry 2 data_header ∷ [
 -- what the code holds
 abbrev pub data_said : FlightData → DataSaid
 data_said carried = record { data_header = carried.data_header; data_body = carried.data_body }
+
+abbrev pub borrowed_said : BorrowedData → DataSaid
+borrowed_said carried = record { data_header = carried.data_header.now; data_body = carried.data_body.now }

@@ -5,7 +5,7 @@ ghost use Rattle.scan_base.specs.Reading.{Gives, GivesUnlessMemory, RefusesFirst
 ghost use Rattle.flight_proto.specs.Lookup.{bytes_within};
 ghost use Rattle.flight_proto.specs.FlightDescriptor.{descriptor_said};
 ghost use Rattle.flight_proto.specs.FlightData.{stream_said, stream_descriptor_of};
-ghost use Rattle.flight_proto.specs.FlightData.{data_of, data_said, data_bytes, data_head};
+ghost use Rattle.flight_proto.specs.FlightData.{data_of, data_said, borrowed_said, data_bytes, data_head};
 
 use crate::flight_descriptor::FlightDescriptor;
 use crate::message::{Message, chunk_of};
@@ -40,6 +40,32 @@ impl<'a> StreamDescriptor<'a> {
         let descriptor = FlightDescriptor::look_up(&parts)?;
         Ok(StreamDescriptor {
             descriptor: Some(descriptor),
+        })
+    }
+}
+
+/// What a message of a stream carries, borrowed.
+#[derive(Clone, Copy, Debug)]
+pub struct BorrowedData<'a> {
+    /// Field 2: an Arrow IPC message, without its body.
+    pub data_header: &'a [u8],
+    /// Field 1000: the body of that message.
+    pub data_body: &'a [u8],
+}
+
+impl<'a> BorrowedData<'a> {
+    /// What a message of a stream carries. It takes no memory.
+    ///
+    /// # Errors
+    ///
+    /// `Fault::BadProto` where the message is no list of fields.
+    pub fn read(bytes: &'a [u8]) -> Result<BorrowedData<'a>, Fault>
+        ensures { Gives borrowed_said result (data_of bytes.now) }
+    {
+        let message = Message::read(bytes)?;
+        Ok(BorrowedData {
+            data_header: message.bytes(2),
+            data_body: message.bytes(1000),
         })
     }
 }

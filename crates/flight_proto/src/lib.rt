@@ -25,7 +25,9 @@ mod written;
 pub use crate::action::Action;
 pub use crate::any::Any;
 pub use crate::command::Command;
-pub use crate::flight_data::{FlightData, StreamDescriptor, put_flight_data, put_flight_data_head};
+pub use crate::flight_data::{
+    BorrowedData, FlightData, StreamDescriptor, put_flight_data, put_flight_data_head,
+};
 pub use crate::flight_descriptor::FlightDescriptor;
 pub use crate::flight_info::{
     FlightEndpoint, FlightInfo, put_endpoint, put_flight_info, read_location,
