@@ -1,14 +1,14 @@
 #!/usr/bin/env python3
 """What `flightscan serve` costs over loopback, beside plain sockets that carry the same bytes.
 
-    python3 bench/serve.py [--program PATH] [--relay] [--runs N] [--megabytes M] [--fetches N]
+    python3 bench/serve.py [--program PATH] [--runs N] [--megabytes M] [--fetches N]
 
 Measured are 10,000 fetches of two rows, of which the median is told, beside a plain echo of as many bytes each way; and a
 put of 300 MB (three columns of Int64 in batches of 65,536 rows) and `SELECT *` of it, beside a plain copy of as many bytes
 over a socket, which keeps and looks at none of them. bench/sockets.cpp is the client of both, and the plain server; it
 is compiled with g++. Server and plain server are run in turns, and the least of N runs (3) is told. Told too is what the
 server holds for each byte put, and the most that it held while it answered. The tables printed are those of
-bench/README.md. Build the program first, as for pipe.py. With --relay `pipe` serves the connection.
+bench/README.md. Build the program first, as for pipe.py.
 """
 
 import argparse
@@ -92,8 +92,8 @@ def answer_size(connection):
     return size + 4
 
 
-def learn_sizes(path, relay, steps):
-    with Server(path, relay=relay) as server, Connection(server.port) as connection:
+def learn_sizes(path, steps):
+    with Server(path) as server, Connection(server.port) as connection:
         for step in steps:
             with open(step.file, "rb") as source:
                 connection.socket.sendfile(source)
@@ -118,8 +118,8 @@ def asked(client, port, steps, look):
     return found
 
 
-def run_server(path, relay, client, steps):
-    with Server(path, relay=relay) as server:
+def run_server(path, client, steps):
+    with Server(path) as server:
         return asked(client, server.port, steps, lambda: (server.held(), server.most_held()))
 
 
@@ -162,7 +162,6 @@ def print_memory(steps, ours):
 def main():
     parser = argparse.ArgumentParser(description=__doc__, formatter_class=argparse.RawDescriptionHelpFormatter)
     parser.add_argument("--program", help="the built program (that of the repository)")
-    parser.add_argument("--relay", action="store_true", help="serve by `pipe`")
     parser.add_argument("--runs", type=int, default=3, help="of how many runs the least is taken (3)")
     parser.add_argument("--megabytes", type=int, default=300, help="of the large put (300; at most 400)")
     parser.add_argument("--fetches", type=int, default=10_000, help="small ones (10000)")
@@ -171,8 +170,8 @@ def main():
     with tempfile.TemporaryDirectory() as name:
         folder = pathlib.Path(name)
         client, steps = compiled(folder), list(steps_of(folder, rows, words.fetches))
-        learn_sizes(path, words.relay, steps)
-        runs = [(run_server(path, words.relay, client, steps), run_plain(client, steps)) for _ in range(words.runs)]
+        learn_sizes(path, steps)
+        runs = [(run_server(path, client, steps), run_plain(client, steps)) for _ in range(words.runs)]
         ours, plain = zip(*runs)
         print_calls(steps, ours, plain)
         print_memory(steps, ours)

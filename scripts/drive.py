@@ -1,7 +1,7 @@
 #!/usr/bin/env python3
 """Drives a `flightscan serve` over many connections at once, and compares each answer with plain lists.
 
-    python3 scripts/drive.py [--connections N] [--seconds S] [--seed S] [--parts P] [--program PATH] [--relay]
+    python3 scripts/drive.py [--connections N] [--seconds S] [--seed S] [--parts P] [--program PATH]
 
 For a minute, 32 connections put, ask for infos and fetch endpoints at random, each endpoint over any connection, however
 long after its info. The Messages of puts go side by side, and their Ends one after another, so it is known which put made
@@ -9,8 +9,8 @@ which version; infos and fetches wait for none of them. Each info has to be one 
 connection knew and the newest of all; its tickets, its schema and each fetch have to be that version's, and so have the
 joined rows. Then all connections put at once, each into a table of its own: no put is lost, and each connection sees its
 own. Last, a table is replaced again and again: what the server holds grows by the bytes put and no more, as each version
-stays, and fetches leave nothing behind. It ends with 1 at the first difference. With --relay a `pipe` serves, which takes
---connections 1 alone. Build the program first, as for bench/pipe.py.
+stays, and fetches leave nothing behind. It ends with 1 at the first difference. Build the program first, as for
+bench/pipe.py.
 """
 
 from __future__ import annotations
@@ -268,11 +268,9 @@ def main() -> int:
     parser.add_argument("--seconds", type=float, default=60, help="how long they go on at random (60)")
     parser.add_argument("--seed", type=int, default=1, help="of what is put and asked (1)")
     parser.add_argument("--parts", type=int, default=5, help="of an info (5)")
-    parser.add_argument("--relay", action="store_true", help="serve by a `pipe`")
     words = parser.parse_args()
-    drive, options = Drive(words.parts), ["--parts", str(words.parts)]
-    options += [] if words.relay else ["--seats", str(min(words.connections, 32))]
-    with Server(program(words.program), *options, relay=words.relay) as server:
+    drive, seats = Drive(words.parts), min(words.connections, 32)
+    with Server(program(words.program), "--parts", str(words.parts), "--seats", str(seats)) as server:
         try:
             said = carry_out(words, drive, server)
         except (Difference, wire.Unreadable, OSError) as found:

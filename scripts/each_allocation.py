@@ -1,13 +1,17 @@
 #!/usr/bin/env python3
 """Runs `flightscan pipe` with each of its allocations refused in turn, and looks at what it writes.
 
+    python3 scripts/each_allocation.py [--program PATH]
+
 The input is the first run's put, the same put again, and two fetches of version 1. With one allocation refused, each
 answer is whole or has status F21, that of a fetch behind its first messages; the first put is there exactly where its
 status is 0, and else the second put makes version 1; where the connection ends, whole answers and a status F21 were
-written; and where there was no memory for the command line, nothing was written, and F21 was printed. Build the program first (`cd crates/flightscan && rt run --
-pipe < stdin > /dev/null`). It needs a C compiler, and runs in a few seconds.
+written; and where there was no memory for the command line, nothing was written, and F21 was printed. Build the program
+first (`cd crates/flightscan && rt run -- pipe < stdin > /dev/null`): the unproved one of `rt try` does not do. It needs
+a C compiler, and runs in a few seconds.
 """
 
+import argparse
 import collections
 import os
 import pathlib
@@ -58,8 +62,18 @@ def run(path, bytes_in, shim, number, counted):
     return done.stdout, done.stderr, done.returncode
 
 
+def allocations_of(path, bytes_in, shim, counted):
+    """How many allocations a run makes with none refused."""
+    run(path, bytes_in, shim, 0, counted)
+    if not counted.exists():
+        sys.exit(f"{path} did not count its allocations: this wants the proved program, and not that of `rt try`")
+    return int(counted.read_text())
+
+
 def main():
-    path = program(*sys.argv[1:2])
+    parser = argparse.ArgumentParser(description=__doc__, formatter_class=argparse.RawDescriptionHelpFormatter)
+    parser.add_argument("--program", help="the built program (that of the repository)")
+    path = program(parser.parse_args().program)
     first_run = (CRATE / "stdin").read_bytes()
     put, fetch = first_run[:PUT_LENGTH], first_run[PUT_LENGTH:]
     answers = (CRATE / "stdout").read_bytes()
@@ -71,8 +85,7 @@ def main():
         source = ROOT / "scripts/refuse_allocation.c"
         subprocess.run(["cc", "-shared", "-fPIC", "-O1", "-o", shim, source, "-ldl"], check=True)
         counted = pathlib.Path(folder) / "counted"
-        run(path, put + put + fetch + fetch, shim, 0, counted)
-        allocations = int(counted.read_text())
+        allocations = allocations_of(path, put + put + fetch + fetch, shim, counted)
         for number in range(1, allocations + 1):
             outcome = run(path, put + put + fetch + fetch, shim, number, counted)
             if outcome not in outcomes:

@@ -1,9 +1,4 @@
-"""A `flightscan serve` on loopback and connections to it, for the scripts that talk to a running server.
-
-Where the program has no `serve`, a relay stands in for it: it listens too, and one after another hands each connection to
-a `flightscan pipe` of its own, as its standard input and output. Such connections share no table. This file, run with the
-program's path and the options of `pipe`, is that relay.
-"""
+"""A `flightscan serve` on loopback and connections to it, for the scripts that talk to a running server."""
 
 from __future__ import annotations
 
@@ -12,7 +7,6 @@ import pathlib
 import socket
 import struct
 import subprocess
-import sys
 import tempfile
 
 import wire
@@ -24,11 +18,10 @@ LINE = b"listening 127.0.0.1:"
 class Server:
     """A server that runs as long as the block."""
 
-    def __init__(self, path: str, *options: str, relay: bool = False):
-        self.relay = relay
-        command = [sys.executable, __file__, path] if relay else [path, "serve", "--port", "0"]
+    def __init__(self, path: str, *options: str):
         self.faults = tempfile.TemporaryFile()
-        self.process = subprocess.Popen([*command, *options], stdout=subprocess.PIPE, stderr=self.faults)
+        command = [path, "serve", "--port", "0", *options]
+        self.process = subprocess.Popen(command, stdout=subprocess.PIPE, stderr=self.faults)
         self.line = self.process.stdout.readline()
         if not self.line.startswith(LINE):
             self.process.wait()
@@ -49,17 +42,9 @@ class Server:
         self.faults.seek(0)
         return self.faults.read()
 
-    def working(self) -> int:
-        """The process that serves: the server, or the relay's `pipe`."""
-        number = self.process.pid
-        if not self.relay:
-            return number
-        children = pathlib.Path(f"/proc/{number}/task/{number}/children").read_text().split()
-        return int(children[0])
-
     def held(self, which: str = "VmRSS:") -> int:
         """The bytes of memory that it holds now."""
-        lines = pathlib.Path(f"/proc/{self.working()}/status").read_text().splitlines()
+        lines = pathlib.Path(f"/proc/{self.process.pid}/status").read_text().splitlines()
         return next(int(line.split()[1]) * 1024 for line in lines if line.startswith(which))
 
     def most_held(self) -> int:
@@ -68,11 +53,11 @@ class Server:
 
     def ticks(self) -> int:
         """The processor time that it used so far."""
-        fields = pathlib.Path(f"/proc/{self.working()}/stat").read_text().rpartition(")")[2].split()
+        fields = pathlib.Path(f"/proc/{self.process.pid}/stat").read_text().rpartition(")")[2].split()
         return int(fields[11]) + int(fields[12])
 
     def open_files(self) -> int:
-        return len(os.listdir(f"/proc/{self.working()}/fd"))
+        return len(os.listdir(f"/proc/{self.process.pid}/fd"))
 
 
 class Connection:
@@ -124,20 +109,3 @@ class Connection:
     def rest(self) -> bytes:
         """What comes up to the end of the connection."""
         return self.source.read()
-
-
-def relay(path: str, options: list[str]) -> None:
-    """Listens, says where, and serves connections one after another, each by a `pipe` of its own."""
-    with socket.create_server(("127.0.0.1", 0)) as listener:
-        print(LINE.decode() + str(listener.getsockname()[1]), flush=True)
-        while True:
-            connection, _ = listener.accept()
-            with connection:
-                connection.setsockopt(socket.IPPROTO_TCP, socket.TCP_NODELAY, 1)
-                ends = {"stdin": connection, "stdout": connection, "stderr": subprocess.DEVNULL}
-                child = subprocess.Popen([path, "pipe", *options], **ends)
-            child.wait()
-
-
-if __name__ == "__main__":
-    relay(sys.argv[1], sys.argv[2:])

@@ -7,11 +7,11 @@
 Made: the column "Stands on" of docs/ARCHITECTURE.md, from crates.txt; and the list of files in docs/SEMANTICS.md, from
 what scripts/trusted_base.py counts and what public contracts cite. Looked at, in each page: that the files and headings
 that links lead to are there; that a name in a link to a source file stands in that file; that files and wrong bodies
-named in backticks are there; that code which is shown stands so in a source file; that the tour of docs/SEMANTICS.md
+named in backticks are there; that each wrong body has its row in the README of its crate, with a link to where it
+stands; that code which is shown stands so in a source file; that the tour of docs/SEMANTICS.md
 leaves out no file to believe; and that README.md has at most 10,000 bytes.
 """
 
-import collections
 import pathlib
 import re
 import sys
@@ -62,25 +62,40 @@ def with_stands_on(text, amiss):
     return "\n".join(lines)
 
 
-def public_lines(text):
-    """The lines of a source file that a caller of its crate can see: contracts of public functions and of the methods
-    of traits, and what the Models of public types make of them."""
-    public = set(re.findall(r"(?m)^pub (?:struct|enum) (\w+)", text))
+def exported(crate):
+    """The names of types, traits and functions that other crates can see: those that its root declares or brings out, and
+    those of its public modules."""
+    source = CRATES / crate / "src"
+    root = source / "lib.rt"
+    if not root.exists():
+        return set()
+    text, item = root.read_text(), r"(?m)^pub (?:const )?(?:fn|struct|enum|trait) (\w+)"
+    names = set(re.findall(item, text))
+    for listed, one in re.findall(r"(?m)^pub use crate::[\w:]+::(?:\{([^}]*)\}|(\w+))", text):
+        names |= set(re.findall(r"\w+", listed or one))
+    for module in re.findall(r"(?m)^pub mod (\w+);", text):
+        for path in (source / f"{module}.rt", source / module / "mod.rt"):
+            names |= set(re.findall(item, path.read_text())) if path.exists() else set()
+    return names
+
+
+def public_lines(text, names):
+    """The lines of a source file that a caller of its crate can see, where these names are exported: contracts of
+    functions and methods. What a Model makes of a type's private parts is none of them: a caller sees what it gives."""
     block, taking, found = "", False, []
     for line in trusted_base.IMPORT.sub("", text).split("\n"):
         if line and not line[0].isspace():
             block = line
-        model = re.match(r"impl.* Model for (\w+)", block)
-        if model:
-            taking = model[1] in public and line != "}" and (taking or line == block) and "ghost invariant" not in line
-        head = re.match(r"\s*(pub )?(?:const )?fn ", line)
-        if head and not model:
-            of_trait = block.startswith(("pub trait", "impl")) and (" for " in block or "trait" in block)
-            taking = bool(head[1]) or of_trait and line[0].isspace()
+        head = re.match(r"\s*(pub )?(?:const )?fn (\w+)", line)
+        if head:
+            owner = re.search(r" for (\w+)", block) or re.match(r"(?:pub )?(?:unsafe )?(?:impl(?:<.*?>)?|trait) (\w+)", block)
+            is_method = line[0].isspace()
+            is_open = bool(head[1]) or is_method and (" for " in block or "trait " in block)
+            taking = is_open and " Model for " not in block and (owner[1] if is_method and owner else head[2]) in names
         if taking:
             found.append(line)
         stripped = line.strip()
-        if not model and (stripped == "{" or stripped.endswith("{") and (head or stripped.startswith(")")) or line == "}"):
+        if stripped == "{" or stripped.endswith("{") and (head or stripped.startswith(")")) or line == "}":
             taking = False
     return found
 
@@ -92,34 +107,28 @@ def is_test(path):
 def public_base(files):
     """All definitions that a public contract of any crate rests on."""
     start = set()
-    for path in CRATES.glob("*/src/**/*.rt"):
-        if not is_test(path):
-            text = path.read_text()
-            names, modules = trusted_base.imports_of(text)
-            crate = path.relative_to(CRATES).parts[0]
-            file = {"module": "", "names": names, "modules": modules, "found": {}, "crate": crate}
-            start |= trusted_base.cited(public_lines(text), file, files)
+    for crate in stands_on():
+        names = exported(crate)
+        for path in (CRATES / crate / "src").rglob("*.rt"):
+            if not is_test(path):
+                text = path.read_text()
+                brought, modules = trusted_base.imports_of(text)
+                file = {"module": "", "names": brought, "modules": modules, "found": {}, "crate": crate}
+                start |= trusted_base.cited(public_lines(text, names), file, files)
     return trusted_base.closure(start, files)[0]
-
-
-def trusted(files):
-    """All definitions that the contract of `pipe` rests on."""
-    lines, file = trusted_base.contract_of(*trusted_base.find_pipe())
-    return trusted_base.closure(trusted_base.cited(lines, file, files), files)[0]
 
 
 def list_of_files(amiss):
     """The files of each crate's specs: those to believe, those of other public calls and laws, and those inside."""
     files = trusted_base.read_specs()
-    believed = trusted(files)
+    believed = trusted_base.base_of_promise(files)[0]
     public = {item.path for item in public_base(files).values()}
-    among, sums = {item.path for item in believed.values()}, collections.Counter()
-    for item in believed.values():
-        sums[item.crate in trusted_base.MACHINE] += len(item.lines)
-    rows = [f"{len(believed)} definitions in {len(among)} files: {sum(sums.values())} lines of code, of which {sums[True]} are "
-            f"machine and meaning, and {sums[False]} formats and grammar.", "",
+    among = {item.path for item in believed.values()}
+    machine, formats = trusted_base.size_of(believed.values())
+    rows = [f"{len(believed)} definitions in {len(among)} files: {machine + formats:,} lines of code. Our own machine and the "
+            f"meaning of queries have {trusted_base.against(machine, trusted_base.MACHINE_GOAL)}, formats and grammar "
+            f"{trusted_base.against(formats, trusted_base.FORMATS_GOAL)}.", "",
             "| Crate | To believe | Of other public calls, and of laws | Inside |", "|---|---|---|---|"]
-    notes = collections.defaultdict(list)
     for crate in stands_on():
         specs = CRATES / crate / "specs"
         kinds = {"believe": [], "stated": [], "inside": []}
@@ -127,18 +136,15 @@ def list_of_files(amiss):
             if not any(file["path"] == path and file["found"] for file in files.values()):
                 continue
             is_marked = path.relative_to(specs).parts[0] == "inside" or path.read_text().startswith("-- Inside")
-            kind = "believe" if path in among else "stated" if path in public and not is_marked else "inside"
+            kind = "believe" if path in among else "stated" if path in public else "inside"
             kinds[kind].append(path.stem)
-            if is_marked and path in among:
-                amiss.append(f"{path.relative_to(TOP)}: marked as inside, but the contract of pipe rests on it")
-            elif is_marked and path in public:
-                notes["marked as inside, though a public function's contract rests on it"].append(f"{crate}/{path.stem}")
+            if is_marked and kind != "inside":
+                rests = "the promise rests" if kind == "believe" else "a public contract rests"
+                amiss.append(f"{path.relative_to(TOP)}: marked as inside, but {rests} on it")
             elif kind == "inside" and not is_marked:
-                notes["inside, but neither in specs/inside nor begun by 'Inside'"].append(f"{crate}/{path.stem}")
+                amiss.append(f"{path.relative_to(TOP)}: inside, but neither in specs/inside nor begun by 'Inside'")
         if any(kinds.values()):
             rows.append(f"| {crate} | " + " | ".join(", ".join(names) for names in kinds.values()) + " |")
-    for what, names in notes.items():
-        print(f"{what}: {', '.join(names)}")
     return "\n".join(re.sub(r"\|  (?=\|)", "| ", row) for row in rows)
 
 
@@ -195,6 +201,20 @@ def look_at_names(page, text, amiss):
             amiss.append(f"{page.relative_to(TOP)}: no file {path}")
 
 
+def look_at_wrong_bodies(amiss):
+    """Tells which wrong bodies have no row in the README of their crate, and which rows have no wrong body. A row links
+    to its file, as must-fail/NAME where the gate tries it, and as plants/NAME where a landing does."""
+    found = {(path.relative_to(CRATES).parts[0], "must-fail", path.stem) for path in CRATES.glob("*/must-fail/*.edit")}
+    found |= {(path.parent.name, "plants", path.stem) for path in TOP.glob("plants/*/*.edit")}
+    named = set()
+    for page in CRATES.glob("*/README.md"):
+        crate = page.parent.name
+        row = rf"(?m)^\| \[(must-fail|plants)/(\w+)\]\((?:must-fail|\.\./\.\./plants/{crate})/\2\.edit\) \|"
+        named |= {(crate, folder, name) for folder, name in re.findall(row, page.read_text())}
+    amiss.extend(f"crates/{crate}/README.md: no row for {folder}/{name}" for crate, folder, name in sorted(found - named))
+    amiss.extend(f"crates/{crate}/README.md: no wrong body {folder}/{name}" for crate, folder, name in sorted(named - found))
+
+
 def look_at_tour(page, text, amiss):
     """Tells which files the tour of SEMANTICS names that are not there, and which of those to believe it leaves out."""
     toured = set()
@@ -224,7 +244,7 @@ def look_at_code(page, text, sources, amiss):
 
 def pages():
     yield from sorted(TOP.glob("*.md"))
-    for folder in ("docs", "bench", "vectors", "crates"):
+    for folder in ("docs", "bench", "plants", "scripts", "vectors", "crates"):
         yield from sorted(path for path in (TOP / folder).rglob("*.md") if "/out/" not in str(path))
 
 
@@ -247,10 +267,12 @@ def main(words):
             look_at_tour(page, text, amiss)
         look_at_links(page, text, amiss)
         look_at_names(page, text, amiss)
+    look_at_wrong_bodies(amiss)
     listed = stands_on()
     of_kit = {name for below in listed.values() for name in below} - set(listed)
-    amiss.extend(f"{page}: no word of the kit's {name}" for name in sorted(of_kit) for page in ("README.md", "docs/ARCHITECTURE.md")
-                 if not re.search(rf"(?<![\w]){name}(?![\w])", (TOP / page).read_text()))
+    said = (TOP / "docs/ARCHITECTURE.md").read_text()
+    amiss.extend(f"docs/ARCHITECTURE.md: no word of the kit's {name}" for name in sorted(of_kit)
+                 if not re.search(rf"(?<![\w]){name}(?![\w])", said))
     size = len((TOP / "README.md").read_bytes())
     if size > README_BYTES:
         amiss.append(f"README.md has {size} bytes, more than {README_BYTES}")

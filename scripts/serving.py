@@ -1,14 +1,13 @@
 #!/usr/bin/env python3
 """A `flightscan serve` on loopback, seen from outside: by a client that shares nothing with the crates.
 
-    python3 scripts/serving.py [--program PATH] [--seeds N] [--relay] [CASE..]
+    python3 scripts/serving.py [--program PATH] [--seeds N] [CASE..]
 
 The client speaks records, Protocol Buffers, FlatBuffers by position and Arrow's columns by scripts/wire.py and
 vectors/arrow/reader.py, and knows from plain lists what has to be answered. The programs `put`, `query` and `tables` are
 looked at by what they print and how they end. Each case has a server of its own and a line that says what holds; the last
-line counts them. It ends with 1 at a difference, and says which. With --relay each connection is served by a `flightscan
-pipe` of its own, and the cases that need more than `pipe` are passed over. With names, the cases whose names begin so are
-run. Build the program first, as for bench/pipe.py.
+line counts them. It ends with 1 at a difference, and says which. With names, the cases whose names begin so are run.
+Build the program first, as for bench/pipe.py.
 """
 
 from __future__ import annotations
@@ -51,14 +50,12 @@ def main() -> int:
     parser = argparse.ArgumentParser(description=__doc__, formatter_class=argparse.RawDescriptionHelpFormatter)
     parser.add_argument("--program", help="the built program (that of the repository)")
     parser.add_argument("--seeds", type=int, default=40, help="how many interleavings at random (40)")
-    parser.add_argument("--relay", action="store_true", help="serve by `pipe`, a process for each connection")
     parser.add_argument("case", nargs="*", help="cases whose names begin so (all)")
     words = parser.parse_args()
-    run = Run(program(words.program), words.relay, words.seeds)
-    named = [one for one in CASES if not words.case or one.name.startswith(tuple(words.case))]
-    wanted = [one for one in named if not (run.relay and one.beyond_pipe)]
+    run = Run(program(words.program), words.seeds)
+    wanted = [one for one in CASES if not words.case or one.name.startswith(tuple(words.case))]
     done = sum(looked_at(one, run) for one in wanted)
-    print(f"{done} cases of {len(wanted)} as they have to be; {len(named) - len(wanted)} passed over")
+    print(f"{done} cases of {len(wanted)} as they have to be")
     return 0 if done == len(wanted) else 1
 
 

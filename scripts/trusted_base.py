@@ -1,27 +1,31 @@
 #!/usr/bin/env python3
-"""What a reader of one contract must believe: the definitions that it cites, and those that they cite, by crate.
+"""What a reader of the promise must believe: the definitions that its contracts cite, and those that they cite, by crate.
 
     python3 scripts/trusted_base.py [--names] [--bare] [SOURCE FUNCTION]
 
-Begins at the contract of FUNCTION in the file SOURCE (`pipe`, wherever it stands) and follows each name through the
-imports of its file. Counted are the nonblank lines of the definitions without their comments, and how many have no
-comment right above. Types that the code declares are named apart, and the kit's own words are not followed. A name
+The promise of README.md rests on four contracts: those of `pipe` and `serve`, and the two laws that their runs meet the
+headline (STARTS). The script begins at them, or at the contract of FUNCTION in the file SOURCE, and follows each name
+through the imports of its file. It counts the nonblank lines of the definitions without their comments, and how many have
+no comment right above. Types that the code declares are named apart, and the kit's own words are not followed. A name
 counts as cited where it stands in a definition, so the count errs, if at all, towards more.
 
 --names lists each definition with its lines; --bare those without a comment, and the files above 150 lines.
 """
 
+import argparse
 import collections
 import pathlib
 import re
-import sys
 
 TOP = pathlib.Path(__file__).resolve().parent.parent
 if not (TOP / "crates.txt").exists():
     TOP = pathlib.Path.cwd()
 
-MACHINE = {"scan_base", "table_versions", "typed_plan", "sql_query", "endpoint_split", "grpc_frame", "flight_info", "fetch_stream",
-           "flight_core", "flight_calls", "command_line", "commands", "flightscan"}
+STARTS = (("commands", "pipe"), ("commands", "serve"), ("flight_calls", "served_meets_headline"), ("commands", "server_meets_headline"))
+# (what these define is a standard's, or the grammar's; what all other crates define is our own machine, and what queries mean)
+FORMATS = {"proto_wire", "flatbuf", "bitmap", "arrow_schema", "arrays", "ipc_batch", "ipc_stream", "flight_proto", "sql_text",
+           "grammar", "sql_parse"}
+MACHINE_GOAL, FORMATS_GOAL = 1_000, 1_300  # lines
 LONGEST_FILE = 150
 
 ITEM = re.compile(r"^(?:unfoldable |opaque )?(?:pub )?(abbrev|record|data|def)?\s*(?:pub )?(\S+)")
@@ -186,42 +190,89 @@ def closure(start, files):
     return reached, types
 
 
-def find_pipe():
-    for path in sorted((TOP / "crates").glob("*/src/pipe.rt")):
-        return path, "pipe"
-    raise SystemExit("no pipe.rt")
+def start_of(crate, function):
+    """Where a crate's public function stands."""
+    for path in sorted((TOP / "crates" / crate / "src").rglob("*.rt")):
+        if re.search(rf"(?m)^pub fn {function}[<(]", path.read_text()):
+            return path, function
+    raise SystemExit(f"no public function {function} in {crate}")
 
 
-def main():
-    options = [word for word in sys.argv[1:] if word.startswith("--")]
-    words = [word for word in sys.argv[1:] if not word.startswith("--")]
-    path, function = (TOP / words[0], words[1]) if words else find_pipe()
-    files = read_specs()
-    lines, file = contract_of(path, function)
-    reached, types = closure(cited(lines, file, files), files)
+def base_of(starts, files):
+    """All definitions that some contracts rest on, and the declared types."""
+    found = set()
+    for path, function in starts:
+        lines, file = contract_of(path, function)
+        found |= cited(lines, file, files)
+    return closure(found, files)
+
+
+def base_of_promise(files):
+    """All definitions that the promise rests on, and the declared types."""
+    return base_of([start_of(*start) for start in STARTS], files)
+
+
+def size_of(definitions):
+    """Lines of our machine and of formats."""
+    sizes = collections.Counter()
+    for item in definitions:
+        sizes[item.crate in FORMATS] += len(item.lines)
+    return sizes[False], sizes[True]
+
+
+def against(size, goal):
+    return f"{size:,} lines (the goal of {goal:,} is {'met' if size <= goal else f'missed by {size - goal}'})"
+
+
+def print_crates(definitions):
+    """The lines and definitions of each crate, and how many have no comment."""
     code, bare, count = collections.Counter(), collections.Counter(), collections.Counter()
-    for item in reached.values():
+    for item in definitions:
         code[item.crate] += len(item.lines)
         count[item.crate] += 1
         bare[item.crate] += not item.commented
-    print(f"{path.relative_to(TOP)}, {function}:")
-    for title, among in (("machine and meaning", True), ("formats and grammar", False)):
-        crates = [crate for crate in code if (crate in MACHINE) == among]
-        print(f"  {title}: {sum(code[crate] for crate in crates)} lines of code")
-        for crate in sorted(crates, key=lambda crate: -code[crate]):
+    machine, formats = size_of(definitions)
+    for title, among, size in (("machine and meaning", False, machine), ("formats and grammar", True, formats)):
+        print(f"  {title}: {size} lines of code")
+        for crate in sorted((crate for crate in code if (crate in FORMATS) == among), key=lambda crate: -code[crate]):
             uncommented = f", {bare[crate]} without a comment" if bare[crate] else ""
             print(f"    {crate:16} {code[crate]:5} in {count[crate]} definitions{uncommented}")
-    used = {item.path for item in reached.values()}
-    print(f"  in all: {sum(code.values())} lines, {len(reached)} definitions, {len(used)} files, "
-          f"{len({m for m in types if not m.endswith('TheVariants')})} declared types")
-    long = [(len(p.read_text().split(chr(10))) - 1, p) for p in (TOP / "crates").glob("*/specs/**/*.antt")]
-    for size, p in sorted(long, reverse=True):
+
+
+def summed(reached, types):
+    definitions = list(reached.values())
+    return (f"{sum(size_of(definitions))} lines, {len(definitions)} definitions, {len({item.path for item in definitions})} files, "
+            f"{len({module for module in types if not module.endswith('TheVariants')})} declared types")
+
+
+def print_long_files():
+    for path in sorted((TOP / "crates").glob("*/specs/**/*.antt")):
+        size = len(path.read_text().splitlines())
         if size > LONGEST_FILE:
-            print(f"  above {LONGEST_FILE} lines: {p.relative_to(TOP)} ({size})")
-    if "--names" in options or "--bare" in options:
-        for item in sorted(reached.values(), key=lambda item: (item.crate, str(item.path), item.name)):
-            if "--names" in options or not item.commented:
-                print(f"{item.crate}/{item.path.name}\t{item.name}\t{len(item.lines)}{'' if item.commented else chr(9) + 'no comment'}")
+            print(f"  above {LONGEST_FILE} lines: {path.relative_to(TOP)} ({size})")
+
+
+def main():
+    parser = argparse.ArgumentParser(description=__doc__, formatter_class=argparse.RawDescriptionHelpFormatter)
+    parser.add_argument("--names", action="store_true", help="list each definition")
+    parser.add_argument("--bare", action="store_true", help="list those without a comment")
+    parser.add_argument("source", nargs="?", help="a file of src/, from the top of the repository")
+    parser.add_argument("function", nargs="?", help="a function of that file")
+    words = parser.parse_args()
+    if words.source and not words.function:
+        parser.error("a source file needs a function")
+    starts = [(TOP / words.source, words.function)] if words.source else [start_of(*start) for start in STARTS]
+    files = read_specs()
+    for start in starts:
+        print(f"{start[0].relative_to(TOP)}, {start[1]}: {summed(*base_of([start], files))}")
+    reached, types = base_of(starts, files)
+    if len(starts) > 1:
+        print(f"all of them: {summed(reached, types)}")
+    print_crates(reached.values())
+    print_long_files()
+    for item in sorted(reached.values(), key=lambda item: (item.crate, str(item.path), item.name)):
+        if words.names or words.bare and not item.commented:
+            print(f"{item.crate}/{item.path.name}\t{item.name}\t{len(item.lines)}{'' if item.commented else chr(9) + 'no comment'}")
 
 
 if __name__ == "__main__":

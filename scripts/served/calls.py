@@ -181,12 +181,12 @@ def stored_stream(run: Run) -> None:
 # ---- at random
 
 
-def carry_out(interleaving: Interleaving, server: Server, random: Random, renews: bool) -> None:
+def carry_out(interleaving: Interleaving, server: Server, random: Random) -> None:
     """Makes the calls one after another, whole or in pieces, at times over a new connection."""
     connection = Connection(server.port)
     try:
         for number, call in enumerate(interleaving.calls, 1):
-            if renews and random.random() < 0.1:
+            if random.random() < 0.1:
                 connection.close()
                 connection = Connection(server.port)
             piece = random.choice([None, None, 1 if len(call.records) < 3000 else 999, 50, 4096])
@@ -205,4 +205,4 @@ def at_random(run: Run) -> None:
     for seed in range(1, run.seeds + 1):
         interleaving = Interleaving(seed, infos=True)
         with run.serving("--parts", str(interleaving.parts)) as server:
-            carry_out(interleaving, server, Random(seed), renews=not run.relay)
+            carry_out(interleaving, server, Random(seed))

@@ -30,17 +30,16 @@ class Case:
     name: str
     said: str
     look: Callable[[Run], str | None]  # what it gives is added to its line
-    beyond_pipe: bool  # whether its connections share tables, or it runs other programs
 
 
 CASES: list[Case] = []
 
 
-def case(said: str, beyond_pipe: bool = False) -> Callable:
+def case(said: str) -> Callable:
     """Keeps a function as a case."""
 
     def kept(look: Callable[[Run], str | None]) -> Callable[[Run], str | None]:
-        CASES.append(Case(look.__name__, said, look, beyond_pipe))
+        CASES.append(Case(look.__name__, said, look))
         return look
 
     return kept
@@ -51,13 +50,12 @@ class Run:
     """How servers are run."""
 
     path: str
-    relay: bool
     seeds: int
 
     @contextmanager
     def serving(self, *options: str) -> Iterator[Server]:
         """A server, which has to be there at the end and to have printed nothing more."""
-        with Server(self.path, *options, relay=self.relay) as server:
+        with Server(self.path, *options) as server:
             yield server
             same("the server's exit status", None, server.process.poll())
             same("what the server printed as faults", b"", server.said())

@@ -39,7 +39,7 @@ def first_run_in_pieces(run: Run) -> None:
     same("the answers of pieces", given[0], given[2])
 
 
-@case("the first run cut anywhere: whole calls are answered and no other, and what was cut is not done", beyond_pipe=True)
+@case("the first run cut anywhere: whole calls are answered and no other, and what was cut is not done")
 def first_run_cut(run: Run) -> None:
     for length in (0, 1, 2, 44, 45, 47, 51, 120, 249, 250, 300, 405, 406, 407, 408, 452, 500, 563, 564):
         with run.serving() as server:
@@ -132,7 +132,7 @@ def gone_clients(run: Run) -> None:
             ask(connection, PUT, PutCount(2))
 
 
-@case("a client that goes away before the answer of its whole put: the put stands", beyond_pipe=True)
+@case("a client that goes away before the answer of its whole put: the put stands")
 def answer_not_read(run: Run) -> None:
     with run.serving() as server:
         connection = Connection(server.port)
@@ -177,11 +177,11 @@ def nothing_read(run: Run) -> str:
             connection.take(MEGABYTE)
             connection.break_off()
         with Connection(server.port) as connection:
-            ask(connection, PUT, PutCount(2) if run.relay else Refusal("F10"))
+            ask(connection, PUT, Refusal("F10"))
     return more
 
 
-@case("500 connections, one after another: the last 300 leave no open file and no memory behind", beyond_pipe=True)
+@case("500 connections, one after another: the last 300 leave no open file and no memory behind")
 def connections_in_a_row(run: Run) -> None:
     with run.serving() as server:
         with Connection(server.port) as connection:
@@ -197,7 +197,7 @@ def connections_in_a_row(run: Run) -> None:
         same(f"it holds less than 1 MB more, of {last[1] - held} bytes", True, last[1] - held < MEGABYTE)
 
 
-@case("after three connections --accept 3 ends the server with 0", beyond_pipe=True)
+@case("after three connections --accept 3 ends the server with 0")
 def accept_three(run: Run) -> None:
     with Server(run.path, "--accept", "3") as server:
         for wanted in (PutCount(2), Refusal("F10"), Refusal("F10")):

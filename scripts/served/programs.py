@@ -72,7 +72,7 @@ def free_port() -> str:
 # ---- what is printed
 
 
-@case("put, tables and query: the count, the names and the lines, of groups too", beyond_pipe=True)
+@case("put, tables and query: the count, the names and the lines, of groups too")
 def printed_lines(run: Run) -> None:
     texts = (Column("s", "Utf8", True),)
     with run.serving() as server:
@@ -88,7 +88,7 @@ def printed_lines(run: Run) -> None:
         same("tables", printed("a", "t"), tables(run, server))
 
 
-@case("names and texts with a backslash, a tab, LF, CR or quotes are escaped", beyond_pipe=True)
+@case("names and texts with a backslash, a tab, LF, CR or quotes are escaped")
 def escapes(run: Run) -> None:
     name, text = "a\t\\\n\r'b", "it's\t\\\n\r'\u20ac"
     with run.serving() as server:
@@ -98,7 +98,7 @@ def escapes(run: Run) -> None:
         same("query", lines, query(run, server, f'SELECT * FROM "{name}"'))
 
 
-@case("numbers of every type, their least and greatest, and truth values", beyond_pipe=True)
+@case("numbers of every type, their least and greatest, and truth values")
 def every_type(run: Run) -> None:
     columns = (*(Column(kind, kind, True) for kind in RANGES), Column("Bool", "Bool", True))
     ends = [tuple(bounds[place] - place for bounds in RANGES.values()) for place in (0, 1)]
@@ -111,7 +111,7 @@ def every_type(run: Run) -> None:
         same("query", printed(*lines, nulls), query(run, server, "SELECT * FROM t"))
 
 
-@case("rows from 64 endpoints, over one connection or several, are printed in their order", beyond_pipe=True)
+@case("rows from 64 endpoints, over one connection or several, are printed in their order")
 def joined_endpoints(run: Run) -> None:
     with run.serving("--parts", "64") as server:
         same("put", printed("1000 rows"), put(run, server, "t", stream(A, [(row,) for row in range(1000)])))
@@ -123,7 +123,7 @@ def joined_endpoints(run: Run) -> None:
 # ---- streams
 
 
-@case("streams with and without their end marker, with bytes behind it, and of no message", beyond_pipe=True)
+@case("streams with and without their end marker, with bytes behind it, and of no message")
 def ends_of_streams(run: Run) -> None:
     cut = TRIPS[: -len(END)]
     with run.serving() as server:
@@ -146,7 +146,7 @@ def ends_of_streams(run: Run) -> None:
 # ---- how they end
 
 
-@case("faults that the server answers: one line, nothing on standard output, and status 1", beyond_pipe=True)
+@case("faults that the server answers: one line, nothing on standard output, and status 1")
 def answered_faults(run: Run) -> None:
     with run.serving() as server:
         same("append to none", answered("F9 TableMissing"), put(run, server, "t", TRIPS, "append"))
@@ -168,7 +168,7 @@ LINES = [[], ["another"], ["--help"], ["put", "--help"], ["pipe", "--parts", "0"
          ["tables", "--port", "x"]]
 
 
-@case("command lines that don't parse or ask for help: a text on standard error, and status 2", beyond_pipe=True)
+@case("command lines that don't parse or ask for help: a text on standard error, and status 2")
 def command_lines(run: Run) -> None:
     for words in LINES:
         status, out, said = typed(run, *words)
@@ -183,7 +183,7 @@ def look_at_transport(what: str, given: tuple[int, bytes, bytes], port: str) -> 
     same(f"{what}: a second line with the port, {said!r}", True, len(lines) == 2 and port.encode() in lines[1])
 
 
-@case("a port on which nothing listens, and one that is taken: F22, a line that says which, and status 3", beyond_pipe=True)
+@case("a port on which nothing listens, and one that is taken: F22, a line that says which, and status 3")
 def no_connection(run: Run) -> None:
     port = free_port()
     look_at_transport("tables", typed(run, "tables", "--port", port), port)
@@ -194,7 +194,7 @@ def no_connection(run: Run) -> None:
         look_at_transport("serve", typed(run, "serve", "--port", port, "--accept", "1"), port)
 
 
-@case("70,000 rows, more than a message holds: each has its line, in its order", beyond_pipe=True)
+@case("70,000 rows, more than a message holds: each has its line, in its order")
 def many_rows(run: Run) -> None:
     with run.serving("--parts", "3") as server:
         data = stream(A, [(row,) for row in range(70_000)])
@@ -203,7 +203,7 @@ def many_rows(run: Run) -> None:
         same("one of 70,000", printed("a", "69999"), query(run, server, "SELECT a FROM t WHERE a = 69999"))
 
 
-@case("output that is closed or full while query prints: one line, and status 3", beyond_pipe=True)
+@case("output that is closed or full while query prints: one line, and status 3")
 def closed_output(run: Run) -> None:
     with run.serving() as server:
         same("put", printed("7 rows"), put(run, server, "t", TRIPS))
@@ -238,7 +238,7 @@ def told(run: Run, answer: bytes) -> tuple[int, bytes, bytes]:
     return given
 
 
-@case("servers that answer something else: the fault found at this end, and status 3", beyond_pipe=True)
+@case("servers that answer something else: the fault found at this end, and status 3")
 def other_servers(run: Run) -> None:
     done, nothing = b"\x04\0\0\0", b"\x02\0\0\0\0\0"
     frames = [b"\x05", b"\x01", b"\x03", b"\x02\x01", b"\x04\x03\0\x01\xff"]

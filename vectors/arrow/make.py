@@ -2,6 +2,7 @@
 """Writes the headers, the bodies and index.txt of cases.py. Needs flatc (Debian: flatbuffers-compiler)."""
 import json
 import pathlib
+import shutil
 import subprocess
 import sys
 import tempfile
@@ -49,6 +50,8 @@ def header(folder, message):
 
 
 def main():
+    if not shutil.which("flatc"):
+        raise SystemExit("flatc is not here, so nothing is made")
     for old in [*HERE.glob("*.header"), *HERE.glob("*.body")]:
         old.unlink()
     with tempfile.TemporaryDirectory() as name:

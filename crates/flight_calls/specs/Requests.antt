@@ -1,4 +1,4 @@
--- What is held of a call while its messages come.
+-- Inside: what is held of a call while its messages come.
 use Rattle.std.specs.Prelude.{◌≡◌, List, [], ◌∷◌, ◌++◌, Some, Err}
 use Rattle.scan_base.specs.declared.fault.Fault.{Fault}
 use Rattle.flight_info.specs.Payloads.{Payload}

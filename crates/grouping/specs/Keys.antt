@@ -1,4 +1,4 @@
--- Keys: when two are the same, and what a hash takes of them.
+-- Inside: keys, when two are the same, and what a hash takes of them.
 use Rattle.std.specs.Prelude.{◌≡◌, ℕ, Bool, true, false, List, [], ◌∷◌, ◌++◌, IsTrue}
 use Rattle.std.specs.Cmp.{IsEquivalence}
 use Rattle.std.specs.List.{flat_map}

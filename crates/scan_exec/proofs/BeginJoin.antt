@@ -22,7 +22,7 @@ use Rattle.scan_base.specs.Comparison.{compared}
 use Rattle.scan_base.specs.Predicate.{cell_in}
 use Rattle.scan_base.specs.Truth.{keeps}
 use Rattle.table_versions.specs.Table.{Row}
-use Rattle.table_versions.proofs.Pages.{slice_get-append_left, slice_get-append_right}
+use Rattle.shared_pages.proofs.Lists.{slice_get-append_left, slice_get-append_right}
 use Rattle.table_versions.proofs.Rowing.{length-rows_of, rows-cons}
 use Rattle.typed_plan.specs.declared.plan.JoinKey.{JoinKey}
 use Rattle.typed_plan.specs.Plan.{fits, joined_rows}

@@ -12,7 +12,7 @@ use Rattle.scan_base.specs.declared.value.Value.{Value}
 use Rattle.scan_base.specs.declared.value.Value.TheVariants.{Null}
 use Rattle.scan_base.specs.Predicate.{cell_in}
 use Rattle.table_versions.specs.Table.{Row}
-use Rattle.table_versions.proofs.ListTests.{all_at}
+use Rattle.shared_pages.proofs.Lists.{all_at}
 use Rattle.scan_exec.specs.Chosen.{are_within, listed, columns_at}
 
 -- the cell of a row that is made number by number

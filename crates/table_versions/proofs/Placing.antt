@@ -1,5 +1,5 @@
 -- Batches that tell how many rows stand before them.
-use Rattle.std.proofs.Common.{◌≡◌, ◌≤◌, ◌<◌, ℕ, ◌+◌, ◌-◌, true, IsTrue, List, [], ◌∷◌, ◌++◌, length, map, take, drop, Some, refl, sym, ap, subst, ◌∙◌, ◌⊎◌, inl, inr, arith, slice_get, option_map}
+use Rattle.std.proofs.Common.{◌≡◌, ◌≤◌, ◌<◌, ℕ, ◌+◌, true, IsTrue, List, [], ◌∷◌, ◌++◌, length, map, take, drop, Some, refl, sym, ap, subst, ◌∙◌, ◌⊎◌, inl, inr, arith, slice_get, option_map}
 use Rattle.std.specs.List.{flat_map, list_all}
 use Rattle.std.proofs.lemmas.Bool.{cases_lt, and_parts}
 use Rattle.std.proofs.lemmas.List.{length-map, map-append, take_all, take-append-le, take-append-drop, length-take}
@@ -9,13 +9,13 @@ use Rattle.arrow_schema.specs.declared.schema.Schema.{Schema}
 use Rattle.arrays.specs.Batch.{BatchAt, rows_of}
 use Rattle.arrays.specs.Typed.{AreOfTypes}
 use Rattle.scan_base.specs.Limits.{most_rows}
-use Rattle.table_versions.specs.declared.batch_list.PlacedBatch.{PlacedBatch}
+use Rattle.table_versions.specs.declared.placed_batch.PlacedBatch.{PlacedBatch}
 use Rattle.table_versions.specs.Batches.{placed_table, AreStarts, ArePlaced}
 use Rattle.table_versions.specs.Kept.{AreSound, IsKept}
 use Rattle.table_versions.specs.Standing.{rows_before, StandsIn}
 use Rattle.table_versions.specs.Stored.{has_rows}
 use Rattle.table_versions.proofs.ListTests.{all_push}
-use Rattle.table_versions.proofs.Pages.{slice_get-append_left, slice_get-append_right}
+use Rattle.shared_pages.proofs.Lists.{slice_get-append_left, slice_get-append_right}
 use Rattle.table_versions.proofs.Rowing.{rows-push, length-filled-le}
 use Rattle.table_versions.proofs.Storable.{storable_push, sound_push}
 

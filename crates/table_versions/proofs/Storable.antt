@@ -13,7 +13,7 @@ use Rattle.arrays.specs.Typed.{AreOfTypes}
 use Rattle.table_versions.specs.Table.{Row, has_bad_null, is_long_text}
 use Rattle.table_versions.specs.Stored.{TableAt, has_rows}
 use Rattle.table_versions.specs.Kept.{IsStorable, AreSound, IsKept}
-use Rattle.table_versions.proofs.ListTests.{all_at}
+use Rattle.shared_pages.proofs.Lists.{all_at}
 
 abbrev pub AreTyped : List Field → BatchAt → Type 0
 AreTyped fields batch = AreOfTypes fields batch.columns

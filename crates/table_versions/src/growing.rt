@@ -11,9 +11,10 @@ ghost use Rattle.table_versions.specs.Batches.{ArePlaced, placed_table};
 ghost use Rattle.table_versions.specs.Stored.{has_rows, kept};
 ghost use Rattle.table_versions.specs.Kept.{AreSound};
 
-use crate::batch_list::{BatchList, PlacedBatch};
+use crate::placed_batch::PlacedBatch;
 use arrays::Batch;
 use arrow_schema::Schema;
+use shared_pages::Pages;
 use std::alloc::{AllocError, Global};
 use std::marker::Model;
 use std::sync::Arc;
@@ -22,7 +23,7 @@ use std::sync::Arc;
 #[derive(Drop)]
 pub(crate) struct GrowingTable {
     pub(crate) schema: Arc<Schema>,
-    pub(crate) batches: BatchList,
+    pub(crate) batches: Pages<PlacedBatch>,
     pub(crate) rows: usize,
 }
 
@@ -46,7 +47,7 @@ impl GrowingTable {
     {
         Ok(GrowingTable {
             schema: Arc::new(alloc, schema).map_err(|_| AllocError)?,
-            batches: BatchList::new(alloc),
+            batches: Pages::new(alloc),
             rows: 0,
         })
     }
@@ -66,9 +67,10 @@ impl GrowingTable {
             rows: start,
         } = self;
         let rows = start + batch.rows();
+        let placed = Arc::new(alloc, PlacedBatch { batch, start }).map_err(|_| AllocError)?;
         Ok(GrowingTable {
             schema,
-            batches: batches.with(alloc, PlacedBatch { batch, start })?,
+            batches: batches.with(alloc, placed)?,
             rows,
         })
     }

@@ -1,22 +1,12 @@
-//! Handles that share what stands behind them.
+//! Lists of handles with another one among them.
 
 ghost use Rattle.std.specs.Prelude.{◌≡◌, ◌≤◌, ◌∷◌, ◌++◌, length, map, take, drop, IfOk};
 ghost use Rattle.std.specs.Arc.{arc_value};
 
+use shared_pages::handles::{extended, shared};
 use std::alloc::{AllocError, Global};
 use std::ops::Range;
 use std::sync::Arc;
-
-// The same handles once more, in a list with room for so many.
-pub(crate) fn shared<T: Drop>(
-    alloc: Global,
-    handles: &[Arc<T>],
-    room: usize,
-) -> Result<Vec<Arc<T>>, AllocError>
-    ensures { IfOk result (λ all. map arc_value all.items ≡ map arc_value handles.now) }
-{
-    extended(Vec::with_capacity(alloc, room)?, handles)
-}
 
 // The same handles once more, with this one in the place of those of a range.
 pub(crate) fn spliced<T: Drop>(
@@ -34,20 +24,5 @@ pub(crate) fn spliced<T: Drop>(
     let mut front = shared(alloc, &handles[..place.start], handles.len() + 1)?;
     front.push(new)?;
     let all = extended(front, &handles[place.end..])?;
-    Ok(all)
-}
-
-// The list with the same handles once more at its end.
-pub(crate) fn extended<T: Drop>(
-    list: Vec<Arc<T>>,
-    handles: &[Arc<T>],
-) -> Result<Vec<Arc<T>>, AllocError>
-    ensures { IfOk result (λ all. map arc_value all.items
-        ≡ map arc_value list.items ++ map arc_value handles.now) }
-{
-    let mut all = list;
-    for handle in handles {
-        all.push(Arc::try_clone(handle)?)?;
-    }
     Ok(all)
 }

@@ -1,7 +1,6 @@
 //! Tables in memory, by version.
 #![tactic(auto)]
 
-mod batch_list;
 pub mod catalog;
 mod cells;
 pub mod commit;
@@ -10,6 +9,7 @@ mod growing;
 mod handles;
 pub mod laws;
 pub mod limits;
+mod placed_batch;
 pub mod put;
 pub mod snapshot;
 pub mod table;

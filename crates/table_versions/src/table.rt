@@ -10,10 +10,11 @@ ghost use Rattle.table_versions.specs.Kept.{AreSound, IsKept};
 ghost use Rattle.table_versions.specs.Standing.{StandsIn};
 ghost use Rattle.table_versions.specs.Stored.{table_of};
 
-use crate::batch_list::BatchList;
 use crate::growing::GrowingTable;
+use crate::placed_batch::PlacedBatch;
 use arrays::Batch;
 use arrow_schema::Schema;
+use shared_pages::Pages;
 use std::alloc::{AllocError, Global};
 use std::marker::Model;
 use std::sync::Arc;
@@ -23,7 +24,7 @@ use std::sync::Arc;
 /// has more than 65,536 bytes. A longer version of the table shares these batches.
 pub struct TableVersion {
     schema: Arc<Schema>,
-    batches: Arc<BatchList>,
+    batches: Arc<Pages<PlacedBatch>>,
     rows: usize,
 }
 
@@ -94,7 +95,7 @@ impl TableVersion {
         ensures few { length result.now.columns ≤ most_columns }
         ensures sound { AreSound self.now.schema.fields (rows_of result.now) }
     {
-        &self.batches.batch(index).batch
+        &self.batches.get(index).batch
     }
 
     /// The batch that a row stands in, looked for by halves.
@@ -106,13 +107,13 @@ impl TableVersion {
         let mut end = self.batches.len();
         while end - index > 1 {
             let middle = index + (end - index) / 2;
-            if self.batches.batch(middle).start <= row {
+            if self.batches.get(middle).start <= row {
                 index = middle;
             } else {
                 end = middle;
             }
         }
-        let start = self.batches.batch(index).start;
+        let start = self.batches.get(index).start;
         BatchPlace { index, start }
     }
 

@@ -1,4 +1,4 @@
--- Inside: a predicate with other names of its columns.
+-- A predicate with other names of its columns.
 use Rattle.std.specs.Prelude.{map}
 use Rattle.scan_base.specs.declared.predicate.Operand.{Operand}
 use Rattle.scan_base.specs.declared.predicate.Operand.TheVariants.{Column, Literal}

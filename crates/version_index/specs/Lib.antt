@@ -1,2 +1,1 @@
-pub mod Pages
 pub mod Index

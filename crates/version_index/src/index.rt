@@ -4,8 +4,8 @@ ghost use Rattle.std.specs.Prelude.{◌≡◌, ◌<◌, ◌≤◌, ◌+◌, ◌�
 ghost use Rattle.std.specs.Arc.{arc_value};
 ghost use Rattle.scan_base.specs.Limits.{most_commits};
 
-use crate::pages::Pages;
 use hash_seed::HashSeed;
+use shared_pages::Pages;
 use std::alloc::{AllocError, Global};
 use std::marker::Model;
 use std::sync::Arc;
@@ -16,7 +16,7 @@ use table_versions::{CatalogVersion, Snapshot};
 #[derive(Drop)]
 pub struct VersionIndex {
     first: Arc<CatalogVersion>,
-    later: Pages,
+    later: Pages<CatalogVersion>,
     newest: Snapshot,
 }
 
@@ -74,7 +74,7 @@ impl VersionIndex {
         let newest = Snapshot::new(self.newest.number() + 1, Arc::try_clone(&handle)?);
         Ok(VersionIndex {
             first: Arc::try_clone(&self.first)?,
-            later: self.later.with(alloc, handle)?,
+            later: self.later.share(alloc)?.with(alloc, handle)?,
             newest,
         })
     }
@@ -87,7 +87,7 @@ impl VersionIndex {
         if number == 0 {
             return &self.first;
         }
-        self.later.version(number - 1)
+        self.later.get(number - 1)
     }
 
     /// The version of a number, found by its page.

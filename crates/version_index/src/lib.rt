@@ -2,6 +2,5 @@
 #![tactic(auto)]
 
 pub mod index;
-mod pages;
 
 pub use crate::index::VersionIndex;

@@ -1,6 +1,6 @@
 use Rattle.std.proofs.Common.{arith, rules, ◌∙◌, ◌/◌, ◌≤◌, length, refl, sym}
 use Rattle.std.specs.Arc.{arc_value}
-use Rattle.table_versions.proofs.Pages.{handle_at}
+use Rattle.shared_pages.proofs.Lists.{handle_at}
 use Rattle.table_versions.proofs.Search.{in_front_half, front_half, in_back_half, back_half, found}
 use Rattle.table_versions.proofs.catalog.+find_in.Goals as goal
 

@@ -1,6 +1,6 @@
 use Rattle.std.proofs.Common.{◌∙◌, sym, refl}
 use Rattle.std.specs.Arc.{arc_value}
-use Rattle.table_versions.proofs.Pages.{handle_at}
+use Rattle.shared_pages.proofs.Lists.{handle_at}
 use Rattle.table_versions.proofs.Places.{placed_there, placed_before, passed}
 use Rattle.table_versions.proofs.catalog.place_of.Goals as goal
 

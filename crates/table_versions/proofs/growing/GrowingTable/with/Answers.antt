@@ -1,5 +1,6 @@
-use Rattle.std.proofs.Common.{◌+◌, arith}
+use Rattle.std.proofs.Common.{◌≡◌, ◌+◌, arith, rules}
 use Rattle.std.specs.Arc.{arc_value}
+use Rattle.table_versions.specs.declared.placed_batch.PlacedBatch.{PlacedBatch}
 use Rattle.table_versions.proofs.Placing.{placed_push}
 use Rattle.table_versions.proofs.growing.GrowingTable.with.Goals as goal
 
@@ -8,6 +9,8 @@ invariant_of-result c =
     let typed = rw (← c.self.view_is) at c.requires.typed in
     let sound = rw (← c.self.view_is) at c.requires.sound in
     let few = rw (← c.self.view_is) at c.requires.few in
-    rw c.in_ok-with.ensures
+    let new : PlacedBatch = record { batch = c.args.batch; start = c.self.inside.rows } in
+    let placed : arc_value c.in_ok-placed.placed ≡ new = search rules in
+    rw (c.in_ok-with.ensures, placed)
     (placed_push (arc_value c.self.inside.schema) c.self.inside.batches c.self.inside.rows c.self.invariant c.args.batch
     (c.self.inside.rows + c.rows.result) c.requires.filled typed sound few (omega (arith, c.rows.ensures)))

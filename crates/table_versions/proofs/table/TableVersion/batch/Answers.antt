@@ -1,16 +1,16 @@
-use Rattle.std.proofs.Common.{◌≡◌, slice_get, Some, rules}
+use Rattle.std.proofs.Common.{◌≡◌, slice_get, Some}
 use Rattle.std.specs.Arc.{arc_value}
 use Rattle.table_versions.specs.Batches.{placed_table}
 use Rattle.table_versions.proofs.Placing.{batches, batch_there}
 use Rattle.table_versions.proofs.Storable.{IsBatch, batch_at}
 use Rattle.table_versions.proofs.table.TableVersion.batch.Goals as goal
 
-there : (c : goal.After-batch) → slice_get (batches (arc_value c.self.inside.batches)) c.args.index ≡ Some c.batch.result.now.batch
-there c = batch_there (arc_value c.self.inside.batches) c.args.index c.batch.result.now (rw c.deref.ensures at c.batch.ensures)
+there : (c : goal.After-deref-2) → slice_get (batches (arc_value c.self.inside.batches)) c.args.index ≡ Some c.deref-2.result.now.batch
+there c = batch_there (arc_value c.self.inside.batches) c.args.index c.deref-2.result.now (rw (← c.deref-2.ensures) at (rw c.deref.ensures at c.get.ensures))
 
-here : (c : goal.After-batch) → IsBatch (arc_value c.self.inside.schema) c.batch.result.now.batch
+here : (c : goal.After-deref-2) → IsBatch (arc_value c.self.inside.schema) c.deref-2.result.now.batch
 here c = batch_at (placed_table (arc_value c.self.inside.schema) (arc_value c.self.inside.batches)) c.self.inside.rows c.args.index
-    c.batch.result.now.batch c.self.invariant.kept (there c)
+    c.deref-2.result.now.batch c.self.invariant.kept (there c)
 
 pub returns-clause-batch : goal.returns-clause-batch
 returns-clause-batch c = rw (← c.self.view_is) (there c)

@@ -1,7 +1,7 @@
-use Rattle.std.proofs.Common.{◌≡◌, ◌≤◌, ◌<◌, ◌+◌, length, slice_get, Some, arith}
+use Rattle.std.proofs.Common.{◌≤◌, ◌<◌, length, arith}
 use Rattle.std.proofs.lemmas.List.{length-map}
 use Rattle.std.specs.Arc.{arc_value}
-use Rattle.table_versions.specs.declared.batch_list.PlacedBatch.{PlacedBatch}
+use Rattle.table_versions.specs.declared.placed_batch.PlacedBatch.{PlacedBatch}
 use Rattle.table_versions.specs.Standing.{rows_before}
 use Rattle.table_versions.proofs.Placing.{batches, few_batches, stands_in}
 use Rattle.table_versions.proofs.table.TableVersion.batch_of.Goals as goal
@@ -18,6 +18,6 @@ returns c =
     let before : c.args.row < rows_before (batches placed) c.loop-end.end = rw (← c.self.view_is) at c.loop-end.invariant.before in
     let high : c.loop-end.end ≤ length (batches placed) = rw (← c.self.view_is) at c.loop-end.invariant.high in
     rw (← c.self.view_is)
-    (stands_in (arc_value c.self.inside.schema) placed c.self.inside.rows c.self.invariant index c.loop-end.end c.args.row c.batch-2.result.now
-    (rw c.deref-2.ensures at c.batch-2.ensures) c.loop-end.invariant.ordered (omega (arith, c.loop-end-test.false))
+    (stands_in (arc_value c.self.inside.schema) placed c.self.inside.rows c.self.invariant index c.loop-end.end c.args.row c.deref-3.result.now
+    (rw (← c.deref-3.ensures) at (rw c.deref-2.ensures at c.get-2.ensures)) c.loop-end.invariant.ordered (omega (arith, c.loop-end-test.false))
     (omega (arith, high, length-map placed (λ (each : PlacedBatch). each.batch))) behind before)

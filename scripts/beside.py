@@ -1,0 +1,141 @@
+#!/usr/bin/env python3
+"""Runs everything that runs beside the gate, one step after another, and tells what each took.
+
+    python3 scripts/beside.py [--program PATH] [STEP..]
+
+It needs the proved program (`rt run` or the gate leaves it in crates/flightscan/out), a C compiler and `sqlite3`. Some
+vectors are made by flatc and protoc; where these are absent, their scripts are passed over, and the step says so. All
+steps take about five minutes. With names, the steps whose names begin so are run. The last line counts the steps that
+passed, and it ends with 1 where one did not.
+"""
+
+import argparse
+import pathlib
+import shutil
+import subprocess
+import sys
+import time
+from dataclasses import dataclass, field
+
+sys.dont_write_bytecode = True
+
+from built import ROOT, program  # noqa: E402
+
+OF_TOOLS = {"vectors/arrow/make.py": ["flatc"], "vectors/flight/make.py": ["protoc"], "vectors/puts/make.py": ["flatc", "protoc"]}
+MADE_ANEW = ["vectors/arrow/to_cases.py", "vectors/calls/make.py", "vectors/client/make.py", "vectors/flight/to_cases.py",
+             "vectors/queries/make.py", "vectors/streams/make.py"]
+TOLD_LINES = 40  # of what a step that failed printed
+
+
+class Failed(Exception):
+    """A step that did not pass, and why."""
+
+
+def done(*words, **more):
+    """Runs a script to its end. What it printed is given."""
+    ran = subprocess.run([sys.executable, "-B", *words], cwd=ROOT, stdout=subprocess.PIPE, stderr=subprocess.STDOUT, **more)
+    if ran.returncode != 0:
+        lines = ran.stdout.decode(errors="replace").splitlines()[-TOLD_LINES:]
+        raise Failed("\n".join([f"{words[0]} ended with {ran.returncode}", *lines]))
+    return ran.stdout
+
+
+@dataclass
+class Script:
+    """A script that ends with 0 where all is well."""
+
+    name: str
+    words: list = field(default_factory=list)
+    of_program: bool = True
+
+    def run(self, path):
+        done(f"scripts/{self.name}.py", *self.words, *(["--program", path] if self.of_program else []))
+
+
+def stored():
+    """The bytes of all vectors and of what the programs of the repository read and write."""
+    listed = subprocess.run(["git", "ls-files", "vectors", "crates/*/stdin", "crates/*/stdout"], cwd=ROOT, check=True,
+                            capture_output=True, text=True).stdout.split()
+    return {name: (ROOT / name).read_bytes() if (ROOT / name).exists() else None for name in listed}
+
+
+def remade(make):
+    """Makes some stored files anew. Each has to come out as it was."""
+    before = stored()
+    said = make()
+    other = [name for name, data in stored().items() if data != before[name]]
+    if other:
+        raise Failed(f"came out as other bytes, which stand there now: {', '.join(other)}")
+    return said
+
+
+class ColumnAnswers:
+    name = "column_answers"
+
+    def run(self, path):
+        crate = ROOT / "crates/column_cases"
+        with open(crate / "stdin", "rb") as source:
+            if done("scripts/column_answers.py", stdin=source) != (crate / "stdout").read_bytes():
+                raise Failed("the answers are not those of crates/column_cases/stdout")
+
+
+class FirstRun:
+    name = "first_run"
+
+    def run(self, path):
+        remade(lambda: done("scripts/first_run.py") and None)
+
+
+class Vectors:
+    name = "vectors"
+
+    def run(self, path):
+        return remade(self.make)
+
+    def make(self):
+        """Those that write what the others read come first, and the others side by side."""
+        absent = {script: [tool for tool in tools if not shutil.which(tool)] for script, tools in OF_TOOLS.items()}
+        for script in [script for script, tools in absent.items() if not tools]:
+            done(script)
+        running = [subprocess.Popen([sys.executable, "-B", script], cwd=ROOT, stdout=subprocess.DEVNULL, stderr=subprocess.PIPE)
+                   for script in MADE_ANEW]
+        said = [child.communicate()[1].decode(errors="replace") for child in running]
+        for script, child, text in zip(MADE_ANEW, running, said):
+            if child.returncode != 0:
+                raise Failed(f"{script} ended with {child.returncode}\n{text}")
+        passed_over = [f"{script} wants {' and '.join(tools)}" for script, tools in absent.items() if tools]
+        return f"passed over: {'; '.join(passed_over)}" if passed_over else None
+
+
+STEPS = [Script("pages", ["--check"], of_program=False), Script("session"), Script("serving"), Script("each_allocation"),
+         Script("interleavings", ["--count", "300"]), Script("sqlite_answers", ["--count", "200"]),
+         Script("drive", ["--seconds", "20", "--connections", "16"]), ColumnAnswers(), FirstRun(), Vectors()]
+
+
+def passes(step, path):
+    """Runs a step and prints its line."""
+    began = time.monotonic()
+    try:
+        said, why = step.run(path), None
+    except Failed as failed:
+        said, why = None, failed
+    print(f"{step.name}: {'FAILED' if why else 'passed'}, {time.monotonic() - began:.0f} s{f' ({said})' if said else ''}", flush=True)
+    if why:
+        print(why, flush=True)
+    return why is None
+
+
+def main():
+    parser = argparse.ArgumentParser(description=__doc__, formatter_class=argparse.RawDescriptionHelpFormatter)
+    parser.add_argument("--program", help="the built program (that of the repository)")
+    parser.add_argument("step", nargs="*", help=f"steps whose names begin so (all): {', '.join(step.name for step in STEPS)}")
+    words = parser.parse_args()
+    path, began = str(pathlib.Path(program(words.program)).resolve()), time.monotonic()
+    wanted = [step for step in STEPS if not words.step or step.name.startswith(tuple(words.step))]
+    passed = sum([passes(step, path) for step in wanted])
+    print(f"beside: {passed} of {len(wanted)} passed in {(time.monotonic() - began) / 60:.0f} min")
+    return 0 if passed == len(wanted) else 1
+
+
+if __name__ == "__main__":
+    sys.exit(main())
