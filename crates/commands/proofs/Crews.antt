@@ -8,8 +8,8 @@ use Rattle.std.specs.Io.KnownBytes.{Appends}
 use Rattle.atomic_table.specs.Seated.{TableId}
 use Rattle.scan_base.specs.declared.fault.Fault.{Fault}
 use Rattle.flight_core.proofs.Running.{begins_on}
-use Rattle.flight_core.specs.Headline.{Begins, Pairwise}
-use Rattle.flight_core.specs.Log.{Log}
+use Rattle.flight_core.specs.Headline.{Pairwise}
+use Rattle.table_versions.specs.Log.{Log, IsLog, Begins}
 use Rattle.flight_calls.specs.declared.setting.Options.{Options}
 use Rattle.flight_calls.specs.Seats.{Seat}
 use Rattle.version_cell.specs.Seats as cell
@@ -205,11 +205,12 @@ all_have_drawn {L} accepts options name olds news items is same each = rw is (dr
 
 pub all_served : {L : Type 0} (accepts : L → Option Ends → L → Type 0) (options : Options) (name : TableId) (most : ℕ) (history : Log) (olds news items : List (HiredWorker L)) (result : Result (Unit {0}) Fault) → items ≡ news → length news ≡ length olds
     → ((i : ℕ) (d : HiredWorker L) → i < length olds → HasWorked accepts options name (slice_index_or olds i d) (slice_index_or news i d))
-    → (seen : Log) → All (IsWithin seen) items → Begins seen history → length history ≡ made_by (map work_of items)
+    → (seen : Log) → All (IsWithin seen) items → Begins seen history → IsLog history → length history ≡ made_by (map work_of items)
     → DrawsAll most (map work_of items) → result ≡ first_fault (map work_of items)
     → ServesSideBySide accepts options most (map state_of olds) result
-all_served {L} accepts options name most history olds news items result is same each seen within more made drawn ends = record {
+all_served {L} accepts options name most history olds news items result is same each seen within more log made drawn ends = record {
   history = history;
+  log = log;
   ends = map work_of items;
   served = rw is (served_at accepts options name history olds news same each (rw is at (within_more seen history more items within)));
   made = made;

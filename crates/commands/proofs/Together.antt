@@ -8,8 +8,9 @@ use Rattle.flight_proto.specs.Wanted.{Wanted}
 use Rattle.flight_info.proofs.Results.{same_some}
 use Rattle.flight_info.specs.Replies.{ReplyAt, whole}
 use Rattle.flight_core.specs.Asked.{Asked, fetch}
-use Rattle.flight_core.specs.Headline.{Begins, Joined, Pairwise}
-use Rattle.flight_core.specs.Log.{Log, puts_in}
+use Rattle.flight_core.specs.Headline.{Joined, Pairwise}
+use Rattle.table_versions.specs.Log.{Log, puts_of, puts_in, Begins}
+use Rattle.table_versions.proofs.Logs.{begun_puts}
 use Rattle.flight_core.proofs.Running.{begins_on, begins_same}
 use Rattle.flight_calls.specs.declared.setting.Options.{Options}
 use Rattle.flight_calls.specs.Seats.{Moves}
@@ -131,7 +132,7 @@ fetches_in {L} accepts options history [] (s ∷ ss) f = absurd f
 fetches_in {L} accepts options history (h ∷ hs) [] f = absurd f
 
 no_longer : (log history : Log) → Begins log history → puts_in log ≤ puts_in history
-no_longer log history b = omega (arith, ap length b.1, length-append log b.0)
+no_longer log history b = omega (arith, ap length (begun_puts log history b), length-append (puts_of log) (puts_of b.0))
 
 pub server_meets_headline : {L : Type 0} (accepts : L → Option Ends → L → Type 0) → Joined → ServerMeetsHeadline accepts
 server_meets_headline {L} accepts law options history log wanted handles streams answer i answers fetched =

@@ -4,8 +4,8 @@ use Rattle.std.specs.Io.KnownBytes.{Appends}
 use Rattle.scan_base.specs.declared.fault.Fault.{Fault}
 use Rattle.scan_base.specs.declared.fault.Fault.TheVariants.{OutOfMemory, Transport}
 use Rattle.grpc_frame.specs.Ends.{AppendsBeginning}
-use Rattle.flight_core.specs.Headline.{Begins, Pairwise}
-use Rattle.flight_core.specs.Log.{Log}
+use Rattle.flight_core.specs.Headline.{Pairwise}
+use Rattle.table_versions.specs.Log.{Log, IsLog, Begins}
 use Rattle.flight_calls.specs.declared.setting.Options.{Options}
 use Rattle.flight_calls.specs.Seats.{Moves, Seat, seat_of}
 use Rattle.flight_calls.specs.Owed.{Connection, Serves, connection_of}
@@ -47,8 +47,7 @@ ServesInTurn accepts moves options others more patience result old new = ⊥
 
 -- so many were served, one behind the other; or all but one of them, where none could be taken any more
 abbrev pub ServesUpTo : {L : Type 0} → (L → Option Ends → L → Type 0) → Moves → Options → ℕ → Result (Unit {0}) Fault → Worker L → Worker L → Type 0
-ServesUpTo {L} accepts moves options drawn result old new =
-    (all : List (Accept L)) × ServesInTurn accepts moves options all drawn 100 result old new
+ServesUpTo {L} accepts moves options drawn result old new = (all : List (Accept L)) × ServesInTurn accepts moves options all drawn 100 result old new
 
 -- ---- workers side by side
 
@@ -72,7 +71,7 @@ abbrev pub drawn_by : {L : Type 0} → List (Work L) → ℕ
 drawn_by [] = 0
 drawn_by (work ∷ others) = work.drawn + drawn_by others
 
--- how many puts the connections of all of them made
+-- how many entries the connections of all of them made
 abbrev pub made_by : {L : Type 0} → List (Work L) → ℕ
 made_by [] = 0
 made_by (work ∷ others) = length work.worker.seat.made + made_by others
@@ -86,10 +85,11 @@ pub record IsPartOf {L : Type 0} (accepts : L → Option Ends → L → Type 0) 
   pub serves : ServesUpTo accepts onward options new.drawn new.result old new.worker
   pub within : Begins new.worker.seat.log history
 
--- These workers served side by side, each the connections that it drew, so many in all, and all that their seats have seen is of
--- one history, which has as many puts as their connections made. The result is the first fault of a worker, if one has a fault.
+-- These workers served side by side, each the connections that it drew, so many in all. All that their seats have seen is of one
+-- history of accepted puts, with as many entries as their connections made. The result is the first fault of a worker, if any.
 pub record ServesSideBySide {L : Type 0} (accepts : L → Option Ends → L → Type 0) (options : Options) (most : ℕ) (workers : List (Worker L)) (result : Result (Unit {0}) Fault) : Type 0 where
   pub history : Log
+  pub log : IsLog history
   pub ends : List (Work L)
   pub served : Pairwise (IsPartOf accepts options history) workers ends
   pub made : length history ≡ made_by ends

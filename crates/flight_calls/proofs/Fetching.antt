@@ -9,7 +9,7 @@ use Rattle.flight_info.specs.Replies.{ReplyAt}
 use Rattle.fetch_stream.specs.Fetches.{version_of, handle_shown}
 use Rattle.fetch_stream.specs.Streams.{StreamAt, Opens}
 use Rattle.flight_core.specs.Asked.{Asked}
-use Rattle.flight_core.specs.Log.{Log, puts_in, version}
+use Rattle.table_versions.specs.Log.{Log, puts_in, version}
 use Rattle.flight_core.specs.Machine.{FetchBy, FetchIn, OpensBy, OpensIn}
 use Rattle.flight_calls.specs.declared.answer.Answer.TheVariants.{Stream}
 use Rattle.flight_calls.specs.Calls.{ReplyTo}

@@ -5,21 +5,21 @@ use Rattle.scan_base.specs.declared.fault.Fault.{Fault}
 use Rattle.flight_info.specs.Payloads.{Payload}
 use Rattle.flight_info.specs.Replies.{ReplyAt}
 use Rattle.flight_core.specs.Asked.{Asked, put, info, tables, schema, fetch}
-use Rattle.flight_core.specs.Log.{Log}
+use Rattle.table_versions.specs.Log.{Log}
 use Rattle.flight_core.specs.Machine.{PutStep}
 use Rattle.flight_core.specs.Puts.{put_said}
 use Rattle.flight_calls.specs.declared.setting.Options.{Options}
 use Rattle.flight_calls.specs.Calls.{Call, asked_by, ReplyTo}
 use Rattle.flight_calls.specs.Seats.{Seat, Moves}
 use Rattle.flight_calls.specs.Reacts.{Reacts, Answers}
-use Rattle.flight_calls.specs.Laws.{accepted_by, puts_of, puts_in_all}
+use Rattle.flight_calls.specs.Laws.{accepted_by, entries_of, entries_in_all}
 
 put_adds : (payloads : List Payload) (log after : Log) (answers : List Payload) (fault : Option Fault) → PutStep log payloads answers fault after → after ≡ log ++ accepted_by fault (put_said payloads)
 put_adds payloads log after answers None step = rw step.1 step.3
 put_adds payloads log after answers (Some fault) step = step.0 ∙ sym (append-nil log)
 
 -- a step adds the put that it accepts
-step_adds : (asked : Result Asked Fault) (log after : Log) (reply : ReplyAt) → ReplyTo asked log reply after → after ≡ log ++ puts_of asked reply
+step_adds : (asked : Result Asked Fault) (log after : Log) (reply : ReplyAt) → ReplyTo asked log reply after → after ≡ log ++ entries_of asked reply
 step_adds (Ok (put payloads)) log after reply step = put_adds payloads log after reply.payloads reply.fault step
 step_adds (Ok (info payload parts)) log after reply step = step.0 ∙ sym (append-nil log)
 step_adds (Ok (tables payload parts)) log after reply step = step.0 ∙ sym (append-nil log)
@@ -27,17 +27,17 @@ step_adds (Ok (schema payload)) log after reply step = step.0 ∙ sym (append-ni
 step_adds (Ok (fetch ticket workers)) log after reply step = step.0 ∙ sym (append-nil log)
 step_adds (Err fault) log after reply step = step.0 ∙ sym (append-nil log)
 
-call_adds : (moves : Moves) (asked : Result Asked Fault) (old new : Seat) (reply : ReplyAt) → Reacts moves asked old reply new → new.made ≡ old.made ++ puts_of asked reply
+call_adds : (moves : Moves) (asked : Result Asked Fault) (old new : Seat) (reply : ReplyAt) → Reacts moves asked old reply new → new.made ≡ old.made ++ entries_of asked reply
 call_adds moves asked old new reply r =
     let made = r.goes.made in
-    let same = append_cancel_left r.log made.0 (puts_of asked reply) (sym made.1 ∙ step_adds asked r.log r.after reply r.step) in
+    let same = append_cancel_left r.log made.0 (entries_of asked reply) (sym made.1 ∙ step_adds asked r.log r.after reply r.step) in
     made.2 ∙ ap (λ l. old.made ++ l) same
 
-pub puts_made : (moves : Moves) (options : Options) (old new : Seat) (calls : List Call) (replies : List ReplyAt) → Answers moves options old calls replies new → new.made ≡ old.made ++ puts_in_all options calls replies
+pub puts_made : (moves : Moves) (options : Options) (old new : Seat) (calls : List Call) (replies : List ReplyAt) → Answers moves options old calls replies new → new.made ≡ old.made ++ entries_in_all options calls replies
 puts_made moves options old new [] [] a = ap (λ (s : Seat). s.made) a ∙ sym (append-nil old.made)
 puts_made moves options old new [] (reply ∷ replies) a = absurd a
 puts_made moves options old new (call ∷ calls) [] a = absurd a
 puts_made moves options old new (call ∷ calls) (reply ∷ replies) a =
-    let rest = puts_in_all options calls replies in
+    let rest = entries_in_all options calls replies in
     puts_made moves options a.0 new calls replies a.2 ∙ ap (λ l. l ++ rest) (call_adds moves (asked_by options call) old a.0 reply a.1)
-    ∙ append_assoc old.made (puts_of (asked_by options call) reply) rest
+    ∙ append_assoc old.made (entries_of (asked_by options call) reply) rest

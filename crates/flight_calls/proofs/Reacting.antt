@@ -1,15 +1,14 @@
 -- Steps over a backend.
-use Rattle.std.proofs.Common.{◌≡◌, ◌≢◌, ◌<◌, ℕ, List, [], ◌∷◌, ◌++◌, length, Some, Result, Ok, Err, refl, sym, ◌∙◌, append-nil, inl, inr, arith}
+use Rattle.std.proofs.Common.{◌≡◌, ◌≢◌, ◌<◌, ℕ, List, [], ◌∷◌, ◌++◌, Some, Result, Ok, Err, refl, sym, ◌∙◌, append-nil, inl, inr, arith}
 use Rattle.std.specs.Prelude.{IfErr, IsOk}
 use Rattle.scan_base.specs.declared.fault.Fault.{Fault}
 use Rattle.scan_base.specs.declared.fault.Fault.TheVariants.{OutOfMemory}
 use Rattle.scan_base.specs.Reading.{RefusesFirst}
-use Rattle.table_versions.specs.Database.{Put, after, database_of}
+use Rattle.table_versions.specs.Database.{Put, after}
 use Rattle.flight_info.specs.Payloads.{Payload}
 use Rattle.flight_info.specs.Replies.{ReplyAt, refusal}
 use Rattle.flight_core.specs.Asked.{Asked, put, info, tables, schema, fetch}
-use Rattle.flight_core.specs.Headline.{Begins}
-use Rattle.flight_core.specs.Log.{Log}
+use Rattle.table_versions.specs.Log.{Log, added, puts_in, database_of, Begins}
 use Rattle.flight_core.specs.Puts.{command_in, put_said}
 use Rattle.flight_core.specs.Refusals.{RefusedFor}
 use Rattle.flight_core.specs.Machine.{PutStep}
@@ -26,13 +25,13 @@ use Rattle.flight_calls.specs.Answered.{IsReplyOf, ReactsBy}
 
 -- ---- the backend of a log that nobody shares
 
-pub puts_alone : (result : Result (Unit {0}) Fault) (old new : Log) (looks : ℕ) (made : Put) → (result ≡ Ok tt → (new ≡ old ++ made ∷ []) × IsOk (after (database_of old) (length old) made))
-    → IfErr result (λ fault. (new ≡ old) × (fault ≢ OutOfMemory → after (database_of old) (length old) made ≡ Err fault))
-    → RefusesFirst result (after (database_of old) (length old) made)
+pub puts_alone : (result : Result (Unit {0}) Fault) (old new : Log) (looks : ℕ) (made : Put) → (result ≡ Ok tt → (new ≡ old ++ added made ∷ []) × IsOk (after (database_of old) (puts_in old) made))
+    → IfErr result (λ fault. (new ≡ old) × (fault ≢ OutOfMemory → after (database_of old) (puts_in old) made ≡ Err fault))
+    → RefusesFirst result (after (database_of old) (puts_in old) made)
     → Puts alone result (seat_of old looks) made (seat_of new looks)
 puts_alone (Ok tt) old new looks made ok err first =
     let is = ok refl in
-    record { log = old; next = new; at = (is.1, is.0, is.0); first = first; moved = (refl, refl); kept = (made ∷ [], is.0); learnt = ([], sym (append-nil new)); looks = refl }
+    record { log = old; next = new; at = (is.1, is.0, is.0); first = first; moved = (refl, refl); kept = (added made ∷ [], is.0); learnt = ([], sym (append-nil new)); looks = refl }
 puts_alone (Err fault) old new looks made ok err first =
     record { log = old; next = new; at = (err.0, err.0, err.1); first = first; moved = (refl, refl); kept = ([], err.0 ∙ sym (append-nil old)); learnt = ([], sym (append-nil new)); looks = refl }
 
@@ -139,7 +138,7 @@ put_made moves old new payloads made reply p said step = record {
   log = p.log;
   after = p.next;
   step = step;
-  goes = record { moved = p.moved; starts = inl (said_ok payloads made said); learnt = p.learnt; kept = p.kept; made = (made ∷ [], p.at.1, p.at.2) };
+  goes = record { moved = p.moved; starts = inl (said_ok payloads made said); learnt = p.learnt; kept = p.kept; made = (added made ∷ [], p.at.1, p.at.2) };
   looked = λ other looks. absurd (looks_not payloads looks);
 }
 

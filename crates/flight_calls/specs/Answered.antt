@@ -7,7 +7,7 @@ use Rattle.grpc_frame.specs.Sending.{Sends}
 use Rattle.flight_info.specs.Payloads.{Payload, FitMessages}
 use Rattle.flight_info.specs.Replies.{ReplyAt}
 use Rattle.flight_core.specs.Asked.{Asked, fetch}
-use Rattle.flight_core.specs.Log.{Log}
+use Rattle.table_versions.specs.Log.{Log}
 use Rattle.flight_core.specs.Machine.{OpensIn}
 use Rattle.flight_calls.specs.declared.answer.Answer.{Answer}
 use Rattle.flight_calls.specs.declared.answer.Answer.TheVariants.{Whole, Stream}

@@ -4,6 +4,7 @@ use Rattle.scan_base.specs.declared.fault.Fault.{Fault}
 use Rattle.scan_base.specs.declared.fault.Fault.TheVariants.{Transport}
 use Rattle.flight_info.specs.Replies.{ReplyAt}
 use Rattle.table_versions.specs.Database.{Put}
+use Rattle.table_versions.specs.Log.{Log, added}
 use Rattle.flight_core.specs.Asked.{Asked, put, info, tables, schema, fetch}
 use Rattle.flight_core.specs.Puts.{put_said}
 use Rattle.flight_core.specs.Machine.{Run}
@@ -27,31 +28,31 @@ FailedReadsAnswerAll moves =
     (options : Options) (result : Result (Unit {0}) Fault) (old new : Connection) (serves : Serves moves options result old new)
     → new.failed_reads ≡ old.failed_reads + 1 → ReadFailed result old new serves.rest (map answer_bytes serves.replies)
 
--- the put that a reply accepts, if it accepts one
-abbrev pub accepted_by : Option Fault → Result Put Fault → List Put
-accepted_by None (Ok said) = said ∷ []
+-- the entry of the put that a reply accepts, if it accepts one
+abbrev pub accepted_by : Option Fault → Result Put Fault → Log
+accepted_by None (Ok said) = added said ∷ []
 accepted_by None (Err fault) = []
 accepted_by (Some fault) read = []
 
 -- the same of what is asked
-abbrev pub puts_of : Result Asked Fault → ReplyAt → List Put
-puts_of (Ok (put payloads)) reply = accepted_by reply.fault (put_said payloads)
-puts_of (Ok (info payload parts)) reply = []
-puts_of (Ok (tables payload parts)) reply = []
-puts_of (Ok (schema payload)) reply = []
-puts_of (Ok (fetch ticket workers)) reply = []
-puts_of (Err fault) reply = []
+abbrev pub entries_of : Result Asked Fault → ReplyAt → Log
+entries_of (Ok (put payloads)) reply = accepted_by reply.fault (put_said payloads)
+entries_of (Ok (info payload parts)) reply = []
+entries_of (Ok (tables payload parts)) reply = []
+entries_of (Ok (schema payload)) reply = []
+entries_of (Ok (fetch ticket workers)) reply = []
+entries_of (Err fault) reply = []
 
--- the accepted puts of calls, in order
-abbrev pub puts_in_all : Options → List Call → List ReplyAt → List Put
-puts_in_all options (call ∷ calls) (reply ∷ replies) =
-    puts_of (asked_by options call) reply ++ puts_in_all options calls replies
-puts_in_all options _ _ = []
+-- the entries of the accepted puts of calls, in order
+abbrev pub entries_in_all : Options → List Call → List ReplyAt → Log
+entries_in_all options (call ∷ calls) (reply ∷ replies) =
+    entries_of (asked_by options call) reply ++ entries_in_all options calls replies
+entries_in_all options _ _ = []
 
 -- A connection makes the accepted puts of its whole calls, in order, and no other.
 abbrev pub PutsAreMade : Moves → Type 0
 PutsAreMade moves = (options : Options) (old new : Seat) (calls : List Call) (replies : List ReplyAt)
-    → Answers moves options old calls replies new → new.made ≡ old.made ++ puts_in_all options calls replies
+    → Answers moves options old calls replies new → new.made ≡ old.made ++ entries_in_all options calls replies
 
 -- The answers of a connection that shares its log with none are a run of the core on what its calls ask: a call that is
 -- refused before it comes to the core changes nothing.

@@ -2,12 +2,10 @@
 use Rattle.std.specs.Prelude.{◌≡◌, ◌≢◌, ◌⊎◌, ◌<◌, List, [], ◌∷◌, ◌++◌, IsOk, Some, Result, Ok, Err}
 use Rattle.scan_base.specs.declared.fault.Fault.{Fault}
 use Rattle.scan_base.specs.declared.fault.Fault.TheVariants.{OutOfMemory}
-use Rattle.table_versions.specs.Database.{Put}
 use Rattle.flight_info.specs.Infos.{handle_asked, rows_wanted, tables_wanted, schema_wanted}
 use Rattle.flight_info.specs.Replies.{ReplyAt}
 use Rattle.flight_core.specs.Asked.{Asked, put, info, tables, schema, fetch}
-use Rattle.flight_core.specs.Headline.{Begins}
-use Rattle.flight_core.specs.Log.{Log}
+use Rattle.table_versions.specs.Log.{Log, Begins}
 use Rattle.flight_core.specs.Puts.{put_said}
 use Rattle.flight_calls.specs.declared.setting.Options.{Options}
 use Rattle.flight_calls.specs.Calls.{Call, asked_by, ReplyTo}
@@ -27,9 +25,9 @@ Looks (Ok (schema payload)) = IsOk (schema_wanted payload)
 Looks (Ok (fetch ticket workers)) = IsOk (handle_asked ticket)
 Looks (Err fault) = ⊥
 
--- the put that a step adds to a log, if it adds one, is made by the seat
-abbrev pub AddsTo : List Put → Log → Log → List Put → Type 0
-AddsTo made log after new = (more : List Put) × (after ≡ log ++ more) × (new ≡ made ++ more)
+-- what a step adds to a log, if it adds anything, is made by the seat
+abbrev pub AddsTo : Log → Log → Log → Log → Type 0
+AddsTo made log after new = (more : Log) × (after ≡ log ++ more) × (new ≡ made ++ more)
 
 -- A step from one log to another on what is asked, as the seat sees it: then it has seen the second log, and all that it
 -- had seen.

@@ -1,19 +1,18 @@
 -- A seat: what contracts see of a backend, and what its calls do to it.
-use Rattle.std.specs.Prelude.{◌≡◌, ◌≢◌, ◌⊎◌, ℕ, ◌+◌, ◌∷◌, ◌++◌, List, [], IsOk, Result, Ok, Err}
+use Rattle.std.specs.Prelude.{◌≡◌, ◌≢◌, ◌⊎◌, ℕ, ◌+◌, ◌∷◌, ◌++◌, [], IsOk, Result, Ok, Err}
 use Rattle.scan_base.specs.declared.fault.Fault.{Fault}
 use Rattle.scan_base.specs.declared.fault.Fault.TheVariants.{OutOfMemory}
 use Rattle.scan_base.specs.Reading.{RefusesFirst}
 use Rattle.table_versions.specs.Database.{Put, after}
-use Rattle.flight_core.specs.Headline.{Begins}
-use Rattle.flight_core.specs.Log.{Log, puts_in, database_of}
+use Rattle.table_versions.specs.Log.{Log, added, puts_in, database_of, Begins}
 
--- the log that the seat has seen, its looks, and the puts that it made
+-- the log that the seat has seen, its looks, and the entries that it made
 pub record Seat : Type 0 where
   pub log : Log
   pub looks : ℕ
-  pub made : List Put
+  pub made : Log
 
--- the seat that alone puts into a log: each put of it is its own
+-- the seat that alone puts into a log: each entry of it is its own
 abbrev pub seat_of : Log → ℕ → Seat
 seat_of log looks = record { log = log; looks = looks; made = log }
 
@@ -25,7 +24,7 @@ Moves = Seat → Log → Log → Seat → Type 0
 abbrev pub alone : Moves
 alone old log after new = (log ≡ old.log) × (after ≡ new.log)
 
--- a seat has seen no less than before, and made no put: a step that leaves the log that it has then seen
+-- a seat has seen no less than before, and made no entry: a step that leaves the log that it has then seen
 abbrev pub Learns : Moves → Seat → Seat → Type 0
 Learns moves old new = Begins old.log new.log × (new.made ≡ old.made) × moves old new.log new.log new
 
@@ -37,11 +36,11 @@ LooksOnce old new = new.looks ≡ old.looks + 1
 abbrev pub MayLook : Seat → Seat → Type 0
 MayLook old new = (new.looks ≡ old.looks) ⊎ LooksOnce old new
 
--- A put at a log: an accepted one is its last, and the last of those that the seat made. A refused one changes nothing,
--- and its fault is due, or memory was refused.
+-- A put at a log: the entry of an accepted one is its last, and the last of those that the seat made. A refused one changes
+-- nothing, and its fault is due, or memory was refused.
 abbrev pub PutsAt : Result (Unit {0}) Fault → Seat → Log → Put → Log → Seat → Type 0
 PutsAt (Ok done) old log put next new = IsOk (after (database_of log) (puts_in log) put)
-    × (next ≡ log ++ put ∷ []) × (new.made ≡ old.made ++ put ∷ [])
+    × (next ≡ log ++ added put ∷ []) × (new.made ≡ old.made ++ added put ∷ [])
 PutsAt (Err fault) old log put next new = (next ≡ log) × (new.made ≡ old.made)
     × (fault ≢ OutOfMemory → after (database_of log) (puts_in log) put ≡ Err fault)
 

@@ -5,7 +5,7 @@ use Rattle.scan_base.specs.declared.fault.Fault.TheVariants.{OutOfMemory}
 use Rattle.table_versions.specs.Stored.{VersionAt, tables_of}
 use Rattle.flight_info.specs.Replies.{ReplyAt}
 use Rattle.flight_core.specs.Asked.{Asked}
-use Rattle.flight_core.specs.Log.{Log, puts_in, database_of}
+use Rattle.table_versions.specs.Log.{Log, puts_in, database_of}
 use Rattle.flight_core.specs.Machine.{StepOn}
 
 -- the reply is a step at the log whose newest version this is

@@ -14,10 +14,10 @@ pub trait Backend {
     ghost use Rattle.std.specs.Prelude.{◌≡◌, ◌≤◌, ◌<◌, ◌⊎◌, IfOk, IfErr};
     ghost use Rattle.scan_base.specs.declared.fault.Fault.TheVariants.{OutOfMemory, VersionUnknown};
     ghost use Rattle.table_versions.specs.Stored.{put_of, tables_of};
-    ghost use Rattle.flight_core.specs.Log.{Log, puts_in, database_of, version};
+    ghost use Rattle.table_versions.specs.Log.{Log, puts_in, database_of, version};
     ghost use Rattle.flight_calls.specs.Seats.{Seat, Learns, LooksOnce, MayLook, Puts};
 
-    // The log that it has seen, its looks, and the puts that it made.
+    // The log that it has seen, its looks, and the entries that it made.
     ghost seat: { Self → Seat };
 
     // Which steps, from a log to a log, it takes from a seat to a seat.

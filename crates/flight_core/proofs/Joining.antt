@@ -15,9 +15,11 @@ use Rattle.ipc_batch.proofs.Messages.{say_one_thing}
 use Rattle.sql_query.specs.Sentence.{Sentence, is_grouped}
 use Rattle.table_versions.specs.Table.{Row, Table}
 use Rattle.table_versions.specs.Database.{Database}
+use Rattle.table_versions.specs.Database as puts
+use Rattle.table_versions.proofs.Logs.{begun_puts}
 use Rattle.typed_plan.specs.Meaning.{meaning}
 use Rattle.typed_plan.proofs.Ranges.{ranges_join}
-use Rattle.flight_core.specs.Log.{Log, database_of, version}
+use Rattle.table_versions.specs.Log.{Log, puts_of, puts_in, database_of, version, Begins}
 use Rattle.flight_info.specs.Payloads.{Payload}
 use Rattle.flight_info.specs.Meant.{Asks, first_rows}
 use Rattle.fetch_stream.specs.Fetches.{FetchAt, version_of, may_mean}
@@ -25,20 +27,22 @@ use Rattle.flight_core.specs.Machine.{FetchBy, FetchIn}
 use Rattle.flight_info.specs.Infos.{handle_asked, ranges_asked, handles_in}
 use Rattle.flight_proto.specs.Wanted.{rows_of, tables}
 use Rattle.flight_info.specs.Tables.{tables_listed}
-use Rattle.flight_core.specs.Headline.{Begins, Saw, FetchedAt, Joined, Pairwise}
+use Rattle.flight_core.specs.Headline.{Saw, FetchedAt, Joined, Pairwise}
 use Rattle.flight_info.proofs.Meaning.{one_sentence, same_ok}
 use Rattle.flight_core.proofs.Saying.{answers_say_one_thing}
 
 -- ---- logs
 
--- a log that two told seats have seen is one for both
-same_version : (log told seat other there : Log) → Begins log seat → Begins told seat → length log ≤ length told
-    → Begins other there → Begins told there → length log ≤ length other → take (length log) other ≡ log
+-- the newest version of a log that one told seat has seen stands in every log that another has, where that is no shorter
+same_version : (log told seat other there : Log) → Begins log seat → Begins told seat → puts_in log ≤ puts_in told
+    → Begins other there → Begins told there → puts_in log ≤ puts_in other → version other (puts_in log) ≡ database_of log
 same_version log told seat other there a b fits c d long =
-    let n = length log in
-    let whole : take n (log ++ a.0) ≡ log = take-append_seam log a.0 in
-    let mine : take n told ≡ log = sym (take-append-le n told b.0 fits) ∙ ap (take n) (sym b.1 ∙ a.1) ∙ whole in
-    sym (take-append-le n other c.0 long) ∙ ap (take n) (sym c.1 ∙ d.1) ∙ take-append-le n told d.0 fits ∙ mine
+    let n = puts_in log in
+    let whole : take n (puts_of log ++ puts_of a.0) ≡ puts_of log = take-append_seam (puts_of log) (puts_of a.0) in
+    let mine : take n (puts_of told) ≡ puts_of log =
+    sym (take-append-le n (puts_of told) (puts_of b.0) fits) ∙ ap (take n) (sym (begun_puts told seat b) ∙ begun_puts log seat a) ∙ whole in
+    ap puts.database_of (sym (take-append-le n (puts_of other) (puts_of c.0) long) ∙ ap (take n) (sym (begun_puts other there c) ∙ begun_puts told there d)
+    ∙ take-append-le n (puts_of told) (puts_of d.0) fits ∙ mine)
 
 -- ---- ranges
 
@@ -73,21 +77,21 @@ ranges_whole q d parts =
 
 -- a fetch that was answered to its end reached the handle's version, and means what the handle means there
 record Reached (log : Log) (handle : HandleAt) (payloads : List Payload) : Type 0 where
-  reached : version_of handle ≤ length log
+  reached : version_of handle ≤ puts_in log
   at : FetchAt (version log (version_of handle)) handle payloads None
 
 reaches : (log : Log) (ticket : Payload) (handle : HandleAt) (payloads : List Payload) → handle_asked ticket ≡ Ok handle → FetchIn log ticket payloads None → Reached log handle payloads
 reaches log ticket handle payloads is (inr lacks) = absurd cc
-reaches log ticket handle payloads is (inl reply) = by (nat_le (version_of handle) (length log)) refl (rw is at reply)
+reaches log ticket handle payloads is (inl reply) = by (nat_le (version_of handle) (puts_in log)) refl (rw is at reply)
   where
     shown : Bool → Result HandleAt Fault
     shown there = demand there VersionUnknown >>= λ _. (demand (may_mean handle) BadTicket >>= λ _. Ok handle)
 
-    plain : (b : Bool) → version_of handle ≤ length log → FetchBy log (demand b BadTicket >>= λ _. Ok handle) payloads None → Reached log handle payloads
+    plain : (b : Bool) → version_of handle ≤ puts_in log → FetchBy log (demand b BadTicket >>= λ _. Ok handle) payloads None → Reached log handle payloads
     plain true within at = record { reached = within; at = at }
     plain false within at = absurd cc
 
-    by : (there : Bool) → nat_le (version_of handle) (length log) ≡ there → FetchBy log (shown there) payloads None → Reached log handle payloads
+    by : (there : Bool) → nat_le (version_of handle) (puts_in log) ≡ there → FetchBy log (shown there) payloads None → Reached log handle payloads
     by true within at = plain (may_mean handle) (search (rules, within)) at
     by false within at = absurd cc
 
@@ -95,12 +99,12 @@ abbrev query_at : ℕ → List ℕ → Range → HandleAt
 query_at n text r = Query n r.from r.to text
 
 said : (log told : Log) (text : List ℕ) (query : Sentence) (r : Range) (rows : Rows)
-    → Saw told log → length log ≤ length told → Asks (database_of log) text query
-    → FetchedAt told (query_at (length log) text r) rows → rows ≡ meaning query (database_of log) r.from r.to
+    → Saw told log → puts_in log ≤ puts_in told → Asks (database_of log) text query
+    → FetchedAt told (query_at (puts_in log) text r) rows → rows ≡ meaning query (database_of log) r.from r.to
 said log told text query r rows seen fits asks f =
-    let h : HandleAt = query_at (length log) text r in
+    let h : HandleAt = query_at (puts_in log) text r in
     let by = reaches f.log f.ticket h f.payloads f.is_handle f.reply in
-    let same : version f.log (length log) ≡ database_of log = ap database_of (same_version log told seen.seat f.log f.seen.seat seen.saw seen.learnt fits f.seen.saw f.seen.learnt by.reached) in
+    let same : version f.log (puts_in log) ≡ database_of log = same_version log told seen.seat f.log f.seen.seat seen.saw seen.learnt fits f.seen.saw f.seen.learnt by.reached in
     let at : FetchAt (database_of log) h f.payloads None = subst (λ d. FetchAt d h f.payloads None) same by.at in
     let q : at.1.query ≡ query = one_sentence text at.1.query query at.1.asks.says asks.says in
     (answers_say_one_thing say_one_thing f.payloads _ _ _ _ f.says at.3).1 ∙ ap (λ (t : Table). t.rows) at.1.is ∙ ap (λ (p : Sentence). meaning p (database_of log) r.from r.to) q
@@ -108,8 +112,8 @@ said log told text query r rows seen fits asks f =
 -- ---- all of them
 
 streams_join : (log told : Log) (text : List ℕ) (query : Sentence) (rs : List Range) (streams : List Rows)
-    → Saw told log → length log ≤ length told → Asks (database_of log) text query
-    → Pairwise (FetchedAt told) (map (query_at (length log) text) rs) streams
+    → Saw told log → puts_in log ≤ puts_in told → Asks (database_of log) text query
+    → Pairwise (FetchedAt told) (map (query_at (puts_in log) text) rs) streams
     → flat_map (λ (rows : Rows). rows) streams ≡ flat_map (λ (r : Range). meaning query (database_of log) r.from r.to) rs
 streams_join log told text query [] [] seen fits asks f = refl
 streams_join log told text query [] (s ∷ ss) seen fits asks f = absurd f
@@ -120,16 +124,16 @@ streams_join log told text query (r ∷ rs) (s ∷ ss) seen fits asks f =
 -- ---- the list of tables
 
 -- a fetch of it says it as it stood
-listed : (log told : Log) (rows : Rows) → Saw told log → length log ≤ length told → FetchedAt told (Tables (length log)) rows → rows ≡ (tables_listed (database_of log)).rows
+listed : (log told : Log) (rows : Rows) → Saw told log → puts_in log ≤ puts_in told → FetchedAt told (Tables (puts_in log)) rows → rows ≡ (tables_listed (database_of log)).rows
 listed log told rows seen fits f =
-    let h : HandleAt = Tables (length log) in
+    let h : HandleAt = Tables (puts_in log) in
     let by = reaches f.log f.ticket h f.payloads f.is_handle f.reply in
-    let same : version f.log (length log) ≡ database_of log = ap database_of (same_version log told seen.seat f.log f.seen.seat seen.saw seen.learnt fits f.seen.saw f.seen.learnt by.reached) in
+    let same : version f.log (puts_in log) ≡ database_of log = same_version log told seen.seat f.log f.seen.seat seen.saw seen.learnt fits f.seen.saw f.seen.learnt by.reached in
     let at : FetchAt (database_of log) h f.payloads None = subst (λ d. FetchAt d h f.payloads None) same by.at in
     (answers_say_one_thing say_one_thing f.payloads _ _ _ _ f.says at.3).1 ∙ ap (λ (t : Table). t.rows) at.1
 
 -- and it is the one stream
-list_joins : (log told : Log) (streams : List Rows) → Saw told log → length log ≤ length told → Pairwise (FetchedAt told) (Tables (length log) ∷ []) streams
+list_joins : (log told : Log) (streams : List Rows) → Saw told log → puts_in log ≤ puts_in told → Pairwise (FetchedAt told) (Tables (puts_in log) ∷ []) streams
     → flat_map (λ (rows : Rows). rows) streams ≡ (tables_listed (database_of log)).rows
 list_joins log told [] seen fits f = absurd f
 list_joins log told (s ∷ []) seen fits f = append-nil s ∙ listed log told s seen fits f.0
@@ -138,10 +142,10 @@ list_joins log told (s ∷ (other ∷ ss)) seen fits f = absurd f.1
 pub joined : Joined
 joined told log payload parts (rows_of text) info handles streams answer right seen fits given answers fetched =
     let q : Sentence = right.right.0 in
-    let mine : handles ≡ map (query_at (length log) text) (ranges_asked q (database_of log) parts) = same_ok (handles_in info) handles right.handles given right.given ∙ right.right.2 in
+    let mine : handles ≡ map (query_at (puts_in log) text) (ranges_asked q (database_of log) parts) = same_ok (handles_in info) handles right.handles given right.given ∙ right.right.2 in
     let same : q ≡ answers.0 = one_sentence text q answers.0 right.right.1.says answers.1.says in
     streams_join log told text q (ranges_asked q (database_of log) parts) streams seen fits right.right.1 (subst (λ hs. Pairwise (FetchedAt told) hs streams) mine fetched)
     ∙ ranges_whole q (database_of log) parts ∙ ap (λ (s : Sentence). meaning s (database_of log) 0 (first_rows (database_of log) s)) same ∙ sym (ap (λ (t : Table). t.rows) answers.2)
 joined told log payload parts tables info handles streams answer right seen fits given answers fetched =
-    let mine : handles ≡ Tables (length log) ∷ [] = same_ok (handles_in info) handles right.handles given right.given ∙ right.right in
+    let mine : handles ≡ Tables (puts_in log) ∷ [] = same_ok (handles_in info) handles right.handles given right.given ∙ right.right in
     list_joins log told streams seen fits (subst (λ hs. Pairwise (FetchedAt told) hs streams) mine fetched) ∙ sym (ap (λ (t : Table). t.rows) answers)

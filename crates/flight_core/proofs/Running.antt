@@ -8,7 +8,8 @@ use Rattle.scan_base.specs.Reading.{◌>>=◌, demand}
 use Rattle.endpoint_split.specs.Handle.{HandleAt}
 use Rattle.ipc_batch.specs.Said.{Rows}
 use Rattle.table_versions.specs.Database.{Database, Put}
-use Rattle.flight_core.specs.Log.{Log, puts_in, database_of}
+use Rattle.table_versions.specs.Log.{Log, added, puts_of, puts_in, database_of, Begins}
+use Rattle.table_versions.proofs.Logs.{begun_puts}
 use Rattle.flight_info.specs.Payloads.{Payload}
 use Rattle.flight_core.specs.Puts.{put_said}
 use Rattle.flight_core.specs.Asked.{Asked, put, info, tables, schema, fetch}
@@ -17,7 +18,7 @@ use Rattle.flight_proto.specs.FlightInfo.{InfoSaid, info_of}
 use Rattle.flight_proto.specs.Wanted.{Wanted, wanted_in, rows_of, tables as list}
 use Rattle.flight_info.specs.Infos.{only_rows, only_tables, short_enough, RightInfo, InfoAt}
 use Rattle.flight_core.specs.Machine.{PutStep, StepOn, Run}
-use Rattle.flight_core.specs.Headline.{Begins, FetchedAt, Fetched, Informed, RunsMeetHeadline, Pairwise}
+use Rattle.flight_core.specs.Headline.{FetchedAt, Fetched, Informed, RunsMeetHeadline, Pairwise}
 use Rattle.flight_info.proofs.Meaning.{same_ok}
 use Rattle.flight_core.proofs.Runs.{At, run_at}
 use Rattle.flight_core.proofs.Joining.{joined}
@@ -34,7 +35,7 @@ pub begins_same : (a b : Log) → b ≡ a → Begins a b
 begins_same a b e = ([], e ∙ sym (append-nil a))
 
 put_grows : (log : Log) (payloads answers : List Payload) (fault : Option Fault) (after : Log) → PutStep log payloads answers fault after → Begins log after
-put_grows log payloads answers None after s = (s.0 ∷ [], s.3)
+put_grows log payloads answers None after s = (added s.0 ∷ [], s.3)
 put_grows log payloads answers (Some f) after s = begins_same log after s.0
 
 pub step_grows : (log : Log) (a : Asked) (r : ReplyAt) (after : Log) → StepOn log a r after → Begins log after
@@ -53,7 +54,7 @@ run_grows old (a ∷ as') [] new run = absurd run
 -- ---- one log after a step
 
 put_once : (log : Log) (payloads answers : List Payload) (fault : Option Fault) (a b : Log) → PutStep log payloads answers fault a → PutStep log payloads answers fault b → a ≡ b
-put_once log payloads answers None a b p q = p.3 ∙ ap (λ (x : Put). log ++ x ∷ []) (same_ok (put_said payloads) p.0 q.0 p.1 q.1) ∙ sym q.3
+put_once log payloads answers None a b p q = p.3 ∙ ap (λ (x : Put). log ++ added x ∷ []) (same_ok (put_said payloads) p.0 q.0 p.1 q.1) ∙ sym q.3
 put_once log payloads answers (Some f) a b p q = p.0 ∙ sym q.0
 
 step_once : (log : Log) (s : Asked) (r : ReplyAt) (a b : Log) → StepOn log s r a → StepOn log s r b → a ≡ b
@@ -166,8 +167,8 @@ informed_right asked replies last log wanted handles run i = by i.event
     by (inl e) = right (info i.payload i.parts) (run_at [] asked replies last i.place (info i.payload i.parts) (whole (i.said ∷ [])) run e i.reply) (inl refl)
     by (inr e) = right (tables i.payload i.parts) (run_at [] asked replies last i.place (tables i.payload i.parts) (whole (i.said ∷ [])) run e i.reply) (inr refl)
 
-longer : (log last : Log) → Begins log last → length log ≤ length last
-longer log last b = omega (arith, ap length b.1, length-append log b.0)
+longer : (log last : Log) → Begins log last → puts_in log ≤ puts_in last
+longer log last b = omega (arith, ap length (begun_puts log last b), length-append (puts_of log) (puts_of b.0))
 
 pub runs_meet_headline : RunsMeetHeadline
 runs_meet_headline asked replies last run log wanted handles streams answer i answers fetched =

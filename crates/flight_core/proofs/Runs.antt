@@ -1,5 +1,6 @@
 -- Runs: cut, joined, and without a refused event.
-use Rattle.std.proofs.Common.{◌≡◌, ℕ, zero, suc, ◌+◌, ◌<◌, ◌≤◌, get_or, List, [], ◌∷◌, ◌++◌, length, map, take, drop, refl, sym, ap, subst, ◌∙◌, add-one, Option, None, Some}
+use Rattle.std.proofs.Common.{◌≡◌, ℕ, zero, suc, ◌+◌, ◌<◌, ◌≤◌, get_or, List, [], ◌∷◌, ◌++◌, length, map, take, drop, refl, sym, ap, subst, ◌∙◌, add-one, Option, None, Some, Result, Ok, Err}
+use Rattle.std.specs.Prelude.{IsOk}
 use Rattle.std.specs.List.{slice_get}
 use Rattle.std.proofs.lemmas.List.{take_more, take_all, map-append}
 use Rattle.scan_base.specs.declared.fault.Fault.{Fault}
@@ -8,7 +9,9 @@ use Rattle.flight_info.specs.Payloads.{Payload}
 use Rattle.flight_core.specs.Asked.{Asked, put, info, tables, schema, fetch}
 use Rattle.flight_info.specs.Replies.{ReplyAt}
 use Rattle.flight_core.specs.Event.{asked_in}
-use Rattle.flight_core.specs.Log.{Log}
+use Rattle.table_versions.specs.Database.{Database, Put, after}
+use Rattle.table_versions.specs.Log.{Log, added, puts_in, database_of, IsLog}
+use Rattle.table_versions.proofs.Logs.{is_log-added}
 use Rattle.flight_core.specs.Machine.{PutStep, StepOn, Run}
 use Rattle.flight_core.specs.Laws.{RefusalsLeaveNothing}
 use Rattle.flight_info.proofs.Results.{same_some}
@@ -71,3 +74,36 @@ refusals_leave_nothing asked replies last run place one reply fault here answere
     let at = run_at [] asked replies last place one reply run here answered in
     let same : at.after ≡ at.log = step_refused at.log one reply fault at.after refused at.step in
     rw (add-one place) (run_joins [] _ _ at.log _ _ last at.before (subst (λ (l : Log). Run l (drop (suc place) asked) (drop (suc place) replies) last) same at.behind))
+
+-- ---- a run leaves accepted puts alone
+
+put_is_log : (log : Log) (one : Put) (new : Log) → IsLog log → IsOk (after (database_of log) (puts_in log) one) → new ≡ log ++ added one ∷ [] → IsLog new
+put_is_log log one new is ok made = by (after (database_of log) (puts_in log) one) refl ok
+  where
+    by : (result : Result Database Fault) → after (database_of log) (puts_in log) one ≡ result → IsOk result → IsLog new
+    by (Ok database) accepted ok = subst (λ (l : Log). IsLog l) (sym made) (is_log-added log one database is accepted)
+    by (Err fault) refused ok = let no = ok in cc
+
+same_is_log : (log new : Log) → IsLog log → new ≡ log → IsLog new
+same_is_log log new is same = subst (λ (l : Log). IsLog l) (sym same) is
+
+put_step_is_log : (log : Log) (payloads answers : List Payload) (fault : Option Fault) (new : Log) → IsLog log → PutStep log payloads answers fault new → IsLog new
+put_step_is_log log payloads answers None new is s = put_is_log log s.0 new is s.2 s.3
+put_step_is_log log payloads answers (Some fault) new is s = same_is_log log new is s.0
+
+step_is_log : (log : Log) (one : Asked) (r : ReplyAt) (new : Log) → IsLog log → StepOn log one r new → IsLog new
+step_is_log log (put payloads) r new is s = put_step_is_log log payloads r.payloads r.fault new is s
+step_is_log log (info payload parts) r new is s = same_is_log log new is s.0
+step_is_log log (tables payload parts) r new is s = same_is_log log new is s.0
+step_is_log log (schema payload) r new is s = same_is_log log new is s.0
+step_is_log log (fetch ticket workers) r new is s = same_is_log log new is s.0
+
+pub run_is_log : (old : Log) (asked : List Asked) (replies : List ReplyAt) (new : Log) → IsLog old → Run old asked replies new → IsLog new
+run_is_log old [] [] new is run = same_is_log old new is run
+run_is_log old (one ∷ asked) (r ∷ rs) new is run = run_is_log run.0 asked rs new (step_is_log old one r run.0 is run.1) run.2
+run_is_log old [] (r ∷ rs) new is run = absurd run
+run_is_log old (one ∷ asked) [] new is run = absurd run
+
+-- the empty log has no put that was refused
+pub none_is_log : IsLog []
+none_is_log n one at = cc

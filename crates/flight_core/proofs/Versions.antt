@@ -1,11 +1,14 @@
--- The versions of a log, one after another.
+-- The versions of puts, one after another.
 use Rattle.std.proofs.Common.{◌≡◌, ℕ, zero, suc, ◌+◌, ◌-◌, ◌<◌, ◌≤◌, List, [], ◌∷◌, ◌++◌, length, map, take, refl, sym, ap, ◌∙◌, arith, Some, Ok}
 use Rattle.std.specs.List.{slice_get}
 use Rattle.std.specs.Option.{option_map}
 use Rattle.std.proofs.lemmas.Option.{slice_get-map}
 use Rattle.std.proofs.lemmas.List.{map-append, length-map}
 use Rattle.table_versions.specs.Database.{Database, Put, after, accepted, after_all, database_of}
+use Rattle.table_versions.specs.Log as logs
+use Rattle.table_versions.specs.Log.{Log, added, puts_of, puts_in}
 use Rattle.table_versions.proofs.Databases.{logs_grow}
+use Rattle.table_versions.proofs.Logs.{puts_of-added}
 use Rattle.flight_core.specs.Versions.{versions_from, versions_of}
 use Rattle.flight_info.proofs.Results.{same_some}
 
@@ -47,22 +50,35 @@ versions_of-at : (log : List Put) (k : ℕ) → k < length log → slice_get (ve
 unfolding versions_of
 versions_of-at log k lt = versions_from-at [] 0 log k lt ∙ ap (λ m. Some (m, database_of (take (suc k) log))) (none_before (suc k))
 
--- ---- a list of entries, each seen as a version and as the put that made it
+-- ---- a list of items, each seen as a version and as the put that made it
 
--- entry n - 1 is version n
-pub entry_at : {X : Type 0} (view : X → ℕ × Database) (put : X → Put) (xs : List X) (n : ℕ) (x : X) → map view xs ≡ versions_of (map put xs)
-    → 0 < n → n ≤ length xs → slice_get xs (n - 1) ≡ Some x → view x ≡ (n, database_of (take n (map put xs)))
+abbrev pub entries : {X : Type 0} → (X → Put) → List X → Log
+entries put xs = map (λ x. added (put x)) xs
+
+pub puts_of_entries : {X : Type 0} (put : X → Put) (xs : List X) → puts_of (entries put xs) ≡ map put xs
+puts_of_entries put [] = refl
+puts_of_entries put (x ∷ xs) = ap (λ puts. put x ∷ puts) (puts_of_entries put xs)
+
+-- there are as many puts as items
+pub puts_in_entries : {X : Type 0} (put : X → Put) (xs : List X) → puts_in (entries put xs) ≡ length xs
+puts_in_entries put xs = ap length (puts_of_entries put xs) ∙ length-map {B = Put} xs put
+
+-- item n - 1 is version n
+pub entry_at : {X : Type 0} (view : X → ℕ × Database) (put : X → Put) (xs : List X) (n : ℕ) (x : X) → map view xs ≡ versions_of (puts_of (entries put xs))
+    → 0 < n → n ≤ length xs → slice_get xs (n - 1) ≡ Some x → view x ≡ (n, logs.version (entries put xs) n)
 entry_at view put xs n x kept some within at =
     let k = n - 1 in
     let next : suc k ≡ n = omega arith in
-    let lt : k < length (map put xs) = omega (arith, length-map {B = Put} xs put) in
-    same_some (ap (option_map view) (sym at) ∙ sym (slice_get-map view xs k) ∙ ap (λ l. slice_get l k) kept ∙ versions_of-at (map put xs) k lt)
-    ∙ ap (λ m. (m, database_of (take m (map put xs)))) next
+    let lt : k < length (puts_of (entries put xs)) = omega (arith, puts_in_entries put xs) in
+    same_some (ap (option_map view) (sym at) ∙ sym (slice_get-map view xs k) ∙ ap (λ l. slice_get l k) kept ∙ versions_of-at (puts_of (entries put xs)) k lt)
+    ∙ ap (λ m. (m, logs.version (entries put xs) m)) next
 
--- one entry more
-pub kept_more : {X : Type 0} (view : X → ℕ × Database) (put : X → Put) (xs : List X) (x : X) (new : Database) → map view xs ≡ versions_of (map put xs)
-    → after (database_of (map put xs)) (length (map put xs)) (put x) ≡ Ok new → view x ≡ (suc (length (map put xs)), new) → map view (xs ++ x ∷ []) ≡ versions_of (map put (xs ++ x ∷ []))
+-- one item more
+pub kept_more : {X : Type 0} (view : X → ℕ × Database) (put : X → Put) (xs : List X) (x : X) (new : Database) → map view xs ≡ versions_of (puts_of (entries put xs))
+    → after (logs.database_of (entries put xs)) (puts_in (entries put xs)) (put x) ≡ Ok new → view x ≡ (suc (puts_in (entries put xs)), new)
+    → map view (xs ++ x ∷ []) ≡ versions_of (puts_of (entries put (xs ++ x ∷ [])))
 kept_more view put xs x new kept made is =
-    let log = map put xs in
-    map-append view xs (x ∷ []) ∙ ap (λ l. l ++ view x ∷ []) kept ∙ ap (λ v. versions_of log ++ v ∷ []) (is ∙ ap (λ d. (suc (length log), d)) (sym (database_of-more log (put x) new made)))
-    ∙ sym (versions_of-more log (put x)) ∙ ap versions_of (sym (map-append put xs (x ∷ [])))
+    let puts = puts_of (entries put xs) in
+    map-append view xs (x ∷ []) ∙ ap (λ l. l ++ view x ∷ []) kept ∙ ap (λ v. versions_of puts ++ v ∷ []) (is ∙ ap (λ d. (suc (length puts), d)) (sym (database_of-more puts (put x) new made)))
+    ∙ sym (versions_of-more puts (put x))
+    ∙ ap versions_of (sym (ap puts_of (map-append (λ x. added (put x)) xs (x ∷ [])) ∙ puts_of-added (entries put xs) (put x)))

@@ -1,5 +1,5 @@
 -- The headline: the streams of an info's handles, joined, are what was wanted at the info's log.
-use Rattle.std.specs.Prelude.{◌≡◌, ◌⊎◌, ◌≤◌, ℕ, List, [], ◌∷◌, ◌++◌, take, Some, None, Ok, slice_get}
+use Rattle.std.specs.Prelude.{◌≡◌, ◌⊎◌, ◌≤◌, ℕ, List, [], ◌∷◌, take, Some, None, Ok, slice_get}
 use Rattle.std.specs.List.{flat_map}
 use Rattle.arrow_schema.specs.declared.schema.Schema.{Schema}
 use Rattle.endpoint_split.specs.Handle.{HandleAt}
@@ -10,7 +10,7 @@ use Rattle.flight_core.specs.Asked.{Asked, info, tables, fetch}
 use Rattle.flight_info.specs.Replies.{ReplyAt, whole}
 use Rattle.flight_proto.specs.FlightInfo.{InfoSaid, info_of}
 use Rattle.flight_proto.specs.Wanted.{Wanted, wanted_in}
-use Rattle.flight_core.specs.Log.{Log, puts_in, database_of}
+use Rattle.table_versions.specs.Log.{Log, puts_in, database_of, Begins}
 use Rattle.flight_info.specs.Infos.{handle_asked, handles_in, RightInfo}
 use Rattle.flight_core.specs.Machine.{FetchIn, Run}
 use Rattle.flight_info.specs.Meant.{Answers}
@@ -63,10 +63,6 @@ RunsMeetHeadline = (asked : List Asked) (replies : List ReplyAt) (last : Log)
     → Run [] asked replies last → Headline asked replies
 
 -- ---- running threads, whose seats see logs
-
--- a log goes on from another
-abbrev pub Begins : Log → Log → Type 0
-Begins log more = (rest : Log) × (more ≡ log ++ rest)
 
 -- a seat saw this log, and learnt what was told
 pub record Saw (told log : Log) : Type 0 where

@@ -3,7 +3,6 @@ pub mod Puts
 pub mod Arriving
 pub mod Asked
 pub mod Event
-pub mod Log
 pub mod Machine
 pub mod Headline
 pub mod Laws

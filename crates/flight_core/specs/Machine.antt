@@ -9,7 +9,7 @@ use Rattle.flight_core.specs.Refusals.{RefusedFor}
 use Rattle.flight_info.specs.Payloads.{Payload}
 use Rattle.flight_core.specs.Asked.{Asked, put, info, tables, schema, fetch}
 use Rattle.flight_info.specs.Replies.{ReplyAt}
-use Rattle.flight_core.specs.Log.{Log, puts_in, database_of, version}
+use Rattle.table_versions.specs.Log.{Log, added, puts_in, database_of, version}
 use Rattle.flight_core.specs.Puts.{command_in, put_said}
 use Rattle.fetch_stream.specs.Fetches.{version_of, handle_shown, FetchAt}
 use Rattle.fetch_stream.specs.Streams.{StreamAt, Opens}
@@ -25,7 +25,7 @@ database_put log payloads = put_said payloads >>= λ put. after (database_of log
 -- the first fault, or because memory was refused.
 abbrev pub PutStep : Log → List Payload → List Payload → Option Fault → Log → Type 0
 PutStep log payloads answers None new = (put : Put) × (put_said payloads ≡ Ok put)
-    × IsOk (after (database_of log) (puts_in log) put) × (new ≡ log ++ put ∷ [])
+    × IsOk (after (database_of log) (puts_in log) put) × (new ≡ log ++ added put ∷ [])
     × (answers ≡ rows_put_bytes (pos (length put.rows)) ∷ [])
 PutStep log payloads answers (Some fault) new = (new ≡ log) × (answers ≡ [])
     × RefusedFor (command_in payloads) (database_put log payloads) fault

@@ -1,4 +1,4 @@
--- Inside: the versions of a log, each with its number.
+-- Inside: the versions of puts, each with its number.
 use Rattle.std.specs.Prelude.{ℕ, ◌+◌, List, [], ◌∷◌}
 use Rattle.table_versions.specs.Database.{Database, Put, after, accepted}
 use Rattle.table_versions.specs.Stored.{VersionAt, tables_of}
@@ -10,9 +10,9 @@ versions_from database n (put ∷ puts) =
     (n + 1, accepted database (after database n put))
     ∷ versions_from (accepted database (after database n put)) (n + 1) puts
 
--- versions 1 and up of a log
+-- versions 1 and up
 unfoldable pub versions_of : List Put → List (ℕ × Database)
-versions_of log = versions_from [] 0 log
+versions_of puts = versions_from [] 0 puts
 
 -- the number of a version, and its database
 abbrev pub numbered : VersionAt → ℕ × Database

@@ -6,7 +6,7 @@ ghost use Rattle.table_versions.specs.Valid.{HasDatabases};
 ghost use Rattle.scan_base.specs.declared.fault.Fault.TheVariants.{OutOfMemory};
 ghost use Rattle.flight_proto.specs.PutResult.{rows_put_bytes};
 ghost use Rattle.flight_core.specs.Event.{asked_in};
-ghost use Rattle.flight_core.specs.Log.{Log, ArePuts, puts_in, database_of};
+ghost use Rattle.table_versions.specs.Log.{Log, IsLog, ArePuts, puts_of, puts_in, database_of};
 ghost use Rattle.flight_core.specs.Headline.{Headline};
 ghost use Rattle.flight_core.specs.Laws.{RefusedLeaveNothing};
 ghost use Rattle.flight_core.specs.Machine.{PutStep, StepOn, Run, FetchIn, FetchShown, AsShown};
@@ -116,8 +116,8 @@ pub fn step(alloc: Global, plain: &mut Plain, event: &Event) -> Reply
     }
 }
 
-/// The replies to a list of events, from the empty log on: one for each. Every version of the log that they leave
-/// has tables alone. What is refused changes nothing. If every endpoint of an info was fetched to its end, the rows
+/// The replies to a list of events, from the empty log on: one for each. The log that they leave holds accepted puts
+/// alone, and every version of it has tables alone. What is refused changes nothing. If every endpoint of an info was fetched to its end, the rows
 /// that the fetches say, joined in the order of the endpoints, are those that the query means on the tables as they
 /// stood when the info was given. They are these whatever the seed is, with which hashes of values begin.
 ///
@@ -126,7 +126,7 @@ pub fn step(alloc: Global, plain: &mut Plain, event: &Event) -> Reply
 /// F21 (`Fault::OutOfMemory`) where memory is refused for the list itself, and no other.
 pub fn run(alloc: Global, seed: HashSeed, events: &[Event]) -> Result<Vec<Reply>, Fault>
     ensures ok { IfOk result (λ replies. (log : Log) × Run [] (map asked_in events.now) replies.items log
-        × HasDatabases log × RefusedLeaveNothing (map asked_in events.now) replies.items log) }
+        × IsLog log × HasDatabases (puts_of log) × RefusedLeaveNothing (map asked_in events.now) replies.items log) }
     ensures headline { IfOk result (λ replies. Headline (map asked_in events.now) replies.items) }
     ensures err { IfErr result (λ fault. fault ≡ OutOfMemory) }
 {

@@ -4,7 +4,7 @@ ghost use Rattle.std.specs.Prelude.{◌≡◌, ◌≢◌, ◌≤◌, ◌<◌, �
 ghost use Rattle.scan_base.specs.Reading.{RefusesFirst, first_fault};
 ghost use Rattle.flight_core.specs.Versions.{numbered};
 ghost use Rattle.scan_base.specs.declared.fault.Fault.TheVariants.{OutOfMemory, VersionUnknown};
-ghost use Rattle.flight_core.specs.Log.{puts_in, database_of, version};
+ghost use Rattle.table_versions.specs.Log.{added, puts_in, database_of, version};
 ghost use Rattle.table_versions.specs.Database.{after, put_faults};
 ghost use Rattle.table_versions.specs.Stored.{put_of, tables_of};
 ghost use Rattle.table_versions.specs.Valid.{IsPut};
@@ -30,7 +30,7 @@ impl Drop for Version {
     }
 }
 
-/// All versions. Contracts see them as the log of accepted puts.
+/// All versions. Contracts see them as the log, whose entries are the accepted puts.
 pub struct Plain {
     empty: Snapshot,
     later: Vec<Version>,
@@ -44,18 +44,18 @@ impl Drop for Plain {
 }
 
 impl Model for Plain {
-    ghost use Rattle.std.specs.Prelude.{List, [], map, ◌≡◌};
-    ghost use Rattle.table_versions.specs.Database.{Put};
+    ghost use Rattle.std.specs.Prelude.{[], map, ◌≡◌};
+    ghost use Rattle.table_versions.specs.Log.{Log, added, puts_of};
     ghost use Rattle.table_versions.specs.Stored.{put_of};
     ghost use Rattle.flight_core.specs.Versions.{versions_of, numbered};
 
-    ghost Value = { List Put };
+    ghost Value = { Log };
 
-    ghost view = { λ p. map (λ version. put_of version.put.value) p.later.items };
+    ghost view = { λ p. map (λ version. added (put_of version.put.value)) p.later.items };
 
     ghost invariant = { λ p. (numbered p.empty ≡ (0, []))
         × (map (λ version. numbered version.made) p.later.items
-        ≡ versions_of (map (λ version. put_of version.put.value) p.later.items)) };
+        ≡ versions_of (puts_of (map (λ version. added (put_of version.put.value)) p.later.items))) };
 }
 
 impl Plain {
@@ -76,6 +76,13 @@ impl Plain {
         })
     }
 
+    // The number of the newest version.
+    fn newest(&self) -> usize
+        ensures { result ≡ puts_in self.now }
+    {
+        self.later.len()
+    }
+
     // The version of a number that was reached.
     fn version(&self, number: usize) -> &Snapshot
         requires { number ≤ puts_in self.now }
@@ -92,7 +99,7 @@ impl Plain {
         ensures number { result.now.number ≡ puts_in self.now }
         ensures tables { tables_of result.now.catalog ≡ database_of self.now }
     {
-        self.version(self.later.len())
+        self.version(self.newest())
     }
 
     /// The version of a number: the one after so many puts. It takes no memory.
@@ -106,7 +113,7 @@ impl Plain {
         ensures tables { IfOk result (λ snapshot. tables_of snapshot.now.catalog ≡ version self.now number) }
         ensures err { IfErr result (λ fault. (fault ≡ VersionUnknown) × (puts_in self.now < number)) }
     {
-        if number > self.later.len() as u64 {
+        if number > self.newest() as u64 {
             return Err(Fault::VersionUnknown);
         }
         Ok(self.version(number as usize))
@@ -126,7 +133,7 @@ impl Plain {
     /// Those of [`apply`], and F21 (`Fault::OutOfMemory`) only for a put that none of them refuses. Nothing has changed
     /// then.
     pub fn put(&mut self, alloc: Global, put: Put) -> Result<(), Fault>
-        ensures ok { result ≡ Ok tt → (self.new ≡ self.old ++ put_of put ∷ [])
+        ensures ok { result ≡ Ok tt → (self.new ≡ self.old ++ added (put_of put) ∷ [])
             × IsOk (after (database_of self.old) (puts_in self.old) (put_of put)) }
         ensures typed { IfOk result (λ _. IsPut (put_of put)) }
         ensures err { IfErr result (λ fault. (self.new ≡ self.old)

@@ -3,10 +3,9 @@ use Rattle.std.proofs.Common.{◌≡◌, [], ◌∷◌, ◌++◌, Result, Ok, Er
 use Rattle.scan_base.specs.declared.fault.Fault.{Fault}
 use Rattle.scan_base.specs.Reading.{RefusesFirst}
 use Rattle.table_versions.specs.Database.{Database, Put}
+use Rattle.table_versions.specs.Log.{Log, added, Begins}
 use Rattle.version_cell.specs.Puts.{PutsBehind, after_log}
 use Rattle.version_cell.specs.Seats as cell
-use Rattle.flight_core.specs.Headline.{Begins}
-use Rattle.flight_core.specs.Log.{Log}
 use Rattle.flight_calls.specs.Seats.{Seat, Puts}
 use Rattle.shared_calls.specs.Sharing.{onward}
 
@@ -28,8 +27,8 @@ first_refused X Y fault (Ok database) first = tt
 first_refused X Y fault (Err cause) first = cc first
 
 -- the cell's putter made it
-pub accepted : {X : Type 0} (receipt : X) (seat next : cell.Seat) (old new : Seat) (put : Put) → PutsBehind (Ok receipt) seat put next → cell.Begins seat.log next.log
-    → next.enters ≡ seat.enters → old.log ≡ seat.log → old.looks ≡ seat.enters → new.log ≡ next.log → new.looks ≡ next.enters → new.made ≡ old.made ++ put ∷ []
+pub accepted : {X : Type 0} (receipt : X) (seat next : cell.Seat) (old new : Seat) (put : Put) → PutsBehind (Ok receipt) seat put next → Begins seat.log next.log
+    → next.enters ≡ seat.enters → old.log ≡ seat.log → old.looks ≡ seat.enters → new.log ≡ next.log → new.looks ≡ next.enters → new.made ≡ old.made ++ added put ∷ []
     → (done : Unit {0}) → Puts onward (Ok done) old put new
 accepted receipt seat next old new put behind kept enters log looks new_log new_looks last done = record {
   log = behind.log;
@@ -43,7 +42,7 @@ accepted receipt seat next old new put behind kept enters log looks new_log new_
 }
 
 -- or refused it
-pub refused : {X : Type 0} (fault : Fault) (seat next : cell.Seat) (old new : Seat) (put : Put) → PutsBehind {X = X} (Err fault) seat put next → cell.Begins seat.log next.log
+pub refused : {X : Type 0} (fault : Fault) (seat next : cell.Seat) (old new : Seat) (put : Put) → PutsBehind {X = X} (Err fault) seat put next → Begins seat.log next.log
     → next.enters ≡ seat.enters → old.log ≡ seat.log → old.looks ≡ seat.enters → new.log ≡ next.log → new.looks ≡ next.enters → new.made ≡ old.made
     → Puts onward (Err fault) old put new
 refused {X} fault seat next old new put behind kept enters log looks new_log new_looks same = record {

@@ -1,7 +1,7 @@
 -- A seat of a version cell, as a connection's.
 use Rattle.std.specs.Prelude.{◌≡◌}
+use Rattle.table_versions.specs.Log.{Begins}
 use Rattle.version_cell.specs.Seats as cell
-use Rattle.flight_core.specs.Headline.{Begins}
 use Rattle.flight_calls.specs.Seats.{Seat, Moves}
 
 -- it looks by entering the cell

@@ -4,10 +4,10 @@ use Rattle.std.specs.Prelude.{MatchBool}
 use lib.Dec.{leb}
 use Rattle.std.proofs.Common.{Bool, true, false, ◌≡◌, ◌⊎◌, inl, inr, ℕ, ◌≤◌, List, [], ◌∷◌, ◌++◌, length, refl, ap, sym, ◌∙◌, arith, append_assoc, append-nil, length-append, Result, Ok, Err}
 use mathlib.Core.List.{IsPrefix}
-use Rattle.table_versions.specs.Database.{Put}
 use Rattle.scan_base.specs.declared.fault.Fault.{Fault}
+use Rattle.table_versions.specs.Database.{Put}
+use Rattle.table_versions.specs.Log.{Log, added, Begins}
 use Rattle.version_cell.specs.Puts.{IsAnswered}
-use Rattle.version_cell.specs.Seats.{Log, Begins}
 
 -- each list begins with itself
 pub prefix_self : {A : Type 0} (xs : List A) → IsPrefix xs xs
@@ -39,14 +39,14 @@ pub prefix_length : {A : Type 0} (xs ys : List A) → IsPrefix xs ys → length 
 prefix_length xs ys p = omega (arith, sym (ap length p.1) ∙ length-append xs p.0)
 
 -- of two beginnings of one log, the one that is found no longer begins the other
-pub either_begins : (b : Bool) (xs ys zs : List Put) (m n : ℕ) → m ≡ length xs → n ≡ length ys → IsPrefix xs zs → IsPrefix ys zs → leb m n ≡ b
+pub either_begins : (b : Bool) (xs ys zs : Log) (m n : ℕ) → m ≡ length xs → n ≡ length ys → IsPrefix xs zs → IsPrefix ys zs → leb m n ≡ b
     → MatchBool b (Begins xs ys) (Begins ys xs)
 either_begins true xs ys zs m n e f p q is = let front = prefix_shorter xs ys zs p q (grind (arith, nat_tests)) in (front.0, sym front.1)
 either_begins false xs ys zs m n e f p q is = let front = prefix_shorter ys xs zs q p (grind (arith, nat_tests)) in (front.0, sym front.1)
 
 -- the log behind a put goes on from the one that it met
 pub goes_on : {X : Type 0} (result : Result X Fault) (log : Log) (put : Put) (next : Log) → IsAnswered result log put next → Begins log next
-goes_on (Ok receipt) log put next answered = (put ∷ [], answered.0)
+goes_on (Ok receipt) log put next answered = (added put ∷ [], answered.0)
 goes_on (Err fault) log put next answered = ([], answered.0 ∙ sym (append-nil log))
 
 -- who had seen no more than a log, and learns of a later one, has seen that

@@ -2,7 +2,7 @@
 use Rattle.std.specs.Prelude.{◌≡◌, ℕ}
 use Rattle.logbook.specs.Pages.{Book}
 
--- the book of its log, the ledger in which its puts are counted, and how many seats it will have
+-- the book of its log, the ledger in which its entries are counted, and how many seats it will have
 pub record BlankAt : Type 0 where
   pub book : Book
   pub ledger : ℕ

@@ -1,19 +1,20 @@
 -- What a put is answered.
-use Rattle.std.specs.Prelude.{◌≡◌, ◌≢◌, [], ◌∷◌, ◌++◌, length, IsOk, Result, Ok, Err}
+use Rattle.std.specs.Prelude.{◌≡◌, ◌≢◌, [], ◌∷◌, ◌++◌, IsOk, Result, Ok, Err}
 use Rattle.scan_base.specs.declared.fault.Fault.{Fault}
 use Rattle.scan_base.specs.declared.fault.Fault.TheVariants.{OutOfMemory}
 use Rattle.scan_base.specs.Reading.{RefusesFirst}
-use Rattle.table_versions.specs.Database.{Put, Database, after, database_of}
-use Rattle.version_cell.specs.Seats.{Log, Seat, Begins, MakesNone}
+use Rattle.table_versions.specs.Database.{Put, Database, after}
+use Rattle.table_versions.specs.Log.{Log, added, puts_in, database_of, Begins}
+use Rattle.version_cell.specs.Seats.{Seat, MakesNone}
 
 -- the database after a put that meets this log, or the first fault
 abbrev pub after_log : Log → Put → Result Database Fault
-after_log log put = after (database_of log) (length log) put
+after_log log put = after (database_of log) (puts_in log) put
 
 -- A put that meets a log, with the log behind it: an accepted one stands last. A refused one changes nothing, and its fault
 -- is the first one, or memory was refused.
 abbrev pub IsAnswered : {X : Type 0} → Result X Fault → Log → Put → Log → Type 0
-IsAnswered (Ok receipt) log put next = (next ≡ log ++ put ∷ []) × IsOk (after_log log put)
+IsAnswered (Ok receipt) log put next = (next ≡ log ++ added put ∷ []) × IsOk (after_log log put)
 IsAnswered (Err fault) log put next = (next ≡ log) × (fault ≢ OutOfMemory → after_log log put ≡ Err fault)
 
 -- A put of a seat: it met a log that goes on from all that the seat had seen, and the seat has then seen the log behind it,
@@ -24,7 +25,7 @@ pub record PutsBehind {X : Type 0} (result : Result X Fault) (old : Seat) (put :
   pub answered : IsAnswered result log put new.log
   pub first : RefusesFirst result (after_log log put)
 
--- an accepted put is the last of those that were made through the seat, and a refused one is none of them
+-- an accepted put is the last entry that was made through the seat, and a refused one is none of them
 abbrev pub CountsPut : {X : Type 0} → Result X Fault → Seat → Put → Seat → Type 0
-CountsPut (Ok done) old put new = new.made ≡ old.made ++ put ∷ []
+CountsPut (Ok done) old put new = new.made ≡ old.made ++ added put ∷ []
 CountsPut (Err fault) old put new = MakesNone old new

@@ -1,18 +1,18 @@
 -- Inside: the rule of the book, and what its step tells.
 use Rattle.std.specs.Prelude.{ℕ, ◌≡◌, ◌==◌, true, List, [], ◌∷◌, ◌++◌, length, MatchBool, Option, Some, None}
-use Rattle.table_versions.specs.Database.{Put}
+use Rattle.table_versions.specs.Log.{Entry, Log}
 use Rattle.logbook.specs.Pages.{Cell, Step, View, Book, Named}
 
 -- the first word is the length of the log. A book has two words, of which this one leaves the second at 0
-pub record IsKept (cells : List Cell) (log : List Put) : Type 0 where
+pub record IsKept (cells : List Cell) (log : Log) : Type 0 where
   pub words : cells ≡ (length log, true) ∷ (0, true) ∷ []
 
 -- the first word of a book
 abbrev pub head_of : Book → Named
 head_of book = record { tracked = true; key = 0; book = book }
 
--- the put was added to all that had been seen; or the log was longer, and was seen
-abbrev pub Adds : Step Put → View Put ℕ → ℕ → View Put ℕ → Type 0
+-- the entry was added to all that had been seen; or the log was longer, and was seen
+abbrev pub Adds : Step Entry → View Entry ℕ → ℕ → View Entry ℕ → Type 0
 Adds step before found after = MatchBool (found == step.old) (after.0 ≡ before.0 ++ step.ask ∷ []) (length after.0 ≡ found)
 
 -- what is read of a value that is there

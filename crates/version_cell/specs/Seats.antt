@@ -1,25 +1,17 @@
 -- What a contract sees of a seat, and what its calls do to it.
-use Rattle.std.specs.Prelude.{◌≡◌, ◌⊎◌, ℕ, ◌+◌, List, ◌++◌}
-use Rattle.table_versions.specs.Database.{Put}
+use Rattle.std.specs.Prelude.{◌≡◌, ◌⊎◌, ℕ, ◌+◌}
+use Rattle.table_versions.specs.Log.{Log}
 
--- the accepted puts, in order
-abbrev pub Log : Type 0
-Log = List Put
-
--- the log that the seat has seen or was told of, the log that it entered last, how often it entered the cell, and the puts
+-- the log that the seat has seen or was told of, the log that it entered last, how often it entered the cell, and the entries
 -- that were made through it, in order
 pub record Seat : Type 0 where
   pub log : Log
   pub entered : Log
   pub enters : ℕ
-  pub made : List Put
+  pub made : Log
 
-abbrev pub seat : Log → Log → ℕ → List Put → Seat
+abbrev pub seat : Log → Log → ℕ → Log → Seat
 seat log entered enters made = record { log = log; entered = entered; enters = enters; made = made }
-
--- a log goes on from another
-abbrev pub Begins : Log → Log → Type 0
-Begins log more = (rest : Log) × (more ≡ log ++ rest)
 
 -- one enter: the seat has seen the log so entered
 abbrev pub EntersOnce : Seat → Seat → Type 0
@@ -29,11 +21,11 @@ EntersOnce old new = (new.enters ≡ old.enters + 1) × (new.entered ≡ new.log
 abbrev pub MayEnter : Seat → Seat → Type 0
 MayEnter old new = (new.enters ≡ old.enters) ⊎ (new.enters ≡ old.enters + 1)
 
--- no put is made through the seat
+-- no entry is made through the seat
 abbrev pub MakesNone : Seat → Seat → Type 0
 MakesNone old new = new.made ≡ old.made
 
--- Seats that are done with: a log that goes on from all that they had seen, how many they are, and how many puts were made
+-- Seats that are done with: a log that goes on from all that they had seen, how many they are, and how many entries were made
 -- through them.
 pub record GatheredAt : Type 0 where
   pub log : Log

@@ -1,8 +1,8 @@
 //! The log of a cell, as a history that only grows.
 ghost use Rattle.std.specs.Prelude.{◌≡◌, ◌+◌, ◌<◌, ◌^◌, ◌++◌, ◌∷◌, [], length, MatchBool, IfSome};
+ghost use Rattle.table_versions.specs.Log.{added, puts_in, Begins};
 ghost use Rattle.table_versions.specs.Stored.{put_of};
 ghost use Rattle.version_cell.specs.Rules.{head_of};
-ghost use Rattle.version_cell.specs.Seats.{Begins};
 
 use logbook::{Gain, Offer, Plain, Play, Rule, Seen, Start, Word};
 use std::marker::{Brand, Model};
@@ -10,19 +10,19 @@ use std::snapshot::Snapshot;
 use std::sync::ledger::Ledger;
 use table_versions::Put;
 
-/// A put as the log has it: rows, and no batches. It has no bytes.
+/// An entry as the log has it: a put by its rows, and not by its batches. It has no bytes.
 #[derive(Drop)]
 pub struct Entry {
     put: Snapshot<Put>,
 }
 
 impl Model for Entry {
-    ghost use Rattle.table_versions.specs.Database.{Put};
+    ghost use Rattle.table_versions.specs.Log.{Entry, added};
     ghost use Rattle.table_versions.specs.Stored.{put_of};
 
-    ghost Value = { Put };
+    ghost Value = { Entry };
 
-    ghost view = { λ e. put_of e.put.value };
+    ghost view = { λ e. added (put_of e.put.value) };
 }
 
 /// The rule of the book: its first word is the length of the log.
@@ -66,14 +66,15 @@ impl Play<Entry, u64> for Add {
 
 impl Plain<Snapshot<Put>, Entry, u64> for Add {
     ghost use Rattle.std.specs.Prelude.{None};
+    ghost use Rattle.table_versions.specs.Log.{added};
     ghost use Rattle.table_versions.specs.Stored.{put_of};
 
-    ghost ask = { λ put. put_of put.value };
+    ghost ask = { λ put. added (put_of put.value) };
 
     ghost state = { λ put. None };
 }
 
-/// Which cell it is: the book of its log, and the ledger in which its puts are counted. Each call of a program picks it.
+/// Which cell it is: the book of its log, and the ledger in which its entries are counted. Each call of a program picks it.
 pub trait CellName: Ledger {
     ghost use Rattle.logbook.specs.Pages.{Book};
 
@@ -102,13 +103,13 @@ impl Opened {
         }
     }
 
-    /// The word, and the history that has no put.
+    /// The word, and the history that has no entry.
     pub fn into_parts(self) -> (Head, History)
         ensures book { (result.0 ≡ head_of self.seen.book) × (result.1.seen.book ≡ self.seen.book) }
         ensures log { result.1.seen.log ≡ [] }
     {
         let Opened { head, seen } = self;
-        (head, History { puts: 0, seen })
+        (head, History { entries: 0, seen })
     }
 }
 
@@ -118,17 +119,17 @@ pub type Head = Word<Entry, u64, Law>;
 /// A beginning of the log that was reached.
 #[derive(Drop)]
 pub struct History {
-    puts: u64,
+    entries: u64,
     pub seen: Seen<Entry, u64, Law>,
-    pub ghost counted: { puts ≡ length seen.log },
+    pub ghost counted: { entries ≡ length seen.log },
 }
 
 impl History {
-    /// How many puts it has.
-    pub fn len(&self) -> u64
-        ensures { result ≡ length self.now.seen.log }
+    /// How many puts it has: a put is the one kind of entry.
+    pub fn puts(&self) -> u64
+        ensures { result ≡ puts_in self.now.seen.log }
     {
-        self.puts
+        self.entries
     }
 
     /// A copy.
@@ -136,12 +137,12 @@ impl History {
         ensures { result.seen ≡ self.now.seen }
     {
         History {
-            puts: self.puts,
+            entries: self.entries,
             seen: self.seen.again(),
         }
     }
 
-    /// Whether the other has no fewer puts. It then begins with these.
+    /// Whether the other has no fewer entries. It then begins with these.
     pub fn begins(&self, other: &History) -> bool
         requires { other.now.seen.book ≡ self.now.seen.book }
         ensures { MatchBool result (Begins self.now.seen.log other.now.seen.log)
@@ -149,33 +150,33 @@ impl History {
     {
         let mut both = self.seen.again();
         both.learn(&other.seen);
-        self.puts <= other.puts
+        self.entries <= other.entries
     }
 
     /// The history with a put added. None where the log is longer than this.
     pub fn with(&self, head: &Head, put: &Snapshot<Put>) -> Option<History>
         requires head { head.now ≡ head_of self.now.seen.book }
         requires room { length self.now.seen.log < 2 ^ 62 }
-        ensures { IfSome result (λ h. (h.seen.book ≡ self.now.seen.book) × (h.seen.log ≡ self.now.seen.log ++ put_of put.now.value ∷ [])) }
+        ensures { IfSome result (λ h. (h.seen.book ≡ self.now.seen.book) × (h.seen.log ≡ self.now.seen.log ++ added (put_of put.now.value) ∷ [])) }
     {
         let mut seen = self.seen.again();
         let mut offer: Offer<Entry, u64, Law, Nothing> = seen.plain::<Nothing, Snapshot<Put>, Add>(
             put,
         );
         let mut pen = seen.no_pen();
-        let puts = self.puts;
+        let entries = self.entries;
         let found = head.compare_exchange::<Add, Nothing>(
-            puts,
-            puts + 1,
+            entries,
+            entries + 1,
             &mut seen,
             &mut offer,
             &mut pen,
         );
-        if found != puts {
+        if found != entries {
             return None;
         }
         Some(History {
-            puts: puts + 1,
+            entries: entries + 1,
             seen,
         })
     }

@@ -22,7 +22,7 @@ use std::sync::ledger::Share;
 use std::sync::{Arc, Wait, ledger};
 use version_index::VersionIndex;
 
-/// A cell of version 0 alone, which has no name yet. Contracts see it as the book of its log, the ledger of its puts, and the
+/// A cell of version 0 alone, which has no name yet. Contracts see it as the book of its log, the ledger of its entries, and the
 /// number of its seats.
 #[derive(Drop)]
 pub struct Blank {

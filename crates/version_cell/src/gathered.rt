@@ -1,7 +1,8 @@
 //! Seats that are done with, as one.
 
 ghost use Rattle.std.specs.Prelude.{◌≡◌, ◌+◌, length};
-ghost use Rattle.version_cell.specs.Seats.{Begins, gathered_at};
+ghost use Rattle.table_versions.specs.Log.{Begins};
+ghost use Rattle.version_cell.specs.Seats.{gathered_at};
 
 use crate::book::CellName;
 use crate::scanner::Scanner;
@@ -10,7 +11,7 @@ use std::marker::Model;
 use std::sync::ledger::Share;
 
 /// Seats that are done with. Contracts see it as a log that goes on from all that these had seen, how many they are, and how
-/// many puts were made through them.
+/// many entries were made through them.
 #[derive(Drop)]
 pub struct Gathered<C: CellName> {
     pub(crate) told: Told<C>,

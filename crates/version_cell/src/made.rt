@@ -1,13 +1,14 @@
-//! The puts that a seat made, which contracts alone see.
+//! The entries that a seat made, which contracts alone see.
 
 ghost use Rattle.std.specs.Prelude.{◌≡◌, ◌++◌, ◌∷◌, []};
+ghost use Rattle.table_versions.specs.Log.{added};
 ghost use Rattle.table_versions.specs.Stored.{put_of};
 
 use std::marker::Model;
 use std::snapshot::Snapshot;
 use table_versions::Put;
 
-// Puts in order, without a bound. It has no bytes of them.
+// Entries in order, without a bound. It has no bytes of them.
 #[derive(Drop)]
 pub(crate) struct Made {
     before: Option<Snapshot<Made>>,
@@ -15,19 +16,20 @@ pub(crate) struct Made {
 }
 
 impl Model for Made {
+    ghost use Rattle.table_versions.specs.Log.{added};
     ghost use Rattle.table_versions.specs.Stored.{put_of};
-    ghost use Rattle.version_cell.specs.Made.{MadeAt, added};
+    ghost use Rattle.version_cell.specs.Made.{MadeAt, one_longer};
 
     ghost Value = { MadeAt };
 
     ghost size = { λ made. made.steps };
 
-    ghost view = { λ m. added (λ before. before.value) (λ put. put_of put.value) m.before m.last };
+    ghost view = { λ m. one_longer (λ before. before.value) (λ put. added (put_of put.value)) m.before m.last };
 }
 
-// No put.
+// No entry.
 pub(crate) fn none_made() -> Snapshot<Made>
-    ensures { result.value.puts ≡ [] }
+    ensures { result.value.entries ≡ [] }
 {
     Snapshot::of(&Made {
         before: None,
@@ -37,7 +39,7 @@ pub(crate) fn none_made() -> Snapshot<Made>
 
 // One put more.
 pub(crate) fn one_more(before: Snapshot<Made>, put: Snapshot<Put>) -> Snapshot<Made>
-    ensures { result.value.puts ≡ before.value.puts ++ put_of put.value ∷ [] }
+    ensures { result.value.entries ≡ before.value.entries ++ added (put_of put.value) ∷ [] }
 {
     Snapshot::of(&Made {
         before: Some(before),

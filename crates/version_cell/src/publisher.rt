@@ -1,23 +1,28 @@
 //! Who publishes: the log of a cell grows, and its seats are shown the versions.
 
-ghost use Rattle.std.specs.Prelude.{◌≡◌, ◌≢◌, ◌++◌, ◌∷◌, [], length, drop, fold, IfOk, IfErr, IsOk, Err};
+ghost use Rattle.std.specs.Prelude.{◌≡◌, ◌≢◌, ◌<◌, ◌++◌, ◌∷◌, [], map, drop, fold, IfOk, IfErr, IsOk, Err};
+ghost use Rattle.std.specs.Arc.{arc_value};
+ghost use Rattle.scan_base.specs.Limits.{most_commits};
 ghost use Rattle.scan_base.specs.Reading.{RefusesFirst};
 ghost use Rattle.scan_base.specs.declared.fault.Fault.TheVariants.{OutOfMemory};
-ghost use Rattle.table_versions.specs.Stored.{put_of};
+ghost use Rattle.table_versions.specs.Log.{added, puts_of, puts_in, IsLog};
+ghost use Rattle.table_versions.specs.Stored.{put_of, tables_of};
 ghost use Rattle.table_versions.specs.Valid.{IsPut};
 ghost use Rattle.version_cell.specs.Puts.{after_log, IsAnswered};
 ghost use Rattle.version_cell.specs.Rules.{head_of};
+ghost use Rattle.version_cell.specs.Versions.{versions_of};
 
-use crate::book::{CellName, Head};
+use crate::book::{CellName, Head, History};
 use crate::shown::{Entered, Publishes, Shown, Store};
 use crate::told::Told;
 use left_right::writer::Writer;
 use scan_base::Fault;
 use std::alloc::Global;
 use std::marker::{Model, PhantomData};
-use std::sync::Wait;
+use std::sync::{Arc, Wait};
 use std::{snapshot, thread};
 use table_versions::Put;
+use version_index::VersionIndex;
 
 pub(crate) type CellWriter<C> = Writer<Store, Store, Entered, Shown<C>>;
 
@@ -29,7 +34,7 @@ pub struct Receipt<C: CellName> {
     of: PhantomData<C>,
 }
 
-// Who makes the versions of a cell. Contracts see it as the cell's log. It keeps the handle `rt`, since its end waits for
+// Who makes the versions of a cell. Contracts see it as the cell's log, which is one of accepted puts. It keeps the handle `rt`, since its end waits for
 // the seats that are reading.
 pub(crate) struct Publisher<C: CellName, R: Wait + Drop> {
     head: Head,
@@ -38,22 +43,24 @@ pub(crate) struct Publisher<C: CellName, R: Wait + Drop> {
 }
 
 impl<C: CellName, R: Wait + Drop> Model for Publisher<C, R> {
-    ghost use Rattle.std.specs.Prelude.{◌≡◌, [], List, IsSome, IfSome};
-    ghost use Rattle.table_versions.specs.Database.{Put};
+    ghost use Rattle.std.specs.Prelude.{◌≡◌, [], IsSome, IfSome};
+    ghost use Rattle.table_versions.specs.Log.{Log, IsLog};
     ghost use Rattle.version_cell.specs.Rules.{head_of, read_or};
 
-    ghost Value = { List Put };
+    ghost Value = { Log };
 
     ghost view = { λ p. read_or [] (λ writer. writer.desk.shown.value.history.seen.log) p.writer };
 
     ghost invariant = { λ p. (p.head ≡ head_of C.book) × IsSome p.writer
-        × IfSome p.writer (λ writer. writer.desk.shown.value.history.seen.book ≡ C.book) };
+        × IfSome p.writer (λ writer. (writer.desk.shown.value.history.seen.book ≡ C.book)
+        × IsLog writer.desk.shown.value.history.seen.log) };
 }
 
 impl<C: CellName, R: Wait + Drop> Publisher<C, R> {
     pub(crate) fn new(head: Head, writer: CellWriter<C>, rt: R) -> Publisher<C, R>
         requires head { head ≡ head_of C.book }
         requires book { writer.desk.shown.value.history.seen.book ≡ C.book }
+        requires is_log { IsLog writer.desk.shown.value.history.seen.log }
         ensures { result ≡ writer.desk.shown.value.history.seen.log }
     {
         Publisher {
@@ -67,37 +74,54 @@ impl<C: CellName, R: Wait + Drop> Publisher<C, R> {
     fn store(&self) -> &Store
         ensures log { result.now.history.seen.log ≡ self.now }
         ensures book { result.now.history.seen.book ≡ C.book }
+        ensures is_log { IsLog self.now }
     {
         self.writer.as_ref().unwrap().published()
     }
 
-    // What is to be shown behind a put. Where it is answered, the put stands in the book.
-    fn next(
-        &self,
-        alloc: Global,
-        put: Put,
-        made_by: &snapshot::Snapshot<Put>,
-    ) -> Result<Store, Fault>
-        requires { made_by.now.value ≡ put }
-        ensures book { IfOk result (λ store. store.history.seen.book ≡ C.book) }
-        ensures log { IfOk result (λ store. store.history.seen.log ≡ self.now ++ put_of put ∷ []) }
+    // The versions behind a put, or why it is refused. Nothing has changed yet.
+    fn prepare(&self, alloc: Global, put: Put) -> Result<Arc<VersionIndex>, Fault>
+        ensures ok { IfOk result (λ index. map tables_of (arc_value index) ≡ versions_of (puts_of (self.now ++ added (put_of put) ∷ []))) }
         ensures accepted { IfOk result (λ _. IsOk (after_log self.now (put_of put))) }
         ensures typed { IfOk result (λ _. IsPut (put_of put)) }
         ensures err { IfErr result (λ fault. fault ≢ OutOfMemory
             → after_log self.now (put_of put) ≡ Err fault) }
         ensures first { RefusesFirst result (after_log self.now (put_of put)) }
     {
+        self.store().after(alloc, put)
+    }
+
+    // Adds the put to the book, and gives what is to be shown. From here on nothing can refuse it.
+    fn commit(&self, index: Arc<VersionIndex>, made_by: &snapshot::Snapshot<Put>) -> Store
+        requires kept { map tables_of (arc_value index)
+            ≡ versions_of (puts_of (self.now ++ added (put_of made_by.now.value) ∷ [])) }
+        requires few { puts_in self.now < most_commits }
+        ensures book { result.history.seen.book ≡ C.book }
+        ensures log { result.history.seen.log ≡ self.now ++ added (put_of made_by.now.value) ∷ [] }
+    {
+        Store::new(index, self.record(made_by))
+    }
+
+    // The history with the put added. It asks again where the book were longer than what is shown, which it never is.
+    fn record(&self, made_by: &snapshot::Snapshot<Put>) -> History
+        requires few { puts_in self.now < most_commits }
+        ensures book { result.seen.book ≡ C.book }
+        ensures log { result.seen.log ≡ self.now ++ added (put_of made_by.now.value) ∷ [] }
+    {
         let shown = self.store();
-        let index = shown.after(alloc, put)?;
-        let Some(history) = shown.history.with(&self.head, made_by) else {
-            return Err(Fault::OutOfMemory);
-        };
-        Ok(Store::new(index, history))
+        for _ in self.rt.forever() {
+            if let Some(history) = shown.history.with(&self.head, made_by) {
+                return history;
+            }
+            thread::yield_now();
+        }
+        unreachable!()
     }
 
     // The log so far, for seats to learn. It takes no memory.
     pub(crate) fn tell(&self) -> Told<C>
-        ensures { result ≡ self.now }
+        ensures same { result ≡ self.now }
+        ensures is_log { IsLog result }
     {
         Told::new(self.store().history.again())
     }
@@ -106,13 +130,14 @@ impl<C: CellName, R: Wait + Drop> Publisher<C, R> {
     pub(crate) fn put(&mut self, alloc: Global, put: Put) -> Result<Receipt<C>, Fault>
         ensures answered { IsAnswered result self.old (put_of put) self.new }
         ensures first { RefusesFirst result (after_log self.old (put_of put)) }
-        ensures receipt { IfOk result (λ receipt. (receipt.number ≡ length self.new)
+        ensures receipt { IfOk result (λ receipt. (receipt.number ≡ puts_in self.new)
             × (receipt.put.value ≡ put)) }
         ensures typed { IfOk result (λ _. IsPut (put_of put)) }
     {
         let made_by = snapshot::Snapshot::of(&put);
-        let store = self.next(alloc, put, &made_by)?;
-        let number = store.history.len();
+        let index = self.prepare(alloc, put)?;
+        let store = self.commit(index, &made_by);
+        let number = store.history.puts();
         let writer = self.writer.take().unwrap();
         let writer = publish(&self.rt, writer, store);
         let gone = self.writer.replace(writer);

@@ -1,7 +1,8 @@
 //! Who puts.
 
-ghost use Rattle.std.specs.Prelude.{◌≡◌, length, IfOk};
+ghost use Rattle.std.specs.Prelude.{◌≡◌, IfOk};
 ghost use Rattle.scan_base.specs.Reading.{RefusesFirst};
+ghost use Rattle.table_versions.specs.Log.{puts_in, IsLog};
 ghost use Rattle.table_versions.specs.Stored.{put_of};
 ghost use Rattle.table_versions.specs.Valid.{IsPut};
 ghost use Rattle.version_cell.specs.Puts.{after_log, IsAnswered};
@@ -21,15 +22,15 @@ use table_versions::Put;
 #[derive(Drop)]
 pub struct Putter<C: CellName, R: Wait + Drop> {
     pub(crate) publisher: Publisher<C, R>,
-    // Until it is shared, no put is counted.
+    // Until it is shared, no entry is counted.
     pub(crate) tally: Tally<C>,
 }
 
 impl<C: CellName, R: Wait + Drop> Model for Putter<C, R> {
-    ghost use Rattle.std.specs.Prelude.{◌≡◌, List};
-    ghost use Rattle.table_versions.specs.Database.{Put};
+    ghost use Rattle.std.specs.Prelude.{◌≡◌};
+    ghost use Rattle.table_versions.specs.Log.{Log};
 
-    ghost Value = { List Put };
+    ghost Value = { Log };
 
     ghost view = { λ p. p.publisher };
 
@@ -46,7 +47,8 @@ impl<C: CellName, R: Wait + Drop> Putter<C, R> {
 
     /// The log so far, for seats to learn. It takes no memory.
     pub fn tell(&self) -> Told<C>
-        ensures { result ≡ self.now }
+        ensures same { result ≡ self.now }
+        ensures is_log { IsLog result }
     {
         self.publisher.tell()
     }
@@ -60,7 +62,7 @@ impl<C: CellName, R: Wait + Drop> Putter<C, R> {
     pub fn put(&mut self, alloc: Global, put: Put) -> Result<Receipt<C>, Fault>
         ensures answered { IsAnswered result self.old (put_of put) self.new }
         ensures first { RefusesFirst result (after_log self.old (put_of put)) }
-        ensures receipt { IfOk result (λ receipt. (receipt.number ≡ length self.new)
+        ensures receipt { IfOk result (λ receipt. (receipt.number ≡ puts_in self.new)
             × (receipt.put.value ≡ put)) }
         ensures typed { IfOk result (λ _. IsPut (put_of put)) }
     {

@@ -2,9 +2,9 @@
 
 ghost use Rattle.std.specs.Prelude.{◌≡◌, ◌+◌, ◌⊎◌, ◌≤◌, ◌<◌, ◌++◌, ◌∷◌, [], length, IfOk, IfErr, IfSome, MatchBool};
 ghost use Rattle.scan_base.specs.declared.fault.Fault.TheVariants.{OutOfMemory, VersionUnknown};
-ghost use Rattle.table_versions.specs.Database.{database_of, version};
+ghost use Rattle.table_versions.specs.Log.{added, puts_in, database_of, version, Begins};
 ghost use Rattle.table_versions.specs.Stored.{put_of, tables_of};
-ghost use Rattle.version_cell.specs.Seats.{seat, Begins, EntersOnce, MakesNone, MayEnter};
+ghost use Rattle.version_cell.specs.Seats.{seat, EntersOnce, MakesNone, MayEnter};
 
 use crate::book::{CellName, History};
 use crate::made::{Made, none_made, one_more};
@@ -22,13 +22,13 @@ use table_versions::{Put, Snapshot};
 type CellReader<C> = Reader<Store, Entered, Shown<C>>;
 
 /// A seat of a cell. Contracts see it as the log that it has seen or was told of, the log that it entered last, the
-/// number of its enters, and the puts that were made through it. Its calls wait for nobody and take no memory.
+/// number of its enters, and the entries that were made through it. Its calls wait for nobody and take no memory.
 #[derive(Drop)]
 pub struct Scanner<C: CellName> {
     history: History,
     reader: Option<CellReader<C>>,
     made: snapshot::Snapshot<Made>,
-    // Each of these puts is counted in it.
+    // Each of these entries is counted in it.
     share: Share<C>,
 }
 
@@ -40,10 +40,10 @@ impl<C: CellName> Model for Scanner<C> {
     ghost Value = { Seat };
 
     ghost view = { λ s. seat s.history.seen.log (read_or [] (λ reader. reader.place.me.0.client.log) s.reader)
-        (read_or 0 (λ reader. reader.place.me.0.client.enters) s.reader) s.made.value.puts };
+        (read_or 0 (λ reader. reader.place.me.0.client.enters) s.reader) s.made.value.entries };
 
     ghost invariant = { λ s. (s.history.seen.book ≡ C.book) × IsSome s.reader
-        × (s.share.parts ≡ 1) × (s.share.amount ≡ length s.made.value.puts) };
+        × (s.share.parts ≡ 1) × (s.share.amount ≡ length s.made.value.entries) };
 }
 
 impl<C: CellName> Scanner<C> {
@@ -104,7 +104,7 @@ impl<C: CellName> Scanner<C> {
         ensures made { MakesNone self.old self.new }
         ensures begins { Begins self.old.log self.new.log }
         ensures ok { IfOk result (λ snapshot. EntersOnce self.old self.new
-            × (snapshot.number ≡ length self.new.log)
+            × (snapshot.number ≡ puts_in self.new.log)
             × (tables_of snapshot.catalog ≡ database_of self.new.log)) }
         ensures err { IfErr result (λ fault. (fault ≡ OutOfMemory) × MayEnter self.old self.new) }
     {
@@ -121,20 +121,20 @@ impl<C: CellName> Scanner<C> {
         ensures made { MakesNone self.old self.new }
         ensures begins { Begins self.old.log self.new.log }
         ensures ok { IfOk result (λ snapshot. EntersOnce self.old self.new
-            × (number ≤ length self.new.log) × (snapshot.number ≡ number)
+            × (number ≤ puts_in self.new.log) × (snapshot.number ≡ number)
             × (tables_of snapshot.catalog ≡ version self.new.log number)) }
         ensures err { IfErr result (λ fault.
-            ((fault ≡ VersionUnknown) × EntersOnce self.old self.new × (length self.new.log < number))
+            ((fault ≡ VersionUnknown) × EntersOnce self.old self.new × (puts_in self.new.log < number))
             ⊎ ((fault ≡ OutOfMemory) × MayEnter self.old self.new)) }
     {
         let store = self.enter()?;
-        if number > store.history.len() {
+        if number > store.history.puts() {
             return Err(Fault::VersionUnknown);
         }
         Ok(store.version(number)?)
     }
 
-    // Whether what was told has no fewer puts than the seat has seen. It then goes on from these.
+    // Whether what was told has no fewer entries than the seat has seen. It then goes on from these.
     pub(crate) fn is_within(&self, told: &Told<C>) -> bool
         ensures { MatchBool result (Begins self.now.log told.now) (Begins told.now self.now.log) }
     {
@@ -164,7 +164,7 @@ impl<C: CellName> Scanner<C> {
     // One put more was made through the seat, and is counted.
     pub(crate) fn count_made(&mut self, tally: &mut Tally<C>, put: snapshot::Snapshot<Put>)
         ensures tally { tally.new ≡ tally.old + 1 }
-        ensures made { self.new ≡ seat self.old.log self.old.entered self.old.enters (self.old.made ++ put_of put.value ∷ []) }
+        ensures made { self.new ≡ seat self.old.log self.old.entered self.old.enters (self.old.made ++ added (put_of put.value) ∷ []) }
     {
         let before = mem::replace(&mut self.made, none_made());
         self.made = one_more(before, put);

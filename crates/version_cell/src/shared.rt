@@ -1,10 +1,11 @@
 //! A putter that threads share under one lock.
 
 ghost use Rattle.std.specs.Prelude.{◌≡◌, [], length, IfOk};
+ghost use Rattle.table_versions.specs.Log.{puts_in, Begins, IsLog};
 ghost use Rattle.table_versions.specs.Stored.{put_of};
 ghost use Rattle.table_versions.specs.Valid.{IsPut};
 ghost use Rattle.version_cell.specs.Puts.{CountsPut, IsAnswered, PutsBehind};
-ghost use Rattle.version_cell.specs.Seats.{Begins, MakesNone};
+ghost use Rattle.version_cell.specs.Seats.{MakesNone};
 
 use crate::book::CellName;
 use crate::gathered::Gathered;
@@ -19,8 +20,8 @@ use std::sync::{Mutex, Wait};
 use std::thread;
 use table_versions::Put;
 
-// Who publishes, and how many puts were made through all seats. Whenever the lock is free the log has so many: each put of
-// it was made through a seat, and counted once.
+// Who publishes, and how many entries were made through all seats. Whenever the lock is free the log has so many: each entry
+// of it was made through a seat, and counted once.
 #[derive(Drop)]
 struct Counting<C: CellName, R: Wait + Drop> {
     publisher: Publisher<C, R>,
@@ -35,7 +36,7 @@ impl<C: CellName, R: Wait + Drop> Counting<C, R> {
         ensures answered { IsAnswered result self.old.publisher (put_of put) self.new.publisher }
         ensures put { PutsBehind result seat.old (put_of put) seat.new }
         ensures made { CountsPut result seat.old (put_of put) seat.new }
-        ensures number { IfOk result (λ number. number ≡ length seat.new.log) }
+        ensures number { IfOk result (λ number. number ≡ puts_in seat.new.log) }
         ensures typed { IfOk result (λ _. IsPut (put_of put)) }
         ensures begins { Begins seat.old.log seat.new.log }
         ensures enters { (seat.new.enters ≡ seat.old.enters) × (seat.new.entered ≡ seat.old.entered) }
@@ -58,7 +59,7 @@ fn put_and_learn<C: CellName, R: Wait + Drop>(
     requires within { Begins seat.old.log publisher.old }
     ensures answered { IsAnswered result publisher.old (put_of put) publisher.new }
     ensures put { PutsBehind result seat.old (put_of put) seat.new }
-    ensures receipt { IfOk result (λ receipt. (receipt.number ≡ length seat.new.log)
+    ensures receipt { IfOk result (λ receipt. (receipt.number ≡ puts_in seat.new.log)
         × (receipt.put.value ≡ put)) }
     ensures typed { IfOk result (λ _. IsPut (put_of put)) }
     ensures begins { Begins seat.old.log seat.new.log }
@@ -106,7 +107,7 @@ impl<C: CellName, R: Wait + Drop> SharedPutter<C, R> {
     ) -> Result<u64, Fault>
         ensures put { PutsBehind result seat.old (put_of put) seat.new }
         ensures made { CountsPut result seat.old (put_of put) seat.new }
-        ensures number { IfOk result (λ number. number ≡ length seat.new.log) }
+        ensures number { IfOk result (λ number. number ≡ puts_in seat.new.log) }
         ensures typed { IfOk result (λ _. IsPut (put_of put)) }
         ensures begins { Begins seat.old.log seat.new.log }
         ensures enters { (seat.new.enters ≡ seat.old.enters) × (seat.new.entered ≡ seat.old.entered) }
@@ -123,7 +124,9 @@ impl<C: CellName, R: Wait + Drop> SharedPutter<C, R> {
     }
 
     /// The log so far, for seats to learn. It waits for the lock, and takes no memory.
-    pub fn tell(&self, rt: &impl Wait) -> Told<C> {
+    pub fn tell(&self, rt: &impl Wait) -> Told<C>
+        ensures { IsLog result }
+    {
         self.counting.lock(rt).publisher.tell()
     }
 
@@ -136,14 +139,15 @@ impl<C: CellName, R: Wait + Drop> SharedPutter<C, R> {
         Gathered::new(publisher.tell(), tally.none())
     }
 
-    /// The whole log, where all seats of the cell are done with: it goes on from all that they had seen, and has as many puts
-    /// as were made through them.
+    /// The whole log, where all seats of the cell are done with: it goes on from all that they had seen, and has as many
+    /// entries as were made through them.
     ///
     /// No seat is ever ahead of the log, so the lock is held once; were one, it would be let go, and asked for again.
     pub fn whole_log(&self, rt: &impl Wait, all: Gathered<C>) -> Told<C>
         requires { all.seats ≡ C.parts }
         ensures begins { Begins all.log result }
         ensures counted { length result ≡ all.made }
+        ensures is_log { IsLog result }
     {
         let Gathered { told, mut share } = all;
         for _ in rt.forever() {

@@ -1,11 +1,11 @@
 //! What readers take: all versions so far, beside the log that they are of.
 
-ghost use Rattle.std.specs.Prelude.{◌≡◌, ◌≢◌, ◌≤◌, ◌++◌, ◌∷◌, [], length, map, IfOk, IfErr, IsOk, Err};
+ghost use Rattle.std.specs.Prelude.{◌≡◌, ◌≢◌, ◌≤◌, ◌++◌, ◌∷◌, [], map, IfOk, IfErr, IsOk, Err};
 ghost use Rattle.std.specs.Arc.{arc_value};
 ghost use Rattle.scan_base.specs.Reading.{RefusesFirst};
 ghost use Rattle.scan_base.specs.declared.fault.Fault.TheVariants.{OutOfMemory};
 ghost use Rattle.scan_base.specs.Limits.{most_commits};
-ghost use Rattle.table_versions.specs.Database.{database_of, version};
+ghost use Rattle.table_versions.specs.Log.{added, puts_of, puts_in, database_of, version};
 ghost use Rattle.table_versions.specs.Stored.{put_of, tables_of};
 ghost use Rattle.table_versions.specs.Valid.{IsPut};
 ghost use Rattle.version_cell.specs.Puts.{after_log};
@@ -28,12 +28,12 @@ use version_index::VersionIndex;
 pub(crate) struct Store {
     pub(crate) index: Arc<VersionIndex>,
     pub(crate) history: History,
-    pub ghost kept: { map tables_of (arc_value index) ≡ versions_of history.seen.log },
+    pub ghost kept: { map tables_of (arc_value index) ≡ versions_of (puts_of history.seen.log) },
 }
 
 impl Store {
     pub(crate) fn new(index: Arc<VersionIndex>, history: History) -> Store
-        requires { map tables_of (arc_value index) ≡ versions_of history.seen.log }
+        requires { map tables_of (arc_value index) ≡ versions_of (puts_of history.seen.log) }
         ensures { result.history ≡ history }
     {
         Store { index, history }
@@ -49,16 +49,16 @@ impl Store {
 
     // The newest version.
     pub(crate) fn newest(&self) -> &Snapshot
-        ensures number { result.now.number ≡ length self.now.history.seen.log }
+        ensures number { result.now.number ≡ puts_in self.now.history.seen.log }
         ensures tables { tables_of result.now.catalog ≡ database_of self.now.history.seen.log }
-        ensures few { length self.now.history.seen.log ≤ most_commits }
+        ensures few { puts_in self.now.history.seen.log ≤ most_commits }
     {
         self.index.newest()
     }
 
     // The version of a number that was reached.
     pub(crate) fn version(&self, number: u64) -> Result<Snapshot, AllocError>
-        requires { number ≤ length self.now.history.seen.log }
+        requires { number ≤ puts_in self.now.history.seen.log }
         ensures number { IfOk result (λ snapshot. snapshot.number ≡ number) }
         ensures tables { IfOk result (λ snapshot. tables_of snapshot.catalog
             ≡ version self.now.history.seen.log number) }
@@ -69,7 +69,7 @@ impl Store {
     // The versions after a put, behind a handle.
     pub(crate) fn after(&self, alloc: Global, put: Put) -> Result<Arc<VersionIndex>, Fault>
         ensures ok { IfOk result (λ index. map tables_of (arc_value index)
-            ≡ versions_of (self.now.history.seen.log ++ put_of put ∷ [])) }
+            ≡ versions_of (puts_of (self.now.history.seen.log ++ added (put_of put) ∷ []))) }
         ensures accepted { IfOk result (λ _. IsOk (after_log self.now.history.seen.log (put_of put))) }
         ensures typed { IfOk result (λ _. IsPut (put_of put)) }
         ensures err { IfErr result (λ fault. fault ≢ OutOfMemory

@@ -1,4 +1,4 @@
-//! How many puts were made through all seats of a cell.
+//! How many entries were made through all seats of a cell.
 
 ghost use Rattle.std.specs.Prelude.{◌≡◌, ◌<◌, ◌+◌};
 
@@ -6,7 +6,7 @@ use crate::book::CellName;
 use std::marker::Model;
 use std::sync::ledger::{Book, Share};
 
-// The number of puts that were made through all seats. Each seat has a share of it. It has no bytes.
+// The number of entries that were made through all seats. Each seat has a share of it. It has no bytes.
 #[derive(Drop)]
 pub(crate) struct Tally<C: CellName> {
     book: Book<C>,
@@ -28,7 +28,7 @@ impl<C: CellName> Tally<C> {
         Tally { book, none }
     }
 
-    // One put more was made through the seat with this share.
+    // One entry more was made through the seat with this share.
     pub(crate) fn count(&mut self, share: &mut Share<C>)
         requires { 0 < share.old.parts }
         ensures total { self.new ≡ self.old + 1 }

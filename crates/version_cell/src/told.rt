@@ -1,7 +1,7 @@
 //! What one thread tells another of the log.
 
-ghost use Rattle.std.specs.Prelude.{◌≡◌, length, MatchBool};
-ghost use Rattle.version_cell.specs.Seats.{Begins};
+ghost use Rattle.std.specs.Prelude.{◌≡◌, MatchBool};
+ghost use Rattle.table_versions.specs.Log.{puts_in, Begins};
 
 use crate::book::{CellName, History};
 use std::marker::{Model, PhantomData};
@@ -14,10 +14,10 @@ pub struct Told<C: CellName> {
 }
 
 impl<C: CellName> Model for Told<C> {
-    ghost use Rattle.std.specs.Prelude.{◌≡◌, List};
-    ghost use Rattle.table_versions.specs.Database.{Put};
+    ghost use Rattle.std.specs.Prelude.{◌≡◌};
+    ghost use Rattle.table_versions.specs.Log.{Log};
 
-    ghost Value = { List Put };
+    ghost Value = { Log };
 
     ghost view = { λ t. t.history.seen.log };
 
@@ -44,12 +44,12 @@ impl<C: CellName> Told<C> {
 
     /// How many puts the log has: the number of its newest version.
     pub fn number(&self) -> u64
-        ensures { result ≡ length self.now }
+        ensures { result ≡ puts_in self.now }
     {
-        self.history.len()
+        self.history.puts()
     }
 
-    // Whether the other has no fewer puts. It then begins with this.
+    // Whether the other has no fewer entries. It then begins with this.
     pub(crate) fn is_within(&self, other: &Told<C>) -> bool
         ensures { MatchBool result (Begins self.now other.now) (Begins other.now self.now) }
     {

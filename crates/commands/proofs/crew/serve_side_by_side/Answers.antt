@@ -9,4 +9,4 @@ returns g c =
     all_served g.L.Listen.accepts c.args.crew.now.service.options c.args.crew.now.service.turns.now.name c.args.crew.now.service.turns.now.most c.whole_log.result
     c.args.workers.items c.work_side_by_side.new.workers _ c.first_of-first.result.0
     (written c.args.workers.items c.work_side_by_side.new.workers c.args.workers.len (search rules) (search rules)) (search rules) each
-    c.first_of-first.result.1.log f.within c.whole_log.ensures.begins (search rules) f.drawn f.first
+    c.first_of-first.result.1.log f.within c.whole_log.ensures.begins c.whole_log.ensures.is_log (search rules) f.drawn f.first

@@ -1,8 +1,9 @@
-use Rattle.std.proofs.Common.{map, arith}
+use Rattle.std.proofs.Common.{[], map, arith}
 use Rattle.table_versions.proofs.Tables.{versions_are_databases}
+use Rattle.table_versions.specs.Log.{puts_of}
 use Rattle.flight_core.specs.Event.{asked_in}
 use Rattle.flight_core.proofs.Running.{runs_meet_headline}
-use Rattle.flight_core.proofs.Runs.{run_more, whole_run, refusals_leave_nothing}
+use Rattle.flight_core.proofs.Runs.{run_more, whole_run, refusals_leave_nothing, run_is_log, none_is_log}
 use Rattle.flight_core.proofs.machine.run.Goals as goal
 
 pub loop-event-preserved : goal.loop-event-preserved
@@ -17,7 +18,7 @@ returns-clause-ok c =
     let replies = c.loop-event.replies.items in
     let log = c.loop-event.plain in
     let run = whole_run c.args.events.now replies log c.loop-event.event-index (omega (arith, c.loop-event-test.false)) c.loop-event.invariant.run in
-    (log, run, versions_are_databases log c.loop-event.invariant.puts, refusals_leave_nothing asked replies log run)
+    (log, run, run_is_log [] asked replies log none_is_log run, versions_are_databases (puts_of log) c.loop-event.invariant.puts, refusals_leave_nothing asked replies log run)
 
 pub returns-clause-headline : goal.returns-clause-headline
 returns-clause-headline c =

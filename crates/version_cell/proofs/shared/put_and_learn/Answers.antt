@@ -1,7 +1,7 @@
-use Rattle.std.proofs.Common.{◌≡◌, ◌⊎◌, sym, rules, length, subst, IfOk}
+use Rattle.std.proofs.Common.{◌≡◌, ◌⊎◌, sym, rules, subst, IfOk}
+use Rattle.table_versions.specs.Log.{Log, puts_in, Begins}
 use Rattle.table_versions.specs.Stored.{put_of}
 use Rattle.version_cell.specs.Puts.{IsAnswered}
-use Rattle.version_cell.specs.Seats.{Log, Begins}
 use Rattle.version_cell.proofs.Fronts.{goes_on, learns_all}
 use Rattle.version_cell.proofs.shared.put_and_learn.Given as given
 use Rattle.version_cell.proofs.shared.put_and_learn.Goals as goal
@@ -29,5 +29,5 @@ returns-clause-put g c =
 
 pub returns-clause-receipt : goal.returns-clause-receipt
 returns-clause-receipt g c =
-    subst (λ (next : Log). IfOk c.put-answer.result (λ receipt. (receipt.number ≡ length next) × (receipt.put.value ≡ c.args.put)))
+    subst (λ (next : Log). IfOk c.put-answer.result (λ receipt. (receipt.number ≡ puts_in next) × (receipt.put.value ≡ c.args.put)))
     (sym (learnt g c)) c.put-answer.ensures.receipt

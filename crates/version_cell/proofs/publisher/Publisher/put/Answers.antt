@@ -1,13 +1,16 @@
 use Rattle.std.proofs.lemmas.Result.{err_from_is_err_and}
 use Rattle.table_versions.specs.Stored.{put_of}
 use Rattle.version_cell.specs.Puts.{after_log}
-use Rattle.version_cell.proofs.Versions.{first_for, none_first}
+use Rattle.version_cell.proofs.Versions.{few_accepted, first_for, none_first}
 use Rattle.version_cell.proofs.publisher.Publisher.put.Goals as goal
 
-pub returns-in_err-store-clause-first : goal.returns-in_err-store-clause-first
-returns-in_err-store-clause-first g c =
+pub returns-in_err-index-clause-first : goal.returns-in_err-index-clause-first
+returns-in_err-index-clause-first g c =
     let p = err_from_is_err_and c.from_residual.result c.from_residual.ensures.1 in
-    rw (p.1, p.2) (first_for _ _ c.in_err-store.field-0.0 _ c.in_err-store.ensures.first)
+    rw (p.1, p.2) (first_for _ _ c.in_err-index.field-0.0 _ c.in_err-index.ensures.first)
 
 pub returns-clause-first : goal.returns-clause-first
-returns-clause-first g c = none_first _ (after_log c.args.self.now (put_of c.args.put)) c.in_ok-store.ensures.accepted
+returns-clause-first g c = none_first _ (after_log c.args.self.now (put_of c.args.put)) c.in_ok-index.ensures.accepted
+
+pub commit-store-requires-clause-few : goal.commit-store-requires-clause-few
+commit-store-requires-clause-few g c = few_accepted c.args.self.now (put_of c.args.put) c.in_ok-index.ensures.accepted

@@ -1,5 +1,6 @@
 use Rattle.std.proofs.Common.{◌≡◌, map, arith, Ok}
 use Rattle.std.proofs.lemmas.Result.{err_from_is_err_and}
+use Rattle.table_versions.specs.Log.{puts_of}
 use Rattle.table_versions.specs.Stored.{put_of, tables_of}
 use Rattle.version_cell.specs.Puts.{after_log}
 use Rattle.version_cell.specs.Versions.{versions_of}
@@ -9,7 +10,7 @@ use Rattle.version_cell.proofs.shown.Store.after.Goals as goal
 pub with-requires : goal.with-requires
 with-requires c =
     let log = c.args.self.now.history.seen.log in
-    let kept : map tables_of c.deref.result.now ≡ versions_of log = rw c.deref.ensures c.args.self.now.kept in
+    let kept : map tables_of c.deref.result.now ≡ versions_of (puts_of log) = rw c.deref.ensures c.args.self.now.kept in
     let accepts : after_log log (put_of c.args.put) ≡ Ok (tables_of c.in_ok-catalog.catalog) =
     rw (c.newest.ensures.tables, c.newest.ensures.number) at c.in_ok-catalog.ensures.rows in
     let few = few_before log (put_of c.args.put) (tables_of c.in_ok-catalog.catalog) accepts in
@@ -18,7 +19,7 @@ with-requires c =
 pub returns-clause-ok : goal.returns-clause-ok
 returns-clause-ok c =
     let log = c.args.self.now.history.seen.log in
-    let kept : map tables_of c.deref.result.now ≡ versions_of log = rw c.deref.ensures c.args.self.now.kept in
+    let kept : map tables_of c.deref.result.now ≡ versions_of (puts_of log) = rw c.deref.ensures c.args.self.now.kept in
     let accepts : after_log log (put_of c.args.put) ≡ Ok (tables_of c.in_ok-catalog.catalog) =
     rw (c.newest.ensures.tables, c.newest.ensures.number) at c.in_ok-catalog.ensures.rows in
     rw (c.in_ok-new.ensures.ok, c.in_ok-index.ensures)

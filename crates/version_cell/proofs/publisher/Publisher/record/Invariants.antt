@@ -1,0 +1,4 @@
+use Rattle.version_cell.proofs.publisher.Publisher.record.Given as goal
+
+abbrev pub invariant-loop : goal.invariant-loop
+invariant-loop g l = (goal.iterator-loop g).can_next l.iterator' × (goal.iterator-loop g).is_finite l.iterator'
