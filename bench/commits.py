@@ -7,10 +7,10 @@ processor time is the server's own as the system counts it. Each answer is compa
 the least of some runs, and what the server holds more behind the 1,000 puts. Build the program first:
 `cd crates/flightscan && rt run -- pipe < stdin > /dev/null`.
 
-    python3 bench/commits.py            # some ten seconds a run
-    python3 bench/commits.py --runs 1
+    python3 bench/commits.py [--program PATH] [--runs N]        # some ten seconds a run
 """
 
+import argparse
 import pathlib
 import struct
 import subprocess
@@ -23,6 +23,7 @@ sys.path[:0] = [str(ROOT / "scripts"), str(ROOT / "vectors/arrow")]
 
 from built import program  # noqa: E402
 from layout import written  # noqa: E402
+from measured import Measured  # noqa: E402
 from trees import batch, field, integer, schema  # noqa: E402
 from wire import call, chunk, descriptor, packed, record_message, scalar  # noqa: E402
 
@@ -70,8 +71,8 @@ CASES = (
 class Server:
     """A `flightscan pipe`, whose answers are read in a thread of their own."""
 
-    def __init__(self):
-        self.child = subprocess.Popen([program(), "pipe"], stdin=subprocess.PIPE, stdout=subprocess.PIPE)
+    def __init__(self, path):
+        self.child = subprocess.Popen([path, "pipe"], stdin=subprocess.PIPE, stdout=subprocess.PIPE)
 
     def answer(self, calls):
         """Makes the calls, and says whether each was answered as it has to be."""
@@ -99,9 +100,9 @@ class Server:
         return self.child.wait()
 
 
-def measure(before):
+def measure(path, before):
     """Seconds and bytes for each of the measured puts, behind the others."""
-    server = Server()
+    server = Server(path)
     right = server.answer(before)
     seconds, held = server.seconds(), server.held()
     right = server.answer([one_row()] * MEASURED) and right
@@ -111,14 +112,18 @@ def measure(before):
     return took / MEASURED, more / MEASURED
 
 
-def main(words):
-    runs = int(words[words.index("--runs") + 1]) if "--runs" in words else 5
+def main():
+    parser = argparse.ArgumentParser(description=__doc__, formatter_class=argparse.RawDescriptionHelpFormatter)
+    parser.add_argument("--program", help="the built program (that of the repository)")
+    parser.add_argument("--runs", type=int, default=5, help="of how many runs the least is taken (5)")
+    words = parser.parse_args()
+    path, measured = program(words.program), Measured(words.program)
     print(f"{BEGIN}\n\n| An append of one row | microseconds | bytes held |\n|---|---:|---:|")
     for name, before in CASES:
-        found = [measure(before) for _ in range(runs)]
+        found = [measure(path, before) for _ in range(words.runs)]
         print(f"| {name} | {min(took for took, _ in found) * 1e6:.1f} | {min(more for _, more in found):,.0f} |")
-    print(f"\n{END}")
+    print(f"\n{measured.line()}\n\n{END}")
 
 
 if __name__ == "__main__":
-    main(sys.argv[1:])
+    main()

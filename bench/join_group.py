@@ -32,6 +32,7 @@ sys.path[:0] = [str(ROOT / "scripts"), str(ROOT / "vectors/arrow")]
 
 from built import program  # noqa: E402
 from layout import written  # noqa: E402
+from measured import Measured  # noqa: E402
 from reader import Table  # noqa: E402
 from trees import BOOL, batch, field, integer, schema  # noqa: E402
 from wire import END, call, chunk, descriptor, fields, packed, query_handle, record_message, record_open  # noqa: E402
@@ -308,7 +309,7 @@ def main():
     parser.add_argument("--rows", type=int, default=ROWS, help="of a table, at most (1000000)")
     parser.add_argument("case", nargs="*", help="cases whose names begin so (all)")
     words = parser.parse_args()
-    path = program(words.program)
+    path, measured = program(words.program), Measured(words.program)
     wanted = [case for case in cases(words.rows) if not words.case or case.name.startswith(tuple(words.case))]
     print("| | rows | puts, ms | fetch, ms | C++, ms | times the C++ | peak MB | C++ peak MB |")
     print("|---|---:|---:|---:|---:|---:|---:|---:|")
@@ -316,6 +317,7 @@ def main():
         folder = pathlib.Path(name)
         plain = compiled(folder)
         done = [measure(case, path, plain, folder, words.runs) for case in wanted]
+    print(f"\n{measured.line()}")
     return 0 if all(done) else 1
 
 

@@ -32,6 +32,7 @@ sys.path[:0] = [str(ROOT / "scripts"), str(ROOT / "vectors/arrow")]
 
 from built import program  # noqa: E402
 from layout import written  # noqa: E402
+from measured import Measured  # noqa: E402
 from reader import Table  # noqa: E402
 from trees import batch, field, integer, schema  # noqa: E402
 from wire import call, chunk, descriptor, fields, packed, query_handle, ticket  # noqa: E402
@@ -199,11 +200,12 @@ def main():
     parser.add_argument("--keys", type=int, default=KEYS, help="the rows of one key (8192, the most)")
     parser.add_argument("case", nargs="*", help="cases whose names begin so (all)")
     words = parser.parse_args()
-    path = program(words.program)
+    path, measured = program(words.program), Measured(words.program)
     chosen = [case for case in cases(words.keys) if not words.case or case.name.startswith(tuple(words.case))]
     print("| | rows given | ends | seconds | of the processor | peak MB |\n|---|---:|---|---:|---:|---:|")
     with tempfile.TemporaryDirectory() as name:
         done = [measure(case, path, pathlib.Path(name)) for case in chosen]
+    print(f"\n{measured.line()}")
     return 0 if all(done) else 1
 
 

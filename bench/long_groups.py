@@ -24,6 +24,7 @@ sys.dont_write_bytecode = True
 from largest_join import BATCH_ROWS, BODY_BYTES, HELD_MB, Wrong, demand, read_answer  # (it also says where the others lie)
 from built import program
 from layout import written
+from measured import Measured
 from reader import Table
 from trees import UTF8, batch, dictionary, encoding, field, integer, schema, texts
 from wire import call, chunk, descriptor, fields, packed, query_handle, ticket
@@ -84,7 +85,7 @@ def main():
     parser.add_argument("--program", help="the built program (that of the repository)")
     parser.add_argument("--groups", type=int, default=GROUPS, help="how many groups there are (20000)")
     words = parser.parse_args()
-    command, why = [program(words.program), "pipe"], None
+    command, measured, why = [program(words.program), "pipe"], Measured(words.program), None
     with tempfile.TemporaryFile() as given:
         given.write(put(words.groups) + call(b"DoGet", [ticket(query_handle(1, 0, 2 * words.groups, QUERY))]))
         given.seek(0)
@@ -102,6 +103,7 @@ def main():
         why = f"{held:.0f} MB held"
     print(why or f"{words.groups:,} groups, {words.groups * len(LONG) / 1e6:,.0f} MB of text: {seconds:.1f} seconds, "
           f"{usage.ru_utime + usage.ru_stime:.1f} of the processor, {held:.0f} MB held at most")
+    print(f"\n{measured.line()}")
     return 1 if why else 0
 
 

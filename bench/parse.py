@@ -1,12 +1,15 @@
 #!/usr/bin/env python3
 """How long `flightscan pipe` takes to parse texts of 16 KiB of several kinds.
 
+    python3 bench/parse.py [--program PATH]
+
 It makes its own inputs: 1,000 fetches of one text each, at version 0, where no table is, so that a sentence is parsed
 and then refused at its first table. The texts are parsed whole, unless their row says otherwise. The row `nothing`
 is a text whose first byte is no token: what a fetch costs without parsing. It is taken off the other rows. Times are
 of the processor, in user mode, the best of five runs. Build the program first, as for `pipe.py`.
 """
 
+import argparse
 import os
 import pathlib
 import subprocess
@@ -17,6 +20,7 @@ sys.dont_write_bytecode = True
 sys.path.insert(0, str(pathlib.Path(__file__).resolve().parent.parent / "scripts"))
 
 from built import program  # noqa: E402
+from measured import Measured  # noqa: E402
 from wire import call, query_handle, ticket  # noqa: E402
 
 BYTES = 16_384
@@ -89,7 +93,10 @@ def user_seconds(path, source):
 
 
 def main():
-    path = program(*sys.argv[1:2])
+    parser = argparse.ArgumentParser(description=__doc__, formatter_class=argparse.RawDescriptionHelpFormatter)
+    parser.add_argument("--program", help="the built program (that of the repository)")
+    words = parser.parse_args()
+    path, measured = program(words.program), Measured(words.program)
     print(f"{'text of 16,384 bytes':32}{'milliseconds':>13}")
     spent = {}
     with tempfile.TemporaryDirectory() as folder:
@@ -100,6 +107,7 @@ def main():
                 out.write(fetch(text) * CALLS)
             spent[name] = min(user_seconds(path, source) for _ in range(RUNS)) / CALLS * 1_000
             print(f"{name:32}{spent[name] - (spent['nothing'] if name != 'nothing' else 0):13.3f}", flush=True)
+    print(f"\n{measured.line()}")
 
 
 if __name__ == "__main__":

@@ -1,12 +1,15 @@
 #!/usr/bin/env python3
 """How fast `flightscan pipe` takes a put and gives it back, and how much memory it holds.
 
+    python3 bench/pipe.py [--program PATH]
+
 It makes its own inputs: one put of one column in batches of 65,536 rows, and one fetch of all of them; once of
 Int64, once of texts of which some are null, and once of a dictionary of texts. It runs the built program on each
 between two pipes, and `cat` on the same bytes between the same pipes, and prints the figures of both. Build first:
 `cd crates/flightscan && rt run -- pipe < stdin > /dev/null`.
 """
 
+import argparse
 import os
 import pathlib
 import struct
@@ -21,6 +24,7 @@ sys.path[:0] = [str(ROOT / "scripts"), str(ROOT / "vectors/arrow")]
 
 from built import program  # noqa: E402
 from layout import written  # noqa: E402
+from measured import Measured  # noqa: E402
 from trees import UTF8, batch, dictionary, encoding, field, integer, schema, texts  # noqa: E402
 from wire import END, call, chunk, descriptor, packed, query_handle, record_message, record_open, ticket  # noqa: E402
 
@@ -143,9 +147,14 @@ def measure(program, column, folder):
 
 
 def main():
+    parser = argparse.ArgumentParser(description=__doc__, formatter_class=argparse.RawDescriptionHelpFormatter)
+    parser.add_argument("--program", help="the built program (that of the repository)")
+    words = parser.parse_args()
+    path, measured = program(words.program), Measured(words.program)
     with tempfile.TemporaryDirectory() as folder:
         for column in (Longs(), Texts(), Words()):
-            measure(program(), column, folder)
+            measure(path, column, folder)
+    print(measured.line())
 
 
 if __name__ == "__main__":

@@ -26,6 +26,7 @@ from dataclasses import dataclass
 import serve
 from built import program
 from loopback import Connection, Server
+from measured import Measured
 
 REPLACE = 3
 STEP = 2_654_435_761  # so that the rows that the filter keeps lie apart
@@ -183,11 +184,11 @@ def main():
     parser.add_argument("--seconds", type=float, default=1.5, help="that a case lasts (1.5)")
     parser.add_argument("--rows", type=int, default=8_000_000, help="of the table (8000000)")
     words = parser.parse_args()
-    path, found = program(words.program), {}
+    path, measured, found = program(words.program), Measured(words.program), {}
     with tempfile.TemporaryDirectory() as name:
         folder = pathlib.Path(name)
         client, steps = serve.compiled(folder), {step.name: step for step in steps_of(folder, words.rows)}
-        serve.learn_sizes(path, False, steps.values())
+        serve.learn_sizes(path, steps.values())
         for case in [case for _ in range(words.runs) for case in cases()]:
             run = run_case(path, client, words.seconds, steps, case)
             found.setdefault((case.fetch, case.readers, case.writer), []).append(run)
@@ -195,7 +196,7 @@ def main():
             print_readers(found, steps, fetch)
         print_puts(found)
         print_memory(found, steps)
-    print(f"{os.cpu_count()} processors; load at the end: {os.getloadavg()[0]:.1f}.")
+    print(f"\n{measured.line()}")
 
 
 if __name__ == "__main__":

@@ -26,6 +26,7 @@ sys.path[:0] = [str(ROOT / "scripts"), str(ROOT / "vectors/arrow")]
 from built import program  # noqa: E402
 from layout import written  # noqa: E402
 from loopback import LINE, Connection, Server  # noqa: E402
+from measured import Measured  # noqa: E402
 from trees import batch, field, integer, schema  # noqa: E402
 from wire import END, call, chunk, descriptor, packed, query_handle, record_message, record_open, scalar  # noqa: E402
 from wire import ticket  # noqa: E402
@@ -166,6 +167,7 @@ def main():
     parser.add_argument("--megabytes", type=int, default=300, help="of the large put (300; at most 400)")
     parser.add_argument("--fetches", type=int, default=10_000, help="small ones (10000)")
     words = parser.parse_args()
+    measured = Measured(words.program)
     path, rows = program(words.program), words.megabytes * 1_000_000 // (WIDTH * len(COLUMNS))
     with tempfile.TemporaryDirectory() as name:
         folder = pathlib.Path(name)
@@ -175,6 +177,7 @@ def main():
         ours, plain = zip(*runs)
         print_calls(steps, ours, plain)
         print_memory(steps, ours)
+    print(f"\n{measured.line()}")
 
 
 if __name__ == "__main__":

@@ -108,7 +108,7 @@ class Vectors:
 
 
 STEPS = [Script("pages", ["--check"], of_program=False), Script("session"), Script("serving"), Script("each_allocation"),
-         Script("interleavings", ["--count", "300"]), Script("sqlite_answers", ["--count", "200"]),
+         Script("interleavings", ["--count", "200"]), Script("sqlite_answers", ["--count", "100"]),
          Script("drive", ["--seconds", "20", "--connections", "16"]), ColumnAnswers(), FirstRun(), Vectors()]
 
 
@@ -119,7 +119,8 @@ def passes(step, path):
         said, why = step.run(path), None
     except Failed as failed:
         said, why = None, failed
-    print(f"{step.name}: {'FAILED' if why else 'passed'}, {time.monotonic() - began:.0f} s{f' ({said})' if said else ''}", flush=True)
+    how = "FAILED" if why else "passed"
+    print(f"{step.name}: {how}, {time.monotonic() - began:.0f} s{f' ({said})' if said else ''}", flush=True)
     if why:
         print(why, flush=True)
     return why is None

@@ -7,19 +7,20 @@
     python3 scripts/gate_cost.py --write LOG      sets it into bench/README.md, in the place of the one that is there
 
 The gate's own output says which crates were proved, which edits were refused and which programs ran, but no time. So
-the first two also look at the gate's processes, three times a second, and write what each cost into LOG.times: a line
-for each, with its crate, its kind, its processor seconds, and when it began and ended. They change nothing of what the
-gate does. Without that file the table has the counts alone, and says so.
+the first two also look at the gate's processes, three times a second, and write what each cost into LOG.times: first what
+was measured, when and where, then a line for each process, with its crate, its kind, its processor seconds, and when it
+began and ended. They change nothing of what the gate does. Without that file the table has the counts alone, and says so.
 
 The kinds: `proof` (the crate from nothing), `tests` (the crate once more, with its test functions, and their run),
 `wrong bodies` (each edit of must-fail, and the crate once more over what they left), `programs` (compiling and running
 what a program's proof admitted).
 
-A second of a shared core is no fixed measure, so the budget is kept in seconds of the day on which it was set: the
-proofs of some crates that hardly changed since took YARD_SECONDS then, and what they take in this run says how long a
-second of that day is now.
+The budget stands here, and nowhere else (WHOLE_MINUTES and the constants below it); the table says it. It is in seconds of
+a quiet machine. A second of a shared core is no fixed measure: the proofs of a few crates that hardly change (YARD) take
+YARD_SECONDS on the quiet machine, and what they take in this run says how much slower this run was.
 """
 
+import argparse
 import collections
 import os
 import pathlib
@@ -29,13 +30,17 @@ import subprocess
 import sys
 import time
 
-TOP = pathlib.Path(__file__).resolve().parent.parent
+sys.dont_write_bytecode = True
+
+from measured import TOP, Measured  # noqa: E402
+
 KINDS = ("proof", "tests", "wrong bodies", "programs")
 BEGIN, END = "<!-- made by scripts/gate_cost.py -->", "<!-- end -->"
-WHOLE_MINUTES, PROOF_SECONDS, MOST_EDITS = 110, 270, 7
-# (chained: a gate whose seconds were told by crates that changed since measured these)
+WHOLE_MINUTES, NOW_MINUTES = 150, 115  # with all stages that are planned, and of what is built today
+PROOF_SECONDS, TEST_SECONDS, MOST_EDITS = 270, 10, 70  # of a crate's proof, of a test function, and wrong bodies in all
+# (a gate that took 327 processor minutes beside others proved these in 830 s; on a quiet machine it took 159 minutes)
 YARD = ("proto_wire", "flatbuf", "flight_proto", "sql_text", "sql_parse", "endpoint_split")
-YARD_SECONDS = 459
+YARD_SECONDS = 404
 PAUSE = 0.33
 TICKS = os.sysconf("SC_CLK_TCK")
 PAGE = os.sysconf("SC_PAGE_SIZE")
@@ -91,11 +96,11 @@ def task_of(number):
 
 
 class Watch:
-    """What each task of the gate cost so far."""
+    """What each task of the gate of a checkout cost so far."""
 
-    def __init__(self, root):
+    def __init__(self, root, folder):
         self.root, self.began, self.tasks, self.most_held = root, time.time(), {}, 0
-        self.whole = 0.0
+        self.whole, self.measured = 0.0, Measured(folder=folder)
 
     def look(self):
         """Takes note of the processes that there are below the root. Returns whether the root is there."""
@@ -124,10 +129,11 @@ class Watch:
             self.tasks[top] = first, now, max(before, seconds)
         return True
 
-    def write(self, path, whole):
-        """Writes what was seen, a line for each task, and the sums behind them."""
-        lines = [f"{crate}\t{kind}\t{seconds:.2f}\t{first:.1f}\t{last:.1f}"
-                 for (_, _, crate, kind), (first, last, seconds) in sorted(self.tasks.items(), key=lambda it: it[1][0])]
+    def write(self, path, whole, is_child):
+        """Writes what was seen: what was measured, a line for each task, and the sums behind them."""
+        lines = [f"measured\t{self.measured.line(0.0 if is_child else whole)}"]
+        lines += [f"{crate}\t{kind}\t{seconds:.2f}\t{first:.1f}\t{last:.1f}"
+                  for (_, _, crate, kind), (first, last, seconds) in sorted(self.tasks.items(), key=lambda it: it[1][0])]
         lines.append(f"all\t{whole:.2f}\t{time.time() - self.began:.1f}\t{self.most_held}")
         path.write_text("\n".join(lines) + "\n")
 
@@ -136,21 +142,21 @@ def run_gate(log):
     """Runs the gate and watches it. Returns its status."""
     with open(log, "w") as out:
         gate = subprocess.Popen([str(TOP / ".ci/run")], cwd=TOP, stdin=subprocess.DEVNULL, stdout=out, stderr=out)
-        watch = Watch(gate.pid)
+        watch = Watch(gate.pid, TOP)
         while gate.poll() is None:
             watch.look()
             time.sleep(PAUSE)
     used = resource.getrusage(resource.RUSAGE_CHILDREN)
-    watch.write(pathlib.Path(f"{log}.times"), used.ru_utime + used.ru_stime)
+    watch.write(pathlib.Path(f"{log}.times"), used.ru_utime + used.ru_stime, True)
     return gate.returncode
 
 
 def watch_gate(number, log):
     """Watches a gate that runs already, until it ends."""
-    watch = Watch(number)
+    watch = Watch(number, os.readlink(f"/proc/{number}/cwd"))
     while watch.look():
         time.sleep(PAUSE)
-    watch.write(pathlib.Path(f"{log}.times"), watch.whole)
+    watch.write(pathlib.Path(f"{log}.times"), watch.whole, False)
     return 0
 
 
@@ -182,19 +188,21 @@ def counts_of(log):
 
 
 def times_of(path):
-    """The processor seconds of each crate and kind, how many tasks they were, and the sums."""
-    seconds, whole = collections.Counter(), None
+    """The processor seconds of each crate and kind, the sums, and what was measured."""
+    seconds, whole, measured = collections.Counter(), None, "Measured: revision, date and machine were not written down."
     for line in path.read_text().splitlines():
         fields = line.split("\t")
         if fields[0] == "all":
             whole = float(fields[1]), float(fields[2]), int(fields[3])
+        elif fields[0] == "measured":
+            measured = fields[1]
         else:
             seconds[fields[0], fields[1]] += float(fields[2])
-    return seconds, whole
+    return seconds, whole, measured
 
 
 def slower_by(seconds):
-    """How many seconds of this run are one of the day on which the budget was set."""
+    """How many seconds of this run are one of the quiet machine."""
     return sum(seconds[name, "proof"] for name in YARD) / YARD_SECONDS or 1.0
 
 
@@ -205,11 +213,8 @@ def order_of(names):
     return [name for name in listed if name in names] + sorted(set(names) - set(listed))
 
 
-def table_of(log):
-    """The table, in markdown."""
-    counts, last = counts_of(pathlib.Path(log).read_text(errors="replace"))
-    path = pathlib.Path(f"{log}.times")
-    seconds, whole = times_of(path) if path.exists() else (collections.Counter(), None)
+def rows_of(counts, seconds):
+    """The rows of the table."""
     names = order_of(set(counts) | {crate for crate, _ in seconds})
     lines = ["| Crate | " + " | ".join(KINDS) + " | all | functions | tests | edits |", "|---" + "|---:" * (len(KINDS) + 4) + "|"]
 
@@ -219,24 +224,42 @@ def table_of(log):
         cells += [str(sum(counts[name][what] for name in among) or "") for what in ("functions", "tests", "edits")]
         return re.sub(r"\|  (?=\|)", "| ", f"| {title} | {' | '.join(cells)} |")
 
-    lines += [row(name, [name]) for name in names] + [row("**all**", names), ""]
+    return lines + [row(name, [name]) for name in names] + [row("**all**", names)]
+
+
+def over_budget(counts, seconds, whole, slower):
+    """What is more than the budget has."""
+    over = [f"{name}'s proof" for name in order_of(counts) if seconds[name, "proof"] > PROOF_SECONDS * slower]
+    over += [f"{name}'s tests" for name in order_of(counts)
+             if seconds[name, "tests"] > TEST_SECONDS * slower * max(counts[name]["tests"], 1)]
+    edits = sum(of_crate["edits"] for of_crate in counts.values())
+    over += [f"{edits} wrong bodies"] if edits > MOST_EDITS else []
+    return over + (["the whole"] if whole and whole[0] > 60 * NOW_MINUTES * slower else [])
+
+
+def table_of(log):
+    """The table, in markdown, with the budget and what was measured above it."""
+    counts, last = counts_of(pathlib.Path(log).read_text(errors="replace"))
+    path = pathlib.Path(f"{log}.times")
+    none = collections.Counter(), None, f"No times: there is no {path}."
+    seconds, whole, measured = times_of(path) if path.exists() else none
     slower = slower_by(seconds)
-    if whole is None:
-        lines.append(f"No times: the gate's output has none, and there is no file {path}.")
-    else:
+    lines = [f"The budget, in processor time of a quiet machine: at most {WHOLE_MINUTES} minutes with all stages, and {NOW_MINUTES} "
+             f"for what is built today; {PROOF_SECONDS} seconds for the proof of a crate, {TEST_SECONDS} for a test function; "
+             f"{MOST_EDITS} wrong bodies in all.", "", measured, "", *rows_of(counts, seconds), ""]
+    if whole is not None:
         total, wall, held = whole
         lines.append(f"{total / 60:.0f} processor minutes in {wall / 60:.0f} minutes, with at most {held / 1e9:.1f} GB held at once. "
                      f"{total - sum(seconds.values()):.0f} seconds of them are the gate's own reading and layout checks, and what "
                      "ended between two looks.")
-        lines.append(f"The proofs of {', '.join(YARD)} took {slower:.2f} times what they took when the budget was set. So by that "
-                     f"day's seconds the gate costs **{total / 60 / slower:.0f} processor minutes**.")
-    weak = [f"{name} {counts[name]['only because']}" for name in names if counts[name]["only because"]]
+        lines.append(f"{len(YARD)} crates that hardly change ({', '.join(YARD)}) prove in {YARD_SECONDS} s on the quiet machine. "
+                     f"This run was {slower:.2f} times slower, so its {total / 60:.0f} minutes are "
+                     f"**{total / 60 / slower:.0f} minutes of the quiet machine**.")
+    weak = [f"{name} {counts[name]['only because']}" for name in order_of(counts) if counts[name]["only because"]]
     lines.append(f"The gate's last line: `{last}`."
                  + (f" Refused only because a written proof no longer fits: {', '.join(weak)}." if weak else ""))
-    over = [f"{name}'s proof" for name in names if seconds[name, "proof"] > PROOF_SECONDS * slower]
-    over += [f"{counts[name]['edits']} edits of {name}" for name in names if counts[name]["edits"] > MOST_EDITS]
-    over += ["the whole"] if whole and whole[0] > 60 * WHOLE_MINUTES * slower else []
-    lines += [f"Over the budget: {', '.join(over)}."] if over else []
+    over = over_budget(counts, seconds, whole, slower)
+    lines += [f"Over the budget: {', '.join(over)}."] if over else ["All of it is within the budget."] if whole else []
     return "\n".join(lines)
 
 
@@ -248,17 +271,20 @@ def write_table(log):
     page.write_text(f"{front}{begin}\n\n{table_of(log)}\n\n{end}{behind}")
 
 
-def main(words):
-    if len(words) == 2 and words[0] == "--run":
-        return run_gate(words[1])
-    if len(words) == 3 and words[0] == "--watch" and words[1].isdigit():
-        return watch_gate(int(words[1]), words[2])
-    if len(words) == 2 and words[0] == "--write":
-        return write_table(words[1])
-    if len(words) == 1 and not words[0].startswith("-"):
-        return print(table_of(words[0]))
-    print(__doc__, file=sys.stderr)
-    return 2
+def main():
+    parser = argparse.ArgumentParser(description=__doc__, formatter_class=argparse.RawDescriptionHelpFormatter)
+    how = parser.add_mutually_exclusive_group()
+    how.add_argument("--run", action="store_true", help="run the gate, its output into LOG")
+    how.add_argument("--watch", type=int, metavar="PID", help="watch the gate that runs as PID")
+    how.add_argument("--write", action="store_true", help="set the table into bench/README.md")
+    parser.add_argument("log", metavar="LOG", help="the gate's output")
+    words = parser.parse_args()
+    if words.run:
+        return run_gate(words.log)
+    if words.watch:
+        return watch_gate(words.watch, words.log)
+    return write_table(words.log) if words.write else print(table_of(words.log))
 
 
-sys.exit(main(sys.argv[1:]))
+if __name__ == "__main__":
+    sys.exit(main())

@@ -14,13 +14,18 @@ TICKS = os.sysconf("SC_CLK_TCK")
 LEAST_SHARE = 0.1  # of a core: what others take below that is called nothing
 
 
-def revision(folder=TOP):
-    """The last commit of a checkout, and whether its crates have changes that are not committed."""
-    def told(*words):
-        return subprocess.run(["git", "-C", folder, *words], check=True, capture_output=True, text=True).stdout.strip()
+def git(folder, *words):
+    return subprocess.run(["git", "-C", folder, *words], check=True, capture_output=True, text=True).stdout.strip()
 
-    changed = told("status", "--porcelain", "--", "crates", "crates.txt")
-    return told("rev-parse", "--short=8", "HEAD") + (" with changes" if changed else "")
+
+def revision(folder):
+    """The last commit of the checkout in which a folder lies, and whether its crates have changes that are not committed."""
+    try:
+        top = git(folder, "rev-parse", "--show-toplevel")
+    except subprocess.CalledProcessError:
+        return "of a program outside any checkout"
+    changed = git(top, "status", "--porcelain", "--", "crates", "crates.txt")
+    return git(top, "rev-parse", "--short=8", "HEAD") + (" with changes" if changed else "")
 
 
 def today():
@@ -52,8 +57,8 @@ class Measured:
     """A measurement that begins now. Children that are still running when it is told are counted as others."""
 
     def __init__(self, program=None, folder=TOP):
-        """Of a program that was named by its path nobody knows the revision."""
-        self.revision = f"revision of the program {pathlib.Path(program).name} not known" if program else f"revision {revision(folder)}"
+        """A program that is named by its path has the revision of the checkout in which it lies."""
+        self.revision = revision(pathlib.Path(program).resolve().parent if program else folder)
         self.began, self.busy, self.own = time.monotonic(), busy(), own()
 
     def line(self, watched=0.0):
@@ -61,4 +66,4 @@ class Measured:
         seconds = max(time.monotonic() - self.began, 0.01)
         others = (busy() - self.busy - (own() - self.own) - watched) / seconds
         load = f"others took {others:.1f} cores beside it" if others >= LEAST_SHARE else "nothing beside it"
-        return f"Measured: {self.revision}, {today()}, {machine()}, {load}."
+        return f"Measured: revision {self.revision}, {today()}, {machine()}, {load}."

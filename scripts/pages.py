@@ -8,8 +8,8 @@ Made: the column "Stands on" of docs/ARCHITECTURE.md, from crates.txt; and the l
 what scripts/trusted_base.py counts and what public contracts cite. Looked at, in each page: that the files and headings
 that links lead to are there; that a name in a link to a source file stands in that file; that files and wrong bodies
 named in backticks are there; that each wrong body has its row in the README of its crate, with a link to where it
-stands; that code which is shown stands so in a source file; that the tour of docs/SEMANTICS.md
-leaves out no file to believe; and that README.md has at most 10,000 bytes.
+stands, and fits the code; that code which is shown stands so in a source file; that the tour of docs/SEMANTICS.md leaves
+out no file to believe; and that README.md has at most 10,000 bytes.
 """
 
 import pathlib
@@ -215,6 +215,24 @@ def look_at_wrong_bodies(amiss):
     amiss.extend(f"crates/{crate}/README.md: no wrong body {folder}/{name}" for crate, folder, name in sorted(named - found))
 
 
+def look_at_edits(amiss):
+    """Tells which wrong bodies no longer fit the code: each text that one takes away has to stand once in its file."""
+    for edit in [*sorted(CRATES.glob("*/must-fail/*.edit")), *sorted(TOP.glob("plants/*/*.edit"))]:
+        crate = CRATES / edit.relative_to(CRATES if CRATES in edit.parents else TOP / "plants").parts[0]
+        texts, file, old = {}, None, ""
+        for line in edit.read_text().splitlines():
+            kind, _, said = line.partition(": ")
+            if kind == "file":
+                file = crate / said.strip()
+                texts.setdefault(file, file.read_text() if file.exists() else "")
+            elif kind == "old":
+                old = said
+                if texts.get(file, "").count(old) != 1:
+                    amiss.append(f"{edit.relative_to(TOP)}: its text stands {texts.get(file, '').count(old)} times: {old.strip()}")
+            elif line.startswith("new:") and file in texts:
+                texts[file] = texts[file].replace(old, line[len("new:"):].removeprefix(" "))
+
+
 def look_at_tour(page, text, amiss):
     """Tells which files the tour of SEMANTICS names that are not there, and which of those to believe it leaves out."""
     toured = set()
@@ -268,6 +286,7 @@ def main(words):
         look_at_links(page, text, amiss)
         look_at_names(page, text, amiss)
     look_at_wrong_bodies(amiss)
+    look_at_edits(amiss)
     listed = stands_on()
     of_kit = {name for below in listed.values() for name in below} - set(listed)
     said = (TOP / "docs/ARCHITECTURE.md").read_text()

@@ -60,7 +60,8 @@ def tried(crate, clone):
     shutil.rmtree(edits, ignore_errors=True)
     shutil.copytree(clone / "plants" / crate, edits)
     found = {}
-    with subprocess.Popen(["rt", "must-fail", crate], cwd=clone, stdout=subprocess.PIPE, stderr=subprocess.STDOUT, text=True) as ran:
+    ends = {"stdout": subprocess.PIPE, "stderr": subprocess.STDOUT, "text": True}
+    with subprocess.Popen(["rt", "must-fail", crate], cwd=clone, **ends) as ran:
         for line in ran.stdout:
             print(line, end="", flush=True)
             verdict = VERDICT.match(line)

@@ -21,7 +21,8 @@ TOP = pathlib.Path(__file__).resolve().parent.parent
 if not (TOP / "crates.txt").exists():
     TOP = pathlib.Path.cwd()
 
-STARTS = (("commands", "pipe"), ("commands", "serve"), ("flight_calls", "served_meets_headline"), ("commands", "server_meets_headline"))
+STARTS = (("commands", "pipe"), ("commands", "serve"), ("flight_calls", "served_meets_headline"),
+          ("commands", "server_meets_headline"))
 # (what these define is a standard's, or the grammar's; what all other crates define is our own machine, and what queries mean)
 FORMATS = {"proto_wire", "flatbuf", "bitmap", "arrow_schema", "arrays", "ipc_batch", "ipc_stream", "flight_proto", "sql_text",
            "grammar", "sql_parse"}

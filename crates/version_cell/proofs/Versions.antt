@@ -59,7 +59,8 @@ pub none_first : {X Z : Type 0} (result : Result X Fault) (read : Result Z Fault
 none_first result (Ok z) accepts = tt
 none_first result (Err cause) accepts = let no : false ≡ true = accepts in cc
 
-accepted_is : {Z : Type 0} (read : Result Z Fault) → IsOk read → (z : Z) × (read ≡ Ok z)
+-- what an accepted put gives
+pub accepted_is : {Z : Type 0} (read : Result Z Fault) → IsOk read → (z : Z) × (read ≡ Ok z)
 accepted_is (Ok z) accepts = (z, refl)
 accepted_is (Err cause) accepts = let no : false ≡ true = accepts in cc
 
