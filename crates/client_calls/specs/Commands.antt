@@ -2,6 +2,8 @@
 use Rattle.std.specs.Prelude.{ℕ, ℤ, pos, negsuc, List, [], ◌∷◌, map, false, Some, None, Result, Ok, Err}
 use Rattle.scan_base.specs.declared.fault.Fault.{Fault}
 use Rattle.scan_base.specs.declared.fault.Fault.TheVariants.{BadProto}
+use Rattle.scan_base.specs.declared.put_options.PutMode.{PutMode}
+use Rattle.scan_base.specs.declared.put_options.PutMode.TheVariants.{Create, Append, Replace}
 use Rattle.scan_base.specs.Reading.{◌>>=◌, Gives, GivesUnlessMemory, RefusesFirst}
 use Rattle.flight_proto.specs.Any.{AnySaid, any_bytes, type_url_of}
 use Rattle.flight_proto.specs.FlightData.{DataSaid, data_bytes}
@@ -13,21 +15,19 @@ use Rattle.flight_proto.specs.PutResult.{rows_put_of}
 use Rattle.flight_proto.specs.StatementIngest.{OptionsSaid, StatementSaid, statement_bytes}
 use Rattle.flight_info.specs.Payloads.{Payload}
 use Rattle.ipc_stream.specs.declared.message.IpcMessage.{IpcMessage}
-use Rattle.client_calls.specs.declared.putting.Mode.{Mode}
-use Rattle.client_calls.specs.declared.putting.Mode.TheVariants.{Create, Append, Replace}
 use Rattle.client_calls.specs.declared.putting.Target.{Target}
 
 -- ---- a put
 
 -- What is done where the table is absent, where 1 is CREATE and 2 is FAIL, and where it is there, where 1 is FAIL, 2 is
 -- APPEND and 3 is REPLACE.
-abbrev pub options_of_mode : Mode → OptionsSaid
+abbrev pub options_of_mode : PutMode → OptionsSaid
 options_of_mode Create = record { if_not_exist = 1; if_exists = 1 }
 options_of_mode Append = record { if_not_exist = 2; if_exists = 2 }
 options_of_mode Replace = record { if_not_exist = 1; if_exists = 3 }
 
 -- the command to put rows into a table
-abbrev pub ingest_command : List ℕ → Mode → StatementSaid
+abbrev pub ingest_command : List ℕ → PutMode → StatementSaid
 ingest_command table mode = record {
   table_definition_options = Some (options_of_mode mode);
   table = table;
@@ -38,7 +38,7 @@ ingest_command table mode = record {
 }
 
 -- the Any of the command
-abbrev pub ingest_any : List ℕ → Mode → AnySaid
+abbrev pub ingest_any : List ℕ → PutMode → AnySaid
 ingest_any table mode =
     record { type_url = type_url_of statement_ingest_name; value = statement_bytes (ingest_command table mode) }
 

@@ -17,4 +17,4 @@ pub use crate::call::Method;
 pub use crate::connection::Connection;
 pub use crate::failure::Failure;
 pub use crate::fetching::fetch;
-pub use crate::putting::{Mode, Target, put};
+pub use crate::putting::{Target, put};

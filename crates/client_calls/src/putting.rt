@@ -20,19 +20,8 @@ use flight_proto::{
 };
 use grpc_frame::{Input, Output};
 use ipc_stream::IpcMessage;
-use scan_base::Fault;
+use scan_base::{Fault, PutMode};
 use std::alloc::{AllocError, Global};
-
-/// What is asked of a put.
-#[derive(Clone, Copy, Debug, PartialEq, Eq)]
-pub enum Mode {
-    /// Make the table, which must be absent.
-    Create,
-    /// Add rows to the table, which must be there.
-    Append,
-    /// Make the table, in the place of one that is there.
-    Replace,
-}
 
 /// Where the rows of a put go.
 #[derive(Clone, Copy, Debug, PartialEq, Eq)]
@@ -40,26 +29,24 @@ pub struct Target<'a> {
     /// The table's name.
     pub table: &'a str,
     /// What is done with the table.
-    pub mode: Mode,
+    pub mode: PutMode,
 }
 
 // The URL of the command.
 const INGEST_URL: &str = "type.googleapis.com/arrow.flight.protocol.sql.CommandStatementIngest";
 
-impl Mode {
-    // The options of the table's definition: CREATE and FAIL, FAIL and APPEND, or CREATE and REPLACE.
-    fn options(self) -> TableDefinitionOptions
-        ensures { options_said result ≡ options_of_mode self }
-    {
-        let (if_not_exist, if_exists) = match self {
-            Mode::Create => (1, 1),
-            Mode::Append => (2, 2),
-            Mode::Replace => (1, 3),
-        };
-        TableDefinitionOptions {
-            if_not_exist,
-            if_exists,
-        }
+// The options of the table's definition: CREATE and FAIL, FAIL and APPEND, or CREATE and REPLACE.
+fn options(mode: PutMode) -> TableDefinitionOptions
+    ensures { options_said result ≡ options_of_mode mode }
+{
+    let (if_not_exist, if_exists) = match mode {
+        PutMode::Create => (1, 1),
+        PutMode::Append => (2, 2),
+        PutMode::Replace => (1, 3),
+    };
+    TableDefinitionOptions {
+        if_not_exist,
+        if_exists,
     }
 }
 
@@ -69,7 +56,7 @@ fn command_head(alloc: Global, target: Target<'_>) -> Result<Vec<u8>, AllocError
 {
     let mut value = Vec::new(alloc);
     CommandStatementIngest {
-        table_definition_options: Some(target.mode.options()),
+        table_definition_options: Some(options(target.mode)),
         table: target.table,
         schema: "",
         catalog: "",

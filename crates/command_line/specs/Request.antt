@@ -4,11 +4,11 @@ use Rattle.std.specs.Str.{bytes_eq}
 use Rattle.clap.specs.Words.{Row, Text, first_of, one_of}
 use Rattle.clap.specs.Simple.{subcommand_of}
 use Rattle.clap.specs.declared.builder.value_parser.ValueParser.{ValueParser}
+use Rattle.scan_base.specs.declared.put_options.PutMode.{PutMode}
+use Rattle.scan_base.specs.declared.put_options.PutMode.TheVariants.{Create, Append, Replace}
 use Rattle.command_line.specs.Line.{program}
 use Rattle.command_line.specs.Numbers.{SaysNumber, parts_taken, workers_taken, seats_taken, accept_taken, streams_taken, port_taken}
 use Rattle.command_line.specs.declared.number.Numbers.{Numbers}
-use Rattle.command_line.specs.declared.request.Mode.{Mode}
-use Rattle.command_line.specs.declared.request.Mode.TheVariants.{Create, Append, Replace}
 use Rattle.command_line.specs.declared.request.Serving.{Serving}
 use Rattle.command_line.specs.declared.request.Request.{Request}
 use Rattle.command_line.specs.declared.request.Request.TheVariants.{Pipe, Serve, Put, Query, Tables}
@@ -23,7 +23,7 @@ abbrev pub text_given : List Row → Text → Text
 text_given rows name = unwrap_or (first_of name rows) []
 
 -- the mode of a name; clap's definitions refuse every other name
-abbrev pub mode_named : Text → Mode
+abbrev pub mode_named : Text → PutMode
 mode_named name =
     if bytes_eq name (codes "append") then Append else
     if bytes_eq name (codes "replace") then Replace else

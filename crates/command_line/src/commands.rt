@@ -1,9 +1,9 @@
 //! The commands and their options, as clap reads them.
 
-ghost use Rattle.std.specs.Prelude.{◌≡◌, false, IfOk};
+ghost use Rattle.std.specs.Prelude.{◌≡◌, false, IfOk, IsOkAnd};
 ghost use Rattle.clap.specs.declared.builder.command.Command.TheViews.{out-Command};
 ghost use Rattle.clap.specs.declared.builder.value_parser.ValueParser.TheVariants.{Names};
-ghost use Rattle.clap.specs.Words.{app_of, rule_of, with_rule};
+ghost use Rattle.clap.specs.Words.{AddsSubcommand, app_of, new_app, rule_of, with_rule};
 ghost use Rattle.command_line.specs.Line as line;
 
 use crate::number::{ACCEPT, PARTS, PORT, SEATS, STREAMS, WORKERS, number_option};
@@ -76,14 +76,38 @@ fn sql<'a>(alloc: Global) -> Arg<'a>
         .required(true)
 }
 
-// The command with the options of a fetch, which say how it is cut and who works for it.
-fn with_fetch_options<'a>(alloc: Global, command: Command<'a>) -> Result<Command<'a>, AllocError>
-    ensures shape { IfOk result (λ more. app_of more
-        ≡ with_rule (with_rule (app_of command.entry) line.parts_rule) line.workers_rule) }
+// The command of this name. Help says what it does, and shows an example.
+fn command<'a>(alloc: Global, name: &'a str, about: &'a str, example: &'a str) -> Command<'a>
+    ensures shape { app_of result ≡ new_app name.entry.now }
+    ensures local { (out-Command result).has_globals ≡ false }
+{
+    Command::new(alloc, name).about(about).after_help(example)
+}
+
+// The command with an option more.
+fn with_one<'a>(command: Command<'a>, option: Arg<'a>) -> Result<Command<'a>, AllocError>
+    requires { option.global ≡ false }
+    ensures shape { IfOk result (λ more. app_of more ≡ with_rule (app_of command.entry) (rule_of option.entry)) }
     ensures local { IfOk result (λ more. (out-Command command.entry).has_globals ≡ false
         → (out-Command more).has_globals ≡ false) }
 {
-    command.arg(parts(alloc))?.arg(workers(alloc))
+    command.arg(option)
+}
+
+// The command with two options more.
+fn with_two<'a>(
+    command: Command<'a>,
+    first: Arg<'a>,
+    second: Arg<'a>,
+) -> Result<Command<'a>, AllocError>
+    requires first { first.global ≡ false }
+    requires second { second.global ≡ false }
+    ensures shape { IfOk result (λ more. app_of more
+        ≡ with_rule (with_rule (app_of command.entry) (rule_of first.entry)) (rule_of second.entry)) }
+    ensures local { IfOk result (λ more. (out-Command command.entry).has_globals ≡ false
+        → (out-Command more).has_globals ≡ false) }
+{
+    command.arg(first)?.arg(second)
 }
 
 // `pipe`: one connection, from standard input to standard output.
@@ -91,10 +115,13 @@ fn pipe<'a>(alloc: Global) -> Result<Command<'a>, AllocError>
     ensures shape { IfOk result (λ command. app_of command ≡ line.pipe) }
     ensures local { IfOk result (λ command. (out-Command command).has_globals ≡ false) }
 {
-    let command = Command::new(alloc, "pipe")
-        .about("Serves one connection: standard input to standard output")
-        .after_help("Example: flightscan pipe --parts 4 < calls.bin > answers.bin");
-    with_fetch_options(alloc, command)
+    let about = "Serves one connection: standard input to standard output";
+    let example = "Example: flightscan pipe --parts 4 < calls.bin > answers.bin";
+    with_two(
+        command(alloc, "pipe", about, example),
+        parts(alloc),
+        workers(alloc),
+    )
 }
 
 // `serve`: connections to a port.
@@ -102,17 +129,17 @@ fn serve<'a>(alloc: Global) -> Result<Command<'a>, AllocError>
     ensures shape { IfOk result (λ command. app_of command ≡ line.serve) }
     ensures local { IfOk result (λ command. (out-Command command).has_globals ≡ false) }
 {
+    let about = "Serves connections to a port of 127.0.0.1, and prints which port it is";
+    let example = "Example: flightscan serve --port 4711 --parts 4\nPort 0 takes one that is free.";
     let many = "Connections at once, 1 to 32 [default: 4]";
     let end = "Ends after A connections, 0: no end [default: 0]";
-    let command = Command::new(alloc, "serve")
-        .about("Serves connections to a port of 127.0.0.1, and prints which port it is")
-        .after_help(
-            "Example: flightscan serve --port 4711 --parts 4\nPort 0 takes one that is free.",
-        )
-        .arg(port(alloc))?
-        .arg(number_option(alloc, "seats", SEATS, "S", many))?
-        .arg(number_option(alloc, "accept", ACCEPT, "A", end))?;
-    with_fetch_options(alloc, command)
+    let at_port = with_one(command(alloc, "serve", about, example), port(alloc))?;
+    let seated = with_two(
+        at_port,
+        number_option(alloc, "seats", SEATS, "S", many),
+        number_option(alloc, "accept", ACCEPT, "A", end),
+    )?;
+    with_two(seated, parts(alloc), workers(alloc))
 }
 
 // `put`: an Arrow stream from standard input into a table, by a mode of these names.
@@ -120,16 +147,11 @@ fn put<'a>(alloc: Global, modes: &'a [&'a str]) -> Result<Command<'a>, AllocErro
     ensures shape { IfOk result (λ command. app_of command ≡ line.put (Names modes.entry)) }
     ensures local { IfOk result (λ command. (out-Command command).has_globals ≡ false) }
 {
-    Command::new(alloc, "put")
-        .about(
-            "Puts an Arrow IPC stream from standard input into a table, and prints its rows' number",
-        )
-        .after_help(
-            "Example: flightscan put --port 4711 --table trips --mode create < trips.arrows",
-        )
-        .arg(port(alloc))?
-        .arg(table(alloc))?
-        .arg(mode(alloc, modes))
+    let about =
+        "Puts an Arrow IPC stream from standard input into a table, and prints its rows' number";
+    let example = "Example: flightscan put --port 4711 --table trips --mode create < trips.arrows";
+    let at_port = with_one(command(alloc, "put", about, example), port(alloc))?;
+    with_two(at_port, table(alloc), mode(alloc, modes))
 }
 
 // `query`: the rows of an answer.
@@ -137,15 +159,13 @@ fn query<'a>(alloc: Global) -> Result<Command<'a>, AllocError>
     ensures shape { IfOk result (λ command. app_of command ≡ line.query) }
     ensures local { IfOk result (λ command. (out-Command command).has_globals ≡ false) }
 {
+    let about = "Prints the rows that a query answers, in lines whose cells stand apart by tabs";
+    let example =
+        "Example: flightscan query --port 4711 'SELECT town, COUNT(*) FROM trips GROUP BY town'";
     let many = "Connections that fetch, 1 to 16 [default: 1]";
-    Command::new(alloc, "query")
-        .about("Prints the rows that a query answers, in lines whose cells stand apart by tabs")
-        .after_help(
-            "Example: flightscan query --port 4711 'SELECT town, COUNT(*) FROM trips GROUP BY town'",
-        )
-        .arg(port(alloc))?
-        .arg(number_option(alloc, "streams", STREAMS, "K", many))?
-        .arg(sql(alloc))
+    let at_port = with_one(command(alloc, "query", about, example), port(alloc))?;
+    let streams = number_option(alloc, "streams", STREAMS, "K", many);
+    with_two(at_port, streams, sql(alloc))
 }
 
 // `tables`: the names of the tables.
@@ -153,10 +173,19 @@ fn tables<'a>(alloc: Global) -> Result<Command<'a>, AllocError>
     ensures shape { IfOk result (λ command. app_of command ≡ line.tables) }
     ensures local { IfOk result (λ command. (out-Command command).has_globals ≡ false) }
 {
-    Command::new(alloc, "tables")
-        .about("Prints the names of the tables, one a line")
-        .after_help("Example: flightscan tables --port 4711")
-        .arg(port(alloc))
+    let about = "Prints the names of the tables, one a line";
+    let example = "Example: flightscan tables --port 4711";
+    with_one(command(alloc, "tables", about, example), port(alloc))
+}
+
+// The command with one more below it, if that one could be made.
+fn with_below<'a>(
+    command: Command<'a>,
+    made: Result<Command<'a>, AllocError>,
+) -> Result<Command<'a>, AllocError>
+    ensures { IfOk result (λ more. IsOkAnd made.entry (λ below. AddsSubcommand command.entry below more)) }
+{
+    command.subcommand(made?)
 }
 
 /// The program and its commands, one of which has to be given. The modes of `put` have these names.
@@ -168,13 +197,12 @@ pub(crate) fn program<'a>(alloc: Global, modes: &'a [&'a str]) -> Result<Command
     ensures shape { IfOk result (λ command. app_of command ≡ line.program (Names modes.entry)) }
     ensures local { IfOk result (λ command. (out-Command command).has_globals ≡ false) }
 {
-    Command::new(alloc, "flightscan")
-        .about("Holds Arrow tables in memory, and scans them by SQL")
-        .after_help("`flightscan COMMAND --help` shows the options of a command, and an example.")
-        .subcommand_required(true)
-        .subcommand(pipe(alloc)?)?
-        .subcommand(serve(alloc)?)?
-        .subcommand(put(alloc, modes)?)?
-        .subcommand(query(alloc)?)?
-        .subcommand(tables(alloc)?)
+    let about = "Holds Arrow tables in memory, and scans them by SQL";
+    let help = "`flightscan COMMAND --help` shows the options of a command, and an example.";
+    let bare = command(alloc, "flightscan", about, help).subcommand_required(true);
+    let piping = with_below(bare, pipe(alloc))?;
+    let serving = with_below(piping, serve(alloc))?;
+    let putting = with_below(serving, put(alloc, modes))?;
+    let asking = with_below(putting, query(alloc))?;
+    with_below(asking, tables(alloc))
 }

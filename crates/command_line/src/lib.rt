@@ -15,7 +15,7 @@ mod request;
 
 use crate::commands::program;
 use crate::reading::request_of;
-pub use crate::request::{Mode, Request, Serving};
+pub use crate::request::{Request, Serving};
 use clap::Error;
 use std::alloc::Global;
 

@@ -6,8 +6,9 @@ ghost use Rattle.command_line.specs.Numbers as taken;
 ghost use Rattle.command_line.specs.Request.{Asks, IsGiven, IsServing, mode_named, text_given};
 
 use crate::number::{ACCEPT, PARTS, PORT, SEATS, STREAMS, WORKERS, number_of};
-use crate::request::{Mode, Request, Serving};
+use crate::request::{Request, Serving};
 use clap::ArgMatches;
+use scan_base::PutMode;
 
 // The port that is given.
 fn port_of(matches: &ArgMatches<'_>) -> u16
@@ -24,16 +25,16 @@ fn text_of<'a>(matches: &ArgMatches<'a>, name: &str) -> &'a str
 }
 
 // The mode that is given.
-fn mode_of(matches: &ArgMatches<'_>) -> Mode
+fn mode_of(matches: &ArgMatches<'_>) -> PutMode
     ensures { result ≡ mode_named (text_given (rows_of (found_of matches.now)) (codes "mode")) }
 {
     let name = text_of(matches, "mode");
     if name == "append" {
-        Mode::Append
+        PutMode::Append
     } else if name == "replace" {
-        Mode::Replace
+        PutMode::Replace
     } else {
-        Mode::Create
+        PutMode::Create
     }
 }
 

@@ -1,15 +1,6 @@
 //! What the command line asks for.
 
-/// What becomes of the table that is named by a put.
-#[derive(Clone, Copy, Debug, PartialEq, Eq)]
-pub enum Mode {
-    /// It is made, and must not be there.
-    Create,
-    /// Rows are added to it, and it must be there.
-    Append,
-    /// It is made, or takes the place of the one that is there.
-    Replace,
-}
+use scan_base::PutMode;
 
 /// How connections are served.
 #[derive(Clone, Copy, Debug, PartialEq, Eq)]
@@ -40,7 +31,7 @@ pub enum Request<'a> {
     Put {
         port: u16,
         table: &'a str,
-        mode: Mode,
+        mode: PutMode,
     },
     /// Prints the rows that a query answers, fetched over so many connections.
     Query {

@@ -1,8 +1,9 @@
 //! Command lines, and what they ask for.
 
-use command_line::{Mode, Request};
+use command_line::Request;
 use commands::words::read_words;
 use grpc_frame::MemoryOutput;
+use scan_base::PutMode;
 use std::alloc::{AllocError, Global};
 use std::test::Fail;
 
@@ -118,9 +119,9 @@ fn told(alloc: Global, request: Request<'_>) -> Result<String, AllocError> {
         }
         Request::Put { port, table, mode } => {
             let mode = match mode {
-                Mode::Create => "create",
-                Mode::Append => "append",
-                Mode::Replace => "replace",
+                PutMode::Create => "create",
+                PutMode::Append => "append",
+                PutMode::Replace => "replace",
             };
             format!(in alloc; "put {port} {table} {mode}")
         }

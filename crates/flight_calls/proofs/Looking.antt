@@ -8,7 +8,7 @@ use Rattle.flight_proto.specs.Wanted.{Wanted, wanted_in, rows_of, tables}
 use Rattle.table_versions.specs.Database.{Database}
 use Rattle.flight_info.specs.Infos.{handle_asked, only_rows, only_tables, short_enough, schema_wanted, InfoAt, SchemaAt}
 use Rattle.flight_info.specs.Payloads.{Payload}
-use Rattle.flight_info.specs.Replies.{refusal}
+use Rattle.flight_info.specs.Replies.{ReplyAt, refusal}
 use Rattle.fetch_stream.specs.Streams.{StreamAt}
 use Rattle.flight_core.specs.Asked.{schema, fetch}
 use Rattle.table_versions.specs.Log.{Log, database_of, puts_in}
@@ -30,23 +30,23 @@ schema_missed : (database : Database) (w : Result Wanted Fault) (fault : Fault) 
 schema_missed database (Err cause) fault is = (refl, ap Some is)
 schema_missed database (Ok wanted) fault is = (refl, λ other. absurd (other is))
 
+-- the reply is an answer to what is wanted of an info
+abbrev AnswersInfo : Log → Payload → ℕ → ReplyAt → Result Wanted Fault → Type 0
+AnswersInfo log payload parts reply wanted = InfoAt (database_of log) (puts_in log) payload parts wanted reply.payloads reply.fault
+
+-- what answers whatever a payload wants of an info answers what it asks
+pub info_answered : (log : Log) (payload : Payload) (parts : ℕ) (reply : ReplyAt) → AnswersInfo log payload parts reply (schema_wanted payload) → StepOn log (info_asked (wanted_in payload) payload parts) reply log
+info_answered log payload parts reply = by (wanted_in payload) refl
+  where
+    by : (w : Result Wanted Fault) → wanted_in payload ≡ w → AnswersInfo log payload parts reply (w >>= short_enough) → StepOn log (info_asked w payload parts) reply log
+    by (Err cause) e at = (refl, subst (λ (v : Result Wanted Fault). AnswersInfo log payload parts reply (v >>= only_rows >>= short_enough)) (sym e) at)
+    by (Ok (rows_of text)) e at = (refl, subst (λ (v : Result Wanted Fault). AnswersInfo log payload parts reply (v >>= only_rows >>= short_enough)) (sym e) at)
+    by (Ok tables) e at = (refl, subst (λ (v : Result Wanted Fault). AnswersInfo log payload parts reply (v >>= only_tables >>= short_enough)) (sym e) at)
+
 -- an info where memory was refused for a look
 pub info_refused : (log : Log) (payload : Payload) (parts : ℕ) (fault : Fault) → RefusedBy (schema_wanted payload) fault → StepOn log (info_asked (wanted_in payload) payload parts) (refusal fault) log
-info_refused log payload parts fault = by (wanted_in payload) refl
-  where
-    by : (w : Result Wanted Fault) → wanted_in payload ≡ w → RefusedBy (w >>= short_enough) fault → StepOn log (info_asked w payload parts) (refusal fault) log
-    by (Err cause) e is =
-        (refl, subst (λ (v : Result Wanted Fault). InfoAt (database_of log) (puts_in log) payload parts (v >>= only_rows >>= short_enough) [] (Some fault)) (sym e) (refl, ap Some is))
-    by (Ok (rows_of text)) e is = (
-      refl,
-      subst (λ (v : Result Wanted Fault). InfoAt (database_of log) (puts_in log) payload parts (v >>= only_rows >>= short_enough) [] (Some fault)) (sym e)
-          (info_missed (database_of log) (puts_in log) payload parts (short_enough (rows_of text)) fault is),
-    )
-    by (Ok tables) e is = (
-      refl,
-      subst (λ (v : Result Wanted Fault). InfoAt (database_of log) (puts_in log) payload parts (v >>= only_tables >>= short_enough) [] (Some fault)) (sym e)
-          (info_missed (database_of log) (puts_in log) payload parts (short_enough tables) fault is),
-    )
+info_refused log payload parts fault is =
+    info_answered log payload parts (refusal fault) (info_missed (database_of log) (puts_in log) payload parts (schema_wanted payload) fault is)
 
 -- and a schema
 pub schema_refused : (log : Log) (payload : Payload) (fault : Fault) → RefusedBy (schema_wanted payload) fault → StepOn log (schema payload) (refusal fault) log

@@ -8,11 +8,6 @@ use Rattle.flight_core.specs.Asked.{Asked}
 use Rattle.table_versions.specs.Log.{Log, puts_in, database_of}
 use Rattle.flight_core.specs.Machine.{StepOn}
 
--- the reply is a step at the log whose newest version this is
-abbrev pub AnswersAt : VersionAt → Asked → ReplyAt → Type 0
-AnswersAt version asked reply = (log : Log) → version.number ≡ puts_in log → tables_of version.catalog ≡ database_of log
-    → StepOn log asked reply log
-
 -- why what is read without memory is refused where memory is: for its own fault, or for want of memory
 abbrev pub RefusedBy : {X : Type 0} → Result X Fault → Fault → Type 0
 RefusedBy (Ok x) fault = fault ≡ OutOfMemory

@@ -15,13 +15,13 @@ ghost use Rattle.flight_calls.specs.Calls.{info_asked};
 ghost use Rattle.flight_calls.specs.Seats.{Learns};
 ghost use Rattle.flight_calls.specs.Reacts.{Reacts};
 ghost use Rattle.flight_calls.specs.Answered.{ReactsBy, FitsMessages};
-ghost use Rattle.flight_calls.specs.Stepping.{AnswersAt, RefusedBy};
+ghost use Rattle.flight_calls.specs.Stepping.{RefusedBy};
 
 use crate::answer::Answer;
 use crate::backend::Backend;
 use fetch_stream::{FetchStream, read_ticket, version_of};
 use flight_core::put_answer;
-use flight_info::{Reply, answer_info, answer_schema, answer_tables};
+use flight_info::{Reply, answer_schema, answer_wanted};
 use flight_proto::{Wanted, read_wanted};
 use scan_base::Fault;
 use sql_text::MOST_BYTES;
@@ -48,17 +48,6 @@ pub fn put_on<B: Backend>(alloc: Global, backend: &mut B, read: Result<Put, Faul
     }
 }
 
-// The answer to a GetFlightInfo at a version, by its command's kind.
-fn info_at(alloc: Global, snapshot: &Snapshot, payload: &[u8], parts: u32) -> Reply
-    ensures step { AnswersAt snapshot.now (info_asked (wanted_in payload.now) payload.now parts) result }
-    ensures fits { FitMessages result.payloads }
-{
-    match read_wanted(payload) {
-        Ok(Wanted::Tables) => answer_tables(alloc, snapshot, payload, parts),
-        Ok(Wanted::Rows(_)) | Err(_) => answer_info(alloc, snapshot, payload, parts),
-    }
-}
-
 // Why an info or a schema is refused where memory was refused for a look: for what is known without it, or for that.
 fn refusal_of(payload: &[u8]) -> Fault
     ensures { RefusedBy (schema_wanted payload.now) result }
@@ -77,7 +66,7 @@ pub fn info_on<B: Backend>(alloc: Global, backend: &mut B, payload: &[u8], parts
     ensures fits { FitMessages result.payloads }
 {
     match backend.current() {
-        Ok(snapshot) => info_at(alloc, &snapshot, payload, parts),
+        Ok(snapshot) => answer_wanted(alloc, &snapshot, payload, parts),
         Err(_) => Reply::refusal(alloc, refusal_of(payload)),
     }
 }

@@ -1,10 +1,10 @@
 -- Payloads come to a stream.
-use Rattle.std.proofs.Common.{◌≡◌, List, [], ◌∷◌, ◌++◌, map, Option, Some, None, Result, Ok, refl, sym, ap, subst, ◌∙◌, append-nil, append_assoc}
+use Rattle.std.proofs.Common.{◌≡◌, List, [], ◌∷◌, ◌++◌, map, Option, Some, None, Result, Ok, Err, refl, sym, ap, subst, ◌∙◌, append-nil, append_assoc}
 use Rattle.std.specs.List.{flat_map}
 use Rattle.std.proofs.lemmas.List.{map-append}
 use Rattle.scan_base.specs.declared.fault.Fault.{Fault}
 use Rattle.scan_base.specs.declared.fault.Fault.TheVariants.{BadBatch}
-use Rattle.scan_base.specs.Reading.{◌>>=◌, wanted}
+use Rattle.scan_base.specs.Reading.{◌>>=◌, wanted, RefusesFirst}
 use Rattle.scan_base.specs.Lists.{each}
 use Rattle.arrow_schema.specs.declared.header.HeaderKind.{HeaderKind}
 use Rattle.arrow_schema.specs.declared.header.HeaderKind.TheVariants as header
@@ -13,11 +13,12 @@ use Rattle.arrow_schema.specs.Header.{MessageAt, message_of}
 use Rattle.arrays.specs.Batch.{BatchAt, rows_of}
 use Rattle.flight_proto.specs.FlightData.{DataSaid, data_of}
 use Rattle.ipc_batch.specs.State.{Known, State}
-use Rattle.ipc_batch.specs.Said.{Sent, News, Rows, rows_in, next_news, news_in, news_of, batch_sent, known_after, Follows}
+use Rattle.ipc_batch.specs.Said.{Sent, News, Rows, rows_in, next_news, news_in, news_of, glance_of as message_glance, batch_sent, known_after, Follows}
+use Rattle.ipc_batch.proofs.Glances.{glances_come_first}
 use Rattle.ipc_batch.proofs.Lengths.{fine, both}
 use Rattle.ipc_batch.proofs.Messages.{first, joined, once}
 use Rattle.flight_info.specs.Payloads.{Payload, message_in, PayloadsSay}
-use Rattle.flight_client.specs.Stream.{StreamAt, Came, schema_said}
+use Rattle.flight_client.specs.Stream.{StreamAt, after_payload, glance_of, Came, schema_said}
 use Rattle.flight_client.specs.Laws.{StreamsHoldWhatIsSaid}
 
 -- ---- one payload more
@@ -49,6 +50,34 @@ came_news payloads payload old carried news carries tells came =
       each_more data_of payloads payload came.0 carried came.1 carries,
       subst (λ (messages : List Sent). Follows None messages news.state (old.rows ++ rows_in news.batch)) (sym (map-append message_in came.0 (carried ∷ []))) all,
     )
+
+-- ---- what a glance refuses
+
+-- what is refused at a glance is what the payload says
+pub glance_stops : (stream : StreamAt) (payload : Payload) (fault : Fault) → glance_of stream payload ≡ Err fault → after_payload stream payload ≡ Err fault
+unfolding glance_of after_payload
+glance_stops stream payload fault e = by (data_of payload) refl e
+  where
+    by : (read : Result DataSaid Fault) → data_of payload ≡ read → (read >>= λ carried. message_glance stream.state (message_in carried)) ≡ Err fault
+        → (read >>= λ carried. (news_of stream.state (message_in carried) >>= λ news. fine (stream_with stream news))) ≡ Err fault
+    by (Ok carried) is e = rw (glances_come_first stream.state (message_in carried) fault e) refl
+    by (Err one) is e = let same : one ≡ fault = cc in ap (λ (x : Fault). Err x) same
+
+payload_read : (stream : StreamAt) (payload : Payload) (carried : DataSaid) (news : News) → data_of payload ≡ Ok carried → news_of stream.state (message_in carried) ≡ Ok news → after_payload stream payload ≡ fine (stream_with stream news)
+unfolding after_payload
+payload_read stream payload carried news carries tells = rw (carries, tells) refl
+
+-- a payload that was read is not refused at a glance, whatever is answered
+pub glance_passes : {X : Type 0} (result : Result X Fault) (stream : StreamAt) (payload : Payload) (carried : DataSaid) (news : News) → data_of payload ≡ Ok carried → news_of stream.state (message_in carried) ≡ Ok news
+    → RefusesFirst result (glance_of stream payload)
+glance_passes result stream payload carried news carries tells = by (glance_of stream payload) (λ fault e. glance_stops stream payload fault e)
+  where
+    read : after_payload stream payload ≡ fine (stream_with stream news)
+    read = payload_read stream payload carried news carries tells
+
+    by : (glance : Result (Unit {0}) Fault) → ((fault : Fault) → glance ≡ Err fault → after_payload stream payload ≡ Err fault) → RefusesFirst result glance
+    by (Ok done) stops = tt
+    by (Err fault) stops = absurd (let one = stops fault refl in let both = read in let no : ⊥ = cc in no)
 
 -- what a stream of these batches is
 abbrev pub stream_of : State → List BatchAt → Option (Result (Unit {0}) Fault) → StreamAt

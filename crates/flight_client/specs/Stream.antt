@@ -7,7 +7,7 @@ use Rattle.scan_base.specs.Lists.{each}
 use Rattle.arrow_schema.specs.declared.schema.Schema.{Schema}
 use Rattle.flight_proto.specs.FlightData.{DataSaid, data_of}
 use Rattle.ipc_batch.specs.State.{State}
-use Rattle.ipc_batch.specs.Said.{Rows, rows_in, news_of, Follows}
+use Rattle.ipc_batch.specs.Said.{Rows, rows_in, news_of, glance_of as message_glance, Follows}
 use Rattle.flight_info.specs.Payloads.{Payload, message_in}
 use Rattle.flight_client.specs.Status.{StatusSays}
 
@@ -28,6 +28,10 @@ after_payload stream payload = do
   carried ← data_of payload
   news ← news_of stream.state (message_in carried)
   Ok (record stream { state = news.state; rows = stream.rows ++ rows_in news.batch })
+
+-- what is refused of a payload before anything grows or is cut: it is no FlightData, or its message is refused so
+unfoldable pub glance_of : StreamAt → Payload → Result (Unit {0}) Fault
+glance_of stream payload = data_of payload >>= λ carried. message_glance stream.state (message_in carried)
 
 -- These payloads came, one after another: each carries a message, and what they say is what the stream holds.
 abbrev pub Came : List Payload → StreamAt → Type 0

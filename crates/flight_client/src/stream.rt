@@ -2,15 +2,14 @@
 
 ghost use Rattle.std.specs.Prelude.{◌≡◌, ◌∷◌, ◌++◌, [], List, OnOk, OnErr};
 ghost use Rattle.scan_base.specs.Reading.{Gives, GivesUnlessMemory, RefusesFirst};
-ghost use Rattle.flight_proto.specs.FlightData.{data_of};
 ghost use Rattle.flight_info.specs.Payloads.{Payload};
-ghost use Rattle.flight_client.specs.Stream.{begun, after_payload, Came, Ends, schema_said};
+ghost use Rattle.flight_client.specs.Stream.{begun, after_payload, glance_of, Came, Ends, schema_said};
 
 use crate::status::status_end;
 use arrays::Batch;
 use arrow_schema::Schema;
 use bytes::Bytes;
-use flight_proto::FlightData;
+use flight_proto::{BorrowedData, FlightData};
 use ipc_batch::Reader;
 use scan_base::Fault;
 use std::alloc::Global;
@@ -59,16 +58,20 @@ impl Stream {
     /// The stream is as before then.
     /// - F4 (`Fault::BadProto`) where the payload is no FlightData.
     /// - Those of `ipc_batch::Reader::message` (F6, F7, F8, F12) for its message, also where its header is empty.
-    /// - F21 (`Fault::OutOfMemory`) where memory is refused, and the payload is a FlightData.
-    #[tactic(auto, unfolding(crate::specs::Stream::after_payload))]
+    /// - F21 (`Fault::OutOfMemory`) where memory is refused, and never for a payload that is no FlightData, nor for
+    ///   what `Reader::message` looks at first.
+    #[tactic(auto, unfolding(crate::specs::Stream::after_payload, crate::specs::Stream::glance_of))]
     pub fn message(&mut self, alloc: Global, payload: &Bytes) -> Result<(), Fault>
         ensures exact { GivesUnlessMemory (λ _. self.new) result (after_payload self.old payload.now) }
-        ensures first { RefusesFirst result (data_of payload.now) }
+        ensures first { RefusesFirst result (glance_of self.old payload.now) }
         ensures came { OnOk result ((payloads : List Payload) → Came payloads self.old
             → Came (payloads ++ payload.now ∷ []) self.new) }
         ensures kept { OnErr result (self.new ≡ self.old) }
     {
-        let data = FlightData::read(payload)?;
+        let Ok(data) = FlightData::read(payload) else {
+            self.glance(alloc, payload.as_slice())?;
+            return Err(Fault::OutOfMemory);
+        };
         let batch = self
             .reader
             .message(alloc, data.data_header, data.data_body)?;
@@ -76,6 +79,15 @@ impl Stream {
             self.batches.push(batch)?;
         }
         Ok(())
+    }
+
+    // What is refused of the next payload before anything grows or is cut.
+    #[tactic(auto, unfolding(crate::specs::Stream::glance_of))]
+    fn glance(&self, alloc: Global, payload: &[u8]) -> Result<(), Fault>
+        ensures { Gives (λ done. done) result (glance_of self.now payload.now) }
+    {
+        let data = BorrowedData::read(payload)?;
+        self.reader.glance(alloc, data.data_header, data.data_body)
     }
 
     /// The status came, of this code and this text. A code other than 0 stands for the fault with that code and

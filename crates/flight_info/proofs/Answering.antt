@@ -1,7 +1,7 @@
 -- Answers to what is wanted, made of what was found.
-use Rattle.std.proofs.Common.{◌≡◌, ◌≢◌, ℕ, nat_le, Bool, true, false, List, [], ◌∷◌, length, Option, None, Some, Result, Ok, Err, refl, ap, ◌∙◌, arith}
+use Rattle.std.proofs.Common.{◌≡◌, ℕ, nat_le, Bool, true, false, List, [], ◌∷◌, length, None, Result, Ok, Err, refl, ap, ◌∙◌, arith}
 use Rattle.scan_base.specs.declared.fault.Fault.{Fault}
-use Rattle.scan_base.specs.declared.fault.Fault.TheVariants.{OutOfMemory, LimitReached}
+use Rattle.scan_base.specs.declared.fault.Fault.TheVariants.{LimitReached}
 use Rattle.scan_base.specs.Limits.{most_query_bytes}
 use Rattle.scan_base.specs.Reading.{◌>>=◌, demand, RefusesFirst}
 use Rattle.flight_proto.specs.FlightInfo.{info_bytes, info_with}
@@ -10,7 +10,6 @@ use Rattle.flight_proto.specs.Wrapped.{wrapped_bytes}
 use Rattle.flight_proto.proofs.ReadsBack.{wrapped_back}
 use Rattle.table_versions.specs.Database.{Database}
 use Rattle.flight_info.specs.Payloads.{Payload}
-use Rattle.flight_info.specs.Meant.{Misses}
 use Rattle.flight_info.specs.Infos.{short_enough, InfoAt, SchemaAt}
 use Rattle.flight_info.specs.inside.Described.{Describes, HasForm}
 use Rattle.flight_info.proofs.Informing.{request_is, info_reads, info_right}
@@ -32,28 +31,6 @@ short_kept tables result e other is = by (e ∙ is)
     by : short_enough tables ≡ Ok other → other ≡ tables
     by same = cc
 
--- what comes first of a text comes first of what is wanted
-pub first_of : {X : Type 0} (result : Result X Fault) (text : List ℕ) → RefusesFirst result (demand (nat_le (length text) most_query_bytes) LimitReached) → RefusesFirst result (short_enough (rows_of text))
-first_of {X} result text first = by (nat_le (length text) most_query_bytes) first
-  where
-    good : Wanted → Result Wanted Fault
-    good wanted = Ok wanted
-
-    by : (short : Bool) → RefusesFirst result (demand short LimitReached) → RefusesFirst result (demand short LimitReached >>= λ _. good (rows_of text))
-    by true first = tt
-    by false first = first
-
--- a text whose plan was made is not refused first
-pub kept_text : {X Y : Type 0} (x : X) (result : Result Y Fault) (text : List ℕ) → RefusesFirst (Ok x) (demand (nat_le (length text) most_query_bytes) LimitReached) → RefusesFirst result (short_enough (rows_of text))
-kept_text {X} {Y} x result text first = by (nat_le (length text) most_query_bytes) first
-  where
-    good : Wanted → Result Wanted Fault
-    good wanted = Ok wanted
-
-    by : (short : Bool) → RefusesFirst (Ok x) (demand short LimitReached) → RefusesFirst result (demand short LimitReached >>= λ _. good (rows_of text))
-    by true first = tt
-    by false first = absurd cc
-
 -- what was not refused first is shown
 pub shown : {X : Type 0} (x : X) (wanted : Wanted) → RefusesFirst (Ok x) (short_enough wanted) → short_enough wanted ≡ Ok wanted
 shown {X} x wanted first = by (short_enough wanted) refl first
@@ -62,62 +39,21 @@ shown {X} x wanted first = by (short_enough wanted) refl first
     by (Ok other) e first = ap Ok (short_kept wanted (Ok other) e other refl)
     by (Err fault) e first = absurd cc
 
--- ---- infos
+-- ---- infos and schemas
 
-module _ (database : Database) (n : ℕ) (payload : Payload) (parts : ℕ) (kind : Wanted → Result Wanted Fault) where
-  abbrev Answer : List Payload → Option Fault → Type 0
-  Answer answers fault = InfoAt database n payload parts ((wanted_in payload >>= kind) >>= short_enough) answers fault
+pub info_made : (database : Database) (n : ℕ) (payload : Payload) (parts : ℕ) (wanted : Wanted) (form : List ℕ) (tickets : List (List ℕ))
+    → Describes database n parts wanted form tickets → wanted_in payload ≡ Ok wanted → short_enough wanted ≡ Ok wanted
+    → (answers : List Payload) → answers ≡ info_bytes (info_with form payload tickets) ∷ [] → InfoAt database n payload parts (short_enough wanted) answers None
+info_made database n payload parts wanted form tickets told e s answers is =
+    let asked = request_is payload wanted e in
+    rw s (
+      info_with form payload tickets,
+      is,
+      info_reads database n parts wanted form tickets told payload asked,
+      info_right database n parts wanted form tickets told payload asked,
+    )
 
-  pub info_unread : (fault : Fault) → wanted_in payload ≡ Err fault → Answer [] (Some fault)
-  info_unread fault e = rw e (refl, refl)
-
-  -- a command of the other kind
-  pub info_other : (wanted : Wanted) (fault : Fault) → wanted_in payload ≡ Ok wanted → kind wanted ≡ Err fault → Answer [] (Some fault)
-  info_other wanted fault e k = rw (e, k) (refl, refl)
-
-  -- what is wanted was taken
-  module _ (wanted : Wanted) (e : wanted_in payload ≡ Ok wanted) (k : kind wanted ≡ Ok wanted) where
-    pub info_missed : (fault : Fault) → (fault ≢ OutOfMemory → Misses database wanted fault) → RefusesFirst {X = Wanted} (Err fault) (short_enough wanted) → Answer [] (Some fault)
-    info_missed fault missed first = rw (e, k) (by (short_enough wanted) refl first)
-      where
-        by : (result : Result Wanted Fault) → short_enough wanted ≡ result → RefusesFirst {X = Wanted} (Err fault) result → InfoAt database n payload parts result [] (Some fault)
-        by (Ok other) s first = rw (short_kept wanted (Ok other) s other refl) (refl, missed)
-        by (Err cause) s first = let same : fault ≡ cause = cc in (refl, ap Some same)
-
-    pub info_unwritten : (fault : Fault) → fault ≡ OutOfMemory → short_enough wanted ≡ Ok wanted → Answer [] (Some fault)
-    info_unwritten fault memory s = rw (e, k, s) (refl, λ other. absurd (other memory))
-
-    pub info_made : (form : List ℕ) (tickets : List (List ℕ)) → Describes database n parts wanted form tickets → short_enough wanted ≡ Ok wanted
-        → (answers : List Payload) → answers ≡ info_bytes (info_with form payload tickets) ∷ [] → Answer answers None
-    info_made form tickets told s answers is =
-        let asked = request_is payload wanted e in
-        rw (e, k, s) (
-          info_with form payload tickets,
-          is,
-          info_reads database n parts wanted form tickets told payload asked,
-          info_right database n parts wanted form tickets told payload asked,
-        )
-
--- ---- schemas
-
-module _ (database : Database) (payload : Payload) where
-  abbrev SchemaAnswer : List Payload → Option Fault → Type 0
-  SchemaAnswer answers fault = SchemaAt database (wanted_in payload >>= short_enough) answers fault
-
-  pub schema_unread : (fault : Fault) → wanted_in payload ≡ Err fault → SchemaAnswer [] (Some fault)
-  schema_unread fault e = rw e (refl, refl)
-
-  module _ (wanted : Wanted) (e : wanted_in payload ≡ Ok wanted) where
-    pub schema_missed : (fault : Fault) → (fault ≢ OutOfMemory → Misses database wanted fault) → RefusesFirst {X = Wanted} (Err fault) (short_enough wanted) → SchemaAnswer [] (Some fault)
-    schema_missed fault missed first = rw e (by (short_enough wanted) refl first)
-      where
-        by : (result : Result Wanted Fault) → short_enough wanted ≡ result → RefusesFirst {X = Wanted} (Err fault) result → SchemaAt database result [] (Some fault)
-        by (Ok other) s first = rw (short_kept wanted (Ok other) s other refl) (refl, missed)
-        by (Err cause) s first = let same : fault ≡ cause = cc in (refl, ap Some same)
-
-    pub schema_unwritten : (fault : Fault) → fault ≡ OutOfMemory → short_enough wanted ≡ Ok wanted → SchemaAnswer [] (Some fault)
-    schema_unwritten fault memory s = rw (e, s) (refl, λ other. absurd (other memory))
-
-    pub schema_made : (form : List ℕ) → HasForm database wanted form → short_enough wanted ≡ Ok wanted → (answers : List Payload) → answers ≡ wrapped_bytes form ∷ [] → SchemaAnswer answers None
-    schema_made form has s answers is =
-        rw (e, s) (form, has.answer, is, wrapped_back form (omega (arith, has.small)), has.answers, has.schema)
+pub schema_made : (database : Database) (payload : Payload) (wanted : Wanted) → wanted_in payload ≡ Ok wanted → (form : List ℕ) → HasForm database wanted form
+    → short_enough wanted ≡ Ok wanted → (answers : List Payload) → answers ≡ wrapped_bytes form ∷ [] → SchemaAt database (wanted_in payload >>= short_enough) answers None
+schema_made database payload wanted e form has s answers is =
+    rw (e, s) (form, has.answer, is, wrapped_back form (omega (arith, has.small)), has.answers, has.schema)

@@ -8,8 +8,6 @@ use Rattle.scan_base.specs.Limits.{most_endpoints, most_message_bytes, most_quer
 use Rattle.scan_base.specs.Reading.{demand, RefusesFirst}
 use Rattle.flatbuf.specs.Block.{little, padded}
 use Rattle.flatbuf.proofs.Standing.{length-little}
-use Rattle.arrow_schema.specs.declared.schema.Schema.{Schema}
-use Rattle.arrow_schema.specs.Header.{schema_of}
 use Rattle.arrow_schema.specs.Written.{encapsulated}
 use Rattle.arrow_schema.proofs.Framed.{length_header}
 use Rattle.endpoint_split.specs.declared.ranges.Range.{Range}
@@ -26,7 +24,8 @@ use Rattle.typed_plan.specs.Plan.{PlanAt}
 use Rattle.flight_info.specs.Meant.{first_rows, result_over}
 use Rattle.flight_info.specs.Planned.{IsPlanned}
 use Rattle.flight_info.specs.Tables.{tables_schema, tables_listed}
-use Rattle.flight_info.specs.Infos.{ranges_over, ranges_asked, IsSchemaForm}
+use Rattle.flight_info.specs.Forms.{IsSchemaForm}
+use Rattle.flight_info.specs.Infos.{ranges_over, ranges_asked}
 use Rattle.flight_info.specs.inside.Described.{ticket_bytes, text_in, most_form_bytes, HasForm, Describes}
 use Rattle.flight_info.proofs.Sizes.{short_chunk, short_set}
 
@@ -41,10 +40,6 @@ form_len header short =
     let zeros = length_header header in
     let mark = length-replicate {A = ℕ} 4 255 in
     omega arith
-
--- the form of a schema's header
-pub form_is : (header : List ℕ) (schema : Schema) (form : List ℕ) → schema_of header ≡ Ok schema → form ≡ encapsulated header → IsSchemaForm form schema
-form_is header schema form said framed = record { header = header; framed = framed; said = said }
 
 pub form_small : (header form : List ℕ) → length header ≤ 2 ^ 15 → form ≡ encapsulated header → length form ≤ most_form_bytes
 form_small header form short framed = omega (arith, ap length framed, form_len header short)

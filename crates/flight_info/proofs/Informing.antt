@@ -27,7 +27,7 @@ use Rattle.flight_proto.proofs.ReadsBack.{fields_back, set_writable, chunk_writa
 use Rattle.table_versions.specs.Database.{Database}
 use Rattle.flight_info.specs.Payloads.{Payload}
 use Rattle.flight_info.specs.inside.Described.{ticket_bytes, text_in, Describes}
-use Rattle.flight_info.specs.Infos.{handle_asked, RightInfo}
+use Rattle.flight_info.specs.Infos.{endpoint_at, handle_asked, RightInfo}
 use Rattle.flight_info.proofs.Sizes.{short_chunk, short_number, short_set}
 
 -- ---- tickets
@@ -89,9 +89,10 @@ tickets_same : (tickets : List (List ℕ)) → map (λ (endpoint : EndpointSaid)
 tickets_same [] = refl
 tickets_same (ticket ∷ tickets) = ap (λ more. ticket ∷ more) (tickets_same tickets)
 
-all_here : (tickets : List (List ℕ)) → All (λ (endpoint : EndpointSaid). endpoint.has_location ≡ false) (map endpoint_of tickets)
-all_here [] = All-nil (λ (endpoint : EndpointSaid). endpoint.has_location ≡ false)
-all_here (ticket ∷ tickets) = All-cons (λ (endpoint : EndpointSaid). endpoint.has_location ≡ false) (endpoint_of ticket) (map endpoint_of tickets) refl (all_here tickets)
+-- the endpoints of handles are made of their tickets
+endpoints_are : (handles : List HandleAt) → map endpoint_of (map ticket_bytes handles) ≡ map endpoint_at handles
+endpoints_are [] = refl
+endpoints_are (handle ∷ handles) = ap (λ more. endpoint_at handle ∷ more) (endpoints_are handles)
 
 ticket_endpoint : (handle : HandleAt) → length (text_in handle) ≤ most_query_bytes → IsEndpoint (endpoint_of (ticket_bytes handle))
 ticket_endpoint handle short =
@@ -163,8 +164,8 @@ module _ (database : Database) (n parts : ℕ) (wanted : Wanted) (form : List �
     descriptor = refl;
     handles = told.handles;
     right = told.right;
+    endpoints = ap (map endpoint_of) told.written ∙ endpoints_are told.handles;
     given = ap (each handle_asked) (tickets_same tickets ∙ told.written) ∙ each_back told.handles told.sound told.short;
-    here = all_here tickets;
     records = refl;
     bytes = refl;
     ordered = refl;

@@ -1,6 +1,7 @@
 pub mod Answering
 pub mod Describing
 pub mod Fitting
+pub mod Forms
 pub mod Informing
 pub mod Listed
 pub mod Meaning

@@ -1,23 +1,21 @@
 -- What a flight info and a schema answer.
-use Rattle.std.specs.Prelude.{◌≡◌, ◌≢◌, ℕ, negsuc, Bool, true, false, nat_le, List, [], ◌∷◌, length, map, All, Option, Some, None, Result, Ok, Err, if◌then◌else◌}
+use Rattle.std.specs.Prelude.{◌≡◌, ◌≢◌, ℕ, negsuc, Bool, true, false, nat_le, List, [], ◌∷◌, length, map, Option, Some, None, Result, Ok, Err, if◌then◌else◌}
 use Rattle.scan_base.specs.declared.fault.Fault.{Fault}
 use Rattle.scan_base.specs.declared.fault.Fault.TheVariants.{OutOfMemory, UnknownCommand, LimitReached}
 use Rattle.scan_base.specs.Limits.{most_query_bytes}
 use Rattle.scan_base.specs.Reading.{◌>>=◌, demand}
 use Rattle.scan_base.specs.Lists.{each}
-use Rattle.arrow_schema.specs.declared.schema.Schema.{Schema}
-use Rattle.arrow_schema.specs.Header.{schema_of}
-use Rattle.arrow_schema.specs.Written.{encapsulated}
 use Rattle.endpoint_split.specs.declared.ranges.Range.{Range}
 use Rattle.endpoint_split.specs.Split.{ranges_of}
-use Rattle.endpoint_split.specs.Handle.{HandleAt, Query, Tables, handle_of}
-use Rattle.flight_proto.specs.Ticket.{statement_handle_of}
+use Rattle.endpoint_split.specs.Handle.{HandleAt, Query, Tables, handle_of, handle_bytes}
+use Rattle.flight_proto.specs.Ticket.{statement_handle_of, statement_ticket_bytes}
 use Rattle.flight_proto.specs.Wrapped.{wrapped_of, wrapped_bytes}
 use Rattle.sql_query.specs.Sentence.{Sentence, is_grouped}
 use Rattle.table_versions.specs.Table.{Table}
 use Rattle.table_versions.specs.Database.{Database}
 use Rattle.flight_info.specs.Payloads.{Payload}
 use Rattle.flight_info.specs.Meant.{Asks, first_rows, Answers, Misses}
+use Rattle.flight_info.specs.Forms.{IsSchemaForm}
 use Rattle.flight_proto.specs.FlightInfo.{EndpointSaid, InfoSaid, info_of, info_bytes}
 use Rattle.flight_proto.specs.Wanted.{Wanted, rows_of, tables, wanted_in}
 
@@ -46,7 +44,7 @@ rows_wanted payload = wanted_in payload >>= only_rows >>= short_enough
 abbrev pub tables_wanted : Payload → Result Wanted Fault
 tables_wanted payload = wanted_in payload >>= only_tables >>= short_enough
 
--- the same of a schema, of either
+-- the same of a schema, which is of either, and of an info of either
 abbrev pub schema_wanted : Payload → Result Wanted Fault
 schema_wanted payload = wanted_in payload >>= short_enough
 
@@ -66,6 +64,10 @@ HasHandles database n parts (rows_of text) handles = (query : Sentence) × Asks 
     × (handles ≡ map (λ (range : Range). Query n range.from range.to text) (ranges_asked query database parts))
 HasHandles database n parts tables handles = handles ≡ Tables n ∷ []
 
+-- the endpoint of a handle: its Ticket, and no location
+abbrev pub endpoint_at : HandleAt → EndpointSaid
+endpoint_at handle = record { ticket = statement_ticket_bytes (handle_bytes handle); has_location = false }
+
 -- the handle in the Ticket that begins a fetch
 unfoldable pub handle_asked : Payload → Result HandleAt Fault
 handle_asked ticket = statement_handle_of ticket >>= handle_of
@@ -76,14 +78,8 @@ handles_in info = each handle_asked (map (λ endpoint. endpoint.ticket) info.end
 
 -- ---- an info
 
--- a schema in IPC form
-pub record IsSchemaForm (bytes : List ℕ) (schema : Schema) : Type 0 where
-  pub header : List ℕ
-  pub framed : bytes ≡ encapsulated header
-  pub said : schema_of header ≡ Ok schema
-
 -- The info is right for what was wanted by this payload at version n: it has the schema of the answer, the payload as it
--- came, and endpoints here, in order; it counts neither rows nor bytes.
+-- came, and an endpoint for each handle, in order, whose Ticket reads as that; it counts neither rows nor bytes.
 pub record RightInfo (database : Database) (n : ℕ) (payload : Payload) (parts : ℕ) (wanted : Wanted) (info : InfoSaid) : Type 0 where
   pub answer : Table
   pub answers : Answers database wanted answer
@@ -91,8 +87,8 @@ pub record RightInfo (database : Database) (n : ℕ) (payload : Payload) (parts 
   pub descriptor : info.descriptor ≡ payload
   pub handles : List HandleAt
   pub right : HasHandles database n parts wanted handles
+  pub endpoints : info.endpoints ≡ map endpoint_at handles
   pub given : handles_in info ≡ Ok handles
-  pub here : All (λ (endpoint : EndpointSaid). endpoint.has_location ≡ false) info.endpoints
   pub records : info.total_records ≡ negsuc 0
   pub bytes : info.total_bytes ≡ negsuc 0
   pub ordered : info.ordered ≡ true

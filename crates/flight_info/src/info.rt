@@ -1,18 +1,20 @@
 //! Answering what an info and a schema ask for at a version.
 
-ghost use Rattle.std.specs.Prelude.{◌≡◌, ◌≢◌, ◌≤◌, ◌∷◌, [], length, map, None, Some, IfOk, IfErr, MatchResult};
+ghost use Rattle.std.specs.Prelude.{◌≡◌, ◌≢◌, ◌≤◌, ◌∷◌, [], length, map, None, Some, Result, Ok, IfOk, IfErr, MatchResult};
 ghost use Rattle.scan_base.specs.declared.fault.Fault.TheVariants.{OutOfMemory};
 ghost use Rattle.scan_base.specs.Limits.{most_message_bytes};
-ghost use Rattle.scan_base.specs.Reading.{RefusesFirst};
+ghost use Rattle.scan_base.specs.Reading.{Gives, RefusesFirst};
 ghost use Rattle.arrow_schema.specs.Schema.{IsSchema};
 ghost use Rattle.endpoint_split.specs.Handle.{Query};
 ghost use Rattle.endpoint_split.specs.Seen.{handle_seen};
 ghost use Rattle.flight_proto.specs.FlightInfo.{info_bytes, info_with};
-ghost use Rattle.flight_proto.specs.Wanted.{rows_of, tables, wanted_said};
+ghost use Rattle.flight_proto.specs.Wanted as wants;
+ghost use Rattle.flight_proto.specs.Wanted.{rows_of, tables, wanted_in, wanted_said};
 ghost use Rattle.flight_proto.specs.Wrapped.{wrapped_bytes};
 ghost use Rattle.table_versions.specs.Stored.{tables_of};
-ghost use Rattle.flight_info.specs.inside.Described.{ticket_bytes, most_form_bytes, HasForm, Describes};
-ghost use Rattle.flight_info.specs.Infos.{rows_wanted, tables_wanted, schema_wanted, short_enough, ranges_over, IsSchemaForm, InfoAt, SchemaAt};
+ghost use Rattle.flight_info.specs.inside.Described.{rows_read, tables_read, if_short, ticket_bytes, most_form_bytes, HasForm, Describes};
+ghost use Rattle.flight_info.specs.Forms.{IsSchemaForm};
+ghost use Rattle.flight_info.specs.Infos.{rows_wanted, tables_wanted, schema_wanted, short_enough, ranges_over, InfoAt, SchemaAt};
 ghost use Rattle.flight_info.specs.Meant.{Misses};
 ghost use Rattle.flight_info.specs.Payloads.{FitMessages};
 
@@ -119,6 +121,39 @@ fn describe_query(
     })
 }
 
+// What the info of the list of tables says: its schema, and one Ticket.
+fn describe_tables(alloc: Global, snapshot: &Snapshot, parts: u32) -> Result<Described, AllocError>
+    ensures { IfOk result (λ described. Describes (tables_of snapshot.now.catalog) snapshot.now.number parts
+        tables described.form.items (map (λ ticket. ticket.items) described.tickets.items)) }
+{
+    let form = schema_form(alloc, &tables_schema(alloc)?)?;
+    let handle = Handle::Tables {
+        version: snapshot.number(),
+    };
+    let mut tickets = Vec::new(alloc);
+    tickets.push(ticket_of(alloc, &handle)?)?;
+    Ok(Described { form, tickets })
+}
+
+// What the info of what is wanted says.
+fn describe(
+    alloc: Global,
+    snapshot: &Snapshot,
+    wanted: Wanted<'_>,
+    parts: u32,
+) -> Result<Described, Fault>
+    ensures described { IfOk result (λ described. Describes (tables_of snapshot.now.catalog) snapshot.now.number parts
+        (wanted_said wanted.entry) described.form.items (map (λ ticket. ticket.items) described.tickets.items)) }
+    ensures missed { IfErr result (λ fault. fault ≢ OutOfMemory →
+        Misses (tables_of snapshot.now.catalog) (wanted_said wanted.entry) fault) }
+    ensures first { RefusesFirst result (short_enough (wanted_said wanted.entry)) }
+{
+    match wanted {
+        Wanted::Rows(text) => describe_query(alloc, snapshot, text, parts),
+        Wanted::Tables => Ok(describe_tables(alloc, snapshot, parts)?),
+    }
+}
+
 // The payload of an info.
 fn write_info(
     alloc: Global,
@@ -153,25 +188,70 @@ fn only_payload(alloc: Global, bytes: Vec<u8>) -> Result<Vec<Bytes>, AllocError>
     Ok(payloads)
 }
 
-// The payload of the info of a query.
-fn query_info(
+// The payload of the info of what a payload wants.
+fn info_payload(
     alloc: Global,
     snapshot: &Snapshot,
     payload: &[u8],
+    wanted: Wanted<'_>,
     parts: u32,
 ) -> Result<Vec<Bytes>, Fault>
+    requires { wanted_in payload.now ≡ Ok (wanted_said wanted) }
     ensures info { MatchResult result
         (λ payloads. InfoAt (tables_of snapshot.now.catalog) snapshot.now.number payload.now parts
-        (rows_wanted payload.now) payloads.items None)
+        (short_enough (wanted_said wanted.entry)) payloads.items None)
         (λ fault. InfoAt (tables_of snapshot.now.catalog) snapshot.now.number payload.now parts
-        (rows_wanted payload.now) [] (Some fault)) }
+        (short_enough (wanted_said wanted.entry)) [] (Some fault)) }
     ensures fits { IfOk result (λ payloads. FitMessages payloads.items) }
 {
-    let Wanted::Rows(text) = read_wanted(payload)? else {
-        return Err(Fault::UnknownCommand);
-    };
-    let described = describe_query(alloc, snapshot, text, parts)?;
+    let described = describe(alloc, snapshot, wanted, parts)?;
     Ok(write_info(alloc, payload, &described)?)
+}
+
+// The answer to a GetFlightInfo of what was read of its payload.
+fn answer_read(
+    alloc: Global,
+    snapshot: &Snapshot,
+    payload: &[u8],
+    read: Result<Wanted<'_>, Fault>,
+    parts: u32,
+) -> Reply
+    requires { IfOk read (λ wanted. wanted_in payload.now ≡ Ok (wanted_said wanted)) }
+    ensures info { (kept : Result wants.Wanted Fault) → Gives wanted_said read.entry kept →
+        InfoAt (tables_of snapshot.now.catalog) snapshot.now.number payload.now parts
+        (if_short kept) result.payloads result.fault }
+    ensures fits { FitMessages result.payloads }
+{
+    let wanted = match read {
+        Ok(wanted) => wanted,
+        Err(fault) => return Reply::refusal(alloc, fault),
+    };
+    match info_payload(alloc, snapshot, payload, wanted, parts) {
+        Ok(payloads) => Reply::whole(payloads),
+        Err(fault) => Reply::refusal(alloc, fault),
+    }
+}
+
+// A query, where a payload wants one.
+fn read_rows(payload: &[u8]) -> Result<Wanted<'_>, Fault>
+    ensures read { Gives wanted_said result (rows_read payload.now) }
+    ensures wants { IfOk result (λ wanted. wanted_in payload.now ≡ Ok (wanted_said wanted)) }
+{
+    match read_wanted(payload)? {
+        Wanted::Rows(text) => Ok(Wanted::Rows(text)),
+        Wanted::Tables => Err(Fault::UnknownCommand),
+    }
+}
+
+// The list of tables, where a payload wants it.
+fn read_tables(payload: &[u8]) -> Result<Wanted<'_>, Fault>
+    ensures read { Gives wanted_said result (tables_read payload.now) }
+    ensures wants { IfOk result (λ wanted. wanted_in payload.now ≡ Ok (wanted_said wanted)) }
+{
+    match read_wanted(payload)? {
+        Wanted::Rows(_) => Err(Fault::UnknownCommand),
+        Wanted::Tables => Ok(Wanted::Tables),
+    }
 }
 
 /// The answer to a GetFlightInfo of a query, at a version of the catalog: one FlightInfo, with the schema of the
@@ -190,45 +270,7 @@ pub fn answer_info(alloc: Global, snapshot: &Snapshot, payload: &[u8], parts: u3
         (rows_wanted payload.now) result.payloads result.fault }
     ensures fits { FitMessages result.payloads }
 {
-    match query_info(alloc, snapshot, payload, parts) {
-        Ok(payloads) => Reply::whole(payloads),
-        Err(fault) => Reply::refusal(alloc, fault),
-    }
-}
-
-// What the info of the list of tables says: its schema, and one Ticket.
-fn describe_tables(alloc: Global, snapshot: &Snapshot, parts: u32) -> Result<Described, AllocError>
-    ensures { IfOk result (λ described. Describes (tables_of snapshot.now.catalog) snapshot.now.number parts
-        tables described.form.items (map (λ ticket. ticket.items) described.tickets.items)) }
-{
-    let form = schema_form(alloc, &tables_schema(alloc)?)?;
-    let handle = Handle::Tables {
-        version: snapshot.number(),
-    };
-    let mut tickets = Vec::new(alloc);
-    tickets.push(ticket_of(alloc, &handle)?)?;
-    Ok(Described { form, tickets })
-}
-
-// The payload of the info of the list of tables.
-fn tables_info(
-    alloc: Global,
-    snapshot: &Snapshot,
-    payload: &[u8],
-    parts: u32,
-) -> Result<Vec<Bytes>, Fault>
-    ensures info { MatchResult result
-        (λ payloads. InfoAt (tables_of snapshot.now.catalog) snapshot.now.number payload.now parts
-        (tables_wanted payload.now) payloads.items None)
-        (λ fault. InfoAt (tables_of snapshot.now.catalog) snapshot.now.number payload.now parts
-        (tables_wanted payload.now) [] (Some fault)) }
-    ensures fits { IfOk result (λ payloads. FitMessages payloads.items) }
-{
-    let Wanted::Tables = read_wanted(payload)? else {
-        return Err(Fault::UnknownCommand);
-    };
-    let described = describe_tables(alloc, snapshot, parts)?;
-    Ok(write_info(alloc, payload, &described)?)
+    answer_read(alloc, snapshot, payload, read_rows(payload), parts)
 }
 
 /// The answer to a GetFlightInfo of the list of tables, at a version of the catalog: one FlightInfo, with the schema
@@ -243,10 +285,22 @@ pub fn answer_tables(alloc: Global, snapshot: &Snapshot, payload: &[u8], parts: 
         (tables_wanted payload.now) result.payloads result.fault }
     ensures fits { FitMessages result.payloads }
 {
-    match tables_info(alloc, snapshot, payload, parts) {
-        Ok(payloads) => Reply::whole(payloads),
-        Err(fault) => Reply::refusal(alloc, fault),
-    }
+    answer_read(alloc, snapshot, payload, read_tables(payload), parts)
+}
+
+/// The answer to a GetFlightInfo at a version of the catalog, of a query or of the list of tables: that of
+/// [`answer_info`] or of [`answer_tables`], by what the payload wants, which is read once.
+///
+/// # Errors
+///
+/// The reply's fault, and then no payload: the faults of `flight_proto::read_wanted`; then those of the call that is
+/// due, but for its F5.
+pub fn answer_wanted(alloc: Global, snapshot: &Snapshot, payload: &[u8], parts: u32) -> Reply
+    ensures info { InfoAt (tables_of snapshot.now.catalog) snapshot.now.number payload.now parts
+        (schema_wanted payload.now) result.payloads result.fault }
+    ensures fits { FitMessages result.payloads }
+{
+    answer_read(alloc, snapshot, payload, read_wanted(payload), parts)
 }
 
 // The schema of a query's result, in IPC form.

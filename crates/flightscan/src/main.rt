@@ -2,9 +2,7 @@
 //! sockets and the random bytes of the system.
 #![tactic(auto)]
 
-ghost use Rattle.std.specs.Prelude.{◌<◌, ◌≡◌};
-ghost use Rattle.command_line.specs.declared.request.Mode.TheVariants as asked;
-ghost use Rattle.client_calls.specs.declared.putting.Mode.TheVariants as sent;
+ghost use Rattle.std.specs.Prelude.{◌<◌};
 ghost use Rattle.commands.specs.Words.{HasSeats};
 
 use client_calls::Target;
@@ -12,7 +10,7 @@ use client_commands::put::{Putting, put};
 use client_commands::query::{Querying, query};
 use client_commands::tables::tables;
 use command_ends::{ExitStatus, end_by_fault};
-use command_line::{Mode, Request};
+use command_line::Request;
 use commands::arguments::refuse_arguments;
 use commands::pipe::pipe;
 use commands::serve::{Host, serve};
@@ -29,19 +27,6 @@ use std::random::RandomSource;
 use std::sync::Wait;
 use std::thread::Threads;
 use std::time::Clock;
-
-// The mode of a put, as the client calls it.
-fn mode_of(mode: Mode) -> client_calls::Mode
-    ensures create { mode ≡ asked.Create → result ≡ sent.Create }
-    ensures append { mode ≡ asked.Append → result ≡ sent.Append }
-    ensures replace { mode ≡ asked.Replace → result ≡ sent.Replace }
-{
-    match mode {
-        Mode::Create => client_calls::Mode::Create,
-        Mode::Append => client_calls::Mode::Append,
-        Mode::Replace => client_calls::Mode::Replace,
-    }
-}
 
 // Runs a command that serves, with hashes that begin with a secret of the system's. Where the system gives no random
 // bytes, this end fails, as where it does not read or write.
@@ -97,7 +82,6 @@ where
     let mut network = Loopback::new(rt);
     match request {
         Request::Put { port, table, mode } => {
-            let mode = mode_of(mode);
             let target = Target { table, mode };
             let putting = Putting { port, target };
             put(rt.alloc(), &mut network, input, output, faults, putting)

@@ -1,13 +1,13 @@
 //! Calls over a stream that stays open, each by itself.
 
 use bytes::Bytes;
-use client_calls::{Connection, Failure, Mode, Target, fetch, info, put};
+use client_calls::{Connection, Failure, Target, fetch, info, put};
 use flight_client::{Stream, join};
 use flight_proto::{FlightEndpoint, Wanted};
 use grpc_frame::{Counted, MemoryOutput};
 use ipc_stream::ipc_messages;
 use row_lines::write_rows;
-use scan_base::Fault;
+use scan_base::{Fault, PutMode};
 use std::alloc::Global;
 use std::io;
 use std::io::{Read, Write};
@@ -84,7 +84,7 @@ pub(crate) fn connected<R: Net<Listener = TcpListener, Stream = TcpStream>>(
 pub(crate) fn put_into(
     alloc: Global,
     wire: &Wire,
-    mode: Mode,
+    mode: PutMode,
     rows: &'static [u8],
 ) -> Result<u64, Failure> {
     let messages = ipc_messages(alloc, &Bytes::from_static(rows))?;

@@ -3,10 +3,10 @@
 use crate::asking::{Wire, all_lines, connected, endpoints_of, lines_of, put_into};
 use crate::serving::beside;
 use crate::streams::{CUT_PUT, FIVE_LINES, ONE_TO_FIVE, OTHER_SCHEMA, SEVEN_LINES, SIX_AND_SEVEN};
-use client_calls::{Failure, Mode};
+use client_calls::Failure;
 use grpc_frame::{Counted, Input, MemoryOutput, Output};
 use hash_seed::HashSeed;
-use scan_base::Fault;
+use scan_base::{Fault, PutMode};
 use std::alloc::Global;
 use std::net::{Net, TcpListener, TcpStream};
 use std::sync::atomic::{AtomicBool, Ordering};
@@ -27,8 +27,8 @@ fn put_later<R: Net<Listener = TcpListener, Stream = TcpStream>>(
     answered: &AtomicBool,
 ) -> Result<(), Failure> {
     let wire = connected(rt, port, most)?;
-    put_into(alloc, &wire, Mode::Append, SIX_AND_SEVEN)?;
-    put_into(alloc, &wire, Mode::Replace, OTHER_SCHEMA)?;
+    put_into(alloc, &wire, PutMode::Append, SIX_AND_SEVEN)?;
+    put_into(alloc, &wire, PutMode::Replace, OTHER_SCHEMA)?;
     answered.store(true, Ordering::SeqCst);
     Ok(())
 }
@@ -51,7 +51,7 @@ where
     R: Net<Listener = TcpListener, Stream = TcpStream> + Threads + Clock + Sync,
 {
     let wire = connected(rt, port, most)?;
-    put_into(alloc, &wire, Mode::Create, ONE_TO_FIVE)?;
+    put_into(alloc, &wire, PutMode::Create, ONE_TO_FIVE)?;
     let endpoints = endpoints_of(alloc, &wire)?;
     let answered = AtomicBool::new(false);
     let (later, wire) = thread::join(
@@ -114,11 +114,11 @@ where
     R: Net<Listener = TcpListener, Stream = TcpStream>,
 {
     let wire = connected(rt, port, WHOLE)?;
-    put_into(alloc, &wire, Mode::Create, ONE_TO_FIVE)?;
+    put_into(alloc, &wire, PutMode::Create, ONE_TO_FIVE)?;
     cut_a_put(rt, port)?;
     let before = all_lines(alloc, &wire)?;
     let further = connected(rt, port, WHOLE)?;
-    put_into(alloc, &further, Mode::Append, SIX_AND_SEVEN)?;
+    put_into(alloc, &further, PutMode::Append, SIX_AND_SEVEN)?;
     Ok((before, all_lines(alloc, &further)?))
 }
 

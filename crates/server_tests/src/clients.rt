@@ -3,7 +3,7 @@
 ghost use Rattle.std.specs.Prelude.{◌<◌, ◌≡◌, IfOk};
 
 use crate::serving::beside;
-use client_calls::{Failure, Mode, Target};
+use client_calls::{Failure, Target};
 use client_commands::put::{Putting, put};
 use client_commands::query::{Querying, query};
 use client_commands::tables::tables;
@@ -11,6 +11,7 @@ use command_ends::{Connect, Listen};
 use grpc_frame::{MemoryInput, MemoryOutput};
 use hash_seed::HashSeed;
 use loopback::{Loopback, Port};
+use scan_base::PutMode;
 use std::alloc::Global;
 use std::io;
 use std::net::{Net, TcpListener, TcpStream};
@@ -66,7 +67,7 @@ pub(crate) fn put_stream<R: Net<Listener = TcpListener, Stream = TcpStream>>(
     let mut faults = MemoryOutput::new(alloc);
     let target = Target {
         table: "t",
-        mode: Mode::Create,
+        mode: PutMode::Create,
     };
     let putting = Putting { port, target };
     let status = put(
@@ -272,7 +273,7 @@ fn puts(rt: HostRuntime) {
         let mut faults = MemoryOutput::new(alloc);
         let target = Target {
             table: "t",
-            mode: Mode::Append,
+            mode: PutMode::Append,
         };
         let putting = Putting { port: 1, target };
         let status = put(

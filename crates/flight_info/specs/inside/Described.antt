@@ -1,13 +1,29 @@
 -- Inside: what an info is made of.
-use Rattle.std.specs.Prelude.{◌≡◌, ◌≤◌, ℕ, List, [], length, map, All}
+use Rattle.std.specs.Prelude.{◌≡◌, ◌≤◌, ℕ, List, [], length, map, All, Result}
+use Rattle.scan_base.specs.declared.fault.Fault.{Fault}
 use Rattle.scan_base.specs.Limits.{most_endpoints, most_query_bytes}
+use Rattle.scan_base.specs.Reading.{◌>>=◌}
 use Rattle.endpoint_split.specs.Handle.{HandleAt, Query, Tables, handle_bytes, IsHandle}
 use Rattle.flight_proto.specs.Ticket.{statement_ticket_bytes}
-use Rattle.flight_proto.specs.Wanted.{Wanted}
+use Rattle.flight_proto.specs.Wanted.{Wanted, wanted_in}
 use Rattle.table_versions.specs.Table.{Table}
 use Rattle.table_versions.specs.Database.{Database}
 use Rattle.flight_info.specs.Meant.{Answers}
-use Rattle.flight_info.specs.Infos.{HasHandles, IsSchemaForm}
+use Rattle.flight_info.specs.Forms.{IsSchemaForm}
+use Rattle.flight_info.specs.Infos.{HasHandles, only_rows, only_tables, short_enough}
+use Rattle.flight_info.specs.Payloads.{Payload}
+
+-- what a payload wants, where that is a query
+abbrev pub rows_read : Payload → Result Wanted Fault
+rows_read payload = wanted_in payload >>= only_rows
+
+-- the same of the list of tables
+abbrev pub tables_read : Payload → Result Wanted Fault
+tables_read payload = wanted_in payload >>= only_tables
+
+-- what was read, where its text is short enough
+abbrev pub if_short : Result Wanted Fault → Result Wanted Fault
+if_short read = read >>= short_enough
 
 -- the Ticket of a handle
 abbrev pub ticket_bytes : HandleAt → List ℕ

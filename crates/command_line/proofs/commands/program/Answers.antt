@@ -1,25 +1,23 @@
 use Rattle.std.proofs.Common.{◌∙◌, ap, true}
 use Rattle.clap.specs.Words.{App}
 use Rattle.clap.specs.Simple.{app_of_fields}
-use Rattle.command_line.proofs.Adding.{local_above, shape_above, last_local_above, last_shape_above}
+use Rattle.command_line.proofs.Adding.{local_with_below, shape_with_below, last_local_with_below, last_shape_with_below}
 use Rattle.command_line.proofs.commands.program.Goals as goal
 
 pub returns-clause-shape : goal.returns-clause-shape
 returns-clause-shape c =
-    let named = ap app_of_fields c.after_help.ensures ∙ ap app_of_fields c.about.ensures ∙ c.new.ensures.app in
-    let bare = ap app_of_fields c.subcommand_required.ensures ∙ ap (λ (x : App). record x { top = record x.top { subcommand_required = true } }) named in
-    let one = shape_above _ _ _ _ _ bare c.in_ok-pipe.ensures.shape c.in_ok-pipe.ensures.local c.in_ok-subcommand.ensures in
-    let two = shape_above _ _ _ _ _ one c.in_ok-serve.ensures.shape c.in_ok-serve.ensures.local c.in_ok-subcommand-2.ensures in
-    let three = shape_above _ _ _ _ _ two c.in_ok-put.ensures.shape c.in_ok-put.ensures.local c.in_ok-subcommand-3.ensures in
-    let four = shape_above _ _ _ _ _ three c.in_ok-query.ensures.shape c.in_ok-query.ensures.local c.in_ok-subcommand-4.ensures in
-    last_shape_above _ _ _ _ _ four c.in_ok-tables.ensures.shape c.in_ok-tables.ensures.local c.subcommand-5.ensures
+    let bare = ap app_of_fields c.subcommand_required-bare.ensures ∙ ap (λ (x : App). record x { top = record x.top { subcommand_required = true } }) c.command.ensures.shape in
+    let one = shape_with_below _ _ _ _ _ bare c.pipe.ensures.shape c.pipe.ensures.local c.in_ok-piping.ensures in
+    let two = shape_with_below _ _ _ _ _ one c.serve.ensures.shape c.serve.ensures.local c.in_ok-serving.ensures in
+    let three = shape_with_below _ _ _ _ _ two c.put.ensures.shape c.put.ensures.local c.in_ok-putting.ensures in
+    let four = shape_with_below _ _ _ _ _ three c.query.ensures.shape c.query.ensures.local c.in_ok-asking.ensures in
+    last_shape_with_below _ _ _ _ _ four c.tables.ensures.shape c.tables.ensures.local c.with_below-5.ensures
 
 pub returns-clause-local : goal.returns-clause-local
 returns-clause-local c =
-    let named = ap (λ fields. fields.has_globals) c.after_help.ensures ∙ ap (λ fields. fields.has_globals) c.about.ensures ∙ c.new.ensures.local in
-    let bare = ap (λ fields. fields.has_globals) c.subcommand_required.ensures ∙ named in
-    let one = local_above _ _ _ bare c.in_ok-pipe.ensures.local c.in_ok-subcommand.ensures in
-    let two = local_above _ _ _ one c.in_ok-serve.ensures.local c.in_ok-subcommand-2.ensures in
-    let three = local_above _ _ _ two c.in_ok-put.ensures.local c.in_ok-subcommand-3.ensures in
-    let four = local_above _ _ _ three c.in_ok-query.ensures.local c.in_ok-subcommand-4.ensures in
-    last_local_above _ _ _ four c.in_ok-tables.ensures.local c.subcommand-5.ensures
+    let bare = ap (λ fields. fields.has_globals) c.subcommand_required-bare.ensures ∙ c.command.ensures.local in
+    let one = local_with_below _ _ _ bare c.pipe.ensures.local c.in_ok-piping.ensures in
+    let two = local_with_below _ _ _ one c.serve.ensures.local c.in_ok-serving.ensures in
+    let three = local_with_below _ _ _ two c.put.ensures.local c.in_ok-putting.ensures in
+    let four = local_with_below _ _ _ three c.query.ensures.local c.in_ok-asking.ensures in
+    last_local_with_below _ _ _ four c.tables.ensures.local c.with_below-5.ensures

@@ -1,12 +1,14 @@
 use Rattle.flight_info.specs.Replies.{refusal}
 use Rattle.flight_calls.proofs.Reacting.{reacts_by_look, one_more_look}
-use Rattle.flight_calls.proofs.Looking.{info_refused, info_unread}
+use Rattle.flight_calls.proofs.Looking.{info_answered, info_refused, info_unread}
 use Rattle.flight_calls.proofs.step.info_on.Goals as goal
 
 pub returns-in-Ok-clause-step : goal.returns-in-Ok-clause-step
 returns-in-Ok-clause-step g c =
     let seen = c.in-Ok.ensures in
-    reacts_by_look g.B.Backend.moves _ _ _ _ seen.learns (c.info_at.ensures.step (g.B.Backend.seat c.current.new.self).log seen.ok.1 seen.ok.2) (λ other looks. one_more_look (g.B.Backend.seat c.args.backend.now) (g.B.Backend.seat c.current.new.self) seen.ok.0)
+    reacts_by_look g.B.Backend.moves _ _ _ _ seen.learns
+    (info_answered (g.B.Backend.seat c.current.new.self).log c.args.payload.now c.args.parts _ (rw (seen.ok.1, seen.ok.2) at c.answer_wanted.ensures.info))
+    (λ other looks. one_more_look (g.B.Backend.seat c.args.backend.now) (g.B.Backend.seat c.current.new.self) seen.ok.0)
 
 pub returns-in-Err-clause-step : goal.returns-in-Err-clause-step
 returns-in-Err-clause-step g c =

@@ -1,6 +1,6 @@
 use Rattle.std.proofs.lemmas.Result.{err_from_is_err_and}
 use Rattle.flight_proto.specs.FlightData.{data_said}
-use Rattle.flight_client.proofs.Arrivals.{came_batch, came_none, stays}
+use Rattle.flight_client.proofs.Arrivals.{came_batch, came_none, stays, glance_stops}
 use Rattle.flight_client.proofs.stream.Stream.message.Goals as goal
 
 pub returns-in_err-push-clause-kept : goal.returns-in_err-push-clause-kept
@@ -10,10 +10,15 @@ returns-in_err-push-clause-kept c =
 
 pub returns-in_ok-push-clause-came : goal.returns-in_ok-push-clause-came
 returns-in_ok-push-clause-came c payloads came =
-    came_batch payloads c.args.payload.now c.args.self.now c.self.inside.reader c.message.new.self c.self.inside.batches.items c.push.new.self.items c.self.inside.end (data_said c.in_ok-data.data) c.in-Some.batch
-    c.self.view_is c.in_ok-data.ensures.value (rw c.in-Some.is at c.in_ok-batch.ensures.exact) c.in_ok-push.ensures.items came
+    came_batch payloads c.args.payload.now c.args.self.now c.self.inside.reader c.message.new.self c.self.inside.batches.items c.push.new.self.items c.self.inside.end (data_said c.in-Ok.data) c.in-Some.batch
+    c.self.view_is c.in-Ok.ensures.value (rw c.in-Some.is at c.in_ok-batch.ensures.exact) c.in_ok-push.ensures.items came
 
-pub returns-in_default-clause-came : goal.returns-in_default-clause-came
-returns-in_default-clause-came c payloads came =
-    came_none payloads c.args.payload.now c.args.self.now c.self.inside.reader c.message.new.self c.self.inside.batches.items c.self.inside.end (data_said c.in_ok-data.data)
-    c.self.view_is c.in_ok-data.ensures.value (rw c.in_default.is at c.in_ok-batch.ensures.exact) came
+pub returns-in_default-batch-clause-came : goal.returns-in_default-batch-clause-came
+returns-in_default-batch-clause-came c payloads came =
+    came_none payloads c.args.payload.now c.args.self.now c.self.inside.reader c.message.new.self c.self.inside.batches.items c.self.inside.end (data_said c.in-Ok.data)
+    c.self.view_is c.in-Ok.ensures.value (rw c.in_default-batch.is at c.in_ok-batch.ensures.exact) came
+
+pub returns-in_err-glance-clause-exact : goal.returns-in_err-glance-clause-exact
+returns-in_err-glance-clause-exact c =
+    let p = err_from_is_err_and c.from_residual.result c.from_residual.ensures.1 in
+    rw (p.1, p.2) (λ other. glance_stops _ _ _ (rw c.as_slice.ensures at c.in_err-glance.ensures))
