@@ -62,6 +62,7 @@ fn refuses<C: CellName, R: Wait + Abort>(rt: &R, alloc: Global, blank: Blank) ->
 {
     let (mut putter, mut seats) = blank.named::<C, &R>(alloc, rt)?;
     let Some(seat) = seats.as_mut_slice().first_mut() else {
+        drop(putter);
         return Err(Fail::from("one seat"));
     };
     let refused = refused_twice(alloc, &mut putter, seat);

@@ -110,6 +110,7 @@ fn looked_at_by_two<C: CellName + Send + Sync, R: Threads + Wait + Abort + Sync>
     let table = Text::new(alloc, "t")?;
     let (mut putter, mut seats) = blank.named::<C, &R>(alloc, rt)?;
     let [one, two] = seats.as_mut_slice() else {
+        drop(putter);
         return Err(Fail::from("two seats"));
     };
     let right = put_while_two_look(rt, alloc, &mut putter, (&mut *one, &mut *two), &table);

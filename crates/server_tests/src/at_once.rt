@@ -67,27 +67,18 @@ where
     lines_of(alloc, [&wire, &further], &endpoints)
 }
 
-// An open connection keeps no other from being served, and what its info names stays, for each connection.
+// An open connection keeps no other from being served, and what its info names stays, for each connection. How a client's bytes
+// arrive does not matter: once each piece is written whole, and once each byte by itself.
 #[test]
 fn open_connection(rt: HostRuntime) -> Result<(), Fail> {
     let (runtime, alloc) = (&rt, rt.alloc());
     let seed = HashSeed::new(runtime)?;
-    let client = |port| stay_open(runtime, alloc, port, WHOLE);
-    let (server, lines) = beside(runtime, alloc, seed, 3, client)?;
-    assert!(rt; server.status == 0);
-    assert!(rt; lines.as_slice() == FIVE_LINES);
-    Ok(())
-}
-
-// How a client's bytes arrive does not matter: the same calls, of which each byte is written by itself.
-#[test]
-fn byte_by_byte(rt: HostRuntime) -> Result<(), Fail> {
-    let (runtime, alloc) = (&rt, rt.alloc());
-    let seed = HashSeed::new(runtime)?;
-    let client = |port| stay_open(runtime, alloc, port, 1);
-    let (server, lines) = beside(runtime, alloc, seed, 3, client)?;
-    assert!(rt; server.status == 0);
-    assert!(rt; lines.as_slice() == FIVE_LINES);
+    for most in [WHOLE, 1] {
+        let client = |port| stay_open(runtime, alloc, port, most);
+        let (server, lines) = beside(runtime, alloc, seed, 3, client)?;
+        assert!(rt; server.status == 0);
+        assert!(rt; lines.as_slice() == FIVE_LINES);
+    }
     Ok(())
 }
 

@@ -47,8 +47,12 @@ pub(crate) const STREAM: &[u8] =
 
 const GROUPED: &str = "SELECT s, COUNT(*) FROM t GROUP BY s";
 
-// What is printed of the tables, and then of the groups.
-const TABLE_AND_GROUPS: &[u8] = b"t\ns\tcol2\n'b'\t2\nNULL\t2\n'a'\t1\n";
+// All rows, which `serve` cuts in two ranges.
+const ALL: &str = "SELECT s FROM t";
+
+// What is printed of the tables, then of the groups, and then of all rows.
+const TABLE_GROUPS_AND_ROWS: &[u8] =
+    b"t\ns\tcol2\n'b'\t2\nNULL\t2\n'a'\t1\ns\n'b'\nNULL\n'a'\nNULL\n'b'\n";
 
 const TRANSPORT_LINE: &[u8] = b"fault: F22 Transport\n";
 
@@ -57,7 +61,7 @@ const NOTHING: &[u8] = b"";
 // ---- over loopback
 
 // Puts the stream, and gives the exit status and what is printed.
-pub(crate) fn put_stream<R: Net<Listener = TcpListener, Stream = TcpStream>>(
+fn put_stream<R: Net<Listener = TcpListener, Stream = TcpStream>>(
     network: &mut Loopback<'_, R>,
     alloc: Global,
     port: u16,
@@ -81,70 +85,77 @@ pub(crate) fn put_stream<R: Net<Listener = TcpListener, Stream = TcpStream>>(
     (status.number(), output)
 }
 
-// The exit statuses of a put, a list of the tables and a query; what the put prints, and what the others print.
+// What commands come to: their exit statuses; what the put prints, what the others print, and what is said of a query whose output
+// is closed.
+#[derive(Drop)]
+struct Heard {
+    statuses: [u8; 5],
+    counted: MemoryOutput,
+    lines: MemoryOutput,
+    said: MemoryOutput,
+}
+
+// Where queries are asked.
+struct Asking<'a, R> {
+    rt: &'a R,
+    alloc: Global,
+    port: u16,
+}
+
+// The exit status of a query over two connections at most.
+fn queried<R: Net<Listener = TcpListener, Stream = TcpStream> + Threads>(
+    network: &mut Loopback<'_, R>,
+    asking: &Asking<'_, R>,
+    sql: &str,
+    (output, faults): (&mut MemoryOutput, &mut MemoryOutput),
+) -> u8 {
+    let querying = Querying {
+        port: asking.port,
+        streams: 2,
+        sql,
+    };
+    query(asking.rt, asking.alloc, network, output, faults, querying).number()
+}
+
+// A put, a list of the tables, a query of groups, one of all rows, and one whose output is closed.
 fn asked<R: Net<Listener = TcpListener, Stream = TcpStream> + Threads>(
     rt: &R,
     alloc: Global,
     port: u16,
-) -> Result<([u8; 3], MemoryOutput, MemoryOutput), Failure> {
+) -> Result<Heard, Failure> {
+    let asking = Asking { rt, alloc, port };
     let mut network = Loopback::new(rt);
-    let mut output = MemoryOutput::new(alloc);
-    let mut faults = MemoryOutput::new(alloc);
-    let grouped = Querying {
-        port,
-        streams: 2,
-        sql: GROUPED,
-    };
     let (put, counted) = put_stream(&mut network, alloc, port);
-    let listed = tables(alloc, &mut network, &mut output, &mut faults, port).number();
-    let queried = query(rt, alloc, &mut network, &mut output, &mut faults, grouped).number();
-    Ok(([put, listed, queried], counted, output))
+    let mut lines = MemoryOutput::new(alloc);
+    let mut said = MemoryOutput::new(alloc);
+    let mut closed = MemoryOutput::new(alloc).failing_after(0);
+    let listed = tables(alloc, &mut network, &mut lines, &mut said, port).number();
+    let grouped = queried(&mut network, &asking, GROUPED, (&mut lines, &mut said));
+    let all = queried(&mut network, &asking, ALL, (&mut lines, &mut said));
+    let refused = queried(&mut network, &asking, GROUPED, (&mut closed, &mut said));
+    Ok(Heard {
+        statuses: [put, listed, grouped, all, refused],
+        counted,
+        lines,
+        said,
+    })
 }
 
+// One connection for the put, for the list and for each query of groups, and two for the query of all rows are served.
 #[test]
-fn three_commands(rt: HostRuntime) -> Result<(), Fail> {
+fn five_commands(rt: HostRuntime) -> Result<(), Fail> {
     let (runtime, alloc) = (&rt, rt.alloc());
     let seed = HashSeed::new(runtime)?;
     let client = |port| asked(runtime, alloc, port);
-    let (server, (statuses, counted, lines)) = beside(runtime, alloc, seed, 3, client)?;
+    let (server, heard) = beside(runtime, alloc, seed, 6, client)?;
     assert!(rt; server.status == 0);
     let listening = format!(in alloc; "listening 127.0.0.1:{}\n", server.port)?;
     assert!(rt; server.output.as_slice() == listening.as_bytes());
     assert!(rt; server.faults.as_slice() == NOTHING);
-    assert!(rt; statuses == [0, 0, 0]);
-    assert!(rt; counted.as_slice() == b"5 rows\n".as_slice());
-    assert!(rt; lines.as_slice() == TABLE_AND_GROUPS);
-    Ok(())
-}
-
-// The exit statuses of a put, and of a query whose output is closed; and what that says.
-fn refused<R: Net<Listener = TcpListener, Stream = TcpStream> + Threads>(
-    rt: &R,
-    alloc: Global,
-    port: u16,
-) -> Result<([u8; 2], MemoryOutput), Failure> {
-    let mut network = Loopback::new(rt);
-    let mut closed = MemoryOutput::new(alloc).failing_after(0);
-    let mut faults = MemoryOutput::new(alloc);
-    let grouped = Querying {
-        port,
-        streams: 2,
-        sql: GROUPED,
-    };
-    let (put, _) = put_stream(&mut network, alloc, port);
-    let queried = query(rt, alloc, &mut network, &mut closed, &mut faults, grouped).number();
-    Ok(([put, queried], faults))
-}
-
-#[test]
-fn closed_output(rt: HostRuntime) -> Result<(), Fail> {
-    let (runtime, alloc) = (&rt, rt.alloc());
-    let seed = HashSeed::new(runtime)?;
-    let client = |port| refused(runtime, alloc, port);
-    let (server, (statuses, said)) = beside(runtime, alloc, seed, 2, client)?;
-    assert!(rt; server.status == 0);
-    assert!(rt; statuses == [0, 3]);
-    assert!(rt; said.as_slice() == TRANSPORT_LINE);
+    assert!(rt; heard.statuses == [0, 0, 0, 0, 3]);
+    assert!(rt; heard.counted.as_slice() == b"5 rows\n".as_slice());
+    assert!(rt; heard.lines.as_slice() == TABLE_GROUPS_AND_ROWS);
+    assert!(rt; heard.said.as_slice() == TRANSPORT_LINE);
     Ok(())
 }
 

@@ -1,63 +1,18 @@
-//! Queries over two connections: over loopback, and over answers in memory of which the second ends first.
+//! A query over two connections, over answers in memory of which the second ends first.
 
 ghost use Rattle.std.specs.Prelude.{◌<◌, ◌≡◌};
 
-use crate::clients::{STREAM, put_stream};
-use crate::serving::beside;
-use client_calls::Failure;
+use crate::clients::STREAM;
 use client_commands::query::{Querying, query};
 use command_ends::Connect;
 use grpc_frame::{Input, MemoryInput, MemoryOutput};
-use hash_seed::HashSeed;
-use loopback::Loopback;
 use scan_base::Fault;
 use std::alloc::{AllocError, Global};
 use std::io::ErrorKind;
-use std::net::{Net, TcpListener, TcpStream};
 use std::sync::atomic::{AtomicU64, Ordering};
 use std::test::Fail;
-use std::thread::Threads;
 use std::time::{Clock, Duration};
 use std::{io, thread};
-
-// ---- over loopback
-
-// The rows that are put, which `serve` cuts in two ranges.
-const ROWS: &[u8] = b"s\n'b'\nNULL\n'a'\nNULL\n'b'\n";
-
-// The exit statuses of a put and of a query over two connections; and what the query prints.
-fn asked<R: Net<Listener = TcpListener, Stream = TcpStream> + Threads>(
-    rt: &R,
-    alloc: Global,
-    port: u16,
-) -> Result<([u8; 2], MemoryOutput), Failure> {
-    let mut network = Loopback::new(rt);
-    let mut output = MemoryOutput::new(alloc);
-    let mut faults = MemoryOutput::new(alloc);
-    let querying = Querying {
-        port,
-        streams: 2,
-        sql: "SELECT s FROM t",
-    };
-    let (put, _) = put_stream(&mut network, alloc, port);
-    let queried = query(rt, alloc, &mut network, &mut output, &mut faults, querying).number();
-    Ok(([put, queried], output))
-}
-
-// One connection for the put and two for the query are served.
-#[test]
-fn two_connections(rt: HostRuntime) -> Result<(), Fail> {
-    let (runtime, alloc) = (&rt, rt.alloc());
-    let seed = HashSeed::new(runtime)?;
-    let client = |port| asked(runtime, alloc, port);
-    let (server, (statuses, lines)) = beside(runtime, alloc, seed, 3, client)?;
-    assert!(rt; server.status == 0);
-    assert!(rt; statuses == [0, 0]);
-    assert!(rt; lines.as_slice() == ROWS);
-    Ok(())
-}
-
-// ---- over answers in memory
 
 // The answer to an info: one FlightInfo of two endpoints, with the tickets `A` and `B`, and status 0.
 const INFO: &[u8] =
