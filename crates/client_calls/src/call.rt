@@ -1,6 +1,6 @@
 //! Writing a call.
 
-ghost use Rattle.std.specs.Prelude.{◌≡◌, ◌++◌, ◌<◌, ◌≤◌, length, true, false, Result};
+ghost use Rattle.std.specs.Prelude.{◌≡◌, ◌<◌, ◌≤◌, length, true, false, Result};
 ghost use Rattle.scan_base.specs.Limits.{most_path_bytes};
 ghost use Rattle.grpc_frame.specs.declared.record.Record.TheVariants.{Open, Message};
 ghost use Rattle.grpc_frame.specs.Records.{spelling};
@@ -98,24 +98,6 @@ fn all_fit(messages: &[Payload]) -> bool
     true
 }
 
-// Sends a head, and then the content behind it.
-#[tactic(auto, using(grpc_frame::proofs::Sending::sending))]
-fn send_parts<W: Output>(
-    outbox: &mut Outbox,
-    writer: &mut W,
-    head: &[u8],
-    content: &[u8],
-) -> Result<(), Fault>
-    requires { W.failures writer.old < 18446744073709551615 }
-    ensures bytes { Sends result (W.contents writer.old) (W.contents writer.new)
-        outbox.old outbox.new (head.now ++ content.now) }
-    ensures counted { CountsFailure result (W.failures writer.old) (W.failures writer.new) }
-    ensures kind { FailsByTransport result }
-{
-    outbox.send_part(writer, head)?;
-    outbox.send_part(writer, content)
-}
-
 // Sends an Open.
 fn send_open<W: Output>(outbox: &mut Outbox, writer: &mut W, method: Method) -> Result<(), Fault>
     requires { W.failures writer.old < 18446744073709551615 }
@@ -126,7 +108,7 @@ fn send_open<W: Output>(outbox: &mut Outbox, writer: &mut W, method: Method) -> 
 {
     let path = method.path();
     let [high, low] = (path.len() as u16).to_be_bytes();
-    send_parts(outbox, writer, &[OPEN, high, low], path)
+    outbox.send_parts(writer, &[OPEN, high, low], path)
 }
 
 // Sends a Message.
@@ -143,7 +125,7 @@ fn send_payload<W: Output>(
     ensures kind { FailsByTransport result }
 {
     outbox.send_message_head(writer, message.len())?;
-    send_parts(outbox, writer, &message.head, message.body.as_slice())
+    outbox.send_parts(writer, &message.head, message.body.as_slice())
 }
 
 // Sends a call.

@@ -1,7 +1,7 @@
 //! Faults and texts.
 
 use crate::bytes_text::Hex;
-use grpc_frame::{MemoryOutput, write_status};
+use grpc_frame::{MemoryOutput, Outbox};
 use scan_base::{Fault, read_text};
 use std::alloc::Global;
 
@@ -48,7 +48,9 @@ pub fn fault(alloc: Global, place: &[u8]) -> Result<String, Fault> {
 /// The record that answers a call with the fault at a place, or with none.
 pub fn status(alloc: Global, place: &[u8]) -> Result<String, Fault> {
     let mut out = MemoryOutput::new(alloc);
-    write_status(&mut out, fault_at(place))?;
+    let mut outbox = Outbox::new(alloc);
+    outbox.send_status(&mut out, fault_at(place))?;
+    outbox.flush(&mut out)?;
     let out = Hex(out.as_slice());
     Ok(format!(in alloc; "{out}")?)
 }

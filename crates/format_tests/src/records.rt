@@ -3,8 +3,8 @@
 ghost use Rattle.std.specs.Prelude.{◌≡◌, ◌<◌, ◌≤◌, IfOk, length};
 
 use grpc_frame::{
-    Counted, Inbox, Input, MAX_MESSAGE_LEN, MAX_PATH_LEN, MemoryInput, MemoryOutput, Output,
-    Record, write_end, write_message, write_open,
+    Counted, Inbox, Input, MAX_MESSAGE_LEN, MAX_PATH_LEN, MemoryInput, MemoryOutput, Outbox,
+    Output, Record,
 };
 use scan_base::Fault;
 use std::alloc::{AllocError, Global};
@@ -118,23 +118,27 @@ fn writes(rt: HostRuntime) {
     }
 }
 
-// A call of one message.
-fn write_call<W: Output>(out: &mut W) -> Result<(), Fault>
+// A call of one message, of which each record is a write.
+fn write_call<W: Output>(alloc: Global, out: &mut W) -> Result<(), Fault>
     requires { W.failures out.old < 18446744073709551615 }
 {
-    write_open(out, b"/x")?;
-    write_message(out, b"\x0a\x02\x08\x04")?;
-    write_end(out)
+    let mut outbox = Outbox::new(alloc);
+    outbox.send_parts(out, b"\x01\x00\x02", b"/x")?;
+    outbox.flush(out)?;
+    outbox.send_message(out, b"\x0a\x02\x08\x04")?;
+    outbox.flush(out)?;
+    outbox.send_part(out, b"\x03")?;
+    outbox.flush(out)
 }
 
 // A call whose write of this number fails is written up to there, and the failure is counted.
 #[test]
 fn each_write_fails(rt: HostRuntime) {
     let whole: &[u8] = b"\x01\x00\x02/x\x02\x00\x00\x00\x00\x04\x0a\x02\x08\x04\x03";
-    for calls in 0..6u64 {
+    for calls in 0..4u64 {
         let mut out = MemoryOutput::new(rt.alloc()).failing_after(calls);
-        let fails = write_call(&mut out).is_err();
-        assert!(rt; fails == (calls < 5) && Output::failures(&out) == u64::from(fails));
+        let fails = write_call(rt.alloc(), &mut out).is_err();
+        assert!(rt; fails == (calls < 3) && Output::failures(&out) == u64::from(fails));
         assert!(rt; whole.starts_with(out.as_slice()) && (out.as_slice() == whole) != fails);
     }
 }
@@ -168,8 +172,10 @@ fn write_longest(alloc: Global) -> Result<MemoryOutput, Fault> {
     let path = many(alloc, MAX_PATH_LEN)?;
     let message = many(alloc, MAX_MESSAGE_LEN)?;
     let mut out = MemoryOutput::new(alloc);
-    write_open(&mut out, &path)?;
-    write_message(&mut out, &message)?;
+    let mut outbox = Outbox::new(alloc);
+    outbox.send_parts(&mut out, b"\x01\x01\x00", &path)?;
+    outbox.send_message(&mut out, &message)?;
+    outbox.flush(&mut out)?;
     Ok(out)
 }
 

@@ -25,4 +25,3 @@ pub use crate::memory::{MemoryInput, MemoryOutput};
 pub use crate::outbox::{MAX_GATHERED_LEN, Outbox};
 pub use crate::place::Place;
 pub use crate::record::{MAX_MESSAGE_LEN, MAX_PATH_LEN, Record};
-pub use crate::write::{write_end, write_message, write_open, write_status};

@@ -110,22 +110,26 @@ impl Outbox {
         self.send_parts(writer, &status_head(fault, text.len()), text)
     }
 
-    // Sends a head, and then the content that it announces.
+    /// Sends two parts of a record, one behind the other.
+    ///
+    /// # Errors
+    ///
+    /// `Fault::Transport` where a write failed. It is counted.
     #[tactic(auto, using(crate::proofs::Sending::sending))]
-    fn send_parts<W: Output>(
+    pub fn send_parts<W: Output>(
         &mut self,
         writer: &mut W,
-        head: &[u8],
-        content: &[u8],
+        first: &[u8],
+        second: &[u8],
     ) -> Result<(), Fault>
         requires { W.failures writer.old < 18446744073709551615 }
         ensures bytes { Sends result (W.contents writer.old) (W.contents writer.new)
-            self.old self.new (head.now ++ content.now) }
+            self.old self.new (first.now ++ second.now) }
         ensures counted { CountsFailure result (W.failures writer.old) (W.failures writer.new) }
         ensures kind { FailsByTransport result }
     {
-        self.send_part(writer, head)?;
-        self.send_part(writer, content)
+        self.send_part(writer, first)?;
+        self.send_part(writer, second)
     }
 
     /// Sends bytes of a record. They are gathered where there is room for all of them, else what was gathered before

@@ -1,6 +1,6 @@
 //! Texts and names, as they are printed.
 
-ghost use Rattle.std.specs.Prelude.{◌≡◌, ◌++◌, ◌∷◌, ◌<◌, [], MatchOption};
+ghost use Rattle.std.specs.Prelude.{◌≡◌, ◌∷◌, ◌<◌, [], MatchOption};
 ghost use Rattle.std.specs.List.{flat_map};
 ghost use Rattle.grpc_frame.specs.Ends.{CountsFailure, FailsByTransport};
 ghost use Rattle.grpc_frame.specs.Sending.{Sends};
@@ -64,26 +64,9 @@ pub(crate) fn send_text<W: Output>(
     let mut from = 0;
     for (at, byte) in bytes.iter().enumerate() {
         if let Some(escape) = escape(*byte, spelling) {
-            send_both(writer, outbox, &bytes[from..at], escape)?;
+            outbox.send_parts(writer, &bytes[from..at], escape)?;
             from = at + 1;
         }
     }
     outbox.send_part(writer, &bytes[from..])
-}
-
-// Sends two parts, one behind the other.
-fn send_both<W: Output>(
-    writer: &mut W,
-    outbox: &mut Outbox,
-    first: &[u8],
-    second: &[u8],
-) -> Result<(), Fault>
-    requires { W.failures writer.old < 18446744073709551615 }
-    ensures bytes { Sends result (W.contents writer.old) (W.contents writer.new)
-        outbox.old outbox.new (first.now ++ second.now) }
-    ensures counted { CountsFailure result (W.failures writer.old) (W.failures writer.new) }
-    ensures fault { FailsByTransport result }
-{
-    outbox.send_part(writer, first)?;
-    outbox.send_part(writer, second)
 }
