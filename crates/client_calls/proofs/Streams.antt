@@ -6,8 +6,7 @@ use Rattle.scan_base.specs.declared.fault.Fault.TheVariants.{OutOfMemory}
 use Rattle.scan_base.specs.Reading.{RefusesFirst}
 use Rattle.grpc_frame.specs.Records.{Received, with_more}
 use Rattle.flight_info.specs.Payloads.{Payload}
-use Rattle.flight_proto.specs.FlightData.{data_of}
-use Rattle.flight_client.specs.Stream.{StreamAt, after_payload, Came, Ends}
+use Rattle.flight_client.specs.Stream.{StreamAt, after_payload, glance_of, Came, Ends}
 use Rattle.client_calls.specs.declared.answer.Arrival.{Arrival}
 use Rattle.client_calls.specs.declared.answer.Arrival.TheVariants as arrival
 use Rattle.client_calls.specs.declared.failure.Failure.{Failure}
@@ -31,7 +30,7 @@ module _ (a b c : Option (List ℕ)) (x y z : ℕ) (old mid new : Received) (pay
   stream_answers fault q = answered a b c x y z old mid new payloads p same fault q
 
   -- a payload is refused
-  pub stream_refused : (last : Payload) (found fault : Fault) → Since (Ok (arrival.Message last)) → RefusesFirst {X = Unit {0}} (Err found) (data_of last)
+  pub stream_refused : (last : Payload) (found fault : Fault) → Since (Ok (arrival.Message last)) → RefusesFirst {X = Unit {0}} (Err found) (glance_of stream last)
       → (found ≢ OutOfMemory → after_payload stream last ≡ Err found) → Stands new found fault → Gives (Err fault)
   stream_refused last found fault q first why instead = (t.came, t.consumed, inr refused)
     where

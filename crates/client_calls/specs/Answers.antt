@@ -11,9 +11,8 @@ use Rattle.grpc_frame.specs.declared.record.Record.TheVariants.{Message, Status}
 use Rattle.grpc_frame.specs.Records.{spelling, IsRecord, Received, Breaks, IsCut}
 use Rattle.grpc_frame.specs.Arrivals.{IsSound}
 use Rattle.flight_info.specs.Payloads.{Payload}
-use Rattle.flight_proto.specs.FlightData.{data_of}
 use Rattle.flight_client.specs.Status.{StatusSays}
-use Rattle.flight_client.specs.Stream.{StreamAt, after_payload, Came}
+use Rattle.flight_client.specs.Stream.{StreamAt, after_payload, glance_of, Came}
 use Rattle.client_calls.specs.declared.failure.Failure.{Failure}
 use Rattle.client_calls.specs.declared.failure.Failure.TheVariants.{Answered, Found}
 
@@ -128,14 +127,15 @@ abbrev pub Stands : Received → Fault → Fault → Type 0
 Stands at OutOfMemory fault = Breaks at fault ⊎ ((fault ≡ OutOfMemory) × IsSound at)
 Stands at found fault = fault ≡ found
 
--- the last of the payloads in front is refused, for want of memory only if it is a FlightData: this fault is answered
+-- the last of the payloads in front is refused, for want of memory only if a glance at it refuses nothing: this fault is
+-- answered
 pub record IsRefused (fault : Fault) (old new : Incoming) (all : Received) : Type 0 where
   pub payloads : List Payload
   pub last : Payload
   pub stream : StreamAt
   pub came : Came payloads stream
   pub found : Fault
-  pub first : RefusesFirst {X = Unit {0}} (Err found) (data_of last)
+  pub first : RefusesFirst {X = Unit {0}} (Err found) (glance_of stream last)
   pub refused : found ≢ OutOfMemory → after_payload stream last ≡ Err found
   pub at : Received
   pub instead : Stands at found fault
