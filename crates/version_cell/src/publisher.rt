@@ -91,15 +91,23 @@ impl<C: CellName, R: Wait + Drop> Publisher<C, R> {
         self.store().after(alloc, put)
     }
 
-    // Adds the put to the book, and gives what is to be shown. From here on nothing can refuse it.
-    fn commit(&self, index: Arc<VersionIndex>, made_by: &snapshot::Snapshot<Put>) -> Store
+    // Adds the put to the book and shows the version behind it, and gives its number. From here on nothing can refuse the put.
+    fn commit(&mut self, index: Arc<VersionIndex>, made_by: &snapshot::Snapshot<Put>) -> u64
         requires kept { map tables_of (arc_value index)
-            ≡ versions_of (puts_of (self.now ++ added (put_of made_by.now.value) ∷ [])) }
-        requires few { puts_in self.now < most_commits }
-        ensures book { result.history.seen.book ≡ C.book }
-        ensures log { result.history.seen.log ≡ self.now ++ added (put_of made_by.now.value) ∷ [] }
+            ≡ versions_of (puts_of (self.old ++ added (put_of made_by.now.value) ∷ [])) }
+        requires accepted { IsOk (after_log self.old (put_of made_by.now.value)) }
+        ensures log { self.new ≡ self.old ++ added (put_of made_by.now.value) ∷ [] }
+        ensures number { result ≡ puts_in self.new }
     {
-        Store::new(index, self.record(made_by))
+        let store = Store::new(index, self.record(made_by));
+        let number = store.history.puts();
+        let writer = self.writer.take().unwrap();
+        let writer = publish(&self.rt, writer, store);
+        let gone = self.writer.replace(writer);
+        let None = gone else {
+            unreachable!();
+        };
+        number
     }
 
     // The history with the put added. It asks again where the book were longer than what is shown, which it never is.
@@ -136,14 +144,7 @@ impl<C: CellName, R: Wait + Drop> Publisher<C, R> {
     {
         let made_by = snapshot::Snapshot::of(&put);
         let index = self.prepare(alloc, put)?;
-        let store = self.commit(index, &made_by);
-        let number = store.history.puts();
-        let writer = self.writer.take().unwrap();
-        let writer = publish(&self.rt, writer, store);
-        let gone = self.writer.replace(writer);
-        let None = gone else {
-            unreachable!();
-        };
+        let number = self.commit(index, &made_by);
         Ok(Receipt {
             number,
             put: made_by,
