@@ -9,7 +9,7 @@ use Rattle.flight_info.specs.Payloads.{Payload}
 use Rattle.flight_info.specs.Replies.{ReplyAt, refusal}
 use Rattle.flight_core.specs.Asked.{Asked, put, info, tables, schema, fetch}
 use Rattle.table_versions.specs.Log.{Log, added, puts_in, database_of, Begins}
-use Rattle.flight_core.specs.Puts.{command_in, put_said}
+use Rattle.flight_core.specs.Puts.{put_glance, put_said}
 use Rattle.flight_core.specs.Refusals.{RefusedFor}
 use Rattle.flight_core.specs.Machine.{PutStep}
 use Rattle.flight_core.proofs.Replies.{refused_reply, unread_reply}
@@ -116,7 +116,7 @@ looks_not : (payloads : List Payload) → Looks (Ok (put payloads)) → ⊥
 looks_not payloads looks = looks
 
 -- its payloads are refused
-pub put_unread : (moves : Moves) → ((s : Seat) → moves s s.log s.log s) → (s : Seat) (payloads : List Payload) (fault : Fault) → RefusedFor (command_in payloads) (put_said payloads) fault
+pub put_unread : (moves : Moves) → ((s : Seat) → moves s s.log s.log s) → (s : Seat) (payloads : List Payload) (fault : Fault) → RefusedFor (put_glance payloads) (put_said payloads) fault
     → Reacts moves (Ok (put payloads)) s (refusal fault) s
 put_unread moves stays s payloads fault is =
     reacts_unseen moves stays (Ok (put payloads)) s (refusal fault) (refl, refl, unread_reply s.log payloads fault is) (looks_not payloads)

@@ -9,7 +9,7 @@ ghost use Rattle.flight_info.specs.Payloads.{Payload, FitMessages};
 ghost use Rattle.flight_core.specs.Asked.{put, schema, fetch};
 ghost use Rattle.table_versions.specs.Log.{puts_in, version};
 ghost use Rattle.flight_core.specs.Machine.{OpensIn};
-ghost use Rattle.flight_core.specs.Puts.{command_in, put_said};
+ghost use Rattle.flight_core.specs.Puts.{put_glance, put_said};
 ghost use Rattle.flight_core.specs.Refusals.{GivesBehind};
 ghost use Rattle.flight_calls.specs.Calls.{info_asked};
 ghost use Rattle.flight_calls.specs.Seats.{Learns};
@@ -31,7 +31,7 @@ use table_versions::{Put, Snapshot};
 // Answers a put whose payloads were read, or its first fault. The growths of its answer come before the put.
 pub fn put_on<B: Backend>(alloc: Global, backend: &mut B, read: Result<Put, Fault>) -> Reply
     ensures step { (payloads : List Payload)
-        → GivesBehind (command_in payloads) put_of read (put_said payloads)
+        → GivesBehind (put_glance payloads) put_of read (put_said payloads)
         → Reacts B.moves (Ok (put payloads)) (B.seat backend.old) result (B.seat backend.new) }
     ensures fits { FitMessages result.payloads }
 {

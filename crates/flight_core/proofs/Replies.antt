@@ -15,10 +15,10 @@ use Rattle.table_versions.proofs.Accepted.{accepted_puts_are_few}
 use Rattle.flight_info.specs.Payloads.{Payload}
 use Rattle.flight_info.proofs.Sizes.{short_number, short_chunk, short_set}
 use Rattle.flight_core.specs.Refusals.{RefusedFor}
-use Rattle.flight_core.specs.Puts.{command_in, put_said}
+use Rattle.flight_core.specs.Puts.{put_glance, put_said}
 use Rattle.table_versions.specs.Log.{Log, added, puts_in, database_of}
 use Rattle.flight_core.specs.Machine.{PutStep, database_put}
-use Rattle.flight_core.proofs.Arriving.{behind, refused_on}
+use Rattle.flight_core.proofs.Arriving.{behind, refused_on, glance_good}
 
 few_where_ok : (old : Database) (n : ℕ) (put : Put) (result : Result Database Fault) → after old n put ≡ result → IsOk result → length put.rows ≤ most_rows
 few_where_ok old n put (Ok new) e ok = accepted_puts_are_few old n put new e
@@ -33,21 +33,16 @@ accepted_reply log new payloads answers put rows said ok made counted is =
 
 -- ---- refused puts
 
--- payloads that were read have a command
-pub command_good : (payloads : List Payload) (put : Put) → put_said payloads ≡ Ok put → (cause : Fault) → command_in payloads ≡ Err cause → ⊥
-unfolding put_said
-command_good payloads put said cause e = let both = rw e at said in cc
-
 -- a put whose payloads are refused
-pub unread_reply : (log : Log) (payloads : List Payload) (fault : Fault) → RefusedFor (command_in payloads) (put_said payloads) fault
-    → RefusedFor (command_in payloads) (database_put log payloads) fault
-unread_reply log payloads fault is = refused_on (command_in payloads) (put_said payloads) (database_put log payloads) fault (λ e. rw e refl) is
+pub unread_reply : (log : Log) (payloads : List Payload) (fault : Fault) → RefusedFor (put_glance payloads) (put_said payloads) fault
+    → RefusedFor (put_glance payloads) (database_put log payloads) fault
+unread_reply log payloads fault is = refused_on (put_glance payloads) (put_said payloads) (database_put log payloads) fault (λ e. rw e refl) is
 
 -- a put that is read and is refused by its fault, or for want of memory
 pub refused_reply : (log : Log) (payloads : List Payload) (put : Put) (fault : Fault) → put_said payloads ≡ Ok put
-    → (fault ≢ OutOfMemory → after (database_of log) (puts_in log) put ≡ Err fault) → RefusedFor (command_in payloads) (database_put log payloads) fault
+    → (fault ≢ OutOfMemory → after (database_of log) (puts_in log) put ≡ Err fault) → RefusedFor (put_glance payloads) (database_put log payloads) fault
 refused_reply log payloads put fault said is =
-    behind (command_in payloads) (database_put log payloads) fault (command_good payloads put said) (λ other. rw said (is other))
+    behind (put_glance payloads) (database_put log payloads) fault (glance_good payloads put said) (λ other. rw said (is other))
 
 -- the fault of a put that is refused, or memory
 pub due : (database : Database) (n : ℕ) (put : Put) (first : Option Fault) (fault : Fault) → first ≡ first_fault (put_faults database n put) → fault ≡ unwrap_or first OutOfMemory

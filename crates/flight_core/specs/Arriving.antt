@@ -8,7 +8,7 @@ use Rattle.ipc_batch.specs.Said.{rows_in}
 use Rattle.table_versions.specs.Database.{Put}
 use Rattle.flight_core.specs.Refusals.{GivesBehind}
 use Rattle.flight_info.specs.Payloads.{Payload}
-use Rattle.flight_core.specs.Puts.{Told, news_in_payload, told_by, put_made}
+use Rattle.flight_core.specs.Puts.{Told, news_in_payload, message_glance, told_by, first_glance, put_made}
 
 -- a put that was begun: its command, and what its payloads tell
 pub record BegunAt : Type 0 where
@@ -23,11 +23,12 @@ said_so_far (first ∷ payloads) = do
   told ← told_by None (first ∷ payloads)
   Ok (Some (record { ingest = ingest; told = told }))
 
--- a reader to which these payloads came holds what they say so far, or behind their command that memory was refused
+-- a reader to which these payloads came holds what they say so far, or behind a glance at the first of them that memory
+-- was refused
 abbrev pub HasRead : List Payload → Result (Option BegunAt) Fault → Type 0
 HasRead [] reader = reader ≡ Ok None
 HasRead (first ∷ payloads) reader =
-    GivesBehind (ingest_of first) (λ begun. begun) reader (said_so_far (first ∷ payloads))
+    GivesBehind (first_glance first) (λ begun. begun) reader (said_so_far (first ∷ payloads))
 
 -- ---- one payload more
 
@@ -48,10 +49,10 @@ abbrev pub said_next : Option BegunAt → Payload → Result (Option BegunAt) Fa
 said_next None first = begun_by first >>= λ begun. after_payload begun first
 said_next (Some begun) payload = after_payload begun payload
 
--- what is seen of one payload more before any memory is taken: of the first one its command
-abbrev pub glance_next : Option BegunAt → Payload → Result (Option IngestSaid) Fault
-glance_next None first = ingest_of first >>= λ ingest. Ok (Some ingest)
-glance_next (Some begun) payload = Ok None
+-- what is refused of one payload more before anything grows or is cut: of the first one its command comes before its message
+abbrev pub glance_next : Option BegunAt → Payload → Result (Unit {0}) Fault
+glance_next None first = first_glance first
+glance_next (Some begun) payload = message_glance begun.told.state payload
 
 -- the put, where no payload follows
 abbrev pub whole_put : Option BegunAt → Result Put Fault

@@ -10,7 +10,7 @@ use Rattle.flight_info.specs.Payloads.{Payload}
 use Rattle.flight_core.specs.Asked.{Asked, put, info, tables, schema, fetch}
 use Rattle.flight_info.specs.Replies.{ReplyAt}
 use Rattle.table_versions.specs.Log.{Log, added, puts_in, database_of, version}
-use Rattle.flight_core.specs.Puts.{command_in, put_said}
+use Rattle.flight_core.specs.Puts.{put_glance, put_said}
 use Rattle.fetch_stream.specs.Fetches.{version_of, handle_shown, FetchAt}
 use Rattle.fetch_stream.specs.Streams.{StreamAt, Opens}
 use Rattle.endpoint_split.specs.Handle.{HandleAt}
@@ -21,14 +21,14 @@ abbrev pub database_put : Log → List Payload → Result Database Fault
 database_put log payloads = put_said payloads >>= λ put. after (database_of log) (puts_in log) put
 
 -- A put: an accepted one stands at the end of the log, and is answered by how many rows it put. A refused one
--- changes nothing and has no payload: its command is refused for its own fault, and what stands behind the command for
--- the first fault, or because memory was refused.
+-- changes nothing and has no payload: a glance at its first payload is refused for its own fault, and what stands behind
+-- it for the first fault, or because memory was refused.
 abbrev pub PutStep : Log → List Payload → List Payload → Option Fault → Log → Type 0
 PutStep log payloads answers None new = (put : Put) × (put_said payloads ≡ Ok put)
     × IsOk (after (database_of log) (puts_in log) put) × (new ≡ log ++ added put ∷ [])
     × (answers ≡ rows_put_bytes (pos (length put.rows)) ∷ [])
 PutStep log payloads answers (Some fault) new = (new ≡ log) × (answers ≡ [])
-    × RefusedFor (command_in payloads) (database_put log payloads) fault
+    × RefusedFor (put_glance payloads) (database_put log payloads) fault
 
 -- the answer to what a fetch shows: the fault that is seen there, or the answer at the handle's version
 abbrev pub FetchBy : Log → Result HandleAt Fault → List Payload → Option Fault → Type 0

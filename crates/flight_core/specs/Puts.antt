@@ -8,7 +8,7 @@ use Rattle.arrow_schema.specs.declared.schema.Schema.{Schema}
 use Rattle.flight_proto.specs.FlightData.{data_of}
 use Rattle.flight_proto.specs.Ingest.{IngestSaid, ingest_of}
 use Rattle.ipc_batch.specs.State.{State}
-use Rattle.ipc_batch.specs.Said.{News, Rows, news_of, rows_in}
+use Rattle.ipc_batch.specs.Said.{News, Rows, news_of, glance_of, rows_in}
 use Rattle.table_versions.specs.Database.{Put}
 use Rattle.flight_info.specs.Payloads.{Payload, message_in}
 
@@ -22,6 +22,11 @@ unfoldable pub news_in_payload : State → Payload → Result News Fault
 news_in_payload state payload = data_of payload >>= λ carried.
     if length carried.data_header == 0 then Ok (record { state = state; batch = None })
     else news_of state (message_in carried)
+
+-- What is refused of a payload's message, after those that left this behind, before anything grows or is cut.
+unfoldable pub message_glance : State → Payload → Result (Unit {0}) Fault
+message_glance state payload = data_of payload >>= λ carried.
+    if length carried.data_header == 0 then Ok tt else glance_of state (message_in carried)
 
 -- what payloads tell, after those that left this behind
 abbrev pub told_by : State → List Payload → Result Told Fault
@@ -45,6 +50,15 @@ put_made ingest schema rows = record {
 abbrev pub command_in : List Payload → Result IngestSaid Fault
 command_in [] = Err UnknownCommand
 command_in (first ∷ payloads) = ingest_of first
+
+-- what is refused so of the first payload of a put: its command, and then its message
+abbrev pub first_glance : Payload → Result (Unit {0}) Fault
+first_glance first = ingest_of first >>= λ _. message_glance None first
+
+-- what is refused so of a put
+abbrev pub put_glance : List Payload → Result (Unit {0}) Fault
+put_glance [] = Err UnknownCommand
+put_glance (first ∷ payloads) = first_glance first
 
 -- the put that payloads say
 unfoldable pub put_said : List Payload → Result Put Fault

@@ -14,7 +14,7 @@ ghost use Rattle.table_versions.specs.Database.{after};
 ghost use Rattle.flight_core.specs.Refusals.{GivesBehind};
 ghost use Rattle.table_versions.specs.Stored.{put_of};
 ghost use Rattle.flight_info.specs.Payloads.{Payload, FitMessages};
-ghost use Rattle.flight_core.specs.Puts.{command_in, put_said};
+ghost use Rattle.flight_core.specs.Puts.{put_glance, put_said};
 
 use crate::event::Event;
 use crate::plain::Plain;
@@ -50,7 +50,7 @@ pub fn put_answer(alloc: Global, rows: usize) -> Result<Vec<Bytes>, AllocError>
 /// (`Fault::OutOfMemory`) only for a put that nothing else refuses.
 pub fn step_put(alloc: Global, plain: &mut Plain, read: Result<Put, Fault>) -> Reply
     ensures step { (payloads : List Payload)
-        → GivesBehind (command_in payloads) put_of read (put_said payloads)
+        → GivesBehind (put_glance payloads) put_of read (put_said payloads)
         → PutStep plain.old payloads result.payloads result.fault plain.new }
     ensures unread { IfErr read (λ fault. result.fault ≡ Some fault) }
     ensures refused { IfOk read (λ put. IfErr (after (database_of plain.old) (puts_in plain.old) (put_of put))

@@ -1,36 +1,52 @@
 //! Reading the payloads of a put.
 
-ghost use Rattle.std.specs.Prelude.{◌≡◌, ◌++◌, ◌∷◌, [], Ok, Err, None, Some, IfOk, OnErr, List};
+ghost use Rattle.std.specs.Prelude.{◌≡◌, ◌++◌, ◌∷◌, [], Ok, Err, None, Some, IfOk, IfErr, OnErr, List, Option};
 ghost use Rattle.scan_base.specs.declared.fault.Fault.{Fault};
-ghost use Rattle.scan_base.specs.Reading.{Gives, GivesUnlessMemory};
+ghost use Rattle.scan_base.specs.Reading.{Gives, GivesUnlessMemory, RefusesFirst};
 ghost use Rattle.flight_proto.specs.Ingest.{ingest_of};
 ghost use Rattle.arrays.specs.Batch.{BatchAt};
 ghost use Rattle.table_versions.specs.Stored.{put_of};
 ghost use Rattle.flight_info.specs.Payloads.{Payload};
-ghost use Rattle.flight_core.specs.Puts.{command_in, news_in_payload, put_said};
+ghost use Rattle.flight_core.specs.Puts.{news_in_payload, message_glance, first_glance, put_glance, put_said};
 ghost use Rattle.flight_core.specs.Refusals.{GivesBehind};
 ghost use Rattle.flight_core.specs.Stored.{MayBeStored, batches_in};
-ghost use Rattle.flight_core.specs.Arriving.{begun_by, after_payload, glance_next, said_next, whole_put, put_from, HasRead};
+ghost use Rattle.flight_core.specs.Arriving.{BegunAt, begun_by, after_payload, glance_next, said_next, whole_put, put_from, HasRead};
 
 use arrays::Batch;
 use bytes::Bytes;
-use flight_proto::{FlightData, Ingest, read_ingest};
+use flight_proto::{BorrowedData, FlightData, Ingest, read_ingest};
 use ipc_batch::Reader;
 use scan_base::{Fault, IfExists, IfNotExist, Text};
 use std::alloc::Global;
 use std::marker::Model;
 use table_versions::Put;
 
+// What is refused of a payload before anything grows or is cut.
+#[tactic(auto, unfolding(crate::specs::Puts::message_glance))]
+fn glance(alloc: Global, reader: &Reader, payload: &[u8]) -> Result<(), Fault>
+    ensures { Gives (λ done. done) result (message_glance reader.now payload.now) }
+{
+    let data = BorrowedData::read(payload)?;
+    if data.data_header.is_empty() {
+        return Ok(());
+    }
+    reader.glance(alloc, data.data_header, data.data_body)
+}
+
 // Reads a payload: a batch, or `None` where it has the schema, a dictionary or no message.
-#[tactic(auto, unfolding(crate::specs::Puts::news_in_payload))]
+#[tactic(auto, unfolding(crate::specs::Puts::news_in_payload, crate::specs::Puts::message_glance))]
 fn read_payload(alloc: Global, reader: &mut Reader, payload: &Bytes) -> Result<Option<Batch>, Fault>
     ensures told { GivesUnlessMemory (λ batch. record { state = reader.new; batch = batch })
         result (news_in_payload reader.old payload.now) }
+    ensures first { RefusesFirst result (message_glance reader.old payload.now) }
     ensures kept { OnErr result (reader.new ≡ reader.old) }
     ensures stored { (batches : List BatchAt) → MayBeStored reader.old batches →
         IfOk result (λ batch. MayBeStored reader.new (batches ++ batches_in batch)) }
 {
-    let data = FlightData::read(payload)?;
+    let Ok(data) = FlightData::read(payload) else {
+        glance(alloc, reader, payload.as_slice())?;
+        return Err(Fault::OutOfMemory);
+    };
     if data.data_header.is_empty() {
         return Ok(None);
     }
@@ -78,9 +94,24 @@ impl Begun {
         })
     }
 
+    // A put with what its first payload says.
+    fn first(alloc: Global, payload: &Bytes) -> Result<Begun, Fault>
+        ensures { GivesBehind (first_glance payload.now) (λ begun. Some begun) result
+            (said_next None payload.now) }
+    {
+        let Ok(mut first) = Begun::new(alloc, payload) else {
+            read_ingest(payload.as_slice())?;
+            glance(alloc, &Reader::new(), payload.as_slice())?;
+            return Err(Fault::OutOfMemory);
+        };
+        first.push(alloc, payload)?;
+        Ok(first)
+    }
+
     // Reads the next payload.
     fn push(&mut self, alloc: Global, payload: &Bytes) -> Result<(), Fault>
-        ensures { GivesUnlessMemory (λ _. Some self.new) result (after_payload self.old payload.now) }
+        ensures { GivesBehind (message_glance self.old.told.state payload.now) (λ _. Some self.new) result
+            (after_payload self.old payload.now) }
     {
         if let Some(batch) = read_payload(alloc, &mut self.reader, payload)? {
             self.batches.push(batch)?;
@@ -97,9 +128,7 @@ fn read_next(alloc: Global, begun: &mut Option<Begun>, payload: &Bytes) -> Resul
     match begun {
         Some(begun) => begun.push(alloc, payload),
         None => {
-            let mut first = Begun::new(alloc, payload)?;
-            first.push(alloc, payload)?;
-            *begun = Some(first);
+            *begun = Some(Begun::first(alloc, payload)?);
             Ok(())
         }
     }
@@ -151,10 +180,13 @@ impl PutReader {
         PutReader { begun: Ok(None) }
     }
 
-    /// Reads the next payload. Its fault is kept, and what comes behind it is not looked at.
+    /// Reads the next payload. Its fault is kept, and what comes behind it is not looked at. What a glance at it
+    /// refuses is never told as want of memory.
     pub fn push(&mut self, alloc: Global, payload: &Bytes)
         ensures read { (payloads : List Payload) → HasRead payloads self.old
             → HasRead (payloads ++ payload.now ∷ []) self.new }
+        ensures first { (begun : Option BegunAt) → self.old ≡ Ok begun
+            → IfErr (glance_next begun payload.now) (λ fault. self.new ≡ Err fault) }
         ensures kept { (fault : Fault) → self.old ≡ Err fault → self.new ≡ Err fault }
     {
         let Ok(begun) = &mut self.begun else {
@@ -172,7 +204,7 @@ impl PutReader {
     /// The first fault, as in [`read_put`]: F21 (`Fault::OutOfMemory`) only where it was refused before.
     pub fn into_put(self) -> Result<Put, Fault>
         ensures read { (payloads : List Payload) → HasRead payloads self
-            → GivesBehind (command_in payloads) put_of result (put_said payloads) }
+            → GivesBehind (put_glance payloads) put_of result (put_said payloads) }
         ensures whole { Gives put_of result (put_from self) }
     {
         match self.begun {
@@ -194,9 +226,10 @@ impl PutReader {
 /// - The faults of `ipc_batch::Reader::message` (F6, F7, F8, F12) for a message. A payload with an empty
 ///   header has none.
 /// - F8 (`Fault::BadBatch`) where no schema came.
-/// - F21 (`Fault::OutOfMemory`) where memory is refused, and not where the command is refused.
+/// - F21 (`Fault::OutOfMemory`) where memory is refused, and neither for the command nor for what
+///   `ipc_batch::Reader::message` looks at first in the message of the first payload.
 pub fn read_put(alloc: Global, payloads: &[Bytes]) -> Result<Put, Fault>
-    ensures { GivesBehind (command_in payloads.now) put_of result (put_said payloads.now) }
+    ensures { GivesBehind (put_glance payloads.now) put_of result (put_said payloads.now) }
 {
     let mut reader = PutReader::new();
     for payload in payloads {
