@@ -90,22 +90,22 @@ abbrev pub after_all : Database → ℕ → List Put → Database
 after_all database n [] = database
 after_all database n (put ∷ puts) = after_all (accepted database (after database n put)) (n + 1) puts
 
--- the database after a log
+-- the database after puts, of which those that are refused are passed over
 abbrev pub database_of : List Put → Database
-database_of log = after_all [] 0 log
+database_of puts = after_all [] 0 puts
 
--- version n of a log is the database of its first n puts
+-- version n is the database after the first n puts
 abbrev pub version : List Put → ℕ → Database
-version log n = database_of (take n log)
+version puts n = database_of (take n puts)
 
--- a log holds accepted puts alone: put n of it is accepted by version n, and gives version n + 1
+-- all of these puts are accepted: put n by version n, and it gives version n + 1
 abbrev pub AreAccepted : List Put → Type 0
-AreAccepted log = (n : ℕ) (put : Put) → slice_get log n ≡ Some put → after (version log n) n put ≡ Ok (version log (n + 1))
+AreAccepted puts = (n : ℕ) (put : Put) → slice_get puts n ≡ Some put → after (version puts n) n put ≡ Ok (version puts (n + 1))
 
--- the log after a put: an accepted one stands at its end, and a refused one changes nothing
+-- the puts after one more: an accepted one stands at their end, and a refused one changes nothing
 abbrev pub logged : List Put → Put → List Put
-logged log put = going (after (database_of log) (length log) put)
+logged puts put = going (after (database_of puts) (length puts) put)
   where
     going : Result Database Fault → List Put
-    going (Ok database) = log ++ put ∷ []
-    going (Err fault) = log
+    going (Ok database) = puts ++ put ∷ []
+    going (Err fault) = puts

@@ -1,4 +1,4 @@
--- Laws of databases and logs.
+-- Laws of databases and of lists of puts.
 use Rattle.std.specs.Prelude.{◌≡◌, ◌≤◌, ℕ, if◌then◌else◌, List, [], ◌∷◌, ◌++◌, length, All, Some, Ok, Err}
 use Rattle.std.specs.Str.{bytes_eq}
 use Rattle.scan_base.specs.declared.fault.Fault.{Fault}
@@ -14,25 +14,25 @@ TablesAreFound =
     (name other : Name) (table : Table) (database : Database) →
     table_at (with_table name table database) other ≡ (if bytes_eq name other then Some table else table_at database other)
 
--- an accepted put is logged, gives the log's database, and changes no earlier version
+-- behind puts, an accepted one is logged, gives the database after them all, and changes no earlier version
 abbrev pub LogsGrow : Type 0
 LogsGrow =
-    (log : List Put) (put : Put) (database : Database) → after (database_of log) (length log) put ≡ Ok database →
-    (logged log put ≡ log ++ put ∷ []) × (database_of (logged log put) ≡ database)
-    × ((n : ℕ) → n ≤ length log → version (logged log put) n ≡ version log n)
+    (puts : List Put) (put : Put) (database : Database) → after (database_of puts) (length puts) put ≡ Ok database →
+    (logged puts put ≡ puts ++ put ∷ []) × (database_of (logged puts put) ≡ database)
+    × ((n : ℕ) → n ≤ length puts → version (logged puts put) n ≡ version puts n)
 
 -- a refused put is not logged
 abbrev pub LogsStay : Type 0
 LogsStay =
-    (log : List Put) (put : Put) (fault : Fault) → after (database_of log) (length log) put ≡ Err fault → logged log put ≡ log
+    (puts : List Put) (put : Put) (fault : Fault) → after (database_of puts) (length puts) put ≡ Err fault → logged puts put ≡ puts
 
--- no puts are a log, and what is logged behind a log is one
+-- no puts at all are accepted ones, and so are those that are logged behind accepted ones
 abbrev pub LogsHoldAcceptedPuts : Type 0
-LogsHoldAcceptedPuts = AreAccepted [] × ((log : List Put) (put : Put) → AreAccepted log → AreAccepted (logged log put))
+LogsHoldAcceptedPuts = AreAccepted [] × ((puts : List Put) (put : Put) → AreAccepted puts → AreAccepted (logged puts put))
 
 -- the names of every version are in byte order, and each stands once
 abbrev pub NamesAreInOrder : Type 0
-NamesAreInOrder = (log : List Put) → IsInOrder (database_of log)
+NamesAreInOrder = (puts : List Put) → IsInOrder (database_of puts)
 
 -- an accepted put has no more rows than a table may have
 abbrev pub AcceptedPutsAreFew : Type 0
@@ -46,4 +46,4 @@ AcceptedPutsKeepDatabases =
 
 -- and so every version of such puts has tables alone
 abbrev pub VersionsAreDatabases : Type 0
-VersionsAreDatabases = (log : List Put) → All IsPut log → HasDatabases log
+VersionsAreDatabases = (puts : List Put) → All IsPut puts → HasDatabases puts
