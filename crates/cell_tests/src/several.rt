@@ -50,10 +50,10 @@ fn learnt<C: CellName>(seat: &mut Scanner<C>, told: &Told<C>, table: &Text) -> R
 // 1,000 looks of each of two seats at once. It tells whether all were right.
 fn two_look<C: CellName + Send + Sync, R: Threads + Sync>(
     rt: &R,
-    seats: (&mut Scanner<C>, &mut Scanner<C>),
+    one: &mut Scanner<C>,
+    two: &mut Scanner<C>,
     table: &Text,
 ) -> Result<bool, Fault> {
-    let (one, two) = seats;
     let (first, second) = thread::join(
         rt,
         || look_many(one, table, 1_000),
@@ -70,10 +70,11 @@ fn put_while_two_look<C: CellName + Send + Sync, R: Threads + Wait + Abort + Syn
     seats: (&mut Scanner<C>, &mut Scanner<C>),
     table: &Text,
 ) -> Result<bool, Fault> {
+    let (one, two) = seats;
     let (put, looks) = thread::join(
         rt,
         || put_many(alloc, putter, 1_000),
-        || two_look(rt, seats, table),
+        || two_look(rt, one, two, table),
     );
     Ok(put? && looks?)
 }
@@ -109,13 +110,13 @@ fn looked_at_by_two<C: CellName + Send + Sync, R: Threads + Wait + Abort + Sync>
 {
     let table = Text::new(alloc, "t")?;
     let (mut putter, mut seats) = blank.named::<C, &R>(alloc, rt)?;
-    let [one, two] = seats.as_mut_slice() else {
+    let (Some(mut one), Some(mut two)) = (seats.pop(), seats.pop()) else {
         drop(putter);
         return Err(Fail::from("two seats"));
     };
-    let right = put_while_two_look(rt, alloc, &mut putter, (&mut *one, &mut *two), &table);
+    let right = put_while_two_look(rt, alloc, &mut putter, (&mut one, &mut two), &table);
     assert!(rt; right == Ok(true));
-    let seen = seen_behind(&putter, (one, two), &table);
+    let seen = seen_behind(&putter, (&mut one, &mut two), &table);
     assert!(rt; seen == Ok([1_000, 1_000, 500, 500]));
     Ok(())
 }

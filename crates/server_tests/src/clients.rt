@@ -96,6 +96,7 @@ struct Heard {
 }
 
 // Where queries are asked.
+#[derive(Drop)]
 struct Asking<'a, R> {
     rt: &'a R,
     alloc: Global,
