@@ -50,9 +50,12 @@ const GROUPED: &str = "SELECT s, COUNT(*) FROM t GROUP BY s";
 // All rows, which `serve` cuts in two ranges.
 const ALL: &str = "SELECT s FROM t";
 
-// What is printed of the tables, then of the groups, and then of all rows.
-const TABLE_GROUPS_AND_ROWS: &[u8] =
-    b"t\ns\tcol2\n'b'\t2\nNULL\t2\n'a'\t1\ns\n'b'\nNULL\n'a'\nNULL\n'b'\n";
+// What is printed of the tables, of the groups, and of all rows.
+const TABLE_LINES: &[u8] = b"t\n";
+
+const GROUP_LINES: &[u8] = b"s\tcol2\n'b'\t2\nNULL\t2\n'a'\t1\n";
+
+const ROW_LINES: &[u8] = b"s\n'b'\nNULL\n'a'\nNULL\n'b'\n";
 
 const TRANSPORT_LINE: &[u8] = b"fault: F22 Transport\n";
 
@@ -85,61 +88,108 @@ fn put_stream<R: Net<Listener = TcpListener, Stream = TcpStream>>(
     (status.number(), output)
 }
 
-// What commands come to: their exit statuses; what the put prints, what the others print, and what is said of a query whose output
-// is closed.
+// What a command comes to: its exit status, what it prints, and what is said.
 #[derive(Drop)]
-struct Heard {
-    statuses: [u8; 5],
-    counted: MemoryOutput,
+struct Ran {
+    status: u8,
     lines: MemoryOutput,
     said: MemoryOutput,
 }
 
-// Where queries are asked.
-#[derive(Drop)]
-struct Asking<'a, R> {
-    rt: &'a R,
+// The list of the tables.
+fn list_tables<R: Net<Listener = TcpListener, Stream = TcpStream>>(
+    rt: &R,
     alloc: Global,
     port: u16,
+) -> Ran {
+    let mut network = Loopback::new(rt);
+    let mut lines = MemoryOutput::new(alloc);
+    let mut said = MemoryOutput::new(alloc);
+    let status = tables(alloc, &mut network, &mut lines, &mut said, port).number();
+    Ran {
+        status,
+        lines,
+        said,
+    }
 }
 
-// The exit status of a query over two connections at most.
-fn queried<R: Net<Listener = TcpListener, Stream = TcpStream> + Threads>(
-    network: &mut Loopback<'_, R>,
-    asking: &Asking<'_, R>,
+// A query over two connections at most.
+fn ask_rows<R: Net<Listener = TcpListener, Stream = TcpStream> + Threads>(
+    rt: &R,
+    alloc: Global,
+    port: u16,
     sql: &str,
-    (output, faults): (&mut MemoryOutput, &mut MemoryOutput),
-) -> u8 {
+) -> Ran {
+    let mut network = Loopback::new(rt);
+    let mut lines = MemoryOutput::new(alloc);
+    let mut said = MemoryOutput::new(alloc);
     let querying = Querying {
-        port: asking.port,
+        port,
         streams: 2,
         sql,
     };
-    query(asking.rt, asking.alloc, network, output, faults, querying).number()
+    let status = query(rt, alloc, &mut network, &mut lines, &mut said, querying).number();
+    Ran {
+        status,
+        lines,
+        said,
+    }
+}
+
+// A query whose output is closed.
+fn ask_closed<R: Net<Listener = TcpListener, Stream = TcpStream> + Threads>(
+    rt: &R,
+    alloc: Global,
+    port: u16,
+) -> Ran {
+    let mut network = Loopback::new(rt);
+    let mut lines = MemoryOutput::new(alloc).failing_after(0);
+    let mut said = MemoryOutput::new(alloc);
+    let querying = Querying {
+        port,
+        streams: 2,
+        sql: GROUPED,
+    };
+    let status = query(rt, alloc, &mut network, &mut lines, &mut said, querying).number();
+    Ran {
+        status,
+        lines,
+        said,
+    }
+}
+
+// What the commands come to.
+#[derive(Drop)]
+struct Heard {
+    counted: MemoryOutput,
+    put: u8,
+    listed: Ran,
+    grouped: Ran,
+    all: Ran,
+    refused: Ran,
 }
 
 // A put, a list of the tables, a query of groups, one of all rows, and one whose output is closed.
-fn asked<R: Net<Listener = TcpListener, Stream = TcpStream> + Threads>(
+fn run_commands<R: Net<Listener = TcpListener, Stream = TcpStream> + Threads>(
     rt: &R,
     alloc: Global,
     port: u16,
 ) -> Result<Heard, Failure> {
-    let asking = Asking { rt, alloc, port };
     let mut network = Loopback::new(rt);
     let (put, counted) = put_stream(&mut network, alloc, port);
-    let mut lines = MemoryOutput::new(alloc);
-    let mut said = MemoryOutput::new(alloc);
-    let mut closed = MemoryOutput::new(alloc).failing_after(0);
-    let listed = tables(alloc, &mut network, &mut lines, &mut said, port).number();
-    let grouped = queried(&mut network, &asking, GROUPED, (&mut lines, &mut said));
-    let all = queried(&mut network, &asking, ALL, (&mut lines, &mut said));
-    let refused = queried(&mut network, &asking, GROUPED, (&mut closed, &mut said));
     Ok(Heard {
-        statuses: [put, listed, grouped, all, refused],
         counted,
-        lines,
-        said,
+        put,
+        listed: list_tables(rt, alloc, port),
+        grouped: ask_rows(rt, alloc, port, GROUPED),
+        all: ask_rows(rt, alloc, port, ALL),
+        refused: ask_closed(rt, alloc, port),
     })
+}
+
+// Whether a command ended so, printed this, and nothing was said.
+fn ran_well(ran: &Ran, lines: &[u8]) -> bool {
+    ran.status == 0 && ran.lines.as_slice() == lines && ran.said.as_slice() == NOTHING
 }
 
 // One connection for the put, for the list and for each query of groups, and two for the query of all rows are served.
@@ -147,16 +197,19 @@ fn asked<R: Net<Listener = TcpListener, Stream = TcpStream> + Threads>(
 fn five_commands(rt: HostRuntime) -> Result<(), Fail> {
     let (runtime, alloc) = (&rt, rt.alloc());
     let seed = HashSeed::new(runtime)?;
-    let client = |port| asked(runtime, alloc, port);
+    let client = |port| run_commands(runtime, alloc, port);
     let (server, heard) = beside(runtime, alloc, seed, 6, client)?;
     assert!(rt; server.status == 0);
     let listening = format!(in alloc; "listening 127.0.0.1:{}\n", server.port)?;
     assert!(rt; server.output.as_slice() == listening.as_bytes());
     assert!(rt; server.faults.as_slice() == NOTHING);
-    assert!(rt; heard.statuses == [0, 0, 0, 0, 3]);
+    assert!(rt; heard.put == 0);
     assert!(rt; heard.counted.as_slice() == b"5 rows\n".as_slice());
-    assert!(rt; heard.lines.as_slice() == TABLE_GROUPS_AND_ROWS);
-    assert!(rt; heard.said.as_slice() == TRANSPORT_LINE);
+    assert!(rt; ran_well(&heard.listed, TABLE_LINES));
+    assert!(rt; ran_well(&heard.grouped, GROUP_LINES));
+    assert!(rt; ran_well(&heard.all, ROW_LINES));
+    assert!(rt; heard.refused.status == 3);
+    assert!(rt; heard.refused.said.as_slice() == TRANSPORT_LINE);
     Ok(())
 }
 
