@@ -4,6 +4,8 @@
 #include <dlfcn.h>
 #include <stdio.h>
 #include <stdlib.h>
+#include <sys/syscall.h>
+#include <unistd.h>
 
 static long count;
 static long refused;
@@ -22,6 +24,13 @@ __attribute__((destructor)) static void end(void) {
         fprintf(file, "%ld\n", counted);
         fclose(file);
     }
+}
+
+/* A program may end by _exit, which calls no destructor. */
+void _exit(int status) {
+    end();
+    syscall(SYS_exit_group, status);
+    __builtin_unreachable();
 }
 
 void *malloc(size_t size) {
