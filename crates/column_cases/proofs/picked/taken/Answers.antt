@@ -1,9 +1,9 @@
 use Rattle.std.proofs.Common.{◌≡◌, All, List, subst, sym}
 use Rattle.arrow_schema.specs.declared.data_type.DataType.{DataType}
-use Rattle.arrays.specs.declared.of_slots.SlotRef.{SlotRef}
+use Rattle.array_select.specs.declared.of_slots.SlotRef.{SlotRef}
 use Rattle.arrays.specs.declared.layout.Layout.{Layout}
 use Rattle.arrays.specs.Typed.{IsOfType}
-use Rattle.arrays.specs.OfSlots.{IsSlotOf}
+use Rattle.array_select.specs.OfSlots.{IsSlotOf}
 use Rattle.column_cases.proofs.picked.taken.Goals as goal
 
 -- the slots are there, in columns of the type

@@ -1,6 +1,6 @@
 use Rattle.std.proofs.Common.{◌∙◌, ap, map, arith}
 use Rattle.scan_base.specs.declared.value.Value.TheVariants.{Int}
-use Rattle.arrays.specs.Built.{value_or_null}
+use Rattle.array_select.specs.Built.{value_or_null}
 use Rattle.grouping.proofs.Answering.{if_ok, sums_of}
 use Rattle.grouping.proofs.answer.sum_column.Goals as goal
 

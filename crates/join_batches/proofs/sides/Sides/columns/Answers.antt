@@ -5,9 +5,9 @@ use Rattle.arrow_schema.specs.declared.data_type.DataType.{DataType}
 use Rattle.arrow_schema.specs.declared.data_type.DataType.TheVariants.{Utf8}
 use Rattle.arrow_schema.specs.Answer.{answer_type}
 use Rattle.scan_base.specs.declared.value.Value.{Value}
-use Rattle.arrays.specs.declared.of_slots.SlotRef.{SlotRef}
+use Rattle.array_select.specs.declared.of_slots.SlotRef.{SlotRef}
 use Rattle.arrays.specs.Column.{ColumnAt}
-use Rattle.arrays.specs.OfSlots.{slot_value, IsSlotOf}
+use Rattle.array_select.specs.OfSlots.{slot_value, IsSlotOf}
 use Rattle.arrays.specs.Typed.{IsOfType}
 use Rattle.arrays.specs.Written.{texts_joined}
 use Rattle.join_batches.specs.Rows.{pair_row}
