@@ -24,11 +24,7 @@ use std::alloc::{AllocError, Global};
 /// # Errors
 ///
 /// `AllocError` where memory is refused.
-pub fn gather(
-    alloc: Global,
-    column: &Column,
-    places: &Selection,
-) -> Result<Column, AllocError>
+pub fn gather(alloc: Global, column: &Column, places: &Selection) -> Result<Column, AllocError>
     requires within { All (λ place. place < column.now.len) places.now }
     ensures values { IfOk result (λ gathered. values_of gathered ≡ map (slot_of column.now) places.now) }
     ensures long { IfOk result (λ gathered. gathered.len ≡ length places.now) }
@@ -87,13 +83,7 @@ fn gather_integers(
 {
     let integer = cells.integer_type();
     let _count = cells.len();
-    let packed = Bytes::from_vec(gather_packed(
-        alloc,
-        integer,
-        cells.values(),
-        first,
-        places,
-    )?)?;
+    let packed = Bytes::from_vec(gather_packed(alloc, integer, cells.values(), first, places)?)?;
     are_bytes(packed.as_slice());
     Ok(Values::Integers(integer, packed))
 }

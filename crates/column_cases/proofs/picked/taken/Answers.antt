@@ -17,7 +17,7 @@ texts_fit-requires c = λ k d low.
     (are_there c.type_of-data_type.result c.as_slice-slots.result.now c.in_ok-taken.taken.items c.args.whole.now.layout c.args.kept.now.layout
     c.as_slice-slots.ensures.value c.requires c.type_of-data_type.ensures (c.in_ok-taken.ensures c.type_of-data_type.result) k d low).0
 
-pub of_slots-requires-clause-there : goal.of_slots-requires-clause-there
-of_slots-requires-clause-there c =
+pub column_of_slots-requires-clause-there : goal.column_of_slots-requires-clause-there
+column_of_slots-requires-clause-there c =
     are_there c.type_of-data_type.result c.as_slice-slots.result.now c.in_ok-taken.taken.items c.args.whole.now.layout c.args.kept.now.layout
     c.as_slice-slots.ensures.value c.requires c.type_of-data_type.ensures (c.in_ok-taken.ensures c.type_of-data_type.result)
