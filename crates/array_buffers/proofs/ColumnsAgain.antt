@@ -1,8 +1,6 @@
 -- What is written of a column says its values.
-use Rattle.std.proofs.Common.{◌≡◌, ℕ, ◌+◌, ◌-◌, ◌*◌, ◌<◌, Bool as Truth, true, false, List, [], ◌∷◌, length, map, get_or, drop, All, unwrap_or, nat_le, ℤ, pos, negsuc, refl, sym, ap, ◌∙◌, arith, inl, inr, if◌then◌else◌}
+use Rattle.std.proofs.Common.{◌≡◌, ℕ, ◌+◌, ◌-◌, ◌*◌, ◌<◌, true, false, List, [], ◌∷◌, length, map, get_or, drop, nat_le, refl, sym, ap, ◌∙◌, arith}
 use Rattle.std.specs.Int.{cast_signed, w128}
-use Rattle.std.proofs.lemmas.Bool.{cases_lt}
-use Rattle.std.proofs.lemmas.Option.{slice_get-get_or, slice_get_past}
 use Rattle.std.specs.List.{range_with_len}
 use Rattle.std.proofs.lemmas.Bool.{le-leb}
 use Rattle.std.proofs.lemmas.List.FromFn.{length-map-range_with_len, get_or-map-range_with_len}
@@ -10,8 +8,7 @@ use Rattle.std.proofs.Math.Nat.{mul-le-mul_left}
 use Rattle.byteorder.specs.Endian.{little_from}
 use Rattle.byteorder.specs.Numbers.{little_from-take}
 use Rattle.bitmap.proofs.Masks.{little_drop}
-use Rattle.scan_base.specs.declared.value.Value.{Value}
-use Rattle.scan_base.specs.declared.value.Value.TheVariants.{Null, Bool, Int, Text}
+use Rattle.scan_base.specs.declared.value.Value.TheVariants.{Bool, Int, Text}
 use Rattle.arrow_schema.specs.declared.data_type.IntegerType.{IntegerType}
 use Rattle.arrow_schema.specs.declared.data_type.DataType.{DataType}
 use Rattle.arrow_schema.specs.declared.data_type.DataType.TheVariants as type
@@ -19,14 +16,11 @@ use Rattle.arrow_schema.specs.Answer.{answer_type}
 use Rattle.arrays.specs.declared.layout.Layout.{Layout}
 use Rattle.arrays.specs.declared.layout.Layout.TheVariants as layout
 use Rattle.arrays.specs.Number.{element_at, byte_width, integer_at, decimal_at, number_from}
-use Rattle.arrays.specs.Validity.{is_valid}
 use Rattle.arrays.specs.Integers.{IntegersAt, integers_of}
 use Rattle.arrays.specs.Decimals.{DecimalsAt, decimals_of}
 use Rattle.arrays.specs.Bools.{BoolsAt, bools_of}
 use Rattle.scan_base.specs.Value.{IsTextOrNull}
 use Rattle.arrays.specs.Texts.{texts_of, text_at}
-use Rattle.arrays.specs.Indices.{IndicesAt}
-use Rattle.arrays.specs.Dictionary.{entry_at}
 use Rattle.arrays.specs.Layout.{layout_slot, layout_count}
 use Rattle.arrays.specs.Column.{ColumnAt, IsColumn, slot_of, values_of, whole}
 use Rattle.arrays.specs.Typed.{IsOfType}

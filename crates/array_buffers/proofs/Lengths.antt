@@ -2,13 +2,10 @@
 use Rattle.std.proofs.Common.{◌≡◌, ℕ, zero, suc, ◌+◌, ◌-◌, ◌*◌, ◌<◌, ◌≤◌, ◌==◌, Bool, false, if◌then◌else◌, List, [], ◌∷◌, ◌⊎◌, inl, inr, length, map, get_or, take, drop, refl, sym, ap, ◌∙◌, arith}
 use Rattle.std.specs.Int.{div_ceil}
 use Rattle.std.specs.List.{range_with_len}
-use Rattle.std.proofs.lemmas.List.{length-append, length-take, length-drop}
+use Rattle.std.proofs.lemmas.List.{length-take, length-drop}
 use Rattle.std.proofs.lemmas.List.FromFn.{length-map-range_with_len}
 use Rattle.std.proofs.Math.Dec.{eqb-suc-zero}
 use Rattle.std.proofs.Math.Nat.{mul-le-mul_left}
-use Rattle.byteorder.specs.Endian.{little_bytes}
-use Rattle.byteorder.specs.Numbers.{length-bytes_low_first}
-use Rattle.scan_base.specs.declared.value.Value.{Value}
 use Rattle.arrays.specs.declared.layout.Layout.{Layout}
 use Rattle.arrays.specs.declared.layout.Layout.TheVariants as layout
 use Rattle.arrays.specs.Texts.{TextsAt}
@@ -16,7 +13,7 @@ use Rattle.arrays.specs.Indices.{IndicesAt}
 use Rattle.arrays.specs.Column.{ColumnAt, IsColumn, values_of}
 use Rattle.arrays.specs.Nulls.{null_count, valid_slots}
 use Rattle.array_buffers.specs.Written.{packed_bits, validity_written, written_by, values_written, buffers_written, buffer_of}
-use Rattle.arrays.specs.Written.{elements, offsets_from, texts_joined, text_bytes}
+use Rattle.arrays.specs.Written.{elements, offsets_from, texts_joined}
 use Rattle.arrays.proofs.Entries.{dropped}
 
 pub no_validity : (column : ColumnAt) → null_count column ≡ 0 → validity_written column ≡ []

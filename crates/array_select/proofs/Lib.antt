@@ -2,7 +2,7 @@ pub mod Hits
 mod Gathered
 mod GatheredTexts
 mod GatheredValues
-mod Fitting
+mod TooMany
 mod FilledSlots
 mod Textless
 pub mod Short

@@ -4,7 +4,7 @@ use Rattle.std.proofs.lemmas.Option.{slice_get-get_or}
 use Rattle.array_select.specs.OfSlots.{slot_value}
 use Rattle.arrays.specs.Written.{texts_joined}
 use Rattle.array_select.specs.declared.of_slots.SlotRef.{SlotRef}
-use Rattle.array_select.proofs.Fitting.{past}
+use Rattle.array_select.proofs.TooMany.{past}
 use Rattle.array_select.proofs.of_slots.texts_fit.Goals as goal
 
 pub returns-then-bytes-left : goal.returns-then-bytes-left

@@ -1,5 +1,5 @@
 use Rattle.array_select.proofs.GatheredValues.{decimals_at}
-use Rattle.array_select.proofs.gather.gather_decimals.Goals as goal
+use Rattle.array_select.proofs.at_places.gather_decimals.Goals as goal
 
 pub returns : goal.returns
 returns c =

@@ -1,7 +1,7 @@
 use Rattle.std.proofs.Common.{◌∙◌, ap}
 use Rattle.arrays.specs.Column.{values_of}
 use Rattle.array_select.proofs.Gathered.{places_among, values_gathered}
-use Rattle.array_select.proofs.gather.gather.Goals as goal
+use Rattle.array_select.proofs.at_places.gather.Goals as goal
 
 pub gather_slots-requires : goal.gather_slots-requires
 gather_slots-requires c =

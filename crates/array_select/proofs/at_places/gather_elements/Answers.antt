@@ -1,6 +1,6 @@
 use Rattle.std.proofs.Common.{refl}
 use Rattle.array_select.proofs.Gathered.{elements_more, no_elements}
-use Rattle.array_select.proofs.gather.gather_elements.Goals as goal
+use Rattle.array_select.proofs.at_places.gather_elements.Goals as goal
 
 pub loop-place-init : goal.loop-place-init
 loop-place-init g c = no_elements g.row.WIDTH c.in_ok-packed.packed.items c.args.values.now c.args.first c.args.places.now c.in_ok-packed.ensures.items

@@ -3,7 +3,7 @@ use Rattle.arrays.specs.declared.layout.Layout.{Layout}
 use Rattle.arrays.specs.Layout.{layout_count}
 use Rattle.array_select.specs.inside.Gathered.{AreValuesAt}
 use Rattle.arrays.proofs.ValidSlots.{validity_long}
-use Rattle.array_select.proofs.gather.gather_slots.Goals as goal
+use Rattle.array_select.proofs.at_places.gather_slots.Goals as goal
 
 pub gather_validity-requires : goal.gather_validity-requires
 gather_validity-requires c = (layout_count c.args.slots.now, rw c.validity.ensures (validity_long c.args.slots.now c.len-count.ensures.stands), c.requires)

@@ -1,5 +1,5 @@
 use Rattle.array_select.proofs.GatheredValues.{integers_at}
-use Rattle.array_select.proofs.gather.gather_integers.Goals as goal
+use Rattle.array_select.proofs.at_places.gather_integers.Goals as goal
 
 pub returns : goal.returns
 returns c =

@@ -1,5 +1,5 @@
 use Rattle.array_select.proofs.GatheredValues.{bools_at}
-use Rattle.array_select.proofs.gather.gather_bools.Goals as goal
+use Rattle.array_select.proofs.at_places.gather_bools.Goals as goal
 
 pub returns : goal.returns
 returns c =

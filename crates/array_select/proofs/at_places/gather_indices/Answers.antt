@@ -1,7 +1,7 @@
 use Rattle.std.proofs.Common.{refl}
 use Rattle.std.specs.Arc.{arc_value}
 use Rattle.array_select.proofs.GatheredValues.{indices_at}
-use Rattle.array_select.proofs.gather.gather_indices.Goals as goal
+use Rattle.array_select.proofs.at_places.gather_indices.Goals as goal
 
 pub returns : goal.returns
 returns c = λ validity valid.
