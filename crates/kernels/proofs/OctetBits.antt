@@ -51,9 +51,9 @@ bitmask_either t u xs n y z e le =
     let g : ℕ → ℕ = λ x. cond (u x z) 18446744073709551615 0 in
     let second : List ℕ = zip2 (λ a b. cond (u a b) 18446744073709551615 0) xs (replicate n z) in
     ap (λ l. mask_l (map (top 63) l) % 2 ^ 64)
-      (ap (λ l. zip2 bit_or l second) (zip2_splat (λ a b. cond (t a b) 18446744073709551615 0) xs n y e)
-      ∙ ap (zip2 bit_or (map f xs)) (zip2_splat (λ a b. cond (u a b) 18446744073709551615 0) xs n z e)
-      ∙ zip2-map bit_or f g xs)
+    (ap (λ l. zip2 bit_or l second) (zip2_splat (λ a b. cond (t a b) 18446744073709551615 0) xs n y e)
+    ∙ ap (zip2 bit_or (map f xs)) (zip2_splat (λ a b. cond (u a b) 18446744073709551615 0) xs n z e)
+    ∙ zip2-map bit_or f g xs)
     ∙ ap (λ l. mask_l l % 2 ^ 64) (map-map (top 63) (λ x. bit_or (f x) (g x)) xs ∙ same_map (λ x. top 63 (bit_or (f x) (g x))) (λ x. t x y || u x z) (λ x. top_or (t x y) (u x z)) xs)
     ∙ mask_l-mod (map (λ x. t x y || u x z) xs) 64 (omega (arith, length-map xs (λ x. t x y || u x z)))
 

@@ -45,7 +45,7 @@ pub integers_said : (test : Value → Truth) (cells : IntegersAt) (validity : Op
 integers_said test cells validity number first len valid same =
     same_map (said_where_valid test validity number) (λ place. test (layout_slot (Integers cells) place))
     (λ place. ap (λ (v : Option (List Bool)). test (if is_valid v place then Int (number place) else Null)) valid
-      ∙ ap (λ (z : ℤ). test (if is_valid cells.validity place then Int z else Null)) (same place))
+    ∙ ap (λ (z : ℤ). test (if is_valid cells.validity place then Int z else Null)) (same place))
     (range_with_len first len)
 
 pub decimals_said : (test : Value → Truth) (cells : DecimalsAt) (validity : Option (List Bool)) (number : ℕ → ℤ) (first len : ℕ) →
@@ -54,7 +54,7 @@ pub decimals_said : (test : Value → Truth) (cells : DecimalsAt) (validity : Op
 decimals_said test cells validity number first len valid same =
     same_map (said_where_valid test validity number) (λ place. test (layout_slot (Decimals cells) place))
     (λ place. ap (λ (v : Option (List Bool)). test (if is_valid v place then Int (number place) else Null)) valid
-      ∙ ap (λ (z : ℤ). test (if is_valid cells.validity place then Int z else Null)) (same place))
+    ∙ ap (λ (z : ℤ). test (if is_valid cells.validity place then Int z else Null)) (same place))
     (range_with_len first len)
 
 both_from : (a b : Bool) → truth_and (truth_from a) (truth_from b) ≡ truth_from (a && b)

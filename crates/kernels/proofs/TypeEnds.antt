@@ -92,6 +92,7 @@ equal_within x v = sym (by (int_eq x v) refl)
     apart p true true q r = let e : x ≡ v = omega (arith, ints, q, r) in absurd (false≢true (sym p ∙ (Decides-int_eq x v).1 e))
     apart p true false q r = refl
     apart p false t q r = refl
+
     by : (r : Bool) → int_eq x v ≡ r → is_within v v x ≡ r
     by true p =
         let e : x ≡ v = (Decides-int_eq x v).0 p in

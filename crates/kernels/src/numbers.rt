@@ -82,7 +82,13 @@ fn numbers_in(
         }
         Layout::Decimals(cells) => {
             let count = column.slots().len();
-            let mask = cells_in::<i128>(alloc, &packed_decimals(&cells, count), range, first, part.len)?;
+            let mask = cells_in::<i128>(
+                alloc,
+                &packed_decimals(&cells, count),
+                range,
+                first,
+                part.len,
+            )?;
             Ok(Some(mask))
         }
         _ => Ok(None),

@@ -97,7 +97,8 @@ impl Octets for Outside {
 
     fn octet(&self, values: &[u8], from: usize) -> u64 {
         let lanes = i64x8::from_le_bytes(u8x64::from_slice(&values[8 * from..8 * from + 64]));
-        let outside = lanes.simd_lt(i64x8::splat(self.least)) | lanes.simd_gt(i64x8::splat(self.most));
+        let outside = lanes.simd_lt(i64x8::splat(self.least))
+            | lanes.simd_gt(i64x8::splat(self.most));
         outside.to_bitmask()
     }
 }

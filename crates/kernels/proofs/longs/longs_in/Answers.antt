@@ -21,11 +21,11 @@ returns c = λ test tests.
     let f : ℕ → Truth = λ place. where_known (is_valid kernel.validity.now place) (is_within kernel.least kernel.most (long_at kernel.values.now place)) in
     let h : ℕ → Truth = λ place. where_known (is_valid packed.validity.now place) (passes place) in
     let same : (place : ℕ) → f place ≡ h place = λ place.
-      ap (λ (v : Option (List Bool)). where_known (is_valid v place) (is_within kernel.least kernel.most (long_at kernel.values.now place))) is.validity
-      ∙ ap (λ (z : ℤ). where_known (is_valid packed.validity.now place) (is_within z kernel.most (long_at kernel.values.now place))) is.least
-      ∙ ap (λ (z : ℤ). where_known (is_valid packed.validity.now place) (is_within ends.least z (long_at kernel.values.now place))) is.most
-      ∙ ap (λ (v : List ℕ). where_known (is_valid packed.validity.now place) (is_within ends.least ends.most (long_at v place))) is.values in
+    ap (λ (v : Option (List Bool)). where_known (is_valid v place) (is_within kernel.least kernel.most (long_at kernel.values.now place))) is.validity
+    ∙ ap (λ (z : ℤ). where_known (is_valid packed.validity.now place) (is_within z kernel.most (long_at kernel.values.now place))) is.least
+    ∙ ap (λ (z : ℤ). where_known (is_valid packed.validity.now place) (is_within ends.least z (long_at kernel.values.now place))) is.most
+    ∙ ap (λ (v : List ℕ). where_known (is_valid packed.validity.now place) (is_within ends.least ends.most (long_at v place))) is.values in
     c.not_if.ensures
     ∙ ap (map (negated_if range.turned)) (c.in_ok-mask.ensures ∙ same_map f h same (range_with_len c.args.first c.args.len))
     ∙ ranged range test packed.validity.now (long_at packed.values.now) passes c.args.first c.args.len tests (λ place. wide_fits (long_at packed.values.now place) (fits place))
-      (λ place. c.ends_of.ensures (long_at packed.values.now place) (fits place))
+    (λ place. c.ends_of.ensures (long_at packed.values.now place) (fits place))

@@ -18,7 +18,7 @@ returns c =
     let test : Value → Truth = λ value. within value (Int low) (Int high) in
     c.numbers_in.ensures test (record {
       numbers = λ number fits. between_said low high number ∙ ap truth_from (sym (c.between-range.ensures number
-        ∙ ap (λ (z : ℤ). is_within z (to_z w128 (of_z w128 high)) number) (to_z-of_z w128 low c.ranges.low)
-        ∙ ap (λ (z : ℤ). is_within low z number) (to_z-of_z w128 high c.ranges.high)));
-      null = refl
+          ∙ ap (λ (z : ℤ). is_within z (to_z w128 (of_z w128 high)) number) (to_z-of_z w128 low c.ranges.low)
+          ∙ ap (λ (z : ℤ). is_within low z number) (to_z-of_z w128 high c.ranges.high)));
+      null = refl;
     })

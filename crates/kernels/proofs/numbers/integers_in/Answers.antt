@@ -50,10 +50,10 @@ returns-in-Int8 c = λ test tests.
     let is = c.packed_integers-packed.ensures in
     let number : ℕ → ℤ = λ place. cast_signed w8 (element_at 1 packed.values.now place) in
     let same : (place : ℕ) → number place ≡ integer_at cells.integer cells.values place = λ place.
-      ap (λ (v : List ℕ). cast_signed w8 (element_at 1 v place)) is.values ∙ signed8 (element_at 1 cells.values place)
-      ∙ sym (ap (λ (t : IntegerType). integer_at t cells.values place) (sym c.integer_type.ensures ∙ c.in-Int8.is)) in
+    ap (λ (v : List ℕ). cast_signed w8 (element_at 1 v place)) is.values ∙ signed8 (element_at 1 cells.values place)
+    ∙ sym (ap (λ (t : IntegerType). integer_at t cells.values place) (sym c.integer_type.ensures ∙ c.in-Int8.is)) in
     subst (λ (truths : List Truth). IfOk c.cells_in.result (λ mask. mask ≡ truths))
-      (integers_said test cells packed.validity.now number c.args.first c.args.len is.validity same) (c.cells_in.ensures test tests)
+    (integers_said test cells packed.validity.now number c.args.first c.args.len is.validity same) (c.cells_in.ensures test tests)
 
 pub returns-in-Int16 : goal.returns-in-Int16
 returns-in-Int16 c = λ test tests.
@@ -62,10 +62,10 @@ returns-in-Int16 c = λ test tests.
     let is = c.packed_integers-packed.ensures in
     let number : ℕ → ℤ = λ place. cast_signed w16 (element_at 2 packed.values.now place) in
     let same : (place : ℕ) → number place ≡ integer_at cells.integer cells.values place = λ place.
-      ap (λ (v : List ℕ). cast_signed w16 (element_at 2 v place)) is.values ∙ signed16 (element_at 2 cells.values place)
-      ∙ sym (ap (λ (t : IntegerType). integer_at t cells.values place) (sym c.integer_type.ensures ∙ c.in-Int16.is)) in
+    ap (λ (v : List ℕ). cast_signed w16 (element_at 2 v place)) is.values ∙ signed16 (element_at 2 cells.values place)
+    ∙ sym (ap (λ (t : IntegerType). integer_at t cells.values place) (sym c.integer_type.ensures ∙ c.in-Int16.is)) in
     subst (λ (truths : List Truth). IfOk c.cells_in-in-Int16.result (λ mask. mask ≡ truths))
-      (integers_said test cells packed.validity.now number c.args.first c.args.len is.validity same) (c.cells_in-in-Int16.ensures test tests)
+    (integers_said test cells packed.validity.now number c.args.first c.args.len is.validity same) (c.cells_in-in-Int16.ensures test tests)
 
 pub returns-in-Int32 : goal.returns-in-Int32
 returns-in-Int32 c = λ test tests.
@@ -74,10 +74,10 @@ returns-in-Int32 c = λ test tests.
     let is = c.packed_integers-packed.ensures in
     let number : ℕ → ℤ = λ place. cast_signed w32 (element_at 4 packed.values.now place) in
     let same : (place : ℕ) → number place ≡ integer_at cells.integer cells.values place = λ place.
-      ap (λ (v : List ℕ). cast_signed w32 (element_at 4 v place)) is.values ∙ signed32 (element_at 4 cells.values place)
-      ∙ sym (ap (λ (t : IntegerType). integer_at t cells.values place) (sym c.integer_type.ensures ∙ c.in-Int32.is)) in
+    ap (λ (v : List ℕ). cast_signed w32 (element_at 4 v place)) is.values ∙ signed32 (element_at 4 cells.values place)
+    ∙ sym (ap (λ (t : IntegerType). integer_at t cells.values place) (sym c.integer_type.ensures ∙ c.in-Int32.is)) in
     subst (λ (truths : List Truth). IfOk c.cells_in-in-Int32.result (λ mask. mask ≡ truths))
-      (integers_said test cells packed.validity.now number c.args.first c.args.len is.validity same) (c.cells_in-in-Int32.ensures test tests)
+    (integers_said test cells packed.validity.now number c.args.first c.args.len is.validity same) (c.cells_in-in-Int32.ensures test tests)
 
 pub returns-in-Int64 : goal.returns-in-Int64
 returns-in-Int64 c = λ test tests.
@@ -86,10 +86,10 @@ returns-in-Int64 c = λ test tests.
     let is = c.packed_integers-packed.ensures in
     let number : ℕ → ℤ = λ place. cast_signed w64 (element_at 8 packed.values.now place) in
     let same : (place : ℕ) → number place ≡ integer_at cells.integer cells.values place = λ place.
-      ap (λ (v : List ℕ). cast_signed w64 (element_at 8 v place)) is.values ∙ signed_same (element_at 8 cells.values place)
-      ∙ sym (ap (λ (t : IntegerType). integer_at t cells.values place) (sym c.integer_type.ensures ∙ c.in-Int64.is)) in
+    ap (λ (v : List ℕ). cast_signed w64 (element_at 8 v place)) is.values ∙ signed_same (element_at 8 cells.values place)
+    ∙ sym (ap (λ (t : IntegerType). integer_at t cells.values place) (sym c.integer_type.ensures ∙ c.in-Int64.is)) in
     subst (λ (truths : List Truth). IfOk c.longs_in.result (λ mask. mask ≡ truths))
-      (integers_said test cells packed.validity.now number c.args.first c.args.len is.validity same) (c.longs_in.ensures test tests)
+    (integers_said test cells packed.validity.now number c.args.first c.args.len is.validity same) (c.longs_in.ensures test tests)
 
 pub returns-in-UInt8 : goal.returns-in-UInt8
 returns-in-UInt8 c = λ test tests.
@@ -98,10 +98,10 @@ returns-in-UInt8 c = λ test tests.
     let is = c.packed_integers-packed.ensures in
     let number : ℕ → ℤ = λ place. pos (element_at 1 packed.values.now place) in
     let same : (place : ℕ) → number place ≡ integer_at cells.integer cells.values place = λ place.
-      ap (λ (v : List ℕ). pos (element_at 1 v place)) is.values
-      ∙ sym (ap (λ (t : IntegerType). integer_at t cells.values place) (sym c.integer_type.ensures ∙ c.in-UInt8.is)) in
+    ap (λ (v : List ℕ). pos (element_at 1 v place)) is.values
+    ∙ sym (ap (λ (t : IntegerType). integer_at t cells.values place) (sym c.integer_type.ensures ∙ c.in-UInt8.is)) in
     subst (λ (truths : List Truth). IfOk c.cells_in-in-UInt8.result (λ mask. mask ≡ truths))
-      (integers_said test cells packed.validity.now number c.args.first c.args.len is.validity same) (c.cells_in-in-UInt8.ensures test tests)
+    (integers_said test cells packed.validity.now number c.args.first c.args.len is.validity same) (c.cells_in-in-UInt8.ensures test tests)
 
 pub returns-in-UInt16 : goal.returns-in-UInt16
 returns-in-UInt16 c = λ test tests.
@@ -110,10 +110,10 @@ returns-in-UInt16 c = λ test tests.
     let is = c.packed_integers-packed.ensures in
     let number : ℕ → ℤ = λ place. pos (element_at 2 packed.values.now place) in
     let same : (place : ℕ) → number place ≡ integer_at cells.integer cells.values place = λ place.
-      ap (λ (v : List ℕ). pos (element_at 2 v place)) is.values
-      ∙ sym (ap (λ (t : IntegerType). integer_at t cells.values place) (sym c.integer_type.ensures ∙ c.in-UInt16.is)) in
+    ap (λ (v : List ℕ). pos (element_at 2 v place)) is.values
+    ∙ sym (ap (λ (t : IntegerType). integer_at t cells.values place) (sym c.integer_type.ensures ∙ c.in-UInt16.is)) in
     subst (λ (truths : List Truth). IfOk c.cells_in-in-UInt16.result (λ mask. mask ≡ truths))
-      (integers_said test cells packed.validity.now number c.args.first c.args.len is.validity same) (c.cells_in-in-UInt16.ensures test tests)
+    (integers_said test cells packed.validity.now number c.args.first c.args.len is.validity same) (c.cells_in-in-UInt16.ensures test tests)
 
 pub returns-in-UInt32 : goal.returns-in-UInt32
 returns-in-UInt32 c = λ test tests.
@@ -122,10 +122,10 @@ returns-in-UInt32 c = λ test tests.
     let is = c.packed_integers-packed.ensures in
     let number : ℕ → ℤ = λ place. pos (element_at 4 packed.values.now place) in
     let same : (place : ℕ) → number place ≡ integer_at cells.integer cells.values place = λ place.
-      ap (λ (v : List ℕ). pos (element_at 4 v place)) is.values
-      ∙ sym (ap (λ (t : IntegerType). integer_at t cells.values place) (sym c.integer_type.ensures ∙ c.in-UInt32.is)) in
+    ap (λ (v : List ℕ). pos (element_at 4 v place)) is.values
+    ∙ sym (ap (λ (t : IntegerType). integer_at t cells.values place) (sym c.integer_type.ensures ∙ c.in-UInt32.is)) in
     subst (λ (truths : List Truth). IfOk c.cells_in-in-UInt32.result (λ mask. mask ≡ truths))
-      (integers_said test cells packed.validity.now number c.args.first c.args.len is.validity same) (c.cells_in-in-UInt32.ensures test tests)
+    (integers_said test cells packed.validity.now number c.args.first c.args.len is.validity same) (c.cells_in-in-UInt32.ensures test tests)
 
 pub returns-in-UInt64 : goal.returns-in-UInt64
 returns-in-UInt64 c = λ test tests.
@@ -134,7 +134,7 @@ returns-in-UInt64 c = λ test tests.
     let is = c.packed_integers-packed.ensures in
     let number : ℕ → ℤ = λ place. pos (element_at 8 packed.values.now place) in
     let same : (place : ℕ) → number place ≡ integer_at cells.integer cells.values place = λ place.
-      ap (λ (v : List ℕ). pos (element_at 8 v place)) is.values
-      ∙ sym (ap (λ (t : IntegerType). integer_at t cells.values place) (sym c.integer_type.ensures ∙ c.in-UInt64.is)) in
+    ap (λ (v : List ℕ). pos (element_at 8 v place)) is.values
+    ∙ sym (ap (λ (t : IntegerType). integer_at t cells.values place) (sym c.integer_type.ensures ∙ c.in-UInt64.is)) in
     subst (λ (truths : List Truth). IfOk c.cells_in-in-UInt64.result (λ mask. mask ≡ truths))
-      (integers_said test cells packed.validity.now number c.args.first c.args.len is.validity same) (c.cells_in-in-UInt64.ensures test tests)
+    (integers_said test cells packed.validity.now number c.args.first c.args.len is.validity same) (c.cells_in-in-UInt64.ensures test tests)

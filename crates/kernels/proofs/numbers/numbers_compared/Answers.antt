@@ -14,6 +14,6 @@ returns c =
     let test : Value → Truth = λ value. compared c.args.comparison value (Int c.args.other) in
     c.numbers_in.ensures test (record {
       numbers = λ number fits. ap truth_from (sym (c.of-range.ensures number fits
-        ∙ ap (λ (z : ℤ). satisfies c.args.comparison (int_cmp number z)) (to_z-of_z w128 c.args.other c.ranges.other)));
-      null = refl
+          ∙ ap (λ (z : ℤ). satisfies c.args.comparison (int_cmp number z)) (to_z-of_z w128 c.args.other c.ranges.other)));
+      null = refl;
     })

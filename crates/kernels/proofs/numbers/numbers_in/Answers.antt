@@ -20,8 +20,8 @@ returns-in_ok-mask-in-Integers c = λ test tests.
     let g : ℕ → Truth = λ row. test (slot_of column row) in
     c.in_ok-mask-in-Integers.ensures test tests
     ∙ same_range f g (c.first.result + from) from c.args.part.now.len (λ i lt.
-      let at : c.first.result + from + i ≡ column.first + (from + i) = omega (arith, c.first.ensures) in
-      ap f at ∙ ap (λ (l : Layout). test (layout_slot l (column.first + (from + i)))) c.in-Integers.ensures.value)
+    let at : c.first.result + from + i ≡ column.first + (from + i) = omega (arith, c.first.ensures) in
+    ap f at ∙ ap (λ (l : Layout). test (layout_slot l (column.first + (from + i)))) c.in-Integers.ensures.value)
 
 pub returns-in_ok-mask-in-Decimals : goal.returns-in_ok-mask-in-Decimals
 returns-in_ok-mask-in-Decimals c = λ test tests.
@@ -34,7 +34,7 @@ returns-in_ok-mask-in-Decimals c = λ test tests.
     let g : ℕ → Truth = λ row. test (slot_of column row) in
     c.in_ok-mask-in-Decimals.ensures test tests
     ∙ decimals_said test cells packed.validity.now (λ place. cast_signed w128 (element_at 16 packed.values.now place)) (c.first.result + from) len c.packed_decimals.ensures.validity
-      (λ place. ap (λ (v : List ℕ). cast_signed w128 (element_at 16 v place)) c.packed_decimals.ensures.values ∙ signed128 (element_at 16 cells.values place))
+    (λ place. ap (λ (v : List ℕ). cast_signed w128 (element_at 16 v place)) c.packed_decimals.ensures.values ∙ signed128 (element_at 16 cells.values place))
     ∙ same_range f g (c.first.result + from) from len (λ i lt.
-      let at : c.first.result + from + i ≡ column.first + (from + i) = omega (arith, c.first.ensures) in
-      ap f at ∙ ap (λ (l : Layout). test (layout_slot l (column.first + (from + i)))) c.in-Decimals.ensures.value)
+    let at : c.first.result + from + i ≡ column.first + (from + i) = omega (arith, c.first.ensures) in
+    ap f at ∙ ap (λ (l : Layout). test (layout_slot l (column.first + (from + i)))) c.in-Decimals.ensures.value)

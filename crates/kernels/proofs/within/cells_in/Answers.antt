@@ -24,10 +24,10 @@ returns g c = λ test tests.
     let f : ℕ → Truth = λ place. where_known (is_valid kernel.validity.now place) (is_within (value kernel.least) (value kernel.most) (at kernel.values.now place)) in
     let h : ℕ → Truth = λ place. where_known (is_valid packed.validity.now place) (passes place) in
     let same : (place : ℕ) → f place ≡ h place = λ place.
-      ap (λ (v : Option (List Bool)). where_known (is_valid v place) (is_within (value kernel.least) (value kernel.most) (at kernel.values.now place))) is.validity
-      ∙ ap (λ e. where_known (is_valid packed.validity.now place) (is_within (value e) (value kernel.most) (at kernel.values.now place))) is.least
-      ∙ ap (λ e. where_known (is_valid packed.validity.now place) (is_within (value ends.least) (value e) (at kernel.values.now place))) is.most
-      ∙ ap (λ (v : List ℕ). where_known (is_valid packed.validity.now place) (is_within (value ends.least) (value ends.most) (at v place))) is.values in
+    ap (λ (v : Option (List Bool)). where_known (is_valid v place) (is_within (value kernel.least) (value kernel.most) (at kernel.values.now place))) is.validity
+    ∙ ap (λ e. where_known (is_valid packed.validity.now place) (is_within (value e) (value kernel.most) (at kernel.values.now place))) is.least
+    ∙ ap (λ e. where_known (is_valid packed.validity.now place) (is_within (value ends.least) (value e) (at kernel.values.now place))) is.most
+    ∙ ap (λ (v : List ℕ). where_known (is_valid packed.validity.now place) (is_within (value ends.least) (value ends.most) (at v place))) is.values in
     c.not_if.ensures
     ∙ ap (map (negated_if range.turned)) (c.in_ok-mask.ensures ∙ same_map f h same (range_with_len c.args.first c.args.len))
     ∙ ranged range test packed.validity.now (at packed.values.now) passes c.args.first c.args.len tests c.requires.wide (λ place. c.ends_of.ensures (at packed.values.now place) (c.requires.fits place))

@@ -25,4 +25,4 @@ returns c =
     let p : ℕ → Bool = λ j. int_eq (long_at values j) s.number in
     bitmask_splat w64 t xs 8 number refl (omega arith)
     ∙ ap mask_l (octet_of (λ x. t x number) p values from xs are (λ j.
-      same_bits (little_from (8 * j) 8 values) s.number (omega (arith, little_from-lt (8 * j) 8 values (λ k. omega (arith, c.type_inv.values k)))) fits))
+    same_bits (little_from (8 * j) 8 values) s.number (omega (arith, little_from-lt (8 * j) 8 values (λ k. omega (arith, c.type_inv.values k)))) fits))

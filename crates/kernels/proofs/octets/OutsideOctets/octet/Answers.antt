@@ -24,5 +24,5 @@ returns c =
     let p : ℕ → Bool = λ j. int_lt (long_at values j) s.least || int_lt s.most (long_at values j) in
     bitmask_either t u xs 8 least most refl (omega arith)
     ∙ ap mask_l (octet_of (λ x. t x least || u x most) p values from xs are (λ j.
-      ap (λ (z : ℤ). int_lt (to_z w64 (little_from (8 * j) 8 values)) z || int_lt (to_z w64 most) (to_z w64 (little_from (8 * j) 8 values))) (to_z-of_z w64 s.least (search rules))
-      ∙ ap (λ (z : ℤ). int_lt (to_z w64 (little_from (8 * j) 8 values)) s.least || int_lt z (to_z w64 (little_from (8 * j) 8 values))) (to_z-of_z w64 s.most (search rules))))
+    ap (λ (z : ℤ). int_lt (to_z w64 (little_from (8 * j) 8 values)) z || int_lt (to_z w64 most) (to_z w64 (little_from (8 * j) 8 values))) (to_z-of_z w64 s.least (search rules))
+    ∙ ap (λ (z : ℤ). int_lt (to_z w64 (little_from (8 * j) 8 values)) s.least || int_lt z (to_z w64 (little_from (8 * j) 8 values))) (to_z-of_z w64 s.most (search rules))))

@@ -7,5 +7,5 @@ use Rattle.kernels.proofs.within.Within.passes_word.Given as goal
 abbrev pub invariant-loop-k : goal.invariant-loop-k
 invariant-loop-k g l = record {
   long : length l.flags ≡ 64;
-  made : (row : ℕ) → row < l.k → get_or l.flags row 0 ≡ bool_byte (is_within (g.E.Number.value l.self.least) (g.E.Number.value l.self.most) (g.E.Number.value (g.E.FixedWidth.of_bits (element_at g.E.Element.WIDTH l.self.values.now (l.from + row)))))
+  made : (row : ℕ) → row < l.k → get_or l.flags row 0 ≡ bool_byte (is_within (g.E.Number.value l.self.least) (g.E.Number.value l.self.most) (g.E.Number.value (g.E.FixedWidth.of_bits (element_at g.E.Element.WIDTH l.self.values.now (l.from + row)))));
 }
