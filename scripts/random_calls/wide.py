@@ -1,7 +1,9 @@
 """Tables of many rows, and queries over them that keep none of the rows, one in 1,000, one in 100, half, nearly all or
 all of them. Keys of joins and groups go from one for all rows to another one for each.
 
-Literals are taken at a share of a column's sorted values. A join is asked only where it has no more than MOST_JOINED rows.
+Literals are taken at a share of a column's sorted values. A join is asked only where it has no more than MOST_JOINED rows;
+and where a column stands in several of its equalities, only if each alone leaves no more than MOST_PAIRS, of which
+sqlite3 may look at all.
 """
 
 from __future__ import annotations
@@ -15,9 +17,10 @@ from random_calls.plain_model import (SIGNS, Between, Column, Comparison, Databa
 from random_calls.puts import RANGES, TREES
 
 ROWS = 70_000
-MOST_JOINED = 150_000
+MOST_JOINED, MOST_PAIRS = 150_000, 1_500_000
 SHARES = [0, 0.001, 0.01, 0.5, 0.99, 0.999, 1]
-FEWEST = [1, 2, 3, 10, 100, 1000]  # of the values of a column, but all different ones
+FEWEST = [1, 2, 3, 10, 100, 1000, 10_000]  # of the values of a column, but as many as rows
+NULLS = [0, 0, 0, 0.01, 0.3, 0.5, 0.99, 1]  # the shares of them
 COUNTS = [1, 2, 3, 7, 20, 100, 256]  # of the items of an IN
 MOST_WORDS = 60  # of a dictionary, to which a put may add some that it does not need
 WORDS = ["", "a", "Z", "abcdefgh", "abcdefghi", "abcdefghj", "\u00e9", "\U00010000"]
@@ -48,9 +51,10 @@ def texts_of(random: Random, count: int) -> list[str]:
     return random.sample(WORDS, min(count, 4)) + [f"{first}{number}" for number in range(count - 4)]
 
 
-def choices_of(random: Random, kind: str, rows: int) -> list[Value]:
-    """The values of a column. A dictionary has no more than its indices of 8 bits lead to."""
-    few = random.choice([*FEWEST, rows])
+def choices_of(random: Random, column: Column, rows: int) -> list[Value]:
+    """The values of a column. The first one has many, so that joins by it have not too many rows; a dictionary has no more
+    than its indices of 8 bits lead to."""
+    kind, few = column.type, random.choice([10_000, rows] if column.name == "a" else [*FEWEST, rows, rows, rows])
     match class_of(kind):
         case "truth":
             return [False, True]
@@ -61,7 +65,7 @@ def choices_of(random: Random, kind: str, rows: int) -> list[Value]:
 
 def column_of(random: Random, column: Column, choices: list[Value], rows: int) -> list[Value]:
     """What stands in the rows: each value as often, or the first one mostly and others one time in 100 and in 1,000."""
-    nulls = random.choice([0, 0, 0.01, 0.5, 0.99, 1]) if column.nullable else 0
+    nulls = random.choice(NULLS[:-2] if column.name == "a" else NULLS) if column.nullable else 0
     if len(choices) >= rows:
         found = random.sample(choices, rows)
     elif random.random() < 0.5:
@@ -76,7 +80,7 @@ class Choices:
     """The values that the columns of a database have: its small table has those of the wide one, as far as they fit."""
 
     def __init__(self, random: Random, columns: tuple[Column, ...], rows: int):
-        self.random, self.of = random, {column: choices_of(random, column.type, rows) for column in columns}
+        self.random, self.of = random, {column: choices_of(random, column, rows) for column in columns}
 
     def rows(self, columns: tuple[Column, ...], count: int) -> list[Row]:
         """Rows of these columns. In a small table a column has a part of its values."""
@@ -162,6 +166,17 @@ class WideJoiner(Joiner):
                 return Comparison(sign, self.beside(name, kind, share), name)
         return Comparison(sign, name, self.beside(name, kind, share))
 
+    def equalities(self, number: int) -> tuple[tuple[Name, Name], ...]:
+        """The equalities of a place with those before it, mostly of columns of one name, which have the same values."""
+        found = []
+        for _ in range(self.random.choice([1, 1, 1, 2, 3])):
+            columns, before = self.places[number].columns, self.random.choice(self.places[:number])
+            column = columns[0] if self.chance(0.3) else self.random.choice(columns)
+            other = Name(column.name, before.name) if self.chance(0.8) else self.name(class_of(column.type), (before,))
+            pair = (other, Name(column.name, self.places[number].name))
+            found.append(pair if self.chance(0.5) else pair[::-1])
+        return tuple(found)
+
     def groups(self) -> tuple[tuple[tuple[Item, str | None], ...], tuple[Name, ...]]:
         """Items and keys of a grouped query of one place."""
         place = self.places[0]
@@ -173,9 +188,10 @@ class WideJoiner(Joiner):
         return tuple((item, self.alias()) for item in items), keys
 
     def wide_query(self) -> Query | None:
-        """A query that binds; none where its join has no columns that compare, or too many rows."""
+        """A query that binds; none where its join has too many rows, and mostly none where it has no row."""
         ons = tuple(self.equalities(number) for number in range(1, len(self.places)))
-        if not all(ons) or self.joined_at_most(ons) > MOST_JOINED:
+        most = self.joined_at_most(ons)
+        if most > MOST_JOINED or most == 0 and self.chance(0.95):
             return None
         where = self.predicate(self.random.choice([0, 0, 1, 2])) if self.chance(0.85) else None
         items, keys = tuple((self.name(), self.alias()) for _ in range(self.random.choice([1, 1, 2, 3]))), ()
@@ -188,12 +204,19 @@ class WideJoiner(Joiner):
         rows = len(self.database[self.places[0].table].rows)
         for number, equalities in enumerate(ons, 1):
             pairs = [pair if pair[1].place == self.places[number].name else pair[::-1] for pair in equalities]
-            here = self.keys_of([right for _, right in pairs])
             if number == 1:
-                rows = sum(count * here[key] for key, count in self.keys_of([left for left, _ in pairs]).items())
+                apart = len({left for left, _ in pairs}) == len({right for _, right in pairs}) == len(pairs)
+                rows = self.joined_by(pairs)
+                if not apart and max(self.joined_by([pair]) for pair in pairs) > MOST_PAIRS:
+                    return MOST_PAIRS
             else:
-                rows *= max(here.values(), default=0)
+                rows *= max(self.keys_of([right for _, right in pairs]).values(), default=0)
         return rows
+
+    def joined_by(self, pairs: list[tuple[Name, Name]]) -> int:
+        """How many rows two places have, joined by these equalities."""
+        left, right = self.keys_of([left for left, _ in pairs]), self.keys_of([right for _, right in pairs])
+        return sum(count * right[key] for key, count in left.items())
 
     def keys_of(self, names: list[Name]) -> collections.Counter:
         """How often each key of these columns of one place stands there. One with a null does not count."""
