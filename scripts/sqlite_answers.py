@@ -4,12 +4,12 @@
     python3 scripts/sqlite_answers.py [--count N] [--wide N] [--long] [--seed S] [--program PATH] [--plain] [--without-program]
 
 What it shows: that the answers are those of a program which shares nothing with ours, wherever both define the same.
-Each of the small databases (500 if no count is said) has 1 to 4 tables of 1 to 4 columns of any types but floats and
+Each of the small databases (400 if no count is said) has 1 to 4 tables of 1 to 4 columns of any types but floats and
 dates, with nulls, of 0 to 12 rows, or in one database of ten to 200, that come in puts of one or more batches. Between
 the puts stand queries: joins of 2 to 4 places, a table with itself too; WHERE with comparisons, BETWEEN, IN, IS NULL,
 IS TRUE and the like, AND, OR and NOT; and groups of one place with COUNT and SUM.
 
-Each of the wide databases (4 if no number is said) has a table of 70,000 rows and one of up to 300 rows with the same six
+Each of the wide databases (3 if no number is said) has a table of 70,000 rows and one of up to 300 rows with the same six
 columns. Of a column nearly all values may be equal, or all different, or null; texts begin alike; numbers lie close
 together or anywhere, with those at the ends of their types. The queries keep none of the rows, one in 1,000, one in 100,
 half, nearly all or all of them; an IN has up to 256 items; keys of joins and groups go from one for all rows to another
@@ -314,15 +314,15 @@ def count(case: Case, counts: collections.Counter) -> None:
 
 def options() -> argparse.Namespace:
     parser = argparse.ArgumentParser(description=__doc__, formatter_class=argparse.RawDescriptionHelpFormatter)
-    parser.add_argument("--count", type=int, help="how many small databases (500)")
-    parser.add_argument("--wide", type=int, help="how many wide databases (4)")
+    parser.add_argument("--count", type=int, help="how many small databases (400)")
+    parser.add_argument("--wide", type=int, help="how many wide databases (3)")
     parser.add_argument("--long", action="store_true", help="2,000 small and 40 wide ones, where no number is said")
     parser.add_argument("--seed", type=int, default=1, help="the seed of the first (1)")
     parser.add_argument("--program", help="the built program (that of the repository)")
     parser.add_argument("--plain", action="store_true", help="ask no joins and no groups")
     parser.add_argument("--without-program", action="store_true", help="compare sqlite3 with the plain model")
     words = parser.parse_args()
-    small, wide = LONG if words.long else (500, 4)
+    small, wide = LONG if words.long else (400, 3)
     words.count, words.wide = (small if words.count is None else words.count), (wide if words.wide is None else words.wide)
     return words
 

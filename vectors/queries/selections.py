@@ -259,8 +259,14 @@ def combined():
     yield any_of(compare("a", "=", "b"), negated(tested(c, "NOT TRUE")))
 
 
-AT_ALL = [all_of(compare(Name("i64"), "<", 2), compare(Name("n"), ">", 0)),
-          any_of(compare(Name("s"), "=", "abcdefghi"), among(Name("c"), "Z", "abcdefghj"))]
+# What is asked at each length and each first bit: of each column a comparison that few rows meet.
+AT_ALL = [
+    any_of(all_of(compare(Name("i64"), "<", 2), compare(Name("n"), ">", 0)), compare(Name("i8"), "=", 1),
+           compare(Name("i16"), "=", 1), compare(Name("u32"), "=", 2), compare(Name("d"), "=", -1)),
+    any_of(compare(Name("s"), "=", "abcdefghi"), among(Name("c"), "Z", "abcdefghj"), compare(Name("u8"), "=", 2),
+           compare(Name("u16"), "=", 1), compare(Name("i32"), "=", 0), compare(Name("u64"), "=", 1),
+           compare(Name("f"), "<", Name("g"))),
+]
 
 
 def over_each():
