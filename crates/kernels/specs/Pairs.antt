@@ -1,4 +1,4 @@
--- Numbers of a column, 64 at a time.
+-- Inside: numbers of a column, 64 at a time.
 use Rattle.std.specs.Prelude.{◌≡◌, ◌<◌, ◌+◌, ℕ, ℤ, pos, List, get_or, if◌then◌else◌}
 use Rattle.scan_base.specs.declared.value.Value.TheVariants.{Null, Int}
 use Rattle.arrays.specs.Column.{ColumnAt, slot_of}
