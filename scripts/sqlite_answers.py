@@ -29,8 +29,9 @@ program; a wide database then has no joins. Seeds are S, S + 1, .. of both kinds
 It ends with 1 at the first difference, and prints the query and both answers. It needs `sqlite3` on the path (tried
 with 3.40), and the program is built as for bench/pipe.py.
 
-What it found: no difference. 2,000 databases with 11,074 queries, of which 6,245 had joins and 3,422 groups, and 16,798
-endpoints, on the proved program.
+What it found: no difference. 2,000 small databases with 11,074 queries, of which 6,245 had joins and 3,422 groups, and
+16,798 endpoints, on the proved program. 12 wide ones from seed 100 on with 288 queries, of which 56 had joins and 87
+groups, 477 endpoints and 5,956,448 rows, on a program that was built without proof.
 """
 
 from __future__ import annotations
