@@ -1,5 +1,5 @@
 -- Bits that lanes and bytes are packed into.
-use Rattle.std.proofs.Common.{◌≡◌, ℕ, ℤ, ◌*◌, ◌%◌, ◌^◌, ◌<◌, ◌≤◌, ◌==◌, Bool, true, false, not, ◌||◌, cond, replicate, List, [], ◌∷◌, length, map, get_or, FitsSigned, refl, sym, ap, ◌∙◌, arith}
+use Rattle.std.proofs.Common.{◌≡◌, ℕ, ℤ, ◌%◌, ◌^◌, ◌<◌, ◌≤◌, ◌==◌, Bool, true, false, not, ◌||◌, cond, replicate, List, length, map, get_or, FitsSigned, refl, sym, ap, ◌∙◌, arith}
 use Rattle.std.specs.Cmp.{both_ways}
 use Rattle.std.specs.Int.{w64}
 use Rattle.std.specs.Int.RustNames.{bit_or, bit_xor}

@@ -1,5 +1,5 @@
 -- Numbers of two columns, compared 64 at a time.
-use Rattle.std.proofs.Common.{◌≡◌, ℤ, Bool, true, false, not, ◌&&◌, if◌then◌else◌, cond, int_lt, int_le, refl, sym, ap, ◌∙◌}
+use Rattle.std.proofs.Common.{◌≡◌, ℤ, Bool, true, false, not, ◌&&◌, if◌then◌else◌, cond, int_lt, refl, sym, ap, ◌∙◌}
 use Rattle.std.specs.Ordering.{int_cmp, int_eq, is_eq, is_ne, is_lt, is_gt, is_le, is_ge}
 use Rattle.std.specs.declared.cmp.Ordering.TheVariants.{Less, Equal, Greater}
 use Rattle.scan_base.specs.declared.comparison.Comparison.{Comparison}

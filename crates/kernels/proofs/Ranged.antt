@@ -1,9 +1,8 @@
 -- What a test by a range says of slots.
-use Rattle.std.proofs.Common.{◌≡◌, ℕ, ℤ, Bool, true, false, not, ◌&&◌, if◌then◌else◌, int_lt, int_le, cond, List, Option, map, FitsSigned, refl, sym, ap, ◌∙◌}
+use Rattle.std.proofs.Common.{◌≡◌, ℕ, ℤ, Bool, true, false, not, ◌&&◌, if◌then◌else◌, int_le, List, Option, map, FitsSigned, refl, sym, ap, ◌∙◌}
 use Rattle.std.specs.Int.{w128}
 use Rattle.std.specs.List.{range_with_len}
 use Rattle.std.specs.Ordering.{int_cmp, is_le, is_ge}
-use Rattle.std.specs.declared.cmp.Ordering.TheVariants.{Less, Equal, Greater}
 use Rattle.scan_base.specs.declared.truth.Truth.{Truth}
 use Rattle.scan_base.specs.declared.value.Value.{Value}
 use Rattle.scan_base.specs.declared.value.Value.TheVariants.{Null, Int}
@@ -14,10 +13,10 @@ use Rattle.arrays.specs.Decimals.{DecimalsAt}
 use Rattle.arrays.specs.Integers.{IntegersAt}
 use Rattle.arrays.specs.Layout.{layout_slot}
 use Rattle.arrays.specs.Number.{integer_at, decimal_at}
-use Rattle.arrays.specs.Validity.{is_valid, where_valid}
+use Rattle.arrays.specs.Validity.{is_valid}
 use Rattle.kernels.specs.declared.range.Range.{Range}
 use Rattle.kernels.specs.Ranges.{is_within, said_where_valid, where_known}
-use Rattle.kernels.specs.Ranging.{in_range, TestsBy}
+use Rattle.kernels.specs.Ranging.{TestsBy}
 use Rattle.kernels.proofs.Compared.{same_map, slots_compared, turned_test, turned_unknown}
 use Rattle.kernels.proofs.Orders.{at_least_by, at_most_by}
 

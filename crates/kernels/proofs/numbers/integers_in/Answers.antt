@@ -1,11 +1,7 @@
-use Rattle.std.proofs.Common.{◌≡◌, ◌<◌, ◌+◌, ◌*◌, ◌^◌, ℕ, ℤ, pos, List, map, IfOk, subst, sym, ap, ◌∙◌, arith}
+use Rattle.std.proofs.Common.{◌≡◌, ℕ, ℤ, pos, List, IfOk, subst, sym, ap, ◌∙◌, arith}
 use Rattle.std.specs.Int.{w8, w16, w32, w64, cast_signed}
-use Rattle.std.specs.List.{range_with_len}
 use Rattle.scan_base.specs.declared.truth.Truth.{Truth}
 use Rattle.arrow_schema.specs.declared.data_type.IntegerType.{IntegerType}
-use Rattle.arrow_schema.specs.declared.data_type.IntegerType.TheVariants.{Int8, Int16, Int32, Int64, UInt8, UInt16, UInt32, UInt64}
-use Rattle.arrays.specs.declared.layout.Layout.TheVariants.{Integers}
-use Rattle.arrays.specs.Layout.{layout_slot}
 use Rattle.arrays.specs.Number.{element_at, integer_at}
 use Rattle.kernels.proofs.Compared.{element_small, signed8, signed16, signed32, signed_same, unsigned_wide}
 use Rattle.kernels.proofs.Ranged.{integers_said}

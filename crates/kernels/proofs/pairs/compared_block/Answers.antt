@@ -1,5 +1,5 @@
-use Rattle.std.proofs.Common.{ℤ, pos, not, int_lt, get_or, sym, ap, ◌∙◌}
-use Rattle.std.specs.Ordering.{int_cmp, int_eq}
+use Rattle.std.proofs.Common.{ℤ, pos, not, get_or, sym, ap, ◌∙◌}
+use Rattle.std.specs.Ordering.{int_cmp}
 use Rattle.scan_base.specs.declared.comparison.Comparison.{Comparison}
 use Rattle.scan_base.specs.Comparison.{satisfies}
 use Rattle.kernels.proofs.OctetBits.{turned_bit}

@@ -1,4 +1,4 @@
-use Rattle.std.proofs.Common.{◌≡◌, ◌+◌, ◌-◌, ◌*◌, ◌^◌, ◌∙◌, ℕ, ℤ, Bool, List, sym, ap, refl, arith, rules, take, drop, int_lt, FitsSigned, w64}
+use Rattle.std.proofs.Common.{◌+◌, ◌-◌, ◌*◌, ◌^◌, ◌∙◌, ℕ, ℤ, Bool, List, ap, refl, arith, rules, take, drop, int_lt, w64}
 use Rattle.std.specs.Simd.Lanes.{mask_l, number_l, digits_l, chunk}
 use Rattle.std.proofs.lemmas.Int.{to_z-of_z}
 use Rattle.std.proofs.lemmas.Simd.{bitmask_splat}

@@ -1,4 +1,4 @@
-use Rattle.std.proofs.Common.{◌≡◌, ◌+◌, ◌-◌, ◌*◌, ◌^◌, ◌==◌, ◌∙◌, ℕ, ℤ, Bool, List, ap, refl, arith, rules, take, drop, FitsSigned, w64}
+use Rattle.std.proofs.Common.{◌+◌, ◌-◌, ◌*◌, ◌^◌, ◌==◌, ◌∙◌, ℕ, Bool, List, ap, refl, arith, rules, take, drop, FitsSigned, w64}
 use Rattle.std.specs.Simd.Lanes.{mask_l, number_l, digits_l, chunk}
 use Rattle.std.specs.Ordering.{int_eq}
 use Rattle.std.proofs.lemmas.Simd.{bitmask_splat}

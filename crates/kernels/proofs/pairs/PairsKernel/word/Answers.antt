@@ -1,5 +1,4 @@
-use Rattle.std.proofs.Common.{◌≡◌, ◌+◌, ◌&&◌, ℕ, ℤ, Bool, pos, get_or, if◌then◌else◌, sym, ap, ◌∙◌}
-use Rattle.scan_base.specs.declared.truth.Truth.{Truth}
+use Rattle.std.proofs.Common.{◌+◌, ℤ, Bool, pos, get_or, if◌then◌else◌, sym, ap, ◌∙◌}
 use Rattle.scan_base.specs.declared.value.Value.{Value}
 use Rattle.scan_base.specs.declared.value.Value.TheVariants.{Null, Int}
 use Rattle.scan_base.specs.Comparison.{compared}

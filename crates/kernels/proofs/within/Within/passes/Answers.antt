@@ -1,4 +1,4 @@
-use Rattle.std.proofs.Common.{◌≡◌, ℤ, Bool, ◌&&◌, int_le, ap, ◌∙◌}
+use Rattle.std.proofs.Common.{◌≡◌, Bool, ◌&&◌, int_le, ap, ◌∙◌}
 use Rattle.kernels.specs.Ranges.{is_within}
 use Rattle.kernels.proofs.Orders.{at_most_own}
 use Rattle.kernels.proofs.within.Within.passes.Goals as goal

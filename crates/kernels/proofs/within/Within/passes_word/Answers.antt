@@ -1,4 +1,4 @@
-use Rattle.std.proofs.Common.{◌+◌, ◌==◌, ℕ, Bool, not, ap, ◌∙◌, arith}
+use Rattle.std.proofs.Common.{◌+◌, ◌==◌, ℕ, not, ap, ◌∙◌, arith}
 use Rattle.arrays.specs.Number.{element_at}
 use Rattle.kernels.specs.Ranges.{is_within}
 use Rattle.kernels.proofs.OctetBits.{byte_test}

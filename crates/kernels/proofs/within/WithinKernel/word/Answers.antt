@@ -1,4 +1,4 @@
-use Rattle.std.proofs.Common.{ℕ, ◌+◌, Bool, ap, ◌∙◌}
+use Rattle.std.proofs.Common.{◌+◌, Bool, ap, ◌∙◌}
 use Rattle.arrays.specs.Number.{element_at}
 use Rattle.arrays.specs.Validity.{is_valid}
 use Rattle.kernels.specs.Ranges.{is_within}
