@@ -1,0 +1,20 @@
+use Rattle.std.proofs.Common.{ℕ, ◌+◌, ◌∙◌, arith}
+use Rattle.std.proofs.lemmas.List.{get_or_default}
+use Rattle.kernels.specs.Codes.{code_at}
+use Rattle.kernels.proofs.AmongCodes.{gathers_none, gathers_more, gathers_all}
+use Rattle.kernels.proofs.among.among_word.Goals as goal
+
+pub loop-code-init : goal.loop-code-init
+loop-code-init c = gathers_none c.args.codes.now (λ (row : ℕ). code_at c.args.numbers.now.integer c.args.numbers.now.values.now (c.args.from + row))
+
+pub loop-code-preserved : goal.loop-code-preserved
+loop-code-preserved c =
+    let codes = c.args.codes.now in
+    gathers_more codes (λ (row : ℕ). code_at c.args.numbers.now.integer c.args.numbers.now.values.now (c.args.from + row))
+    c.loop-code.code-index c.loop-code.word c.word_with_code.result c.code-item.result c.loop-code-test.true
+    (c.code-item.is ∙ get_or_default codes c.loop-code.code-index c.code-item.result 0 c.loop-code-test.true) c.loop-code.invariant c.word_with_code.ensures
+
+pub returns : goal.returns
+returns c =
+    gathers_all c.args.codes.now (λ (row : ℕ). code_at c.args.numbers.now.integer c.args.numbers.now.values.now (c.args.from + row))
+    c.loop-code.code-index c.loop-code.word (omega (arith, c.loop-code-test.false)) c.loop-code.invariant
