@@ -1,5 +1,5 @@
 -- Codes that stand among others.
-use Rattle.std.proofs.Common.{◌≡◌, ℕ, zero, suc, ◌+◌, ◌*◌, ◌^◌, ◌<◌, ◌≤◌, ◌==◌, Bool, true, false, ◌||◌, if◌then◌else◌, List, [], ◌∷◌, ◌++◌, length, map, get_or, drop, drop-cons, ℤ, Option, inl, inr, refl, sym, ap, ◌∙◌, arith, add-one}
+use Rattle.std.proofs.Common.{◌≡◌, ℕ, zero, suc, ◌+◌, ◌*◌, ◌^◌, ◌<◌, ◌≤◌, ◌==◌, Bool, true, false, ◌||◌, if◌then◌else◌, List, [], ◌∷◌, ◌++◌, length, map, get_or, drop, drop-cons, ℤ, Option, Some, None, Result, Ok, Err, IfOk, IfSome, inl, inr, refl, sym, ap, ◌∙◌, arith, add-one}
 use Rattle.std.specs.Int.RustNames.{bit_or}
 use Rattle.std.specs.List.{list_any, range_with_len}
 use Rattle.std.specs.Ordering.{int_cmp, is_eq}
@@ -52,6 +52,10 @@ either_false : (a : Bool) → (a || false) ≡ a
 either_false true = refl
 either_false false = refl
 
+-- the item at a place stands in front of those behind it
+pub item_first : {X : Type 0} (xs : List X) (i : ℕ) (x : X) → i < length xs → x ≡ get_or xs i x → drop i xs ≡ x ∷ drop (i + 1) xs
+item_first {X = X} xs i x low is = rw (add-one, drop-cons xs i x low) (ap (λ (y : X). y ∷ drop (suc i) xs) (sym is))
+
 -- ---- a word that gathers the rows of one code after another
 
 -- the rows of the first `i` codes stand in a word
@@ -65,7 +69,7 @@ pub gathers_more : (codes : List ℕ) (code_of : ℕ → ℕ) (i word part code 
     ((row : ℕ) → row < 64 → bit part row ≡ (code_of row == code)) → Gathers codes code_of (i + 1) (bit_or word part)
 gathers_more codes code_of i word part code low is had more row lt =
     let rest = is_among (drop (suc i) codes) (code_of row) in
-    ap (λ n. bit (bit_or word part) row || is_among (drop n codes) (code_of row)) add-one
+    ap (λ n. bit (bit_or word part) row || is_among (drop n codes) (code_of row)) (add-one i)
     ∙ ap (λ b. b || rest) (or_bit word part row ∙ ap (λ b. bit word row || b) (more row lt ∙ eq_turn (code_of row) code ∙ ap (λ n. n == code_of row) is))
     ∙ either_assoc (bit word row) (get_or codes i 0 == code_of row) rest
     ∙ ap (λ l. bit word row || is_among l (code_of row)) (sym (drop-cons codes i 0 low))
@@ -142,6 +146,24 @@ codes_all integer items i codes some all had = record {
         ∙ had cell code lt);
   nulls = λ cell. nulls_unknown cell items some;
 }
+
+pub not_none : (n : ℕ) (none : Bool) → none ≡ false → none ≡ (n == 0) → 0 < n
+not_none zero none e is = absurd (clash (sym e ∙ is))
+  where
+    clash : false ≡ true → ⊥
+    clash e = cc
+not_none (suc n) none e is = omega arith
+
+-- what is said of a mask that may be found
+pub found_again : {X E : Type 0} (result : Result (Option X) E) (P Q : X → Type 0) → ((x : X) → P x → Q x) → IfOk result (λ found. IfSome found P) → IfOk result (λ found. IfSome found Q)
+found_again (Ok (Some x)) P Q more had = more x had
+found_again (Ok None) P Q more had = had
+found_again (Err e) P Q more had = had
+
+-- what is said of a result
+pub ok_again : {X E : Type 0} (result : Result X E) (P Q : X → Type 0) → ((x : X) → P x → Q x) → IfOk result P → IfOk result Q
+ok_again (Ok x) P Q more had = more x had
+ok_again (Err e) P Q more had = had
 
 -- ---- slots
 

@@ -1,8 +1,8 @@
 -- Packed numbers of any width by lanes.
-use Rattle.std.proofs.Common.{◌≡◌, ℕ, zero, suc, ◌+◌, ◌-◌, ◌*◌, ◌/◌, ◌^◌, ◌<◌, ◌≤◌, ◌==◌, Bool, true, false, List, [], ◌∷◌, length, map, get_or, take, drop, drop-cons, slice_index, refl, sym, ap, ◌∙◌, arith}
+use Rattle.std.proofs.Common.{◌≡◌, ℕ, zero, suc, ◌+◌, ◌-◌, ◌*◌, ◌/◌, ◌^◌, ◌<◌, ◌≤◌, ◌==◌, Bool, true, false, List, [], ◌∷◌, length, map, get_or, take, drop, drop-cons, slice_index, inl, inr, refl, sym, ap, ◌∙◌, arith}
 use Rattle.std.specs.List.{range_with_len}
 use Rattle.std.specs.Simd.Lanes.{mask_l, number_l, digits_l, chunk, Each1}
-use Rattle.std.proofs.lemmas.Bool.{eqb-true, eqb-false, ne_eqb, cases_eq}
+use Rattle.std.proofs.lemmas.Bool.{ne_eqb, cases_lt}
 use Rattle.std.proofs.lemmas.List.{same_lists, get_or-take, get_or_default, get_or-drop}
 use Rattle.std.proofs.lemmas.List.FromFn.{length-map-range_with_len, get_or-map-range_with_len}
 use Rattle.std.proofs.lemmas.Simd.{length-chunk, Each1-chunk, Each1-from_get_or, get_or_wider}
@@ -77,7 +77,7 @@ map_map g f (x ∷ xs) = ap (λ r. g (f x) ∷ r) (map_map g f xs)
 -- a test of each lane
 pub lane_tests : (test : ℕ → Bool) (width count from : ℕ) (values xs : List ℕ) → xs ≡ map (λ place. little_from (width * place) width values) (range_with_len from count) →
     map test xs ≡ tests (λ place. test (element_at width values place)) from count
-unfolding tests, element_at
+unfolding tests element_at
 lane_tests test width count from values xs e = ap (map test) e ∙ map_map test (λ place. little_from (width * place) width values) (range_with_len from count)
 
 -- a code that is too large for an element
@@ -86,6 +86,13 @@ unfolding element_at
 too_large width place code values bytes large =
     let small = little_from-lt (width * place) width values bytes in
     ne_eqb (little_from (width * place) width values) code (λ same. absurd (omega (arith, small, large, same)))
+
+-- a code that does not fit
+pub not_small : (code most : ℕ) → (code < most → ⊥) → most ≤ code
+not_small code most wide = elim (cases_lt code most) [
+  | inl low ↦ absurd (wide low)
+  | inr high ↦ high
+]
 
 -- tests of a part below those of the parts that stand in a word
 pub part_more : (p : ℕ → Bool) (at step above n m : ℕ) (word part : ℕ) → at + step ≡ above → step + n ≡ m →

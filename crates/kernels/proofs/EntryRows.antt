@@ -70,6 +70,25 @@ alone_truth number cell (membership negated a items) named =
     ∙ ap (negated_if negated) (items_alone number cell (operand_value (λ (column : ℕ). cell number) a) items both.1)
 alone_truth number cell (null_test negated a) named = ap (λ v. negated_if negated (nullness v)) (operand_alone number cell a named)
 
+operand_any : (passes : ℕ → Bool) → ((column : ℕ) → passes column ≡ true) → (operand : Operand ℕ) → operand_names passes operand ≡ true
+operand_any passes all (Column column) = all column
+operand_any passes all (Literal value) = refl
+
+items_any : (passes : ℕ → Bool) → ((column : ℕ) → passes column ≡ true) → (items : List (Operand ℕ)) → list_all (operand_names passes) items ≡ true
+items_any passes all [] = refl
+items_any passes all (item ∷ items) = rw (operand_any passes all item) (items_any passes all items)
+
+-- each column passes
+pub names_any : (passes : ℕ → Bool) → ((column : ℕ) → passes column ≡ true) → (predicate : Pred ℕ) → names_only passes predicate ≡ true
+names_any passes all (conjunction p q) = rw (names_any passes all p) (names_any passes all q)
+names_any passes all (disjunction p q) = rw (names_any passes all p) (names_any passes all q)
+names_any passes all (negation p) = names_any passes all p
+names_any passes all (truth_test negated tested p) = names_any passes all p
+names_any passes all (comparing comparison a b) = rw (operand_any passes all a) (operand_any passes all b)
+names_any passes all (between negated a low high) = rw (operand_any passes all a, operand_any passes all low) (operand_any passes all high)
+names_any passes all (membership negated a items) = rw (operand_any passes all a) (items_any passes all items)
+names_any passes all (null_test negated a) = operand_any passes all a
+
 -- ---- the truths of entries, one by one
 
 pub entries_none : (predicate : Pred ℕ) (values : List Value) (truths : List Truth) → truths ≡ [] → truths ≡ truths_at predicate (take 0 values)
@@ -81,7 +100,7 @@ entries_more predicate values truths i value truth low had is said =
     ap (λ l. l ++ truth ∷ []) had
     ∙ ap (λ t. truths_at predicate (take i values) ++ t ∷ []) (said ∙ ap (truth_at predicate) is)
     ∙ sym (map_push (truth_at predicate) (take i values) (get_or values i Null))
-    ∙ ap (map (truth_at predicate)) (sym (take-suc values i Null low) ∙ ap (λ n. take n values) (sym add-one))
+    ∙ ap (map (truth_at predicate)) (sym (take-suc values i Null low) ∙ ap (λ n. take n values) (sym (add-one i)))
   where
     map_push : {X Y : Type 0} (f : X → Y) (xs : List X) (x : X) → map f (xs ++ x ∷ []) ≡ map f xs ++ f x ∷ []
     map_push f [] x = refl

@@ -1,5 +1,4 @@
-use Rattle.std.proofs.Common.{ℕ, ◌+◌, ◌∙◌, arith}
-use Rattle.std.proofs.lemmas.List.{get_or_default}
+use Rattle.std.proofs.Common.{ℕ, ◌+◌, get_or, refl, arith}
 use Rattle.kernels.specs.Codes.{code_at}
 use Rattle.kernels.proofs.AmongCodes.{gathers_none, gathers_more, gathers_all}
 use Rattle.kernels.proofs.among.among_word.Goals as goal
@@ -11,8 +10,7 @@ pub loop-code-preserved : goal.loop-code-preserved
 loop-code-preserved c =
     let codes = c.args.codes.now in
     gathers_more codes (λ (row : ℕ). code_at c.args.numbers.now.integer c.args.numbers.now.values.now (c.args.from + row))
-    c.loop-code.code-index c.loop-code.word c.word_with_code.result c.code-item.result c.loop-code-test.true
-    (c.code-item.is ∙ get_or_default codes c.loop-code.code-index c.code-item.result 0 c.loop-code-test.true) c.loop-code.invariant c.word_with_code.ensures
+    c.loop-code.code-index c.loop-code.word c.word_with_code-word.result (get_or codes c.loop-code.code-index 0) c.loop-code-test.true refl c.loop-code.invariant c.word_with_code-word.ensures
 
 pub returns : goal.returns
 returns c =
