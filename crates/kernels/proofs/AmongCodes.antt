@@ -109,7 +109,7 @@ codes_none integer items codes none cell code lt =
 
 pub codes_more : (integer : IntegerType) (items : List (Operand ℕ)) (i : ℕ) (item : Operand ℕ) (olds news : List ℕ) → drop i items ≡ item ∷ drop (i + 1) items → HasCodes integer items i olds →
     ((cell : ℕ → Value) (code : ℕ) → code < 2 ^ bit_width integer →
-      truth_from (is_among news code) ≡ truth_or (truth_from (is_among olds code)) (compared Equal (Int (number_from integer code)) (operand_value cell item))) →
+    truth_from (is_among news code) ≡ truth_or (truth_from (is_among olds code)) (compared Equal (Int (number_from integer code)) (operand_value cell item))) →
     HasCodes integer items (i + 1) news
 codes_more integer items i item olds news split had more cell code lt =
     let value = Int (number_from integer code) in
@@ -142,8 +142,8 @@ pub codes_all : (integer : IntegerType) (items : List (Operand ℕ)) (i : ℕ) (
 codes_all integer items i codes some all had = record {
   numbers = λ cell code lt.
       sym (sym (or_false (truth_from (is_among codes code)))
-        ∙ ap (λ l. truth_or (truth_from (is_among codes code)) (any_equal cell (Int (number_from integer code)) l)) (sym (drop_all i items all))
-        ∙ had cell code lt);
+      ∙ ap (λ l. truth_or (truth_from (is_among codes code)) (any_equal cell (Int (number_from integer code)) l)) (sym (drop_all i items all))
+      ∙ had cell code lt);
   nulls = λ cell. nulls_unknown cell items some;
 }
 

@@ -38,16 +38,16 @@ lanes width count big from at values power inside places le fit =
     let long : length big_l ≡ count = length-digits big count (number_l 256 block) in
     same_lists big_l (map f (range_with_len from count)) (long ∙ sym (length-map-range_with_len f from count))
     (λ k d lt.
-      let low : k < count = omega (arith, lt, long) in
-      let in_block = inside k low in
-      get_or_default big_l k d 0 lt
-      ∙ get_or_wider 256 width big count block k power below low
-      ∙ number_little width (width * k) block (omega (arith, full, in_block))
-      ∙ little_from-take (width * k) width 64 ys (omega (arith, in_block))
-      ∙ little_from-take (width * k) width (at + 64 - at) (drop at values) (omega (arith, in_block))
-      ∙ little_drop at (width * k) width values
-      ∙ ap (λ x. little_from x width values) (places k)
-      ∙ sym (get_or-map-range_with_len f from count k (from + k) d low refl))
+    let low : k < count = omega (arith, lt, long) in
+    let in_block = inside k low in
+    get_or_default big_l k d 0 lt
+    ∙ get_or_wider 256 width big count block k power below low
+    ∙ number_little width (width * k) block (omega (arith, full, in_block))
+    ∙ little_from-take (width * k) width 64 ys (omega (arith, in_block))
+    ∙ little_from-take (width * k) width (at + 64 - at) (drop at values) (omega (arith, in_block))
+    ∙ little_drop at (width * k) width values
+    ∙ ap (λ x. little_from x width values) (places k)
+    ∙ sym (get_or-map-range_with_len f from count k (from + k) d low refl))
 
 -- the lanes of a load of bytes
 pub byte_lanes : (from : ℕ) (values : List ℕ) → from + 64 ≤ length values →
@@ -60,15 +60,15 @@ byte_lanes from values le =
     let full : length block ≡ 64 = length-chunk 0 64 ys (omega (arith, whole)) in
     same_lists block (map f (range_with_len from 64)) (full ∙ sym (length-map-range_with_len f from 64))
     (λ k d lt.
-      let low : k < 64 = omega (arith, lt, full) in
-      let at : 1 * (from + k) ≡ from + k = omega arith in
-      let one : get_or values (from + k) 0 ≡ little_from (1 * (from + k)) 1 values = rw at (omega arith) in
-      get_or_default block k d 0 lt
-      ∙ get_or-take 64 ys k 0 low
-      ∙ get_or-take (from + 64 - from) (drop from values) k 0 (omega (arith, low))
-      ∙ get_or-drop from values k 0
-      ∙ one
-      ∙ sym (get_or-map-range_with_len f from 64 k (from + k) d low refl))
+    let low : k < 64 = omega (arith, lt, full) in
+    let at : 1 * (from + k) ≡ from + k = omega arith in
+    let one : get_or values (from + k) 0 ≡ little_from (1 * (from + k)) 1 values = rw at (omega arith) in
+    get_or_default block k d 0 lt
+    ∙ get_or-take 64 ys k 0 low
+    ∙ get_or-take (from + 64 - from) (drop from values) k 0 (omega (arith, low))
+    ∙ get_or-drop from values k 0
+    ∙ one
+    ∙ sym (get_or-map-range_with_len f from 64 k (from + k) d low refl))
 
 map_map : {X Y Z : Type 0} (g : Y → Z) (f : X → Y) (xs : List X) → map g (map f xs) ≡ map (λ x. g (f x)) xs
 map_map g f [] = refl

@@ -186,10 +186,12 @@ entry_found predicate values (negsuc n) code otherwise some is = absurd cc
 entry_found predicate values (pos n) code otherwise some is =
     let same : code ≡ n = is n refl in
     elim (cases_lt n (length values)) [
-      | inl low ↦ (omega (arith, same, low),
-          ap (λ k. get_or (truths_at predicate values) k otherwise) same
-          ∙ get_or-map (truth_at predicate) values n Null otherwise low
-          ∙ ap (λ (o : Option Value). truth_at predicate (unwrap_or o Null)) (sym (slice_get-get_or values n Null low)))
+      | inl low ↦ (
+        omega (arith, same, low),
+        ap (λ k. get_or (truths_at predicate values) k otherwise) same
+            ∙ get_or-map (truth_at predicate) values n Null otherwise low
+            ∙ ap (λ (o : Option Value). truth_at predicate (unwrap_or o Null)) (sym (slice_get-get_or values n Null low)),
+      )
       | inr high ↦ absurd (past (ap is_some (sym (slice_get_past values n high)) ∙ some))
     ]
   where
@@ -205,7 +207,7 @@ pub index_within : (cells : IndicesAt) (place : ℕ) → AreIndices cells → pl
 index_within cells place are low valid =
     let some = valid_stands (is_valid cells.validity place) (is_some (entry_at cells.dictionary (integer_at cells.index cells.values place))) valid (are.indices place low) in
     (entry_found (null_test false (Column 0)) cells.dictionary (integer_at cells.index cells.values place) (code_at cells.index cells.values place) Unknown some
-      (λ n e. one_code (is_signed cells.index) _ (code_at cells.index cells.values place) _ n e)).0
+    (λ n e. one_code (is_signed cells.index) _ (code_at cells.index cells.values place) _ n e)).0
 
 -- the truth of a slot
 pub slot_by_entry : (predicate : Pred ℕ) (cells : IndicesAt) (place : ℕ) → AreIndices cells → place < cells.len →
@@ -213,7 +215,7 @@ pub slot_by_entry : (predicate : Pred ℕ) (cells : IndicesAt) (place : ℕ) →
 slot_by_entry predicate cells place are low = by_valid (is_valid cells.validity place) (λ valid.
     let some = valid_stands (is_valid cells.validity place) (is_some (entry_at cells.dictionary (integer_at cells.index cells.values place))) valid (are.indices place low) in
     (entry_found predicate cells.dictionary (integer_at cells.index cells.values place) (code_at cells.index cells.values place) (truth_at predicate Null) some
-      (λ n e. one_code (is_signed cells.index) _ (code_at cells.index cells.values place) _ n e)).1)
+    (λ n e. one_code (is_signed cells.index) _ (code_at cells.index cells.values place) _ n e)).1)
   where
     by_valid : (valid : Bool) → (valid ≡ true → get_or (truths_at predicate cells.dictionary) (code_at cells.index cells.values place) (truth_at predicate Null) ≡ truth_at predicate (unwrap_or (entry_at cells.dictionary (integer_at cells.index cells.values place)) Null)) →
         by_entry (truths_at predicate cells.dictionary) (truth_at predicate Null) valid (code_at cells.index cells.values place) ≡ truth_at predicate (if valid then unwrap_or (entry_at cells.dictionary (integer_at cells.index cells.values place)) Null else Null)

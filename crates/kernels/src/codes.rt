@@ -12,7 +12,7 @@ ghost use Rattle.std.specs.Simd.Lanes.{mask_l};
 use arrays::Element;
 use arrow_schema::IntegerType;
 use std::simd::prelude::*;
-use std::simd::{u16x32, u32x16, u64x8, u8x64};
+use std::simd::{u8x64, u16x32, u32x16, u64x8};
 
 /// The code of a number in an integer type, where the type has it.
 pub(crate) fn code_of(integer: IntegerType, number: i128) -> Option<u64>

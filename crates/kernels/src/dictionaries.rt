@@ -114,13 +114,19 @@ fn alone_in_two(left: &Operand<usize>, right: &Operand<usize>) -> Option<usize>
         Operand::Literal(_) => column_named(right),
     };
     match found {
-        Some(number) if names_no_other(left, number) && names_no_other(right, number) => Some(number),
+        Some(number) if names_no_other(left, number) && names_no_other(right, number) => Some(
+            number,
+        ),
         _ => None,
     }
 }
 
 // The column that the first of three operands is, if the others name no other.
-fn alone_in_three(operand: &Operand<usize>, low: &Operand<usize>, high: &Operand<usize>) -> Option<usize>
+fn alone_in_three(
+    operand: &Operand<usize>,
+    low: &Operand<usize>,
+    high: &Operand<usize>,
+) -> Option<usize>
     ensures { IfSome result (λ number. (operand_names (λ column. column == number) operand.now
         && (operand_names (λ column. column == number) low.now && operand_names (λ column. column == number) high.now)) ≡ true) }
 {

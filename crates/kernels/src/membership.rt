@@ -123,7 +123,7 @@ fn push_item(
 ) -> Result<bool, AllocError>
     ensures { IfOk result (λ is_number. is_number ≡ true → (cell : ℕ → Value) (code : ℕ) → code < 2 ^ bit_width integer →
         truth_from (is_among codes.new.items code)
-            ≡ truth_or (truth_from (is_among codes.old.items code)) (compared EqualTo (IntValue (number_from integer code)) (operand_value cell item.now))) }
+        ≡ truth_or (truth_from (is_among codes.old.items code)) (compared EqualTo (IntValue (number_from integer code)) (operand_value cell item.now))) }
 {
     match item {
         Operand::Literal(Value::Int(number)) => {
@@ -135,11 +135,7 @@ fn push_item(
 }
 
 // Adds the code of a number, where the type has it.
-fn push_number(
-    codes: &mut Vec<u64>,
-    integer: IntegerType,
-    number: i128,
-) -> Result<(), AllocError>
+fn push_number(codes: &mut Vec<u64>, integer: IntegerType, number: i128) -> Result<(), AllocError>
     ensures { IfOk result (λ _. (code : ℕ) → code < 2 ^ bit_width integer →
         is_among codes.new.items code ≡ (is_among codes.old.items code || is_eq (int_cmp (number_from integer code) number))) }
 {

@@ -22,8 +22,8 @@ returns-else-rows-number c =
     let f : ℕ → Truth = λ place. truth_at p (slot_of part.column.now place) in
     found_again c.entries_part.result (λ (mask : List Truth). mask ≡ said_of (truth_at p) part) (λ (mask : List Truth). mask ≡ truths_of columns read p rows.from rows.len)
     (λ mask had. had
-      ∙ ap (λ (n : ℕ). map f (range_with_len n part.len)) c.part.ensures.from
-      ∙ ap (λ (n : ℕ). map f (range_with_len rows.from n)) c.part.ensures.len
-      ∙ same_map f (truth_in columns read p) (λ row.
-        ap (truth_at p) (c.part.ensures.cells row) ∙ sym (alone_truth c.in-Some.number (cell_in (cells_at columns read row)) p c.in-Some.ensures)) (range_with_len rows.from rows.len))
+    ∙ ap (λ (n : ℕ). map f (range_with_len n part.len)) c.part.ensures.from
+    ∙ ap (λ (n : ℕ). map f (range_with_len rows.from n)) c.part.ensures.len
+    ∙ same_map f (truth_in columns read p) (λ row.
+    ap (truth_at p) (c.part.ensures.cells row) ∙ sym (alone_truth c.in-Some.number (cell_in (cells_at columns read row)) p c.in-Some.ensures)) (range_with_len rows.from rows.len))
     c.entries_part.ensures

@@ -34,15 +34,15 @@ returns c =
     let f : ℕ → Truth = λ place. by_entry c.as_slice.result.now c.truth_at.result (is_valid numbers.validity.now place) (code_at numbers.integer numbers.values.now place) in
     ok_again c.mask.result (λ (mask : List Truth). mask ≡ map f (range_with_len first part.len)) (λ (mask : List Truth). mask ≡ said_of (truth_at p) part)
     (λ mask had. had ∙ same_range f (λ (place : ℕ). truth_at p (slot_of column place)) first part.from part.len (λ i lt.
-      let place = first + i in
-      let at : first + i ≡ column.first + (part.from + i) = omega (arith, c.first.ensures) in
-      let low : place < cells.len = omega (arith, at, lt, count, c.requires.part, c.len-len.ensures.stands.within) in
-      ap (λ (l : List Truth). by_entry l c.truth_at.result (is_valid numbers.validity.now place) (code_at numbers.integer numbers.values.now place)) truths
-      ∙ ap (λ (t : Truth). by_entry (truths_at p cells.dictionary) t (is_valid numbers.validity.now place) (code_at numbers.integer numbers.values.now place)) c.truth_at.ensures
-      ∙ ap (λ (v : Option (List Bool)). by_entry (truths_at p cells.dictionary) (truth_at p Null) (is_valid v place) (code_at numbers.integer numbers.values.now place)) is.validity
-      ∙ ap (λ (integer : IntegerType). by_entry (truths_at p cells.dictionary) (truth_at p Null) (is_valid cells.validity place) (code_at integer numbers.values.now place)) is.integer
-      ∙ ap (λ (values : List ℕ). by_entry (truths_at p cells.dictionary) (truth_at p Null) (is_valid cells.validity place) (code_at cells.index values place)) is.values
-      ∙ slot_by_entry p cells place are low
-      ∙ ap (λ (n : ℕ). truth_at p (layout_slot (Indices cells) n)) at
-      ∙ ap (λ (l : Layout). truth_at p (layout_slot l (column.first + (part.from + i)))) (sym c.requires.layout)))
+    let place = first + i in
+    let at : first + i ≡ column.first + (part.from + i) = omega (arith, c.first.ensures) in
+    let low : place < cells.len = omega (arith, at, lt, count, c.requires.part, c.len-len.ensures.stands.within) in
+    ap (λ (l : List Truth). by_entry l c.truth_at.result (is_valid numbers.validity.now place) (code_at numbers.integer numbers.values.now place)) truths
+    ∙ ap (λ (t : Truth). by_entry (truths_at p cells.dictionary) t (is_valid numbers.validity.now place) (code_at numbers.integer numbers.values.now place)) c.truth_at.ensures
+    ∙ ap (λ (v : Option (List Bool)). by_entry (truths_at p cells.dictionary) (truth_at p Null) (is_valid v place) (code_at numbers.integer numbers.values.now place)) is.validity
+    ∙ ap (λ (integer : IntegerType). by_entry (truths_at p cells.dictionary) (truth_at p Null) (is_valid cells.validity place) (code_at integer numbers.values.now place)) is.integer
+    ∙ ap (λ (values : List ℕ). by_entry (truths_at p cells.dictionary) (truth_at p Null) (is_valid cells.validity place) (code_at cells.index values place)) is.values
+    ∙ slot_by_entry p cells place are low
+    ∙ ap (λ (n : ℕ). truth_at p (layout_slot (Indices cells) n)) at
+    ∙ ap (λ (l : Layout). truth_at p (layout_slot l (column.first + (part.from + i)))) (sym c.requires.layout)))
     c.mask.ensures

@@ -11,4 +11,4 @@ loop-index-preserved c =
     let low : c.loop-index.index < length values = omega (arith, c.loop-index-test.true, c.len-count.ensures.count) in
     rw c.in_ok-push.ensures.items
     (entries_more (pred_of c.args.predicate.now) values c.loop-index.truths.items c.loop-index.index (value_of c.unwrap_or.result) c.truth_at.result low c.loop-index.invariant
-      (ap value_of c.unwrap_or.ensures ∙ value_read value_of c.get.result NullRef values c.loop-index.index low c.get.ensures) c.truth_at.ensures)
+    (ap value_of c.unwrap_or.ensures ∙ value_read value_of c.get.result NullRef values c.loop-index.index low c.get.ensures) c.truth_at.ensures)

@@ -23,8 +23,8 @@ returns-in-Integers c =
     (λ (mask : List Truth). (cell : ℕ → Value) → mask ≡ map (λ place. any_equal cell (layout_slot (Integers cells) place) items) (range_with_len first part.len))
     (λ (mask : List Truth). (cell : ℕ → Value) → mask ≡ said_of (λ value. any_equal cell value items) part)
     (λ mask had cell. had cell
-      ∙ same_range (λ (place : ℕ). any_equal cell (layout_slot (Integers cells) place) items) (λ (place : ℕ). any_equal cell (slot_of column place) items) first part.from part.len (λ i lt.
-        let at : c.first.result + part.from + i ≡ column.first + (part.from + i) = omega (arith, c.first.ensures) in
-        ap (λ (v : Value). any_equal cell v items)
-          (ap (layout_slot (Integers cells)) at ∙ ap (λ (l : Layout). layout_slot l (column.first + (part.from + i))) c.in-Integers.ensures.value)))
+    ∙ same_range (λ (place : ℕ). any_equal cell (layout_slot (Integers cells) place) items) (λ (place : ℕ). any_equal cell (slot_of column place) items) first part.from part.len (λ i lt.
+    let at : c.first.result + part.from + i ≡ column.first + (part.from + i) = omega (arith, c.first.ensures) in
+    ap (λ (v : Value). any_equal cell v items)
+    (ap (layout_slot (Integers cells)) at ∙ ap (λ (l : Layout). layout_slot l (column.first + (part.from + i))) c.in-Integers.ensures.value)))
     c.integers_among.ensures

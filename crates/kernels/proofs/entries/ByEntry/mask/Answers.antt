@@ -22,9 +22,9 @@ returns-in-Some c =
     let both : (s.of_null ≡ Unknown) × AreTrueAt s.truths.now codes = rw c.in-Some.is at c.in_ok-codes.ensures in
     ok_again c.mask_by.result (λ (mask : List Truth). mask ≡ map f (range_with_len first len)) (λ (mask : List Truth). mask ≡ map (entry_truth s) (range_with_len first len))
     (λ mask had. had ∙ same_range f (entry_truth s) first first len (λ i lt.
-      let place = first + i in
-      let code = code_at s.indices.integer s.indices.values.now place in
-      ap (λ (l : List ℕ). where_known (is_valid s.indices.validity.now place) (is_among l code)) c.as_slice.ensures.value
-      ∙ slot_among s.truths.now s.of_null codes (is_valid s.indices.validity.now place) code both.0 both.1
-        (λ valid. c.requires.stand place (omega (arith, lt, c.requires.within)) valid)))
+    let place = first + i in
+    let code = code_at s.indices.integer s.indices.values.now place in
+    ap (λ (l : List ℕ). where_known (is_valid s.indices.validity.now place) (is_among l code)) c.as_slice.ensures.value
+    ∙ slot_among s.truths.now s.of_null codes (is_valid s.indices.validity.now place) code both.0 both.1
+    (λ valid. c.requires.stand place (omega (arith, lt, c.requires.within)) valid)))
     c.mask_by.ensures
