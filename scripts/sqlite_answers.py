@@ -1,22 +1,31 @@
 #!/usr/bin/env python3
-"""Random joins and groups over small random tables, through `flightscan pipe` and through sqlite3, compared.
+"""Random queries over small and over wide random tables, through `flightscan pipe` and through sqlite3, compared.
 
-    python3 scripts/sqlite_answers.py [--count N] [--seed S] [--program PATH] [--plain] [--without-program]
+    python3 scripts/sqlite_answers.py [--count N] [--wide N] [--long] [--seed S] [--program PATH] [--plain] [--without-program]
 
 What it shows: that the answers are those of a program which shares nothing with ours, wherever both define the same.
-Each of the databases (2,000 if no count is said) has 1 to 4 tables of 1 to 4 columns of any types but floats and dates,
-with nulls, of 0 to 12 rows, or in one database of ten to 200, that come in puts of one or more batches. Between the puts stand queries: joins of 2 to 4
-places, a table with itself too; WHERE with comparisons, BETWEEN, IN, IS NULL, IS TRUE and the like, AND, OR and NOT;
-and groups of one place with COUNT and SUM. `pipe` gets the puts, the infos of all queries, of 1 to 3 parts each, and
-behind them the fetches of all endpoints in any order, so also of versions that are no longer the newest. sqlite3 gets
-the same tables and queries in turn, with an ORDER BY of the order that docs/SQL.md states. Compared are each put's
-count, each info's tickets, the schemas of an info and of its streams, and the rows of each endpoint, one by one, in order.
+Each of the small databases (400 if no count is said) has 1 to 4 tables of 1 to 4 columns of any types but floats and
+dates, with nulls, of 0 to 12 rows, or in one database of ten to 200, that come in puts of one or more batches. Between
+the puts stand queries: joins of 2 to 4 places, a table with itself too; WHERE with comparisons, BETWEEN, IN, IS NULL,
+IS TRUE and the like, AND, OR and NOT; and groups of one place with COUNT and SUM.
 
-What both define alike, and no more: sqlite3 has its truth values as 1 and 0, names differ by more than their case, and
-numbers are so small that sqlite3's sums of 64 bits do not overflow.
+Each of the wide databases (3 if no number is said) has a table of 70,000 rows and one of up to 300 rows with the same six
+columns. Of a column nearly all values may be equal, or all different, or null; texts begin alike; numbers lie close
+together or anywhere, with those at the ends of their types. The queries keep none of the rows, one in 1,000, one in 100,
+half, nearly all or all of them; an IN has up to 256 items; keys of joins and groups go from one for all rows to another
+one for each.
 
-With --plain no query has a join or groups. With --without-program the answers of sqlite3 are compared with those of the
-plain model in random_calls, which needs no built program. Seeds are S, S + 1, ..; of one seed all is always the same.
+`pipe` gets the puts, the infos of all queries, of 1 to 3 parts each, and behind them the fetches of all endpoints in any
+order, so also of versions that are no longer the newest. sqlite3 gets the same tables and queries in turn, with an
+ORDER BY of the order that docs/SQL.md states. Compared are each put's count, each info's tickets, the schemas of an
+info and of its streams, and the rows of each endpoint, one by one, in order.
+
+What both define alike, and no more: sqlite3 has its truth values as 1 and 0, names differ by more than their case,
+numbers have 64 bits with a sign, and such columns alone are summed whose sums have no more.
+
+With --long there are 2,000 small databases and 40 wide ones. With --plain no query has a join or groups. With
+--without-program the answers of sqlite3 are compared with those of the plain model in random_calls, which needs no built
+program; a wide database then has no joins. Seeds are S, S + 1, .. of both kinds; of one seed all is always the same.
 It ends with 1 at the first difference, and prints the query and both answers. It needs `sqlite3` on the path (tried
 with 3.40), and the program is built as for bench/pipe.py.
 
@@ -47,6 +56,7 @@ from random_calls.joined import Joiner, JoinSpeller, Query, Values  # noqa: E402
 from random_calls.joined_model import query_rows  # noqa: E402
 from random_calls.plain_model import Column, Database, Put, Row, Table, after, class_of, split  # noqa: E402
 from random_calls.puts import TREES, ingest, messages_of, stream_of  # noqa: E402
+from random_calls.wide import ROWS, Choices, Sorted, WideJoiner, wide_columns  # noqa: E402
 from reader import Fault, Reader  # noqa: E402
 
 SECONDS = 300  # that one program may take
@@ -54,6 +64,9 @@ TABLES = ["t", "u", "a b", "select", "\u00e9"]
 COLUMNS = ["a", "b", "c", "k", "order", "a b", "\u00e9\"", "_1"]
 COUNTS = [0, 1, 2, 4, 6, 8, 12]  # of a put's rows; of a large one as many times more
 MARK = "="  # the line behind each answer of sqlite3
+TOGETHER = 500  # rows of a statement of sqlite3
+TOLD = 200  # rows of a table or an answer that are told
+LONG = 2000, 40
 
 
 @dataclass
@@ -72,16 +85,30 @@ class Asked:
 class Case:
     """A database, its queries, and the calls and the script that say both."""
 
-    def __init__(self, seed: int, plain: bool):
-        self.random, self.seed, self.plain = Random(seed), seed, plain
+    again = "--count 1 --wide 0"
+
+    def __init__(self, seed: int, plain: bool, modelled: bool):
+        self.random, self.seed, self.plain, self.modelled = self.seeded(seed), seed, plain, modelled
         self.parts, self.version, self.database = self.random.randint(1, 3), 0, {}
-        self.most = 200 if self.random.random() < 0.1 else 12  # rows of a table
-        self.values = Values(self.random, self.most > 12)
         self.calls: list[bytes] = []
         self.counts: list[tuple[int | None, Asked | None]] = []  # of each call, its put's rows or its query
         self.script = [".bail on", ".mode json"]
         self.asked: list[Asked] = []
         self.now: Asked | None = None  # the query whose answers are looked at
+        self.make()
+        self.fetches = [(asked, number) for asked in self.asked for number in range(len(asked.handles))]
+        self.random.shuffle(self.fetches)
+        for asked, number in self.fetches:
+            self.calls.append(wire.call(b"DoGet", [wire.ticket(asked.handles[number])]))
+
+    @staticmethod
+    def seeded(seed: int) -> Random:
+        return Random(seed)
+
+    def make(self) -> None:
+        """Puts of some tables, and queries between further puts."""
+        self.most = 200 if self.random.random() < 0.1 else 12  # rows of a table
+        self.values = Values(self.random, self.most > 12)
         for name in self.random.sample(TABLES, self.random.randint(1, 4)):
             self.put(name, self.columns())
         for _ in range(self.random.randint(2, 4)):
@@ -89,10 +116,6 @@ class Case:
                 self.ask()
             name = self.random.choice(list(self.database))
             self.put(name, self.columns() if self.random.random() < 0.2 else None)
-        self.fetches = [(asked, number) for asked in self.asked for number in range(len(asked.handles))]
-        self.random.shuffle(self.fetches)
-        for asked, number in self.fetches:
-            self.calls.append(wire.call(b"DoGet", [wire.ticket(asked.handles[number])]))
 
     def columns(self) -> tuple[Column, ...]:
         names = self.random.sample(COLUMNS, self.random.randint(1, 4))
@@ -105,6 +128,9 @@ class Case:
         old = len(self.database[name].rows) if there == "APPEND" else 0
         rows = [tuple(None if column.nullable and self.random.random() < nulls else self.values.value(column.type)
                       for column in columns) for _ in range(self.random.choice(COUNTS) * self.most // 12)][: self.most - old]
+        self.put_rows(name, there, columns, rows)
+
+    def put_rows(self, name: str, there: str, columns: tuple[Column, ...], rows: list[Row]) -> None:
         put = Put(name, "CREATE", there, Table(columns, rows))
         stream, _ = stream_of(self.random, put)
         self.calls.append(wire.call(b"DoPut", messages_of(self.random, ingest(self.random, put, b""), stream)))
@@ -119,13 +145,17 @@ class Case:
             kinds = [f"{joined.sqlite_name(column.name)} {'TEXT' if class_of(column.type) == 'text' else 'INTEGER'}"
                      for column in put.table.columns]
             self.script += [f"DROP TABLE IF EXISTS {name};", f"CREATE TABLE {name} ({', '.join(kinds)});"]
-        for row in put.table.rows:
-            self.script.append(f"INSERT INTO {name} VALUES ({', '.join(map(joined.sqlite_value, row))});")
+        rows = [f"({', '.join(map(joined.sqlite_value, row))})" for row in put.table.rows]
+        for first in range(0, len(rows), TOGETHER):
+            self.script.append(f"INSERT INTO {name} VALUES {', '.join(rows[first : first + TOGETHER])};")
+
+    def query(self) -> Query | None:
+        places = [1] if self.plain else [1, 1, 2] if self.most > 12 else [1, 1, 1, 2, 2, 2, 3, 4]
+        return Joiner(self.random, self.database, self.values, places).joined_query()
 
     def ask(self) -> None:
         """An info of a query, where one was found that binds and is short enough."""
-        places = [1] if self.plain else [1, 1, 2] if self.most > 12 else [1, 1, 1, 2, 2, 2, 3, 4]
-        query = Joiner(self.random, self.database, self.values, places).joined_query()
+        query = self.query()
         text = JoinSpeller(self.random).joined_query(query) if query else ""
         if query is None or len(text.encode()) > joined.LONGEST_TEXT:
             return
@@ -138,6 +168,31 @@ class Case:
         self.counts.append((None, asked))
         self.asked.append(asked)
         self.script += [joined.sqlite_query(query), f".print {MARK}"]
+
+
+class WideCase(Case):
+    """A database of a wide table and a small one, of which the wide one comes in two puts."""
+
+    again = "--count 0 --wide 1"
+
+    @staticmethod
+    def seeded(seed: int) -> Random:
+        return Random(f"wide {seed}")
+
+    def make(self) -> None:
+        columns, some = wide_columns(self.random), self.random.randrange(ROWS)
+        choices = Choices(self.random, columns, ROWS)
+        rows = choices.rows(columns, ROWS)
+        self.put_rows("t", "REPLACE", columns, rows[:some])
+        self.put_rows("t", "APPEND", columns, rows[some:])
+        self.put_rows("u", "REPLACE", columns, choices.rows(columns, self.random.choice([0, 1, 20, 100, 300])))
+        self.sorted = Sorted(self.database)
+        while len(self.asked) < 24:
+            self.ask()
+
+    def query(self) -> Query | None:
+        tables = [("t",)] * 5 + ([] if self.plain or self.modelled else [("t", "u"), ("u", "t"), ("t", "t"), ("t", "u", "u")])
+        return WideJoiner(self.random, self.database, self.sorted, self.random.choice(tables), self.plain).wide_query()
 
 
 # ---- runs
@@ -235,11 +290,16 @@ def tell(case: Case, difference: str, switches: list[str]) -> None:
         for name in dict.fromkeys(place.table for place in asked.query.places):
             table = asked.database[name]
             columns = ", ".join(f"{one.name!r} {one.type}{' or null' * one.nullable}" for one in table.columns)
-            print(f"table {name!r} of {columns}", *table.rows, sep="\n  ")
+            print(f"table {name!r} of {columns}", *told(table.rows), sep="\n  ")
         print("rows of its endpoints:", asked.ranges)
-        print(f"ours:    {asked.text}", *asked.given, sep="\n  ")
-        print(f"sqlite3: {joined.sqlite_query(asked.query)}", *asked.wanted, sep="\n  ")
-    print(" ".join(["again: python3 scripts/sqlite_answers.py --count 1 --seed", str(case.seed), *switches]))
+        print(f"ours:    {asked.text}", *map(told, asked.given), sep="\n  ")
+        print(f"sqlite3: {joined.sqlite_query(asked.query)}", *map(told, asked.wanted), sep="\n  ")
+    print(" ".join(["again: python3 scripts/sqlite_answers.py", case.again, "--seed", str(case.seed), *switches]))
+
+
+def told(rows: list[Row]) -> list[Row | str]:
+    """The rows, or the first ones and how many more there are."""
+    return rows if len(rows) <= TOLD else [*rows[:TOLD], f"and {len(rows) - TOLD} more"]
 
 
 def count(case: Case, counts: collections.Counter) -> None:
@@ -254,27 +314,34 @@ def count(case: Case, counts: collections.Counter) -> None:
 
 def options() -> argparse.Namespace:
     parser = argparse.ArgumentParser(description=__doc__, formatter_class=argparse.RawDescriptionHelpFormatter)
-    parser.add_argument("--count", type=int, default=2000, help="how many databases (2000)")
+    parser.add_argument("--count", type=int, help="how many small databases (400)")
+    parser.add_argument("--wide", type=int, help="how many wide databases (3)")
+    parser.add_argument("--long", action="store_true", help="2,000 small and 40 wide ones, where no number is said")
     parser.add_argument("--seed", type=int, default=1, help="the seed of the first (1)")
     parser.add_argument("--program", help="the built program (that of the repository)")
     parser.add_argument("--plain", action="store_true", help="ask no joins and no groups")
     parser.add_argument("--without-program", action="store_true", help="compare sqlite3 with the plain model")
-    return parser.parse_args()
+    words = parser.parse_args()
+    small, wide = LONG if words.long else (400, 3)
+    words.count, words.wide = (small if words.count is None else words.count), (wide if words.wide is None else words.wide)
+    return words
 
 
 def main() -> int:
     words, counts = options(), collections.Counter()
     path = None if words.without_program else program(words.program)
     switches = ["--plain"] * words.plain + ["--without-program"] * words.without_program
-    for seed in range(words.seed, words.seed + words.count):
-        case = Case(seed, words.plain)
+    kinds = [*[(Case, number) for number in range(words.count)], *[(WideCase, number) for number in range(words.wide)]]
+    for kind, number in kinds:
+        case = kind(words.seed + number, words.plain, words.without_program)
         try:
             compare(case, path)
             count(case, counts)
         except (Difference, wire.Unreadable, Fault, ValueError, IndexError, subprocess.TimeoutExpired) as found:
             tell(case, str(found) if isinstance(found, Difference) else repr(found), switches)
             return 1
-    print(f"{words.count} databases, and no difference; {counts['endpoints']} endpoints")
+    print(f"{words.count} small and {words.wide} wide databases from seed {words.seed} on, and no difference; "
+          f"{counts['endpoints']} endpoints")
     for kind in ["groups", *(f"places: {number}" for number in range(1, 5))]:
         print(f"{counts[kind]:7} queries of {kind}, {counts[kind, 'none']} without rows; {counts[kind, 'rows']} rows")
     return 0

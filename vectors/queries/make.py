@@ -2,7 +2,7 @@
 """Writes stdin and stdout of crates/query_cases: a case a line, and what is wanted of it.
 
 The tokens are those of lexer.py and the verdicts those of recogniser.py, which share nothing with the crates; what is
-wanted of the cases of worked.py was worked out by hand.
+wanted of the cases of worked.py was worked out by hand, and of those of selections.py by the model in truths.py.
 """
 import pathlib
 import re
@@ -11,6 +11,7 @@ import sys
 sys.dont_write_bytecode = True
 import lexer
 import recogniser
+import selections
 import table
 import worked
 
@@ -43,6 +44,8 @@ def cases():
     yield from ((f"parse {written(query)}", recogniser.answer(query)) for query in recogniser.queries())
     yield from ((put, "None") for put in table.puts())
     yield from worked.cases()
+    yield from ((put, "None") for put in selections.puts())
+    yield from selections.cases()
 
 
 def main():

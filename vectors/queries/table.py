@@ -171,18 +171,24 @@ def for_joins_and_groups():
     yield few_rows("letters", ("s", UTF8, ["b", None, "a"]), ("i", i64, [1, 2, 3]))
 
 
-def hexed(data):
-    """Hexadecimal digits, in which what is repeated is written once behind its number."""
+def hexed(data, periods=()):
+    """Hexadecimal digits, in which what is repeated is written once behind its number, where that is shorter. Repeats of
+    1 to 16 bytes are found, and those of the periods that are said."""
     found, place = "", 0
     while place < len(data):
-        width, count = max(((width, repeats(data, place, width)) for width in (1, 2, 4, 8, 16)), key=lambda one: one[0] * one[1])
-        if count > 8:
-            found += "{%d:%s}" % (count, data[place : place + width].hex())
-            place += width * count
-        else:
-            found += f"{data[place]:02x}"
-            place += 1
+        spared, length, piece = max(repeated(data, place, width) for width in (1, 2, 4, 8, 16, *periods))
+        if spared <= 0:
+            length, piece = 1, f"{data[place]:02x}"
+        found += piece
+        place += length
     return found
+
+
+def repeated(data, place, width):
+    """How many digits are spared, how many bytes are written so, and what is written."""
+    count = repeats(data, place, width)
+    piece = "{%d:%s}" % (count, data[place : place + width].hex())
+    return 2 * width * count - len(piece), width * count, piece
 
 
 def repeats(data, place, width):
@@ -194,13 +200,13 @@ def repeats(data, place, width):
     return (end - place) // width
 
 
-def put(name, columns, messages):
+def put(name, columns, messages, periods=()):
     """The case of a put, behind what its messages say by another reader."""
     reader, words = Reader(), []
     for tree, body in messages:
         header = layout.written("Message", tree, "packed")
         answer = reader.message(header, body)
-        words.append(f"{hexed(header)}/{hexed(body)}")
+        words.append(f"{hexed(header)}/{hexed(body, periods)}")
     wanted = [list(row) for row in zip(*(values for _, _, values in columns))]
     assert answer == "rows " + json.dumps(wanted), answer
     return " ".join(["put", name, *words])

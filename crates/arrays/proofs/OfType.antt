@@ -1,5 +1,7 @@
 -- The values of a column are of its type.
-use Rattle.std.proofs.Common.{◌≤ℤ◌, ◌<ℤ◌, ℕ, ◌+◌, ◌*◌, ◌^◌, ◌<◌, pos, Bool as Truth, true, false, if◌then◌else◌, List, Option, get_or, arith}
+use Rattle.std.proofs.Common.{◌≤ℤ◌, ◌<ℤ◌, ℕ, ◌+◌, ◌*◌, ◌^◌, ◌<◌, ℤ, pos, negsuc, Bool as Truth, true, false, if◌then◌else◌, List, length, Option, unwrap_or, All, get_or, inl, inr, arith}
+use Rattle.std.proofs.lemmas.Bool.{cases_lt}
+use Rattle.std.proofs.lemmas.Option.{slice_get-get_or, slice_get_past}
 use Rattle.std.proofs.Math.Facts.{sfits_to_z, yes_leb, yes_ltb}
 use Rattle.byteorder.specs.Numbers.{little_from-lt}
 use Rattle.scan_base.specs.declared.value.Value.{Value}
@@ -12,12 +14,30 @@ use Rattle.arrays.specs.declared.layout.Layout.{Layout}
 use Rattle.arrays.specs.declared.layout.Layout.TheVariants as layout
 use Rattle.arrays.specs.Number.{AreBytes, element_at, integer_at, decimal_at}
 use Rattle.arrays.specs.Validity.{is_valid, where_valid}
+use Rattle.arrays.specs.Dictionary.{entry_at}
+use Rattle.arrays.specs.Indices.{IndicesAt}
+use Rattle.arrays.specs.Layout.{layout_slot}
 use Rattle.scan_base.specs.Value.{IsTextOrNull}
 use Rattle.arrays.specs.Column.{IsColumn, slot_of}
 use Rattle.arrays.specs.Typed.{IsOfType, IsInteger, IsValueOf, ValuesAreOfTheirType}
 use Rattle.arrays.proofs.EachSlot.{all_slots}
 use Rattle.arrays.proofs.TextSlots.{slot_is_text}
-use Rattle.arrays.proofs.ColumnsAgain.{index_is_text}
+
+-- the value that an index leads to is a text or null
+led_text : (values : List Value) (index : ℤ) → All IsTextOrNull values → IsTextOrNull (unwrap_or (entry_at values index) Null)
+led_text values (pos index) texts = elim (cases_lt index (length values)) [
+  | inl low ↦ rw (slice_get-get_or values index Null low) (texts index Null low)
+  | inr high ↦ rw (slice_get_past values index high) tt
+]
+led_text values (negsuc index) texts = tt
+
+pub index_is_text : (cells : IndicesAt) (place : ℕ) → All IsTextOrNull cells.dictionary → IsTextOrNull (layout_slot (layout.Indices cells) place)
+index_is_text cells place texts = by (is_valid cells.validity place) (led_text cells.dictionary (integer_at cells.index cells.values place) texts)
+  where
+    by : (valid : Truth) → IsTextOrNull (unwrap_or (entry_at cells.dictionary (integer_at cells.index cells.values place)) Null) →
+        IsTextOrNull (if valid then unwrap_or (entry_at cells.dictionary (integer_at cells.index cells.values place)) Null else Null)
+    by true text = text
+    by false text = tt
 
 element_small : (width place : ℕ) (values : List ℕ) → AreBytes values → element_at width values place < 256 ^ width
 unfolding element_at

@@ -3,7 +3,5 @@ pub mod Dictionary
 pub mod Nulls
 pub mod Placed
 pub mod Runs
-pub mod Gathered
 pub mod TextCuts
 pub mod Slots
-pub mod Filled

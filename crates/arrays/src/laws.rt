@@ -3,7 +3,6 @@
 ghost use Rattle.arrays.specs.Column.{ColumnSlicesKeepValues};
 ghost use Rattle.arrays.specs.Batch.{BatchSlicesKeepRows};
 ghost use Rattle.arrays.specs.Typed.{ValuesAreOfTheirType};
-ghost use Rattle.arrays.specs.Written.{ColumnsReadBack};
 
 /// The slots of a column from one up to, not with, another have the values that they had.
 #[tactic(auto, using(crate::proofs::Slices::columns_keep))]
@@ -15,12 +14,6 @@ pub fn column_slices_keep_values()
 #[tactic(auto, using(crate::proofs::Slices::batches_keep))]
 pub fn batch_slices_keep_rows()
     ensures { BatchSlicesKeepRows }
-{}
-
-/// What is written of a column says the column's values.
-#[tactic(auto, using(crate::proofs::ColumnsAgain::columns_again))]
-pub fn columns_read_back()
-    ensures { ColumnsReadBack }
 {}
 
 /// Each value of a column is null or one of the column's type: within the range of its integers, of 128 bits, or

@@ -3,8 +3,7 @@
 ghost use Rattle.std.specs.Prelude.{◌≡◌, ◌≤◌, ◌+◌};
 ghost use Rattle.scan_base.specs.Value.{value_of, is_null};
 ghost use Rattle.arrays.specs.Layout.{layout_count, layout_slot};
-ghost use Rattle.arrays.specs.Nulls.{null_count};
-ghost use Rattle.arrays.specs.inside.Nulls.{AreAt};
+ghost use Rattle.arrays.specs.Nulls.{null_count, AreAt};
 
 use crate::cells::Cells;
 use crate::slots::Slots;
@@ -13,7 +12,7 @@ use scan_base::ValueRef;
 
 /// Where the nulls of slots are.
 #[derive(Clone, Copy)]
-pub(crate) enum Nulls<'a> {
+pub enum Nulls<'a> {
     /// No slot is null.
     Nowhere,
     /// Those slots are null whose bit is 0.
@@ -23,7 +22,7 @@ pub(crate) enum Nulls<'a> {
 }
 
 /// Whether a value is null.
-pub(crate) fn is_null(value: ValueRef<'_>) -> bool
+pub fn is_null(value: ValueRef<'_>) -> bool
     ensures { result ≡ is_null (value_of value.entry) }
 {
     match value {
@@ -34,7 +33,7 @@ pub(crate) fn is_null(value: ValueRef<'_>) -> bool
 
 impl Slots {
     /// Where the nulls are.
-    pub(crate) fn nulls(&self) -> Nulls<'_>
+    pub fn nulls(&self) -> Nulls<'_>
         ensures { AreAt result (layout_count self.now) (layout_slot self.now) }
     {
         let _count = self.len();
@@ -47,7 +46,7 @@ impl Slots {
         }
     }
 
-    /// How many of the slots from `first` on are null, of `len` of them.
+    // How many of the slots from `first` on are null, of `len` of them.
     pub(crate) fn null_count(&self, first: usize, len: usize) -> usize
         requires { first + len ≤ layout_count self.now }
         ensures { result ≡ null_count (record { layout = self.now; first = first; len = len }) }

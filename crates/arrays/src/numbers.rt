@@ -6,6 +6,13 @@ ghost use Rattle.arrays.specs.Number.{byte_width, integer_at, decimal_at, AreByt
 use crate::element::Element;
 use arrow_schema::IntegerType;
 
+/// How many bytes a number has.
+pub fn byte_width(integer: IntegerType) -> usize
+    ensures { result ≡ byte_width integer }
+{
+    integer.bit_width() as usize / 8
+}
+
 /// Whether the bytes are enough for so many numbers.
 pub(crate) fn has_elements(integer: IntegerType, values: &[u8], len: usize) -> bool
     ensures room { result ≡ nat_le (byte_width integer * len) (length values.now) }
@@ -28,7 +35,7 @@ pub(crate) fn has_decimals(values: &[u8], len: usize) -> bool
 }
 
 /// What the type of bytes says of them.
-pub(crate) fn are_bytes(values: &[u8])
+pub fn are_bytes(values: &[u8])
     ensures { AreBytes values.now }
 {
     let _ = values;

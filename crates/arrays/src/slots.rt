@@ -10,7 +10,8 @@ ghost use Rattle.arrays.specs.Bools.{bools_of};
 ghost use Rattle.arrays.specs.Indices.{indices_of};
 ghost use Rattle.arrays.specs.Buffers.{read_as};
 ghost use Rattle.arrays.specs.Layout.{layout_count, layout_validity, IsLayout};
-ghost use Rattle.arrays.specs.inside.Slots.{layout_of, AreSlots, AreNoNulls};
+ghost use Rattle.arrays.specs.Slots.{layout_of, AreSlots};
+ghost use Rattle.arrays.specs.inside.Slots.{AreNoNulls};
 
 use crate::bools::Bools;
 use crate::cells::Cells;
@@ -32,7 +33,7 @@ use std::sync::Arc;
 
 /// The values of slots: packed integers of a type, packed decimals, bits, offsets and the bytes that they cut, or
 /// packed indices of a type into a dictionary of texts.
-pub(crate) enum Values {
+pub enum Values {
     Integers(IntegerType, Bytes),
     Decimals(Bytes),
     Bools(Bits),
@@ -103,7 +104,7 @@ impl Drop for Slots {
 
 impl Model for Slots {
     ghost use Rattle.arrays.specs.declared.layout.Layout.{Layout};
-    ghost use Rattle.arrays.specs.inside.Slots.{layout_of, AreSlots};
+    ghost use Rattle.arrays.specs.Slots.{layout_of, AreSlots};
 
     ghost Value = { Layout };
 
@@ -244,8 +245,8 @@ impl Slots {
         })
     }
 
-    // The slots of these parts, which stand.
-    pub(crate) fn from_parts(validity: Option<Bits>, len: usize, values: Values) -> Slots
+    /// The slots of these parts, which stand. It takes no memory, and looks at no slot.
+    pub fn from_parts(validity: Option<Bits>, len: usize, values: Values) -> Slots
         requires { AreSlots validity len values }
         ensures { result ≡ layout_of validity len values }
     {

@@ -5,7 +5,8 @@ ghost use Rattle.arrow_schema.specs.Schema.{IsSchema};
 ghost use Rattle.arrow_schema.specs.declared.data_type.DataType.TheVariants.{Integer};
 ghost use Rattle.arrow_schema.specs.declared.data_type.IntegerType.TheVariants.{Int64};
 
-use arrays::{Batch, Column};
+use array_select::column_of_int64s;
+use arrays::Batch;
 use arrow_schema::{DataType, Field, IntegerType, Schema};
 use scan_base::{Fault, Items, Text};
 use std::alloc::{AllocError, Global};
@@ -30,7 +31,7 @@ fn schema(alloc: Global) -> Result<Schema, AllocError>
 // A put of one row into the table of a name, which makes the table or appends to it.
 pub(crate) fn one_row(alloc: Global, table: &str) -> Result<Put, Fault> {
     let schema = schema(alloc)?;
-    let column = Column::from_int64s(alloc, &[Some(1)])?;
+    let column = column_of_int64s(alloc, &[Some(1)])?;
     let mut columns = Vec::new(alloc);
     columns.push(column)?;
     let mut batches = Vec::new(alloc);

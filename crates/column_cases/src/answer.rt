@@ -1,13 +1,14 @@
 //! What is said of a case.
 
 ghost use Rattle.std.specs.Prelude.{◌<◌, length};
-ghost use Rattle.arrays.specs.Written.{buffers_written};
+ghost use Rattle.array_buffers.specs.Written.{buffers_written};
 
 use crate::built::built;
 use crate::case::Case;
 use crate::made::layout;
 use crate::picked::picked;
 use crate::places::gathered;
+use array_buffers::{append_buffer, buffer_count, buffer_length, texts_length};
 use arrays::{Batch, Cells, Column};
 use scan_base::{Fault, ValueRef};
 use std::alloc::Global;
@@ -56,7 +57,7 @@ fn tell(rt: &impl Print, alloc: Global, column: &Column) -> io::Result<()> {
     } else {
         print!(rt; " sum {}", sum_of_slots(column))?;
     }
-    for index in 0..column.buffer_count() {
+    for index in 0..buffer_count(column) {
         tell_buffer(rt, alloc, column, index)?;
     }
     println!(rt)
@@ -102,12 +103,12 @@ fn summed(sum: u32, bytes: &[u8]) -> u32 {
 fn tell_buffer(rt: &impl Print, alloc: Global, column: &Column, index: usize) -> io::Result<()>
     requires { index < length (buffers_written column.now) }
 {
-    let length = column.buffer_length(index);
-    if length.is_none() || column.texts_length().is_none() {
+    let length = buffer_length(column, index);
+    if length.is_none() || texts_length(column).is_none() {
         return print!(rt; " | too long");
     }
     let mut bytes = Vec::new(alloc);
-    column.append_buffer(index, &mut bytes)?;
+    append_buffer(column, index, &mut bytes)?;
     tell_bytes(rt, length, bytes.as_slice())
 }
 

@@ -3,10 +3,11 @@
 ghost use Rattle.std.specs.Prelude.{◌<◌, ◌^◌, IfOk, length, map};
 ghost use Rattle.scan_base.specs.declared.value.Value.TheVariants.{Text};
 ghost use Rattle.arrays.specs.Written.{texts_joined};
-ghost use Rattle.arrays.specs.Built.{value_or_null};
+ghost use Rattle.array_select.specs.Built.{value_or_null};
 
 use crate::case::number;
-use arrays::{Batch, Cells, Column};
+use array_select::{column_of_bools, column_of_decimals, column_of_int64s, column_of_texts};
+use arrays::{Batch, Cells};
 use scan_base::Fault;
 use std::alloc::{AllocError, Global};
 
@@ -17,10 +18,10 @@ pub(crate) fn built(alloc: Global, words: &str) -> Result<Batch, Fault> {
     let count = u32::try_from(number(count)).map_err(|_| Fault::UnknownCommand)?;
     let nulls = u32::try_from(number(nulls)).map_err(|_| Fault::UnknownCommand)?;
     let column = match kind {
-        "Int64" => Column::from_int64s(alloc, int64s(alloc, count, nulls)?.as_slice())?,
-        "Decimal128" => Column::from_decimals(alloc, decimals(alloc, count, nulls)?.as_slice())?,
-        "Bool" => Column::from_bools(alloc, bools(alloc, count, nulls)?.as_slice())?,
-        "Utf8" => Column::from_texts(alloc, texts(alloc, count, nulls)?.as_slice())?,
+        "Int64" => column_of_int64s(alloc, int64s(alloc, count, nulls)?.as_slice())?,
+        "Decimal128" => column_of_decimals(alloc, decimals(alloc, count, nulls)?.as_slice())?,
+        "Bool" => column_of_bools(alloc, bools(alloc, count, nulls)?.as_slice())?,
+        "Utf8" => column_of_texts(alloc, texts(alloc, count, nulls)?.as_slice())?,
         _ => return Err(Fault::UnknownCommand),
     };
     let rows = column.len();

@@ -3,11 +3,12 @@
 ghost use Rattle.std.specs.Prelude.{◌≡◌, ◌<◌, All, IfOk};
 ghost use Rattle.arrow_schema.specs.declared.data_type.DataType.{DataType};
 ghost use Rattle.arrays.specs.Typed.{IsOfType};
-ghost use Rattle.arrays.specs.OfSlots.{IsSlotOf};
+ghost use Rattle.array_select.specs.OfSlots.{IsSlotOf};
 
 use crate::case::{Case, number};
 use crate::made::layout;
-use arrays::{Batch, Cells, Column, Layout, SlotRef, texts_fit};
+use array_select::{SlotRef, column_of_slots, texts_fit};
+use arrays::{Batch, Cells, Column, Layout};
 use arrow_schema::{DataType, DictionaryEncoding};
 use scan_base::Fault;
 use std::alloc::Global;
@@ -58,7 +59,7 @@ fn taken(alloc: Global, whole: &Column, kept: &Column, turns: Turns) -> Result<C
     if !texts_fit(slots, (1 << 31) - 1) {
         return Err(Fault::LimitReached);
     }
-    Ok(Column::of_slots(alloc, data_type, slots)?)
+    Ok(column_of_slots(alloc, data_type, slots)?)
 }
 
 // The type of a column, by its layout.

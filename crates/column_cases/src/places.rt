@@ -2,7 +2,8 @@
 
 ghost use Rattle.std.specs.Prelude.{◌<◌, All, IfOk};
 
-use arrays::{Batch, Selection};
+use array_select::{Selection, gather};
+use arrays::Batch;
 use scan_base::Fault;
 use std::alloc::Global;
 
@@ -12,7 +13,7 @@ pub(crate) fn gathered(alloc: Global, batch: &Batch, step: usize) -> Result<Batc
     let rows = places.len();
     let mut columns = Vec::with_capacity(alloc, batch.columns().len())?;
     for column in batch.columns() {
-        columns.push(column.gather(alloc, &places)?)?;
+        columns.push(gather(alloc, column, &places)?)?;
     }
     Ok(Batch::new(columns, rows))
 }

@@ -15,7 +15,8 @@ use Rattle.arrays.specs.Batch.{BatchAt, BatchSlicesKeepRows, row_of, rows_of, cu
 use Rattle.arrays.specs.Column.{ColumnAt, slot_of, cut}
 use Rattle.arrays.specs.Nulls.{null_count, valid_slots}
 use Rattle.arrays.specs.Number.{byte_width}
-use Rattle.arrays.specs.Written.{packed_bits, validity_written, elements, text_bytes, texts_joined, offsets_from, written_by, values_written, buffers_written as column_written}
+use Rattle.array_buffers.specs.Written.{packed_bits, validity_written, written_by, values_written, buffers_written as column_written}
+use Rattle.arrays.specs.Written.{elements, text_bytes, texts_joined, offsets_from}
 use Rattle.arrays.proofs.NullSlots.{length-valid_slots}
 use Rattle.flight_proto.specs.FlightData.{data_bytes, body_head, data_head}
 use Rattle.flight_proto.specs.Message.{set_fields, spelled}

@@ -34,9 +34,10 @@ use Rattle.arrays.specs.Nulls.{null_count}
 use Rattle.arrays.specs.Number.{element_at}
 use Rattle.arrays.specs.Texts.{TextsAt, is_offset, text_at, text_stands, texts_of, texts_stand}
 use Rattle.arrays.specs.Typed.{IsOfType}
-use Rattle.arrays.specs.Written.{text_bytes, offsets_from, texts_joined, values_written, validity_read, SaySlots}
-use Rattle.arrays.proofs.ColumnsAgain.{columns_again}
-use Rattle.arrays.proofs.Packed.{map_same}
+use Rattle.arrays.specs.Written.{text_bytes, offsets_from, texts_joined}
+use Rattle.array_buffers.specs.Written.{values_written, validity_read, SaySlots}
+use Rattle.array_buffers.proofs.ColumnsAgain.{columns_again}
+use Rattle.array_buffers.proofs.Packed.{map_same}
 use Rattle.ipc_batch.proofs.Lengths.{both}
 use Rattle.table_versions.specs.Table.{Name, Row, is_long_text}
 use Rattle.table_versions.specs.Stored.{CatalogAt, TableAt, tables_of}

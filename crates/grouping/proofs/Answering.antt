@@ -7,10 +7,10 @@ use Rattle.scan_base.specs.declared.value.Value.TheVariants.{Null, Int}
 use Rattle.arrow_schema.specs.declared.data_type.DataType.{DataType}
 use Rattle.scan_base.specs.Predicate.{cell_in}
 use Rattle.arrays.specs.declared.layout.Layout.TheVariants as layout
-use Rattle.arrays.specs.declared.of_slots.SlotRef.{SlotRef}
+use Rattle.array_select.specs.declared.of_slots.SlotRef.{SlotRef}
 use Rattle.arrays.specs.Batch.{AreLong, BatchAt, row_of}
-use Rattle.arrays.specs.OfSlots.{slot_value}
-use Rattle.arrays.specs.Built.{value_or_null}
+use Rattle.array_select.specs.OfSlots.{slot_value}
+use Rattle.array_select.specs.Built.{value_or_null}
 use Rattle.arrays.specs.Column.{ColumnAt, slot_of}
 use Rattle.arrays.specs.Typed.{AreOf, IsOfType}
 use Rattle.arrays.specs.Written.{text_bytes}
@@ -19,11 +19,11 @@ use Rattle.grouping.specs.declared.key.Place.{Place}
 use Rattle.grouping.specs.declared.tally.Tally.{Tally}
 use Rattle.grouping.specs.Answers.{IsThere}
 use Rattle.grouping.specs.Fed.{AreTyped, batch_at}
-use Rattle.batch_room.specs.Fitting.{has_texts}
+use Rattle.array_select.specs.Fitting.{has_texts}
 use Rattle.grouping.specs.inside.Answering.{count_or_none, first_cell, sum_or_none}
 use Rattle.grouping.proofs.Feeding.{as_many}
 use Rattle.grouping.proofs.KeyCells.{cell_slot}
-use Rattle.batch_room.proofs.Short.{no_text}
+use Rattle.array_select.proofs.Short.{no_text}
 
 pub if_ok : {T E : Type 0} (P Q : T → Type 0) → ((x : T) → P x → Q x) → (r : Result T E) → IfOk r P → IfOk r Q
 if_ok P Q f (Ok x) h = f x h

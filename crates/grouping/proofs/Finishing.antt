@@ -33,14 +33,14 @@ use Rattle.grouping.specs.Fed.{GroupsAt}
 use Rattle.grouping.specs.Found.{key_in}
 use Rattle.grouping.specs.Tallies.{no_rows, item_value}
 use Rattle.grouping.specs.inside.Adding.{lists_of}
-use Rattle.batch_room.specs.Fitting.{AreShort, Fits}
+use Rattle.array_select.specs.Fitting.{AreShort, Fits}
 use Rattle.grouping.specs.inside.Answering.{first_cell}
 use Rattle.grouping.specs.inside.Counting.{AreWithin}
 use Rattle.grouping.specs.inside.Finishing.{groups_in, CanAnswer, item_cells, IsItemColumn, IsBatchOf, IsNextOf}
 use Rattle.grouping.proofs.Batching.{ranged_any, rows_of_cells}
 use Rattle.grouping.proofs.Feeding.{has_each}
 use Rattle.grouping.proofs.KeyCells.{key_there}
-use Rattle.batch_room.proofs.Short.{plain_fit}
+use Rattle.array_select.proofs.Short.{plain_fit}
 use Rattle.grouping.proofs.Stepping.{one_within}
 
 pub if_ok_three : {T E : Type 0} (P Q R S : T → Type 0) → ((x : T) → P x → Q x → R x → S x) → (r : Result T E) → IfOk r P → IfOk r Q → IfOk r R → IfOk r S

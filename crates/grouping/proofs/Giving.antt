@@ -10,7 +10,7 @@ use Rattle.arrays.specs.Batch.{BatchAt, row_of}
 use Rattle.grouping.specs.declared.key.Place.{Place}
 use Rattle.grouping.specs.declared.key.RowKey.{RowKey}
 use Rattle.grouping.specs.Answered.{answer_rows, row_at}
-use Rattle.batch_room.specs.Room.{most_batch_rows}
+use Rattle.array_select.specs.Room.{most_batch_rows}
 use Rattle.grouping.specs.Answers.{AnswersAt, Finishes, GivesGroups, IsOver, IsThere, answers_ahead, groups_at, keys_at, row_in}
 use Rattle.grouping.specs.Fed.{GroupsAt, AreTyped}
 use Rattle.grouping.specs.Found.{key_in}

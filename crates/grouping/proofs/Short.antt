@@ -1,8 +1,8 @@
 -- Texts of an item that are short, of fewer groups too.
 use Rattle.std.proofs.Common.{◌≤◌, ◌<◌, ℕ, ◌+◌, subst, arith, below_more}
 use Rattle.std.proofs.lemmas.List.FromFn.{take-map-range_with_len, length-map-range_with_len}
-use Rattle.batch_room.specs.Fitting.{AreShort, Fits}
-use Rattle.batch_room.proofs.Short.{shorter}
+use Rattle.array_select.specs.Fitting.{AreShort, Fits}
+use Rattle.array_select.proofs.Short.{shorter}
 use Rattle.grouping.specs.Answered.{cell_at}
 use Rattle.grouping.specs.Fed.{GroupsAt}
 use Rattle.grouping.specs.inside.Finishing.{AllFit, item_cells}

@@ -6,7 +6,7 @@ use Rattle.arrow_schema.specs.Answer.{answer_type}
 use Rattle.arrays.specs.Batch.{BatchAt, row_of, rows_of}
 use Rattle.arrays.specs.Column.{ColumnAt}
 use Rattle.arrays.specs.Typed.{AreOf}
-use Rattle.batch_room.specs.Room.{most_batch_rows, most_column_bytes, text_bytes_of}
+use Rattle.array_select.specs.Room.{most_batch_rows, most_column_bytes, text_bytes_of}
 use Rattle.scan_base.specs.declared.fault.Fault.{Fault}
 use Rattle.scan_base.specs.declared.fault.Fault.TheVariants.{OutOfMemory}
 use Rattle.scan_base.specs.declared.value.Value.{Value}

@@ -10,6 +10,7 @@ ghost use Rattle.arrays.specs.Typed.{IsOfType};
 ghost use Rattle.grouping.specs.inside.Answering.{sum_or_none};
 
 use crate::tally::Tally;
+use array_select::{column_of_decimals, column_of_int64s};
 use arrays::Column;
 use std::alloc::{AllocError, Global};
 
@@ -28,7 +29,7 @@ pub(crate) fn count_column(alloc: Global, tallies: &[Tally]) -> Result<Column, A
     for tally in tallies {
         counts.push(Some(tally.count as i64))?;
     }
-    Column::from_int64s(alloc, counts.as_slice())
+    column_of_int64s(alloc, counts.as_slice())
 }
 
 /// The column of a sum: null where nothing is summed.
@@ -45,7 +46,7 @@ pub(crate) fn sum_column(alloc: Global, tallies: &[Tally]) -> Result<Column, All
     for tally in tallies {
         sums.push(sum_of(tally))?;
     }
-    Column::from_decimals(alloc, sums.as_slice())
+    column_of_decimals(alloc, sums.as_slice())
 }
 
 // The sum of a tally, if anything is summed.

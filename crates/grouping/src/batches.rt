@@ -1,8 +1,8 @@
 //! Batches of the answer.
 
 ghost use Rattle.std.specs.Prelude.{◌≡◌, ◌≤◌, ◌<◌, ◌-◌, ◌+◌, ℕ, All, IfOk, length, map, take, drop};
-ghost use Rattle.arrays.specs.OfSlots.{slot_value, IsSlotOf};
-ghost use Rattle.batch_room.specs.Fitting.{AreShort, Fits};
+ghost use Rattle.array_select.specs.OfSlots.{slot_value, IsSlotOf};
+ghost use Rattle.array_select.specs.Fitting.{AreShort, Fits};
 ghost use Rattle.typed_plan.specs.Typed.{type_at};
 ghost use Rattle.grouping.specs.Answers.{IsThere};
 ghost use Rattle.grouping.specs.inside.Answering.{first_cell};
@@ -11,9 +11,9 @@ ghost use Rattle.grouping.specs.inside.Finishing.{groups_in, AllFit, CanAnswer, 
 use crate::answer::{count_column, sum_column};
 use crate::key::Place;
 use crate::tally::Tally;
-use arrays::{Batch, Column, SlotRef};
+use array_select::{SlotRef, column_of_slots, fitting, has_texts};
+use arrays::{Batch, Column};
 use arrow_schema::DataType;
-use batch_room::{fitting, has_texts};
 use std::alloc::{AllocError, Global};
 use typed_plan::Aggregate;
 
@@ -155,7 +155,7 @@ impl<'a> Answer<'a> {
             Aggregate::Key(place) => {
                 let column = self.keys[place];
                 let slots = self.slots(alloc, column, part(self.firsts, from, to))?;
-                Column::of_slots(alloc, self.types[column], slots.as_slice())
+                column_of_slots(alloc, self.types[column], slots.as_slice())
             }
             Aggregate::CountRows | Aggregate::Count(_) => {
                 count_column(alloc, part(self.tallies[item].as_slice(), from, to))

@@ -10,7 +10,8 @@ ghost use Rattle.grouping.specs.Fed.{AreTyped, HasItems, IsAlike, IsNew, Feeds, 
 use crate::answers::Answers;
 use crate::kept::{Kept, add, blank, found_count, join};
 use crate::table::Chosen;
-use arrays::{Batch, Selection};
+use array_select::Selection;
+use arrays::Batch;
 use arrow_schema::DataType;
 use hash_seed::HashSeed;
 use indexmap::IndexSet;

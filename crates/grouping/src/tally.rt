@@ -4,7 +4,7 @@ ghost use Rattle.std.specs.Prelude.{◌≡◌, ◌≤◌, ◌<◌, ◌+◌, ◌+
 ghost use Rattle.scan_base.specs.Limits.{most_rows};
 ghost use Rattle.scan_base.specs.declared.value.Value.TheVariants as value;
 ghost use Rattle.arrays.specs.Batch.{row_of};
-ghost use Rattle.arrays.specs.Built.{value_or_null};
+ghost use Rattle.array_select.specs.Built.{value_or_null};
 ghost use Rattle.arrays.specs.Column.{slot_of};
 ghost use Rattle.grouping.specs.inside.Counting.{IsIntegers, IsShort};
 

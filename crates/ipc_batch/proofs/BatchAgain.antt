@@ -13,7 +13,7 @@ use Rattle.arrays.specs.Column.{ColumnAt}
 use Rattle.arrays.specs.Batch.{BatchAt}
 use Rattle.ipc_batch.specs.declared.parts.BufferPlace.{BufferPlace}
 use Rattle.ipc_batch.specs.Parts.{buffer_at}
-use Rattle.arrays.specs.Written.{buffers_written as column_written}
+use Rattle.array_buffers.specs.Written.{buffers_written as column_written}
 use Rattle.ipc_batch.specs.Columns.{counts_agree, buffers_wanted}
 use Rattle.ipc_batch.specs.Said.{Sent, news_of, batch_sent, batch_parts}
 use Rattle.ipc_batch.specs.Written.{parts_part, body_of, node_bytes, place_bytes, places_from, node_written, buffers_written, parts_written, FitsNode, FitParts, FitsBatch, SaysParts, SaysBatch, body_length, most_header_bytes}

@@ -24,9 +24,9 @@ use Rattle.arrays.specs.Column.{ColumnAt, IsColumn, slot_of, values_of, whole}
 use Rattle.arrays.specs.Batch.{row_of, rows_of}
 use Rattle.arrays.specs.Typed.{IsOfType, AreOfTypes}
 use Rattle.arrays.specs.Nulls.{null_count}
-use Rattle.arrays.specs.Written.{validity_written, validity_read, values_written, written_by, HasShortTexts, SaySlots, buffers_written as column_written}
-use Rattle.arrays.proofs.ColumnsAgain.{columns_again as slots_again}
-use Rattle.arrays.proofs.Packed.{map_same}
+use Rattle.array_buffers.specs.Written.{validity_written, validity_read, values_written, written_by, HasShortTexts, SaySlots, buffers_written as column_written}
+use Rattle.array_buffers.proofs.ColumnsAgain.{columns_again as slots_again}
+use Rattle.array_buffers.proofs.Packed.{map_same}
 use Rattle.ipc_batch.specs.declared.parts.BufferPlace.{BufferPlace}
 use Rattle.ipc_batch.specs.Parts.{placed_in, buffer_at}
 use Rattle.ipc_batch.specs.State.{Dictionaries}

@@ -29,8 +29,8 @@ use Rattle.scan_base.specs.Limits.{most_values}
 use Rattle.arrays.specs.Dictionary.{extended_by}
 use Rattle.arrays.specs.Column.{ColumnAt, slot_of, values_of, whole}
 use Rattle.arrays.specs.Batch.{BatchAt}
-use Rattle.arrays.specs.Written.{values_written}
-use Rattle.arrays.proofs.Packed.{map_same}
+use Rattle.array_buffers.specs.Written.{values_written}
+use Rattle.array_buffers.proofs.Packed.{map_same}
 use Rattle.ipc_batch.specs.declared.parts.BufferPlace.{BufferPlace}
 use Rattle.ipc_batch.specs.Parts.{DictionaryParts, dictionary_parts, buffer_at}
 use Rattle.ipc_batch.specs.Columns.{FrontAt, texts_at, front_of, values_led_to, one_texts, counts_agree}

@@ -13,7 +13,8 @@ use Rattle.arrays.specs.declared.layout.Layout.TheVariants as layout
 use Rattle.arrays.specs.Number.{integer_at, decimal_at}
 use Rattle.arrays.specs.Validity.{is_valid, where_valid}
 use Rattle.arrays.specs.Column.{ColumnAt, values_of, slot_of}
-use Rattle.arrays.specs.Written.{buffers_written as column_written, values_written, texts_joined, text_bytes, HasShortTexts, validity_written, offsets_from}
+use Rattle.array_buffers.specs.Written.{buffers_written as column_written, values_written, HasShortTexts, validity_written}
+use Rattle.arrays.specs.Written.{texts_joined, text_bytes, offsets_from}
 use Rattle.ipc_batch.specs.Written.{place_bytes, body_of, places_from, buffers_written}
 use Rattle.ipc_batch.proofs.Lengths.{length_with_zeros}
 

@@ -18,7 +18,7 @@ use Rattle.arrays.specs.Column.{ColumnAt, IsColumn, whole}
 use Rattle.arrays.specs.Batch.{BatchAt, AreLong, rows_of}
 use Rattle.arrays.specs.Typed.{AreOfTypes}
 use Rattle.arrays.specs.Nulls.{null_count}
-use Rattle.arrays.specs.Written.{buffers_written as column_written}
+use Rattle.array_buffers.specs.Written.{buffers_written as column_written}
 use Rattle.ipc_batch.specs.declared.parts.FieldNode.{FieldNode}
 use Rattle.ipc_batch.specs.Parts.{dictionary_parts}
 use Rattle.ipc_batch.specs.State.{Known, Dictionaries, values_under, with_values}

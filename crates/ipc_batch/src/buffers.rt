@@ -1,9 +1,10 @@
 //! The buffers of a body, without a copy where they came as they are written.
 
 ghost use Rattle.std.specs.Prelude.{◌≡◌, ◌<◌, ◌^◌, ◌++◌, length, OnOk};
-ghost use Rattle.arrays.specs.Written.{buffers_written as column_written};
+ghost use Rattle.array_buffers.specs.Written.{buffers_written as column_written};
 ghost use Rattle.ipc_batch.specs.Written.{body_of, buffers_written};
 
+use array_buffers::{buffer, buffer_count};
 use arrays::Column;
 use bytes::Bytes;
 use std::alloc::{AllocError, Global};
@@ -19,9 +20,9 @@ fn push_column(
     requires { length (body_of (column_written column.now)) < 2 ^ 31 }
     ensures { OnOk result (buffers.new.items ≡ buffers.old.items ++ column_written column.now) }
 {
-    for index in 0..column.buffer_count() {
+    for index in 0..buffer_count(column) {
         let room = rooms.get(buffers.len()).copied().unwrap_or(0);
-        buffers.push(column.buffer(alloc, index, room)?)?;
+        buffers.push(buffer(alloc, column, index, room)?)?;
     }
     Ok(())
 }

@@ -7,13 +7,14 @@ ghost use Rattle.flatbuf.specs.Block.{Number, Offset, little, padding, padded, t
 ghost use Rattle.flatbuf.specs.Block.{structs_part};
 ghost use Rattle.scan_base.specs.Limits.{most_columns};
 ghost use Rattle.arrays.specs.Column.{IsColumn};
-ghost use Rattle.arrays.specs.Written.{buffer_of, buffers_written as column_written};
+ghost use Rattle.array_buffers.specs.Written.{buffer_of, buffers_written as column_written};
 ghost use Rattle.ipc_batch.specs.Written.{node_bytes, place_bytes, body_of, places_from, parts_part};
 ghost use Rattle.ipc_batch.specs.Written.{node_written, buffers_written, parts_written, body_length};
 ghost use Rattle.ipc_batch.specs.Written.{FitsBatch, most_header_bytes, SaysParts, SaysBatch};
 
 use crate::buffers::push_columns;
 use crate::parts::STRUCT_BYTES;
+use array_buffers::{buffer_count, buffer_length};
 use arrays::{Batch, Cells, Column};
 use arrow_schema::{HeaderKind, write_message};
 use bytes::Bytes;
@@ -201,8 +202,8 @@ fn measure_column(
         → lengths.new.items ≡ lengths.old.items ++ map length (column_written column.now)) }
 {
     let mut end = start;
-    for index in 0..column.buffer_count() {
-        let Some(length) = column.buffer_length(index) else {
+    for index in 0..buffer_count(column) {
+        let Some(length) = buffer_length(column, index) else {
             return Ok(None);
         };
         let Some(next) = buffer_end(end, length) else {
@@ -233,7 +234,7 @@ fn append_buffer(body: &mut Vec<u8>, column: &Column, index: usize) -> Result<()
     ensures begins { take (length body.old.items) body.new.items ≡ body.old.items }
 {
     let start = body.len();
-    column.append_buffer(index, body)?;
+    array_buffers::append_buffer(column, index, body)?;
     let written = body.len() - start;
     append_zeros(body, written)
 }
@@ -244,7 +245,7 @@ fn append_column(body: &mut Vec<u8>, column: &Column) -> Result<(), AllocError>
     ensures ok { OnOk result (body.new.items ≡ body.old.items ++ body_of (column_written column.now)) }
     ensures begins { take (length body.old.items) body.new.items ≡ body.old.items }
 {
-    for index in 0..column.buffer_count() {
+    for index in 0..buffer_count(column) {
         append_buffer(body, column, index)?;
     }
     Ok(())

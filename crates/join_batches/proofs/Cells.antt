@@ -9,10 +9,10 @@ use Rattle.arrow_schema.specs.declared.data_type.DataType.TheVariants.{Utf8}
 use Rattle.scan_base.specs.declared.value.Value.{Value}
 use Rattle.scan_base.specs.declared.value.Value.TheVariants.{Null}
 use Rattle.scan_base.specs.Predicate.{cell_in}
-use Rattle.arrays.specs.declared.of_slots.SlotRef.{SlotRef}
+use Rattle.array_select.specs.declared.of_slots.SlotRef.{SlotRef}
 use Rattle.arrays.specs.Batch.{BatchAt, AreLong, row_of}
 use Rattle.arrays.specs.Column.{ColumnAt, slot_of}
-use Rattle.arrays.specs.OfSlots.{slot_value, IsSlotOf}
+use Rattle.array_select.specs.OfSlots.{slot_value, IsSlotOf}
 use Rattle.arrays.specs.Typed.{IsOfType}
 use Rattle.hash_join.specs.declared.pair.Pair.{Pair}
 use Rattle.hash_join.specs.Pairs.{row_at}

@@ -13,7 +13,7 @@ use Rattle.hash_join.specs.declared.build.Probe.{Probe}
 use Rattle.hash_join.specs.Pairs.{pairs_ahead}
 use Rattle.join_batches.specs.declared.joiner.Joiner.TheInside.{Inside}
 use Rattle.join_batches.specs.declared.sides.Sides.{Sides}
-use Rattle.batch_room.specs.Room.{most_batch_rows}
+use Rattle.array_select.specs.Room.{most_batch_rows}
 use Rattle.join_batches.specs.Joiner.{GivesJoined}
 use Rattle.join_batches.specs.Rows.{pair_row, IsPair}
 use Rattle.join_batches.specs.Sides.{AreSides, IsBatchOf}

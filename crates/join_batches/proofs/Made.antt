@@ -17,8 +17,8 @@ use Rattle.arrays.specs.Written.{texts_joined}
 use Rattle.hash_join.specs.declared.pair.Pair.{Pair}
 use Rattle.join_batches.specs.declared.sides.Sides.{Sides}
 use Rattle.join_batches.specs.Rows.{pair_row, IsPair}
-use Rattle.batch_room.specs.Fitting.{AreShort}
-use Rattle.batch_room.specs.Room.{most_column_bytes, text_bytes_of}
+use Rattle.array_select.specs.Fitting.{AreShort}
+use Rattle.array_select.specs.Room.{most_column_bytes, text_bytes_of}
 use Rattle.join_batches.specs.Sides.{types_of, width_of, AreSides, ArePairs, AllFit, IsColumnOf, IsBatchOf, rows_at, cells_of}
 use Rattle.join_batches.proofs.Cells.{row_wide}
 

@@ -9,8 +9,8 @@ use Rattle.scan_base.specs.Predicate.{cell_in}
 use Rattle.arrays.specs.declared.layout.Layout.TheVariants as layout
 use Rattle.arrays.specs.Column.{ColumnAt}
 use Rattle.arrays.specs.Written.{text_bytes}
-use Rattle.batch_room.specs.Fitting.{AreShort, has_texts}
-use Rattle.batch_room.proofs.Short.{no_text, plain_short}
+use Rattle.array_select.specs.Fitting.{AreShort, has_texts}
+use Rattle.array_select.proofs.Short.{no_text, plain_short}
 use Rattle.hash_join.specs.declared.pair.Pair.{Pair}
 use Rattle.join_batches.specs.declared.sides.Sides.{Sides}
 use Rattle.join_batches.specs.Rows.{batch_at, pair_row, IsPair}

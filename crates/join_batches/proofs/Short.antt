@@ -3,10 +3,10 @@ use Rattle.std.proofs.Common.{◌≡◌, ◌≤◌, ◌<◌, ℕ, zero, suc, ◌
 use Rattle.std.proofs.lemmas.List.{length-map, take-map, take-take}
 use Rattle.scan_base.specs.declared.value.Value.{Value}
 use Rattle.scan_base.specs.Predicate.{cell_in}
-use Rattle.arrays.specs.declared.of_slots.SlotRef.{SlotRef}
-use Rattle.arrays.specs.OfSlots.{slot_value}
-use Rattle.batch_room.specs.Fitting.{AreShort, Fits}
-use Rattle.batch_room.proofs.Short.{shorter}
+use Rattle.array_select.specs.declared.of_slots.SlotRef.{SlotRef}
+use Rattle.array_select.specs.OfSlots.{slot_value}
+use Rattle.array_select.specs.Fitting.{AreShort, Fits}
+use Rattle.array_select.proofs.Short.{shorter}
 use Rattle.hash_join.specs.declared.pair.Pair.{Pair}
 use Rattle.join_batches.specs.declared.sides.Sides.{Sides}
 use Rattle.join_batches.specs.Rows.{pair_row}

@@ -6,7 +6,7 @@ use Rattle.arrays.specs.Typed.{AreOf}
 use Rattle.hash_join.specs.Pairs.{pairs_ahead}
 use Rattle.hash_join.specs.declared.pair.Pair.{Pair}
 use Rattle.join_batches.specs.declared.joiner.Joiner.TheInside.{Inside}
-use Rattle.batch_room.specs.Room.{most_batch_rows}
+use Rattle.array_select.specs.Room.{most_batch_rows}
 use Rattle.join_batches.specs.Joiner.{JoinerAt}
 use Rattle.join_batches.specs.Rows.{pair_row, IsPair}
 

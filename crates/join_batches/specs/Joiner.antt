@@ -8,7 +8,7 @@ use Rattle.scan_base.specs.declared.value.Value.{Value}
 use Rattle.arrays.specs.Batch.{BatchAt, rows_of}
 use Rattle.arrays.specs.Column.{ColumnAt}
 use Rattle.arrays.specs.Typed.{AreOf}
-use Rattle.batch_room.specs.Room.{most_batch_rows, most_column_bytes, text_bytes_of}
+use Rattle.array_select.specs.Room.{most_batch_rows, most_column_bytes, text_bytes_of}
 use Rattle.hash_join.specs.Pairs.{key_in, keys_join}
 
 -- The types of the columns of both sides, the numbers of those that are the key, the rows of the right side in order, and

@@ -6,13 +6,13 @@ use Rattle.arrow_schema.specs.declared.data_type.DataType.TheVariants.{Utf8}
 use Rattle.arrow_schema.specs.Answer.{answer_type}
 use Rattle.scan_base.specs.declared.value.Value.{Value}
 use Rattle.scan_base.specs.Predicate.{cell_in}
-use Rattle.arrays.specs.declared.of_slots.SlotRef.{SlotRef}
+use Rattle.array_select.specs.declared.of_slots.SlotRef.{SlotRef}
 use Rattle.arrays.specs.Batch.{BatchAt, rows_of}
 use Rattle.arrays.specs.Column.{ColumnAt, values_of}
-use Rattle.arrays.specs.OfSlots.{slot_value, IsSlotOf}
+use Rattle.array_select.specs.OfSlots.{slot_value, IsSlotOf}
 use Rattle.arrays.specs.Typed.{AreOf}
-use Rattle.batch_room.specs.Fitting.{AreShort}
-use Rattle.batch_room.specs.Room.{most_column_bytes, text_bytes_of}
+use Rattle.array_select.specs.Fitting.{AreShort}
+use Rattle.array_select.specs.Room.{most_column_bytes, text_bytes_of}
 use Rattle.hash_join.specs.declared.pair.Pair.{Pair}
 use Rattle.join_batches.specs.declared.sides.Sides.{Sides}
 use Rattle.join_batches.specs.Rows.{pair_row, IsPair}

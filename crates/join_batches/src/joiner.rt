@@ -6,14 +6,14 @@ ghost use Rattle.scan_base.specs.Limits.{most_rows};
 ghost use Rattle.arrays.specs.Batch.{BatchAt, rows_of};
 ghost use Rattle.arrays.specs.Typed.{AreOf};
 ghost use Rattle.hash_join.specs.Pairs.{places, pairs_ahead};
-ghost use Rattle.batch_room.specs.Room.{most_batch_rows};
+ghost use Rattle.array_select.specs.Room.{most_batch_rows};
 ghost use Rattle.join_batches.specs.Joiner.{JoinsNext, joined_of};
 ghost use Rattle.join_batches.specs.Rows.{IsPair};
 
 use crate::sides::Sides;
+use array_select::MOST_BATCH_ROWS;
 use arrays::Batch;
 use arrow_schema::DataType;
-use batch_room::MOST_BATCH_ROWS;
 use hash_join::{Build, LeftSide, Pair, Probe};
 use hash_seed::HashSeed;
 use std::alloc::{AllocError, Global};

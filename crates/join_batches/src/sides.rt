@@ -4,13 +4,13 @@ ghost use Rattle.std.specs.Prelude.{◌≡◌, ◌<◌, ◌+◌, ℕ, All, IfOk,
 ghost use Rattle.std.specs.List.{AllZip, range_with_len};
 ghost use Rattle.arrow_schema.specs.Answer.{answer_type};
 ghost use Rattle.arrays.specs.Typed.{AreOf};
-ghost use Rattle.batch_room.specs.Fitting.{AreShort};
+ghost use Rattle.array_select.specs.Fitting.{AreShort};
 ghost use Rattle.join_batches.specs.Sides.{AllFit, AreSides, ArePairs, HoldCells};
 ghost use Rattle.join_batches.specs.Sides.{FitsIn, IsBatchOf, IsColumnOf, cells_of, rows_at, types_of, width_of};
 
-use arrays::{Batch, Column, SlotRef};
+use array_select::{SlotRef, column_of_slots, fitting, has_texts};
+use arrays::{Batch, Column};
 use arrow_schema::DataType;
-use batch_room::{fitting, has_texts};
 use hash_join::Pair;
 use std::alloc::{AllocError, Global};
 
@@ -82,7 +82,7 @@ impl<'a> Sides<'a> {
         let mut columns = Vec::with_capacity(alloc, self.width())?;
         for number in 0..self.width() {
             let slots = self.slots(alloc, number, pairs)?;
-            let column = Column::of_slots(alloc, self.type_of(number), slots.as_slice())?;
+            let column = column_of_slots(alloc, self.type_of(number), slots.as_slice())?;
             columns.push(column)?;
         }
         Ok(columns)

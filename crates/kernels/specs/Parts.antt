@@ -1,4 +1,4 @@
--- Parts of columns, and what a test says of their slots.
+-- Inside: parts of columns, and what a test says of their slots.
 use Rattle.std.specs.Prelude.{◌≤◌, ◌+◌, ℕ, List, map}
 use Rattle.std.specs.List.{range_with_len}
 use Rattle.scan_base.specs.declared.truth.Truth.{Truth}

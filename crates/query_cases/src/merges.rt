@@ -8,7 +8,8 @@ ghost use Rattle.arrays.specs.Typed.{AreOf};
 ghost use Rattle.grouping.specs.Fed.{AreTyped, HasItems};
 
 use crate::rows::push_rows;
-use arrays::{Batch, Column, Selection};
+use array_select::{Selection, column_of_int64s};
+use arrays::{Batch, Column};
 use arrow_schema::{DataType, IntegerType};
 use grouping::{Answers, Grouping, Groups};
 use hash_seed::HashSeed;
@@ -65,7 +66,7 @@ fn keys_of(alloc: Global, rows: &[Row]) -> Result<Column, AllocError>
     ensures typed { IfOk result (λ column. AreOf (Integer Int64 ∷ []) (column ∷ [])) }
 {
     let keys: Vec<Option<i64>> = rows.iter().map(|row| row.key).collect(alloc)?;
-    Column::from_int64s(alloc, &keys)
+    column_of_int64s(alloc, &keys)
 }
 
 // The column of their numbers.
@@ -74,7 +75,7 @@ fn numbers_of(alloc: Global, rows: &[Row]) -> Result<Column, AllocError>
     ensures typed { IfOk result (λ column. AreOf (Integer Int64 ∷ []) (column ∷ [])) }
 {
     let numbers: Vec<Option<i64>> = rows.iter().map(|row| row.number).collect(alloc)?;
-    Column::from_int64s(alloc, &numbers)
+    column_of_int64s(alloc, &numbers)
 }
 
 // The batch of the rows that words say.

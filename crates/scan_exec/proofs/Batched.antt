@@ -11,7 +11,7 @@ use Rattle.table_versions.proofs.Rowing.{length-rows_of, rows-cons}
 use Rattle.typed_plan.specs.Joined.{rows_between}
 use Rattle.scan_exec.specs.Given.{parts, numbered_parts}
 use Rattle.scan_exec.specs.Placed.{numbered_rows}
-use Rattle.batch_room.specs.Room.{most_batch_rows}
+use Rattle.array_select.specs.Room.{most_batch_rows}
 
 take_none : {X : Type 0} (n : ℕ) (xs : List X) → xs ≡ [] → take n xs ≡ []
 take_none zero xs e = refl

@@ -17,7 +17,7 @@ use Rattle.scan_exec.specs.Opened.{batches_in}
 use Rattle.scan_exec.specs.Picking.{PickAt, cells_at, holds, given, given_numbered, given_of_part, IsPicked}
 use Rattle.scan_exec.specs.Placed.{IsPlaced, IsPart, Opens, rows_ahead}
 use Rattle.scan_exec.specs.Running.{RowsAt, GoesOn, FindsPiece, Ends, picked_of}
-use Rattle.batch_room.specs.Room.{most_batch_rows}
+use Rattle.array_select.specs.Room.{most_batch_rows}
 use Rattle.scan_exec.specs.Sources.{place_at}
 use Rattle.scan_exec.proofs.Batched.{none_from}
 use Rattle.scan_exec.proofs.Giving.{filter-map}

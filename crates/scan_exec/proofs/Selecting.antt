@@ -10,7 +10,7 @@ use Rattle.arrow_schema.specs.declared.data_type.DataType.{DataType}
 use Rattle.arrays.specs.Batch.{BatchAt, AreLong, rows_of, row_of}
 use Rattle.arrays.specs.Column.{ColumnAt, slot_of, cut}
 use Rattle.arrays.specs.Layout.{layout_slot}
-use Rattle.arrays.specs.Selection.{AreRising}
+use Rattle.array_select.specs.Selection.{AreRising}
 use Rattle.arrays.specs.Typed.{AreOf}
 use Rattle.scan_base.specs.declared.value.Value.{Value}
 use Rattle.scan_base.specs.declared.value.Value.TheVariants.{Null}

@@ -13,7 +13,7 @@ use Rattle.table_versions.specs.Standing.{rows_before, BatchesAreRows, StandsIn}
 use Rattle.typed_plan.specs.Joined.{rows_between}
 use Rattle.scan_exec.specs.declared.cursor.Cursor.{Cursor}
 use Rattle.scan_exec.specs.declared.cursor.Part.{Part}
-use Rattle.batch_room.specs.Room.{most_batch_rows}
+use Rattle.array_select.specs.Room.{most_batch_rows}
 use Rattle.scan_exec.specs.Opened.{batches_in}
 use Rattle.scan_exec.specs.Placed.{IsPlaced, IsPart, Opens}
 use Rattle.scan_exec.proofs.Batched.{rows_next}

@@ -6,7 +6,7 @@ use Rattle.arrays.specs.Batch.{BatchAt, rows_of}
 use Rattle.arrays.specs.Typed.{AreOf}
 use Rattle.table_versions.specs.Table.{Row}
 use Rattle.scan_exec.specs.Running.{RowsAt}
-use Rattle.batch_room.specs.Room.{most_batch_rows}
+use Rattle.array_select.specs.Room.{most_batch_rows}
 
 -- rows without the numbers of the batches of which they come
 abbrev pub plain_rows : List (ℕ × Row) → List Row

@@ -9,7 +9,7 @@ use Rattle.table_versions.specs.Table.{Row}
 use Rattle.typed_plan.specs.Typed.{type_at}
 use Rattle.scan_exec.specs.declared.piece.Piece.{Piece}
 use Rattle.scan_exec.specs.Picking.{PickAt, given_numbered}
-use Rattle.batch_room.specs.Room.{most_batch_rows}
+use Rattle.array_select.specs.Room.{most_batch_rows}
 
 -- The types of the columns; the rows that are still to be given, each with the number of the batch of the first place of
 -- which it comes; the numbers of the batches of that place that are to be opened, and of those that were; and how deep joins

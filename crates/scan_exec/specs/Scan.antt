@@ -6,7 +6,7 @@ use Rattle.arrays.specs.Typed.{AreOf}
 use Rattle.arrow_schema.specs.Answer.{answer_type}
 use Rattle.arrow_schema.specs.declared.data_type.DataType.{DataType}
 use Rattle.arrow_schema.specs.declared.schema.Schema.{Schema}
-use Rattle.batch_room.specs.Room.{most_batch_rows}
+use Rattle.array_select.specs.Room.{most_batch_rows}
 use Rattle.scan_base.specs.Limits.{most_answer_rows}
 use Rattle.scan_base.specs.declared.fault.Fault.{Fault}
 use Rattle.scan_base.specs.declared.fault.Fault.TheVariants.{OutOfMemory, ResultTooLarge}

@@ -15,7 +15,7 @@ use crate::join_source::{Sides, join_source};
 use crate::picker::Picker;
 use crate::rows::{Rows, Source};
 use crate::scan_source::scan_source;
-use arrays::Selection;
+use array_select::Selection;
 use arrow_schema::DataType;
 use hash_seed::HashSeed;
 use scan_base::Predicate;

@@ -7,7 +7,8 @@ ghost use Rattle.scan_exec.specs.Chosen.{are_within, numbers_at};
 ghost use Rattle.scan_exec.specs.Picking.{rows_of_part, HasRowsAt};
 
 use crate::cursor::Part;
-use arrays::{Batch, Selection};
+use array_select::{Selection, gather};
+use arrays::Batch;
 use std::alloc::{AllocError, Global};
 use typed_plan::Columns;
 
@@ -76,7 +77,7 @@ pub(crate) fn gather_of(
     let columns = batch.columns();
     let mut gathered = Vec::with_capacity(alloc, numbers.len())?;
     for number in numbers {
-        gathered.push(columns[*number].gather(alloc, selection)?)?;
+        gathered.push(gather(alloc, &columns[*number], selection)?)?;
     }
     Ok(Batch::new(gathered, selection.len()))
 }

@@ -4,9 +4,9 @@ ghost use Rattle.std.specs.Prelude.{◌≡◌, ◌≤◌, ◌<◌, length};
 ghost use Rattle.table_versions.specs.Stored.{table_of};
 ghost use Rattle.scan_exec.specs.Placed.{IsPlaced, IsPart, Begins, Opens};
 
+use array_select::MOST_BATCH_ROWS;
 use arrays::Batch;
 use arrays::laws::batch_slices_keep_rows;
-use batch_room::MOST_BATCH_ROWS;
 use table_versions::laws::batches_are_rows;
 use table_versions::{BatchPlace, TableVersion};
 

@@ -9,7 +9,7 @@ ghost use Rattle.scan_exec.specs.Sources.{place_at};
 use crate::cursor::Cursor;
 use crate::picker::Picker;
 use crate::piece::Piece;
-use arrays::Selection;
+use array_select::Selection;
 use std::alloc::{AllocError, Global};
 use table_versions::TableVersion;
 

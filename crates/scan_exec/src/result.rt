@@ -9,7 +9,7 @@ use crate::build::Sourced;
 use crate::columns::picked;
 use crate::picker::Picker;
 use crate::rows::Rows;
-use arrays::Selection;
+use array_select::Selection;
 use std::alloc::{AllocError, Global};
 use typed_plan::Columns;
 

@@ -10,7 +10,7 @@ use crate::cursor::Part;
 use crate::picker::Picker;
 use crate::piece::Piece;
 use crate::place::PlaceRows;
-use arrays::Selection;
+use array_select::Selection;
 use join_batches::Joiner;
 use std::alloc::{AllocError, Global};
 use std::marker::Model;

@@ -1,6 +1,6 @@
 use Rattle.std.proofs.Common.{All, subst, sym}
 use Rattle.std.proofs.lemmas.List.Elements.{All-push}
-use Rattle.arrays.specs.OfSlots.{IsSlotOf}
+use Rattle.array_select.specs.OfSlots.{IsSlotOf}
 use Rattle.column_cases.proofs.picked.slots_in_turn.Goals as goal
 
 pub loop-turn-preserved : goal.loop-turn-preserved

@@ -1,7 +1,7 @@
 use Rattle.std.proofs.Common.{All}
 use Rattle.arrow_schema.specs.declared.data_type.DataType.{DataType}
 use Rattle.arrays.specs.Typed.{IsOfType}
-use Rattle.arrays.specs.OfSlots.{IsSlotOf}
+use Rattle.array_select.specs.OfSlots.{IsSlotOf}
 use Rattle.column_cases.proofs.picked.slots_in_turn.Given as goal
 
 abbrev pub invariant-loop-turn : goal.invariant-loop-turn

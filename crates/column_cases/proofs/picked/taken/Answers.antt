@@ -1,9 +1,9 @@
 use Rattle.std.proofs.Common.{◌≡◌, All, List, subst, sym}
 use Rattle.arrow_schema.specs.declared.data_type.DataType.{DataType}
-use Rattle.arrays.specs.declared.of_slots.SlotRef.{SlotRef}
+use Rattle.array_select.specs.declared.of_slots.SlotRef.{SlotRef}
 use Rattle.arrays.specs.declared.layout.Layout.{Layout}
 use Rattle.arrays.specs.Typed.{IsOfType}
-use Rattle.arrays.specs.OfSlots.{IsSlotOf}
+use Rattle.array_select.specs.OfSlots.{IsSlotOf}
 use Rattle.column_cases.proofs.picked.taken.Goals as goal
 
 -- the slots are there, in columns of the type
@@ -17,7 +17,7 @@ texts_fit-requires c = λ k d low.
     (are_there c.type_of-data_type.result c.as_slice-slots.result.now c.in_ok-taken.taken.items c.args.whole.now.layout c.args.kept.now.layout
     c.as_slice-slots.ensures.value c.requires c.type_of-data_type.ensures (c.in_ok-taken.ensures c.type_of-data_type.result) k d low).0
 
-pub of_slots-requires-clause-there : goal.of_slots-requires-clause-there
-of_slots-requires-clause-there c =
+pub column_of_slots-requires-clause-there : goal.column_of_slots-requires-clause-there
+column_of_slots-requires-clause-there c =
     are_there c.type_of-data_type.result c.as_slice-slots.result.now c.in_ok-taken.taken.items c.args.whole.now.layout c.args.kept.now.layout
     c.as_slice-slots.ensures.value c.requires c.type_of-data_type.ensures (c.in_ok-taken.ensures c.type_of-data_type.result)

@@ -2,7 +2,7 @@ use Rattle.std.proofs.Common.{◌≡◌, ◌-◌, length, ap, ◌∙◌, arith}
 use Rattle.std.proofs.Common.{append_assoc}
 use Rattle.std.proofs.lemmas.List.{length-append}
 use Rattle.flatbuf.specs.Block.{padding}
-use Rattle.arrays.specs.Written.{buffer_of}
+use Rattle.array_buffers.specs.Written.{buffer_of}
 use Rattle.ipc_batch.proofs.WriterLoops.{short_texts}
 use Rattle.ipc_batch.proofs.measured.append_buffer.Goals as goal
 

@@ -1,9 +1,9 @@
 use Rattle.std.proofs.Common.{◌+◌, ◌++◌, [], ℕ, List, drop, get_or, sym, ap, ◌∙◌, arith}
-use Rattle.arrays.specs.Written.{buffers_written as column_written}
+use Rattle.array_buffers.specs.Written.{buffers_written as column_written}
 use Rattle.ipc_batch.specs.Written.{body_of}
 use Rattle.flatbuf.specs.Block.{padded}
 use Rattle.std.proofs.Common.{append_assoc}
-use Rattle.arrays.proofs.Appended.{begins_more}
+use Rattle.array_buffers.proofs.Appended.{begins_more}
 use Rattle.ipc_batch.proofs.WriterLoops.{dropped_buffer}
 use Rattle.ipc_batch.proofs.measured.append_column.Goals as goal
 

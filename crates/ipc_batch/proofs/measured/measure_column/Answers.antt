@@ -1,5 +1,5 @@
 use Rattle.std.proofs.Common.{arith}
-use Rattle.arrays.specs.Written.{buffers_written as column_written}
+use Rattle.array_buffers.specs.Written.{buffers_written as column_written}
 use Rattle.ipc_batch.proofs.WriterLoops.{buffer_more, length_added}
 use Rattle.ipc_batch.proofs.measured.measure_column.Goals as goal
 

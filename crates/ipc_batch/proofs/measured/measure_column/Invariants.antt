@@ -1,5 +1,5 @@
 use Rattle.std.proofs.Common.{◌≡◌, ◌+◌, ◌++◌, ◌<◌, ◌^◌, length, drop, map}
-use Rattle.arrays.specs.Written.{buffers_written as column_written}
+use Rattle.array_buffers.specs.Written.{buffers_written as column_written}
 use Rattle.ipc_batch.specs.Written.{body_of}
 use Rattle.ipc_batch.proofs.measured.measure_column.Given as goal
 

@@ -5,8 +5,8 @@ use Rattle.arrow_schema.specs.declared.data_type.DataType.{DataType}
 use Rattle.arrow_schema.specs.declared.data_type.DataType.TheVariants.{Integer}
 use Rattle.arrow_schema.specs.declared.data_type.IntegerType.TheVariants.{Int8}
 use Rattle.scan_base.specs.declared.value.Value.{Value}
-use Rattle.arrays.specs.declared.of_slots.SlotRef.{SlotRef}
-use Rattle.arrays.specs.OfSlots.{slot_value, IsSlotOf}
+use Rattle.array_select.specs.declared.of_slots.SlotRef.{SlotRef}
+use Rattle.array_select.specs.OfSlots.{slot_value, IsSlotOf}
 use Rattle.arrays.specs.Typed.{IsOfType}
 use Rattle.arrays.specs.Written.{texts_joined}
 use Rattle.grouping.specs.inside.Answering.{first_cell}
@@ -24,23 +24,23 @@ values : (c : After-as_slice) →
     map slot_value c.as_slice.result.now ≡ map (first_cell c.args.self.now.batches.now (get_or c.args.self.now.keys.now c.in-Key.place 0)) c.part.result.now
 values c = ap (map slot_value) c.as_slice.ensures.value ∙ c.in_ok-slots-in-Key.ensures.values
 
-pub of_slots-requires-clause-there : goal.of_slots-requires-clause-there
-of_slots-requires-clause-there c =
+pub column_of_slots-requires-clause-there : goal.column_of_slots-requires-clause-there
+column_of_slots-requires-clause-there c =
     let types = c.args.self.now.types.now in
     let column = get_or c.args.self.now.keys.now c.in-Key.place 0 in
-    let is = type_there types column (Integer Int8) (key (goal.at.of_slots-requires-clause-there c).In-Key).column in
+    let is = type_there types column (Integer Int8) (key (goal.at.column_of_slots-requires-clause-there c).In-Key).column in
     subst (λ (slots : List SlotRef). All (IsSlotOf (get_or types column (Integer Int8))) slots) (sym c.as_slice.ensures.value)
     (subst (λ (t : DataType). All (IsSlotOf t) c.in_ok-slots-in-Key.slots.items) (sym is) c.in_ok-slots-in-Key.ensures.there)
 
-pub of_slots-requires-clause-short : goal.of_slots-requires-clause-short
-of_slots-requires-clause-short c =
-    let at = key (goal.at.of_slots-requires-clause-short c).In-Key in
+pub column_of_slots-requires-clause-short : goal.column_of_slots-requires-clause-short
+column_of_slots-requires-clause-short c =
+    let at = key (goal.at.column_of_slots-requires-clause-short c).In-Key in
     let answer = c.args.self.now in
     let many = c.args.to - c.args.from in
     let inside : c.args.from + many ≤ length answer.firsts.now = omega (arith, at.long, c.requires.within, c.requires.ordered) in
     let cell = first_cell answer.batches.now (get_or answer.keys.now c.in-Key.place 0) in
     subst (λ (values : List Value). length (texts_joined values) < 2 ^ 31)
-    (sym (values (goal.at.of_slots-requires-clause-short c).After-as_slice ∙ ap (map cell) c.part.ensures ∙ at.cells c.args.from many inside)) c.requires.short.named
+    (sym (values (goal.at.column_of_slots-requires-clause-short c).After-as_slice ∙ ap (map cell) c.part.ensures ∙ at.cells c.args.from many inside)) c.requires.short.named
 
 pub returns-in_ok-slots-in-Key : goal.returns-in_ok-slots-in-Key
 returns-in_ok-slots-in-Key c =
@@ -55,7 +55,7 @@ returns-in_ok-slots-in-Key c =
     if_ok_three _ _ _ _
     (λ made values typed many. first_column c.args.self.now c.args.item c.in-Key.place c.args.from c.args.to c.part.result.now made at c.in-Key.is
     c.requires.ordered c.requires.within c.part.ensures (values ∙ cells) (subst (λ (t : DataType). IsOfType (answer_type t) made.layout) is typed) (many ∙ long))
-    c.of_slots.result c.of_slots.ensures.values c.of_slots.ensures.typed c.of_slots.ensures.long
+    c.column_of_slots.result c.column_of_slots.ensures.values c.column_of_slots.ensures.typed c.column_of_slots.ensures.long
 
 pub part-requires-in-CountRows-clause-within : goal.part-requires-in-CountRows-clause-within
 part-requires-in-CountRows-clause-within c =

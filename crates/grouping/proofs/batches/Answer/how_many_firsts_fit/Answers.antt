@@ -2,15 +2,15 @@ use Rattle.std.proofs.Common.{◌≡◌, false, IfOk, List, [], map, sym, ap, �
 use Rattle.std.proofs.lemmas.List.{length-map}
 use Rattle.std.proofs.lemmas.List.Elements.{All-map, All-weaker}
 use Rattle.scan_base.specs.declared.value.Value.{Value}
-use Rattle.arrays.specs.OfSlots.{slot_value}
+use Rattle.array_select.specs.OfSlots.{slot_value}
 use Rattle.arrays.specs.Written.{text_bytes}
 use Rattle.typed_plan.specs.Typed.{type_at}
 use Rattle.grouping.specs.declared.key.Place.{Place}
 use Rattle.grouping.specs.Answers.{IsThere}
-use Rattle.batch_room.specs.Fitting.{Fits, has_texts}
+use Rattle.array_select.specs.Fitting.{Fits, has_texts}
 use Rattle.grouping.specs.inside.Answering.{first_cell}
 use Rattle.grouping.proofs.Answering.{no_text_cell, type_there}
-use Rattle.batch_room.proofs.Short.{plain_fit}
+use Rattle.array_select.proofs.Short.{plain_fit}
 use Rattle.grouping.proofs.batches.Answer.how_many_firsts_fit.Goals as goal
 
 pub returns-then-not-has_texts : goal.returns-then-not-has_texts

@@ -1,6 +1,6 @@
 use Rattle.std.proofs.Common.{◌≡◌, ◌≤◌, ℕ, ◌+◌, ◌-◌, List, IfOk, length, map, take, drop, get_or, subst, ap, ◌∙◌, arith}
 use Rattle.scan_base.specs.declared.value.Value.{Value}
-use Rattle.batch_room.specs.Fitting.{Fits}
+use Rattle.array_select.specs.Fitting.{Fits}
 use Rattle.grouping.specs.inside.Answering.{first_cell}
 use Rattle.grouping.specs.inside.Finishing.{groups_in}
 use Rattle.grouping.proofs.Finishing.{key_at, tallies_fit}

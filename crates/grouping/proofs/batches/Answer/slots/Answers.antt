@@ -1,6 +1,6 @@
 use Rattle.std.proofs.Common.{arith}
 use Rattle.std.proofs.lemmas.List.Elements.{All-push}
-use Rattle.arrays.specs.OfSlots.{IsSlotOf}
+use Rattle.array_select.specs.OfSlots.{IsSlotOf}
 use Rattle.typed_plan.specs.Typed.{type_at}
 use Rattle.grouping.specs.inside.Answering.{first_cell}
 use Rattle.grouping.proofs.Answering.{values_more}

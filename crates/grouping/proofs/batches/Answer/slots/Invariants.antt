@@ -1,5 +1,5 @@
 use Rattle.std.proofs.Common.{◌≡◌, map, take, All}
-use Rattle.arrays.specs.OfSlots.{slot_value, IsSlotOf}
+use Rattle.array_select.specs.OfSlots.{slot_value, IsSlotOf}
 use Rattle.typed_plan.specs.Typed.{type_at}
 use Rattle.grouping.specs.inside.Answering.{first_cell}
 use Rattle.grouping.proofs.batches.Answer.slots.Given as goal

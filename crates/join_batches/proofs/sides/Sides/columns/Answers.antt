@@ -5,9 +5,9 @@ use Rattle.arrow_schema.specs.declared.data_type.DataType.{DataType}
 use Rattle.arrow_schema.specs.declared.data_type.DataType.TheVariants.{Utf8}
 use Rattle.arrow_schema.specs.Answer.{answer_type}
 use Rattle.scan_base.specs.declared.value.Value.{Value}
-use Rattle.arrays.specs.declared.of_slots.SlotRef.{SlotRef}
+use Rattle.array_select.specs.declared.of_slots.SlotRef.{SlotRef}
 use Rattle.arrays.specs.Column.{ColumnAt}
-use Rattle.arrays.specs.OfSlots.{slot_value, IsSlotOf}
+use Rattle.array_select.specs.OfSlots.{slot_value, IsSlotOf}
 use Rattle.arrays.specs.Typed.{IsOfType}
 use Rattle.arrays.specs.Written.{texts_joined}
 use Rattle.join_batches.specs.Rows.{pair_row}
@@ -17,16 +17,16 @@ use Rattle.join_batches.proofs.Made.{columns_more}
 use Rattle.join_batches.proofs.Typed.{answered_more}
 use Rattle.join_batches.proofs.sides.Sides.columns.Goals as goal
 
-pub of_slots-requires-clause-there : goal.of_slots-requires-clause-there
-of_slots-requires-clause-there c =
+pub column_of_slots-requires-clause-there : goal.column_of_slots-requires-clause-there
+column_of_slots-requires-clause-there c =
     let sides = c.args.self.now in
     let number = c.loop-number.number in
     subst (λ (t : DataType). All (IsSlotOf t) c.as_slice.result.now) (sym c.type_of.ensures)
     (subst (λ (slots : List SlotRef). All (IsSlotOf (get_or (types_of sides) number Utf8)) slots) (sym c.as_slice.ensures.value)
     (held_there sides number c.args.pairs.now c.in_ok-slots.slots.items c.in_ok-slots.ensures))
 
-pub of_slots-requires-clause-short : goal.of_slots-requires-clause-short
-of_slots-requires-clause-short c =
+pub column_of_slots-requires-clause-short : goal.column_of_slots-requires-clause-short
+column_of_slots-requires-clause-short c =
     let sides = c.args.self.now in
     let number = c.loop-number.number in
     let values = ap (map slot_value) c.as_slice.ensures.value ∙ held_values sides number c.args.pairs.now c.in_ok-slots.slots.items c.in_ok-slots.ensures in

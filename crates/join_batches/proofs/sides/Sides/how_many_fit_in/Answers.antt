@@ -2,10 +2,10 @@ use Rattle.std.proofs.Common.{◌<◌, List, All, length, map, get_or, sym, ap, 
 use Rattle.std.proofs.lemmas.List.Elements.{All-weaker}
 use Rattle.std.proofs.lemmas.Result.{IfOk-weaker}
 use Rattle.arrow_schema.specs.declared.data_type.DataType.TheVariants.{Utf8}
-use Rattle.arrays.specs.declared.of_slots.SlotRef.{SlotRef}
-use Rattle.arrays.specs.OfSlots.{IsSlotOf}
-use Rattle.arrays.specs.OfSlots.{slot_value}
-use Rattle.batch_room.specs.Fitting.{Fits, has_texts}
+use Rattle.array_select.specs.declared.of_slots.SlotRef.{SlotRef}
+use Rattle.array_select.specs.OfSlots.{IsSlotOf}
+use Rattle.array_select.specs.OfSlots.{slot_value}
+use Rattle.array_select.specs.Fitting.{Fits, has_texts}
 use Rattle.join_batches.specs.Sides.{types_of, FitsIn}
 use Rattle.join_batches.proofs.Cells.{held_there, held_long}
 use Rattle.join_batches.proofs.Plain.{all_fit_in}

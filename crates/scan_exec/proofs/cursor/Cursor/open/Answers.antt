@@ -1,7 +1,7 @@
 use Rattle.std.proofs.Common.{◌≡◌, ◌≤◌, ◌<◌, ◌-◌, ◌+◌, ◌⊎◌, ℕ, length, max, min, refl, sym, ap, subst, ◌∙◌, inl, inr, arith}
 use Rattle.scan_base.specs.Limits.{most_rows}
 use Rattle.table_versions.specs.Stored.{table_of}
-use Rattle.batch_room.specs.Room.{most_batch_rows}
+use Rattle.array_select.specs.Room.{most_batch_rows}
 use Rattle.scan_exec.specs.Placed.{IsPlaced, Opens}
 use Rattle.scan_exec.specs.declared.cursor.Cursor.{Cursor}
 use Rattle.scan_exec.specs.declared.cursor.Part.{Part}

@@ -1,7 +1,7 @@
 use Rattle.std.proofs.Common.{◌≡◌, ◌<◌, ◌≤◌, ◌-◌, ◌+◌, ℕ, List, [], ◌∷◌, All, length, get_or, refl, ap, sym, subst, ◌∙◌, rules, arith}
 use Rattle.std.specs.List.{range_with_len}
 use Rattle.arrays.specs.Batch.{row_of}
-use Rattle.arrays.specs.Selection.{AreRising}
+use Rattle.array_select.specs.Selection.{AreRising}
 use Rattle.scan_exec.specs.declared.cursor.Part.{Part}
 use Rattle.scan_exec.specs.Picking.{PickAt, holds, chosen_rows, pick_of}
 use Rattle.scan_exec.proofs.Giving.{gives, gives_none}

@@ -1,0 +1,8 @@
+pub mod Packed
+pub mod Appended
+mod ValidBytes
+mod Lengths
+mod AsCame
+mod BitsAgain
+mod TextsAgain
+pub mod ColumnsAgain

@@ -1,0 +1,8 @@
+pub mod Hits
+mod Gathered
+mod GatheredTexts
+mod GatheredValues
+mod TooMany
+mod FilledSlots
+mod Textless
+pub mod Short

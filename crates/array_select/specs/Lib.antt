@@ -1,0 +1,7 @@
+pub mod Selection
+pub mod SetBits
+pub mod Built
+pub mod OfSlots
+pub mod Fitting
+pub mod Room
+pub mod inside

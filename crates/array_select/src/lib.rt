@@ -1,0 +1,18 @@
+//! Slots that are chosen, and the columns that are made of them and of values.
+#![tactic(auto)]
+
+mod at_places;
+mod built;
+mod filled;
+mod filled_texts;
+mod gather_texts;
+pub mod of_slots;
+mod room;
+pub mod selection;
+mod source;
+
+pub use crate::at_places::gather;
+pub use crate::built::{column_of_bools, column_of_decimals, column_of_int64s, column_of_texts};
+pub use crate::of_slots::{SlotRef, column_of_slots, texts_fit};
+pub use crate::room::{MOST_BATCH_ROWS, fitting, has_texts};
+pub use crate::selection::Selection;

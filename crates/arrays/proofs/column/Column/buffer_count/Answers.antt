@@ -1,9 +1,0 @@
-use Rattle.std.proofs.Common.{refl}
-use Rattle.arrays.proofs.Lengths.{written_texts, written_other}
-use Rattle.arrays.proofs.column.Column.buffer_count.Goals as goal
-
-pub returns-in_default : goal.returns-in_default
-returns-in_default c = rw (written_other c.args.self.now c.layout.result c.layout.ensures.value c.in_default.not-Texts c.in_default.not-Indices) refl
-
-pub returns-in-Texts : goal.returns-in-Texts
-returns-in-Texts c = rw (written_texts c.args.self.now c.layout.result c.layout.ensures.value c.in-Texts.is) refl

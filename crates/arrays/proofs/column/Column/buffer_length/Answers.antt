@@ -1,7 +1,0 @@
-use Rattle.arrays.proofs.Lengths.{third}
-use Rattle.arrays.proofs.column.Column.buffer_length.Goals as goal
-
-pub returns : goal.returns
-returns c =
-    let last = third c.args.self.now c.args.index c.requires c.if-index-eq0.false c.if-index-eq1.false in
-    rw (last.1, last.0) c.texts_length.ensures

@@ -1,7 +1,0 @@
-use Rattle.std.proofs.Common.{length, ap, refl, arith}
-use Rattle.scan_base.specs.declared.value.Value.TheVariants.{Bool}
-use Rattle.arrays.proofs.Textless.{no_texts}
-use Rattle.arrays.proofs.column.Column.from_bools.Goals as goal
-
-pub filled-requires-clause-short : goal.filled-requires-clause-short
-filled-requires-clause-short c = let none = ap length (no_texts Bool c.args.values.now (λ x. refl)) in omega (arith, none)

@@ -1,5 +1,0 @@
-use Rattle.arrays.specs.inside.Gathered.{HasElementsAt}
-use Rattle.arrays.proofs.gather.gather_elements.Given as goal
-
-abbrev pub invariant-loop-place : goal.invariant-loop-place
-invariant-loop-place g l = HasElementsAt g.row.WIDTH l.packed.items l.values l.first l.places l.place-index

@@ -1,7 +1,0 @@
-use Rattle.arrays.proofs.GatheredValues.{integers_at}
-use Rattle.arrays.proofs.integers.Integers.gather.Goals as goal
-
-pub returns : goal.returns
-returns c =
-    integers_at c.args.self.now c.integer_type-integer.result c.in_ok-packed.packed c.in_ok-gather_integers.field-0.items c.values.result.now c.args.first c.args.places.now
-    c.integer_type-integer.ensures c.in_ok-packed.ensures.ok c.values.ensures (rw c.as_slice.ensures at c.are_bytes.ensures) c.in_ok-gather_integers.ensures

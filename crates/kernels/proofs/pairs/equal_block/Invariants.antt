@@ -1,0 +1,10 @@
+use Rattle.std.proofs.Common.{◌≡◌, ◌<◌, ℕ, pos, length, get_or}
+use Rattle.std.specs.Ordering.{int_eq}
+use mir.Val.{bool_byte}
+use Rattle.kernels.proofs.pairs.equal_block.Given as goal
+
+abbrev pub invariant-loop-k : goal.invariant-loop-k
+invariant-loop-k l = record {
+  long : length l.flags ≡ 64;
+  made : (row : ℕ) → row < l.k → get_or l.flags row 0 ≡ bool_byte (int_eq (get_or l.lefts row (pos 0)) (get_or l.rights row (pos 0)));
+}

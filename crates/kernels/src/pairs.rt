@@ -1,0 +1,187 @@
+//! Columns of numbers that are compared with each other.
+
+ghost use Rattle.std.specs.Prelude.{◌≡◌, ◌≤◌, ◌<◌, ◌+◌, ◌*◌, ◌^◌, ℕ, pos, int_lt, FitsSigned, length, get_or, IfSome};
+ghost use Rattle.std.specs.Int.{w128};
+ghost use Rattle.std.specs.Ordering.{int_cmp, int_eq};
+ghost use Rattle.scan_base.specs.Comparison.{satisfies};
+ghost use Rattle.arrays.specs.Number.{element_at, integer_at};
+ghost use Rattle.kernels.specs.Pairs.{HasNumbers};
+ghost use Rattle.kernels.specs.Parts.{IsPart};
+ghost use Rattle.kernels.specs.Words.{bit};
+
+use crate::kernel::{Kernel, Slots, slot_by_slot};
+use crate::longs::valid_word;
+use crate::pack::pack;
+use crate::part::ColumnPart;
+use crate::word::Word;
+use arrays::{Cells, Column, Element, Integers, Layout};
+use arrow_schema::IntegerType;
+use num_traits::AsPrimitive;
+use scan_base::{Comparison, Truth};
+use std::simd::prelude::*;
+use std::simd::u8x64;
+
+/// Two columns; each slot of the one is compared with that of the same row of the other.
+#[derive(Clone, Copy, Drop)]
+pub(crate) struct Pairs<'a> {
+    pub(crate) left: &'a Column,
+    pub(crate) right: &'a Column,
+    pub(crate) comparison: Comparison,
+    pub(crate) count: usize,
+    ghost lefts: { count ≤ left.now.len },
+    ghost rights: { count ≤ right.now.len },
+}
+
+impl<'a> Slots for Pairs<'a> {
+    ghost use Rattle.scan_base.specs.Comparison.{compared};
+    ghost use Rattle.arrays.specs.Column.{slot_of};
+
+    ghost count = { λ s. s.count };
+
+    ghost truth = { λ s row. compared s.comparison (slot_of s.left.now row) (slot_of s.right.now row) };
+
+    fn truth(&self, place: usize) -> Truth {
+        let _count = self.count;
+        let left = self.left.value_at(place);
+        left.compare(self.comparison, self.right.value_at(place))
+    }
+}
+
+impl<'a> Kernel for Pairs<'a> {
+    type Cell = i128;
+
+    fn word(&self, from: usize) -> Word {
+        let _count = self.count;
+        let mut lefts = [0i128; 64];
+        let mut rights = [0i128; 64];
+        let Some(left) = fill_numbers(self.left, from, &mut lefts) else {
+            return slot_by_slot(self, from, 64);
+        };
+        let Some(right) = fill_numbers(self.right, from, &mut rights) else {
+            return slot_by_slot(self, from, 64);
+        };
+        Word {
+            truths: compared_block(self.comparison, &lefts, &rights),
+            knowns: left & right,
+        }
+    }
+}
+
+/// The slots of two columns in the same rows.
+pub(crate) fn pairs_of<'a>(
+    comparison: Comparison,
+    left: &ColumnPart<'a>,
+    right: &ColumnPart<'a>,
+) -> Pairs<'a>
+    requires left { IsPart left.now }
+    requires right { IsPart right.now }
+    requires from { left.now.from ≡ right.now.from }
+    requires len { left.now.len ≡ right.now.len }
+    ensures left { result.left.now ≡ left.now.column.now }
+    ensures right { result.right.now ≡ right.now.column.now }
+    ensures comparison { result.comparison ≡ comparison }
+    ensures count { result.count ≡ left.now.from + left.now.len }
+{
+    let _len = left.column.len();
+    Pairs {
+        left: left.column,
+        right: right.column,
+        comparison,
+        count: left.from + left.len,
+    }
+}
+
+/// Whether a column holds numbers.
+pub(crate) fn has_numbers(column: &Column) -> bool {
+    match column.layout() {
+        Layout::Integers(_) | Layout::Decimals(_) => true,
+        _ => false,
+    }
+}
+
+// The numbers of 64 slots from `from` on, and a bit for each that is not null; none of a column of other values.
+fn fill_numbers(column: &Column, from: usize, block: &mut [i128; 64]) -> Option<u64>
+    requires { from + 64 ≤ column.now.len }
+    ensures { IfSome result (λ knowns. HasNumbers column.now from block.new knowns) }
+{
+    let _len = column.len();
+    let first = column.first() + from;
+    match column.layout() {
+        Layout::Integers(cells) => {
+            let _count = cells.len();
+            fill_integers(&cells, first, block);
+            Some(valid_word(cells.validity(), first))
+        }
+        Layout::Decimals(cells) => {
+            let _count = column.slots().len();
+            fill_cells::<i128>(cells.values(), first, block);
+            Some(valid_word(cells.validity(), first))
+        }
+        _ => None,
+    }
+}
+
+// The integers of 64 slots from `first` on.
+fn fill_integers(cells: &Integers<'_>, first: usize, block: &mut [i128; 64])
+    requires { first + 64 ≤ (cells.now).len }
+    ensures { (row : ℕ) → row < 64 → get_or block.new row (pos 0) ≡ integer_at (cells.now).integer (cells.now).values (first + row) }
+{
+    let _count = cells.len();
+    let values = cells.values();
+    match cells.integer_type() {
+        IntegerType::Int8 => fill_cells::<i8>(values, first, block),
+        IntegerType::Int16 => fill_cells::<i16>(values, first, block),
+        IntegerType::Int32 => fill_cells::<i32>(values, first, block),
+        IntegerType::Int64 => fill_cells::<i64>(values, first, block),
+        IntegerType::UInt8 => fill_cells::<u8>(values, first, block),
+        IntegerType::UInt16 => fill_cells::<u16>(values, first, block),
+        IntegerType::UInt32 => fill_cells::<u32>(values, first, block),
+        IntegerType::UInt64 => fill_cells::<u64>(values, first, block),
+    }
+}
+
+// The 64 numbers of a type from `from` on.
+fn fill_cells<E: Element + AsPrimitive<i128>>(values: &[u8], from: usize, block: &mut [i128; 64])
+    requires room { E.WIDTH * (from + 64) ≤ length values.now }
+    requires small { from + 64 < 2 ^ 64 }
+    requires wide { (place : ℕ) → FitsSigned w128 (E.value (E.of_bits (element_at E.WIDTH values.now place))) }
+    ensures { (row : ℕ) → row < 64 → get_or block.new row (pos 0) ≡ E.value (E.of_bits (element_at E.WIDTH values.now (from + row))) }
+{
+    for k in 0..64usize {
+        block[k] = E::read(values, from + k).as_();
+    }
+}
+
+// Which of 64 numbers stand in a comparison with others.
+fn compared_block(comparison: Comparison, lefts: &[i128; 64], rights: &[i128; 64]) -> u64
+    ensures { (row : ℕ) → row < 64 → bit result row ≡ satisfies comparison (int_cmp (get_or lefts.now row (pos 0)) (get_or rights.now row (pos 0))) }
+{
+    match comparison {
+        Comparison::Equal => equal_block(lefts, rights),
+        Comparison::NotEqual => equal_block(lefts, rights) ^ u64::MAX,
+        Comparison::Less => less_block(lefts, rights),
+        Comparison::LessOrEqual => less_block(rights, lefts) ^ u64::MAX,
+        Comparison::Greater => less_block(rights, lefts),
+        Comparison::GreaterOrEqual => less_block(lefts, rights) ^ u64::MAX,
+    }
+}
+
+fn less_block(lefts: &[i128; 64], rights: &[i128; 64]) -> u64
+    ensures { (row : ℕ) → row < 64 → bit result row ≡ int_lt (get_or lefts.now row (pos 0)) (get_or rights.now row (pos 0)) }
+{
+    let mut flags = [0u8; 64];
+    for k in 0..64usize {
+        flags[k] = (lefts[k] < rights[k]) as u8;
+    }
+    pack(u8x64::from_array(flags))
+}
+
+fn equal_block(lefts: &[i128; 64], rights: &[i128; 64]) -> u64
+    ensures { (row : ℕ) → row < 64 → bit result row ≡ int_eq (get_or lefts.now row (pos 0)) (get_or rights.now row (pos 0)) }
+{
+    let mut flags = [0u8; 64];
+    for k in 0..64usize {
+        flags[k] = (lefts[k] == rights[k]) as u8;
+    }
+    pack(u8x64::from_array(flags))
+}
