@@ -25,7 +25,7 @@ use Rattle.arrays.specs.Layout.{layout_slot}
 use Rattle.arrays.specs.Number.{integer_at, number_from}
 use Rattle.arrays.specs.Validity.{is_valid}
 use Rattle.kernels.specs.Codes.{code_at, is_among}
-use Rattle.kernels.specs.Entries.{truth_at, truths_at, AreTrueAt, IsPushed, by_entry}
+use Rattle.kernels.specs.Entries.{truth_at, truths_at, unless_known, AreTrueAt, IsPushed, by_entry}
 use Rattle.kernels.specs.Ranges.{where_known}
 use Rattle.kernels.proofs.AmongCodes.{among_more, eq_turn}
 
@@ -222,9 +222,36 @@ slot_by_entry predicate cells place are low = by_valid (is_valid cells.validity 
     by_valid true e = e refl
     by_valid false e = refl
 
--- where the true entries are few and known, and a null is unknown
-pub slot_among : (truths : List Truth) (of_null : Truth) (indices : List ℕ) (valid : Bool) (code : ℕ) → of_null ≡ Unknown → AreTrueAt truths indices → (valid ≡ true → code < length truths) →
-    where_known valid (is_among indices code) ≡ by_entry truths of_null valid code
-slot_among truths of_null indices true code null are low =
-    sym (are code (low refl)) ∙ get_or_default truths code Unknown of_null (low refl)
-slot_among truths of_null indices false code null are low = sym null
+-- where the true entries are few and all are known
+pub slot_among : (truths : List Truth) (of_null : Truth) (indices : List ℕ) (valid : Bool) (code : ℕ) → AreTrueAt truths indices → (valid ≡ true → code < length truths) →
+    unless_known of_null (where_known valid (is_among indices code)) ≡ by_entry truths of_null valid code
+slot_among truths of_null indices true code are low =
+    stays of_null (is_among indices code) ∙ sym (are code (low refl)) ∙ get_or_default truths code Unknown of_null (low refl)
+  where
+    stays : (otherwise : Truth) (b : Bool) → unless_known otherwise (truth_from b) ≡ truth_from b
+    stays otherwise true = refl
+    stays otherwise false = refl
+slot_among truths of_null indices false code are low = refl
+
+pub map_both : {X Y Z : Type 0} (g : Y → Z) (f : X → Y) (xs : List X) → map g (map f xs) ≡ map (λ x. g (f x)) xs
+map_both g f [] = refl
+map_both g f (x ∷ xs) = ap (λ r. g (f x) ∷ r) (map_both g f xs)
+
+-- a null that is unknown, one that is false, and one that is true
+pub null_unknown : (xs : List Truth) → xs ≡ map (unless_known Unknown) xs
+null_unknown [] = refl
+null_unknown (True ∷ xs) = ap (λ r. True ∷ r) (null_unknown xs)
+null_unknown (False ∷ xs) = ap (λ r. False ∷ r) (null_unknown xs)
+null_unknown (Unknown ∷ xs) = ap (λ r. Unknown ∷ r) (null_unknown xs)
+
+pub null_false : (xs : List Truth) → map (λ truth. truth_is truth True) xs ≡ map (unless_known False) xs
+null_false [] = refl
+null_false (True ∷ xs) = ap (λ r. True ∷ r) (null_false xs)
+null_false (False ∷ xs) = ap (λ r. False ∷ r) (null_false xs)
+null_false (Unknown ∷ xs) = ap (λ r. False ∷ r) (null_false xs)
+
+pub null_true : (xs : List Truth) → map truth_not (map (λ truth. truth_is truth True) (map truth_not xs)) ≡ map (unless_known True) xs
+null_true [] = refl
+null_true (True ∷ xs) = ap (λ r. True ∷ r) (null_true xs)
+null_true (False ∷ xs) = ap (λ r. False ∷ r) (null_true xs)
+null_true (Unknown ∷ xs) = ap (λ r. True ∷ r) (null_true xs)

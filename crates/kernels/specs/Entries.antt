@@ -23,6 +23,11 @@ truths_at predicate values = map (truth_at predicate) values
 abbrev pub AreTrueAt : List Truth → List ℕ → Type 0
 AreTrueAt truths indices = (index : ℕ) → index < length truths → get_or truths index Unknown ≡ truth_from (is_among indices index)
 
+-- what is said where nothing is known
+abbrev pub unless_known : Truth → Truth → Truth
+unless_known otherwise Unknown = otherwise
+unless_known otherwise truth = truth
+
 -- the truth of a slot by that of its entry, and of one that is null by that of NULL
 abbrev pub by_entry : List Truth → Truth → Bool → ℕ → Truth
 by_entry truths of_null valid index = if valid then get_or truths index of_null else of_null

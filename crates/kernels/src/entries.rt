@@ -7,8 +7,7 @@ ghost use Rattle.kernels.specs.Codes.{code_at};
 ghost use Rattle.kernels.specs.EntryTruths.{entry_truth};
 ghost use Rattle.scan_base.specs.Value.{value_of};
 ghost use Rattle.scan_base.specs.View.{pred_of};
-ghost use Rattle.scan_base.specs.declared.truth.Truth.TheVariants.{Unknown as NotKnown};
-ghost use Rattle.kernels.specs.Entries.{truth_at, truths_at, AreTrueAt, IsPushed};
+ghost use Rattle.kernels.specs.Entries.{truth_at, truths_at, unless_known, AreTrueAt, IsPushed};
 
 use crate::among::{Among, Packed};
 use crate::kernel::{Kernel, Slots, mask_by, slot_by_slot};
@@ -136,26 +135,28 @@ impl<'a> ByEntry<'a> {
         requires small { first + len < 2 ^ 64 }
         ensures { IfOk result (λ mask. mask ≡ map (entry_truth self.now) (range_with_len first len)) }
     {
-        match self.few_true(alloc)? {
+        match few_true(alloc, self.truths)? {
             Some(codes) => {
                 let kernel = Among {
                     numbers: self.indices,
                     codes: codes.as_slice(),
                 };
-                mask_by(alloc, &kernel, first, len)
+                let mask = mask_by(alloc, &kernel, first, len)?;
+                Ok(where_null(mask, self.of_null))
             }
             None => mask_by(alloc, self, first, len),
         }
     }
+}
 
-    // Which entries are true, where all are known, few are true, and nothing is known of a null.
-    fn few_true(&self, alloc: Global) -> Result<Option<Vec<u64>>, AllocError>
-        ensures { IfOk result (λ found. IfSome found (λ indices. (self.now.of_null ≡ NotKnown) × AreTrueAt self.now.truths.now indices.items)) }
-    {
-        match self.of_null {
-            Truth::Unknown => few_true(alloc, self.truths),
-            _ => Ok(None),
-        }
+// What is said of a null in place of unknown.
+fn where_null(mask: Mask, of_null: Truth) -> Mask
+    ensures { result ≡ map (unless_known of_null) mask }
+{
+    match of_null {
+        Truth::True => mask.not().is(Truth::True).not(),
+        Truth::False => mask.is(Truth::True),
+        Truth::Unknown => mask,
     }
 }
 
