@@ -1,4 +1,4 @@
--- What is said of the entries of a dictionary.
+-- Inside: what is said of the entries of a dictionary.
 use Rattle.std.specs.Prelude.{◌≡◌, ◌<◌, ℕ, ◌==◌, Bool, IsTrue, List, length, map, get_or, if◌then◌else◌}
 use Rattle.scan_base.specs.declared.truth.Truth.{Truth}
 use Rattle.scan_base.specs.declared.truth.Truth.TheVariants.{False, Unknown}

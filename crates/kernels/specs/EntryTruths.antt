@@ -1,4 +1,4 @@
--- The truths of slots of a dictionary.
+-- Inside: the truths of slots of a dictionary.
 use Rattle.std.specs.Prelude.{ℕ}
 use Rattle.scan_base.specs.declared.truth.Truth.{Truth}
 use Rattle.arrays.specs.Validity.{is_valid}

@@ -1,4 +1,4 @@
--- The codes of the items of IN.
+-- Inside: the codes of the items of IN.
 use Rattle.std.specs.Prelude.{◌≡◌, ◌<◌, ◌^◌, ℕ, List}
 use Rattle.scan_base.specs.declared.value.Value.{Value}
 use Rattle.scan_base.specs.declared.value.Value.TheVariants.{Null, Int}
