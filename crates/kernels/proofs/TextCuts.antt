@@ -1,5 +1,5 @@
 -- Texts that offsets cut: how long they are, and which ones are a given one.
-use Rattle.std.proofs.Common.{◌≡◌, ℕ, zero, suc, ◌+◌, ◌-◌, ◌*◌, ◌%◌, ◌^◌, ◌<◌, ◌≤◌, ◌==◌, Bool, true, false, ◌&&◌, not, ◌||◌, if◌then◌else◌, List, [], ◌∷◌, length, slice_index, take, drop, Option, Some, None, nat_le, nat_lt, inl, inr, refl, sym, ap, ◌∙◌, arith, length-drop}
+use Rattle.std.proofs.Common.{◌≡◌, ℕ, zero, suc, ◌+◌, ◌-◌, ◌*◌, ◌%◌, ◌^◌, ◌<◌, ◌≤◌, ◌==◌, Bool, true, false, ◌&&◌, not, ◌||◌, if◌then◌else◌, List, [], ◌∷◌, length, map, take, drop, Option, Some, None, nat_le, nat_lt, inl, inr, refl, sym, ap, ◌∙◌, arith, length-drop}
 use Rattle.std.specs.Str.{bytes_eq, is_utf8}
 use Rattle.std.specs.Ordering.{nat_cmp, is_eq}
 use Rattle.std.specs.declared.cmp.Ordering.{Ordering}
@@ -72,6 +72,10 @@ unequal_slot value other = by (order_of value (Text other))
     by (Some order.Less) = refl
     by (Some order.Equal) = refl
     by (Some order.Greater) = refl
+
+pub turned : (f g : ℕ → Truth) (places : List ℕ) → ((place : ℕ) → truth_not (f place) ≡ g place) → map truth_not (map f places) ≡ map g places
+turned f g [] same = refl
+turned f g (place ∷ places) same = ap (λ t. t ∷ map truth_not (map f places)) (same place) ∙ ap (λ ts. g place ∷ ts) (turned f g places same)
 
 -- ---- texts that stand are cut
 

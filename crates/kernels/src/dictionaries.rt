@@ -25,6 +25,8 @@ pub(crate) fn dictionary_leaf(
     ensures { IfOk result (λ found. IfSome found (λ mask. mask
         ≡ truths_of rows.now.columns.columns.now rows.now.columns.read.now (pred_of predicate.now) rows.now.from rows.now.len)) }
 {
-    let _ = (alloc, predicate, rows.len);
+    let _ = alloc;
+    let _ = predicate;
+    let _ = rows.len;
     Ok(None)
 }

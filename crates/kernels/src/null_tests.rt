@@ -22,10 +22,7 @@ use std::alloc::{AllocError, Global};
 /// # Errors
 ///
 /// `AllocError` where memory is refused.
-pub(crate) fn null_part(
-    alloc: Global,
-    part: &ColumnPart<'_>,
-) -> Result<Option<Mask>, AllocError>
+pub(crate) fn null_part(alloc: Global, part: &ColumnPart<'_>) -> Result<Option<Mask>, AllocError>
     requires { IsPart part.now }
     ensures { IfOk result (λ found. IfSome found (λ mask. mask ≡ said_of nullness part.now)) }
 {

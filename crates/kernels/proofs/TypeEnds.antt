@@ -1,0 +1,115 @@
+-- Ends of ranges among the numbers of a type.
+use Rattle.std.proofs.Common.{◌≡◌, ℤ, pos, negsuc, ◌≤ℤ◌, ◌<ℤ◌, Bool, true, false, ◌&&◌, int_lt, int_le, FitsSigned, refl, sym, ap, ◌∙◌, arith}
+use Rattle.std.specs.Int.{w64}
+use Rattle.std.specs.Ordering.{int_eq}
+use Rattle.std.proofs.lemmas.Bool.{false≢true}
+use Rattle.std.proofs.lemmas.Bool.Decides.{Decides-int_eq}
+use Rattle.std.proofs.lemmas.Int.{ints}
+use Rattle.kernels.specs.Ranges.{is_within}
+
+pub le_true : (a b : ℤ) → a ≤ℤ b → int_le a b ≡ true
+le_true a b le = by (int_le a b) refl
+  where
+    by : (s : Bool) → int_le a b ≡ s → s ≡ true
+    by true p = refl
+    by false p = absurd (omega (arith, ints, p, le))
+
+pub le_false : (a b : ℤ) → b <ℤ a → int_le a b ≡ false
+le_false a b lt = by (int_le a b) refl
+  where
+    by : (s : Bool) → int_le a b ≡ s → s ≡ false
+    by true p = absurd (omega (arith, ints, p, lt))
+    by false p = refl
+
+-- a number that is none from one to another, and is not above the other, is below the first
+below_first : (low high number : ℤ) → ((low ≤ℤ number) × (number ≤ℤ high) → ⊥) → number ≤ℤ high → number <ℤ low
+below_first low high number absent le = by (int_le low number) refl
+  where
+    by : (s : Bool) → int_le low number ≡ s → number <ℤ low
+    by true p = absurd (absent (omega (arith, ints, p), le))
+    by false p = omega (arith, ints, p)
+
+above_last : (low high number : ℤ) → ((low ≤ℤ number) × (number ≤ℤ high) → ⊥) → low ≤ℤ number → high <ℤ number
+above_last low high number absent le = by (int_le number high) refl
+  where
+    by : (s : Bool) → int_le number high ≡ s → high <ℤ number
+    by true p = absurd (absent (le, omega (arith, ints, p)))
+    by false p = omega (arith, ints, p)
+
+-- what the type does not have is below all of it where it is below 0, and else above all of it
+pub from_least : (low high number other : ℤ) → ((low ≤ℤ number) × (number ≤ℤ high) → ⊥) → pos 0 ≤ℤ high → number <ℤ pos 0 → low ≤ℤ other →
+    int_le low other ≡ int_le number other
+from_least low high number other absent top neg has =
+    let below = below_first low high number absent (omega (arith, ints, top, neg)) in
+    le_true low other has ∙ sym (le_true number other (omega (arith, ints, below, has)))
+
+pub none_from : (low high number other : ℤ) → ((low ≤ℤ number) × (number ≤ℤ high) → ⊥) → low ≤ℤ pos 0 → pos 0 ≤ℤ number → other ≤ℤ high →
+    int_le number other ≡ false
+none_from low high number other absent bottom here has =
+    let above = above_last low high number absent (omega (arith, ints, bottom, here)) in
+    le_false number other (omega (arith, ints, above, has))
+
+pub up_to_most : (low high number other : ℤ) → ((low ≤ℤ number) × (number ≤ℤ high) → ⊥) → low ≤ℤ pos 0 → pos 0 ≤ℤ number → other ≤ℤ high →
+    int_le other high ≡ int_le other number
+up_to_most low high number other absent bottom here has =
+    let above = above_last low high number absent (omega (arith, ints, bottom, here)) in
+    le_true other high has ∙ sym (le_true other number (omega (arith, ints, above, has)))
+
+pub none_up_to : (low high number other : ℤ) → ((low ≤ℤ number) × (number ≤ℤ high) → ⊥) → pos 0 ≤ℤ high → number <ℤ pos 0 → low ≤ℤ other →
+    int_le other number ≡ false
+none_up_to low high number other absent top neg has =
+    let below = below_first low high number absent (omega (arith, ints, top, neg)) in
+    le_false other number (omega (arith, ints, below, has))
+
+-- from the greatest to the least is none
+pub none_within : (low high number : ℤ) → low ≤ℤ pos 0 → pos 1 ≤ℤ high → is_within high low number ≡ false
+none_within low high number bottom top = by (int_le high number) (int_le number low) refl refl
+  where
+    by : (s t : Bool) → int_le high number ≡ s → int_le number low ≡ t → (s && t) ≡ false
+    by true true p q = absurd (omega (arith, ints, bottom, top, p, q))
+    by true false p q = refl
+    by false t p q = refl
+
+pub same_ends : (least most low high number : ℤ) → int_le least number ≡ int_le low number → int_le number most ≡ int_le number high →
+    is_within least most number ≡ is_within low high number
+same_ends least most low high number p q = ap (λ b. b && int_le number most) p ∙ ap (λ b. int_le low number && b) q
+
+pub no_least : (least most number : ℤ) → int_le least number ≡ false → is_within least most number ≡ false
+no_least least most number p = ap (λ b. b && int_le number most) p
+
+pub no_most : (least most number : ℤ) → int_le number most ≡ false → is_within least most number ≡ false
+no_most least most number p = ap (λ b. int_le least number && b) p ∙ by (int_le least number)
+  where
+    by : (s : Bool) → (s && false) ≡ false
+    by true = refl
+    by false = refl
+
+-- from a number to itself is that number
+pub equal_within : (x v : ℤ) → int_eq x v ≡ is_within v v x
+equal_within x v = sym (by (int_eq x v) refl)
+  where
+    apart : int_eq x v ≡ false → (s t : Bool) → int_le v x ≡ s → int_le x v ≡ t → (s && t) ≡ false
+    apart p true true q r = let e : x ≡ v = omega (arith, ints, q, r) in absurd (false≢true (sym p ∙ (Decides-int_eq x v).1 e))
+    apart p true false q r = refl
+    apart p false t q r = refl
+
+    by : (r : Bool) → int_eq x v ≡ r → is_within v v x ≡ r
+    by true p =
+        let e : x ≡ v = (Decides-int_eq x v).0 p in
+        ap (λ b. b && int_le x v) (le_true v x (omega (arith, ints, e))) ∙ le_true x v (omega (arith, ints, e))
+    by false p = apart p (int_le v x) (int_le x v) refl refl
+
+-- no number of 64 bits is above the greatest, nor below the least
+pub none_above : (x most : ℤ) → FitsSigned w64 x → most ≡ pos 9223372036854775807 → int_lt most x ≡ false
+none_above x most fits e = by (int_lt most x) refl
+  where
+    by : (r : Bool) → int_lt most x ≡ r → r ≡ false
+    by true p = absurd (omega (arith, ints, p, fits.sfits, e))
+    by false p = refl
+
+pub none_below : (x least : ℤ) → FitsSigned w64 x → least ≡ negsuc 9223372036854775807 → int_lt x least ≡ false
+none_below x least fits e = by (int_lt x least) refl
+  where
+    by : (r : Bool) → int_lt x least ≡ r → r ≡ false
+    by true p = absurd (omega (arith, ints, p, fits.sfits, e))
+    by false p = refl
