@@ -14,7 +14,7 @@ use Rattle.kernels.specs.declared.word.Word.{Word}
 use Rattle.kernels.specs.Nulls.{null_truth}
 use Rattle.kernels.specs.Ranges.{validity_count}
 use Rattle.kernels.specs.Words.{bit, by_bits, row_in}
-use Rattle.kernels.proofs.Bits.{xor, xor_bit, bit_of_all}
+use Rattle.kernels.proofs.Bits.{xor, xor_bit, xor_true, bit_of_all}
 
 -- ---- validity bits
 
@@ -48,8 +48,7 @@ null_where validity value place some = by (is_valid validity place)
     by true = some
     by false = refl
 
-null_bits : (valid : Bool) → by_bits (xor valid true) true ≡ truth_from (not valid)
-unfolding xor
+null_bits : (null : Bool) → by_bits null true ≡ truth_from null
 null_bits true = refl
 null_bits false = refl
 
@@ -60,7 +59,7 @@ null_rows validity from word row lt is =
     let valid : Bool = is_valid validity (from + row) in
     ap (λ b. by_bits b (bit 18446744073709551615 row))
       (xor_bit word 18446744073709551615 row ∙ ap (λ b. xor b (bit 18446744073709551615 row)) is ∙ ap (λ b. xor valid b) (bit_of_all row lt))
-    ∙ ap (λ b. by_bits (xor valid true) b) (bit_of_all row lt) ∙ null_bits valid
+    ∙ ap (λ b. by_bits (xor valid true) b) (bit_of_all row lt) ∙ ap (λ b. by_bits b true) (xor_true valid) ∙ null_bits (not valid)
 
 none_first : (b : Bool) (value : Value) (values : List Value) → length (if b then value ∷ values else values) ≡ 0 → (b ≡ false) × (length values ≡ 0)
 none_first true value values e = absurd (omega (arith, e))

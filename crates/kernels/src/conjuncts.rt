@@ -33,7 +33,8 @@ pub(crate) fn keep_true(
     match predicate {
         Predicate::And(left, right) => {
             keep_true(alloc, left, rows, words)?;
-            keep_true(alloc, right, rows, words)
+            keep_true(alloc, right, rows, words)?;
+            Ok(())
         }
         _ => keep_part(alloc, predicate, rows, words),
     }
