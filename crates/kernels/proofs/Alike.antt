@@ -14,8 +14,8 @@ said_alike test truth from (suc len) e =
     let first : truth ≡ test from = sym (e 0 (omega arith)) ∙ ap test z in
     ap (λ t. t ∷ replicate len truth) first
     ∙ ap (λ ts. test from ∷ ts) (said_alike test truth (from + 1) len (λ i lt.
-      let p : from + 1 + i ≡ from + suc i = omega arith in
-      ap test p ∙ e (suc i) (omega (arith, lt))))
+    let p : from + 1 + i ≡ from + suc i = omega arith in
+    ap test p ∙ e (suc i) (omega (arith, lt))))
 
 -- the rows of one word that stands again and again
 pub rows_alike : (words : List Word) (word : Word) (truth : Truth) (count len : ℕ) → words ≡ replicate count word → len ≤ 64 * count →
@@ -23,6 +23,6 @@ pub rows_alike : (words : List Word) (word : Word) (truth : Truth) (count len : 
 unfolding rows_of
 rows_alike words word truth count len is room same =
     sym (said_alike (row_among words) truth 0 len (λ i lt.
-      ap (λ ws. row_in (get_or ws ((0 + i) / 64) blank) ((0 + i) % 64)) is
-      ∙ ap (λ w. row_in w ((0 + i) % 64)) (get_or-replicate count ((0 + i) / 64) word blank (omega (arith, lt, room)))
-      ∙ same ((0 + i) % 64) (omega arith)))
+    ap (λ ws. row_in (get_or ws ((0 + i) / 64) blank) ((0 + i) % 64)) is
+    ∙ ap (λ w. row_in w ((0 + i) % 64)) (get_or-replicate count ((0 + i) / 64) word blank (omega (arith, lt, room)))
+    ∙ same ((0 + i) % 64) (omega arith)))

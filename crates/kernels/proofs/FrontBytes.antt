@@ -15,9 +15,9 @@ use Rattle.kernels.specs.Needles.{front_len, IsFront}
 digit_eq : (x y r s : ℕ) → x < 256 → y < 256 → (x + 256 * r == y + 256 * s) ≡ ((x == y) && (r == s))
 digit_eq x y r s a b = elim (cases_eq x y) [
   | inl e ↦ elim (cases_eq r s) [
-      | inl f ↦ rw (eq-eqb (x + 256 * r) (y + 256 * s) (omega (arith, e, f)), eq-eqb x y e, eq-eqb r s f) refl
-      | inr g ↦ rw (ne_eqb (x + 256 * r) (y + 256 * s) (λ h. g (omega (arith, h, e))), eq-eqb x y e, ne_eqb r s g) refl
-    ]
+    | inl f ↦ rw (eq-eqb (x + 256 * r) (y + 256 * s) (omega (arith, e, f)), eq-eqb x y e, eq-eqb r s f) refl
+    | inr g ↦ rw (ne_eqb (x + 256 * r) (y + 256 * s) (λ h. g (omega (arith, h, e))), eq-eqb x y e, ne_eqb r s g) refl
+  ]
   | inr g ↦ rw (ne_eqb (x + 256 * r) (y + 256 * s) (λ h. g (omega (arith, h, a, b))), ne_eqb x y g) refl
 ]
 
@@ -91,7 +91,7 @@ split_eq (x ∷ xs) ys (u ∷ us) vs e = ap (λ b. (x == u) && b) (split_eq xs y
 -- the front and the rest
 pub parts_same : (text bytes : List ℕ) (at : ℕ) → at + length text ≤ length bytes →
     (bytes_eq (slice_range bytes at (at + front_len text)) (take (front_len text) text)
-      && bytes_eq (slice_range bytes (at + front_len text) (at + length text)) (drop (front_len text) text))
+    && bytes_eq (slice_range bytes (at + front_len text) (at + length text)) (drop (front_len text) text))
     ≡ bytes_eq (slice_range bytes at (at + length text)) text
 parts_same text bytes at room =
     let k : ℕ = front_len text in
@@ -105,12 +105,12 @@ parts_same text bytes at room =
     let e4 : at + n - (at + k) ≡ some = omega arith in
     let sizes : length (take k a) ≡ length (take k text) = length-take-le k a long ∙ sym (length-take-le k text few) in
     sym (ap (λ m. bytes_eq (take m a) text) e1
-      ∙ ap (λ l. bytes_eq l text) (take-add k some a)
-      ∙ ap (λ l. bytes_eq (take k a ++ take some l) text) (drop-drop k at bytes)
-      ∙ ap (λ l. bytes_eq (take k a ++ take some (drop (at + k) bytes)) l) (sym (take-append-drop k text))
-      ∙ split_eq (take k a) (take some (drop (at + k) bytes)) (take k text) (drop k text) sizes
-      ∙ ap (λ m. bytes_eq (take m a) (take k text) && bytes_eq (take some (drop (at + k) bytes)) (drop k text)) (sym e3)
-      ∙ ap (λ m. bytes_eq (take (at + k - at) a) (take k text) && bytes_eq (take m (drop (at + k) bytes)) (drop k text)) (sym e4))
+    ∙ ap (λ l. bytes_eq l text) (take-add k some a)
+    ∙ ap (λ l. bytes_eq (take k a ++ take some l) text) (drop-drop k at bytes)
+    ∙ ap (λ l. bytes_eq (take k a ++ take some (drop (at + k) bytes)) l) (sym (take-append-drop k text))
+    ∙ split_eq (take k a) (take some (drop (at + k) bytes)) (take k text) (drop k text) sizes
+    ∙ ap (λ m. bytes_eq (take m a) (take k text) && bytes_eq (take some (drop (at + k) bytes)) (drop k text)) (sym e3)
+    ∙ ap (λ m. bytes_eq (take (at + k - at) a) (take k text) && bytes_eq (take m (drop (at + k) bytes)) (drop k text)) (sym e4))
 
 -- a text that has no more than its front
 pub no_rest : (text bytes : List ℕ) (at : ℕ) → length text ≤ 8 → true ≡ bytes_eq (slice_range bytes (at + front_len text) (at + length text)) (drop (front_len text) text)
@@ -118,8 +118,8 @@ no_rest text bytes at few =
     let k : front_len text ≡ length text = omega (arith, few) in
     let z : at + length text - (at + length text) ≡ 0 = omega arith in
     sym (ap (λ m. bytes_eq (slice_range bytes (at + m) (at + length text)) (drop m text)) k
-      ∙ ap (λ m. bytes_eq (take m (drop (at + length text) bytes)) (drop (length text) text)) z
-      ∙ ap (λ l. bytes_eq [] l) (drop-length text))
+    ∙ ap (λ m. bytes_eq (take m (drop (at + length text) bytes)) (drop (length text) text)) z
+    ∙ ap (λ l. bytes_eq [] l) (drop-length text))
 
 -- a number of few bytes has room for one more
 pub little_room : (p n : ℕ) (xs : List ℕ) → ((k : ℕ) → slice_index xs k < 256) → n ≤ 7 → little_from p n xs < 2 ^ 56

@@ -58,7 +58,7 @@ pub null_rows : (validity : Option (List Bool)) (from word row : ℕ) → row < 
 null_rows validity from word row lt is =
     let valid : Bool = is_valid validity (from + row) in
     ap (λ b. by_bits b (bit 18446744073709551615 row))
-      (xor_bit word 18446744073709551615 row ∙ ap (λ b. xor b (bit 18446744073709551615 row)) is ∙ ap (λ b. xor valid b) (bit_of_all row lt))
+    (xor_bit word 18446744073709551615 row ∙ ap (λ b. xor b (bit 18446744073709551615 row)) is ∙ ap (λ b. xor valid b) (bit_of_all row lt))
     ∙ ap (λ b. by_bits (xor valid true) b) (bit_of_all row lt) ∙ ap (λ b. by_bits b true) (xor_true valid) ∙ null_bits (not valid)
 
 none_first : (b : Bool) (value : Value) (values : List Value) → length (if b then value ∷ values else values) ≡ 0 → (b ≡ false) × (length values ≡ 0)

@@ -32,13 +32,13 @@ offset_lanes values at n is le fit =
     let big = digits_l (2 ^ 32) 16 (number_l 256 block) in
     same_lists big (map f (range_with_len 0 16)) (sym (length-map-range_with_len f 0 16))
     (λ k d lt.
-      get_or_default big k d 0 lt
-      ∙ get_or_wider 256 4 (2 ^ 32) 16 block k refl below lt
-      ∙ number_little 4 (4 * k) block (omega (arith, full))
-      ∙ little_from-take (4 * k) 4 64 ys (omega arith)
-      ∙ little_from-take (4 * k) 4 n (drop at values) (omega (arith, is))
-      ∙ little_drop at (4 * k) 4 values
-      ∙ sym (get_or-map-range_with_len f 0 16 k k d lt (omega arith)))
+    get_or_default big k d 0 lt
+    ∙ get_or_wider 256 4 (2 ^ 32) 16 block k refl below lt
+    ∙ number_little 4 (4 * k) block (omega (arith, full))
+    ∙ little_from-take (4 * k) 4 64 ys (omega arith)
+    ∙ little_from-take (4 * k) 4 n (drop at values) (omega (arith, is))
+    ∙ little_drop at (4 * k) 4 values
+    ∙ sym (get_or-map-range_with_len f 0 16 k k d lt (omega arith)))
 
 map_map : {X Y Z : Type 0} (g : Y → Z) (f : X → Y) (xs : List X) → map g (map f xs) ≡ map (λ x. g (f x)) xs
 map_map g f [] = refl
@@ -56,7 +56,7 @@ far_of offsets from far begins ends b e =
     ap (map (λ z. z == far)) (zip2_of_maps sub g h (range_with_len 0 16) e b)
     ∙ map_map (λ z. z == far) (λ j. sub (g j) (h j)) (range_with_len 0 16)
     ∙ same_range (λ j. sub (g j) (h j) == far) (λ place. sub (little_from (4 * (place + 1)) 4 offsets) (little_from (4 * place) 4 offsets) == far) 0 from 16
-      (λ i lt.
-        let p : 4 * from + 4 + 4 * (0 + i) ≡ 4 * (from + i + 1) = omega arith in
-        let q : 4 * from + 4 * (0 + i) ≡ 4 * (from + i) = omega arith in
-        ap (λ x. sub (little_from x 4 offsets) (h (0 + i)) == far) p ∙ ap (λ x. sub (little_from (4 * (from + i + 1)) 4 offsets) (little_from x 4 offsets) == far) q)
+    (λ i lt.
+    let p : 4 * from + 4 + 4 * (0 + i) ≡ 4 * (from + i + 1) = omega arith in
+    let q : 4 * from + 4 * (0 + i) ≡ 4 * (from + i) = omega arith in
+    ap (λ x. sub (little_from x 4 offsets) (h (0 + i)) == far) p ∙ ap (λ x. sub (little_from (4 * (from + i + 1)) 4 offsets) (little_from x 4 offsets) == far) q)

@@ -87,7 +87,11 @@ impl<'a> Slots for FlagTests<'a> {
         if !is_valid(self.validity, place) {
             return Truth::Unknown;
         }
-        of_test(if self.values.get(place) { self.of_true } else { self.of_false })
+        of_test(if self.values.get(place) {
+            self.of_true
+        } else {
+            self.of_false
+        })
     }
 }
 

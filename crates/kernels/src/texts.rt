@@ -162,7 +162,8 @@ impl<'a> EqualTexts<'a> {
         ensures { result ≡ is_text_at self.now.needle self.now.offsets.now self.now.bytes.now place }
     {
         let _count = self.count;
-        self.needle.stands_at(self.bytes, u32::read(self.offsets, place) as usize)
+        self.needle
+            .stands_at(self.bytes, u32::read(self.offsets, place) as usize)
     }
 
     // Which of the 64 texts from `from` on are as long.

@@ -24,10 +24,10 @@ returns-in_ok-mask-in-Bools c =
     let g : ℕ → Truth = λ row. compared c.args.comparison (slot_of column row) (Flag c.args.other) in
     c.in_ok-mask-in-Bools.ensures
     ∙ same_range f g (c.first.result + part.from) part.from part.len (λ i lt.
-      let place : ℕ = c.first.result + part.from + i in
-      let at : place ≡ column.first + (part.from + i) = omega (arith, c.first.ensures) in
-      flag_slot c.args.comparison (is_valid kernel.validity.now place) (get_or kernel.values.now place false) c.args.other kernel.of_true kernel.of_false is.of_true is.of_false
-      ∙ ap (λ (value : Value). compared c.args.comparison value (Flag c.args.other))
-        (ap (λ (v : Option (List Bool)). if is_valid v place then Flag (get_or kernel.values.now place false) else Null) is.validity
-        ∙ ap (λ (l : List Bool). if is_valid cells.validity place then Flag (get_or l place false) else Null) is.values
-        ∙ ap (layout_slot (Bools cells)) at ∙ ap (λ (l : Layout). layout_slot l (column.first + (part.from + i))) c.in-Bools.ensures.value))
+    let place : ℕ = c.first.result + part.from + i in
+    let at : place ≡ column.first + (part.from + i) = omega (arith, c.first.ensures) in
+    flag_slot c.args.comparison (is_valid kernel.validity.now place) (get_or kernel.values.now place false) c.args.other kernel.of_true kernel.of_false is.of_true is.of_false
+    ∙ ap (λ (value : Value). compared c.args.comparison value (Flag c.args.other))
+    (ap (λ (v : Option (List Bool)). if is_valid v place then Flag (get_or kernel.values.now place false) else Null) is.validity
+    ∙ ap (λ (l : List Bool). if is_valid cells.validity place then Flag (get_or l place false) else Null) is.values
+    ∙ ap (layout_slot (Bools cells)) at ∙ ap (λ (l : Layout). layout_slot l (column.first + (part.from + i))) c.in-Bools.ensures.value))

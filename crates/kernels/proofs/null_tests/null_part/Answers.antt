@@ -20,7 +20,7 @@ returns-then-null_count-eq0 c =
     let column = part.column.now in
     c.in_ok-mask.ensures
     ∙ said_alike (λ (row : ℕ). nullness (slot_of column row)) False part.from part.len
-      (λ i lt. none_null (slot_of column) column.len (part.from + i) (sym c.null_count.ensures ∙ c.if-null_count-eq0.true) (omega (arith, c.requires, lt)))
+    (λ i lt. none_null (slot_of column) column.len (part.from + i) (sym c.null_count.ensures ∙ c.if-null_count-eq0.true) (omega (arith, c.requires, lt)))
 
 pub returns-in_ok-mask-in-Some : goal.returns-in_ok-mask-in-Some
 returns-in_ok-mask-in-Some c =
@@ -31,7 +31,7 @@ returns-in_ok-mask-in-Some c =
     let first = c.first-in-Some.result in
     c.in_ok-mask-in-Some.ensures
     ∙ same_range (null_truth kernel.validity.now) (λ (row : ℕ). nullness (slot_of column row)) (first + part.from) part.from part.len (λ i lt.
-      let place : ℕ = first + part.from + i in
-      let at : place ≡ column.first + (part.from + i) = omega (arith, c.first-in-Some.ensures) in
-      ap (λ (v : Option (List Bool)). null_truth v place) c.null_slots-kernel.ensures.validity
-      ∙ ap truth_from (sym (tells.nulls place) ∙ ap (λ (p : ℕ). is_null (layout_slot c.layout.result p)) at ∙ ap (λ (l : Layout). is_null (layout_slot l (column.first + (part.from + i)))) c.layout.ensures.value))
+    let place : ℕ = first + part.from + i in
+    let at : place ≡ column.first + (part.from + i) = omega (arith, c.first-in-Some.ensures) in
+    ap (λ (v : Option (List Bool)). null_truth v place) c.null_slots-kernel.ensures.validity
+    ∙ ap truth_from (sym (tells.nulls place) ∙ ap (λ (p : ℕ). is_null (layout_slot c.layout.result p)) at ∙ ap (λ (l : Layout). is_null (layout_slot l (column.first + (part.from + i)))) c.layout.ensures.value))

@@ -28,13 +28,13 @@ returns-in_ok-mask-in-Texts c =
     let g : ℕ → Truth = λ row. compared Equal (slot_of column row) (Text other) in
     c.in_ok-mask-in-Texts.ensures
     ∙ same_range f g (first + part.from) part.from part.len (λ i lt.
-      let place : ℕ = first + part.from + i in
-      let known : Bool = is_valid cells.validity place in
-      let at : place ≡ column.first + (part.from + i) = omega (arith, c.first-in-Texts.ensures) in
-      ap (λ (v : Option (List Bool)). where_known (is_valid v place) (is_text_at kernel.needle kernel.offsets.now kernel.bytes.now place)) is.validity
-      ∙ ap (λ (t : List ℕ). where_known known (is_text_at t kernel.offsets.now kernel.bytes.now place)) is.needle
-      ∙ ap (λ (o : List ℕ). where_known known (is_text_at other o kernel.bytes.now place)) is.offsets
-      ∙ ap (λ (b : List ℕ). where_known known (is_text_at other cells.offsets b place)) is.bytes
-      ∙ equal_slot known (cut_at cells.offsets cells.bytes place) other
-      ∙ ap (λ (value : Value). compared Equal value (Text other))
-        (ap (layout_slot (Texts cells)) at ∙ ap (λ (l : Layout). layout_slot l (column.first + (part.from + i))) c.in-Texts.ensures.value))
+    let place : ℕ = first + part.from + i in
+    let known : Bool = is_valid cells.validity place in
+    let at : place ≡ column.first + (part.from + i) = omega (arith, c.first-in-Texts.ensures) in
+    ap (λ (v : Option (List Bool)). where_known (is_valid v place) (is_text_at kernel.needle kernel.offsets.now kernel.bytes.now place)) is.validity
+    ∙ ap (λ (t : List ℕ). where_known known (is_text_at t kernel.offsets.now kernel.bytes.now place)) is.needle
+    ∙ ap (λ (o : List ℕ). where_known known (is_text_at other o kernel.bytes.now place)) is.offsets
+    ∙ ap (λ (b : List ℕ). where_known known (is_text_at other cells.offsets b place)) is.bytes
+    ∙ equal_slot known (cut_at cells.offsets cells.bytes place) other
+    ∙ ap (λ (value : Value). compared Equal value (Text other))
+    (ap (layout_slot (Texts cells)) at ∙ ap (λ (l : Layout). layout_slot l (column.first + (part.from + i))) c.in-Texts.ensures.value))

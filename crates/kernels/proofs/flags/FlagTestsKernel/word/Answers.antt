@@ -12,7 +12,7 @@ returns c = λ row lt.
     let passes : Bool = if flag then s.of_true else s.of_false in
     let known : Bool = is_valid s.validity.now (c.args.from + row) in
     ap (λ (b : Bool). by_bits b (bit c.valid_word.result row))
-      (c.chosen_bits.ensures row lt
-      ∙ ap (λ (b : Bool). if b then s.of_true else s.of_false) (ap (λ (w : ℕ). bit w row) c.word.ensures ∙ bit_of_taken s.values.now c.args.from row lt))
+    (c.chosen_bits.ensures row lt
+    ∙ ap (λ (b : Bool). if b then s.of_true else s.of_false) (ap (λ (w : ℕ). bit w row) c.word.ensures ∙ bit_of_taken s.values.now c.args.from row lt))
     ∙ ap (λ (b : Bool). by_bits passes b) (c.valid_word.ensures row lt)
     ∙ known_bits passes known

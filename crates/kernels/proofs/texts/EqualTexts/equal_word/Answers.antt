@@ -15,7 +15,7 @@ loop-left-preserved c =
     let some : 0 < left = omega (arith, c.loop-left-test.true) in
     let fits : left < 2 ^ 64 = omega (arith, c.loop-left.auto.left-fits) in
     one_more s.needle s.offsets.now s.bytes.now c.args.from left c.loop-left.equal (trailing_zeros w64 left) c.is_equal.result (lowest_place left some fits) (lowest_on left some fits)
-      c.is_equal.ensures c.loop-left.invariant
+    c.is_equal.ensures c.loop-left.invariant
 
 pub loop-left-smaller : goal.loop-left-smaller
 loop-left-smaller c =
