@@ -1,11 +1,20 @@
 //! Which slots are null.
 
-ghost use Rattle.std.specs.Prelude.{◌≡◌, ◌+◌, ℕ, IfOk, IfSome};
+ghost use Rattle.std.specs.Prelude.{◌≡◌, ◌≤◌, ◌<◌, ◌+◌, ℕ, IfOk, IfSome};
 ghost use Rattle.scan_base.specs.Comparison.{nullness};
+ghost use Rattle.arrays.specs.Layout.{IsLayout};
+ghost use Rattle.kernels.specs.Nulls.{TellsNulls, null_truth};
 ghost use Rattle.kernels.specs.Parts.{IsPart, said_of};
+ghost use Rattle.kernels.specs.Ranges.{validity_count};
 
+use crate::kernel::{Kernel, Slots, mask_by};
+use crate::longs::{is_valid, of_test, valid_word};
 use crate::mask::Mask;
 use crate::part::ColumnPart;
+use crate::word::Word;
+use arrays::{Cells, Layout};
+use bitmap::Bits;
+use scan_base::Truth;
 use std::alloc::{AllocError, Global};
 
 /// What `IS NULL` says of slots, where their validity bits tell.
@@ -17,6 +26,73 @@ pub(crate) fn null_part(alloc: Global, part: &ColumnPart<'_>) -> Result<Option<M
     requires { IsPart part.now }
     ensures { IfOk result (λ found. IfSome found (λ mask. mask ≡ said_of nullness part.now)) }
 {
-    let _ = (alloc, part.len);
-    Ok(None)
+    let column = part.column;
+    let count = column.first() + column.len();
+    if column.null_count() == 0 {
+        let mask = Mask::of(alloc, Truth::False, part.len)?;
+        return Ok(Some(mask));
+    }
+    match telling_bits(column.layout()) {
+        Some(validity) => {
+            let kernel = null_slots(validity, count);
+            let mask = mask_by(alloc, &kernel, column.first() + part.from, part.len)?;
+            Ok(Some(mask))
+        }
+        None => Ok(None),
+    }
+}
+
+// The validity bits of a layout, where they tell which slots are null: an index may lead to a null.
+fn telling_bits<'a>(layout: Layout<'a>) -> Option<&'a Option<Bits>>
+    requires { IsLayout layout }
+    ensures { IfSome result (λ validity. TellsNulls layout.entry validity.now) }
+{
+    match layout {
+        Layout::Integers(cells) => Some(cells.validity()),
+        Layout::Decimals(cells) => Some(cells.validity()),
+        Layout::Bools(cells) => Some(cells.validity()),
+        Layout::Texts(cells) => Some(cells.validity()),
+        Layout::Indices(_) => None,
+    }
+}
+
+// Whether each of `count` slots is null.
+#[derive(Clone, Copy, Drop)]
+struct NullSlots<'a> {
+    validity: &'a Option<Bits>,
+    count: usize,
+    ghost long: { count ≤ validity_count validity.now count },
+}
+
+fn null_slots<'a>(validity: &'a Option<Bits>, count: usize) -> NullSlots<'a>
+    requires { count ≤ validity_count validity.now count }
+    ensures validity { result.validity.now ≡ validity.now }
+    ensures count { result.count ≡ count }
+{
+    NullSlots { validity, count }
+}
+
+impl<'a> Slots for NullSlots<'a> {
+    ghost use Rattle.kernels.specs.Nulls.{null_truth};
+
+    ghost count = { λ s. s.count };
+
+    ghost truth = { λ s place. null_truth s.validity.now place };
+
+    fn truth(&self, place: usize) -> Truth {
+        let _count = self.count;
+        of_test(!is_valid(self.validity, place))
+    }
+}
+
+impl<'a> Kernel for NullSlots<'a> {
+    type Cell = Truth;
+
+    fn word(&self, from: usize) -> Word {
+        let _count = self.count;
+        Word {
+            truths: valid_word(self.validity, from) ^ u64::MAX,
+            knowns: u64::MAX,
+        }
+    }
 }

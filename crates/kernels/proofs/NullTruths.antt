@@ -1,0 +1,77 @@
+-- What IS NULL says of slots, by their validity bits, and how many of these there are.
+use Rattle.std.proofs.Common.{◌≡◌, ℕ, zero, suc, ◌+◌, ◌<◌, ◌≤◌, Bool, true, false, not, if◌then◌else◌, List, [], ◌∷◌, length, map, get_or, Option, Some, None, refl, sym, ap, ◌∙◌, arith}
+use Rattle.std.specs.List.{filter, range_with_len}
+use Rattle.std.specs.Int.RustNames.{bit_xor}
+use Rattle.std.proofs.lemmas.List.FromFn.{length-map-range_with_len, get_or-map-range_with_len}
+use Rattle.scan_base.specs.declared.truth.Truth.{Truth}
+use Rattle.scan_base.specs.declared.truth.Truth.TheVariants.{False}
+use Rattle.scan_base.specs.declared.value.Value.{Value}
+use Rattle.scan_base.specs.declared.value.Value.TheVariants.{Null}
+use Rattle.scan_base.specs.Truth.{truth_from}
+use Rattle.scan_base.specs.Value.{is_null}
+use Rattle.arrays.specs.Validity.{is_valid, where_valid, IsLong}
+use Rattle.kernels.specs.declared.word.Word.{Word}
+use Rattle.kernels.specs.Nulls.{null_truth}
+use Rattle.kernels.specs.Ranges.{validity_count}
+use Rattle.kernels.specs.Words.{bit, by_bits, row_in}
+use Rattle.kernels.proofs.Bits.{xor, xor_bit, xor_true, bit_of_all}
+
+-- ---- validity bits
+
+pub counted : (validity : Option (List Bool)) (len : ℕ) → IsLong validity len → len ≤ validity_count validity len
+counted None len long = omega arith
+counted (Some bits) len long = omega (arith, long)
+
+-- those of more slots are enough for fewer
+pub enough : (validity : Option (List Bool)) (len count : ℕ) → len ≤ validity_count validity len → count ≤ len → count ≤ validity_count validity count
+enough None len count long le = omega arith
+enough (Some bits) len count long le = omega (arith, long, le)
+
+-- so many bits are those of some number of slots
+pub bits_there : (validity : Option (List Bool)) (count place : ℕ) → count ≤ validity_count validity count → place < count →
+    (some : ℕ) × (place < some) × (validity_count validity some ≡ some)
+bits_there None count place long lt = (count, lt, refl)
+bits_there (Some bits) count place long lt = (length bits, omega (arith, long, lt), refl)
+
+pub word_there : (validity : Option (List Bool)) (count from : ℕ) → count ≤ validity_count validity count → from + 64 ≤ count →
+    (some : ℕ) × (from + 64 ≤ some) × (validity_count validity some ≡ some)
+word_there None count from long le = (count, le, refl)
+word_there (Some bits) count from long le = (length bits, omega (arith, long, le), refl)
+
+-- ---- nulls
+
+pub null_where : (validity : Option (List Bool)) (value : ℕ → Value) (place : ℕ) → is_null (value place) ≡ false →
+    is_null (where_valid validity value place) ≡ not (is_valid validity place)
+null_where validity value place some = by (is_valid validity place)
+  where
+    by : (b : Bool) → is_null (if b then value place else Null) ≡ not b
+    by true = some
+    by false = refl
+
+null_bits : (null : Bool) → by_bits null true ≡ truth_from null
+null_bits true = refl
+null_bits false = refl
+
+-- a word of the validity bits turned round
+pub null_rows : (validity : Option (List Bool)) (from word row : ℕ) → row < 64 → bit word row ≡ is_valid validity (from + row) →
+    row_in (record { truths = bit_xor word 18446744073709551615; knowns = 18446744073709551615 }) row ≡ null_truth validity (from + row)
+null_rows validity from word row lt is =
+    let valid : Bool = is_valid validity (from + row) in
+    ap (λ b. by_bits b (bit 18446744073709551615 row))
+    (xor_bit word 18446744073709551615 row ∙ ap (λ b. xor b (bit 18446744073709551615 row)) is ∙ ap (λ b. xor valid b) (bit_of_all row lt))
+    ∙ ap (λ b. by_bits (xor valid true) b) (bit_of_all row lt) ∙ ap (λ b. by_bits b true) (xor_true valid) ∙ null_bits (not valid)
+
+none_first : (b : Bool) (value : Value) (values : List Value) → length (if b then value ∷ values else values) ≡ 0 → (b ≡ false) × (length values ≡ 0)
+none_first true value values e = absurd (omega (arith, e))
+none_first false value values e = (refl, e)
+
+none_at : (values : List Value) (j : ℕ) → length (filter is_null values) ≡ 0 → j < length values → is_null (get_or values j Null) ≡ false
+none_at [] j none lt = absurd (omega (arith, lt))
+none_at (value ∷ values) zero none lt = (none_first (is_null value) value (filter is_null values) none).0
+none_at (value ∷ values) (suc j) none lt = none_at values j (none_first (is_null value) value (filter is_null values) none).1 (omega (arith, lt))
+
+-- where no slot is null, none at a place is
+pub none_null : (slot : ℕ → Value) (len place : ℕ) → length (filter is_null (map slot (range_with_len 0 len))) ≡ 0 → place < len → truth_from (is_null (slot place)) ≡ False
+none_null slot len place none lt =
+    ap (λ v. truth_from (is_null v)) (sym (get_or-map-range_with_len slot 0 len place place Null lt (omega arith)))
+    ∙ ap truth_from (none_at (map slot (range_with_len 0 len)) place none (omega (arith, lt, length-map-range_with_len slot 0 len)))
