@@ -1,4 +1,4 @@
--- Which slots are null, by their validity bits.
+-- Inside: which slots are null, by their validity bits.
 use Rattle.std.specs.Prelude.{◌≡◌, ◌≤◌, ℕ, Bool, not, List, Option}
 use Rattle.scan_base.specs.declared.truth.Truth.{Truth}
 use Rattle.scan_base.specs.Truth.{truth_from}
