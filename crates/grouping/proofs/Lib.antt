@@ -16,3 +16,4 @@ pub mod JoinedKeys
 pub mod JoinedTallies
 pub mod JoiningAll
 pub mod Merging
+pub mod Slotted

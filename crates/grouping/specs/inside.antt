@@ -6,3 +6,4 @@ pub mod Finishing
 pub mod Kept
 pub mod Merging
 pub mod Placing
+pub mod Slots

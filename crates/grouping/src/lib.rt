@@ -11,6 +11,8 @@ mod kept;
 mod key;
 pub mod laws;
 mod part;
+mod slots;
+mod sums;
 mod table;
 mod tally;
 
