@@ -4,6 +4,7 @@ pub mod Nulls
 pub mod Placed
 pub mod Runs
 pub mod Gathered
+pub mod GatheredMany
 pub mod TextCuts
 pub mod Slots
 pub mod Filled

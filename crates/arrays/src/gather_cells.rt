@@ -1,0 +1,210 @@
+//! Packed numbers and truth values of several columns at places, in buffers of their own.
+
+ghost use Rattle.std.specs.Prelude.{◌≡◌, ◌≤◌, ◌<◌, ◌+◌, ◌*◌, ℕ, All, IfOk, length, map, true};
+ghost use Rattle.arrow_schema.specs.declared.data_type.DataType.TheVariants as type;
+ghost use Rattle.byteorder.specs.Endian.{little_from};
+ghost use Rattle.arrays.specs.Number.{byte_width, element_at, number_from, signed_from};
+ghost use Rattle.arrays.specs.Column.{IsColumn};
+ghost use Rattle.arrays.specs.Typed.{IsOfType};
+ghost use Rattle.arrays.specs.Validity.{IsLong};
+ghost use Rattle.arrays.specs.inside.Filled.{flag_of, AreValidUnlessNull, FillSlots};
+ghost use Rattle.arrays.specs.inside.GatheredMany.{columns_of, values_at, AreThere};
+ghost use Rattle.arrays.specs.inside.GatheredMany.{HasNumbers, HaveNumbers, HaveRoom, HasCellsAt};
+
+use crate::cells::Cells;
+use crate::column::Column;
+use crate::filled::flag_of;
+use crate::gather_many::SlotPlaces;
+use crate::layout::Layout;
+use crate::numbers::are_bytes;
+use crate::slots::Values;
+use crate::validity::is_valid;
+use crate::written::byte_width;
+use arrow_schema::IntegerType;
+use bitmap::{Bits, BitsBuilder};
+use bytes::Bytes;
+use std::alloc::{AllocError, Global};
+
+const ZEROS: [u8; 16] = [0; 16];
+
+impl Column {
+    // The packed integers of the slots, from the first on.
+    fn packed_integers(&self, integer: IntegerType) -> &[u8]
+        requires { IsOfType (type.Integer integer) (self.now).layout }
+        ensures { HasNumbers (number_from integer) (byte_width integer) result.now self.now }
+    {
+        let _count = self.len();
+        match self.layout() {
+            Layout::Integers(cells) => &cells.values()[byte_width(integer) * self.first()..],
+            _ => &[],
+        }
+    }
+
+    // The packed decimals of the slots, from the first on.
+    fn packed_decimals(&self) -> &[u8]
+        requires { IsOfType type.Decimal128 (self.now).layout }
+        ensures { HasNumbers (signed_from 128) 16 result.now self.now }
+    {
+        let _count = self.len();
+        match self.layout() {
+            Layout::Decimals(cells) => &cells.values()[16 * self.first()..],
+            _ => &[],
+        }
+    }
+}
+
+impl<'a> SlotPlaces<'a> {
+    pub(crate) fn gather_integers(
+        &self,
+        alloc: Global,
+        integer: IntegerType,
+        validity: &Option<Bits>,
+    ) -> Result<Values, AllocError>
+        requires there { AreThere self.now }
+        requires typed { All (λ column. IsOfType (type.Integer integer) column.layout) (columns_of self.now) }
+        requires valid { AreValidUnlessNull validity.now (values_at self.now) }
+        ensures { IfOk result (λ kept. FillSlots kept (type.Integer integer) (values_at self.now)) }
+    {
+        let sources = self.packed_integers(alloc, integer)?;
+        let packed = self.gather_width(alloc, integer, sources.as_slice(), validity)?;
+        let packed = Bytes::from_vec(packed)?;
+        are_bytes(packed.as_slice());
+        Ok(Values::Integers(integer, packed))
+    }
+
+    pub(crate) fn gather_decimals(
+        &self,
+        alloc: Global,
+        validity: &Option<Bits>,
+    ) -> Result<Values, AllocError>
+        requires there { AreThere self.now }
+        requires typed { All (λ column. IsOfType type.Decimal128 column.layout) (columns_of self.now) }
+        requires valid { AreValidUnlessNull validity.now (values_at self.now) }
+        ensures { IfOk result (λ kept. FillSlots kept type.Decimal128 (values_at self.now)) }
+    {
+        let sources = self.packed_decimals(alloc)?;
+        let packed = self.gather_cells::<16>(alloc, sources.as_slice(), validity)?;
+        let packed = Bytes::from_vec(packed)?;
+        are_bytes(packed.as_slice());
+        Ok(Values::Decimals(packed))
+    }
+
+    // The packed integers of each column.
+    fn packed_integers(
+        &self,
+        alloc: Global,
+        integer: IntegerType,
+    ) -> Result<Vec<&'a [u8]>, AllocError>
+        requires { All (λ column. IsOfType (type.Integer integer) column.layout) (columns_of self.now) }
+        ensures { IfOk result (λ sources.
+            HaveNumbers (number_from integer) (byte_width integer) (map (λ source. source.now) sources.items)
+                (columns_of self.now) (length self.now.columns.now)) }
+    {
+        let mut sources = Vec::with_capacity(alloc, self.columns.len())?;
+        for column in self.columns {
+            sources.push(column.packed_integers(integer))?;
+        }
+        Ok(sources)
+    }
+
+    // The packed decimals of each column.
+    fn packed_decimals(&self, alloc: Global) -> Result<Vec<&'a [u8]>, AllocError>
+        requires { All (λ column. IsOfType type.Decimal128 column.layout) (columns_of self.now) }
+        ensures { IfOk result (λ sources.
+            HaveNumbers (signed_from 128) 16 (map (λ source. source.now) sources.items)
+                (columns_of self.now) (length self.now.columns.now)) }
+    {
+        let mut sources = Vec::with_capacity(alloc, self.columns.len())?;
+        for column in self.columns {
+            sources.push(column.packed_decimals())?;
+        }
+        Ok(sources)
+    }
+
+    // The packed integers of the slots.
+    fn gather_width(
+        &self,
+        alloc: Global,
+        integer: IntegerType,
+        sources: &[&[u8]],
+        validity: &Option<Bits>,
+    ) -> Result<Vec<u8>, AllocError>
+        requires room { HaveRoom (byte_width integer) (map (λ source. source.now) sources.now) self.now.places.now }
+        requires valid { IsLong validity.now (length self.now.places.now) }
+        ensures { IfOk result (λ packed. HasCellsAt (byte_width integer) packed.items (map (λ source. source.now) sources.now)
+            self.now.places.now validity.now (length self.now.places.now)) }
+    {
+        match integer {
+            IntegerType::Int8 | IntegerType::UInt8 => {
+                self.gather_cells::<1>(alloc, sources, validity)
+            }
+            IntegerType::Int16 | IntegerType::UInt16 => {
+                self.gather_cells::<2>(alloc, sources, validity)
+            }
+            IntegerType::Int32 | IntegerType::UInt32 => {
+                self.gather_cells::<4>(alloc, sources, validity)
+            }
+            IntegerType::Int64 | IntegerType::UInt64 => {
+                self.gather_cells::<8>(alloc, sources, validity)
+            }
+        }
+    }
+
+    // The packed numbers of the slots, of `WIDTH` bytes each, with zeros in place of those that are not valid.
+    fn gather_cells<const WIDTH: usize>(
+        &self,
+        alloc: Global,
+        sources: &[&[u8]],
+        validity: &Option<Bits>,
+    ) -> Result<Vec<u8>, AllocError>
+        requires width { WIDTH ≤ 16 }
+        requires room { HaveRoom WIDTH (map (λ source. source.now) sources.now) self.now.places.now }
+        requires valid { IsLong validity.now (length self.now.places.now) }
+        ensures { IfOk result (λ packed. HasCellsAt WIDTH packed.items (map (λ source. source.now) sources.now)
+            self.now.places.now validity.now (length self.now.places.now)) }
+    {
+        let mut packed = Vec::with_capacity(alloc, WIDTH.saturating_mul(self.places.len()))?;
+        for number in 0..self.places.len() {
+            let place = self.places[number];
+            let source = sources[place.column as usize];
+            let valid = is_valid(validity, number);
+            packed.extend_from_slice(cell::<WIDTH>(source, place.place as usize, valid))?;
+        }
+        Ok(packed)
+    }
+
+    pub(crate) fn gather_flags(&self, alloc: Global) -> Result<Values, AllocError>
+        requires there { AreThere self.now }
+        requires typed { All (λ column. IsOfType type.Bool column.layout) (columns_of self.now) }
+        requires stand { All IsColumn (columns_of self.now) }
+        ensures { IfOk result (λ kept. FillSlots kept type.Bool (values_at self.now)) }
+    {
+        Ok(Values::Bools(self.pack_flags(alloc)?))
+    }
+
+    // The packed flags of the slots, false where there is none.
+    fn pack_flags(&self, alloc: Global) -> Result<Bits, AllocError>
+        requires { AreThere self.now }
+        ensures { IfOk result (λ bits. bits ≡ map flag_of (values_at self.now)) }
+    {
+        let mut bits = BitsBuilder::with_capacity(alloc, self.places.len())?;
+        for number in 0..self.places.len() {
+            bits.push(flag_of(self.value(number)))?;
+        }
+        bits.into_bits()
+    }
+}
+
+// The bytes of a number, and zeros where it is not valid.
+fn cell<'a, const WIDTH: usize>(source: &'a [u8], place: usize, valid: bool) -> &'a [u8]
+    requires width { WIDTH ≤ 16 }
+    requires room { WIDTH * place + WIDTH ≤ length source.now }
+    ensures long { length result.now ≡ WIDTH }
+    ensures number { valid ≡ true → little_from 0 WIDTH result.now ≡ element_at WIDTH source.now place }
+{
+    if !valid {
+        return &ZEROS[..WIDTH];
+    }
+    let at = WIDTH * place;
+    &source[at..at + WIDTH]
+}
