@@ -1,7 +1,7 @@
 -- Slots of several columns that are gathered at places.
-use Rattle.std.proofs.Common.{◌≡◌, ◌≤◌, ◌<◌, ◌+◌, ◌-◌, ◌*◌, ℕ, zero, suc, ℤ, Bool, true, false, if◌then◌else◌, not, List, [], ◌∷◌, ◌++◌, All, length, map, take, drop, get_or, Option, None, Some, inl, inr, refl, sym, ap, ◌∙◌, subst, arith, length-append}
+use Rattle.std.proofs.Common.{◌≡◌, ◌≤◌, ◌<◌, ◌+◌, ◌-◌, ◌*◌, ℕ, zero, suc, ℤ, Bool, true, false, if◌then◌else◌, not, ◌||◌, nat_lt, List, [], ◌∷◌, ◌++◌, All, length, map, take, drop, get_or, Option, None, Some, inl, inr, refl, sym, ap, ◌∙◌, subst, arith, length-append}
 use Rattle.std.specs.List.{filter}
-use Rattle.std.proofs.lemmas.Bool.{cases_lt}
+use Rattle.std.proofs.lemmas.Bool.{cases_lt, lt-ltb}
 use Rattle.std.proofs.lemmas.List.{get_or-map, length-map, length-drop, get_or_append_left, get_or-append-add, take_all, take_more, map-append}
 use Rattle.std.proofs.lemmas.List.FromFn.{get_or-map-range_with_len, length-map-range_with_len}
 use Rattle.std.proofs.Math.Nat.{mul-le-mul_left}
@@ -18,15 +18,16 @@ use Rattle.arrays.specs.declared.layout.Layout.TheVariants as layout
 use Rattle.arrays.specs.declared.slots.Values.TheVariants as kind
 use Rattle.arrays.specs.declared.gather_many.SlotPlace.{SlotPlace}
 use Rattle.arrays.specs.Number.{AreBytes, byte_width, element_at, integer_at, decimal_at, number_from, signed_from}
-use Rattle.arrays.specs.Validity.{is_valid, where_valid}
+use Rattle.arrays.specs.Validity.{is_valid, where_valid, IsLong}
 use Rattle.arrays.specs.Integers.{IntegersAt, AreIntegers}
 use Rattle.arrays.specs.Decimals.{DecimalsAt, AreDecimals}
 use Rattle.arrays.specs.Nulls.{null_count}
 use Rattle.arrays.specs.Column.{ColumnAt, IsColumn, slot_of, values_of}
 use Rattle.arrays.specs.Typed.{IsOfType, IsValueOf}
+use Rattle.arrays.specs.Written.{text_bytes, texts_joined}
 use Rattle.arrays.specs.GatherMany.{value_in, IsPlaceIn}
 use Rattle.arrays.specs.inside.Filled.{flag_of, AreOfType, AreValidUnlessNull, FillSlots}
-use Rattle.arrays.specs.inside.GatheredMany.{place_at, HasNumbers, HaveNumbers, HaveRoom, HasCellsAt}
+use Rattle.arrays.specs.inside.GatheredMany.{place_at, cell_at, HasNumbers, HaveNumbers, HaveRoom, HasCellsAt}
 use Rattle.arrays.proofs.Gathered.{front, behind}
 use Rattle.arrays.proofs.FilledSlots.{differ, slot_filled}
 use Rattle.arrays.proofs.OfType.{of_type}
@@ -144,13 +145,13 @@ have_next column_now source_now number width sources new columns i part column l
 abbrev first_place : SlotPlace
 first_place = record { column = 0; place = 0 }
 
-pub room_there : (number : ℕ → ℤ) (width : ℕ) (sources : List (List ℕ)) (columns : List ColumnAt) (places : List SlotPlace) → HaveNumbers number width sources columns (length columns) →
-    All (IsPlaceIn columns) places → HaveRoom width sources places
-room_there number width sources columns places have there = record {
-  source = λ k low. omega (arith, have.long, (there k first_place low).column);
+pub room_there : (number : ℕ → ℤ) (width : ℕ) (sources : List (List ℕ)) (columns : List ColumnAt) (places : List SlotPlace) (count : ℕ) → length columns ≡ count →
+    HaveNumbers number width sources columns count → All (IsPlaceIn columns) places → HaveRoom width sources places
+room_there number width sources columns places count e have there = record {
+  source = λ k low. omega (arith, have.long, e, (there k first_place low).column);
   room = λ k low.
       let is = there k first_place low in
-      (have.each (place_at places k).column _ is.column).room (place_at places k).place is.slot;
+      (have.each (place_at places k).column _ (omega (arith, is.column, e))).room (place_at places k).place is.slot;
 }
 
 -- ---- cells at places
@@ -160,7 +161,7 @@ no_cells width packed sources places validity none = record { long = ap length n
 
 -- one cell more
 pub cells_more : (width : ℕ) (packed new part : List ℕ) (sources : List (List ℕ)) (places : List SlotPlace) (validity : Option (List Bool)) (i : ℕ) → new ≡ packed ++ part → length part ≡ width →
-    (is_valid validity i ≡ true → little_from 0 width part ≡ element_at width (get_or sources (place_at places i).column []) (place_at places i).place) →
+    (is_valid validity i ≡ true → little_from 0 width part ≡ cell_at width sources places i) →
     HasCellsAt width packed sources places validity i → HasCellsAt width new sources places validity (i + 1)
 unfolding element_at
 cells_more width packed new part sources places validity i e wide reads so_far =
@@ -181,7 +182,7 @@ cells_more width packed new part sources places validity i e wide reads so_far =
             ∙ ap (λ (n : ℕ). little_from n width (packed ++ part)) last
             ∙ behind width packed part
             ∙ reads (ap (is_valid validity) (sym here) ∙ valid)
-            ∙ ap (λ (n : ℕ). little_from (width * (place_at places n).place) width (get_or sources (place_at places n).column [])) (sym here)
+            ∙ ap (cell_at width sources places) (sym here)
       ];
     }
 
@@ -194,16 +195,16 @@ cell_reads width place values =
     ap (λ (n : ℕ). little_from 0 width (take n (drop (width * place) values))) count ∙ little_part (width * place) width width values (omega arith)
 
 -- the number of a slot that is not null
-pub number_at : (number : ℕ → ℤ) (width : ℕ) (packed : List ℕ) (sources : List (List ℕ)) (columns : List ColumnAt) (places : List SlotPlace) (validity : Option (List Bool)) →
-    HaveNumbers number width sources columns (length columns) → All (IsPlaceIn columns) places → AreValidUnlessNull validity (map (value_in columns) places) →
+pub number_at : (number : ℕ → ℤ) (width : ℕ) (packed : List ℕ) (sources : List (List ℕ)) (columns : List ColumnAt) (places : List SlotPlace) (validity : Option (List Bool)) (count : ℕ) → length columns ≡ count →
+    HaveNumbers number width sources columns count → All (IsPlaceIn columns) places → AreValidUnlessNull validity (map (value_in columns) places) →
     HasCellsAt width packed sources places validity (length places) →
     (k : ℕ) → k < length (map (value_in columns) places) → is_null (get_or (map (value_in columns) places) k Null) ≡ false →
     get_or (map (value_in columns) places) k Null ≡ Int (number (element_at width packed k))
-number_at number width packed sources columns places validity have there valid has k under some =
+number_at number width packed sources columns places validity count e have there valid has k under some =
     let low : k < length places = omega (arith, under, length-map places (value_in columns)) in
     let is = there k first_place low in
     let value = get_or-map (value_in columns) places k first_place Null low in
-    let held = (have.each (place_at places k).column _ is.column).numbers (place_at places k).place is.slot (ap is_null (sym value) ∙ some) in
+    let held = (have.each (place_at places k).column _ (omega (arith, is.column, e))).numbers (place_at places k).place is.slot (ap is_null (sym value) ∙ some) in
     value ∙ held ∙ ap (λ (bits : ℕ). Int (number bits)) (sym (has.each k low (valid.each k under ∙ ap not some)))
 
 pub integers_filled : (integer : IntegerType) (kept packed : List ℕ) (values : List Value) (count : ℕ) → kept ≡ packed → AreBytes kept → length packed ≡ byte_width integer * count → length values ≡ count →
@@ -244,12 +245,13 @@ values_typed data_type columns places count typed stand there e k under =
 -- where no slot of the columns is null, each is valid
 none_null : (xs : List Value) (k : ℕ) → length (filter is_null xs) ≡ 0 → k < length xs → is_null (get_or xs k Null) ≡ false
 none_null [] k none low = absurd (omega (arith, low))
-none_null (x ∷ xs) k none low = by (is_null x) refl k none low
-  where
-    by : (null : Bool) → is_null x ≡ null → (k : ℕ) → length (filter is_null (x ∷ xs)) ≡ 0 → k < length (x ∷ xs) → is_null (get_or (x ∷ xs) k Null) ≡ false
-    by true e k none low = let no : suc (length (filter is_null xs)) ≡ 0 = rw e at none in absurd (omega (arith, no))
-    by false e zero none low = e
-    by false e (suc k) none low = let less : length (filter is_null xs) ≡ 0 = rw e at none in none_null xs k less (omega (arith, low))
+none_null (Null ∷ xs) k none low = absurd (omega (arith, none))
+none_null (Flag flag ∷ xs) zero none low = refl
+none_null (Int number ∷ xs) zero none low = refl
+none_null (Text bytes ∷ xs) zero none low = refl
+none_null (Flag flag ∷ xs) (suc k) none low = none_null xs k none (omega (arith, low))
+none_null (Int number ∷ xs) (suc k) none low = none_null xs k none (omega (arith, low))
+none_null (Text bytes ∷ xs) (suc k) none low = none_null xs k none (omega (arith, low))
 
 pub all_valid : (columns : List ColumnAt) (places : List SlotPlace) → All (λ column. null_count column ≡ 0) columns → All (IsPlaceIn columns) places →
     AreValidUnlessNull None (map (value_in columns) places)
@@ -283,3 +285,43 @@ bits_valid values i bits new all e so_far =
       long = ap length is ∙ length-map values (λ value. not (is_null value));
       each = λ k low. ap (λ (xs : List Bool). get_or xs k false) is ∙ get_or-map (λ value. not (is_null value)) values k Null false low;
     }
+
+-- the validity bits are those of all places
+pub valid_long : (columns : List ColumnAt) (places : List SlotPlace) (validity : Option (List Bool)) → AreValidUnlessNull validity (map (value_in columns) places) → IsLong validity (length places)
+valid_long columns places validity valid = subst (IsLong validity) (length-map places (value_in columns)) valid.long
+
+-- where none of so many is null, and none was before
+pub none_counted : (nulls : Bool) (n : ℕ) → (nulls || nat_lt 0 n) ≡ false → (nulls ≡ false) × (n ≡ 0)
+none_counted true n e = differ true refl e
+none_counted false n e = elim (cases_lt 0 n) [ inl some ↦ differ (nat_lt 0 n) (lt-ltb 0 n some) e | inr none ↦ (refl, omega (arith, none)) ]
+
+-- a flag is the value
+flag_value : (value : Value) → is_null value ≡ false → IsValueOf type.Bool value → Flag (flag_of value) ≡ value
+flag_value Null some of = differ true refl some
+flag_value (Flag flag) some of = refl
+flag_value (Int number) some of = absurd of
+flag_value (Text bytes) some of = absurd of
+
+pub flags_filled : (bits : List Bool) (values : List Value) (count : ℕ) → bits ≡ map flag_of values → count ≡ length values → AreOfType type.Bool values count → FillSlots (kind.Bools bits) type.Bool values
+flags_filled bits values count e many of = λ validity valid.
+    let long : length bits ≡ length values = ap length e ∙ length-map values flag_of in
+    record {
+      stand = subst (IsLong validity) (sym long) valid.long;
+      count = long;
+      slots = λ k low. slot_filled validity (λ at. Flag (get_or bits at false)) k (get_or values k Null) (valid.each k low)
+          (λ some. ap Flag (ap (λ (all : List Bool). get_or all k false) e ∙ get_or-map flag_of values k Null false low)
+          ∙ flag_value (get_or values k Null) some (of k (omega (arith, many, low))));
+      typed = tt;
+    }
+
+-- where the texts of the first values leave less than the next one has, all have too many bytes
+pub past_values : (values : List Value) (i left : ℕ) → i < length values → left < length (text_bytes (get_or values i Null)) →
+    length (texts_joined (take i values)) + left < length (texts_joined values)
+past_values [] i left low less = absurd (omega (arith, low))
+past_values (value ∷ values) zero left low less =
+    let long = length-append (text_bytes value) (texts_joined values) in
+    omega (arith, long, less)
+past_values (value ∷ values) (suc i) left low less =
+    let long = length-append (text_bytes value) (texts_joined values) in
+    let before = length-append (text_bytes value) (texts_joined (take i values)) in
+    omega (arith, long, before, past_values values i left (omega (arith, low)) less)

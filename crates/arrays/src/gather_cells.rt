@@ -9,7 +9,7 @@ ghost use Rattle.arrays.specs.Typed.{IsOfType};
 ghost use Rattle.arrays.specs.Validity.{IsLong};
 ghost use Rattle.arrays.specs.inside.Filled.{flag_of, AreValidUnlessNull, FillSlots};
 ghost use Rattle.arrays.specs.inside.GatheredMany.{columns_of, values_at, AreThere};
-ghost use Rattle.arrays.specs.inside.GatheredMany.{HasNumbers, HaveNumbers, HaveRoom, HasCellsAt};
+ghost use Rattle.arrays.specs.inside.GatheredMany.{cell_at, HasNumbers, HaveNumbers, HaveRoom, HasCellsAt};
 
 use crate::cells::Cells;
 use crate::column::Column;
@@ -66,8 +66,8 @@ impl<'a> SlotPlaces<'a> {
         ensures { IfOk result (λ kept. FillSlots kept (type.Integer integer) (values_at self.now)) }
     {
         let sources = self.packed_integers(alloc, integer)?;
-        let packed = self.gather_width(alloc, integer, sources.as_slice(), validity)?;
-        let packed = Bytes::from_vec(packed)?;
+        let made = self.gather_width(alloc, integer, sources.as_slice(), validity)?;
+        let packed = Bytes::from_vec(made)?;
         are_bytes(packed.as_slice());
         Ok(Values::Integers(integer, packed))
     }
@@ -83,8 +83,8 @@ impl<'a> SlotPlaces<'a> {
         ensures { IfOk result (λ kept. FillSlots kept type.Decimal128 (values_at self.now)) }
     {
         let sources = self.packed_decimals(alloc)?;
-        let packed = self.gather_cells::<16>(alloc, sources.as_slice(), validity)?;
-        let packed = Bytes::from_vec(packed)?;
+        let made = self.gather_cells::<16>(alloc, sources.as_slice(), validity)?;
+        let packed = Bytes::from_vec(made)?;
         are_bytes(packed.as_slice());
         Ok(Values::Decimals(packed))
     }
@@ -98,7 +98,7 @@ impl<'a> SlotPlaces<'a> {
         requires { All (λ column. IsOfType (type.Integer integer) column.layout) (columns_of self.now) }
         ensures { IfOk result (λ sources.
             HaveNumbers (number_from integer) (byte_width integer) (map (λ source. source.now) sources.items)
-                (columns_of self.now) (length self.now.columns.now)) }
+            (columns_of self.now) (length self.now.columns.now)) }
     {
         let mut sources = Vec::with_capacity(alloc, self.columns.len())?;
         for column in self.columns {
@@ -112,7 +112,7 @@ impl<'a> SlotPlaces<'a> {
         requires { All (λ column. IsOfType type.Decimal128 column.layout) (columns_of self.now) }
         ensures { IfOk result (λ sources.
             HaveNumbers (signed_from 128) 16 (map (λ source. source.now) sources.items)
-                (columns_of self.now) (length self.now.columns.now)) }
+            (columns_of self.now) (length self.now.columns.now)) }
     {
         let mut sources = Vec::with_capacity(alloc, self.columns.len())?;
         for column in self.columns {
@@ -165,12 +165,28 @@ impl<'a> SlotPlaces<'a> {
     {
         let mut packed = Vec::with_capacity(alloc, WIDTH.saturating_mul(self.places.len()))?;
         for number in 0..self.places.len() {
-            let place = self.places[number];
-            let source = sources[place.column as usize];
             let valid = is_valid(validity, number);
-            packed.extend_from_slice(cell::<WIDTH>(source, place.place as usize, valid))?;
+            packed.extend_from_slice(self.cell::<WIDTH>(sources, number, valid))?;
         }
         Ok(packed)
+    }
+
+    // The bytes of a packed number, by the number of its slot, and zeros where it is not valid.
+    fn cell<'b, const WIDTH: usize>(
+        &self,
+        sources: &[&'b [u8]],
+        number: usize,
+        valid: bool,
+    ) -> &'b [u8]
+        requires width { WIDTH ≤ 16 }
+        requires room { HaveRoom WIDTH (map (λ source. source.now) sources.now) self.now.places.now }
+        requires number { number < length self.now.places.now }
+        ensures long { length result.now ≡ WIDTH }
+        ensures cell { valid ≡ true → little_from 0 WIDTH result.now
+            ≡ cell_at WIDTH (map (λ source. source.now) sources.now) self.now.places.now number }
+    {
+        let place = self.places[number];
+        cell::<WIDTH>(sources[place.column as usize], place.place as usize, valid)
     }
 
     pub(crate) fn gather_flags(&self, alloc: Global) -> Result<Values, AllocError>

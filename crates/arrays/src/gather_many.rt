@@ -1,8 +1,9 @@
 //! Slots of several columns at places, in buffers of their own.
 
-ghost use Rattle.std.specs.Prelude.{◌≡◌, ◌<◌, ◌^◌, All, IfOk, false, length, map, nat_le, not};
+ghost use Rattle.std.specs.Prelude.{◌≡◌, ◌<◌, ◌^◌, All, IfOk, false, get_or, length, map, nat_le, not};
 ghost use Rattle.arrow_schema.specs.Answer.{answer_type};
 ghost use Rattle.scan_base.specs.Value.{is_null};
+ghost use Rattle.scan_base.specs.declared.value.Value.TheVariants.{Null};
 ghost use Rattle.arrays.specs.Column.{slot_of, values_of, IsColumn};
 ghost use Rattle.arrays.specs.Nulls.{null_count};
 ghost use Rattle.arrays.specs.Typed.{IsOfType};
@@ -104,10 +105,19 @@ impl<'a> SlotPlaces<'a> {
         }
         let mut bits = BitsBuilder::with_capacity(alloc, self.places.len())?;
         for number in 0..self.places.len() {
-            let place = self.places[number];
-            bits.push(self.columns[place.column as usize].has_value(place.place as usize))?;
+            bits.push(self.has_value(number))?;
         }
         Ok(Some(bits.into_bits()?))
+    }
+
+    // Whether a slot, by its number, is not null.
+    fn has_value(&self, number: usize) -> bool
+        requires there { AreThere self.now }
+        requires number { number < length self.now.places.now }
+        ensures { result ≡ not (is_null (get_or (values_at self.now) number Null)) }
+    {
+        let place = self.places[number];
+        self.columns[place.column as usize].has_value(place.place as usize)
     }
 
     // Whether a slot of the columns is null.

@@ -118,7 +118,12 @@ impl<'a> Sides<'a> {
     }
 
     // A column of the joined rows.
-    fn column(&self, alloc: Global, number: usize, placed: &Placed<'_>) -> Result<Column, AllocError>
+    fn column(
+        &self,
+        alloc: Global,
+        number: usize,
+        placed: &Placed<'_>,
+    ) -> Result<Column, AllocError>
         requires sides { AreSides self.now }
         requires placed { ArePlaced placed.now }
         requires there { ArePairs self.now placed.now.pairs.now }

@@ -42,8 +42,12 @@ pub record HaveRoom (width : ℕ) (sources : List (List ℕ)) (places : List Slo
   pub room : (k : ℕ) → k < length places →
       width * (place_at places k).place + width ≤ length (get_or sources (place_at places k).column [])
 
+-- the packed number of a slot, by the number of its place
+abbrev pub cell_at : ℕ → List (List ℕ) → List SlotPlace → ℕ → ℕ
+cell_at width sources places k = element_at width (get_or sources (place_at places k).column []) (place_at places k).place
+
 -- `packed` has the numbers at the first `count` places, where they are valid
 pub record HasCellsAt (width : ℕ) (packed : List ℕ) (sources : List (List ℕ)) (places : List SlotPlace) (validity : Option (List Bool)) (count : ℕ) : Type 0 where
   pub long : length packed ≡ width * count
   pub each : (k : ℕ) → k < count → is_valid validity k ≡ true →
-      element_at width packed k ≡ element_at width (get_or sources (place_at places k).column []) (place_at places k).place
+      element_at width packed k ≡ cell_at width sources places k
