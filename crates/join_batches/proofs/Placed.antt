@@ -1,6 +1,6 @@
 -- The places of cells, and the columns in which they are.
 use Rattle.std.proofs.Common.{◌≡◌, ◌≤◌, ◌<◌, ℕ, zero, suc, ◌+◌, Bool, true, false, if◌then◌else◌, nat_lt, nat_le, List, [], ◌∷◌, ◌++◌, All, length, map, get_or, take, refl, sym, ap, ◌∙◌, arith, length-append, subst, inl, inr}
-use Rattle.std.proofs.lemmas.Bool.{lt-ltb, le-ltb, leb-true}
+use Rattle.std.proofs.lemmas.Bool.{lt-ltb, le-ltb, leb-true, cases_lt}
 use Rattle.std.proofs.lemmas.List.{take_more, get_or-map, length-map, get_or_append_left, get_or-append-add, map-append, take_all, take-map}
 use Rattle.std.proofs.lemmas.List.Elements.{All-nil, All-cons, All-map, All-weaker}
 use Rattle.arrow_schema.specs.declared.data_type.DataType.{DataType}
@@ -19,7 +19,7 @@ use Rattle.hash_join.specs.declared.pair.Pair.{Pair}
 use Rattle.join_batches.specs.declared.sides.Sides.{Sides}
 use Rattle.join_batches.specs.Rows.{batch_at, pair_row, IsPair}
 use Rattle.join_batches.specs.Sides.{types_of, width_of, AreSides, ArePairs, AreSources, left_place, right_place, place_for, rows_at, cells_of, FitsIn}
-use Rattle.join_batches.proofs.Cells.{left_cell, right_cell}
+use Rattle.join_batches.proofs.Cells.{left_cell, right_cell, same_at}
 use Rattle.join_batches.proofs.Plain.{none}
 use Rattle.join_batches.proofs.Typed.{typed_long, typed_at}
 
@@ -102,6 +102,33 @@ right_have sides number columns are h e long =
           ∙ ap (λ (c : ColumnAt). slot_of c pair.row) (found pair.batch is.batch)
           ∙ sym (right_cell rights left pair (length sides.left_types.now) number none (typed_long sides.left_types.now left.columns are.left) (omega (arith, h, wide)));
     }
+
+-- one batch more
+pub sources_more : {T : Type 0} (now : T → ColumnAt) (number : ℕ) (rights : List BatchAt) (i : ℕ) (batch : BatchAt) (sources new : List T) (column : T) → i < length rights →
+    batch ≡ get_or rights i batch → new ≡ sources ++ column ∷ [] → now column ≡ of_number number batch → map now sources ≡ map (of_number number) (take i rights) →
+    map now new ≡ map (of_number number) (take (i + 1) rights)
+sources_more now number rights i batch sources new column low is e here so_far =
+    ap (map now) e ∙ map-append now sources (column ∷ []) ∙ ap (λ (some : List ColumnAt). some ++ now column ∷ []) so_far
+    ∙ ap (λ (c : ColumnAt). map (of_number number) (take i rights) ++ c ∷ []) (here ∙ ap (of_number number) is)
+    ∙ sym (ap (map (of_number number)) (take_more rights i batch low) ∙ map-append (of_number number) (take i rights) (get_or rights i batch ∷ []))
+
+pub long_more : (number : ℕ) (rights : List BatchAt) (i : ℕ) (batch : BatchAt) → i < length rights → batch ≡ get_or rights i batch → (of_number number batch).len ≡ batch.rows →
+    ((k : ℕ) (other : BatchAt) → k < i → (of_number number (get_or rights k other)).len ≡ (get_or rights k other).rows) →
+    (k : ℕ) (other : BatchAt) → k < i + 1 → (of_number number (get_or rights k other)).len ≡ (get_or rights k other).rows
+long_more number rights i batch low is here so_far = λ k other under. elim (cases_lt k i) [
+  | inl before ↦ so_far k other before
+  | inr later ↦
+      let at : i ≡ k = omega (arith, later, under) in
+      let found : batch ≡ get_or rights i other = is ∙ same_at rights i batch other low in
+      subst (λ (n : ℕ). (of_number number (get_or rights n other)).len ≡ (get_or rights n other).rows) at
+      (subst (λ (b : BatchAt). (of_number number b).len ≡ b.rows) found here)
+]
+
+-- the column of a number, as the code has it
+pub column_is : (batch : BatchAt) (number : ℕ) (columns : List ColumnAt) (column : ColumnAt) → columns ≡ batch.columns → number < length columns → column ≡ get_or columns number column →
+    column ≡ of_number number batch
+column_is batch number columns column e low is =
+    is ∙ same_at columns number column none low ∙ ap (λ (some : List ColumnAt). get_or some number none) e
 
 -- the values at the places are the cells
 pub values_are_cells : (sides : Sides) (number : ℕ) (columns : List ColumnAt) (pairs : List Pair) → AreSources sides number columns → ArePairs sides pairs →

@@ -183,28 +183,32 @@ impl<'a> Sides<'a> {
     }
 
     // A column of the left batch.
+    #[tactic(auto, using(crate::proofs::Typed::typed_long))]
     fn left_source(&self, alloc: Global, number: usize) -> Result<Vec<&'a Column>, AllocError>
         requires sides { AreSides self.now }
         requires number { number < length self.now.left_types.now }
         ensures { IfOk result (λ columns. AreSources self.now number (map (λ column. column.now) columns.items)) }
     {
-        let mut columns = Vec::new(alloc);
-        columns.push(&self.left.columns()[number])?;
-        Ok(columns)
+        let column = &self.left.columns()[number];
+        let mut sources = Vec::new(alloc);
+        sources.push(column)?;
+        Ok(sources)
     }
 
     // The columns of a number of all right batches.
+    #[tactic(auto, using(crate::proofs::Typed::typed_long))]
     fn right_sources(&self, alloc: Global, number: usize) -> Result<Vec<&'a Column>, AllocError>
         requires sides { AreSides self.now }
         requires number { number < length self.now.right_types.now }
         ensures { IfOk result (λ columns.
             AreSources self.now (length self.now.left_types.now + number) (map (λ column. column.now) columns.items)) }
     {
-        let mut columns = Vec::with_capacity(alloc, self.rights.len())?;
+        let mut sources = Vec::with_capacity(alloc, self.rights.len())?;
         for batch in self.rights {
-            columns.push(&batch.columns()[number])?;
+            let column = &batch.columns()[number];
+            sources.push(column)?;
         }
-        Ok(columns)
+        Ok(sources)
     }
 
     // The places of the slots of a column of the joined rows.
