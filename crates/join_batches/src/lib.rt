@@ -2,7 +2,6 @@
 #![tactic(auto)]
 
 pub mod joiner;
-mod placed;
 mod sides;
 
 pub use crate::joiner::{JoinSide, JoinSides, Joiner};

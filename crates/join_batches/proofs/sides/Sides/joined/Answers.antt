@@ -13,10 +13,10 @@ new-requires c =
     let count = c.in_ok-count.count in
     subst (λ (rows : ℕ). AreLong rows c.in_ok-columns.columns.items)
     (length-map (take count pairs) (pair_row sides.rights.now sides.left.now) ∙ length-take-le count pairs c.in_ok-count.ensures.within)
-    (all_long (rows_at sides (take count pairs)) 0 (width_of sides) c.in_ok-columns.columns.items (rw c.first.ensures.pairs at c.in_ok-columns.ensures.cells))
+    (all_long (rows_at sides (take count pairs)) 0 (width_of sides) c.in_ok-columns.columns.items c.in_ok-columns.ensures.cells)
 
 pub returns : goal.returns
 returns c =
     rw c.new.ensures
     (batch_made c.args.self.now c.args.pairs.now c.in_ok-count.count c.in_ok-columns.columns.items c.requires.sides c.requires.there c.in_ok-count.ensures
-    (rw c.first.ensures.pairs at c.in_ok-columns.ensures.cells) c.in_ok-columns.ensures.typed)
+    c.in_ok-columns.ensures.cells c.in_ok-columns.ensures.typed)
