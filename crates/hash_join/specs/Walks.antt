@@ -23,7 +23,7 @@ pairs_past walk from = map (pair_at walk) (filter (joins_at walk) (drop from wal
 
 -- the bucket of the left row
 abbrev pub bucket_left : Walk → Option ℕ
-bucket_left walk = bucket_of walk.rights.now.buckets.begun walk.rights.now.buckets.mask (key_of walk.left)
+bucket_left walk = bucket_of walk.rights.now.buckets (key_of walk.left)
 
 -- whether a right row stands in the left row's chain
 abbrev pub in_chain : Walk → ℕ → Bool

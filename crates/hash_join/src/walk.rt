@@ -2,6 +2,7 @@
 
 ghost use Rattle.std.specs.Prelude.{◌≡◌, ◌≤◌, ◌<◌, ◌++◌, [], ◌∷◌, IfOk, OnOk, Some, if◌then◌else◌, length, true};
 ghost use Rattle.hash_join.specs.Rights.{place_at};
+ghost use Rattle.hash_join.specs.Hashes.{last_of};
 ghost use Rattle.hash_join.specs.Chains.{Leads};
 ghost use Rattle.hash_join.specs.Walks.{bucket_left, in_chain, joins_at, pair_at, pairs_past, IsWalk};
 
@@ -44,7 +45,7 @@ impl<'a> Walk<'a> {
     fn first_in(&self, bucket: usize, from: usize) -> usize
         requires whole { IsWalk self.now }
         requires bucket { bucket_left self.now ≡ Some bucket }
-        requires within { bucket ≤ (self.now).rights.now.buckets.mask }
+        requires within { bucket ≤ last_of (self.now).rights.now.buckets }
         ensures { Leads (in_chain self.now) (length (self.now).rights.now.places.items) from result }
     {
         if from == 0 {
