@@ -1,6 +1,6 @@
 -- Left rows that a look at the bit of their bucket tells of join nothing.
-use Rattle.std.proofs.Common.{◌≡◌, ◌≤◌, ◌<◌, ◌+◌, ◌-ℤ◌, ◌^◌, ◌&&◌, ℕ, zero, suc, ℤ, pos, negsuc, Bool, true, false, if◌then◌else◌, List, [], ◌∷◌, length, map, get_or, nat_lt, Option, Some, None, refl, sym, ap, ◌∙◌, subst, arith, inl, inr, ◌⊎◌}
-use Rattle.std.specs.Int.{w64, FitsUnsigned}
+use Rattle.std.proofs.Common.{◌≡◌, ◌≤◌, ◌<◌, ◌+◌, ◌-ℤ◌, ◌^◌, ◌&&◌, ℕ, zero, suc, ℤ, pos, negsuc, FitsSigned, Bool, true, false, if◌then◌else◌, List, [], ◌∷◌, length, map, get_or, nat_lt, Option, Some, None, refl, sym, ap, ◌∙◌, subst, arith, inl, inr, ◌⊎◌}
+use Rattle.std.specs.Int.{w64, w128, FitsUnsigned}
 use Rattle.std.specs.List.{list_any}
 use Rattle.std.proofs.Math.Facts.{yes_ltb, yes_leb}
 use Rattle.std.proofs.lemmas.List.{length-map, get_or-map}
@@ -42,6 +42,14 @@ no_index (pos index) count small wide = elim (cases_lt index (2 ^ 64)) [
 ]
 no_index (negsuc index) count small wide = refl
 
+-- nor is one that is none of 128 bits
+pub no_difference : (index : ℤ) (count : ℕ) → count < 2 ^ 64 → (FitsSigned w128 index → ⊥) → count ≡ index_among index count
+no_difference (pos index) count small wide = elim (cases_lt index (2 ^ 127)) [
+  | inl low ↦ absurd (wide (record { sfits = omega (arith, low) }))
+  | inr high ↦ omega (arith, high, small)
+]
+no_difference (negsuc index) count small wide = refl
+
 pub place_within : (span : Span) (number : ℤ) → place_among span number ≤ span.count
 place_within span number = index_within (number -ℤ span.least) span.count
 
@@ -71,7 +79,7 @@ module _ (search : Search) (keys : NumberKeys) (is : IsSearch search) (are : Are
       key_is ∙ ap (λ (valid : Bool). (if valid then Int (integer_at keys.cells.integer keys.cells.values (keys.first + row)) else Null) ∷ []) e in
       let bucket : bucket_left (walk_at search row) ≡ None = ap (λ b. bucket_of b (key_of (walk_at search row).left)) are.parted ∙ ap (dense_bucket keys.span) null in
       none_joins (walk_at search row) (can_walk search is row h) from (length search.rights.now.places.items) bucket (omega arith)
-      ∙ past_all (walk_at search row)
+      ∙ past_all (walk_at search row) (can_walk search is row h)
 
   -- the bucket of the row has no right row
   other_row : is_valid keys.cells.validity (keys.first + row) ≡ true →

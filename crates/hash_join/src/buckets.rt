@@ -1,6 +1,6 @@
 //! How keys are parted into buckets.
 
-ghost use Rattle.std.specs.Prelude.{◌≡◌, ◌≤◌, IfSome};
+ghost use Rattle.std.specs.Prelude.{◌≡◌, ◌≤◌, ◌-ℤ◌, IfSome};
 ghost use Rattle.hash_join.specs.Hashes.{last_of, bucket_of, hashed_bucket, dense_bucket, number_of, place_of, place_among, index_among};
 ghost use Rattle.hash_join.specs.KeyRows.{key_of, IsKeyRow};
 
@@ -94,10 +94,18 @@ impl Span {
         ensures place { result ≡ place_among self.now number }
         ensures within { result ≤ self.now.count }
     {
-        match number.checked_sub(i128::from(self.least)) {
-            None => self.count,
-            Some(index) => index_among(index, self.count),
-        }
+        place_from(number, i128::from(self.least), self.count)
+    }
+}
+
+// The place of a number among so many from the least on; behind the last of them where it is none of them.
+fn place_from(number: i128, least: i128, count: usize) -> usize
+    ensures place { result ≡ index_among (number -ℤ least) count }
+    ensures within { result ≤ count }
+{
+    match number.checked_sub(least) {
+        None => count,
+        Some(index) => index_among(index, count),
     }
 }
 

@@ -1,6 +1,6 @@
 //! How close together the numbers lie that are keys.
 
-ghost use Rattle.std.specs.Prelude.{◌≤◌, ◌<◌, ◌^◌, All, IfSome, IsTrue, length, nat_lt};
+ghost use Rattle.std.specs.Prelude.{◌≡◌, ◌≤◌, ◌<◌, ◌^◌, All, IfSome, IsTrue, length, nat_lt};
 ghost use Rattle.std.specs.List.{list_all};
 ghost use Rattle.scan_base.specs.Limits.{most_rows};
 ghost use Rattle.arrays.specs.Batch.{BatchAt};
@@ -68,10 +68,19 @@ impl Span {
         }
         let mut ends = Ends::none();
         for batch in batches {
-            ends = ends.with(ends_of(&batch.columns()[key[0]])?);
+            ends = ends.with(ends_of(key_column(batch, key))?);
         }
         ends.span(MOST_NUMBERS_A_ROW * rows + MORE_NUMBERS)
     }
+}
+
+// The column that is the first part of the key.
+fn key_column<'a>(batch: &'a Batch, key: &[usize]) -> &'a Column
+    requires there { IsTrue (list_all (λ column. nat_lt column (length batch.now.columns)) key.now) }
+    requires some { 0 < length key.now }
+{
+    let columns = batch.columns();
+    &columns[key[0]]
 }
 
 // The ends of the numbers of a column, without nulls: none where it has no integers.
