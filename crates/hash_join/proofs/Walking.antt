@@ -14,7 +14,7 @@ use Rattle.hash_join.specs.KeyRows.{key_of}
 use Rattle.hash_join.specs.Rights.{place_at, key_at, bucket_at}
 use Rattle.hash_join.specs.Hashes.{last_of}
 use Rattle.hash_join.specs.Chains.{stands, Leads}
-use Rattle.hash_join.specs.Walks.{joins_at, pair_at, pairs_past, bucket_left, in_chain, IsWalk, Follows}
+use Rattle.hash_join.specs.Walks.{joins_at, pair_at, pairs_past, bucket_left, in_chain, IsWalk, JoinsChain, Follows}
 use Rattle.hash_join.proofs.EqualKeys.{two_buckets, standing}
 
 -- items that do not pass are left out
@@ -140,3 +140,13 @@ module _ (walk : Walk) (is : IsWalk walk) where
       (λ row h l within. misses row (lead.none row (omega arith) (omega (arith, within, past)))) in
       let l : count ≤ from + count = omega arith in
       ap (map (pair_at walk)) (all_miss ∙ ap (filter (joins_at walk)) (drop_of_length-le walk.rights.now.places.items l))
+
+  -- one row of a chain all of whose rows join
+  pub next_taken : (row most : ℕ) (made new whole : List Pair) (pair : Pair) → JoinsChain walk → row < length walk.rights.now.places.items → length made < most →
+      new ≡ made ++ pair ∷ [] → pair ≡ pair_at walk (place_at walk.rights.now row) → Follows walk row made whole most →
+      Follows walk (get_or walk.chains.now.links.items row 0) new whole most
+  next_taken row most made new whole pair all lt few e at had =
+      let joins = all row lt (had.there lt) in
+      let one : pair_of_row row ≡ pair ∷ [] = ap (λ (b : Bool). if b then pair_at walk (place_at walk.rights.now row) ∷ [] else []) joins ∙ ap (λ (p : Pair). p ∷ []) (sym at) in
+      subst (λ (some : List Pair). Follows walk (get_or walk.chains.now.links.items row 0) some whole most) (ap (λ (some : List Pair). made ++ some) one ∙ sym e)
+      (next_follows row most made whole lt few had)

@@ -1,5 +1,5 @@
 -- Inside: the bucket of a key. It is a function of the key's values, so that equal keys have one; nothing else matters of it.
-use Rattle.std.specs.Prelude.{◌-ℤ◌, ℕ, ℤ, pos, negsuc, List, [], ◌∷◌, Option, Some, None, if◌then◌else◌, bit_and, min}
+use Rattle.std.specs.Prelude.{◌-ℤ◌, ℕ, ℤ, pos, negsuc, List, [], ◌∷◌, Option, Some, None, if◌then◌else◌, bit_and, min, nat_lt}
 use Rattle.std.specs.List.{fold, list_any}
 use Rattle.std.specs.Option.{option_map}
 use Rattle.std.specs.Hash as written
@@ -42,6 +42,10 @@ index_among (negsuc index) count = count
 -- the bucket of a number: its own where it is one of the span's, and else the last
 abbrev pub place_among : Span → ℤ → ℕ
 place_among span number = index_among (number -ℤ span.least) span.count
+
+-- the bucket of a number, where no other key has it
+abbrev pub own_place : Span → ℤ → Option ℕ
+own_place span number = if nat_lt (place_among span number) span.count then Some (place_among span number) else None
 
 abbrev pub place_of : Span → Option ℤ → ℕ
 place_of span (Some number) = place_among span number

@@ -1,5 +1,5 @@
 -- Inside: a left batch whose rows look for their partners.
-use Rattle.std.specs.Prelude.{◌≡◌, ◌≤◌, ◌<◌, ◌+◌, ◌^◌, ◌++◌, ℕ, Bool, false, List, [], IsTrue, length, map, get_or, nat_lt}
+use Rattle.std.specs.Prelude.{◌≡◌, ◌≤◌, ◌<◌, ◌+◌, ◌^◌, ◌++◌, ℕ, Bool, false, List, [], Option, Some, IsTrue, length, map, get_or, nat_lt}
 use Rattle.std.specs.List.{list_all}
 use Rattle.hash_join.specs.declared.build.Probe.{Probe}
 use Rattle.hash_join.specs.declared.pair.Pair.{Pair}
@@ -11,7 +11,8 @@ use Rattle.hash_join.specs.declared.walk.Walk.{Walk}
 use Rattle.hash_join.specs.declared.buckets.Buckets.TheVariants as parted
 use Rattle.arrays.specs.declared.layout.Layout.TheVariants as layout
 use Rattle.arrays.specs.Column.{ColumnAt}
-use Rattle.hash_join.specs.Walks.{pairs_past}
+use Rattle.hash_join.specs.Hashes.{last_of}
+use Rattle.hash_join.specs.Walks.{pairs_past, bucket_left, JoinsChain}
 use Rattle.hash_join.specs.Pairs.{BuildAt, pairs_ahead}
 use Rattle.hash_join.specs.Rights.{AreRights}
 use Rattle.hash_join.specs.Chains.{HasLinked}
@@ -44,6 +45,15 @@ walk_at search row = record { rights = search.rights; chains = search.chains; le
 -- a left row that does not pass joins nothing
 abbrev pub Passes : Search → (ℕ → Bool) → Type 0
 Passes search passes = (row from : ℕ) → row < search.left.batch.now.rows → passes row ≡ false → pairs_past (walk_at search row) from ≡ []
+
+-- a left row that is told a bucket has it, and joins each right row of it
+pub record IsTold (search : Search) (row told : ℕ) : Type 0 where
+  pub own : bucket_left (walk_at search row) ≡ Some told
+  pub within : told ≤ last_of search.rights.now.buckets
+  pub all : JoinsChain (walk_at search row)
+
+abbrev pub Tells : Search → (ℕ → Option ℕ) → Type 0
+Tells search bucket = (row told : ℕ) → row < search.left.batch.now.rows → bucket row ≡ Some told → IsTold search row told
 
 -- the left key is one column of integers, and the right keys are parted by their number
 pub record AreKeysOf (search : Search) (keys : NumberKeys) : Type 0 where

@@ -1,7 +1,7 @@
 //! How keys are parted into buckets.
 
 ghost use Rattle.std.specs.Prelude.{◌≡◌, ◌≤◌, ◌-ℤ◌, IfSome};
-ghost use Rattle.hash_join.specs.Hashes.{last_of, bucket_of, hashed_bucket, dense_bucket, number_of, place_of, place_among, index_among};
+ghost use Rattle.hash_join.specs.Hashes.{last_of, bucket_of, hashed_bucket, dense_bucket, number_of, place_of, place_among, own_place, index_among};
 ghost use Rattle.hash_join.specs.KeyRows.{key_of, IsKeyRow};
 
 use crate::key_row::KeyRow;
@@ -95,6 +95,18 @@ impl Span {
         ensures within { result ≤ self.now.count }
     {
         place_from(number, i128::from(self.least), self.count)
+    }
+
+    // The bucket of a number, where no other key has it.
+    pub(crate) fn own_place(&self, number: i128) -> Option<usize>
+        ensures { result ≡ own_place self.now number }
+    {
+        let place = self.place(number);
+        if place < self.count {
+            Some(place)
+        } else {
+            None
+        }
     }
 }
 

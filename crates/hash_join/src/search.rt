@@ -3,7 +3,7 @@
 ghost use Rattle.std.specs.Prelude.{◌≡◌, ◌≤◌, ◌<◌, ◌++◌, [], IfOk, length};
 ghost use Rattle.hash_join.specs.declared.buckets.Buckets.TheVariants as parted;
 ghost use Rattle.hash_join.specs.Walks.{pairs_past};
-ghost use Rattle.hash_join.specs.Searches.{ahead_of, walk_at, AreKeysOf, IsSearch, Passes};
+ghost use Rattle.hash_join.specs.Searches.{ahead_of, walk_at, AreKeysOf, IsSearch, Passes, Tells};
 
 use crate::buckets::{Buckets, Span};
 use crate::build::{LeftSide, Probe};
@@ -172,6 +172,7 @@ impl<'a> Search<'a> {
         requires whole { IsSearch self.now }
         requires all { (self.now).left.batch.now.rows ≤ S.count sieve.now }
         requires sound { Passes self.now (S.passes sieve.now) }
+        requires told { Tells self.now (S.bucket sieve.now) }
         requires few { length pairs.old.items ≤ most }
         ensures given { IfOk result (λ stop. pairs.new.items ++ ahead_of self.now stop ≡ pairs.old.items ++ ahead_of self.now probe.now) }
         ensures few { IfOk result (λ _. length pairs.new.items ≤ most) }
@@ -208,6 +209,7 @@ impl<'a> Search<'a> {
         requires row { probe.now.left < (self.now).left.batch.now.rows }
         requires all { (self.now).left.batch.now.rows ≤ S.count sieve.now }
         requires sound { Passes self.now (S.passes sieve.now) }
+        requires told { Tells self.now (S.bucket sieve.now) }
         requires few { length pairs.old.items ≤ most }
         ensures given { IfOk result (λ stop. pairs.new.items ++ pairs_past (walk_at self.now probe.now.left) stop
             ≡ pairs.old.items ++ pairs_past (walk_at self.now probe.now.left) probe.now.from) }
@@ -226,6 +228,9 @@ impl<'a> Search<'a> {
                 row: probe.left,
             },
         };
-        walk.push_pairs(probe.from, most, pairs)
+        match sieve.bucket(probe.left) {
+            None => walk.push_pairs(probe.from, most, pairs),
+            Some(bucket) => walk.push_chain(bucket, probe.from, most, pairs),
+        }
     }
 }
