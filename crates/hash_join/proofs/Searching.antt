@@ -7,10 +7,9 @@ use Rattle.std.proofs.lemmas.Bool.Decides.{eqb_tells}
 use Rattle.hash_join.specs.declared.build.Probe.{Probe}
 use Rattle.hash_join.specs.declared.pair.Pair.{Pair}
 use Rattle.hash_join.specs.declared.search.Search.{Search}
-use Rattle.hash_join.specs.declared.walk.Walk.{Walk}
 use Rattle.hash_join.specs.Pairs.{pairs_of}
 use Rattle.hash_join.specs.Walks.{joins_at, pair_at, pairs_past, IsWalk}
-use Rattle.hash_join.specs.Searches.{build_of, ahead_of, IsSearch, Searches}
+use Rattle.hash_join.specs.Searches.{build_of, ahead_of, walk_at, IsSearch, Searches}
 
 module _ (pairs : ℕ → ℕ → List Pair) where
   -- rows after the left one look from the first right row on
@@ -39,10 +38,6 @@ module _ (pairs : ℕ → ℕ → List Pair) where
       let here : (left == left) ≡ true = eq-eqb left left refl in
       rw (e, here) (ap (λ rest. pairs left from ++ rest)
       (later (rows - (left + 1)) (left + 1) left from (omega arith) ∙ sym (anew (rows - (left + 1)) (left + 1) (left + 1))))
-
--- a left row of the batch
-abbrev pub walk_at : Search → ℕ → Walk
-walk_at search row = record { rights = search.rights; chains = search.chains; left = record { batch = search.left.batch; key = search.left.key; row = row } }
 
 -- a place that is looked from
 abbrev pub probe_at : ℕ → ℕ → Probe

@@ -1,6 +1,6 @@
--- Inside: the hash of a key. It is a function of the key's values, so that equal keys have one; nothing else matters of it.
-use Rattle.std.specs.Prelude.{ℕ, List, [], ◌∷◌, Option, Some, None, if◌then◌else◌, bit_and}
-use Rattle.std.specs.List.{fold}
+-- Inside: the bucket of a key. It is a function of the key's values, so that equal keys have one; nothing else matters of it.
+use Rattle.std.specs.Prelude.{◌-ℤ◌, ℕ, ℤ, pos, negsuc, List, [], ◌∷◌, Option, Some, None, if◌then◌else◌, bit_and, min, nat_lt}
+use Rattle.std.specs.List.{fold, list_any}
 use Rattle.std.specs.Option.{option_map}
 use Rattle.std.specs.Hash as written
 use Rattle.std.specs.Hash.DefaultHasher as sip
@@ -8,6 +8,10 @@ use Rattle.std.specs.declared.hash.DefaultHasher.{DefaultHasher}
 use Rattle.scan_base.specs.declared.value.Value.{Value}
 use Rattle.scan_base.specs.declared.value.Value.TheVariants.{Null, Bool, Int, Text}
 use Rattle.scan_base.specs.Value.{is_null}
+use Rattle.hash_join.specs.declared.buckets.Hashing.{Hashing}
+use Rattle.hash_join.specs.declared.buckets.Span.{Span}
+use Rattle.hash_join.specs.declared.buckets.Buckets.{Buckets}
+use Rattle.hash_join.specs.declared.buckets.Buckets.TheVariants as parted
 
 -- a hasher that was fed a value
 abbrev pub fed : DefaultHasher → Value → DefaultHasher
@@ -21,6 +25,42 @@ abbrev pub hash_of : DefaultHasher → List Value → Option ℕ
 hash_of hasher [] = Some (sip.finish hasher)
 hash_of hasher (value ∷ values) = if is_null value then None else hash_of (fed hasher value) values
 
--- the bucket of a key: the last bits of its hash
-abbrev pub bucket_of : DefaultHasher → ℕ → List Value → Option ℕ
-bucket_of begun mask key = option_map (λ hash. bit_and hash mask) (hash_of begun key)
+-- the bucket of a key by its hash: the last bits of it
+abbrev pub hashed_bucket : Hashing → List Value → Option ℕ
+hashed_bucket hashing key = option_map (λ hash. bit_and hash hashing.mask) (hash_of hashing.begun key)
+
+-- the number that is the key; none where it has several parts, or is no number
+abbrev pub number_of : List Value → Option ℤ
+number_of (Int number ∷ []) = Some number
+number_of _ = None
+
+-- the place of a number, counted from the first of so many; behind the last of them where it is none of them
+abbrev pub index_among : ℤ → ℕ → ℕ
+index_among (pos index) count = min index count
+index_among (negsuc index) count = count
+
+-- the bucket of a number: its own where it is one of the span's, and else the last
+abbrev pub place_among : Span → ℤ → ℕ
+place_among span number = index_among (number -ℤ span.least) span.count
+
+-- the bucket of a number, where no other key has it
+abbrev pub own_place : Span → ℤ → Option ℕ
+own_place span number = if nat_lt (place_among span number) span.count then Some (place_among span number) else None
+
+abbrev pub place_of : Span → Option ℤ → ℕ
+place_of span (Some number) = place_among span number
+place_of span None = span.count
+
+-- the bucket of a key by its number; none where a part of it is null
+abbrev pub dense_bucket : Span → List Value → Option ℕ
+dense_bucket span key = if list_any is_null key then None else Some (place_of span (number_of key))
+
+-- the bucket of a key; none where a part of it is null
+abbrev pub bucket_of : Buckets → List Value → Option ℕ
+bucket_of (parted.Hashed hashing) key = hashed_bucket hashing key
+bucket_of (parted.Dense span) key = dense_bucket span key
+
+-- the last bucket
+abbrev pub last_of : Buckets → ℕ
+last_of (parted.Hashed hashing) = hashing.mask
+last_of (parted.Dense span) = span.count

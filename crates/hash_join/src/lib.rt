@@ -1,12 +1,16 @@
 //! Joins of batches by equal keys: pairs of rows in the order of nested loops.
 #![tactic(auto)]
 
+mod buckets;
 pub mod build;
 mod chains;
+mod key_element;
 mod key_row;
 pub mod pair;
 mod rights;
 mod search;
+mod sieve;
+mod spans;
 mod walk;
 
 pub use crate::build::{Build, LeftSide, Probe};
