@@ -19,8 +19,8 @@ use Rattle.arrays.specs.declared.slots.Values.TheVariants as kind
 use Rattle.arrays.specs.declared.gather_many.SlotPlace.{SlotPlace}
 use Rattle.arrays.specs.Number.{AreBytes, byte_width, element_at, integer_at, decimal_at, number_from, signed_from}
 use Rattle.arrays.specs.Validity.{is_valid, where_valid, IsLong}
-use Rattle.arrays.specs.Integers.{IntegersAt, AreIntegers}
-use Rattle.arrays.specs.Decimals.{DecimalsAt, AreDecimals}
+use Rattle.arrays.specs.Integers.{IntegersAt}
+use Rattle.arrays.specs.Decimals.{DecimalsAt}
 use Rattle.arrays.specs.Nulls.{null_count}
 use Rattle.arrays.specs.Column.{ColumnAt, IsColumn, slot_of, values_of}
 use Rattle.arrays.specs.Typed.{IsOfType, IsValueOf}

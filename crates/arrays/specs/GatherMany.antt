@@ -1,5 +1,5 @@
 -- Slots of several columns at places.
-use Rattle.std.specs.Prelude.{◌<◌, ℕ, List, None, [], length, map, get_or}
+use Rattle.std.specs.Prelude.{◌<◌, ℕ, List, None, [], length, get_or}
 use Rattle.scan_base.specs.declared.value.Value.{Value}
 use Rattle.arrays.specs.declared.layout.Layout.TheVariants as layout
 use Rattle.arrays.specs.declared.gather_many.SlotPlace.{SlotPlace}

@@ -1,7 +1,7 @@
 -- Inside: slots of several columns that are gathered at places.
 use Rattle.std.specs.Prelude.{◌≡◌, ◌≤◌, ◌<◌, ◌*◌, ◌+◌, ℕ, ℤ, Bool, true, false, List, [], All, length, map, get_or, Option}
 use Rattle.scan_base.specs.declared.value.Value.{Value}
-use Rattle.scan_base.specs.declared.value.Value.TheVariants.{Null, Int}
+use Rattle.scan_base.specs.declared.value.Value.TheVariants.{Int}
 use Rattle.scan_base.specs.Value.{is_null}
 use Rattle.arrays.specs.declared.gather_many.SlotPlace.{SlotPlace}
 use Rattle.arrays.specs.declared.gather_many.SlotPlaces.{SlotPlaces}
