@@ -1,5 +1,5 @@
 -- Left rows that a look at the bit of their bucket tells of join nothing.
-use Rattle.std.proofs.Common.{◌≡◌, ◌≤◌, ◌<◌, ◌+◌, ◌-ℤ◌, ◌^◌, ◌&&◌, ℕ, zero, suc, ℤ, pos, negsuc, FitsSigned, Bool, true, false, if◌then◌else◌, List, [], ◌∷◌, length, map, get_or, nat_lt, Option, Some, None, refl, sym, ap, ◌∙◌, subst, arith, inl, inr, ◌⊎◌}
+use Rattle.std.proofs.Common.{◌≡◌, ◌≤◌, ◌<◌, ◌+◌, ◌-ℤ◌, ◌^◌, ◌&&◌, ℕ, ℤ, pos, negsuc, FitsSigned, Bool, true, false, if◌then◌else◌, List, [], ◌∷◌, length, get_or, nat_lt, Option, Some, None, refl, sym, ap, ◌∙◌, arith, inl, inr, ◌⊎◌}
 use Rattle.std.specs.Int.{w64, w128, FitsUnsigned}
 use Rattle.std.specs.List.{list_any}
 use Rattle.std.specs.Ordering.{is_eq}
@@ -18,15 +18,12 @@ use Rattle.scan_base.specs.Value.{is_null}
 use Rattle.scan_base.specs.Predicate.{cell_in}
 use Rattle.arrays.specs.Batch.{row_of}
 use Rattle.arrays.specs.Column.{ColumnAt, slot_of}
-use Rattle.arrays.specs.Integers.{IntegersAt}
 use Rattle.arrays.specs.Number.{integer_at}
 use Rattle.arrays.specs.Validity.{is_valid, where_valid}
 use Rattle.arrays.specs.declared.layout.Layout.TheVariants as layout
 use Rattle.hash_join.specs.declared.buckets.Span.{Span}
-use Rattle.hash_join.specs.declared.buckets.Buckets.TheVariants as parted
 use Rattle.hash_join.specs.declared.search.Search.{Search}
 use Rattle.hash_join.specs.declared.search.NumberKeys.{NumberKeys}
-use Rattle.hash_join.specs.declared.walk.Walk.{Walk}
 use Rattle.hash_join.specs.Pairs.{keys_join}
 use Rattle.hash_join.specs.Hashes.{number_of, place_among, place_of, dense_bucket, bucket_of, last_of, index_among, own_place}
 use Rattle.hash_join.specs.KeyRows.{key_of}
@@ -102,6 +99,7 @@ key_told span key told e less = by (list_any is_null key) (number_of key) refl e
     number_tells (Flag flag ∷ second ∷ rest) number e = cc
     number_tells (Text text ∷ second ∷ rest) number e = cc
     number_tells (Int found ∷ second ∷ rest) number e = cc
+
     by : (null : Bool) (found : Option ℤ) → number_of key ≡ found → (if null then None else Some (place_of span found)) ≡ Some told →
         (number : ℤ) × (key ≡ Int number ∷ []) × (place_among span number ≡ told)
     by true found is e = cc

@@ -92,6 +92,7 @@ impl<'a, E: KeyElement> Sieve for NumberRows<'a, E> {
         if !is_known(self.cells.validity(), place) {
             return None;
         }
-        self.span.own_place(E::number_at(self.cells.values(), place))
+        self.span
+            .own_place(E::number_at(self.cells.values(), place))
     }
 }

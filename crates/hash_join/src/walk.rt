@@ -109,7 +109,12 @@ impl<'a> Walk<'a> {
     }
 
     // Adds the pairs with the rows of the chain from one of them on, all of which join, until there are `most`.
-    fn take_chain(&self, first: usize, most: usize, pairs: &mut Vec<Pair>) -> Result<usize, AllocError>
+    fn take_chain(
+        &self,
+        first: usize,
+        most: usize,
+        pairs: &mut Vec<Pair>,
+    ) -> Result<usize, AllocError>
         requires whole { IsWalk self.now }
         requires all { JoinsChain self.now }
         requires there { first < length (self.now).rights.now.places.items → in_chain self.now first ≡ true }
