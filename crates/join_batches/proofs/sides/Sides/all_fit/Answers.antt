@@ -1,5 +1,5 @@
 use Rattle.std.proofs.Common.{map}
-use Rattle.join_batches.proofs.Placed.{places_there, counted_short}
+use Rattle.join_batches.proofs.Sources.{places_there, counted_short}
 use Rattle.join_batches.proofs.sides.Sides.all_fit.Goals as goal
 
 pub texts_fit_many-requires : goal.texts_fit_many-requires

@@ -5,7 +5,7 @@ use Rattle.arrays.specs.GatherMany.{value_in}
 use Rattle.arrays.specs.Written.{texts_joined}
 use Rattle.join_batches.specs.Rows.{pair_row}
 use Rattle.join_batches.specs.Sides.{place_for}
-use Rattle.join_batches.proofs.Placed.{places_there, values_are_cells}
+use Rattle.join_batches.proofs.Sources.{places_there, values_are_cells}
 use Rattle.join_batches.proofs.sides.Sides.column.Goals as goal
 
 pub gather_many-requires-clause-typed : goal.gather_many-requires-clause-typed

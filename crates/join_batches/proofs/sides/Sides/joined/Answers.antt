@@ -20,3 +20,6 @@ returns c =
     rw c.new.ensures
     (batch_made c.args.self.now c.args.pairs.now c.in_ok-count.count c.in_ok-columns.columns.items c.requires.sides c.requires.there c.in_ok-count.ensures
     (rw c.first.ensures.pairs at c.in_ok-columns.ensures.cells) c.in_ok-columns.ensures.typed)
+
+pub how_many_fit-requires-clause-placed : goal.how_many_fit-requires-clause-placed
+how_many_fit-requires-clause-placed c = record { lefts = c.as_slice.ensures.value ∙ c.in_ok-lefts.ensures; rights = c.as_slice-2.ensures.value ∙ c.in_ok-rights.ensures }

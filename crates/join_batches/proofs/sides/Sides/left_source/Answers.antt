@@ -1,4 +1,4 @@
-use Rattle.join_batches.proofs.Placed.{left_has}
+use Rattle.join_batches.proofs.Sources.{left_has}
 use Rattle.join_batches.proofs.sides.Sides.left_source.Goals as goal
 
 pub returns : goal.returns

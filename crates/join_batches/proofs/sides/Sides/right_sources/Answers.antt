@@ -2,7 +2,7 @@ use Rattle.std.proofs.Common.{◌<◌, ◌≡◌, ap, length, map, sym, arith, �
 use Rattle.std.proofs.lemmas.List.{take_all}
 use Rattle.arrays.specs.Batch.{BatchAt}
 use Rattle.arrays.specs.Column.{ColumnAt}
-use Rattle.join_batches.proofs.Placed.{of_number, column_is, long_more, right_have, sources_more}
+use Rattle.join_batches.proofs.Sources.{of_number, column_is, long_more, right_have, sources_more}
 use Rattle.join_batches.proofs.Typed.{typed_long}
 use Rattle.join_batches.proofs.sides.Sides.right_sources.Goals as goal
 

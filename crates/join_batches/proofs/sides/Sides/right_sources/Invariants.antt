@@ -1,6 +1,6 @@
 use Rattle.std.proofs.Common.{◌≡◌, ◌<◌, ℕ, map, take, get_or}
 use Rattle.arrays.specs.Batch.{BatchAt}
-use Rattle.join_batches.proofs.Placed.{of_number}
+use Rattle.join_batches.proofs.Sources.{of_number}
 use Rattle.join_batches.proofs.sides.Sides.right_sources.Given as goal
 
 -- the columns so far, each as long as its batch
