@@ -94,6 +94,14 @@ not_small code most wide = elim (cases_lt code most) [
   | inr high ↦ high
 ]
 
+-- no lane has a code that is too large
+pub no_lane : (most code : ℕ) (lanes : List ℕ) → Each1 (λ (lane : ℕ). lane < most) lanes → most ≤ code → 0 ≡ mask_l (map (λ lane. lane == code) lanes)
+no_lane most code [] below large = refl
+no_lane most code (lane ∷ lanes) below large =
+    let rest = no_lane most code lanes below.1 large in
+    let not_this : (lane == code) ≡ false = ne_eqb lane code (λ same. absurd (omega (arith, below.0, large, same))) in
+    rw not_this (omega (arith, rest))
+
 -- tests of a part below those of the parts that stand in a word
 pub part_more : (p : ℕ → Bool) (at step above n m : ℕ) (word part : ℕ) → at + step ≡ above → step + n ≡ m →
     word ≡ mask_l (tests p above n) → part ≡ mask_l (tests p at step) → word * 2 ^ step + part ≡ mask_l (tests p at m)

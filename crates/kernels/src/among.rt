@@ -1,13 +1,13 @@
 //! Packed numbers among others.
 
-ghost use Rattle.std.specs.Prelude.{◌≡◌, ◌==◌, ◌≤◌, ◌<◌, ◌+◌, ◌*◌, ℕ, length};
+ghost use Rattle.std.specs.Prelude.{◌≡◌, ◌≤◌, ◌<◌, ◌+◌, ◌*◌, ℕ, length};
 ghost use Rattle.arrays.specs.Number.{byte_width};
 ghost use Rattle.arrays.specs.Validity.{is_valid};
 ghost use Rattle.kernels.specs.Codes.{code_at, is_among};
 ghost use Rattle.kernels.specs.Ranges.{validity_count};
 ghost use Rattle.kernels.specs.Words.{bit};
 
-use crate::codes::{code_at, word_with_code};
+use crate::codes::{code_at, word_among};
 use crate::kernel::{Kernel, Slots};
 use crate::longs::{is_valid, of_test, valid_word};
 use crate::word::Word;
@@ -54,13 +54,13 @@ impl<'a> Packed<'a> {
         code_at(self.integer, self.values, place)
     }
 
-    // Which of the 64 numbers from `from` on have a code.
-    fn word_with_code(&self, from: usize, code: u64) -> u64
+    // Which of the 64 numbers from `from` on have one of some codes.
+    fn word_among(&self, from: usize, codes: &[u64]) -> u64
         requires { from + 64 ≤ self.now.count }
-        ensures { (row : ℕ) → row < 64 → bit result row ≡ (code_at self.now.integer self.now.values.now (from + row) == code) }
+        ensures { (row : ℕ) → row < 64 → bit result row ≡ is_among codes.now (code_at self.now.integer self.now.values.now (from + row)) }
     {
         let _count = self.count;
-        word_with_code(self.integer, self.values, from, code)
+        word_among(self.integer, self.values, from, codes)
     }
 }
 
@@ -93,7 +93,7 @@ impl<'a> Kernel for Among<'a> {
 
     fn word(&self, from: usize) -> Word {
         Word {
-            truths: among_word(&self.numbers, self.codes, from),
+            truths: self.numbers.word_among(from, self.codes),
             knowns: self.numbers.valid_word(from),
         }
     }
@@ -104,16 +104,4 @@ fn contains(codes: &[u64], code: u64) -> bool
     ensures { result ≡ is_among codes.now code }
 {
     codes.contains(&code)
-}
-
-// Which of the 64 numbers from `from` on have one of some codes.
-fn among_word(numbers: &Packed<'_>, codes: &[u64], from: usize) -> u64
-    requires { from + 64 ≤ numbers.now.count }
-    ensures { (row : ℕ) → row < 64 → bit result row ≡ is_among codes.now (code_at numbers.now.integer numbers.now.values.now (from + row)) }
-{
-    let mut word = 0u64;
-    for code in codes {
-        word = word | numbers.word_with_code(from, *code);
-    }
-    word
 }

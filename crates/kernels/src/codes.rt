@@ -1,10 +1,10 @@
 //! Packed numbers by their codes: what their bits are as numbers without a sign.
 
-ghost use Rattle.std.specs.Prelude.{◌≡◌, ◌==◌, ◌≤◌, ◌<◌, ◌≤ℤ◌, ◌<ℤ◌, ◌+◌, ◌-◌, ◌*◌, ◌^◌, ℕ, pos, negsuc, suc, nat_lt, if◌then◌else◌, length};
+ghost use Rattle.std.specs.Prelude.{◌≡◌, ◌==◌, ◌≤◌, ◌<◌, ◌≤ℤ◌, ◌<ℤ◌, ◌+◌, ◌-◌, ◌*◌, ◌^◌, ℕ, pos, negsuc, suc, nat_lt, if◌then◌else◌, length, map};
 ghost use Rattle.std.specs.Ordering.{int_cmp, is_eq};
 ghost use Rattle.arrow_schema.specs.DataType.{bit_width};
 ghost use Rattle.arrays.specs.Number.{byte_width, element_at, number_from};
-ghost use Rattle.kernels.specs.Codes.{code_at, is_code};
+ghost use Rattle.kernels.specs.Codes.{code_at, is_among, is_code};
 ghost use Rattle.kernels.specs.Tests.{tests};
 ghost use Rattle.kernels.specs.Words.{bit};
 ghost use Rattle.std.specs.Simd.Lanes.{mask_l};
@@ -71,15 +71,38 @@ pub(crate) fn code_at(integer: IntegerType, values: &[u8], place: usize) -> u64
     }
 }
 
-/// Which of the 64 packed numbers from `from` on have a code.
-pub(crate) fn word_with_code(integer: IntegerType, values: &[u8], from: usize, code: u64) -> u64
+/// Which of the 64 packed numbers from `from` on have one of some codes.
+pub(crate) fn word_among(integer: IntegerType, values: &[u8], from: usize, codes: &[u64]) -> u64
+    requires { byte_width integer * (from + 64) ≤ length values.now }
+    ensures { (row : ℕ) → row < 64 → bit result row ≡ is_among codes.now (code_at integer values.now (from + row)) }
+{
+    match integer {
+        IntegerType::Int32 | IntegerType::UInt32 => word_of_ints(values, from, codes),
+        _ => code_by_code(integer, values, from, codes),
+    }
+}
+
+// The same, one code after another.
+fn code_by_code(integer: IntegerType, values: &[u8], from: usize, codes: &[u64]) -> u64
+    requires { byte_width integer * (from + 64) ≤ length values.now }
+    ensures { (row : ℕ) → row < 64 → bit result row ≡ is_among codes.now (code_at integer values.now (from + row)) }
+{
+    let mut word = 0u64;
+    for code in codes {
+        word = word | word_with_code(integer, values, from, *code);
+    }
+    word
+}
+
+// Which of the 64 packed numbers from `from` on have a code.
+fn word_with_code(integer: IntegerType, values: &[u8], from: usize, code: u64) -> u64
     requires { byte_width integer * (from + 64) ≤ length values.now }
     ensures { (row : ℕ) → row < 64 → bit result row ≡ (code_at integer values.now (from + row) == code) }
 {
     match integer {
         IntegerType::Int8 | IntegerType::UInt8 => word_of_bytes(values, from, code),
         IntegerType::Int16 | IntegerType::UInt16 => word_of_shorts(values, from, code),
-        IntegerType::Int32 | IntegerType::UInt32 => word_of_ints(values, from, code),
+        IntegerType::Int32 | IntegerType::UInt32 => word_of_ints(values, from, &[code]),
         IntegerType::Int64 | IntegerType::UInt64 => word_of_longs(values, from, code),
     }
 }
@@ -133,34 +156,50 @@ fn shorts_with_code(values: &[u8], from: usize, code: u16) -> u64
     lanes.simd_eq(u16x32::splat(code)).to_bitmask()
 }
 
-// The same of numbers of four bytes.
-fn word_of_ints(values: &[u8], from: usize, code: u64) -> u64
+// The same of numbers of four bytes, and of some codes.
+fn word_of_ints(values: &[u8], from: usize, codes: &[u64]) -> u64
     requires { 4 * (from + 64) ≤ length values.now }
-    ensures { (row : ℕ) → row < 64 → bit result row ≡ (element_at 4 values.now (from + row) == code) }
+    ensures { (row : ℕ) → row < 64 → bit result row ≡ is_among codes.now (element_at 4 values.now (from + row)) }
 {
-    match u32::try_from(code) {
-        Ok(code) => joined_ints(values, from, code),
-        Err(_) => 0,
-    }
+    joined_ints(values, from, codes)
 }
 
-fn joined_ints(values: &[u8], from: usize, code: u32) -> u64
+fn joined_ints(values: &[u8], from: usize, codes: &[u64]) -> u64
     requires { 4 * (from + 64) ≤ length values.now }
-    ensures { result ≡ mask_l (tests (λ place. element_at 4 values.now place == code) from 64) }
+    ensures { result ≡ mask_l (tests (λ place. is_among codes.now (element_at 4 values.now place)) from 64) }
 {
     let mut word = 0u64;
     for k in 0..4usize {
-        word = word * 65536 + ints_with_code(values, from + 16 * (3 - k), code);
+        word = word * 65536 + ints_among(values, from + 16 * (3 - k), codes);
     }
     word
 }
 
-fn ints_with_code(values: &[u8], from: usize, code: u32) -> u64
+fn ints_among(values: &[u8], from: usize, codes: &[u64]) -> u64
     requires { 4 * (from + 16) ≤ length values.now }
-    ensures { result ≡ mask_l (tests (λ place. element_at 4 values.now place == code) from 16) }
+    ensures { result ≡ mask_l (tests (λ place. is_among codes.now (element_at 4 values.now place)) from 16) }
 {
     let lanes = u32x16::from_le_bytes(u8x64::from_slice(&values[4 * from..4 * from + 64]));
-    lanes.simd_eq(u32x16::splat(code)).to_bitmask()
+    lanes_among(lanes, codes)
+}
+
+fn lanes_among(lanes: u32x16, codes: &[u64]) -> u64
+    ensures { result ≡ mask_l (map (is_among codes.now) lanes) }
+{
+    let mut word = 0u64;
+    for code in codes {
+        word = word | lanes_with_code(lanes, *code);
+    }
+    word
+}
+
+fn lanes_with_code(lanes: u32x16, code: u64) -> u64
+    ensures { result ≡ mask_l (map (λ lane. lane == code) lanes) }
+{
+    match u32::try_from(code) {
+        Ok(code) => lanes.simd_eq(u32x16::splat(code)).to_bitmask(),
+        Err(_) => 0,
+    }
 }
 
 // The same of numbers of eight bytes.

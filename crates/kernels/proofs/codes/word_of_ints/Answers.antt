@@ -1,18 +1,11 @@
-use Rattle.std.proofs.Common.{◌==◌, ◌^◌, ◌+◌, ℕ, sym, ap, ◌∙◌, arith}
+use Rattle.std.proofs.Common.{◌+◌, ℕ, ap, ◌∙◌}
 use Rattle.arrays.specs.Number.{element_at}
+use Rattle.kernels.specs.Codes.{is_among}
 use Rattle.kernels.specs.Words.{bit}
-use Rattle.kernels.proofs.Bits.{bit_of_none, bit_of_tests}
-use Rattle.kernels.proofs.CodeLanes.{too_large, not_small}
+use Rattle.kernels.proofs.Bits.{bit_of_tests}
 use Rattle.kernels.proofs.codes.word_of_ints.Goals as goal
 
-pub returns-in-Ok : goal.returns-in-Ok
-returns-in-Ok c row lt =
-    let values = c.args.values.now in
+pub returns : goal.returns
+returns c row lt =
     ap (λ (w : ℕ). bit w row) c.joined_ints.ensures
-    ∙ bit_of_tests (λ (place : ℕ). element_at 4 values place == c.in-Ok.code) c.args.from 64 row lt
-    ∙ ap (λ (n : ℕ). element_at 4 values (c.args.from + row) == n) c.in-Ok.ensures.1
-
-pub returns-in-Err : goal.returns-in-Err
-returns-in-Err c row lt =
-    bit_of_none row
-    ∙ sym (too_large 4 (c.args.from + row) c.args.code c.args.values.now (λ k. omega (arith, c.type_inv.values k)) (not_small c.args.code (2 ^ 32) c.in-Err.ensures))
+    ∙ bit_of_tests (λ (place : ℕ). is_among c.args.codes.now (element_at 4 c.args.values.now place)) c.args.from 64 row lt

@@ -8,7 +8,7 @@ use Rattle.kernels.proofs.entries.where_null.Goals as goal
 
 pub returns-in-True : goal.returns-in-True
 returns-in-True c =
-    c.not.ensures ∙ ap (map truth_not) (c.is.ensures ∙ ap (map (λ (truth : Truth). truth_is truth True)) c.not-in-True.ensures) ∙ null_true c.args.mask
+    c.not-in-True.ensures ∙ ap (map truth_not) (c.is.ensures ∙ ap (map (λ (truth : Truth). truth_is truth True)) c.not.ensures) ∙ null_true c.args.mask
     ∙ ap (λ (t : Truth). map (unless_known t) c.args.mask) (sym c.in-True.is)
 
 pub returns-in-False : goal.returns-in-False
