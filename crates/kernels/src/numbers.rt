@@ -39,7 +39,8 @@ pub(crate) fn numbers_compared(
     other: i128,
 ) -> Result<Option<Mask>, AllocError>
     requires { IsPart part.now }
-    ensures { IfOk result (λ found. IfSome found (λ mask. mask ≡ said_of (λ value. compared comparison value (IntValue other)) part.now)) }
+    ensures { IfOk result (λ found. IfSome found (λ mask. mask
+        ≡ said_of (λ value. compared comparison value (IntValue other)) part.now)) }
 {
     let range = Range::of(comparison, other);
     numbers_in(alloc, part, &range)
@@ -57,7 +58,8 @@ pub(crate) fn between_part(
     high: i128,
 ) -> Result<Option<Mask>, AllocError>
     requires { IsPart part.now }
-    ensures { IfOk result (λ found. IfSome found (λ mask. mask ≡ said_of (λ value. within value (IntValue low) (IntValue high)) part.now)) }
+    ensures { IfOk result (λ found. IfSome found (λ mask. mask
+        ≡ said_of (λ value. within value (IntValue low) (IntValue high)) part.now)) }
 {
     let range = Range::between(low, high);
     numbers_in(alloc, part, &range)
@@ -70,7 +72,8 @@ fn numbers_in(
     range: &Range,
 ) -> Result<Option<Mask>, AllocError>
     requires { IsPart part.now }
-    ensures { (test : Value → Truth) → TestsBy range.now test → IfOk result (λ found. IfSome found (λ mask. mask ≡ said_of test part.now)) }
+    ensures { (test : Value → Truth) → TestsBy range.now test →
+        IfOk result (λ found. IfSome found (λ mask. mask ≡ said_of test part.now)) }
 {
     let column = part.column;
     let _len = column.len();
@@ -105,7 +108,9 @@ fn integers_in(
 ) -> Result<Mask, AllocError>
     requires within { first + len ≤ (cells.now).len }
     requires small { first + len < 2 ^ 64 }
-    ensures { (test : Value → Truth) → TestsBy range.now test → IfOk result (λ mask. mask ≡ map (λ place. test (layout_slot (IntegersLayout cells.now) place)) (range_with_len first len)) }
+    ensures { (test : Value → Truth) → TestsBy range.now test →
+        IfOk result (λ mask. mask
+        ≡ map (λ place. test (layout_slot (IntegersLayout cells.now) place)) (range_with_len first len)) }
 {
     let packed = packed_integers(cells);
     match cells.integer_type() {

@@ -124,7 +124,8 @@ fn fill_numbers(column: &Column, from: usize, block: &mut [i128; 64]) -> Option<
 // The integers of 64 slots from `first` on.
 fn fill_integers(cells: &Integers<'_>, first: usize, block: &mut [i128; 64])
     requires { first + 64 ≤ (cells.now).len }
-    ensures { (row : ℕ) → row < 64 → get_or block.new row (pos 0) ≡ integer_at (cells.now).integer (cells.now).values (first + row) }
+    ensures { (row : ℕ) → row < 64 →
+        get_or block.new row (pos 0) ≡ integer_at (cells.now).integer (cells.now).values (first + row) }
 {
     let _count = cells.len();
     let values = cells.values();
@@ -145,7 +146,8 @@ fn fill_cells<E: Element + AsPrimitive<i128>>(values: &[u8], from: usize, block:
     requires room { E.WIDTH * (from + 64) ≤ length values.now }
     requires small { from + 64 < 2 ^ 64 }
     requires wide { (place : ℕ) → FitsSigned w128 (E.value (E.of_bits (element_at E.WIDTH values.now place))) }
-    ensures { (row : ℕ) → row < 64 → get_or block.new row (pos 0) ≡ E.value (E.of_bits (element_at E.WIDTH values.now (from + row))) }
+    ensures { (row : ℕ) → row < 64 →
+        get_or block.new row (pos 0) ≡ E.value (E.of_bits (element_at E.WIDTH values.now (from + row))) }
 {
     for k in 0..64usize {
         block[k] = E::read(values, from + k).as_();
@@ -154,7 +156,9 @@ fn fill_cells<E: Element + AsPrimitive<i128>>(values: &[u8], from: usize, block:
 
 // Which of 64 numbers stand in a comparison with others.
 fn compared_block(comparison: Comparison, lefts: &[i128; 64], rights: &[i128; 64]) -> u64
-    ensures { (row : ℕ) → row < 64 → bit result row ≡ satisfies comparison (int_cmp (get_or lefts.now row (pos 0)) (get_or rights.now row (pos 0))) }
+    ensures { (row : ℕ) → row < 64 →
+        bit result row
+        ≡ satisfies comparison (int_cmp (get_or lefts.now row (pos 0)) (get_or rights.now row (pos 0))) }
 {
     match comparison {
         Comparison::Equal => equal_block(lefts, rights),
@@ -167,7 +171,8 @@ fn compared_block(comparison: Comparison, lefts: &[i128; 64], rights: &[i128; 64
 }
 
 fn less_block(lefts: &[i128; 64], rights: &[i128; 64]) -> u64
-    ensures { (row : ℕ) → row < 64 → bit result row ≡ int_lt (get_or lefts.now row (pos 0)) (get_or rights.now row (pos 0)) }
+    ensures { (row : ℕ) → row < 64 →
+        bit result row ≡ int_lt (get_or lefts.now row (pos 0)) (get_or rights.now row (pos 0)) }
 {
     let mut flags = [0u8; 64];
     for k in 0..64usize {
@@ -177,7 +182,8 @@ fn less_block(lefts: &[i128; 64], rights: &[i128; 64]) -> u64
 }
 
 fn equal_block(lefts: &[i128; 64], rights: &[i128; 64]) -> u64
-    ensures { (row : ℕ) → row < 64 → bit result row ≡ int_eq (get_or lefts.now row (pos 0)) (get_or rights.now row (pos 0)) }
+    ensures { (row : ℕ) → row < 64 →
+        bit result row ≡ int_eq (get_or lefts.now row (pos 0)) (get_or rights.now row (pos 0)) }
 {
     let mut flags = [0u8; 64];
     for k in 0..64usize {

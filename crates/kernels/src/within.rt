@@ -78,7 +78,8 @@ impl<'a, E: Element> Within<'a, E> {
     // Whether a number is in the range, also that of a null.
     fn passes(&self, place: usize) -> bool
         requires { place < self.now.count }
-        ensures { result ≡ is_within (E.value self.now.least) (E.value self.now.most) (E.value (E.of_bits (element_at E.WIDTH self.now.values.now place))) }
+        ensures { result ≡ is_within (E.value self.now.least) (E.value self.now.most)
+            (E.value (E.of_bits (element_at E.WIDTH self.now.values.now place))) }
     {
         let number = E::read(self.values, place);
         (self.least <= number) & (number <= self.most)
@@ -87,7 +88,9 @@ impl<'a, E: Element> Within<'a, E> {
     // Which of the 64 numbers from `from` on are.
     fn passes_word(&self, from: usize) -> u64
         requires { from + 64 ≤ self.now.count }
-        ensures { (row : ℕ) → row < 64 → bit result row ≡ is_within (E.value self.now.least) (E.value self.now.most) (E.value (E.of_bits (element_at E.WIDTH self.now.values.now (from + row)))) }
+        ensures { (row : ℕ) → row < 64 →
+            bit result row ≡ is_within (E.value self.now.least) (E.value self.now.most)
+            (E.value (E.of_bits (element_at E.WIDTH self.now.values.now (from + row)))) }
     {
         let mut flags = [0u8; 64];
         for k in 0..64usize {
@@ -114,9 +117,11 @@ pub(crate) fn cells_in<E: Element + Bounded + FromPrimitive>(
     requires long { validity_count packed.now.validity.now packed.now.count ≡ packed.now.count }
     requires small { first + len < 2 ^ 64 }
     requires fits { (place : ℕ) → E.fits (E.value (E.of_bits (element_at E.WIDTH packed.now.values.now place))) }
-    requires wide { (place : ℕ) → FitsSigned w128 (E.value (E.of_bits (element_at E.WIDTH packed.now.values.now place))) }
+    requires wide { (place : ℕ) →
+        FitsSigned w128 (E.value (E.of_bits (element_at E.WIDTH packed.now.values.now place))) }
     ensures { (test : Value → TruthValue) → TestsBy range.now test → IfOk result (λ mask. mask ≡ map
-        (said_where_valid test packed.now.validity.now (λ place. E.value (E.of_bits (element_at E.WIDTH packed.now.values.now place))))
+        (said_where_valid test packed.now.validity.now
+        (λ place. E.value (E.of_bits (element_at E.WIDTH packed.now.values.now place))))
         (range_with_len first len)) }
 {
     let kernel = within_ends(packed, &ends_of::<E>(range));
