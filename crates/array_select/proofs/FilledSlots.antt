@@ -145,7 +145,7 @@ decimal_value (Bool flag) bits some of e = absurd of
 decimal_value (Text bytes) bits some of e = absurd of
 
 -- a slot that is valid unless its value is null, and then has that value
-slot_filled : (validity : Option (List Truth)) (f : ℕ → Value) (k : ℕ) (value : Value) → is_valid validity k ≡ not (is_null value) → (is_null value ≡ false → f k ≡ value) → where_valid validity f k ≡ value
+pub slot_filled : (validity : Option (List Truth)) (f : ℕ → Value) (k : ℕ) (value : Value) → is_valid validity k ≡ not (is_null value) → (is_null value ≡ false → f k ≡ value) → where_valid validity f k ≡ value
 slot_filled validity f k Null valid same = rw valid refl
 slot_filled validity f k (Bool flag) valid same = rw valid (same refl)
 slot_filled validity f k (Int number) valid same = rw valid (same refl)

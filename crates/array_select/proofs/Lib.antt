@@ -2,6 +2,7 @@ pub mod Hits
 mod Gathered
 mod GatheredTexts
 mod GatheredValues
+mod GatheredMany
 mod TooMany
 mod FilledSlots
 mod Textless

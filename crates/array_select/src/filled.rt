@@ -148,7 +148,7 @@ fn number_of(value: ValueRef<'_>) -> i128
 }
 
 // The flag of a value, and false of one that is no truth value.
-fn flag_of(value: ValueRef<'_>) -> bool
+pub(crate) fn flag_of(value: ValueRef<'_>) -> bool
     ensures { result ≡ flag_of (value_of value.entry) }
 {
     match value {

@@ -11,8 +11,8 @@ use std::alloc::AllocError;
 /// As many rows as a batch has that is made of rows.
 pub const MOST_BATCH_ROWS: usize = 65_536;
 
-// As many bytes as the texts of one of its columns have, where it has more than one row.
-const MOST_COLUMN_BYTES: usize = 16_777_216;
+/// As many bytes as the texts of one of its columns have, where it has more than one row.
+pub const MOST_COLUMN_BYTES: usize = 16_777_216;
 
 // The last byte that an offset can name.
 const MOST_OFFSET: usize = 2_147_483_647;
