@@ -1,12 +1,15 @@
 -- The places of a word's bits: the lowest comes first, they rise, and they are those that pass the test.
-use Rattle.std.proofs.Common.{◌≡◌, ℕ, zero, suc, ◌+◌, ◌-◌, ◌*◌, ◌/◌, ◌%◌, ◌^◌, ◌<◌, ◌≤◌, min, Bool, true, false, cond, ◌==◌, List, [], ◌∷◌, ◌++◌, All, refl, sym, ap, ap₂, ◌∙◌, arith, mod-lt, zero-lt-suc, pow-suc, add-zero}
+use Rattle.std.proofs.Common.{◌≡◌, ℕ, zero, suc, ◌+◌, ◌-◌, ◌*◌, ◌/◌, ◌%◌, ◌^◌, ◌<◌, ◌≤◌, min, Bool, true, false, cond, ◌==◌, List, [], ◌∷◌, ◌++◌, ◌⊎◌, inl, inr, if◌then◌else◌, length, get_or, All, refl, subst, sym, ap, ap₂, ◌∙◌, arith, mod-lt, zero-lt-suc, pow-suc, add-zero}
 use Rattle.std.specs.Int.{bit_at}
 use Rattle.std.specs.List.{filter, range_with_len}
 use Rattle.std.proofs.lemmas.Nat.Bits.{bit_at_lowest, bit_at-suc}
-use Rattle.std.proofs.lemmas.List.{append_assoc}
+use Rattle.std.proofs.lemmas.Bool.{cases_lt}
+use Rattle.std.proofs.lemmas.List.{append_assoc, get_or_append_left, get_or-append_right, length-append}
+use Rattle.std.proofs.lemmas.List.FromFn.{get_or-range_with_len, length-range_with_len}
 use Rattle.std.proofs.lemmas.List.Elements.{All-cons, All-nil}
 use lib.Bits.{bit_and, and_step, and_self}
 use lib.Count.{count_trailing_zeros, under}
+use Rattle.array_select.specs.Selection.{AreRising}
 use Rattle.array_select.specs.SetBits.{set_bits}
 
 bit_cases : (P : ℕ → Type 0) → P 0 → P 1 → (x : ℕ) → x < 2 → P x
@@ -105,3 +108,45 @@ bits_kept p (suc k) b x h =
     let first : (x % 2 == 1) ≡ p b = ap (λ n. n == 1) (sym (bit_at_lowest x)) ∙ h 0 (omega arith) ∙ ap p (add-zero b) in
     let rest = bits_kept p k (b + 1) (x / 2) (λ i lt. ap (λ n. n == 1) (sym (bit_at-suc x i)) ∙ h (suc i) (omega arith) ∙ ap p (omega arith)) in
     ap₂ (λ t l. cond t (b ∷ l) l) first rest
+
+-- ---- places next to each other
+
+power_some : (k : ℕ) → 0 < 2 ^ k
+power_some zero = omega arith
+power_some (suc k) = omega (arith, pow-suc 2 k, power_some k)
+
+-- where all bits are 1 the places stand next to each other
+pub all_bits : (k b : ℕ) → set_bits k b (2 ^ k - 1) ≡ range_with_len b k
+unfolding set_bits
+all_bits zero b = refl
+all_bits (suc k) b =
+    let odd : (2 ^ suc k - 1) % 2 ≡ 1 = omega (arith, pow-suc 2 k, power_some k) in
+    let rest : (2 ^ suc k - 1) / 2 ≡ 2 ^ k - 1 = omega (arith, pow-suc 2 k, power_some k) in
+    ap₂ (turn k b) odd rest ∙ ap (λ (l : List ℕ). b ∷ l) (all_bits k (b + 1))
+
+-- behind smaller ones they rise
+pub run_rises : (old : List ℕ) (b n : ℕ) → All (λ (p : ℕ). p < b) old → AreRising old → AreRising (old ++ range_with_len b n)
+run_rises old b n below rises = λ k j low within. by k j low (omega (arith, within, whole)) (cases_lt k (length old)) (cases_lt j (length old))
+  where
+    whole : length (old ++ range_with_len b n) ≡ length old + n
+    whole = length-append old (range_with_len b n) ∙ ap (λ (m : ℕ). length old + m) (length-range_with_len b n)
+
+    in_old : (k : ℕ) → k < length old → get_or (old ++ range_with_len b n) k 0 ≡ get_or old k 0
+    in_old k there = get_or_append_left old (range_with_len b n) 0 k there
+
+    in_run : (k : ℕ) → length old ≤ k → k < length old + n → get_or (old ++ range_with_len b n) k 0 ≡ b + (k - length old)
+    in_run k behind there =
+        get_or-append_right old (range_with_len b n) (length old) k 0 refl behind
+        ∙ get_or-range_with_len b n (k - length old) 0 (omega (arith, behind, there))
+
+    by : (k j : ℕ) → k < j → j < length old + n → (k < length old) ⊎ (length old ≤ k) → (j < length old) ⊎ (length old ≤ j) →
+        get_or (old ++ range_with_len b n) k 0 < get_or (old ++ range_with_len b n) j 0
+    by k j low there (inl first) (inl second) = omega (arith, in_old k first, in_old j second, rises k j low second)
+    by k j low there (inl first) (inr second) = omega (arith, in_old k first, in_run j second there, below k 0 first)
+    by k j low there (inr first) (inl second) = absurd (omega (arith, low, first, second))
+    by k j low there (inr first) (inr second) = omega (arith, in_run k first (omega (arith, low, there)), in_run j second there, low, first)
+
+-- whether they were added or not
+pub still_rising : (added : Bool) (old new more : List ℕ) → new ≡ (if added then old ++ more else old) → AreRising old → AreRising (old ++ more) → AreRising new
+still_rising true old new more is before rises = subst AreRising (sym is) rises
+still_rising false old new more is before rises = subst AreRising (sym is) before

@@ -1,6 +1,7 @@
 //! Places of slots that were chosen.
 
 ghost use Rattle.std.specs.Prelude.{◌≡◌, ◌≤◌, ◌<◌, ◌+◌, ◌^◌, ◌++◌, ◌∷◌, [], All, OnErr, OnOk, length};
+ghost use Rattle.std.specs.List.{range_with_len};
 ghost use Rattle.array_select.specs.Selection.{AreRising};
 ghost use Rattle.array_select.specs.SetBits.{set_bits};
 
@@ -57,12 +58,24 @@ impl Selection {
         requires small { base + 64 ≤ 2 ^ 32 }
         ensures { OnOk result (self.new ≡ self.old ++ set_bits 64 base word) }
     {
+        if word == u64::MAX {
+            return self.push_run(base);
+        }
         let mut left = word;
         while left != 0 {
             self.push(base + left.trailing_zeros())?;
             left = left & (left - 1);
         }
         Ok(())
+    }
+
+    // Adds 64 places next to each other, behind all others.
+    fn push_run(&mut self, base: u32) -> Result<(), AllocError>
+        requires earlier { All (λ earlier. earlier < base) self.old }
+        requires small { base + 64 ≤ 2 ^ 32 }
+        ensures { OnOk result (self.new ≡ self.old ++ range_with_len base 64) }
+    {
+        self.places.extend_from_slice(&run_from(base))
     }
 
     /// Takes all places away. Its memory is kept for others.
@@ -86,4 +99,16 @@ impl Selection {
     {
         self.places.as_slice()
     }
+}
+
+// 64 places next to each other.
+fn run_from(base: u32) -> [u32; 64]
+    requires { base + 64 ≤ 2 ^ 32 }
+    ensures { result ≡ range_with_len base 64 }
+{
+    let mut run = [0u32; 64];
+    for k in 0..64 {
+        run[k] = base + k as u32;
+    }
+    run
 }

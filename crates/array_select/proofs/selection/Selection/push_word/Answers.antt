@@ -1,8 +1,8 @@
-use Rattle.std.proofs.Common.{◌≡◌, ◌+◌, ◌++◌, ◌∷◌, [], List, ℕ, sym, ap, ◌∙◌, arith, append-nil}
+use Rattle.std.proofs.Common.{◌≡◌, ◌+◌, ◌++◌, ◌∷◌, [], List, ℕ, OnOk, sym, ap, ◌∙◌, subst, arith, append-nil}
 use Rattle.std.proofs.lemmas.List.{append_assoc}
 use lib.Count.{count_trailing_zeros}
 use Rattle.array_select.specs.SetBits.{set_bits}
-use Rattle.array_select.proofs.Hits.{pushed_below, pushed_more, set_bits-zero}
+use Rattle.array_select.proofs.Hits.{all_bits, pushed_below, pushed_more, set_bits-zero}
 use Rattle.array_select.proofs.selection.Selection.push_word.Goals as goal
 
 pub push-requires : goal.push-requires
@@ -27,3 +27,8 @@ returns c =
     had.1
     ∙ ap (λ (l : List ℕ). c.args.self.now ++ l)
     (sym (append-nil had.0) ∙ ap (λ (l : List ℕ). had.0 ++ l) (sym (set_bits-zero 64 c.args.base)) ∙ ap (λ (x : ℕ). had.0 ++ set_bits 64 c.args.base x) (sym none) ∙ had.2)
+
+pub returns-then-word-eq18446744073709551615 : goal.returns-then-word-eq18446744073709551615
+returns-then-word-eq18446744073709551615 c =
+    let whole = ap (set_bits 64 c.args.base) c.if-word-eq18446744073709551615.true ∙ all_bits 64 c.args.base in
+    subst (λ (l : List ℕ). OnOk c.push_run.result (c.push_run.new.self ≡ c.args.self.now ++ l)) (sym whole) c.push_run.ensures
