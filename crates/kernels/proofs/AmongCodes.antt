@@ -1,14 +1,12 @@
 -- Codes that stand among others.
 use Rattle.std.proofs.Common.{◌≡◌, ℕ, zero, suc, ◌+◌, ◌*◌, ◌^◌, ◌<◌, ◌≤◌, ◌==◌, Bool, true, false, ◌||◌, if◌then◌else◌, List, [], ◌∷◌, ◌++◌, length, map, get_or, drop, drop-cons, ℤ, Option, Some, None, Result, Ok, Err, IfOk, IfSome, inl, inr, refl, sym, ap, ◌∙◌, arith, add-one}
 use Rattle.std.specs.Int.RustNames.{bit_or}
-use Rattle.std.specs.List.{list_any, range_with_len}
 use Rattle.std.specs.Ordering.{int_cmp, is_eq}
-use Rattle.std.proofs.lemmas.Bool.{cases_eq, cases_lt, eq-eqb, ne_eqb, eqb-true}
-use Rattle.std.proofs.lemmas.List.{drop_all, get_or_default}
+use Rattle.std.proofs.lemmas.Bool.{cases_eq, eq-eqb, ne_eqb}
+use Rattle.std.proofs.lemmas.List.{drop_all}
 use Rattle.std.proofs.lemmas.List.Folds.{list_any-append}
 use Rattle.byteorder.specs.Numbers.{little_from-lt}
-use Rattle.scan_base.specs.declared.truth.Truth.{Truth}
-use Rattle.scan_base.specs.declared.truth.Truth.TheVariants.{True, False, Unknown}
+use Rattle.scan_base.specs.declared.truth.Truth.TheVariants.{Unknown}
 use Rattle.scan_base.specs.declared.value.Value.{Value}
 use Rattle.scan_base.specs.declared.value.Value.TheVariants.{Null, Bool as Flag, Int, Text}
 use Rattle.scan_base.specs.declared.comparison.Comparison.TheVariants.{Equal}
@@ -21,7 +19,7 @@ use Rattle.arrow_schema.specs.declared.data_type.IntegerType.{IntegerType}
 use Rattle.arrow_schema.specs.declared.data_type.IntegerType.TheVariants.{Int8, Int16, Int32, Int64, UInt8, UInt16, UInt32, UInt64}
 use Rattle.arrow_schema.specs.DataType.{bit_width}
 use Rattle.arrays.specs.declared.layout.Layout.TheVariants.{Integers}
-use Rattle.arrays.specs.Integers.{IntegersAt, AreIntegers}
+use Rattle.arrays.specs.Integers.{IntegersAt}
 use Rattle.arrays.specs.Layout.{layout_slot}
 use Rattle.arrays.specs.Number.{AreBytes, element_at, number_from}
 use Rattle.arrays.specs.Validity.{is_valid}

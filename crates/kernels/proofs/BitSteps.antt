@@ -1,10 +1,10 @@
 -- Single bits that are set and cleared.
-use Rattle.std.proofs.Common.{◌≡◌, ℕ, ◌+◌, ◌-◌, ◌*◌, ◌%◌, ◌^◌, ◌<◌, ◌≤◌, ◌==◌, Bool, true, false, ◌||◌, refl, sym, ap, ◌∙◌, arith}
+use Rattle.std.proofs.Common.{◌≡◌, ℕ, ◌*◌, ◌%◌, ◌^◌, ◌<◌, ◌==◌, Bool, true, false, ◌||◌, refl, ap, ◌∙◌, arith}
 use mir.Val.{bool_byte}
 use Rattle.std.specs.Int.{w64, bit_not}
 use Rattle.std.specs.Int.Bits.{bit_and}
 use Rattle.std.specs.Int.RustNames.{bit_or}
-use Rattle.std.proofs.lemmas.Nat.Bits.{bit_at_set_same, bit_at_set_other, bit_at_clear_same, bit_at_clear_other, bit_at-trailing_zeros}
+use Rattle.std.proofs.lemmas.Nat.Bits.{bit_at_set_same, bit_at_set_other, bit_at_clear_same, bit_at_clear_other}
 use Rattle.kernels.specs.Words.{bit}
 use Rattle.kernels.proofs.Bits.{or_bit, bit_of_none}
 

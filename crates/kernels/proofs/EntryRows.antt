@@ -1,9 +1,9 @@
 -- What is said of the slots of a dictionary.
-use Rattle.std.proofs.Common.{◌≡◌, ℕ, zero, suc, ◌+◌, ◌*◌, ◌<◌, ◌≤◌, ◌==◌, Bool, true, false, ◌||◌, ◌&&◌, not, if◌then◌else◌, List, [], ◌∷◌, ◌++◌, length, map, get_or, take, ℤ, pos, negsuc, nat_abs, Option, Some, None, is_some, option_map, unwrap_or, slice_get, inl, inr, refl, sym, ap, ◌∙◌, arith, add-one}
-use Rattle.std.specs.List.{list_all, range_with_len}
+use Rattle.std.proofs.Common.{◌≡◌, ℕ, ◌+◌, ◌<◌, ◌≤◌, ◌==◌, Bool, true, false, ◌||◌, ◌&&◌, not, if◌then◌else◌, List, [], ◌∷◌, ◌++◌, length, map, get_or, take, ℤ, pos, negsuc, nat_abs, Option, Some, None, is_some, option_map, unwrap_or, slice_get, inl, inr, refl, sym, ap, ◌∙◌, arith, add-one}
+use Rattle.std.specs.List.{list_all}
 use Rattle.std.proofs.Math.Seq.{take-suc}
 use Rattle.std.proofs.lemmas.Bool.{cases_eq, cases_lt, eqb-true, eq-eqb, ne_eqb, and_parts}
-use Rattle.std.proofs.lemmas.List.{get_or_default, get_or-map, length-map}
+use Rattle.std.proofs.lemmas.List.{get_or_default, get_or-map}
 use Rattle.std.proofs.lemmas.Option.{slice_get-get_or, slice_get_past}
 use Rattle.scan_base.specs.declared.truth.Truth.{Truth}
 use Rattle.scan_base.specs.declared.truth.Truth.TheVariants.{True, False, Unknown}
@@ -16,13 +16,12 @@ use Rattle.scan_base.specs.Comparison.{compared, nullness}
 use Rattle.scan_base.specs.Predicate.{Pred, conjunction, disjunction, negation, truth_test, comparing, between, membership, null_test, any_equal, operand_names, operand_value, names_only, truth_of, within}
 use Rattle.scan_base.specs.Truth.{truth_and, truth_or, truth_not, truth_is, negated_if, truth_from}
 use Rattle.scan_base.proofs.Truths.{or_false}
-use Rattle.arrow_schema.specs.declared.data_type.IntegerType.{IntegerType}
-use Rattle.arrow_schema.specs.DataType.{bit_width, is_signed}
+use Rattle.arrow_schema.specs.DataType.{is_signed}
 use Rattle.arrays.specs.declared.layout.Layout.TheVariants.{Indices}
 use Rattle.arrays.specs.Dictionary.{entry_at}
 use Rattle.arrays.specs.Indices.{IndicesAt, AreIndices}
 use Rattle.arrays.specs.Layout.{layout_slot}
-use Rattle.arrays.specs.Number.{integer_at, number_from}
+use Rattle.arrays.specs.Number.{integer_at}
 use Rattle.arrays.specs.Validity.{is_valid}
 use Rattle.kernels.specs.Codes.{code_at, is_among}
 use Rattle.kernels.specs.Entries.{truth_at, truths_at, unless_known, AreTrueAt, IsPushed, by_entry}

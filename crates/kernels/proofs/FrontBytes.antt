@@ -1,5 +1,5 @@
 -- The first bytes of a text, compared as a number.
-use Rattle.std.proofs.Common.{◌≡◌, ℕ, zero, suc, ◌+◌, ◌-◌, ◌*◌, ◌%◌, ◌^◌, ◌<◌, ◌≤◌, ◌==◌, min, Bool, true, false, ◌&&◌, List, [], ◌∷◌, ◌++◌, length, get_or, take, drop, drop-cons, slice_index, inl, inr, refl, sym, ap, ◌∙◌, arith, length-drop}
+use Rattle.std.proofs.Common.{◌≡◌, ℕ, zero, suc, ◌+◌, ◌-◌, ◌*◌, ◌%◌, ◌^◌, ◌<◌, ◌≤◌, ◌==◌, Bool, true, false, ◌&&◌, List, [], ◌∷◌, ◌++◌, length, get_or, take, drop, drop-cons, slice_index, inl, inr, refl, sym, ap, ◌∙◌, arith, length-drop}
 use Rattle.std.specs.Str.{bytes_eq}
 use Rattle.std.specs.List.{slice_range}
 use Rattle.std.specs.Int.Bits.{bit_and}

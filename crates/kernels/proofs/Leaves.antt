@@ -1,5 +1,5 @@
 -- What is said of a part of a column, as what is said of rows.
-use Rattle.std.proofs.Common.{◌≡◌, ℕ, ◌+◌, ◌<◌, List, [], ◌∷◌, map, get_or, Option, Some, None, Result, Ok, Err, IfOk, IfSome, refl, sym, ap, ap₂, ◌∙◌}
+use Rattle.std.proofs.Common.{◌≡◌, ℕ, ◌+◌, List, [], ◌∷◌, map, get_or, Option, Some, None, Result, Ok, Err, IfOk, IfSome, refl, sym, ap, ap₂, ◌∙◌}
 use Rattle.std.specs.List.{range_with_len}
 use Rattle.std.proofs.lemmas.List.FromFn.{get_or-map-range_with_len}
 use Rattle.scan_base.specs.declared.truth.Truth.{Truth}

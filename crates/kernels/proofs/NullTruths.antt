@@ -3,14 +3,12 @@ use Rattle.std.proofs.Common.{◌≡◌, ℕ, zero, suc, ◌+◌, ◌<◌, ◌�
 use Rattle.std.specs.List.{filter, range_with_len}
 use Rattle.std.specs.Int.RustNames.{bit_xor}
 use Rattle.std.proofs.lemmas.List.FromFn.{length-map-range_with_len, get_or-map-range_with_len}
-use Rattle.scan_base.specs.declared.truth.Truth.{Truth}
 use Rattle.scan_base.specs.declared.truth.Truth.TheVariants.{False}
 use Rattle.scan_base.specs.declared.value.Value.{Value}
 use Rattle.scan_base.specs.declared.value.Value.TheVariants.{Null}
 use Rattle.scan_base.specs.Truth.{truth_from}
 use Rattle.scan_base.specs.Value.{is_null}
 use Rattle.arrays.specs.Validity.{is_valid, where_valid, IsLong}
-use Rattle.kernels.specs.declared.word.Word.{Word}
 use Rattle.kernels.specs.Nulls.{null_truth}
 use Rattle.kernels.specs.Ranges.{validity_count}
 use Rattle.kernels.specs.Words.{bit, by_bits, row_in}

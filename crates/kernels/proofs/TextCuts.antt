@@ -1,16 +1,12 @@
 -- Texts that offsets cut: how long they are, and which ones are a given one.
-use Rattle.std.proofs.Common.{◌≡◌, ℕ, zero, suc, ◌+◌, ◌-◌, ◌*◌, ◌%◌, ◌^◌, ◌<◌, ◌≤◌, ◌==◌, Bool, true, false, ◌&&◌, not, ◌||◌, if◌then◌else◌, List, [], ◌∷◌, length, map, take, drop, Option, Some, None, nat_le, nat_lt, inl, inr, refl, sym, ap, ◌∙◌, arith, length-drop}
+use Rattle.std.proofs.Common.{◌≡◌, ℕ, ◌+◌, ◌-◌, ◌%◌, ◌^◌, ◌<◌, ◌≤◌, ◌==◌, Bool, true, false, ◌&&◌, not, ◌||◌, if◌then◌else◌, List, [], ◌∷◌, length, map, drop, Option, Some, None, nat_le, nat_lt, refl, sym, ap, ◌∙◌, arith, length-drop}
 use Rattle.std.specs.Str.{bytes_eq, is_utf8}
-use Rattle.std.specs.Ordering.{nat_cmp, is_eq}
 use Rattle.std.specs.declared.cmp.Ordering.{Ordering}
 use Rattle.std.specs.declared.cmp.Ordering.TheVariants as order
-use Rattle.std.specs.Cmp.Lexicographic.{slice_cmp}
-use Rattle.std.proofs.lemmas.Bool.{cases_eq, eq-eqb, ne_eqb, eqb-true, leb-true, ltb-true, and_parts}
+use Rattle.std.proofs.lemmas.Bool.{eq-eqb, ne_eqb, leb-true, ltb-true, and_parts}
 use Rattle.std.proofs.lemmas.List.{length-take-le}
 use Rattle.std.proofs.lemmas.Map.Text.{is_eq-slice_cmp}
 use Rattle.std.proofs.lemmas.Slice.Eq.{bytes_eq-Decides}
-use Rattle.byteorder.specs.Endian.{little_from}
-use Rattle.byteorder.specs.Numbers.{little_from-lt}
 use Rattle.scan_base.specs.declared.truth.Truth.{Truth}
 use Rattle.scan_base.specs.declared.value.Value.{Value}
 use Rattle.scan_base.specs.declared.value.Value.TheVariants.{Null, Text}
@@ -18,10 +14,10 @@ use Rattle.scan_base.specs.declared.comparison.Comparison.TheVariants.{Equal, No
 use Rattle.scan_base.specs.Truth.{truth_from, truth_not}
 use Rattle.scan_base.specs.Comparison.{compared, order_of, judged}
 use Rattle.arrays.specs.Number.{element_at}
-use Rattle.arrays.specs.Texts.{TextsAt, AreTexts, text_stands, is_offset, offset_at, text_at, texts_slot}
+use Rattle.arrays.specs.Texts.{TextsAt, AreTexts, text_stands, is_offset, offset_at, text_at}
 use Rattle.arrays.specs.Validity.{is_valid}
 use Rattle.kernels.specs.Ranges.{where_known}
-use Rattle.kernels.specs.TextTests.{AreCut, cut_at, is_far, is_text_at}
+use Rattle.kernels.specs.TextTests.{AreCut, cut_at, is_far}
 
 -- a text is as long as its offsets are apart
 pub length-cut : (offsets bytes : List ℕ) (count place : ℕ) → AreCut offsets bytes count → place < count →

@@ -1,7 +1,7 @@
 -- Words of texts that are compared with one, bit by bit.
-use Rattle.std.proofs.Common.{◌≡◌, ℕ, ◌+◌, ◌-◌, ◌*◌, ◌%◌, ◌^◌, ◌<◌, ◌≤◌, ◌==◌, Bool, true, false, List, length, inl, inr, refl, sym, ap, ◌∙◌, arith}
+use Rattle.std.proofs.Common.{◌≡◌, ℕ, ◌+◌, ◌*◌, ◌%◌, ◌^◌, ◌<◌, ◌==◌, Bool, true, false, List, length, inl, inr, refl, sym, ap, ◌∙◌, arith}
 use mir.Val.{bool_byte}
-use Rattle.std.specs.Int.{w64, bit_not, bit_at, trailing_zeros}
+use Rattle.std.specs.Int.{w64, bit_not, trailing_zeros}
 use Rattle.std.specs.Int.Bits.{bit_and}
 use Rattle.std.specs.Int.RustNames.{bit_or}
 use Rattle.std.proofs.lemmas.Bool.{cases_eq, eqb-true}

@@ -1,5 +1,5 @@
 -- Inside: a text that is looked for.
-use Rattle.std.specs.Prelude.{◌≡◌, ◌+◌, ◌*◌, ◌^◌, ℕ, min, List, length}
+use Rattle.std.specs.Prelude.{◌≡◌, ◌+◌, ◌^◌, ℕ, min, List, length}
 use Rattle.byteorder.specs.Endian.{little_from}
 use Rattle.arrays.specs.Number.{AreBytes}
 

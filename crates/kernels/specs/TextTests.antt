@@ -1,5 +1,5 @@
 -- Inside: texts that offsets cut, and which of them are a given one.
-use Rattle.std.specs.Prelude.{◌≡◌, ◌≤◌, ◌<◌, ℕ, ◌+◌, ◌-◌, ◌*◌, ◌%◌, ◌^◌, ◌==◌, Bool, List, length, slice_range}
+use Rattle.std.specs.Prelude.{◌≤◌, ◌<◌, ℕ, ◌+◌, ◌-◌, ◌*◌, ◌%◌, ◌^◌, ◌==◌, Bool, List, length, slice_range}
 use Rattle.std.specs.Str.{bytes_eq}
 use Rattle.arrays.specs.Number.{element_at}
 

@@ -1,4 +1,4 @@
-use Rattle.std.proofs.Common.{◌≡◌, ℕ, Bool, ◌+◌, ◌-◌, ◌*◌, ◌<◌, ◌==◌, ◌^◌, ◌∙◌, ap, arith}
+use Rattle.std.proofs.Common.{◌≡◌, ℕ, Bool, ◌+◌, ◌-◌, ◌*◌, ◌==◌, ◌∙◌, ap, arith}
 use Rattle.std.specs.Simd.Lanes.{mask_l}
 use Rattle.arrays.specs.Number.{element_at}
 use Rattle.kernels.specs.Tests.{tests}

@@ -1,4 +1,4 @@
-use Rattle.std.proofs.Common.{◌≡◌, ◌+◌, ◌-◌, ◌*◌, ◌^◌, ◌∙◌, ◌==◌, ℕ, Bool, List, ap, refl, arith, take, drop, eqb, w64}
+use Rattle.std.proofs.Common.{◌+◌, ◌-◌, ◌*◌, ◌^◌, ◌∙◌, ℕ, List, ap, refl, arith, take, drop, eqb, w64}
 use Rattle.std.specs.Simd.Lanes.{mask_l, number_l, digits_l, chunk}
 use Rattle.std.proofs.lemmas.Simd.{bitmask_splat}
 use Rattle.kernels.proofs.CodeLanes.{lanes, lane_tests}

@@ -1,4 +1,4 @@
-use Rattle.std.proofs.Common.{◌==◌, ◌+◌, ℕ, ap, ◌∙◌}
+use Rattle.std.proofs.Common.{◌==◌, ℕ, ap, ◌∙◌}
 use Rattle.arrays.specs.Number.{element_at}
 use Rattle.kernels.specs.Words.{bit}
 use Rattle.kernels.proofs.Bits.{bit_of_tests}

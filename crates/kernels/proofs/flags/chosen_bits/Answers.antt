@@ -1,5 +1,3 @@
-use Rattle.std.proofs.Common.{◌≡◌, ℕ, Bool, if◌then◌else◌, ap, sym, ◌∙◌}
-use Rattle.kernels.specs.Words.{bit}
 use Rattle.kernels.proofs.FlagTruths.{all_bits, turned_bits}
 use Rattle.kernels.proofs.flags.chosen_bits.Goals as goal
 

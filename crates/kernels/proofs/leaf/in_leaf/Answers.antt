@@ -1,10 +1,8 @@
-use Rattle.std.proofs.Common.{◌≡◌, ℕ, List, IfOk, IfSome, map, sym, subst, ◌∙◌}
-use Rattle.std.specs.List.{range_with_len}
+use Rattle.std.proofs.Common.{◌≡◌, ℕ, List, IfOk, IfSome, sym, subst, ◌∙◌}
 use Rattle.scan_base.specs.declared.truth.Truth.{Truth}
 use Rattle.scan_base.specs.declared.value.Value.{Value}
 use Rattle.scan_base.specs.declared.predicate.Operand.{Operand}
 use Rattle.scan_base.specs.Predicate.{any_equal, operand_value}
-use Rattle.arrays.specs.Column.{slot_of}
 use Rattle.kernels.specs.Parts.{cell_of, said_in, said_of}
 use Rattle.kernels.proofs.Leaves.{any_cell, found_then, part_said}
 use Rattle.kernels.proofs.leaf.in_leaf.Goals as goal

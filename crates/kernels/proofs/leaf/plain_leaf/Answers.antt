@@ -1,4 +1,4 @@
-use Rattle.std.proofs.Common.{◌≡◌, ℕ, List, IfSome, map, sym, subst}
+use Rattle.std.proofs.Common.{◌≡◌, ℕ, List, IfSome, sym, subst}
 use Rattle.scan_base.specs.declared.truth.Truth.{Truth}
 use Rattle.scan_base.specs.declared.predicate.Operand.{Operand}
 use Rattle.scan_base.specs.declared.predicate.Predicate.{Predicate}

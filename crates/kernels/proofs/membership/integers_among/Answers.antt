@@ -1,4 +1,4 @@
-use Rattle.std.proofs.Common.{◌≡◌, ℕ, Bool, List, Option, map, ap, ◌∙◌}
+use Rattle.std.proofs.Common.{ℕ, Bool, List, Option, map, ap, ◌∙◌}
 use Rattle.std.specs.List.{range_with_len}
 use Rattle.arrow_schema.specs.declared.data_type.IntegerType.{IntegerType}
 use Rattle.arrays.specs.Validity.{is_valid}

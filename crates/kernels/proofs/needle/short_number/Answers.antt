@@ -1,4 +1,4 @@
-use Rattle.std.proofs.Common.{◌≡◌, ◌+◌, ◌-◌, ◌∙◌, ℕ, length, ap, arith}
+use Rattle.std.proofs.Common.{◌≡◌, ◌-◌, ◌∙◌, ℕ, length, ap, arith}
 use Rattle.byteorder.specs.Endian.{little_from}
 use Rattle.kernels.proofs.FrontBytes.{little_room}
 use Rattle.kernels.proofs.needle.short_number.Goals as goal

@@ -1,5 +1,4 @@
-use Rattle.std.proofs.Common.{◌≡◌, ◌≤◌, ℕ, ◌+◌, Bool, not, List, Option, ap, sym, ◌∙◌, arith}
-use Rattle.scan_base.specs.declared.truth.Truth.{Truth}
+use Rattle.std.proofs.Common.{◌≡◌, ℕ, ◌+◌, Bool, List, Option, ap, sym, ◌∙◌, arith}
 use Rattle.scan_base.specs.declared.truth.Truth.TheVariants.{False}
 use Rattle.scan_base.specs.Comparison.{nullness}
 use Rattle.scan_base.specs.Truth.{truth_from}
@@ -7,10 +6,9 @@ use Rattle.scan_base.specs.Value.{is_null}
 use Rattle.arrays.specs.declared.layout.Layout.{Layout}
 use Rattle.arrays.specs.Column.{slot_of}
 use Rattle.arrays.specs.Layout.{layout_slot}
-use Rattle.arrays.specs.Validity.{is_valid}
 use Rattle.kernels.specs.Nulls.{null_truth}
 use Rattle.kernels.proofs.Alike.{said_alike}
-use Rattle.kernels.proofs.NullTruths.{enough, none_null}
+use Rattle.kernels.proofs.NullTruths.{none_null}
 use Rattle.kernels.proofs.WordRows.{same_range}
 use Rattle.kernels.proofs.null_tests.null_part.Goals as goal
 

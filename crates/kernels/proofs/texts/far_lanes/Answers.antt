@@ -1,4 +1,4 @@
-use Rattle.std.proofs.Common.{◌≡◌, ◌+◌, ◌-◌, ◌*◌, ◌%◌, ◌^◌, ◌==◌, ◌∙◌, ℕ, Bool, List, ap, refl, arith, take, drop, w32}
+use Rattle.std.proofs.Common.{◌+◌, ◌-◌, ◌*◌, ◌%◌, ◌^◌, ◌==◌, ◌∙◌, ℕ, Bool, List, ap, refl, arith, take, drop, w32}
 use Rattle.std.specs.Simd.Lanes.{zip2, mask_l, number_l, digits_l, chunk}
 use Rattle.std.proofs.lemmas.Simd.{bitmask_splat}
 use Rattle.kernels.proofs.OffsetLanes.{offset_lanes, far_of}

@@ -1,4 +1,4 @@
-use Rattle.std.proofs.Common.{◌≡◌, ℕ, ◌+◌, ◌-◌, ◌*◌}
+use Rattle.std.proofs.Common.{◌≡◌, ◌+◌, ◌-◌, ◌*◌}
 use Rattle.std.specs.Simd.Lanes.{mask_l}
 use Rattle.kernels.specs.Tests.{tests}
 use Rattle.kernels.specs.TextTests.{is_far}

@@ -1,4 +1,4 @@
-use Rattle.std.proofs.Common.{ℕ, ◌+◌, Bool, ap, ◌∙◌}
+use Rattle.std.proofs.Common.{◌+◌, Bool, ap, ◌∙◌}
 use Rattle.arrays.specs.Validity.{is_valid}
 use Rattle.kernels.specs.Codes.{code_at, is_among}
 use Rattle.kernels.specs.Words.{bit, by_bits}

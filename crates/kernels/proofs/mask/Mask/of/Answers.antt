@@ -1,4 +1,4 @@
-use Rattle.std.proofs.Common.{◌≡◌, ◌+◌, ◌*◌, ◌/◌, ◌≤◌, arith, rules}
+use Rattle.std.proofs.Common.{arith, rules}
 use Rattle.kernels.proofs.Alike.{rows_alike}
 use Rattle.kernels.proofs.mask.Mask.of.Goals as goal
 

@@ -1,4 +1,4 @@
-use Rattle.std.proofs.Common.{◌≡◌, ◌+◌, ◌==◌, ◌<◌, ℕ, List, ap, sym, ◌∙◌, take, arith}
+use Rattle.std.proofs.Common.{◌+◌, ◌==◌, ℕ, List, ap, ◌∙◌, take, arith}
 use Rattle.std.specs.List.{slice_range}
 use Rattle.std.specs.Str.{bytes_eq}
 use Rattle.std.specs.Int.Bits.{bit_and}

@@ -1,4 +1,4 @@
-use Rattle.std.proofs.Common.{◌≡◌, ℕ, ap, ◌∙◌}
+use Rattle.std.proofs.Common.{ap, ◌∙◌}
 use Rattle.arrays.specs.Column.{ColumnAt, slot_of}
 use Rattle.kernels.proofs.Cells.{cell_read}
 use Rattle.kernels.proofs.part.RowRange.part.Goals as goal

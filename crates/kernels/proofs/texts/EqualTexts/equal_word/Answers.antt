@@ -1,4 +1,4 @@
-use Rattle.std.proofs.Common.{◌≡◌, ◌<◌, ℕ, ◌^◌, arith}
+use Rattle.std.proofs.Common.{◌<◌, ◌^◌, arith}
 use Rattle.std.specs.Int.{w64, trailing_zeros}
 use Rattle.kernels.proofs.TextWords.{at_first, lowest_place, lowest_on, fewer, one_more, at_last}
 use Rattle.kernels.proofs.texts.EqualTexts.equal_word.Goals as goal

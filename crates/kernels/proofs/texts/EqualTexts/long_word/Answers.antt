@@ -1,4 +1,4 @@
-use Rattle.std.proofs.Common.{◌≡◌, ◌==◌, ◌+◌, ◌<◌, ◌≤◌, ◌^◌, ℕ, length, ap, sym, ◌∙◌, arith}
+use Rattle.std.proofs.Common.{◌==◌, ◌+◌, ℕ, length, ap, ◌∙◌, arith}
 use Rattle.kernels.specs.TextTests.{cut_at}
 use Rattle.kernels.proofs.Bits.{bit_of_none}
 use Rattle.kernels.proofs.TextCuts.{far_test, too_long}
