@@ -26,7 +26,7 @@ pub record IsFinding (chosen : Chosen) (before : List RowKey) (count : ℕ) (fir
   pub placed : ArePlaced chosen.columns.now chosen.batch.now.columns (map key_of firsts) chosen.rows.now groups count
   pub kept : FirstsStay chosen before firsts
 
-any_map : {A B : Type 0} (f : A → B) (p : B → Bool) (xs : List A) → list_any p (map f xs) ≡ list_any (λ x. p (f x)) xs
+pub any_map : {A B : Type 0} (f : A → B) (p : B → Bool) (xs : List A) → list_any p (map f xs) ≡ list_any (λ x. p (f x)) xs
 any_map f p [] = refl
 any_map f p (x ∷ xs) = ap (λ t. p (f x) || t) (any_map f p xs)
 

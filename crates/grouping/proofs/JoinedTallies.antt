@@ -30,10 +30,10 @@ tally_is a b counts sums =
 none_more : (z : ℤ) → z +ℤ pos 0 ≡ z
 none_more z = +ℤ_comm z (pos 0) ∙ +ℤ_idl z
 
-both_none : (tally : Tally) → both tally no_rows ≡ tally
+pub both_none : (tally : Tally) → both tally no_rows ≡ tally
 both_none tally = tally_is (both tally no_rows) tally (omega arith) (none_more tally.sum)
 
-both_assoc : (a b c : Tally) → both (both a b) c ≡ both a (both b c)
+pub both_assoc : (a b c : Tally) → both (both a b) c ≡ both a (both b c)
 both_assoc a b c = tally_is (both (both a b) c) (both a (both b c)) (omega arith) (+ℤ_assoc a.sum b.sum c.sum)
 
 both_comm : (a b : Tally) → both a b ≡ both b a
@@ -54,7 +54,7 @@ summed_both tally (Flag flag) = tally_is _ _ (omega arith) (sym (none_more tally
 summed_both tally (Int number) = tally_is _ _ (omega arith) (ap (λ (z : ℤ). tally.sum +ℤ z) (sym (+ℤ_idl number)))
 summed_both tally (Text text) = tally_is _ _ (omega arith) (sym (none_more tally.sum))
 
-added_both : (item : Aggregate) (tally : Tally) (row : Row) → added item tally row ≡ both tally (added item no_rows row)
+pub added_both : (item : Aggregate) (tally : Tally) (row : Row) → added item tally row ≡ both tally (added item no_rows row)
 added_both (Key place) tally row = sym (both_none tally)
 added_both CountRows tally row = tally_is _ _ (omega arith) (sym (none_more tally.sum))
 added_both (Count column) tally row = counted_both tally (cell_in row column)

@@ -16,3 +16,8 @@ pub mod JoinedKeys
 pub mod JoinedTallies
 pub mod JoiningAll
 pub mod Merging
+pub mod Slotted
+pub mod Knowing
+pub mod Tagging
+pub mod ShortTexts
+pub mod OneColumn

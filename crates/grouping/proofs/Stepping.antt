@@ -19,7 +19,7 @@ pub record IsStepped (item : Aggregate) (columns : List ColumnAt) (groups rows :
   pub small : AreWithin (fed + k) tallies
   pub long : length tallies ≡ length before
 
-either : (a b : ℕ) → (a ≡ b) ⊎ (a ≢ b)
+pub either : (a b : ℕ) → (a ≡ b) ⊎ (a ≢ b)
 either a b = by (nat_eq a b) refl
   where
     by : (t : Bool) → nat_eq a b ≡ t → (a ≡ b) ⊎ (a ≢ b)

@@ -4,5 +4,7 @@ pub mod Answering
 pub mod Counting
 pub mod Finishing
 pub mod Kept
+pub mod Knowing
 pub mod Merging
 pub mod Placing
+pub mod Slots

@@ -69,7 +69,7 @@ impl<'t> Model for Groups<'t> {
       refused = g.refused;
     } };
 
-    ghost invariant = { λ g. IsGroups g.shape g.kept.firsts.keys (lists_of g.kept.tallies.items) g.kept.count g.refused };
+    ghost invariant = { λ g. IsGroups g.shape g.kept.firsts.keys (lists_of g.kept.tallies.items) g.kept.count g.kept.known.items g.refused };
 }
 
 impl<'t> Groups<'t> {
@@ -92,6 +92,7 @@ impl<'t> Groups<'t> {
                 firsts,
                 tallies,
                 count: 0,
+                known: Vec::new(alloc),
             },
             refused: None,
         })

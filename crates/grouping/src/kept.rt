@@ -1,16 +1,20 @@
 //! What is kept of the rows that were fed.
 
-ghost use Rattle.std.specs.Prelude.{◌≡◌, ◌≤◌, ◌<◌, ◌+◌, All, IfOk, IsTrue, OnOk, length, nat_lt};
+ghost use Rattle.std.specs.Prelude.{◌≡◌, ◌≤◌, ◌<◌, ◌+◌, All, IfOk, IsTrue, ℕ, List, OnOk, length, map, nat_lt};
 ghost use Rattle.std.specs.List.{list_all};
 ghost use Rattle.scan_base.specs.Limits.{most_rows};
+ghost use Rattle.scan_base.specs.declared.value.Value.{Value as Cell};
+ghost use Rattle.grouping.specs.RowKeys.{key_of};
 ghost use Rattle.grouping.specs.inside.Adding.{CanCountAll, IsKept, IsGrown, lists_of};
 ghost use Rattle.grouping.specs.inside.Kept.{AreBlank};
+ghost use Rattle.grouping.specs.inside.Knowing.{AreKnown, value_tagged};
 ghost use Rattle.grouping.specs.inside.Merging.{FirstsJoin, IsMerged};
 ghost use Rattle.grouping.specs.inside.Placing.{found_by, FirstsStay};
 
 use crate::groups::Grouping;
 use crate::joined::{Others, join_all, join_firsts};
 use crate::key::RowKey;
+use crate::known::{Known, know_nothing, known_count};
 use crate::part::{Part, add_all};
 use crate::table::{Chosen, place_rows};
 use crate::tally::Tally;
@@ -19,12 +23,20 @@ use indexmap::IndexSet;
 use std::alloc::{AllocError, Global};
 use typed_plan::Aggregate;
 
-/// The first row of each group, for each item the tally of each group, and how many rows were fed.
+// Of fewer rows no key is known by a number.
+const LEAST_ROWS: usize = 16;
+
+// Of fewer groups some are known even where each row opens one.
+const LEAST_GROUPS: usize = 256;
+
+/// The first row of each group, for each item the tally of each group, how many rows were fed, and which keys are known by
+/// a number.
 #[derive(Drop)]
 pub(crate) struct Kept<'t> {
     pub(crate) firsts: IndexSet<RowKey<'t>, HashSeed>,
     pub(crate) tallies: Vec<Vec<Tally>>,
     pub(crate) count: usize,
+    pub(crate) known: Vec<Known>,
 }
 
 /// Feeds the chosen rows.
@@ -43,14 +55,18 @@ pub(crate) fn add<'t>(
     requires within { All (λ row. row < chosen.now.batch.now.rows) chosen.now.rows.now }
     requires few { kept.old.count + length chosen.now.rows.now ≤ most_rows }
     requires kept { IsKept items.now (length (found_by chosen.now.columns.now kept.old.firsts.keys)) kept.old.count (lists_of kept.old.tallies.items) }
+    requires known { AreKnown value_tagged (map key_of kept.old.firsts.keys) kept.old.known.items }
     ensures grown { OnOk result (IsGrown items.now chosen.now.batch.now.columns chosen.now.columns.now chosen.now.rows.now
         (found_by chosen.now.columns.now kept.old.firsts.keys) (found_by chosen.now.columns.now kept.new.firsts.keys)
         kept.old.count (lists_of kept.old.tallies.items) (lists_of kept.new.tallies.items)) }
     ensures count { OnOk result (kept.new.count ≡ kept.old.count + length chosen.now.rows.now) }
     ensures kept { OnOk result (IsKept items.now (length (found_by chosen.now.columns.now kept.new.firsts.keys)) kept.new.count (lists_of kept.new.tallies.items)) }
     ensures firsts { OnOk result (FirstsStay chosen.now kept.old.firsts.keys kept.new.firsts.keys) }
+    ensures known { OnOk result (AreKnown value_tagged (map key_of kept.new.firsts.keys) kept.new.known.items) }
 {
-    let groups = place_rows(alloc, &mut kept.firsts, chosen)?;
+    let before = kept.firsts.len();
+    make_known(&mut kept.known, before, kept.count, chosen.rows.len())?;
+    let groups = place_rows(alloc, &mut kept.firsts, kept.known.as_mut_slice(), chosen)?;
     let found = found_count(chosen.columns, &kept.firsts);
     let part = Part {
         batch: chosen.batch,
@@ -60,6 +76,26 @@ pub(crate) fn add<'t>(
     };
     add_all(kept.tallies.as_mut_slice(), items, &part, found)?;
     kept.count += chosen.rows.len();
+    Ok(())
+}
+
+// Makes room for what will be known of the keys of more rows, where so many groups were found among so many rows that were
+// fed: the more groups, the more entries. Where most rows opened a group, nothing is known.
+fn make_known(
+    known: &mut Vec<Known>,
+    found: usize,
+    fed: usize,
+    rows: usize,
+) -> Result<(), AllocError>
+    ensures { OnOk result ((meaning : ℕ → ℕ → Cell) (found : List (List Cell)) → AreKnown meaning found known.old.items → AreKnown meaning found known.new.items) }
+{
+    if rows < LEAST_ROWS || (found > LEAST_GROUPS && fed / 2 < found) {
+        return know_nothing(known, 0);
+    }
+    let wanted = known_count(found, rows);
+    if known.len() < wanted {
+        return know_nothing(known, wanted);
+    }
     Ok(())
 }
 
@@ -83,7 +119,9 @@ pub(crate) fn join<'t>(
     ensures count { OnOk result (kept.new.count ≡ kept.old.count + other.now.count) }
     ensures kept { OnOk result (IsKept shape.now.items.now (length (found_by shape.now.keys.now kept.new.firsts.keys)) kept.new.count (lists_of kept.new.tallies.items)) }
     ensures firsts { OnOk result (FirstsJoin kept.old.firsts.keys other.now.firsts.keys kept.new.firsts.keys) }
+    ensures known { OnOk result (AreKnown value_tagged (map key_of kept.new.firsts.keys) kept.new.known.items) }
 {
+    know_nothing(&mut kept.known, 0)?;
     let groups = join_firsts(alloc, shape.keys, &mut kept.firsts, &other.firsts)?;
     let found = found_count(shape.keys, &kept.firsts);
     let others = Others {

@@ -9,9 +9,13 @@ pub mod groups;
 mod joined;
 mod kept;
 mod key;
+mod known;
 pub mod laws;
 mod part;
+mod slots;
+mod sums;
 mod table;
+mod tags;
 mod tally;
 
 pub use crate::answers::Answers;

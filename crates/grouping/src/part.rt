@@ -2,9 +2,11 @@
 
 ghost use Rattle.std.specs.Prelude.{◌≡◌, ◌≤◌, ◌<◌, ℕ, ◌+◌, All, OnOk, length};
 ghost use Rattle.scan_base.specs.Limits.{most_rows};
+ghost use Rattle.typed_plan.specs.declared.plan.Aggregate.TheVariants.{CountRows as CountAll};
 ghost use Rattle.grouping.specs.inside.Adding.{IsAdded, AreAdded, CanCountAll, IsKept, lists_of};
 ghost use Rattle.grouping.specs.inside.Counting.{AreWithin, CanCount, stepped};
 
+use crate::sums::sum_rows;
 use crate::tally::Tally;
 use arrays::Batch;
 use std::alloc::AllocError;
@@ -15,7 +17,7 @@ use typed_plan::Aggregate;
 pub(crate) struct Part<'p> {
     pub(crate) batch: &'p Batch,
     pub(crate) rows: &'p [u32],
-    pub(crate) groups: &'p [usize],
+    pub(crate) groups: &'p [u32],
     pub(crate) fed: usize,
 }
 
@@ -30,11 +32,42 @@ pub(crate) fn add_rows(tallies: &mut [Tally], item: Aggregate, part: &Part<'_>)
     ensures stepped { tallies.new ≡ stepped item part.now.batch.now.columns part.now.groups.now part.now.rows.now tallies.old (length part.now.rows.now) }
     ensures small { AreWithin (part.now.fed + length part.now.rows.now) tallies.new }
 {
-    if let Aggregate::Key(_) = item {
-        return;
+    match item {
+        Aggregate::Key(_) => {}
+        Aggregate::CountRows => count_rows(tallies, part),
+        Aggregate::Count(_) => add_each(tallies, item, part),
+        Aggregate::Sum(column) => sum_rows(tallies, column, part),
     }
+}
+
+// Adds a row more to the tally of each row's group.
+fn count_rows(tallies: &mut [Tally], part: &Part<'_>)
+    requires grouped { All (λ group. group < length tallies.old) part.now.groups.now }
+    requires long { length part.now.groups.now ≡ length part.now.rows.now }
+    requires few { part.now.fed + length part.now.rows.now ≤ most_rows }
+    requires small { AreWithin part.now.fed tallies.old }
+    ensures stepped { tallies.new ≡ stepped CountAll part.now.batch.now.columns part.now.groups.now part.now.rows.now tallies.old (length part.now.rows.now) }
+    ensures small { AreWithin (part.now.fed + length part.now.rows.now) tallies.new }
+{
     for k in 0..part.rows.len() {
-        let group = part.groups[k];
+        let group = part.groups[k] as usize;
+        tallies[group].add_one();
+    }
+}
+
+/// Adds each row to the tally of its group, one by one.
+pub(crate) fn add_each(tallies: &mut [Tally], item: Aggregate, part: &Part<'_>)
+    requires there { CanCount item part.now.batch.now.columns }
+    requires within { All (λ row. row < part.now.batch.now.rows) part.now.rows.now }
+    requires grouped { All (λ group. group < length tallies.old) part.now.groups.now }
+    requires long { length part.now.groups.now ≡ length part.now.rows.now }
+    requires few { part.now.fed + length part.now.rows.now ≤ most_rows }
+    requires small { AreWithin part.now.fed tallies.old }
+    ensures stepped { tallies.new ≡ stepped item part.now.batch.now.columns part.now.groups.now part.now.rows.now tallies.old (length part.now.rows.now) }
+    ensures small { AreWithin (part.now.fed + length part.now.rows.now) tallies.new }
+{
+    for k in 0..part.rows.len() {
+        let group = part.groups[k] as usize;
         tallies[group] = tallies[group].with_row(item, part.batch, part.rows[k] as usize);
     }
 }

@@ -5,14 +5,20 @@ ghost use Rattle.std.specs.List.{list_all};
 ghost use Rattle.indexmap.specs.IndexSet.{insert_key};
 ghost use Rattle.arrays.specs.Batch.{row_of};
 ghost use Rattle.grouping.specs.Found.{found_then, place_in};
+ghost use Rattle.grouping.specs.inside.Knowing.{AreEntryKeys, AreKeys, AreKnown, AreTagged, entry_tagged, value_tagged};
 ghost use Rattle.grouping.specs.inside.Placing.{found_by, ArePlaced, FirstsStay};
 ghost use Rattle.grouping.specs.RowKeys.{key_of, same_first};
 
 use crate::key::RowKey;
-use arrays::Batch;
+use crate::known::{Known, know_nothing, known_count, known_group, short_group};
+use crate::slots::{Entries, Number, Slots, entry_slots, integer_slots};
+use crate::tags::{IndexTags, NumberTags, Tags, text_tags};
+use arrays::{Batch, Layout};
+use arrow_schema::IntegerType;
 use hash_seed::HashSeed;
 use indexmap::IndexSet;
 use std::alloc::{AllocError, Global};
+use std::marker::PhantomData;
 
 /// Rows of a batch, its number, and the columns whose values are their keys.
 #[derive(Clone, Copy, Drop)]
@@ -27,8 +33,208 @@ pub(crate) struct Chosen<'t, 'r> {
 fn groups_of<'t>(
     alloc: Global,
     firsts: &mut IndexSet<RowKey<'t>, HashSeed>,
+    known: &mut [Known],
     chosen: &Chosen<'t, '_>,
-) -> Result<Vec<usize>, AllocError>
+) -> Result<Vec<u32>, AllocError>
+    requires there { IsTrue (list_all (λ column. nat_lt column (length chosen.now.batch.now.columns)) chosen.now.columns.now) }
+    requires within { All (λ row. row < chosen.now.batch.now.rows) chosen.now.rows.now }
+    requires known { AreKnown value_tagged (map key_of firsts.old.keys) known.old }
+    ensures found { OnOk result (map key_of firsts.new.keys
+        ≡ found_then chosen.now.columns.now (map key_of firsts.old.keys) (map (row_of chosen.now.batch.now.columns) chosen.now.rows.now)) }
+    ensures placed { IfOk result (λ groups. ArePlaced chosen.now.columns.now chosen.now.batch.now.columns (map key_of firsts.new.keys)
+        chosen.now.rows.now groups.items (length chosen.now.rows.now)) }
+    ensures firsts { OnOk result (FirstsStay chosen.now firsts.old.keys firsts.new.keys) }
+    ensures known { OnOk result (AreKnown value_tagged (map key_of firsts.new.keys) known.new) }
+{
+    if chosen.columns.len() != 1 || known.is_empty() {
+        let groups = groups_one_by_one(alloc, firsts, chosen)?;
+        return Ok(groups);
+    }
+    let column = &chosen.batch.columns()[chosen.columns[0]];
+    match column.layout() {
+        Layout::Integers(cells) => {
+            groups_of_numbers(alloc, firsts, known, &integer_slots(column, &cells), chosen)
+        }
+        Layout::Indices(cells) => {
+            let groups = groups_of_entries(alloc, firsts, &entry_slots(column, &cells), chosen)?;
+            Ok(groups)
+        }
+        Layout::Texts(cells) => {
+            groups_by(alloc, firsts, known, &text_tags(column, cells), chosen)
+        }
+        _ => {
+            let groups = groups_one_by_one(alloc, firsts, chosen)?;
+            Ok(groups)
+        }
+    }
+}
+
+// The group of each of these rows, where these numbers are their keys.
+fn groups_of_numbers<'t>(
+    alloc: Global,
+    firsts: &mut IndexSet<RowKey<'t>, HashSeed>,
+    known: &mut [Known],
+    slots: &Slots<'_>,
+    chosen: &Chosen<'t, '_>,
+) -> Result<Vec<u32>, AllocError>
+    requires there { IsTrue (list_all (λ column. nat_lt column (length chosen.now.batch.now.columns)) chosen.now.columns.now) }
+    requires within { All (λ row. row < chosen.now.batch.now.rows) chosen.now.rows.now }
+    requires some { 0 < length known.old }
+    requires keys { AreKeys slots.now chosen.now.columns.now chosen.now.batch.now }
+    requires known { AreKnown value_tagged (map key_of firsts.old.keys) known.old }
+    ensures found { OnOk result (map key_of firsts.new.keys
+        ≡ found_then chosen.now.columns.now (map key_of firsts.old.keys) (map (row_of chosen.now.batch.now.columns) chosen.now.rows.now)) }
+    ensures placed { IfOk result (λ groups. ArePlaced chosen.now.columns.now chosen.now.batch.now.columns (map key_of firsts.new.keys)
+        chosen.now.rows.now groups.items (length chosen.now.rows.now)) }
+    ensures firsts { OnOk result (FirstsStay chosen.now firsts.old.keys firsts.new.keys) }
+    ensures known { OnOk result (AreKnown value_tagged (map key_of firsts.new.keys) known.new) }
+{
+    match slots.kind {
+        IntegerType::Int8 => groups_of_kind::<i8>(alloc, firsts, known, slots, chosen),
+        IntegerType::Int16 => groups_of_kind::<i16>(alloc, firsts, known, slots, chosen),
+        IntegerType::Int32 => groups_of_kind::<i32>(alloc, firsts, known, slots, chosen),
+        IntegerType::Int64 => groups_of_kind::<i64>(alloc, firsts, known, slots, chosen),
+        IntegerType::UInt8 => groups_of_kind::<u8>(alloc, firsts, known, slots, chosen),
+        IntegerType::UInt16 => groups_of_kind::<u16>(alloc, firsts, known, slots, chosen),
+        IntegerType::UInt32 => groups_of_kind::<u32>(alloc, firsts, known, slots, chosen),
+        IntegerType::UInt64 => {
+            let groups = groups_one_by_one(alloc, firsts, chosen)?;
+            Ok(groups)
+        }
+    }
+}
+
+// The group of each of these rows, where these numbers of a type are their keys.
+fn groups_of_kind<'t, N: Number>(
+    alloc: Global,
+    firsts: &mut IndexSet<RowKey<'t>, HashSeed>,
+    known: &mut [Known],
+    slots: &Slots<'_>,
+    chosen: &Chosen<'t, '_>,
+) -> Result<Vec<u32>, AllocError>
+    requires there { IsTrue (list_all (λ column. nat_lt column (length chosen.now.batch.now.columns)) chosen.now.columns.now) }
+    requires within { All (λ row. row < chosen.now.batch.now.rows) chosen.now.rows.now }
+    requires some { 0 < length known.old }
+    requires kind { slots.now.kind ≡ N.kind }
+    requires keys { AreKeys slots.now chosen.now.columns.now chosen.now.batch.now }
+    requires known { AreKnown value_tagged (map key_of firsts.old.keys) known.old }
+    ensures found { OnOk result (map key_of firsts.new.keys
+        ≡ found_then chosen.now.columns.now (map key_of firsts.old.keys) (map (row_of chosen.now.batch.now.columns) chosen.now.rows.now)) }
+    ensures placed { IfOk result (λ groups. ArePlaced chosen.now.columns.now chosen.now.batch.now.columns (map key_of firsts.new.keys)
+        chosen.now.rows.now groups.items (length chosen.now.rows.now)) }
+    ensures firsts { OnOk result (FirstsStay chosen.now firsts.old.keys firsts.new.keys) }
+    ensures known { OnOk result (AreKnown value_tagged (map key_of firsts.new.keys) known.new) }
+{
+    let tags = NumberTags::<N> {
+        slots: *slots,
+        rows: chosen.batch.rows(),
+        of: PhantomData,
+    };
+    groups_by(alloc, firsts, known, &tags, chosen)
+}
+
+// The group of each of these rows, where these entries of a dictionary are their keys. What is known of an index is known of
+// this batch alone, since another may have another dictionary.
+fn groups_of_entries<'t>(
+    alloc: Global,
+    firsts: &mut IndexSet<RowKey<'t>, HashSeed>,
+    entries: &Entries<'_>,
+    chosen: &Chosen<'t, '_>,
+) -> Result<Vec<u32>, AllocError>
+    requires there { IsTrue (list_all (λ column. nat_lt column (length chosen.now.batch.now.columns)) chosen.now.columns.now) }
+    requires within { All (λ row. row < chosen.now.batch.now.rows) chosen.now.rows.now }
+    requires keys { AreEntryKeys entries.now chosen.now.columns.now chosen.now.batch.now }
+    ensures found { OnOk result (map key_of firsts.new.keys
+        ≡ found_then chosen.now.columns.now (map key_of firsts.old.keys) (map (row_of chosen.now.batch.now.columns) chosen.now.rows.now)) }
+    ensures placed { IfOk result (λ groups. ArePlaced chosen.now.columns.now chosen.now.batch.now.columns (map key_of firsts.new.keys)
+        chosen.now.rows.now groups.items (length chosen.now.rows.now)) }
+    ensures firsts { OnOk result (FirstsStay chosen.now firsts.old.keys firsts.new.keys) }
+{
+    let mut fresh = Vec::new(alloc);
+    know_nothing(
+        &mut fresh,
+        known_count(entries.dictionary.len(), chosen.rows.len()),
+    )?;
+    let known = fresh.as_mut_slice();
+    match entries.slots.kind {
+        IntegerType::Int8 => groups_of_indices::<i8>(alloc, firsts, known, entries, chosen),
+        IntegerType::Int16 => groups_of_indices::<i16>(alloc, firsts, known, entries, chosen),
+        IntegerType::Int32 => groups_of_indices::<i32>(alloc, firsts, known, entries, chosen),
+        IntegerType::Int64 => groups_of_indices::<i64>(alloc, firsts, known, entries, chosen),
+        IntegerType::UInt8 => groups_of_indices::<u8>(alloc, firsts, known, entries, chosen),
+        IntegerType::UInt16 => groups_of_indices::<u16>(alloc, firsts, known, entries, chosen),
+        IntegerType::UInt32 => groups_of_indices::<u32>(alloc, firsts, known, entries, chosen),
+        IntegerType::UInt64 => groups_one_by_one(alloc, firsts, chosen),
+    }
+}
+
+// The group of each of these rows, where these indices of a type lead to their keys.
+fn groups_of_indices<'t, N: Number>(
+    alloc: Global,
+    firsts: &mut IndexSet<RowKey<'t>, HashSeed>,
+    known: &mut [Known],
+    entries: &Entries<'_>,
+    chosen: &Chosen<'t, '_>,
+) -> Result<Vec<u32>, AllocError>
+    requires there { IsTrue (list_all (λ column. nat_lt column (length chosen.now.batch.now.columns)) chosen.now.columns.now) }
+    requires within { All (λ row. row < chosen.now.batch.now.rows) chosen.now.rows.now }
+    requires some { 0 < length known.old }
+    requires kind { entries.now.slots.kind ≡ N.kind }
+    requires keys { AreEntryKeys entries.now chosen.now.columns.now chosen.now.batch.now }
+    requires known { AreKnown (entry_tagged entries.now.dictionary.now) (map key_of firsts.old.keys) known.old }
+    ensures found { OnOk result (map key_of firsts.new.keys
+        ≡ found_then chosen.now.columns.now (map key_of firsts.old.keys) (map (row_of chosen.now.batch.now.columns) chosen.now.rows.now)) }
+    ensures placed { IfOk result (λ groups. ArePlaced chosen.now.columns.now chosen.now.batch.now.columns (map key_of firsts.new.keys)
+        chosen.now.rows.now groups.items (length chosen.now.rows.now)) }
+    ensures firsts { OnOk result (FirstsStay chosen.now firsts.old.keys firsts.new.keys) }
+{
+    let tags = IndexTags::<N> {
+        entries: *entries,
+        rows: chosen.batch.rows(),
+        of: PhantomData,
+    };
+    groups_by(alloc, firsts, known, &tags, chosen)
+}
+
+// The group of each of these rows, whose keys have tags.
+fn groups_by<'t, T: Tags>(
+    alloc: Global,
+    firsts: &mut IndexSet<RowKey<'t>, HashSeed>,
+    known: &mut [Known],
+    tags: &T,
+    chosen: &Chosen<'t, '_>,
+) -> Result<Vec<u32>, AllocError>
+    requires there { IsTrue (list_all (λ column. nat_lt column (length chosen.now.batch.now.columns)) chosen.now.columns.now) }
+    requires within { All (λ row. row < chosen.now.batch.now.rows) chosen.now.rows.now }
+    requires some { 0 < length known.old }
+    requires tagged { AreTagged (T.count tags.now) (T.value tags.now) chosen.now.columns.now chosen.now.batch.now }
+    requires known { AreKnown (T.meaning tags.now) (map key_of firsts.old.keys) known.old }
+    ensures found { OnOk result (map key_of firsts.new.keys
+        ≡ found_then chosen.now.columns.now (map key_of firsts.old.keys) (map (row_of chosen.now.batch.now.columns) chosen.now.rows.now)) }
+    ensures placed { IfOk result (λ groups. ArePlaced chosen.now.columns.now chosen.now.batch.now.columns (map key_of firsts.new.keys)
+        chosen.now.rows.now groups.items (length chosen.now.rows.now)) }
+    ensures firsts { OnOk result (FirstsStay chosen.now firsts.old.keys firsts.new.keys) }
+    ensures known { OnOk result (AreKnown (T.meaning tags.now) (map key_of firsts.new.keys) known.new) }
+{
+    let mut groups = Vec::with_capacity(alloc, chosen.rows.len())?;
+    for row in chosen.rows {
+        let first = RowKey {
+            number: chosen.number,
+            batch: chosen.batch,
+            columns: chosen.columns,
+            row: *row,
+        };
+        groups.push(known_group(firsts, known, tags, first)?)?;
+    }
+    Ok(groups)
+}
+
+// The group of each of these rows, by the first rows alone.
+fn groups_one_by_one<'t>(
+    alloc: Global,
+    firsts: &mut IndexSet<RowKey<'t>, HashSeed>,
+    chosen: &Chosen<'t, '_>,
+) -> Result<Vec<u32>, AllocError>
     requires there { IsTrue (list_all (λ column. nat_lt column (length chosen.now.batch.now.columns)) chosen.now.columns.now) }
     requires within { All (λ row. row < chosen.now.batch.now.rows) chosen.now.rows.now }
     ensures found { OnOk result (map key_of firsts.new.keys
@@ -45,7 +251,7 @@ fn groups_of<'t>(
             columns: chosen.columns,
             row: *row,
         };
-        groups.push(group_of(firsts, first)?)?;
+        groups.push(short_group(firsts, first)?)?;
     }
     Ok(groups)
 }
@@ -58,22 +264,25 @@ fn groups_of<'t>(
 pub(crate) fn place_rows<'t>(
     alloc: Global,
     firsts: &mut IndexSet<RowKey<'t>, HashSeed>,
+    known: &mut [Known],
     chosen: &Chosen<'t, '_>,
-) -> Result<Vec<usize>, AllocError>
+) -> Result<Vec<u32>, AllocError>
     requires there { IsTrue (list_all (λ column. nat_lt column (length chosen.now.batch.now.columns)) chosen.now.columns.now) }
     requires within { All (λ row. row < chosen.now.batch.now.rows) chosen.now.rows.now }
+    requires known { AreKnown value_tagged (map key_of firsts.old.keys) known.old }
     ensures found { OnOk result (found_by chosen.now.columns.now firsts.new.keys
         ≡ found_then chosen.now.columns.now (found_by chosen.now.columns.now firsts.old.keys) (map (row_of chosen.now.batch.now.columns) chosen.now.rows.now)) }
     ensures placed { IfOk result (λ groups. ArePlaced chosen.now.columns.now chosen.now.batch.now.columns (found_by chosen.now.columns.now firsts.new.keys)
         chosen.now.rows.now groups.items (length chosen.now.rows.now)) }
     ensures firsts { OnOk result (FirstsStay chosen.now firsts.old.keys firsts.new.keys) }
+    ensures known { OnOk result (AreKnown value_tagged (map key_of firsts.new.keys) known.new) }
 {
     if chosen.columns.is_empty() {
         let mut groups = Vec::new(alloc);
-        groups.resize(chosen.rows.len(), 0)?;
+        groups.resize(chosen.rows.len(), 0u32)?;
         return Ok(groups);
     }
-    groups_of(alloc, firsts, chosen)
+    groups_of(alloc, firsts, known, chosen)
 }
 
 /// The group of a row, which is opened where the row's key is new.

@@ -1,6 +1,6 @@
 //! Tallies of groups.
 
-ghost use Rattle.std.specs.Prelude.{◌≡◌, ◌≤◌, ◌<◌, ◌+◌, ◌+ℤ◌, IfSome};
+ghost use Rattle.std.specs.Prelude.{◌≡◌, ◌≤◌, ◌<◌, ◌+◌, ◌+ℤ◌, pos, IfSome, if◌then◌else◌};
 ghost use Rattle.scan_base.specs.Limits.{most_rows};
 ghost use Rattle.scan_base.specs.declared.value.Value.TheVariants as value;
 ghost use Rattle.arrays.specs.Batch.{row_of};
@@ -21,7 +21,8 @@ pub(crate) struct Tally {
 }
 
 impl Tally {
-    ghost use Rattle.grouping.specs.Tallies.{no_rows, added, both};
+    ghost use Rattle.grouping.specs.Tallies.{no_rows, added, both, summed};
+    ghost use Rattle.grouping.specs.inside.Slots.{number_or_null};
     ghost use Rattle.grouping.specs.inside.Counting.{IsSmall, IsShort, CanCount};
 
     /// Of no rows.
@@ -55,6 +56,29 @@ impl Tally {
         }
     }
 
+    /// Adds a row.
+    pub(crate) fn add_one(&mut self)
+        requires few { self.old.count < most_rows }
+        requires small { IsSmall self.old }
+        ensures added { self.new ≡ record self.old { count = self.old.count + 1 } }
+        ensures few { self.new.count ≤ self.old.count + 1 }
+        ensures small { IsSmall self.new }
+    {
+        self.count += 1;
+    }
+
+    /// Adds a slot: its number counts where it is valid.
+    #[tactic(auto, using(crate::proofs::Slotted::summed_slot))]
+    pub(crate) fn add_slot(&mut self, valid: bool, number: i64)
+        requires few { self.old.count < most_rows }
+        requires small { IsSmall self.old }
+        ensures added { self.new ≡ summed self.old (number_or_null valid number) }
+        ensures few { self.new.count ≤ self.old.count + 1 }
+    {
+        self.count += ones(valid);
+        self.sum += i128::from(kept(valid, number));
+    }
+
     /// With the rows of another.
     pub(crate) fn with(self, other: Tally) -> Tally
         requires few { self.count + other.count ≤ most_rows }
@@ -82,6 +106,20 @@ impl Tally {
             sum: self.sum + number,
         }
     }
+}
+
+// 1 for a valid slot, and 0 for another.
+fn ones(valid: bool) -> u64
+    ensures { result ≡ (if valid then 1 else 0) }
+{
+    valid as u64
+}
+
+// The number of a valid slot, and 0 of another.
+fn kept(valid: bool, number: i64) -> i64
+    ensures { result ≡ (if valid then number else pos 0) }
+{
+    if valid { number } else { 0 }
 }
 
 // The number of a slot, if it is not null.

@@ -36,6 +36,7 @@ invariant_of-self c =
       shaped = c.self.invariant.shaped;
       kept = λ none. c.in-Ok.ensures.kept;
       few = λ none. omega (arith, c.in-Ok.ensures.count, c.requires.few (sym (ap (λ (g : GroupsAt). g.refused) c.self.view_is) ∙ c.in_default.is), ap (λ (g : GroupsAt). g.count) c.self.view_is, ap (λ (rows : List ℕ). length rows) c.places.ensures.value);
+      known_are = λ none. c.in-Ok.ensures.known;
       first = λ none. c.in-Ok.ensures.firsts c.self.inside.shape.batches.now (at (goal.at.invariant_of-self c).After-index-self-number).stands (c.self.invariant.first none);
     }
 
@@ -44,3 +45,6 @@ returns-in-Ok c =
     let grown = rw c.places.ensures.value at c.in-Ok.ensures.grown in
     feeds_all _ _ _ _ _ _ c.self.view_is (same (goal.at.returns-in-Ok c).After-index-self-number) c.in_default.is refl refl refl refl c.in_default.is
     (c.in-Ok.ensures.count ∙ ap (λ (rows : List ℕ). c.self.inside.kept.count + length rows) c.places.ensures.value) c.in-Ok.ensures.kept.many grown
+
+pub add-requires-clause-known : goal.add-requires-clause-known
+add-requires-clause-known c = c.self.invariant.known_are c.in_default.is

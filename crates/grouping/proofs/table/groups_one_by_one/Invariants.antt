@@ -1,5 +1,5 @@
 use Rattle.grouping.proofs.Finding.{IsFinding}
-use Rattle.grouping.proofs.table.groups_of.Given as goal
+use Rattle.grouping.proofs.table.groups_one_by_one.Given as goal
 
 abbrev pub invariant-loop-row : goal.invariant-loop-row
 invariant-loop-row l = IsFinding l.chosen l.initial.firsts.keys l.row-index l.firsts.keys l.groups.items

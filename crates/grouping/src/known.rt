@@ -1,0 +1,155 @@
+//! Keys that were found before, each by one number.
+
+ghost use Rattle.std.specs.Prelude.{◌≡◌, ◌<◌, ◌==◌, ◌&&◌, ◌∷◌, [], not, length, map, OnOk, IfOk};
+ghost use Rattle.indexmap.specs.IndexSet.{insert_key};
+ghost use Rattle.grouping.specs.Found.{place_in};
+ghost use Rattle.grouping.specs.RowKeys.{key_of, same_first};
+ghost use Rattle.grouping.specs.inside.Knowing.{AreKnown, AreNothing};
+
+use crate::key::RowKey;
+use crate::table::group_of;
+use crate::tags::Tags;
+use hash_seed::HashSeed;
+use indexmap::IndexSet;
+use std::alloc::AllocError;
+
+/// The kind of a tag that says nothing of its key.
+pub(crate) const NOTHING: u32 = 0;
+/// The kind of NULL's tag.
+pub(crate) const NULL: u32 = 1;
+/// The kind of a number's tag.
+pub(crate) const NUMBER: u32 = 2;
+/// The kind of an empty text's tag; that of a longer text is greater by its length.
+pub(crate) const TEXT: u32 = 3;
+
+/// What tells the value of a key of one column from all others, where its kind is not `NOTHING`.
+#[derive(Clone, Copy, Drop)]
+pub(crate) struct Tag {
+    pub(crate) key: u64,
+    pub(crate) kind: u32,
+}
+
+/// The tag of a key, and the place of its group; none where the kind is `NOTHING`.
+#[derive(Clone, Copy, Drop)]
+pub(crate) struct Known {
+    pub(crate) key: u64,
+    pub(crate) kind: u32,
+    pub(crate) group: u32,
+}
+
+impl Known {
+    ghost use Rattle.grouping.specs.inside.Knowing.{nothing};
+
+    /// Of no key.
+    pub(crate) fn nothing() -> Known
+        ensures { result ≡ nothing }
+    {
+        Known {
+            key: 0,
+            kind: NOTHING,
+            group: 0,
+        }
+    }
+
+    // Whether it is of the key of a tag.
+    fn is_of(self, tag: Tag) -> bool
+        ensures { result ≡ (not (tag.kind == 0) && ((self.kind == tag.kind) && (self.key == tag.key))) }
+    {
+        tag.kind != NOTHING && self.kind == tag.kind && self.key == tag.key
+    }
+}
+
+/// Entries of no key, so many.
+///
+/// # Errors
+///
+/// `AllocError` where memory is refused.
+pub(crate) fn know_nothing(known: &mut Vec<Known>, wanted: usize) -> Result<(), AllocError>
+    ensures { OnOk result (AreNothing wanted known.new.items) }
+{
+    known.clear();
+    known.resize(wanted, Known::nothing())
+}
+
+/// How many keys may be known of so many groups and rows.
+pub(crate) fn known_count(found: usize, rows: usize) -> usize
+    ensures { 0 < result }
+{
+    if found <= 64 && rows <= 1_024 {
+        256
+    } else if found <= 1_024 {
+        4_096
+    } else if found <= 16_384 {
+        65_536
+    } else if found <= 65_536 {
+        262_144
+    } else {
+        1_048_576
+    }
+}
+
+// The place of a tag among so many entries, a power of two of them or any other number. No contract rests on it.
+fn place_of(tag: Tag, entries: usize) -> usize
+    requires { 0 < entries }
+    ensures { result < entries }
+{
+    let mask = entries - 1;
+    let spread = (tag.key ^ tag.kind as u64).wrapping_mul(0x9E37_79B9_7F4A_7C15);
+    spread.wrapping_shr((mask as u64).leading_zeros()) as usize & mask
+}
+
+/// The group of a row, whose key has this tag: by what is known, or else by the first rows. It is opened where the row's
+/// key is new, and known then.
+///
+/// # Errors
+///
+/// `AllocError` where memory is refused.
+pub(crate) fn known_group<'t, T: Tags>(
+    firsts: &mut IndexSet<RowKey<'t>, HashSeed>,
+    known: &mut [Known],
+    tags: &T,
+    first: RowKey<'t>,
+) -> Result<u32, AllocError>
+    requires some { 0 < length known.old }
+    requires there { first.row < T.count tags.now }
+    requires tagged { key_of first ≡ T.value tags.now first.row ∷ [] }
+    requires known { AreKnown (T.meaning tags.now) (map key_of firsts.old.keys) known.old }
+    ensures inserted { OnOk result (firsts.new.keys ≡ insert_key same_first firsts.old.keys first.entry) }
+    ensures place { IfOk result (λ group. group ≡ place_in (map key_of firsts.old.keys) (key_of first.entry)) }
+    ensures known { OnOk result (AreKnown (T.meaning tags.now) (map key_of firsts.new.keys) known.new) }
+    ensures long { OnOk result (length known.new ≡ length known.old) }
+{
+    let tag = tags.tag(first.row as usize);
+    let at = place_of(tag, known.len());
+    let entry = known[at];
+    if entry.is_of(tag) {
+        return Ok(entry.group);
+    }
+    let group = short_group(firsts, first)?;
+    known[at] = Known {
+        key: tag.key,
+        kind: tag.kind,
+        group,
+    };
+    Ok(group)
+}
+
+/// The group of a row, by the first rows. It is opened where the row's key is new.
+///
+/// # Errors
+///
+/// `AllocError` where memory is refused, or 32 bits do not name the group.
+#[inline(never)]
+pub(crate) fn short_group<'t>(
+    firsts: &mut IndexSet<RowKey<'t>, HashSeed>,
+    first: RowKey<'t>,
+) -> Result<u32, AllocError>
+    ensures inserted { OnOk result (firsts.new.keys ≡ insert_key same_first firsts.old.keys first.entry) }
+    ensures place { IfOk result (λ group. group ≡ place_in (map key_of firsts.old.keys) (key_of first.entry)) }
+{
+    let group = group_of(firsts, first)?;
+    match u32::try_from(group) {
+        Ok(group) => Ok(group),
+        Err(_) => Err(AllocError),
+    }
+}
