@@ -96,7 +96,7 @@ right_holds sides number pair slot are is long h column place =
     }
 
 -- whichever default a place that is there has
-same_at : {X : Type 0} (xs : List X) (place : ℕ) (one other : X) → place < length xs → get_or xs place one ≡ get_or xs place other
+pub same_at : {X : Type 0} (xs : List X) (place : ℕ) (one other : X) → place < length xs → get_or xs place one ≡ get_or xs place other
 same_at [] place one other h = absurd (omega (arith, h))
 same_at (x ∷ xs) zero one other h = refl
 same_at (x ∷ xs) (suc place) one other h = same_at xs place one other (omega (arith, h))

@@ -2,6 +2,7 @@ pub mod Typed
 pub mod Cells
 pub mod Short
 pub mod Plain
+pub mod Sources
 pub mod Made
 pub mod Numbered
 pub mod Looping

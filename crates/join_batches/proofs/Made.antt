@@ -1,6 +1,7 @@
 -- Batches of the columns of rows have those rows.
-use Rattle.std.proofs.Common.{◌≡◌, ◌≤◌, ◌<◌, ℕ, zero, suc, ◌+◌, List, [], ◌∷◌, ◌++◌, All, length, map, get_or, take, refl, sym, ap, ◌∙◌, arith}
+use Rattle.std.proofs.Common.{◌≡◌, ◌≤◌, ◌<◌, ℕ, zero, suc, ◌+◌, List, [], ◌∷◌, ◌++◌, All, Result, Ok, Err, IfOk, length, map, get_or, take, refl, sym, ap, ◌∙◌, arith}
 use Rattle.std.specs.List.{AllZip, range_with_len}
+use Rattle.std.specs.declared.alloc.AllocError.{AllocError}
 use Rattle.std.proofs.lemmas.List.{get_or-map, length-map, length-take-le}
 use Rattle.std.proofs.lemmas.List.Elements.{All-nil, All-cons, All-map, All-take, All-weaker}
 use Rattle.std.proofs.lemmas.List.FromFn.{fill_by_all, get_or-map-range_with_len}
@@ -11,7 +12,7 @@ use Rattle.scan_base.specs.declared.value.Value.{Value}
 use Rattle.scan_base.specs.declared.value.Value.TheVariants.{Null}
 use Rattle.scan_base.specs.Predicate.{cell_in}
 use Rattle.arrays.specs.Batch.{BatchAt, AreLong, rows_of, row_of}
-use Rattle.arrays.specs.Column.{ColumnAt, slot_of}
+use Rattle.arrays.specs.Column.{ColumnAt, slot_of, values_of}
 use Rattle.arrays.specs.Typed.{AreOf}
 use Rattle.arrays.specs.Written.{texts_joined}
 use Rattle.hash_join.specs.declared.pair.Pair.{Pair}
@@ -34,6 +35,12 @@ map-cells : (row : List Value) → map (cell_in row) (range_with_len 0 (length r
 map-cells row = sym (fill_by_all (cell_in row) row (length row) Null refl (λ k h. sym (unwrap_or-slice_get row k Null)))
 
 module _ (rows : List (List Value)) where
+  -- a column that was made has the cells
+  pub column_made : (number : ℕ) (made : Result ColumnAt AllocError) (values : List Value) (count : ℕ) → values ≡ cells_of rows number → count ≡ length rows →
+      IfOk made (λ column. values_of column ≡ values) → IfOk made (λ column. column.len ≡ count) → IfOk made (IsColumnOf rows number)
+  column_made number (Ok column) values count e long is size = record { values = is ∙ e; long = size ∙ long }
+  column_made number (Err refused) values count e long is size = tt
+
   -- one column more
   pub columns_more : (number : ℕ) (columns : List ColumnAt) (column : ColumnAt) → AllZip (IsColumnOf rows) (range_with_len 0 number) columns →
       IsColumnOf rows number column → AllZip (IsColumnOf rows) (range_with_len 0 (number + 1)) (columns ++ column ∷ [])

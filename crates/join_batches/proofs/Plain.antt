@@ -18,7 +18,7 @@ use Rattle.join_batches.specs.Sides.{types_of, width_of, AreSides, ArePairs, Fit
 use Rattle.join_batches.proofs.Typed.{typed_long, typed_at}
 use Rattle.join_batches.proofs.Cells.{left_cell, right_cell}
 
-none : ColumnAt
+pub none : ColumnAt
 none = record { layout = layout.Bools (record { validity = None; values = [] }); first = 0; len = 0 }
 
 -- nor is such a cell of a joined row

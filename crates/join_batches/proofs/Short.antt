@@ -1,5 +1,5 @@
 -- Texts that are short, of fewer values too.
-use Rattle.std.proofs.Common.{◌≡◌, ◌≤◌, ◌<◌, ℕ, zero, suc, ◌+◌, List, [], ◌∷◌, length, map, take, sym, ap, ◌∙◌, arith, length-append, length-take, subst, below_more}
+use Rattle.std.proofs.Common.{◌≡◌, ◌≤◌, ◌<◌, ℕ, ◌+◌, List, length, map, take, ap, ◌∙◌, arith, length-take, subst, below_more}
 use Rattle.std.proofs.lemmas.List.{length-map, take-map, take-take}
 use Rattle.scan_base.specs.declared.value.Value.{Value}
 use Rattle.scan_base.specs.Predicate.{cell_in}

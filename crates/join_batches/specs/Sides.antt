@@ -1,5 +1,5 @@
 -- Inside: the columns of the rows that pairs stand for.
-use Rattle.std.specs.Prelude.{◌≡◌, ◌≤◌, ◌<◌, ◌+◌, ℕ, All, List, ◌++◌, length, map, take, get_or}
+use Rattle.std.specs.Prelude.{◌≡◌, ◌≤◌, ◌<◌, ◌+◌, ℕ, All, if◌then◌else◌, List, ◌++◌, length, map, take, get_or, nat_lt}
 use Rattle.std.specs.List.{AllZip}
 use Rattle.arrow_schema.specs.declared.data_type.DataType.{DataType}
 use Rattle.arrow_schema.specs.declared.data_type.DataType.TheVariants.{Utf8}
@@ -10,10 +10,13 @@ use Rattle.array_select.specs.declared.of_slots.SlotRef.{SlotRef}
 use Rattle.arrays.specs.Batch.{BatchAt, rows_of}
 use Rattle.arrays.specs.Column.{ColumnAt, values_of}
 use Rattle.array_select.specs.OfSlots.{slot_value, IsSlotOf}
-use Rattle.arrays.specs.Typed.{AreOf}
+use Rattle.array_select.specs.declared.many_places.SlotPlace.{SlotPlace}
+use Rattle.array_select.specs.GatherMany.{value_in, IsPlaceIn}
+use Rattle.arrays.specs.Typed.{AreOf, IsOfType}
 use Rattle.array_select.specs.Fitting.{AreShort}
 use Rattle.array_select.specs.Room.{most_column_bytes, text_bytes_of}
 use Rattle.hash_join.specs.declared.pair.Pair.{Pair}
+use Rattle.join_batches.specs.declared.placed.Placed.{Placed}
 use Rattle.join_batches.specs.declared.sides.Sides.{Sides}
 use Rattle.join_batches.specs.Rows.{pair_row, IsPair}
 
@@ -46,6 +49,30 @@ pub record HoldsCell (sides : Sides) (number : ℕ) (pair : Pair) (slot : SlotRe
 -- there is a slot for each pair
 abbrev pub HoldCells : Sides → ℕ → List Pair → List SlotRef → Type 0
 HoldCells sides number pairs slots = AllZip (HoldsCell sides number) pairs slots
+
+-- the place of a pair's left row among the slots of one left column
+abbrev pub left_place : Pair → SlotPlace
+left_place pair = record { column = 0; place = pair.left }
+
+-- the place of a pair's right row among the slots of the right columns
+abbrev pub right_place : Pair → SlotPlace
+right_place pair = record { column = pair.batch; place = pair.row }
+
+-- the place of a cell of a pair's row
+abbrev pub place_for : Sides → ℕ → Pair → SlotPlace
+place_for sides number pair = if nat_lt number (length sides.left_types.now) then left_place pair else right_place pair
+
+-- there is a place for each pair
+pub record ArePlaced (placed : Placed) : Type 0 where
+  pub lefts : placed.lefts.now ≡ map left_place placed.pairs.now
+  pub rights : placed.rights.now ≡ map right_place placed.pairs.now
+
+-- columns of a column's type have the cells of the rows that pairs stand for
+pub record AreSources (sides : Sides) (number : ℕ) (columns : List ColumnAt) : Type 0 where
+  pub typed : All (λ column. IsOfType (get_or (types_of sides) number Utf8) column.layout) columns
+  pub there : (pair : Pair) → IsPair sides.rights.now sides.left.now pair → IsPlaceIn columns (place_for sides number pair)
+  pub cells : (pair : Pair) → IsPair sides.rights.now sides.left.now pair →
+      value_in columns (place_for sides number pair) ≡ cell_in (pair_row sides.rights.now sides.left.now pair) number
 
 -- a column of rows
 abbrev pub cells_of : List (List Value) → ℕ → List Value

@@ -2,6 +2,7 @@
 #![tactic(auto)]
 
 pub mod joiner;
+mod placed;
 mod sides;
 
 pub use crate::joiner::{JoinSide, JoinSides, Joiner};

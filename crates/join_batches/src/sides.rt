@@ -1,14 +1,18 @@
 //! The rows that pairs stand for, as columns.
 
-ghost use Rattle.std.specs.Prelude.{◌≡◌, ◌<◌, ◌+◌, ℕ, All, IfOk, length, map, slice_index_or};
+ghost use Rattle.std.specs.Prelude.{◌≡◌, ◌<◌, ◌+◌, ℕ, All, IfOk, length, map, slice_index_or, true};
 ghost use Rattle.std.specs.List.{AllZip, range_with_len};
 ghost use Rattle.arrow_schema.specs.Answer.{answer_type};
-ghost use Rattle.arrays.specs.Typed.{AreOf};
+ghost use Rattle.arrays.specs.Typed.{AreOf, IsOfType};
 ghost use Rattle.array_select.specs.Fitting.{AreShort};
-ghost use Rattle.join_batches.specs.Sides.{AllFit, AreSides, ArePairs, HoldCells};
+ghost use Rattle.join_batches.specs.Sides.{AllFit, AreSides, ArePairs, ArePlaced, AreSources, HoldCells, place_for};
 ghost use Rattle.join_batches.specs.Sides.{FitsIn, IsBatchOf, IsColumnOf, cells_of, rows_at, types_of, width_of};
 
-use array_select::{SlotRef, column_of_slots, fitting, has_texts};
+use crate::placed::{Placed, left_places, right_places};
+use array_select::{
+    MOST_COLUMN_BYTES, SlotPlace, SlotRef, column_of_slots, fitting, gather_many, has_texts,
+    texts_fit_many,
+};
 use arrays::{Batch, Column};
 use arrow_schema::DataType;
 use hash_join::Pair;
@@ -31,21 +35,29 @@ impl<'a> Sides<'a> {
         requires some { 0 < length pairs.now }
         ensures { IfOk result (λ batch. IsBatchOf self.now pairs.now batch) }
     {
-        let count = self.how_many_fit(alloc, pairs)?;
-        let columns = self.columns(alloc, &pairs[..count])?;
+        let lefts = left_places(alloc, pairs)?;
+        let rights = right_places(alloc, pairs)?;
+        let placed = Placed {
+            pairs,
+            lefts: lefts.as_slice(),
+            rights: rights.as_slice(),
+        };
+        let count = self.how_many_fit(alloc, &placed)?;
+        let columns = self.columns(alloc, &placed.first(count))?;
         Ok(Batch::new(columns, count))
     }
 
     // How many of the pairs, from the first on, have room in one batch.
-    fn how_many_fit(&self, alloc: Global, pairs: &[Pair]) -> Result<usize, AllocError>
+    fn how_many_fit(&self, alloc: Global, placed: &Placed<'_>) -> Result<usize, AllocError>
         requires sides { AreSides self.now }
-        requires there { ArePairs self.now pairs.now }
-        requires some { 0 < length pairs.now }
-        ensures { IfOk result (λ count. AllFit self.now pairs.now (width_of self.now) count) }
+        requires placed { ArePlaced placed.now }
+        requires there { ArePairs self.now placed.now.pairs.now }
+        requires some { 0 < length placed.now.pairs.now }
+        ensures { IfOk result (λ count. AllFit self.now placed.now.pairs.now (width_of self.now) count) }
     {
-        let mut count = pairs.len();
+        let mut count = placed.pairs.len();
         for number in 0..self.width() {
-            count = self.how_many_fit_in(alloc, number, &pairs[..count])?;
+            count = self.how_many_fit_in(alloc, number, &placed.first(count))?;
         }
         Ok(count)
     }
@@ -55,37 +67,163 @@ impl<'a> Sides<'a> {
         &self,
         alloc: Global,
         number: usize,
-        pairs: &[Pair],
+        placed: &Placed<'_>,
     ) -> Result<usize, AllocError>
         requires sides { AreSides self.now }
-        requires there { ArePairs self.now pairs.now }
+        requires placed { ArePlaced placed.now }
+        requires there { ArePairs self.now placed.now.pairs.now }
         requires number { number < width_of self.now }
-        requires some { 0 < length pairs.now }
-        ensures { IfOk result (λ count. FitsIn self.now pairs.now number count) }
+        requires some { 0 < length placed.now.pairs.now }
+        ensures { IfOk result (λ count. FitsIn self.now placed.now.pairs.now number count) }
     {
         if !has_texts(self.type_of(number)) {
-            return Ok(pairs.len());
+            return Ok(placed.pairs.len());
         }
-        let slots = self.slots(alloc, number, pairs)?;
+        if self.all_fit(alloc, number, placed)? {
+            return Ok(placed.pairs.len());
+        }
+        let slots = self.slots(alloc, number, placed.pairs)?;
         fitting(slots.as_slice())
     }
 
-    // The columns of the joined rows.
-    fn columns(&self, alloc: Global, pairs: &[Pair]) -> Result<Vec<Column>, AllocError>
+    // Whether the texts of all pairs in a column are found to have room in one batch.
+    fn all_fit(&self, alloc: Global, number: usize, placed: &Placed<'_>) -> Result<bool, AllocError>
         requires sides { AreSides self.now }
-        requires there { ArePairs self.now pairs.now }
-        requires short { (number : ℕ) → number < width_of self.now → AreShort (cells_of (rows_at self.now pairs.now) number) }
+        requires placed { ArePlaced placed.now }
+        requires there { ArePairs self.now placed.now.pairs.now }
+        requires number { number < width_of self.now }
+        ensures { IfOk result (λ fit. fit ≡ true → AreShort (cells_of (rows_at self.now placed.now.pairs.now) number)) }
+    {
+        if self.rights.len() > placed.pairs.len() {
+            return Ok(false);
+        }
+        let columns = self.sources(alloc, number)?;
+        let places = self.places(number, placed);
+        Ok(texts_fit_many(columns.as_slice(), places, MOST_COLUMN_BYTES))
+    }
+
+    // The columns of the joined rows.
+    fn columns(&self, alloc: Global, placed: &Placed<'_>) -> Result<Vec<Column>, AllocError>
+        requires sides { AreSides self.now }
+        requires placed { ArePlaced placed.now }
+        requires there { ArePairs self.now placed.now.pairs.now }
+        requires short { (number : ℕ) → number < width_of self.now → AreShort (cells_of (rows_at self.now placed.now.pairs.now) number) }
         ensures cells { IfOk result
-            (λ columns. AllZip (IsColumnOf (rows_at self.now pairs.now)) (range_with_len 0 (width_of self.now)) columns.items) }
+            (λ columns. AllZip (IsColumnOf (rows_at self.now placed.now.pairs.now)) (range_with_len 0 (width_of self.now)) columns.items) }
         ensures typed { IfOk result (λ columns. AreOf (map answer_type (types_of self.now)) columns.items) }
     {
         let mut columns = Vec::with_capacity(alloc, self.width())?;
         for number in 0..self.width() {
-            let slots = self.slots(alloc, number, pairs)?;
-            let column = column_of_slots(alloc, self.type_of(number), slots.as_slice())?;
+            let column = self.column(alloc, number, placed)?;
             columns.push(column)?;
         }
         Ok(columns)
+    }
+
+    // A column of the joined rows.
+    fn column(
+        &self,
+        alloc: Global,
+        number: usize,
+        placed: &Placed<'_>,
+    ) -> Result<Column, AllocError>
+        requires sides { AreSides self.now }
+        requires placed { ArePlaced placed.now }
+        requires there { ArePairs self.now placed.now.pairs.now }
+        requires number { number < width_of self.now }
+        requires short { AreShort (cells_of (rows_at self.now placed.now.pairs.now) number) }
+        ensures cells { IfOk result (λ column. IsColumnOf (rows_at self.now placed.now.pairs.now) number column) }
+        ensures typed { IfOk result (λ column. IsOfType (answer_type (slice_index_or (types_of self.now) number DataType.Utf8)) column.layout) }
+    {
+        if !self.is_gathered(number, placed) {
+            return self.column_of_slots(alloc, number, placed.pairs);
+        }
+        let columns = self.sources(alloc, number)?;
+        let places = self.places(number, placed);
+        gather_many(alloc, self.type_of(number), columns.as_slice(), places)
+    }
+
+    // Whether a column of the joined rows is gathered: not of texts of dictionaries, nor of fewer pairs than there are right
+    // batches.
+    fn is_gathered(&self, number: usize, placed: &Placed<'_>) -> bool
+        requires { number < width_of self.now }
+        ensures { result ≡ true → answer_type (slice_index_or (types_of self.now) number DataType.Utf8)
+            ≡ slice_index_or (types_of self.now) number DataType.Utf8 }
+    {
+        is_plain(self.type_of(number)) && self.rights.len() <= placed.pairs.len()
+    }
+
+    // A column of the joined rows, slot by slot.
+    fn column_of_slots(
+        &self,
+        alloc: Global,
+        number: usize,
+        pairs: &[Pair],
+    ) -> Result<Column, AllocError>
+        requires sides { AreSides self.now }
+        requires there { ArePairs self.now pairs.now }
+        requires number { number < width_of self.now }
+        requires short { AreShort (cells_of (rows_at self.now pairs.now) number) }
+        ensures cells { IfOk result (λ column. IsColumnOf (rows_at self.now pairs.now) number column) }
+        ensures typed { IfOk result (λ column. IsOfType (answer_type (slice_index_or (types_of self.now) number DataType.Utf8)) column.layout) }
+    {
+        let slots = self.slots(alloc, number, pairs)?;
+        column_of_slots(alloc, self.type_of(number), slots.as_slice())
+    }
+
+    // The columns in which a column of the joined rows has its slots: one of the left batch, or one of each right batch.
+    fn sources(&self, alloc: Global, number: usize) -> Result<Vec<&'a Column>, AllocError>
+        requires sides { AreSides self.now }
+        requires number { number < width_of self.now }
+        ensures { IfOk result (λ columns. AreSources self.now number (map (λ column. column.now) columns.items)) }
+    {
+        let count = self.left_types.len();
+        if number < count {
+            self.left_source(alloc, number)
+        } else {
+            self.right_sources(alloc, number - count)
+        }
+    }
+
+    // A column of the left batch.
+    #[tactic(auto, using(crate::proofs::Typed::typed_long))]
+    fn left_source(&self, alloc: Global, number: usize) -> Result<Vec<&'a Column>, AllocError>
+        requires sides { AreSides self.now }
+        requires number { number < length self.now.left_types.now }
+        ensures { IfOk result (λ columns. AreSources self.now number (map (λ column. column.now) columns.items)) }
+    {
+        let column = &self.left.columns()[number];
+        let mut sources = Vec::new(alloc);
+        sources.push(column)?;
+        Ok(sources)
+    }
+
+    // The columns of a number of all right batches.
+    #[tactic(auto, using(crate::proofs::Typed::typed_long))]
+    fn right_sources(&self, alloc: Global, number: usize) -> Result<Vec<&'a Column>, AllocError>
+        requires sides { AreSides self.now }
+        requires number { number < length self.now.right_types.now }
+        ensures { IfOk result (λ columns.
+            AreSources self.now (length self.now.left_types.now + number) (map (λ column. column.now) columns.items)) }
+    {
+        let mut sources = Vec::with_capacity(alloc, self.rights.len())?;
+        for batch in self.rights {
+            let column = &batch.columns()[number];
+            sources.push(column)?;
+        }
+        Ok(sources)
+    }
+
+    // The places of the slots of a column of the joined rows.
+    fn places<'b>(&self, number: usize, placed: &Placed<'b>) -> &'b [SlotPlace]
+        requires { ArePlaced placed.now }
+        ensures { result.now ≡ map (place_for self.now number) placed.now.pairs.now }
+    {
+        if number < self.left_types.len() {
+            placed.lefts
+        } else {
+            placed.rights
+        }
     }
 
     // How many columns the joined rows have.
@@ -172,4 +310,11 @@ impl<'a> Sides<'a> {
         }
         Ok(slots)
     }
+}
+
+// Whether a type is answered as it is: that of a dictionary is not.
+fn is_plain(data_type: DataType) -> bool
+    ensures { result ≡ true → answer_type data_type ≡ data_type }
+{
+    !matches!(data_type, DataType::Dictionary(_))
 }

@@ -8,5 +8,5 @@ use Rattle.join_batches.proofs.sides.Sides.columns.Given as goal
 -- the columns so far
 abbrev pub invariant-loop-number : goal.invariant-loop-number
 invariant-loop-number l =
-    AllZip (IsColumnOf (rows_at l.self l.pairs)) (range_with_len 0 l.number) l.columns.items
+    AllZip (IsColumnOf (rows_at l.self l.placed.pairs.now)) (range_with_len 0 l.number) l.columns.items
     × AreOf (map answer_type (take l.number (types_of l.self))) l.columns.items

@@ -1,6 +1,12 @@
+use Rattle.std.proofs.Common.{List, subst}
+use Rattle.hash_join.specs.declared.pair.Pair.{Pair}
+use Rattle.join_batches.specs.Sides.{FitsIn}
 use Rattle.join_batches.proofs.Short.{fit_more}
 use Rattle.join_batches.proofs.sides.Sides.how_many_fit.Goals as goal
 
 pub loop-number-preserved : goal.loop-number-preserved
 loop-number-preserved c =
-    fit_more c.args.self.now c.args.pairs.now c.loop-number.number c.loop-number.count c.in_ok-count.count c.loop-number.invariant c.in_ok-count.ensures
+    let sides = c.args.self.now in
+    let number = c.loop-number.number in
+    fit_more sides c.args.placed.now.pairs.now number c.loop-number.count c.in_ok-count.count c.loop-number.invariant
+    (subst (λ (pairs : List Pair). FitsIn sides pairs number c.in_ok-count.count) c.first.ensures.pairs c.in_ok-count.ensures)

@@ -18,22 +18,22 @@ fitting-requires-clause-there c =
     let number = c.args.number in
     subst (λ (slots : List SlotRef). All (λ (slot : SlotRef). slot.place < slot.column.now.len) slots) (sym c.as_slice.ensures.value)
     (All-weaker (IsSlotOf (get_or (types_of sides) number Utf8)) (λ (slot : SlotRef). slot.place < slot.column.now.len) (λ slot is. is.0)
-    c.in_ok-slots.slots.items (held_there sides number c.args.pairs.now c.in_ok-slots.slots.items c.in_ok-slots.ensures))
+    c.in_ok-slots.slots.items (held_there sides number c.args.placed.now.pairs.now c.in_ok-slots.slots.items c.in_ok-slots.ensures))
 
 pub fitting-requires-clause-some : goal.fitting-requires-clause-some
 fitting-requires-clause-some c =
     let size = ap length c.as_slice.ensures.value in
-    let long = held_long c.args.self.now c.args.number c.args.pairs.now c.in_ok-slots.slots.items c.in_ok-slots.ensures in
+    let long = held_long c.args.self.now c.args.number c.args.placed.now.pairs.now c.in_ok-slots.slots.items c.in_ok-slots.ensures in
     omega (arith, size, long, c.requires.some)
 
 pub returns-then-not-has_texts : goal.returns-then-not-has_texts
 returns-then-not-has_texts c =
-    all_fit_in c.args.self.now c.args.pairs.now c.args.number c.requires.sides c.requires.there c.requires.some c.requires.number
+    all_fit_in c.args.self.now c.args.placed.now.pairs.now c.args.number c.requires.sides c.requires.there c.requires.some c.requires.number
     (sym (ap has_texts c.type_of.ensures) ∙ sym c.has_texts.ensures ∙ c.if-not-has_texts.true)
 
 pub returns : goal.returns
 returns c =
-    IfOk-weaker c.fitting.result (Fits (map slot_value c.as_slice.result.now)) (FitsIn c.args.self.now c.args.pairs.now c.args.number)
-    (λ count fits. fits_in c.args.self.now c.args.pairs.now c.in_ok-slots.slots.items c.args.number count c.in_ok-slots.ensures
+    IfOk-weaker c.fitting.result (Fits (map slot_value c.as_slice.result.now)) (FitsIn c.args.self.now c.args.placed.now.pairs.now c.args.number)
+    (λ count fits. fits_in c.args.self.now c.args.placed.now.pairs.now c.in_ok-slots.slots.items c.args.number count c.in_ok-slots.ensures
     (subst (λ (slots : List SlotRef). Fits (map slot_value slots) count) c.as_slice.ensures.value fits))
     c.fitting.ensures.fits

@@ -13,10 +13,13 @@ new-requires c =
     let count = c.in_ok-count.count in
     subst (λ (rows : ℕ). AreLong rows c.in_ok-columns.columns.items)
     (length-map (take count pairs) (pair_row sides.rights.now sides.left.now) ∙ length-take-le count pairs c.in_ok-count.ensures.within)
-    (all_long (rows_at sides (take count pairs)) 0 (width_of sides) c.in_ok-columns.columns.items c.in_ok-columns.ensures.cells)
+    (all_long (rows_at sides (take count pairs)) 0 (width_of sides) c.in_ok-columns.columns.items (rw c.first.ensures.pairs at c.in_ok-columns.ensures.cells))
 
 pub returns : goal.returns
 returns c =
     rw c.new.ensures
     (batch_made c.args.self.now c.args.pairs.now c.in_ok-count.count c.in_ok-columns.columns.items c.requires.sides c.requires.there c.in_ok-count.ensures
-    c.in_ok-columns.ensures.cells c.in_ok-columns.ensures.typed)
+    (rw c.first.ensures.pairs at c.in_ok-columns.ensures.cells) c.in_ok-columns.ensures.typed)
+
+pub how_many_fit-requires-clause-placed : goal.how_many_fit-requires-clause-placed
+how_many_fit-requires-clause-placed c = record { lefts = c.as_slice.ensures.value ∙ c.in_ok-lefts.ensures; rights = c.as_slice-2.ensures.value ∙ c.in_ok-rights.ensures }
