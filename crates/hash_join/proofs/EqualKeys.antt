@@ -1,5 +1,6 @@
 -- Keys that join are of one bucket.
-use Rattle.std.proofs.Common.{◌≡◌, ℕ, Bool, true, false, List, [], ◌∷◌, length, Option, Some, None, refl, sym, ap, ◌∙◌, arith}
+use Rattle.std.proofs.Common.{◌≡◌, ℕ, Bool, if◌then◌else◌, option_map, true, false, List, [], ◌∷◌, length, Option, Some, None, refl, sym, ap, ◌∙◌, arith}
+use Rattle.std.specs.List.{list_any}
 use Rattle.std.specs.Ordering.{int_cmp, nat_cmp, bool_cmp, is_eq}
 use Rattle.std.specs.Cmp.Lexicographic.{slice_cmp}
 use Rattle.std.specs.Cmp.{Equal-is, int_ranks}
@@ -16,7 +17,9 @@ use Rattle.scan_base.specs.Comparison.{compared}
 use Rattle.scan_base.specs.Truth.{keeps, truth_from}
 use Rattle.scan_base.specs.Value.{is_null}
 use Rattle.hash_join.specs.Pairs.{keys_join}
-use Rattle.hash_join.specs.Hashes.{fed, hash_of, bucket_of}
+use Rattle.hash_join.specs.declared.buckets.Buckets.{Buckets}
+use Rattle.hash_join.specs.declared.buckets.Buckets.TheVariants as parted
+use Rattle.hash_join.specs.Hashes.{fed, hash_of, number_of, bucket_among, bucket_of}
 use Rattle.hash_join.specs.Chains.{stands}
 
 kept : (b : Bool) → keeps (truth_from b) ≡ true → b ≡ true
@@ -65,20 +68,35 @@ some_hash begun (a ∷ xs) (b ∷ ys) e h =
     let rest = some_hash (fed begun a) xs ys (omega (arith, e)) parts.1 in
     (rest.0, rw (equal_known a b parts.0) rest.1)
 
+-- no part of it is null
+none_null : (xs ys : List Value) → length xs ≡ length ys → keys_join xs ys ≡ true → list_any is_null xs ≡ false
+none_null [] ys e h = refl
+none_null (a ∷ xs) [] e h = absurd (omega (arith, e))
+none_null (a ∷ xs) (b ∷ ys) e h =
+    let parts = and_parts (keeps (compared Equal a b)) (keys_join xs ys) h in
+    rw (equal_known a b parts.0) (none_null xs ys (omega (arith, e)) parts.1)
+
+-- a key that joins has a bucket
+some_bucket : (buckets : Buckets) (xs ys : List Value) → length xs ≡ length ys → keys_join xs ys ≡ true → (bucket : ℕ) × (bucket_of buckets xs ≡ Some bucket)
+some_bucket (parted.Hashed hashing) xs ys e h =
+    let hash = some_hash hashing.begun xs ys e h in (_, ap (option_map (λ hash. bit_and hash hashing.mask)) hash.1)
+some_bucket (parted.Ranked ranks) xs ys e h =
+    (bucket_among ranks (number_of xs), ap (λ (null : Bool). if null then None else Some (bucket_among ranks (number_of xs))) (none_null xs ys e h))
+
 -- keys that join are of one bucket
-one_bucket : (begun : DefaultHasher) (mask : ℕ) (xs ys : List Value) → length xs ≡ length ys → keys_join xs ys ≡ true →
-    stands (bucket_of begun mask xs) (bucket_of begun mask ys) ≡ true
-one_bucket begun mask xs ys e h =
-    let hash = some_hash begun xs ys e h in
-    rw (← same_keys xs ys e h) (rw hash.1 (eq-eqb (bit_and hash.0 mask) (bit_and hash.0 mask) refl))
+one_bucket : (buckets : Buckets) (xs ys : List Value) → length xs ≡ length ys → keys_join xs ys ≡ true →
+    stands (bucket_of buckets xs) (bucket_of buckets ys) ≡ true
+one_bucket buckets xs ys e h =
+    let bucket = some_bucket buckets xs ys e h in
+    rw (← same_keys xs ys e h) (rw bucket.1 (eq-eqb bucket.0 bucket.0 refl))
 
 -- keys of two buckets do not join
-pub two_buckets : (begun : DefaultHasher) (mask : ℕ) (xs ys : List Value) → length xs ≡ length ys →
-    stands (bucket_of begun mask xs) (bucket_of begun mask ys) ≡ false → keys_join xs ys ≡ false
-two_buckets begun mask xs ys e apart = of (keys_join xs ys) refl
+pub two_buckets : (buckets : Buckets) (xs ys : List Value) → length xs ≡ length ys →
+    stands (bucket_of buckets xs) (bucket_of buckets ys) ≡ false → keys_join xs ys ≡ false
+two_buckets buckets xs ys e apart = of (keys_join xs ys) refl
   where
     of : (joined : Bool) → keys_join xs ys ≡ joined → joined ≡ false
-    of true h = absurd (false≢true (sym apart ∙ one_bucket begun mask xs ys e h))
+    of true h = absurd (false≢true (sym apart ∙ one_bucket buckets xs ys e h))
     of false h = refl
 
 -- a row that stands in a chain has its bucket

@@ -12,8 +12,9 @@ use Rattle.hash_join.specs.declared.walk.Walk.{Walk}
 use Rattle.hash_join.specs.Pairs.{row_at}
 use Rattle.hash_join.specs.KeyRows.{key_of}
 use Rattle.hash_join.specs.Rights.{place_at, key_at, bucket_at}
+use Rattle.hash_join.specs.Hashes.{last_of}
 use Rattle.hash_join.specs.Chains.{stands, Leads}
-use Rattle.hash_join.specs.Walks.{joins_at, pair_at, pairs_past, bucket_left, in_chain, IsWalk, Follows}
+use Rattle.hash_join.specs.Walks.{joins_at, pair_at, pairs_past, bucket_left, in_chain, IsWalk, JoinsChain, Follows}
 use Rattle.hash_join.proofs.EqualKeys.{two_buckets, standing}
 
 -- items that do not pass are left out
@@ -46,7 +47,7 @@ module _ (walk : Walk) (is : IsWalk walk) where
   misses : (row : ℕ) → in_chain walk row ≡ false → joins_at walk (place_at walk.rights.now row) ≡ false
   misses row apart =
       let rights = walk.rights.now in
-      two_buckets rights.buckets.begun rights.buckets.mask (key_of walk.left) (key_at rights row)
+      two_buckets rights.buckets (key_of walk.left) (key_at rights row)
       (length-map walk.left.key.now (cell_in (row_of walk.left.batch.now.columns walk.left.row)) ∙ is.alike
       ∙ sym (length-map rights.key.items (cell_in (row_at rights.batches.items (place_at rights row))))) apart
 
@@ -59,7 +60,7 @@ module _ (walk : Walk) (is : IsWalk walk) where
       ∙ ap (pairs_past walk) e
 
   -- the first row of the left row's chain
-  pub head_leads : (bucket : ℕ) → bucket_left walk ≡ Some bucket → bucket ≤ walk.rights.now.buckets.mask →
+  pub head_leads : (bucket : ℕ) → bucket_left walk ≡ Some bucket → bucket ≤ last_of walk.rights.now.buckets →
       Leads (in_chain walk) (length walk.rights.now.places.items) 0 (get_or walk.chains.now.heads.items bucket 0)
   head_leads bucket at le =
       let count = length walk.rights.now.places.items in
@@ -124,3 +125,28 @@ module _ (walk : Walk) (is : IsWalk walk) where
       let l : count ≤ from + count = omega arith in
       ap (map (pair_at walk)) (all_miss
       ∙ ap (filter (joins_at walk)) (drop_of_length-le walk.rights.now.places.items l ∙ sym (drop_of_length-le walk.rights.now.places.items le)))
+
+  -- behind the last right row none is left
+  pub past_all : pairs_past walk (length walk.rights.now.places.items) ≡ []
+  past_all = ap (λ (places : List (ℕ × ℕ)). map (pair_at walk) (filter (joins_at walk) places)) (drop_of_length-le walk.rights.now.places.items (omega arith))
+
+  -- a left row whose chain has no row joins nothing
+  pub none_led : (bucket from : ℕ) → bucket_left walk ≡ Some bucket → bucket ≤ last_of walk.rights.now.buckets →
+      length walk.rights.now.places.items ≤ get_or walk.chains.now.heads.items bucket 0 → pairs_past walk from ≡ []
+  none_led bucket from at le past =
+      let count = length walk.rights.now.places.items in
+      let lead = head_leads bucket at le in
+      let all_miss = skip (joins_at walk) walk.rights.now.places.items (0, 0) count from
+      (λ row h l within. misses row (lead.none row (omega arith) (omega (arith, within, past)))) in
+      let l : count ≤ from + count = omega arith in
+      ap (map (pair_at walk)) (all_miss ∙ ap (filter (joins_at walk)) (drop_of_length-le walk.rights.now.places.items l))
+
+  -- one row of a chain all of whose rows join
+  pub next_taken : (row most : ℕ) (made new whole : List Pair) (pair : Pair) → JoinsChain walk → row < length walk.rights.now.places.items → length made < most →
+      new ≡ made ++ pair ∷ [] → pair ≡ pair_at walk (place_at walk.rights.now row) → Follows walk row made whole most →
+      Follows walk (get_or walk.chains.now.links.items row 0) new whole most
+  next_taken row most made new whole pair all lt few e at had =
+      let joins = all row lt (had.there lt) in
+      let one : pair_of_row row ≡ pair ∷ [] = ap (λ (b : Bool). if b then pair_at walk (place_at walk.rights.now row) ∷ [] else []) joins ∙ ap (λ (p : Pair). p ∷ []) (sym at) in
+      subst (λ (some : List Pair). Follows walk (get_or walk.chains.now.links.items row 0) some whole most) (ap (λ (some : List Pair). made ++ some) one ∙ sym e)
+      (next_follows row most made whole lt few had)

@@ -1,6 +1,7 @@
 -- Inside: chains of the right rows of each bucket. No chain is a list: the next row of a chain is the first one after which stands in it.
 use Rattle.std.specs.Prelude.{◌≡◌, ◌≤◌, ◌<◌, ◌+◌, ◌==◌, ℕ, Bool, true, false, List, length, get_or, Option, Some, None}
 use Rattle.hash_join.specs.declared.rights.Rights.{Rights}
+use Rattle.hash_join.specs.Hashes.{last_of}
 use Rattle.hash_join.specs.Rights.{bucket_at}
 
 -- whether a row of the second bucket stands in the chain of the first; without a bucket it stands in none
@@ -17,13 +18,13 @@ pub record Leads (in_chain : ℕ → Bool) (count from head : ℕ) : Type 0 wher
 
 -- The rows from a row on are linked: each bucket has the first of its chain, and each row that has a bucket the next of its
 -- chain.
-pub record AreLinked (buckets : ℕ → Option ℕ) (mask count : ℕ) (heads links : List ℕ) (from : ℕ) : Type 0 where
-  pub heads_count : length heads ≡ mask + 1
+pub record AreLinked (buckets : ℕ → Option ℕ) (last count : ℕ) (heads links : List ℕ) (from : ℕ) : Type 0 where
+  pub heads_count : length heads ≡ last + 1
   pub links_count : length links ≡ count
-  pub first : (bucket : ℕ) → bucket ≤ mask → Leads (λ row. stands (Some bucket) (buckets row)) count from (get_or heads bucket 0)
+  pub first : (bucket : ℕ) → bucket ≤ last → Leads (λ row. stands (Some bucket) (buckets row)) count from (get_or heads bucket 0)
   pub next : (row bucket : ℕ) → from ≤ row → row < count → buckets row ≡ Some bucket →
       Leads (λ later. stands (Some bucket) (buckets later)) count (row + 1) (get_or links row 0)
 
 -- the rows of a right side from a row on are linked
 abbrev pub HasLinked : Rights → List ℕ → List ℕ → ℕ → Type 0
-HasLinked rights heads links from = AreLinked (bucket_at rights) rights.buckets.mask (length rights.places.items) heads links from
+HasLinked rights heads links from = AreLinked (bucket_at rights) (last_of rights.buckets) (length rights.places.items) heads links from

@@ -1,18 +1,24 @@
--- Inside: the hash of a key. It is a function of the key's values, so that equal keys have one; nothing else matters of it.
-use Rattle.std.specs.Prelude.{ℕ, List, [], ◌∷◌, Option, Some, None, if◌then◌else◌, bit_and}
-use Rattle.std.specs.List.{fold}
+-- Inside: the bucket of a key. It is a function of the key's values, so that equal keys have one; nothing else matters of it.
+use Rattle.std.specs.Prelude.{◌-ℤ◌, ℕ, ℤ, pos, negsuc, Bool, false, List, [], ◌∷◌, Option, Some, None, unwrap_or, get_or, if◌then◌else◌, bit_and, min}
+use Rattle.std.specs.List.{fold, list_any}
 use Rattle.std.specs.Option.{option_map}
 use Rattle.std.specs.Hash as written
 use Rattle.std.specs.Hash.DefaultHasher as sip
 use Rattle.std.specs.declared.hash.DefaultHasher.{DefaultHasher}
 use Rattle.scan_base.specs.declared.value.Value.{Value}
-use Rattle.scan_base.specs.declared.value.Value.TheVariants.{Null, Bool, Int, Text}
+use Rattle.scan_base.specs.declared.value.Value.TheVariants.{Null, Bool as Flag, Int, Text}
 use Rattle.scan_base.specs.Value.{is_null}
+use Rattle.hash_join.specs.declared.buckets.Hashing.{Hashing}
+use Rattle.hash_join.specs.declared.spans.Span.{Span}
+use Rattle.hash_join.specs.declared.ranks.Ranks.{Ranks}
+use Rattle.hash_join.specs.declared.buckets.Buckets.{Buckets}
+use Rattle.hash_join.specs.declared.buckets.Buckets.TheVariants as parted
+use Rattle.hash_join.specs.Ranks.{rank_at}
 
 -- a hasher that was fed a value
 abbrev pub fed : DefaultHasher → Value → DefaultHasher
 fed hasher Null = hasher
-fed hasher (Bool flag) = fold sip.write hasher (written.bool flag)
+fed hasher (Flag flag) = fold sip.write hasher (written.bool flag)
 fed hasher (Int number) = fold sip.write hasher (written.i128 number)
 fed hasher (Text text) = fold sip.write hasher (written.str text)
 
@@ -21,6 +27,47 @@ abbrev pub hash_of : DefaultHasher → List Value → Option ℕ
 hash_of hasher [] = Some (sip.finish hasher)
 hash_of hasher (value ∷ values) = if is_null value then None else hash_of (fed hasher value) values
 
--- the bucket of a key: the last bits of its hash
-abbrev pub bucket_of : DefaultHasher → ℕ → List Value → Option ℕ
-bucket_of begun mask key = option_map (λ hash. bit_and hash mask) (hash_of begun key)
+-- the bucket of a key by its hash: the last bits of it
+abbrev pub hashed_bucket : Hashing → List Value → Option ℕ
+hashed_bucket hashing key = option_map (λ hash. bit_and hash hashing.mask) (hash_of hashing.begun key)
+
+-- the number that is the key; none where it has several parts, or is no number
+abbrev pub number_of : List Value → Option ℤ
+number_of (Int number ∷ []) = Some number
+number_of _ = None
+
+-- the place of a number, counted from the first of so many; behind the last of them where it is none of them
+abbrev pub index_among : ℤ → ℕ → ℕ
+index_among (pos index) count = min index count
+index_among (negsuc index) count = count
+
+-- the place of a number among those of a span; behind the last of them where it is none of them
+abbrev pub place_among : Span → ℤ → ℕ
+place_among span number = index_among (number -ℤ span.least) span.count
+
+-- whether a number is a right key, as far as the bits say
+abbrev pub is_key : Ranks → ℤ → Bool
+is_key ranks number = get_or ranks.keys (place_among ranks.span number) false
+
+-- the bucket of a number, where no other key has it: how many right keys are before it
+abbrev pub own_bucket : Ranks → ℤ → Option ℕ
+own_bucket ranks number = if is_key ranks number then Some (rank_at ranks.keys (place_among ranks.span number)) else None
+
+-- the bucket of a number: its own where it has one, and else the last
+abbrev pub bucket_among : Ranks → Option ℤ → ℕ
+bucket_among ranks (Some number) = unwrap_or (own_bucket ranks number) ranks.last
+bucket_among ranks None = ranks.last
+
+-- the bucket of a key by its number; none where a part of it is null
+abbrev pub ranked_bucket : Ranks → List Value → Option ℕ
+ranked_bucket ranks key = if list_any is_null key then None else Some (bucket_among ranks (number_of key))
+
+-- the bucket of a key; none where a part of it is null
+abbrev pub bucket_of : Buckets → List Value → Option ℕ
+bucket_of (parted.Hashed hashing) key = hashed_bucket hashing key
+bucket_of (parted.Ranked ranks) key = ranked_bucket ranks key
+
+-- the last bucket
+abbrev pub last_of : Buckets → ℕ
+last_of (parted.Hashed hashing) = hashing.mask
+last_of (parted.Ranked ranks) = ranks.last

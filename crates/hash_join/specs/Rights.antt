@@ -5,7 +5,7 @@ use Rattle.scan_base.specs.Limits.{most_rows}
 use Rattle.scan_base.specs.declared.value.Value.{Value}
 use Rattle.arrays.specs.Batch.{BatchAt}
 use Rattle.hash_join.specs.declared.rights.Rights.{Rights}
-use Rattle.hash_join.specs.Hashes.{bucket_of}
+use Rattle.hash_join.specs.Hashes.{bucket_of, last_of}
 use Rattle.hash_join.specs.Pairs.{key_in, places, row_at}
 
 -- the place of a row
@@ -22,11 +22,11 @@ key_at rights number = key_from rights (place_at rights number)
 
 -- the bucket of a row; none where a part of its key is null
 abbrev pub bucket_at : Rights → ℕ → Option ℕ
-bucket_at rights number = bucket_of rights.buckets.begun rights.buckets.mask (key_at rights number)
+bucket_at rights number = bucket_of rights.buckets (key_at rights number)
 
 -- the places are those of the rows of the batches, few enough to be counted, and each batch has the columns of the key
 pub record AreRights (rights : Rights) : Type 0 where
   pub places : rights.places.items ≡ places rights.batches.items
   pub few : length rights.places.items ≤ most_rows
   pub columns : All (λ (batch : BatchAt). IsTrue (list_all (λ column. nat_lt column (length batch.columns)) rights.key.items)) rights.batches.items
-  pub mask : rights.buckets.mask < 2 ^ 32
+  pub last : last_of rights.buckets < 2 ^ 32

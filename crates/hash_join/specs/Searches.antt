@@ -1,11 +1,18 @@
 -- Inside: a left batch whose rows look for their partners.
-use Rattle.std.specs.Prelude.{◌≡◌, ◌≤◌, ◌<◌, ◌^◌, ◌++◌, ℕ, List, IsTrue, length, nat_lt}
+use Rattle.std.specs.Prelude.{◌≡◌, ◌≤◌, ◌<◌, ◌+◌, ◌^◌, ◌++◌, ℕ, Bool, false, List, [], Option, Some, IsTrue, length, get_or, nat_lt}
 use Rattle.std.specs.List.{list_all}
 use Rattle.hash_join.specs.declared.build.Probe.{Probe}
 use Rattle.hash_join.specs.declared.pair.Pair.{Pair}
 use Rattle.hash_join.specs.declared.rights.Rights.{Rights}
 use Rattle.hash_join.specs.declared.chains.Chains.{Chains}
 use Rattle.hash_join.specs.declared.search.Search.{Search}
+use Rattle.hash_join.specs.declared.search.NumberKeys.{NumberKeys}
+use Rattle.hash_join.specs.declared.walk.Walk.{Walk}
+use Rattle.hash_join.specs.declared.buckets.Buckets.TheVariants as parted
+use Rattle.arrays.specs.declared.layout.Layout.TheVariants as layout
+use Rattle.arrays.specs.Column.{ColumnAt}
+use Rattle.hash_join.specs.Hashes.{last_of}
+use Rattle.hash_join.specs.Walks.{pairs_past, bucket_left, JoinsChain}
 use Rattle.hash_join.specs.Pairs.{BuildAt, pairs_ahead}
 use Rattle.hash_join.specs.Rights.{AreRights}
 use Rattle.hash_join.specs.Chains.{HasLinked}
@@ -29,6 +36,32 @@ pub record IsSearch (search : Search) : Type 0 where
 -- the pairs that are still to be given
 abbrev pub ahead_of : Search → Probe → List Pair
 ahead_of search probe = pairs_ahead (build_of search.rights.now) search.left.batch.now search.left.key.now probe
+
+-- a left row of the batch
+abbrev pub walk_at : Search → ℕ → Walk
+walk_at search row = record { rights = search.rights; chains = search.chains; left = record { batch = search.left.batch; key = search.left.key; row = row } }
+
+-- a left row that does not pass joins nothing
+abbrev pub Passes : Search → (ℕ → Bool) → Type 0
+Passes search passes = (row from : ℕ) → row < search.left.batch.now.rows → passes row ≡ false → pairs_past (walk_at search row) from ≡ []
+
+-- a left row that is told a bucket has it, and joins each right row of it
+pub record IsTold (search : Search) (row told : ℕ) : Type 0 where
+  pub own : bucket_left (walk_at search row) ≡ Some told
+  pub within : told ≤ last_of search.rights.now.buckets
+  pub all : JoinsChain (walk_at search row)
+
+abbrev pub Tells : Search → (ℕ → Option ℕ) → Type 0
+Tells search bucket = (row told : ℕ) → row < search.left.batch.now.rows → bucket row ≡ Some told → IsTold search row told
+
+-- the left key is one column of integers, and each right row has a bucket of its number's own
+pub record AreKeysOf (search : Search) (keys : NumberKeys) : Type 0 where
+  pub parted : search.rights.now.buckets ≡ parted.Ranked keys.ranks.now
+  pub empty : length search.rights.now.places.items ≤ get_or search.chains.now.heads.items keys.ranks.now.last 0
+  pub single : length search.left.key.now ≡ 1
+  pub slots : (other : ColumnAt) → get_or search.left.batch.now.columns (get_or search.left.key.now 0 0) other
+      ≡ record { layout = layout.Integers keys.cells; first = keys.first; len = search.left.batch.now.rows }
+  pub there : keys.first + search.left.batch.now.rows ≤ keys.cells.len
 
 -- the pairs that are found, and those that are still to be found, are all
 pub record Searches (search : Search) (probe : Probe) (made whole : List Pair) (most : ℕ) : Type 0 where

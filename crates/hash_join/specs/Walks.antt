@@ -6,7 +6,7 @@ use Rattle.hash_join.specs.declared.walk.Walk.{Walk}
 use Rattle.hash_join.specs.Pairs.{keys_join}
 use Rattle.hash_join.specs.Hashes.{bucket_of}
 use Rattle.hash_join.specs.KeyRows.{key_of, IsKeyRow}
-use Rattle.hash_join.specs.Rights.{key_from, bucket_at, AreRights}
+use Rattle.hash_join.specs.Rights.{key_from, place_at, bucket_at, AreRights}
 use Rattle.hash_join.specs.Chains.{stands, HasLinked}
 
 -- whether the left row joins the right row at a place
@@ -23,11 +23,15 @@ pairs_past walk from = map (pair_at walk) (filter (joins_at walk) (drop from wal
 
 -- the bucket of the left row
 abbrev pub bucket_left : Walk → Option ℕ
-bucket_left walk = bucket_of walk.rights.now.buckets.begun walk.rights.now.buckets.mask (key_of walk.left)
+bucket_left walk = bucket_of walk.rights.now.buckets (key_of walk.left)
 
 -- whether a right row stands in the left row's chain
 abbrev pub in_chain : Walk → ℕ → Bool
 in_chain walk row = stands (bucket_left walk) (bucket_at walk.rights.now row)
+
+-- the left row joins each right row of its chain
+abbrev pub JoinsChain : Walk → Type 0
+JoinsChain walk = (row : ℕ) → row < length walk.rights.now.places.items → in_chain walk row ≡ true → joins_at walk (place_at walk.rights.now row) ≡ true
 
 -- the right rows are linked, and the left row has a key of as many parts
 pub record IsWalk (walk : Walk) : Type 0 where

@@ -29,7 +29,7 @@ impl Chains {
     {
         let rows = rights.places.len();
         let mut heads = Vec::new(alloc);
-        heads.resize(rights.buckets.mask + 1, rows as u32)?;
+        heads.resize(rights.buckets.last() + 1, rows as u32)?;
         let mut links = Vec::new(alloc);
         links.resize(rows, 0u32)?;
         for row in (0..rows).rev() {

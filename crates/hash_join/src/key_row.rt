@@ -1,13 +1,14 @@
 //! A row of a batch by its key.
 
 ghost use Rattle.std.specs.Prelude.{◌≡◌, ◌<◌, get_or, length, not};
+ghost use Rattle.std.specs.List.{list_any};
 ghost use Rattle.scan_base.specs.Comparison.{compared};
 ghost use Rattle.scan_base.specs.Truth.{keeps};
 ghost use Rattle.scan_base.specs.Value.{value_of, is_null};
 ghost use Rattle.scan_base.specs.declared.comparison.Comparison.TheVariants.{Equal};
 ghost use Rattle.scan_base.specs.declared.value.Value.TheVariants.{Null};
 ghost use Rattle.hash_join.specs.Pairs.{keys_join};
-ghost use Rattle.hash_join.specs.Hashes.{fed, hash_of};
+ghost use Rattle.hash_join.specs.Hashes.{fed, hash_of, number_of};
 ghost use Rattle.hash_join.specs.KeyRows.{key_of, IsKeyRow};
 
 use arrays::{Batch, Cells};
@@ -31,6 +32,33 @@ impl<'a> KeyRow<'a> {
     {
         let columns = self.batch.columns();
         columns[self.key[number]].value_at(self.row)
+    }
+
+    // Whether a part of the key is null.
+    pub(crate) fn has_null(&self) -> bool
+        requires { IsKeyRow self.now }
+        ensures { result ≡ list_any is_null (key_of self.now) }
+    {
+        for number in 0..self.key.len() {
+            if is_null(self.part(number)) {
+                return true;
+            }
+        }
+        false
+    }
+
+    // The number that is the key: none where the key has several parts, or one that is no number.
+    pub(crate) fn number(&self) -> Option<i128>
+        requires { IsKeyRow self.now }
+        ensures { result ≡ number_of (key_of self.now) }
+    {
+        if self.key.len() != 1 {
+            return None;
+        }
+        match self.part(0) {
+            ValueRef::Int(number) => Some(number),
+            _ => None,
+        }
     }
 
     // The hash of the key's values, begun with what a hasher has taken in; none where one is null.
@@ -60,6 +88,16 @@ impl<'a> KeyRow<'a> {
             }
         }
         true
+    }
+}
+
+// Whether a value is null.
+fn is_null(value: ValueRef<'_>) -> bool
+    ensures { result ≡ is_null (value_of value.entry) }
+{
+    match value {
+        ValueRef::Null => true,
+        _ => false,
     }
 }
 

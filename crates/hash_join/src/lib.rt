@@ -1,12 +1,19 @@
 //! Joins of batches by equal keys: pairs of rows in the order of nested loops.
 #![tactic(auto)]
 
+mod buckets;
 pub mod build;
 mod chains;
+mod key_element;
 mod key_row;
+mod marks;
+mod numbers;
 pub mod pair;
+mod ranks;
 mod rights;
 mod search;
+mod sieve;
+mod spans;
 mod walk;
 
 pub use crate::build::{Build, LeftSide, Probe};

@@ -5,36 +5,18 @@ ghost use Rattle.std.specs.List.{list_all, range_with_len};
 ghost use Rattle.scan_base.specs.Limits.{most_rows};
 ghost use Rattle.arrays.specs.Batch.{BatchAt};
 ghost use Rattle.hash_join.specs.Pairs.{places};
-ghost use Rattle.hash_join.specs.Hashes.{bucket_of};
+ghost use Rattle.hash_join.specs.Hashes.{last_of};
 ghost use Rattle.hash_join.specs.KeyRows.{key_of, IsKeyRow};
 ghost use Rattle.hash_join.specs.Rights.{key_at, bucket_at, AreRights};
 
+use crate::buckets::{Buckets, Hashing};
 use crate::key_row::KeyRow;
+use crate::ranks::Ranks;
+use crate::spans::Span;
 use arrays::Batch;
 use hash_seed::HashSeed;
 use std::alloc::{AllocError, Global};
-use std::hash::{BuildHasher, DefaultHasher};
-
-// How keys are parted into buckets: by the last bits, which the mask has, of a hash that begins with the hasher.
-#[derive(Clone, Copy, Drop)]
-pub(crate) struct Buckets {
-    pub(crate) begun: DefaultHasher,
-    pub(crate) mask: usize,
-}
-
-impl Buckets {
-    // The bucket of a row's key; none where a part of it is null.
-    pub(crate) fn bucket(&self, row: &KeyRow<'_>) -> Option<usize>
-        requires { IsKeyRow row.now }
-        ensures bucket { result ≡ bucket_of self.now.begun self.now.mask (key_of row.now) }
-        ensures within { IfSome result (λ bucket. bucket ≤ self.now.mask) }
-    {
-        match row.hash_from(self.begun) {
-            None => None,
-            Some(hash) => Some(hash as usize & self.mask),
-        }
-    }
-}
+use std::hash::BuildHasher;
 
 // The batches of the right side, the numbers of the columns that are the key, and for the number of each row, counted over
 // all batches, its place: the number of its batch and its own in it.
@@ -58,7 +40,8 @@ impl Drop for Rights {
 }
 
 impl Rights {
-    // The rows of these batches, parted into as many buckets as there are rows, or up to twice as many.
+    // The rows of these batches, parted into buckets: by their number, where these are keys that lie close together, and else
+    // by their hash into as many as there are rows, or up to twice as many.
     pub(crate) fn new(
         alloc: Global,
         seed: HashSeed,
@@ -73,9 +56,12 @@ impl Rights {
         ensures whole { IfOk result (λ rights. AreRights rights) }
     {
         let places = places_of(alloc, &batches)?;
-        let buckets = Buckets {
-            begun: seed.build_hasher(),
-            mask: (places.len() + 1).next_power_of_two() - 1,
+        let buckets = match Span::of(&batches, &key, places.len()) {
+            Some(span) => Buckets::Ranked(Ranks::of(alloc, span, &batches, &key)?),
+            None => Buckets::Hashed(Hashing {
+                begun: seed.build_hasher(),
+                mask: (places.len() + 1).next_power_of_two() - 1,
+            }),
         };
         Ok(Rights {
             batches,
@@ -106,7 +92,7 @@ impl Rights {
         requires whole { AreRights self.now }
         requires within { number < length self.now.places.items }
         ensures bucket { result ≡ bucket_at self.now number }
-        ensures within { IfSome result (λ bucket. bucket ≤ self.now.buckets.mask) }
+        ensures within { IfSome result (λ bucket. bucket ≤ last_of self.now.buckets) }
     {
         self.buckets.bucket(&self.key_row(number))
     }

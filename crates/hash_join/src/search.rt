@@ -1,15 +1,25 @@
 //! A left batch whose rows look for their partners.
 
-ghost use Rattle.std.specs.Prelude.{◌≡◌, ◌≤◌, ◌<◌, ◌++◌, [], IfOk, length};
-ghost use Rattle.hash_join.specs.Searches.{ahead_of, IsSearch};
+ghost use Rattle.std.specs.Prelude.{◌≡◌, ◌≤◌, ◌<◌, ◌++◌, ◌==◌, [], IfOk, get_or, length, nat_le};
+ghost use Rattle.hash_join.specs.declared.buckets.Buckets.TheVariants as parted;
+ghost use Rattle.hash_join.specs.Hashes.{last_of};
+ghost use Rattle.hash_join.specs.Walks.{pairs_past};
+ghost use Rattle.hash_join.specs.Searches.{ahead_of, walk_at, AreKeysOf, IsSearch, Passes, Tells};
 
+use crate::buckets::Buckets;
 use crate::build::{LeftSide, Probe};
 use crate::chains::Chains;
+use crate::key_element::KeyElement;
 use crate::key_row::KeyRow;
 use crate::pair::Pair;
+use crate::ranks::Ranks;
 use crate::rights::Rights;
+use crate::sieve::{AllRows, NumberRows, Sieve, first_passing};
 use crate::walk::Walk;
+use arrays::{Cells, Integers, Layout};
+use arrow_schema::IntegerType;
 use std::alloc::AllocError;
+use std::marker::PhantomData;
 
 // A left batch, and the right rows with their chains.
 #[derive(Clone, Copy, Drop)]
@@ -17,6 +27,14 @@ pub(crate) struct Search<'a> {
     pub(crate) rights: &'a Rights,
     pub(crate) chains: &'a Chains,
     pub(crate) left: LeftSide<'a>,
+}
+
+// Left keys that are integers of one column, and the ranks by which the right keys are parted.
+#[derive(Drop)]
+pub(crate) struct NumberKeys<'a> {
+    pub(crate) cells: Integers<'a>,
+    pub(crate) first: usize,
+    pub(crate) ranks: &'a Ranks,
 }
 
 impl<'a> Search<'a> {
@@ -33,30 +51,204 @@ impl<'a> Search<'a> {
         ensures few { IfOk result (λ _. length pairs.new.items ≤ most) }
         ensures ended { IfOk result (λ stop. length pairs.new.items < most → ahead_of self.now stop ≡ []) }
     {
+        match &self.rights.buckets {
+            Buckets::Ranked(ranks) if self.has_one_part() && self.is_empty(ranks.last) => {
+                self.push_numbers(ranks, probe, most, pairs)
+            }
+            _ => self.push_all(probe, most, pairs),
+        }
+    }
+
+    // Whether the left key is one column.
+    fn has_one_part(&self) -> bool
+        ensures { result ≡ (length (self.now).left.key.now == 1) }
+    {
+        self.left.key.len() == 1
+    }
+
+    // Whether the chain of a bucket has no row.
+    fn is_empty(&self, bucket: usize) -> bool
+        requires whole { IsSearch self.now }
+        requires within { bucket ≤ last_of (self.now).rights.now.buckets }
+        ensures { result ≡ nat_le (length (self.now).rights.now.places.items) (get_or (self.now).chains.now.heads.items bucket 0) }
+    {
+        self.chains.heads[bucket] as usize >= self.rights.places.len()
+    }
+
+    // The same, where each row is looked up.
+    fn push_all(
+        &self,
+        probe: &Probe,
+        most: usize,
+        pairs: &mut Vec<Pair>,
+    ) -> Result<Probe, AllocError>
+        requires whole { IsSearch self.now }
+        requires few { length pairs.old.items ≤ most }
+        ensures given { IfOk result (λ stop. pairs.new.items ++ ahead_of self.now stop ≡ pairs.old.items ++ ahead_of self.now probe.now) }
+        ensures few { IfOk result (λ _. length pairs.new.items ≤ most) }
+        ensures ended { IfOk result (λ stop. length pairs.new.items < most → ahead_of self.now stop ≡ []) }
+    {
+        let sieve = AllRows {
+            count: self.left.batch.rows(),
+        };
+        self.push_through(&sieve, probe, most, pairs)
+    }
+
+    // The same, where each right row has a bucket of its number's own, and the left key is one column.
+    fn push_numbers(
+        &self,
+        ranks: &'a Ranks,
+        probe: &Probe,
+        most: usize,
+        pairs: &mut Vec<Pair>,
+    ) -> Result<Probe, AllocError>
+        requires whole { IsSearch self.now }
+        requires parted { (self.now).rights.now.buckets ≡ parted.Ranked ranks.now }
+        requires empty { length (self.now).rights.now.places.items ≤ get_or (self.now).chains.now.heads.items ranks.now.last 0 }
+        requires single { length (self.now).left.key.now ≡ 1 }
+        requires few { length pairs.old.items ≤ most }
+        ensures given { IfOk result (λ stop. pairs.new.items ++ ahead_of self.now stop ≡ pairs.old.items ++ ahead_of self.now probe.now) }
+        ensures few { IfOk result (λ _. length pairs.new.items ≤ most) }
+        ensures ended { IfOk result (λ stop. length pairs.new.items < most → ahead_of self.now stop ≡ []) }
+    {
+        let column = &self.left.batch.columns()[self.left.key[0]];
+        let _count = column.len();
+        match column.layout() {
+            Layout::Integers(cells) => {
+                let keys = NumberKeys {
+                    cells,
+                    first: column.first(),
+                    ranks,
+                };
+                self.push_keys(keys, probe, most, pairs)
+            }
+            _ => self.push_all(probe, most, pairs),
+        }
+    }
+
+    // The same, where the left keys are integers of one column.
+    fn push_keys(
+        &self,
+        keys: NumberKeys<'a>,
+        probe: &Probe,
+        most: usize,
+        pairs: &mut Vec<Pair>,
+    ) -> Result<Probe, AllocError>
+        requires whole { IsSearch self.now }
+        requires keys { AreKeysOf self.now keys }
+        requires few { length pairs.old.items ≤ most }
+        ensures given { IfOk result (λ stop. pairs.new.items ++ ahead_of self.now stop ≡ pairs.old.items ++ ahead_of self.now probe.now) }
+        ensures few { IfOk result (λ _. length pairs.new.items ≤ most) }
+        ensures ended { IfOk result (λ stop. length pairs.new.items < most → ahead_of self.now stop ≡ []) }
+    {
+        match keys.cells.integer_type() {
+            IntegerType::Int8 => self.push_as::<i8>(keys, probe, most, pairs),
+            IntegerType::Int16 => self.push_as::<i16>(keys, probe, most, pairs),
+            IntegerType::Int32 => self.push_as::<i32>(keys, probe, most, pairs),
+            IntegerType::Int64 => self.push_as::<i64>(keys, probe, most, pairs),
+            IntegerType::UInt8 => self.push_as::<u8>(keys, probe, most, pairs),
+            IntegerType::UInt16 => self.push_as::<u16>(keys, probe, most, pairs),
+            IntegerType::UInt32 => self.push_as::<u32>(keys, probe, most, pairs),
+            IntegerType::UInt64 => self.push_as::<u64>(keys, probe, most, pairs),
+        }
+    }
+
+    // The same for integers of a type.
+    fn push_as<E: KeyElement>(
+        &self,
+        keys: NumberKeys<'a>,
+        probe: &Probe,
+        most: usize,
+        pairs: &mut Vec<Pair>,
+    ) -> Result<Probe, AllocError>
+        requires whole { IsSearch self.now }
+        requires keys { AreKeysOf self.now keys }
+        requires kind { E.kind ≡ keys.cells.integer }
+        requires few { length pairs.old.items ≤ most }
+        ensures given { IfOk result (λ stop. pairs.new.items ++ ahead_of self.now stop ≡ pairs.old.items ++ ahead_of self.now probe.now) }
+        ensures few { IfOk result (λ _. length pairs.new.items ≤ most) }
+        ensures ended { IfOk result (λ stop. length pairs.new.items < most → ahead_of self.now stop ≡ []) }
+    {
+        let sieve: NumberRows<'_, E> = NumberRows {
+            cells: keys.cells,
+            first: keys.first,
+            count: self.left.batch.rows(),
+            ranks: keys.ranks,
+            kind: PhantomData,
+        };
+        self.push_through(&sieve, probe, most, pairs)
+    }
+
+    // The same, where rows that a sieve stops join nothing.
+    fn push_through<S: Sieve>(
+        &self,
+        sieve: &S,
+        probe: &Probe,
+        most: usize,
+        pairs: &mut Vec<Pair>,
+    ) -> Result<Probe, AllocError>
+        requires whole { IsSearch self.now }
+        requires all { (self.now).left.batch.now.rows ≤ S.count sieve.now }
+        requires sound { Passes self.now (S.passes sieve.now) }
+        requires told { Tells self.now (S.bucket sieve.now) }
+        requires few { length pairs.old.items ≤ most }
+        ensures given { IfOk result (λ stop. pairs.new.items ++ ahead_of self.now stop ≡ pairs.old.items ++ ahead_of self.now probe.now) }
+        ensures few { IfOk result (λ _. length pairs.new.items ≤ most) }
+        ensures ended { IfOk result (λ stop. length pairs.new.items < most → ahead_of self.now stop ≡ []) }
+    {
         let rows = self.left.batch.rows();
-        let mut from = probe.from;
-        for row in probe.left..rows {
-            let walk = Walk {
-                rights: self.rights,
-                chains: self.chains,
-                left: KeyRow {
-                    batch: self.left.batch,
-                    key: self.left.key,
-                    row,
-                },
-            };
-            let stop = walk.push_pairs(from, most, pairs)?;
+        let mut at = *probe;
+        'rows: while at.left < rows {
+            let stop = self.push_row(sieve, &at, most, pairs)?;
             if stop < self.rights.places.len() {
                 return Ok(Probe {
-                    left: row,
+                    left: at.left,
                     from: stop,
                 });
             }
-            from = 0;
+            at = Probe {
+                left: first_passing(sieve, at.left + 1, rows),
+                from: 0,
+            };
         }
-        Ok(Probe {
-            left: rows,
-            from: 0,
-        })
+        Ok(at)
+    }
+
+    // Adds the pairs of one left row with right rows from one on, until there are `most`, and gives the right row where it
+    // stopped: before the last row only where there are.
+    fn push_row<S: Sieve>(
+        &self,
+        sieve: &S,
+        probe: &Probe,
+        most: usize,
+        pairs: &mut Vec<Pair>,
+    ) -> Result<usize, AllocError>
+        requires whole { IsSearch self.now }
+        requires row { probe.now.left < (self.now).left.batch.now.rows }
+        requires all { (self.now).left.batch.now.rows ≤ S.count sieve.now }
+        requires sound { Passes self.now (S.passes sieve.now) }
+        requires told { Tells self.now (S.bucket sieve.now) }
+        requires few { length pairs.old.items ≤ most }
+        ensures given { IfOk result (λ stop. pairs.new.items ++ pairs_past (walk_at self.now probe.now.left) stop
+            ≡ pairs.old.items ++ pairs_past (walk_at self.now probe.now.left) probe.now.from) }
+        ensures few { IfOk result (λ _. length pairs.new.items ≤ most) }
+        ensures stop { IfOk result (λ stop. stop < length (self.now).rights.now.places.items → most ≤ length pairs.new.items) }
+    {
+        if !sieve.passes(probe.left) {
+            return Ok(self.rights.places.len());
+        }
+        let walk = Walk {
+            rights: self.rights,
+            chains: self.chains,
+            left: KeyRow {
+                batch: self.left.batch,
+                key: self.left.key,
+                row: probe.left,
+            },
+        };
+        match sieve.bucket(probe.left) {
+            None => walk.push_pairs(probe.from, most, pairs),
+            Some(bucket) => walk.push_chain(bucket, probe.from, most, pairs),
+        }
     }
 }

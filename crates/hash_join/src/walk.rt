@@ -2,8 +2,9 @@
 
 ghost use Rattle.std.specs.Prelude.{◌≡◌, ◌≤◌, ◌<◌, ◌++◌, [], ◌∷◌, IfOk, OnOk, Some, if◌then◌else◌, length, true};
 ghost use Rattle.hash_join.specs.Rights.{place_at};
+ghost use Rattle.hash_join.specs.Hashes.{last_of};
 ghost use Rattle.hash_join.specs.Chains.{Leads};
-ghost use Rattle.hash_join.specs.Walks.{bucket_left, in_chain, joins_at, pair_at, pairs_past, IsWalk};
+ghost use Rattle.hash_join.specs.Walks.{bucket_left, in_chain, joins_at, pair_at, pairs_past, IsWalk, JoinsChain};
 
 use crate::chains::Chains;
 use crate::key_row::KeyRow;
@@ -44,7 +45,7 @@ impl<'a> Walk<'a> {
     fn first_in(&self, bucket: usize, from: usize) -> usize
         requires whole { IsWalk self.now }
         requires bucket { bucket_left self.now ≡ Some bucket }
-        requires within { bucket ≤ (self.now).rights.now.buckets.mask }
+        requires within { bucket ≤ last_of (self.now).rights.now.buckets }
         ensures { Leads (in_chain self.now) (length (self.now).rights.now.places.items) from result }
     {
         if from == 0 {
@@ -87,6 +88,63 @@ impl<'a> Walk<'a> {
         Ok(at)
     }
 
+    // The same as `push_pairs`, where the left row joins each row of its chain.
+    pub(crate) fn push_chain(
+        &self,
+        bucket: usize,
+        from: usize,
+        most: usize,
+        pairs: &mut Vec<Pair>,
+    ) -> Result<usize, AllocError>
+        requires whole { IsWalk self.now }
+        requires bucket { bucket_left self.now ≡ Some bucket }
+        requires within { bucket ≤ last_of (self.now).rights.now.buckets }
+        requires all { JoinsChain self.now }
+        requires few { length pairs.old.items ≤ most }
+        ensures given { IfOk result (λ stop. pairs.new.items ++ pairs_past self.now stop ≡ pairs.old.items ++ pairs_past self.now from) }
+        ensures few { IfOk result (λ _. length pairs.new.items ≤ most) }
+        ensures stop { IfOk result (λ stop. stop < length (self.now).rights.now.places.items → most ≤ length pairs.new.items) }
+    {
+        self.take_chain(self.first_in(bucket, from), most, pairs)
+    }
+
+    // Adds the pairs with the rows of the chain from one of them on, all of which join, until there are `most`.
+    fn take_chain(
+        &self,
+        first: usize,
+        most: usize,
+        pairs: &mut Vec<Pair>,
+    ) -> Result<usize, AllocError>
+        requires whole { IsWalk self.now }
+        requires all { JoinsChain self.now }
+        requires there { first < length (self.now).rights.now.places.items → in_chain self.now first ≡ true }
+        requires few { length pairs.old.items ≤ most }
+        ensures given { IfOk result (λ stop. pairs.new.items ++ pairs_past self.now stop ≡ pairs.old.items ++ pairs_past self.now first) }
+        ensures few { IfOk result (λ _. length pairs.new.items ≤ most) }
+        ensures stop { IfOk result (λ stop. stop < length (self.now).rights.now.places.items → most ≤ length pairs.new.items) }
+    {
+        let mut at = first;
+        'chain: while at < self.rights.places.len() && pairs.len() < most {
+            pairs.push(self.pair(at))?;
+            at = self.chains.links[at] as usize;
+        }
+        Ok(at)
+    }
+
+    // The pair with a right row.
+    fn pair(&self, at: usize) -> Pair
+        requires whole { IsWalk self.now }
+        requires within { at < length (self.now).rights.now.places.items }
+        ensures { result ≡ pair_at self.now (place_at (self.now).rights.now at) }
+    {
+        let (batch, row) = self.rights.places[at];
+        Pair {
+            left: self.left.row as u32,
+            batch,
+            row,
+        }
+    }
+
     // Adds the pair with a right row, where the two join.
     fn push_pair(&self, at: usize, pairs: &mut Vec<Pair>) -> Result<(), AllocError>
         requires whole { IsWalk self.now }
@@ -95,12 +153,7 @@ impl<'a> Walk<'a> {
             ++ (if joins_at self.now (place_at (self.now).rights.now at) then pair_at self.now (place_at (self.now).rights.now at) ∷ [] else [])) }
     {
         if self.left.joins(&self.rights.key_row(at)) {
-            let (batch, row) = self.rights.places[at];
-            pairs.push(Pair {
-                left: self.left.row as u32,
-                batch,
-                row,
-            })?;
+            pairs.push(self.pair(at))?;
         }
         Ok(())
     }

@@ -1,0 +1,95 @@
+//! Packed numbers that are keys, read by their type.
+
+ghost use Rattle.std.specs.Prelude.{◌≡◌, ◌≤◌, ◌<◌, ◌+◌, ◌*◌, ℕ, length};
+ghost use Rattle.arrow_schema.specs.declared.data_type.IntegerType.{IntegerType};
+ghost use Rattle.arrow_schema.specs.declared.data_type.IntegerType.TheVariants as integer;
+ghost use Rattle.arrays.specs.Number.{byte_width, integer_at};
+ghost use Rattle.arrays.specs.Validity.{is_valid, IsLong};
+
+use arrays::Element;
+use bitmap::Bits;
+
+/// A type of integers that packed keys may be of.
+pub(crate) trait KeyElement {
+    ghost kind: { IntegerType };
+
+    /// Number `place` of packed ones, counted from 0.
+    fn number_at(values: &[u8], place: usize) -> i128
+        requires { byte_width kind * (place + 1) ≤ length values.now }
+        ensures { result ≡ integer_at kind values.now place };
+}
+
+impl KeyElement for i8 {
+    ghost kind = { integer.Int8 };
+
+    fn number_at(values: &[u8], place: usize) -> i128 {
+        i128::from(i8::read(values, place))
+    }
+}
+
+impl KeyElement for i16 {
+    ghost kind = { integer.Int16 };
+
+    fn number_at(values: &[u8], place: usize) -> i128 {
+        i128::from(i16::read(values, place))
+    }
+}
+
+impl KeyElement for i32 {
+    ghost kind = { integer.Int32 };
+
+    fn number_at(values: &[u8], place: usize) -> i128 {
+        i128::from(i32::read(values, place))
+    }
+}
+
+impl KeyElement for i64 {
+    ghost kind = { integer.Int64 };
+
+    fn number_at(values: &[u8], place: usize) -> i128 {
+        i128::from(i64::read(values, place))
+    }
+}
+
+impl KeyElement for u8 {
+    ghost kind = { integer.UInt8 };
+
+    fn number_at(values: &[u8], place: usize) -> i128 {
+        i128::from(u8::read(values, place))
+    }
+}
+
+impl KeyElement for u16 {
+    ghost kind = { integer.UInt16 };
+
+    fn number_at(values: &[u8], place: usize) -> i128 {
+        i128::from(u16::read(values, place))
+    }
+}
+
+impl KeyElement for u32 {
+    ghost kind = { integer.UInt32 };
+
+    fn number_at(values: &[u8], place: usize) -> i128 {
+        i128::from(u32::read(values, place))
+    }
+}
+
+impl KeyElement for u64 {
+    ghost kind = { integer.UInt64 };
+
+    fn number_at(values: &[u8], place: usize) -> i128 {
+        i128::from(u64::read(values, place))
+    }
+}
+
+/// Whether the slot at a place is valid: each is, where there are no bits.
+pub(crate) fn is_known(validity: &Option<Bits>, place: usize) -> bool
+    requires { (len : ℕ) × (place < len) × IsLong validity.now len }
+    ensures { result ≡ is_valid validity.now place }
+{
+    match validity {
+        None => true,
+        Some(bits) => bits.get(place),
+    }
+}

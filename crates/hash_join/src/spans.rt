@@ -1,0 +1,113 @@
+//! Numbers that lie close together.
+
+ghost use Rattle.std.specs.Prelude.{◌≡◌, ◌≤◌, ◌<◌, ◌-ℤ◌, ◌^◌, All, IfSome, IsTrue, length, nat_lt};
+ghost use Rattle.std.specs.List.{list_all};
+ghost use Rattle.scan_base.specs.Limits.{most_rows};
+ghost use Rattle.arrays.specs.Batch.{BatchAt};
+ghost use Rattle.hash_join.specs.Hashes.{index_among, place_among};
+
+use crate::numbers::{TakesNumbers, take_numbers};
+use arrays::Batch;
+
+// So many numbers for each row may lie from the least key to the greatest, and so many more, that each has a bit.
+const MOST_NUMBERS_A_ROW: usize = 16;
+
+const MORE_NUMBERS: usize = 1_024;
+
+// So many numbers, from the least on.
+#[derive(Clone, Copy, Drop)]
+pub(crate) struct Span {
+    pub(crate) least: i64,
+    pub(crate) count: usize,
+}
+
+// The least and the greatest of some numbers.
+#[derive(Clone, Copy, Drop)]
+struct Ends {
+    least: i128,
+    most: i128,
+}
+
+impl Ends {
+    // Those of no numbers.
+    fn none() -> Ends {
+        Ends {
+            least: i128::MAX,
+            most: i128::MIN,
+        }
+    }
+
+    // From the least to the greatest, where these are no more than so many numbers.
+    fn span(self, most: usize) -> Option<Span>
+        ensures { IfSome result (λ span. span.count ≤ most) }
+    {
+        let last = usize::try_from(self.most.checked_sub(self.least)?).ok()?;
+        if last >= most {
+            return None;
+        }
+        let least = i64::try_from(self.least).ok()?;
+        Some(Span {
+            least,
+            count: last + 1,
+        })
+    }
+}
+
+impl TakesNumbers for Ends {
+    fn take(&mut self, number: i128) {
+        self.least = self.least.min(number);
+        self.most = self.most.max(number);
+    }
+}
+
+impl Span {
+    // The span of the keys of these batches, which have so many rows: none where these are no integers of one column, or lie
+    // far apart.
+    pub(crate) fn of(batches: &[Batch], key: &[usize], rows: usize) -> Option<Span>
+        requires there { All (λ (batch : BatchAt). IsTrue (list_all (λ column. nat_lt column (length batch.columns)) key.now)) batches.now }
+        requires few { rows ≤ most_rows }
+        ensures few { IfSome result (λ span. span.count < 2 ^ 31) }
+        ensures single { IfSome result (λ span. length key.now ≡ 1) }
+    {
+        if key.len() != 1 {
+            return None;
+        }
+        let mut ends = Ends::none();
+        for batch in batches {
+            if !take_numbers(batch, key, &mut ends) {
+                return None;
+            }
+        }
+        ends.span(MOST_NUMBERS_A_ROW * rows + MORE_NUMBERS)
+    }
+
+    // The place of a number; behind the last of them where it is none of them.
+    pub(crate) fn place(&self, number: i128) -> usize
+        ensures place { result ≡ place_among self.now number }
+        ensures within { result ≤ self.now.count }
+    {
+        place_from(number, i128::from(self.least), self.count)
+    }
+}
+
+// The place of a number among so many from the least on; behind the last of them where it is none of them.
+fn place_from(number: i128, least: i128, count: usize) -> usize
+    ensures place { result ≡ index_among (number -ℤ least) count }
+    ensures within { result ≤ count }
+{
+    match number.checked_sub(least) {
+        None => count,
+        Some(index) => index_among(index, count),
+    }
+}
+
+// The place of a number, counted from the first of so many; behind the last of them where it is none of them.
+fn index_among(index: i128, count: usize) -> usize
+    ensures place { result ≡ index_among index count }
+    ensures within { result ≤ count }
+{
+    match usize::try_from(index) {
+        Ok(index) => index.min(count),
+        Err(_) => count,
+    }
+}
