@@ -1,5 +1,5 @@
 -- Rows that are grouped, batch by batch, and what is answered of their groups.
-use Rattle.std.proofs.Common.{◌≡◌, ◌≤◌, ◌<◌, ℕ, suc, ◌+◌, ◌-◌, Bool, true, false, cond, List, [], ◌∷◌, ◌++◌, length, map, take, get_or, Option, Some, None, Result, Ok, Err, refl, sym, ap, ◌∙◌, subst, arith, append-nil, All}
+use Rattle.std.proofs.Common.{◌≡◌, ◌≤◌, ◌<◌, ℕ, suc, ◌+◌, ◌-◌, Bool, true, false, cond, List, [], ◌∷◌, ◌++◌, length, map, take, get_or, Option, Some, None, Result, Ok, Err, refl, sym, ap, ◌∙◌, subst, arith, append-nil, append_assoc, All}
 use Rattle.std.specs.List.{filter, flat_map, range_with_len}
 use Rattle.std.specs.Result.{IfOk}
 use Rattle.std.specs.declared.alloc.AllocError.{AllocError}
@@ -7,8 +7,10 @@ use Rattle.std.specs.Global.{Global}
 use Rattle.std.specs.Prelude.{Vec}
 use Rattle.std.proofs.Math.Seq.{take-suc}
 use Rattle.std.proofs.lemmas.Grind.{flat_map-append}
-use Rattle.std.proofs.lemmas.List.{map-append, length-map, get_or_default}
+use Rattle.std.proofs.lemmas.List.{map-append, length-append, length-map, get_or_default}
 use Rattle.std.proofs.lemmas.List.Elements.{filter-append}
+use Rattle.std.proofs.lemmas.List.FromFn.{length-range_with_len}
+use Rattle.kernels.proofs.PushedRows.{filter_more}
 use Rattle.std.proofs.lemmas.List.Folds.{length-flat_map-take}
 use Rattle.arrow_schema.specs.Answer.{answer_type}
 use Rattle.arrow_schema.specs.declared.data_type.DataType.{DataType}
@@ -22,7 +24,7 @@ use Rattle.typed_plan.specs.declared.plan.Aggregate.{Aggregate}
 use Rattle.typed_plan.specs.Plan.{answered, groups_by}
 use Rattle.typed_plan.specs.Typed.{item_type}
 use Rattle.grouping.specs.Answers.{AnswersAt, Finishes, GivesAnswer, IsAnswerOf, IsOver, answer_types, answers_ahead}
-use Rattle.grouping.specs.Fed.{GroupsAt, Holds, HasFed, IsNew, batch_at}
+use Rattle.grouping.specs.Fed.{GroupsAt, Holds, HasFed, IsAlike, IsNew, batch_at}
 use Rattle.scan_exec.specs.declared.cursor.Part.{Part}
 use Rattle.scan_exec.specs.declared.grouped.MadeGroups.{MadeGroups}
 use Rattle.scan_exec.specs.declared.grouped.Stage.{Stage}
@@ -30,7 +32,7 @@ use Rattle.scan_exec.specs.declared.grouped.Stage.TheVariants.{Waiting, Made}
 use Rattle.scan_exec.specs.declared.grouped.Wanted.{Wanted}
 use Rattle.scan_exec.specs.Giving.{GivingAt, GivingOn, GivesNext}
 use Rattle.scan_exec.specs.Collected.{AreCollected, IsBatchOf}
-use Rattle.scan_exec.specs.Grouped.{AnswersAll, AreFed, AreMade, IsAnswering, of_groups, passing, wanted_rows, wanted_types}
+use Rattle.scan_exec.specs.Grouped.{AnswersAll, AreFed, AreMade, IsAnswering, of_groups, passing, passing_before, wanted_rows, wanted_types}
 use Rattle.scan_exec.specs.Picking.{PickAt, IsPick, holds, chosen_rows, pick_of}
 use Rattle.scan_exec.specs.Running.{RowsAt, GoesOn}
 use Rattle.scan_exec.proofs.Giving.{filter-map}
@@ -44,6 +46,71 @@ passing_few test (x ∷ xs) = by (test x) (passing_few test xs)
     by : (b : Bool) → length (filter test xs) ≤ length xs → length (cond b (x ∷ filter test xs) (filter test xs)) ≤ suc (length xs)
     by true few = omega (arith, few)
     by false few = omega (arith, few)
+
+-- what is alike to one that is alike
+alike_still : (first groups after : GroupsAt) → IsAlike first groups → IsAlike groups after → IsAlike first after
+alike_still first groups after before now = record {
+  batches = now.batches ∙ before.batches;
+  types = now.types ∙ before.types;
+  keys = now.keys ∙ before.keys;
+  items = now.items ∙ before.items;
+}
+
+-- ---- a part of a batch more
+
+-- no part of it yet
+pub none_fed : (groups : GroupsAt) → groups.refused ≡ None → HasFed groups groups []
+none_fed groups ready = record {
+  alike = record { batches = refl; types = refl; keys = refl; items = refl };
+  refused = ready;
+  count = omega arith;
+  held = λ earlier held. subst (Holds groups) (sym (append-nil earlier)) held;
+}
+
+-- one part behind others
+both_fed : (first groups after : GroupsAt) (some more : List Row) → HasFed first groups some → HasFed groups after more → HasFed first after (some ++ more)
+both_fed first groups after some more before now = record {
+  alike = alike_still first groups after before.alike now.alike;
+  refused = now.refused;
+  count = omega (arith, now.count, before.count, length-append some more);
+  held = λ earlier held. subst (Holds after) (append_assoc earlier some more) (now.held (earlier ++ some) (before.held earlier held));
+}
+
+module _ (pick : PickAt) (batch : BatchAt) (part : Part) (of : part.batch.now ≡ batch) (ordered : part.from ≤ part.to) where
+  -- the rows of the parts so far, with those that were chosen of this one
+  passing_more : passing_before pick batch part.from ++ map (row_of batch.columns) (chosen_rows pick part) ≡ passing_before pick batch part.to
+  passing_more =
+      let test : ℕ → Bool = λ row. holds pick (row_of batch.columns row) in
+      let size : part.from - 0 ≡ part.from = omega arith in
+      let whole : part.to - 0 ≡ part.to = omega arith in
+      rw of
+      (sym (map-append (row_of batch.columns) (filter test (range_with_len 0 part.from)) (filter test (range_with_len part.from (part.to - part.from))))
+      ∙ ap (λ (n : ℕ). map (row_of batch.columns) (filter test (range_with_len 0 n) ++ filter test (range_with_len part.from (part.to - part.from)))) (sym size)
+      ∙ ap (map (row_of batch.columns)) (filter_more test 0 part.from part.to (omega arith) ordered)
+      ∙ ap (λ (n : ℕ). map (row_of batch.columns) (filter test (range_with_len 0 n))) whole)
+
+  -- they can be fed
+  pub part_few : (first groups : GroupsAt) (rows : List ℕ) → rows ≡ chosen_rows pick part → HasFed first groups (passing_before pick batch part.from) →
+      part.to ≤ batch.rows → first.count + batch.rows ≤ most_rows → groups.count + length rows ≤ most_rows
+  part_few first groups rows e fed within few =
+      let test : ℕ → Bool = λ row. holds pick (row_of part.batch.now.columns row) in
+      let mine = passing_few test (range_with_len part.from (part.to - part.from)) in
+      let long = length-range_with_len part.from (part.to - part.from) in
+      let before = passing_few (λ row. holds pick (row_of batch.columns row)) (range_with_len 0 part.from) in
+      let earlier = length-range_with_len 0 part.from in
+      let mapped = length-map (filter (λ row. holds pick (row_of batch.columns row)) (range_with_len 0 part.from)) (row_of batch.columns) in
+      omega (arith, ap length e, mine, long, before, earlier, mapped, fed.count, within, few, ordered)
+
+  -- and then the rows of the parts so far are fed
+  pub part_fed : (first groups after : GroupsAt) (rows : List ℕ) → rows ≡ chosen_rows pick part → HasFed first groups (passing_before pick batch part.from) →
+      HasFed groups after (map (row_of batch.columns) rows) → HasFed first after (passing_before pick batch part.to)
+  part_fed first groups after rows e fed has =
+      subst (HasFed first after) (ap (λ (some : List ℕ). passing_before pick batch part.from ++ map (row_of batch.columns) some) e ∙ passing_more)
+      (both_fed first groups after (passing_before pick batch part.from) (map (row_of batch.columns) rows) fed has)
+
+-- those before the end are all that pass
+pub passing_all : (pick : PickAt) (batch : BatchAt) (end : ℕ) → end ≡ batch.rows → passing_before pick batch end ≡ passing pick (rows_of batch)
+passing_all pick batch end is = rw is (sym (filter-map (holds pick) (row_of batch.columns) (range_with_len 0 batch.rows)))
 
 -- ---- one batch more
 
@@ -62,45 +129,22 @@ module _ (pick : PickAt) (batches : List BatchAt) (k : ℕ) (batch : BatchAt) (t
       ∙ ap (λ (some : List Row). passing pick (flat_map rows_of (take k batches) ++ some)) (append-nil (rows_of batch))
       ∙ filter-append (holds pick) (flat_map rows_of (take k batches)) (rows_of batch)
 
-  module _ (part : Part) (of : part.batch.now ≡ batch) (from : part.from ≡ 0) (to : part.to ≡ batch.rows) where
-    -- the rows of the whole batch that pass are those chosen of it
-    chosen_are : map (row_of batch.columns) (chosen_rows pick part) ≡ passing pick (rows_of batch)
-    chosen_are =
-        let test : ℕ → Bool = λ row. holds pick (row_of batch.columns row) in
-        let size : batch.rows - 0 ≡ batch.rows = omega arith in
-        rw (of, from, to)
-        (ap (λ (n : ℕ). map (row_of batch.columns) (filter test (range_with_len 0 n))) size
-        ∙ sym (filter-map (holds pick) (row_of batch.columns) (range_with_len 0 batch.rows)))
+  -- so many rows can be fed
+  pub few_enough : (first groups : GroupsAt) → AreFed first so_far groups → length (flat_map rows_of batches) ≤ most_rows → groups.count + batch.rows ≤ most_rows
+  few_enough first groups fed few =
+      let all = length-flat_map-take rows_of batches k batch there in
+      let mine : length (rows_of batch) ≡ length (rows_of (get_or batches k batch)) = ap (λ (b : BatchAt). length (rows_of b)) is in
+      let size = passing_few (holds pick) (flat_map rows_of (take k batches)) in
+      omega (arith, all, mine, size, few, fed.held.count, length-rows_of batch)
 
-    -- no more are chosen than it has rows
-    chosen_few : length (chosen_rows pick part) ≤ batch.rows
-    chosen_few =
-        let long = length-map (chosen_rows pick part) (row_of batch.columns) in
-        let few = passing_few (holds pick) (rows_of batch) in
-        omega (arith, long, few, ap length chosen_are, length-rows_of batch)
-
-    -- so they can be fed
-    pub few_enough : (first groups : GroupsAt) (rows : List ℕ) → rows ≡ chosen_rows pick part → AreFed first so_far groups →
-        length (flat_map rows_of batches) ≤ most_rows → groups.count + length rows ≤ most_rows
-    few_enough first groups rows e fed few =
-        let all = length-flat_map-take rows_of batches k batch there in
-        let mine : length (rows_of batch) ≡ length (rows_of (get_or batches k batch)) = ap (λ (b : BatchAt). length (rows_of b)) is in
-        let size = passing_few (holds pick) (flat_map rows_of (take k batches)) in
-        omega (arith, all, mine, size, few, fed.held.count, ap length e, chosen_few, length-rows_of batch)
-
-    -- and then the rows so far are fed
-    pub more_fed : (first groups after : GroupsAt) (rows : List ℕ) → rows ≡ chosen_rows pick part → AreFed first so_far groups →
-        HasFed groups after (map (row_of batch.columns) rows) → AreFed first (passing pick (flat_map rows_of (take (k + 1) batches))) after
-    more_fed first groups after rows e fed has = record {
-      alike = record {
-        batches = has.alike.batches ∙ fed.alike.batches;
-        types = has.alike.types ∙ fed.alike.types;
-        keys = has.alike.keys ∙ fed.alike.keys;
-        items = has.alike.items ∙ fed.alike.items;
-      };
-      refused = has.refused;
-      held = subst (Holds after) (ap (λ (some : List Row). so_far ++ some) (ap (map (row_of batch.columns)) e ∙ chosen_are) ∙ sym rows_more) (has.held so_far fed.held);
-    }
+  -- and then the rows so far are fed
+  pub more_fed : (first groups after : GroupsAt) → AreFed first so_far groups → HasFed groups after (passing pick (rows_of batch)) →
+      AreFed first (passing pick (flat_map rows_of (take (k + 1) batches))) after
+  more_fed first groups after fed has = record {
+    alike = alike_still first groups after fed.alike has.alike;
+    refused = has.refused;
+    held = subst (Holds after) (sym rows_more) (has.held so_far fed.held);
+  }
 
   -- it is the batch of its number
   pub is_at : (all : List BatchAt) → all ≡ batches → batch_at all k ≡ batch
