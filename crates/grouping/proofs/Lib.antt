@@ -21,3 +21,4 @@ pub mod Knowing
 pub mod Tagging
 pub mod ShortTexts
 pub mod OneColumn
+pub mod Pieced

@@ -6,5 +6,6 @@ pub mod Finishing
 pub mod Kept
 pub mod Knowing
 pub mod Merging
+pub mod Pieces
 pub mod Placing
 pub mod Slots

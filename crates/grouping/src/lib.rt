@@ -12,6 +12,7 @@ mod key;
 mod known;
 pub mod laws;
 mod part;
+mod pieces;
 mod slots;
 mod sums;
 mod table;

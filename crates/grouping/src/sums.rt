@@ -7,11 +7,15 @@ ghost use Rattle.grouping.specs.inside.Counting.{AreWithin, CanCount, stepped};
 ghost use Rattle.grouping.specs.inside.Slots.{AreSlots};
 
 use crate::part::{Part, add_each};
+use crate::pieces::{MOST_PIECES, blank_pieces, fill_pieces, join_pieces};
 use crate::slots::{Number, Slots, integer_slots};
 use crate::tally::Tally;
 use arrays::{Cells, Layout};
 use arrow_schema::IntegerType;
 use typed_plan::Aggregate;
+
+// Of how many rows for each group sums are made in pieces.
+const LEAST_ROWS: usize = 4;
 
 /// Adds the number of each row to the tally of its group.
 pub(crate) fn sum_rows(tallies: &mut [Tally], column: usize, part: &Part<'_>)
@@ -56,8 +60,53 @@ fn sum_kind(tallies: &mut [Tally], column: usize, slots: &Slots<'_>, part: &Part
     }
 }
 
-// Adds the number of each row to the tally of its group, where these are the numbers of the column, of a type.
+// Adds the number of each row to the tally of its group, where these are the numbers of the column, of a type: in pieces,
+// where each of few groups has some rows.
 fn sum_slots<N: Number>(tallies: &mut [Tally], column: usize, slots: &Slots<'_>, part: &Part<'_>)
+    requires kind { slots.now.kind ≡ N.kind }
+    requires slots { AreSlots slots.now column part.now.batch.now }
+    requires within { All (λ row. row < part.now.batch.now.rows) part.now.rows.now }
+    requires grouped { All (λ group. group < length tallies.old) part.now.groups.now }
+    requires long { length part.now.groups.now ≡ length part.now.rows.now }
+    requires few { part.now.fed + length part.now.rows.now ≤ most_rows }
+    requires small { AreWithin part.now.fed tallies.old }
+    ensures stepped { tallies.new ≡ stepped (SumOf column) part.now.batch.now.columns part.now.groups.now part.now.rows.now tallies.old (length part.now.rows.now) }
+    ensures small { AreWithin (part.now.fed + length part.now.rows.now) tallies.new }
+{
+    if tallies.len() <= MOST_PIECES && tallies.len() <= part.rows.len() / LEAST_ROWS {
+        return sum_in_pieces::<N>(tallies, column, slots, part);
+    }
+    sum_each::<N>(tallies, column, slots, part)
+}
+
+// Adds the number of each row to the tally of its group, of few, where these are the numbers of the column, of a type.
+fn sum_in_pieces<N: Number>(
+    tallies: &mut [Tally],
+    column: usize,
+    slots: &Slots<'_>,
+    part: &Part<'_>,
+)
+    requires groups { length tallies.old ≤ 1024 }
+    requires kind { slots.now.kind ≡ N.kind }
+    requires slots { AreSlots slots.now column part.now.batch.now }
+    requires within { All (λ row. row < part.now.batch.now.rows) part.now.rows.now }
+    requires grouped { All (λ group. group < length tallies.old) part.now.groups.now }
+    requires long { length part.now.groups.now ≡ length part.now.rows.now }
+    requires few { part.now.fed + length part.now.rows.now ≤ most_rows }
+    requires small { AreWithin part.now.fed tallies.old }
+    ensures stepped { tallies.new ≡ stepped (SumOf column) part.now.batch.now.columns part.now.groups.now part.now.rows.now tallies.old (length part.now.rows.now) }
+    ensures small { AreWithin (part.now.fed + length part.now.rows.now) tallies.new }
+{
+    let mut blank = blank_pieces();
+    let pieces = &mut blank[..tallies.len()];
+    if !fill_pieces::<N>(pieces, column, slots, part) {
+        return sum_each::<N>(tallies, column, slots, part);
+    }
+    join_pieces(tallies, pieces);
+}
+
+// Adds the number of each row to the tally of its group, where these are the numbers of the column, of a type.
+fn sum_each<N: Number>(tallies: &mut [Tally], column: usize, slots: &Slots<'_>, part: &Part<'_>)
     requires kind { slots.now.kind ≡ N.kind }
     requires slots { AreSlots slots.now column part.now.batch.now }
     requires within { All (λ row. row < part.now.batch.now.rows) part.now.rows.now }

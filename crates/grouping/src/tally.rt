@@ -108,15 +108,15 @@ impl Tally {
     }
 }
 
-// 1 for a valid slot, and 0 for another.
-fn ones(valid: bool) -> u64
+/// 1 for a valid slot, and 0 for another.
+pub(crate) fn ones(valid: bool) -> u64
     ensures { result ≡ (if valid then 1 else 0) }
 {
     valid as u64
 }
 
-// The number of a valid slot, and 0 of another.
-fn kept(valid: bool, number: i64) -> i64
+/// The number of a valid slot, and 0 of another.
+pub(crate) fn kept(valid: bool, number: i64) -> i64
     ensures { result ≡ (if valid then number else pos 0) }
 {
     if valid { number } else { 0 }

@@ -7,7 +7,7 @@ use Rattle.grouping.specs.Tallies.{no_rows, summed}
 use Rattle.grouping.specs.inside.Slots.{number_or_null}
 use Rattle.grouping.proofs.Stepping.{step}
 use Rattle.grouping.proofs.Slotted.{small_after, summed_cell}
-use Rattle.grouping.proofs.sums.sum_slots.Goals as goal
+use Rattle.grouping.proofs.sums.sum_each.Goals as goal
 
 pub loop-k-preserved : goal.loop-k-preserved
 loop-k-preserved g c =
