@@ -71,20 +71,40 @@ pub(crate) fn know_nothing(known: &mut Vec<Known>, wanted: usize) -> Result<(), 
     known.resize(wanted, Known::nothing())
 }
 
-/// How many keys may be known of so many groups and rows.
+/// How many keys may be known of so many groups and rows. They are many more than the groups, since two keys that have one
+/// place take it from each other.
 pub(crate) fn known_count(found: usize, rows: usize) -> usize
     ensures { 0 < result }
 {
     if found <= 64 && rows <= 1_024 {
         256
+    } else if found <= 64 {
+        1_024
     } else if found <= 1_024 {
-        4_096
+        16_384
     } else if found <= 16_384 {
-        65_536
-    } else if found <= 65_536 {
+        131_072
+    } else if found <= 262_144 {
         262_144
     } else {
         1_048_576
+    }
+}
+
+/// How many indices may be known of so many rows, where a dictionary has so many entries. Indices that follow each other have
+/// places apart.
+pub(crate) fn index_count(entries: usize, rows: usize) -> usize
+    ensures { 0 < result }
+{
+    let most = entries.min(rows);
+    if most <= 64 {
+        256
+    } else if most <= 1_024 {
+        4_096
+    } else if most <= 8_192 {
+        16_384
+    } else {
+        32_768
     }
 }
 

@@ -10,7 +10,7 @@ ghost use Rattle.grouping.specs.inside.Placing.{found_by, ArePlaced, FirstsStay}
 ghost use Rattle.grouping.specs.RowKeys.{key_of, same_first};
 
 use crate::key::RowKey;
-use crate::known::{Known, know_nothing, known_count, known_group, short_group};
+use crate::known::{Known, index_count, know_nothing, known_group, short_group};
 use crate::slots::{Entries, Number, Slots, entry_slots, integer_slots};
 use crate::tags::{IndexTags, NumberTags, Tags, text_tags};
 use arrays::{Batch, Layout};
@@ -153,7 +153,7 @@ fn groups_of_entries<'t>(
     let mut fresh = Vec::new(alloc);
     know_nothing(
         &mut fresh,
-        known_count(entries.dictionary.len(), chosen.rows.len()),
+        index_count(entries.dictionary.len(), chosen.rows.len()),
     )?;
     let known = fresh.as_mut_slice();
     match entries.slots.kind {
