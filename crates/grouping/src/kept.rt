@@ -4,12 +4,14 @@ ghost use Rattle.std.specs.Prelude.{◌≡◌, ◌≤◌, ◌<◌, ◌+◌, All,
 ghost use Rattle.std.specs.List.{list_all};
 ghost use Rattle.scan_base.specs.Limits.{most_rows};
 ghost use Rattle.scan_base.specs.declared.value.Value.{Value as Cell};
+ghost use Rattle.arrays.specs.Batch.{row_of};
+ghost use Rattle.grouping.specs.Found.{found_then};
 ghost use Rattle.grouping.specs.RowKeys.{key_of};
 ghost use Rattle.grouping.specs.inside.Adding.{CanCountAll, IsKept, IsGrown, lists_of};
 ghost use Rattle.grouping.specs.inside.Kept.{AreBlank};
 ghost use Rattle.grouping.specs.inside.Knowing.{AreKnown, value_tagged};
 ghost use Rattle.grouping.specs.inside.Merging.{FirstsJoin, IsMerged};
-ghost use Rattle.grouping.specs.inside.Placing.{found_by, FirstsStay};
+ghost use Rattle.grouping.specs.inside.Placing.{found_by, ArePlaced, FirstsStay};
 
 use crate::groups::Grouping;
 use crate::joined::{Others, join_all, join_firsts};
@@ -23,10 +25,10 @@ use indexmap::IndexSet;
 use std::alloc::{AllocError, Global};
 use typed_plan::Aggregate;
 
-// Of fewer rows no key is known by a number.
+// For fewer rows no entries are made.
 const LEAST_ROWS: usize = 16;
 
-// Of fewer groups some are known even where each row opens one.
+// Of fewer groups keys are known even where each row opens one.
 const LEAST_GROUPS: usize = 256;
 
 /// The first row of each group, for each item the tally of each group, how many rows were fed, and which keys are known by
@@ -64,9 +66,7 @@ pub(crate) fn add<'t>(
     ensures firsts { OnOk result (FirstsStay chosen.now kept.old.firsts.keys kept.new.firsts.keys) }
     ensures known { OnOk result (AreKnown value_tagged (map key_of kept.new.firsts.keys) kept.new.known.items) }
 {
-    let before = kept.firsts.len();
-    make_known(&mut kept.known, before, kept.count, chosen.rows.len())?;
-    let groups = place_rows(alloc, &mut kept.firsts, kept.known.as_mut_slice(), chosen)?;
+    let groups = place_kept(alloc, kept, chosen)?;
     let found = found_count(chosen.columns, &kept.firsts);
     let part = Part {
         batch: chosen.batch,
@@ -79,21 +79,41 @@ pub(crate) fn add<'t>(
     Ok(())
 }
 
-// Makes room for what will be known of the keys of more rows, where so many groups were found among so many rows that were
-// fed: the more groups, the more entries. Where most rows opened a group, nothing is known.
-fn make_known(
-    known: &mut Vec<Known>,
-    found: usize,
-    fed: usize,
-    rows: usize,
-) -> Result<(), AllocError>
+// The group of each of these rows, by what is known of keys. Where most rows opened a group, that is left aside.
+fn place_kept<'t>(
+    alloc: Global,
+    kept: &mut Kept<'t>,
+    chosen: &Chosen<'t, '_>,
+) -> Result<Vec<u32>, AllocError>
+    requires keys { IsTrue (list_all (λ column. nat_lt column (length chosen.now.batch.now.columns)) chosen.now.columns.now) }
+    requires within { All (λ row. row < chosen.now.batch.now.rows) chosen.now.rows.now }
+    requires known { AreKnown value_tagged (map key_of kept.old.firsts.keys) kept.old.known.items }
+    ensures found { OnOk result (found_by chosen.now.columns.now kept.new.firsts.keys
+        ≡ found_then chosen.now.columns.now (found_by chosen.now.columns.now kept.old.firsts.keys) (map (row_of chosen.now.batch.now.columns) chosen.now.rows.now)) }
+    ensures placed { IfOk result (λ groups. ArePlaced chosen.now.columns.now chosen.now.batch.now.columns (found_by chosen.now.columns.now kept.new.firsts.keys)
+        chosen.now.rows.now groups.items (length chosen.now.rows.now)) }
+    ensures firsts { OnOk result (FirstsStay chosen.now kept.old.firsts.keys kept.new.firsts.keys) }
+    ensures known { OnOk result (AreKnown value_tagged (map key_of kept.new.firsts.keys) kept.new.known.items) }
+    ensures tallies { OnOk result (kept.new.tallies ≡ kept.old.tallies) }
+    ensures count { OnOk result (kept.new.count ≡ kept.old.count) }
+{
+    let found = kept.firsts.len();
+    if found > LEAST_GROUPS && kept.count / 2 < found {
+        let groups = place_rows(alloc, &mut kept.firsts, &mut [], chosen)?;
+        return Ok(groups);
+    }
+    make_known(&mut kept.known, found, chosen.rows.len())?;
+    let groups = place_rows(alloc, &mut kept.firsts, kept.known.as_mut_slice(), chosen)?;
+    Ok(groups)
+}
+
+// Makes room for what will be known of the keys of more rows, where so many groups were found: the more groups, the more
+// entries. What is known stays until there are too few of them.
+fn make_known(known: &mut Vec<Known>, found: usize, rows: usize) -> Result<(), AllocError>
     ensures { OnOk result ((meaning : ℕ → ℕ → Cell) (found : List (List Cell)) → AreKnown meaning found known.old.items → AreKnown meaning found known.new.items) }
 {
-    if rows < LEAST_ROWS || (found > LEAST_GROUPS && fed / 2 < found) {
-        return know_nothing(known, 0);
-    }
     let wanted = known_count(found, rows);
-    if known.len() < wanted {
+    if LEAST_ROWS <= rows && known.len() < wanted {
         return know_nothing(known, wanted);
     }
     Ok(())

@@ -5,7 +5,7 @@ ghost use Rattle.std.specs.List.{list_all};
 ghost use Rattle.indexmap.specs.IndexSet.{insert_key};
 ghost use Rattle.arrays.specs.Batch.{row_of};
 ghost use Rattle.grouping.specs.Found.{found_then, place_in};
-ghost use Rattle.grouping.specs.inside.Knowing.{AreEntryKeys, AreKeys, AreKnown, AreTagged, entry_tagged, value_tagged};
+ghost use Rattle.grouping.specs.inside.Knowing.{AreEntryKeys, AreKeys, AreKnown, AreTagged, StayKnown, entry_tagged, value_tagged};
 ghost use Rattle.grouping.specs.inside.Placing.{found_by, ArePlaced, FirstsStay};
 ghost use Rattle.grouping.specs.RowKeys.{key_of, same_first};
 
@@ -276,6 +276,7 @@ pub(crate) fn place_rows<'t>(
         chosen.now.rows.now groups.items (length chosen.now.rows.now)) }
     ensures firsts { OnOk result (FirstsStay chosen.now firsts.old.keys firsts.new.keys) }
     ensures known { OnOk result (AreKnown value_tagged (map key_of firsts.new.keys) known.new) }
+    ensures stay { OnOk result (StayKnown (map key_of firsts.old.keys) (map key_of firsts.new.keys)) }
 {
     if chosen.columns.is_empty() {
         let mut groups = Vec::new(alloc);

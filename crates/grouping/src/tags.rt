@@ -187,6 +187,7 @@ fn short_text(bytes: &[u8], begin: usize, len: usize) -> u64
 }
 
 // The same where fewer than eight bytes follow.
+#[inline(never)]
 fn last_text(bytes: &[u8], begin: usize, len: usize) -> u64
     requires within { begin + len ≤ length bytes.now }
     requires short { len ≤ 8 }

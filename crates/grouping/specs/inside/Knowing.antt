@@ -47,6 +47,10 @@ pub record IsKnown (meaning : ℕ → ℕ → Value) (found : List (List Value))
 abbrev pub AreKnown : (ℕ → ℕ → Value) → List (List Value) → List Known → Type 0
 AreKnown meaning found entries = All (IsKnown meaning found) entries
 
+-- whatever entries say of some keys, they say of later keys
+abbrev pub StayKnown : List (List Value) → List (List Value) → Type 0
+StayKnown before after = (entries : List Known) → AreKnown value_tagged before entries → AreKnown value_tagged after entries
+
 -- the key of each row of the batch is one of these numbers
 pub record AreKeys (slots : Slots) (keys : List ℕ) (batch : BatchAt) : Type 0 where
   pub room : HaveRoom slots batch.rows

@@ -4,6 +4,6 @@ use Rattle.grouping.proofs.kept.make_known.Goals as goal
 
 pub returns-then-len-wanted : goal.returns-then-len-wanted
 returns-then-len-wanted c =
-    on_ok_weaker c.know_nothing-then-len-wanted.result
-    (λ nothings meaning found known. nothing_known meaning found c.known_count-wanted.result c.know_nothing-then-len-wanted.new.known.items nothings)
-    c.know_nothing-then-len-wanted.ensures
+    on_ok_weaker c.know_nothing.result
+    (λ nothings meaning found known. nothing_known meaning found c.known_count-wanted.result c.know_nothing.new.known.items nothings)
+    c.know_nothing.ensures

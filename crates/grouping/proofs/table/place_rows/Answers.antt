@@ -1,9 +1,21 @@
 use Rattle.std.proofs.Common.{map, sym}
+use Rattle.std.proofs.lemmas.Result.{on_ok_weaker}
 use Rattle.arrays.specs.Batch.{row_of}
+use Rattle.grouping.specs.inside.Knowing.{value_tagged}
+use Rattle.grouping.specs.RowKeys.{key_of}
 use Rattle.grouping.proofs.Finding.{found_alone}
+use Rattle.grouping.proofs.Knowing.{known_found}
 use Rattle.grouping.proofs.table.place_rows.Goals as goal
 
 pub returns-then-is_empty-clause-found : goal.returns-then-is_empty-clause-found
 returns-then-is_empty-clause-found c =
     found_alone c.args.chosen.now.columns.now c.args.firsts.now.keys (map (row_of c.args.chosen.now.batch.now.columns) c.args.chosen.now.rows.now)
     (sym c.if-is_empty.ensures)
+
+pub returns-clause-stay : goal.returns-clause-stay
+returns-clause-stay c =
+    let chosen = c.args.chosen.now in
+    on_ok_weaker c.groups_of.result
+    (λ found entries known. known_found value_tagged chosen.columns.now (map key_of c.args.firsts.now.keys) (map key_of c.groups_of.new.firsts.keys)
+    (map (row_of chosen.batch.now.columns) chosen.rows.now) entries found known)
+    c.groups_of.ensures.found
