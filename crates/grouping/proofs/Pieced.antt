@@ -1,11 +1,13 @@
 -- Tallies of pieces that are added to those of groups.
-use Rattle.std.proofs.Common.{◌≡◌, ◌≢◌, ◌≤◌, ◌<◌, ℕ, ℤ, zero, suc, ◌+◌, pos, Bool, All, FitsSigned, List, [], ◌∷◌, length, get_or, slice_set, refl, sym, ap, ◌∙◌, subst, arith, below_more, ◌⊎◌, inl, inr, get_or-set_other, get_or-set_same}
-use Rattle.std.specs.Int.{w64}
-use Rattle.std.proofs.lemmas.Int.{ints}
+use Rattle.std.proofs.Common.{◌≡◌, ◌≢◌, ◌≤◌, ◌<◌, ℕ, ℤ, zero, suc, ◌+◌, pos, Bool, All, FitsSigned, ◌+ℤ◌, ◌&&◌, true, false, not, List, [], ◌∷◌, length, get_or, slice_set, refl, sym, ap, ◌∙◌, subst, arith, rules, below_more, ◌⊎◌, inl, inr, get_or-set_other, get_or-set_same}
+use Rattle.std.specs.Int.{w64, int_wrapping_add}
+use Rattle.std.specs.Bool.{FalseIff}
+use Rattle.std.proofs.lemmas.Bool.{and_parts}
+use Rattle.std.proofs.lemmas.Int.{ints, int_wrap_fits, wrapping_add_is}
 use Rattle.std.proofs.Math.ListN.{length-set}
 use Rattle.std.proofs.lemmas.List.{ext_get_or, get_or-map, length-map, map-set}
 use Rattle.std.proofs.lemmas.List.Elements.{All-get_or}
-use Rattle.std.proofs.lemmas.List.Sums.{get_or-le-sum_by, sum_by-cons}
+use Rattle.std.proofs.lemmas.List.Sums.{get_or-le-sum_by, sum_by-cons, sum_by-set}
 use Rattle.scan_base.specs.Predicate.{cell_in}
 use Rattle.arrays.specs.Batch.{row_of}
 use Rattle.arrays.specs.Column.{ColumnAt}
@@ -21,7 +23,7 @@ use Rattle.grouping.specs.inside.Slots.{number_or_null, slot_cell, slot_is_valid
 use Rattle.grouping.proofs.JoinedTallies.{added_both, both_assoc, both_none}
 use Rattle.grouping.proofs.Sharing.{stepped_long}
 use Rattle.grouping.proofs.Slotted.{small_after, summed_cell}
-use Rattle.grouping.proofs.Stepping.{IsStepped, either, one_within, step}
+use Rattle.grouping.proofs.Stepping.{IsStepped, either, step}
 
 counted_more : (tally : Tally) (tallies : List Tally) → counted_in (tally ∷ tallies) ≡ tally.count + counted_in tallies
 counted_more tally tallies = sum_by-cons (λ (tally : Tally). tally.count) tally tallies
@@ -54,13 +56,13 @@ blank_within pieces blank = record {
 -- ---- a row more
 
 -- no piece counts more than all do
-pub piece_few : (most : ℕ) (pieces : List Piece) (group : ℕ) (d : Piece) → AreWithin most (tallies_of pieces) → group < length pieces → (get_or pieces group d).count ≤ most
-piece_few most pieces group d within there =
-    let one = one_within most (tallies_of pieces) group no_rows within (omega (arith, there, length-map pieces piece_tally)) in
+pub piece_few : (pieces : List Piece) (group : ℕ) (d : Piece) → group < length pieces → (get_or pieces group d).count ≤ counted_in (tallies_of pieces)
+piece_few pieces group d there =
+    let one = get_or-le-sum_by (λ (tally : Tally). tally.count) (tallies_of pieces) group no_rows (omega (arith, there, length-map pieces piece_tally)) in
     omega (arith, one, ap (λ (tally : Tally). tally.count) (get_or-map piece_tally pieces group d no_rows there))
 
 -- a row more is added to its piece
-pub fill : (column : ℕ) (columns : List ColumnAt) (groups rows : List ℕ) (before : List Tally) (k : ℕ) (pieces : List Piece) (d piece : Piece) (slots : Slots) (valid : Bool) (number : ℤ) →
+fill : (column : ℕ) (columns : List ColumnAt) (groups rows : List ℕ) (before : List Tally) (k : ℕ) (pieces : List Piece) (d piece : Piece) (slots : Slots) (valid : Bool) (number : ℤ) →
     IsStepped (Sum column) columns groups rows 0 before k (tallies_of pieces) → get_or groups k 0 < length pieces → FitsSigned w64 number →
     valid ≡ slot_is_valid slots (get_or rows k 0) → number ≡ slot_number slots (get_or rows k 0) →
     cell_in (row_of columns (get_or rows k 0)) column ≡ slot_cell slots (get_or rows k 0) →
@@ -201,3 +203,40 @@ few_done before others after place most so there long few =
     let mine = get_or-le-sum_by (λ (tally : Tally). tally.count) before place no_rows there in
     let other = get_or-le-sum_by (λ (tally : Tally). tally.count) others place no_rows (omega (arith, there, long)) in
     omega (arith, few, mine, other, ap (λ (tally : Tally). tally.count) (so.left place (omega arith)))
+
+-- ---- sums that 64 bits may hold
+
+-- the sum, where 64 bits hold it
+pub sum_held : (a b sum : ℤ) (over : Bool) → FitsSigned w64 a → FitsSigned w64 b → sum ≡ int_wrapping_add w64 a b → FalseIff over (FitsSigned w64 (a +ℤ b)) →
+    not over ≡ true → sum ≡ a +ℤ b
+sum_held a b sum true fits_a fits_b is held holds = cc
+sum_held a b sum false fits_a fits_b is held holds = is ∙ wrapping_add_is w64 a b fits_a fits_b ∙ int_wrap_fits w64 (a +ℤ b) (search rules)
+
+-- what the pieces count, and the tallies that they are where 64 bits held each sum
+pub record AreFilled (item : Aggregate) (columns : List ColumnAt) (groups rows : List ℕ) (before : List Piece) (k : ℕ) (pieces : List Piece) (holds : Bool) : Type 0 where
+  pub few : counted_in (tallies_of pieces) ≤ k
+  pub long : length pieces ≡ length before
+  pub stepped : holds ≡ true → IsStepped item columns groups rows 0 (tallies_of before) k (tallies_of pieces)
+
+-- a row more
+pub fill_more : (column : ℕ) (columns : List ColumnAt) (groups rows : List ℕ) (before : List Piece) (k : ℕ) (pieces : List Piece) (d piece : Piece) (slots : Slots)
+    (valid : Bool) (number : ℤ) (holds fit : Bool) →
+    AreFilled (Sum column) columns groups rows before k pieces holds → get_or groups k 0 < length pieces → FitsSigned w64 number →
+    valid ≡ slot_is_valid slots (get_or rows k 0) → number ≡ slot_number slots (get_or rows k 0) →
+    cell_in (row_of columns (get_or rows k 0)) column ≡ slot_cell slots (get_or rows k 0) →
+    (fit ≡ true → piece_tally piece ≡ summed (piece_tally (get_or pieces (get_or groups k 0) d)) (number_or_null valid number)) →
+    piece.count ≤ (get_or pieces (get_or groups k 0) d).count + 1 →
+    AreFilled (Sum column) columns groups rows before (k + 1) (slice_set pieces (get_or groups k 0) piece) (holds && fit)
+fill_more column columns groups rows before k pieces d piece slots valid number holds fit so there fits is_valid is_number is made few =
+    let group = get_or groups k 0 in
+    let tallies = tallies_of pieces in
+    let inside : group < length tallies = omega (arith, there, length-map pieces piece_tally) in
+    let same = ap (λ (tally : Tally). tally.count) (get_or-map piece_tally pieces group d no_rows there) in
+    let moved = sum_by-set (λ (tally : Tally). tally.count) tallies group (piece_tally piece) no_rows inside in
+    record {
+      few = rw map-set (omega (arith, moved, same, few, so.few));
+      long = length-set pieces group piece ∙ so.long;
+      stepped = λ both.
+          let parts = and_parts holds fit both in
+          fill column columns groups rows (tallies_of before) k pieces d piece slots valid number (so.stepped parts.0) there fits is_valid is_number is (made parts.1) few;
+    }

@@ -1,6 +1,6 @@
 //! Sums of few groups, in pieces of 64 bits.
 
-ghost use Rattle.std.specs.Prelude.{◌≡◌, ◌≤◌, ◌<◌, ◌+◌, true, All, IfSome, length};
+ghost use Rattle.std.specs.Prelude.{◌≡◌, ◌≤◌, ◌<◌, ◌+◌, ◌+ℤ◌, true, All, is_some, length};
 ghost use Rattle.scan_base.specs.Limits.{most_rows};
 ghost use Rattle.typed_plan.specs.declared.plan.Aggregate.TheVariants.{Sum as SumOf};
 ghost use Rattle.grouping.specs.Tallies.{no_rows, summed};
@@ -9,7 +9,7 @@ ghost use Rattle.grouping.specs.inside.Pieces.{AreBoth, piece_tally, tallies_of}
 ghost use Rattle.grouping.specs.inside.Slots.{AreSlots, number_or_null};
 
 use crate::part::Part;
-use crate::slots::{Number, Slots};
+use crate::slots::{Number, Slots, Validity};
 use crate::tally::{Tally, kept, ones};
 
 /// Of how many groups there are pieces at most.
@@ -40,21 +40,27 @@ impl Piece {
         }
     }
 
-    // With a slot more, where 64 bits still hold the sum.
+    // Adds a slot, and says whether 64 bits still hold the sum.
     #[tactic(auto, using(crate::proofs::Slotted::summed_slot))]
-    fn with_slot(self, valid: bool, number: i64) -> Option<Piece>
-        requires { self.count < most_rows }
-        ensures added { IfSome result (λ piece. piece_tally piece ≡ summed (piece_tally self) (number_or_null valid number)) }
-        ensures few { IfSome result (λ piece. piece.count ≤ self.count + 1) }
+    fn add_slot(&mut self, valid: bool, number: i64) -> bool
+        requires { self.old.count < most_rows }
+        ensures added { result ≡ true → piece_tally self.new ≡ summed (piece_tally self.old) (number_or_null valid number) }
+        ensures few { self.new.count ≤ self.old.count + 1 }
     {
-        match self.sum.checked_add(kept(valid, number)) {
-            Some(sum) => Some(Piece {
-                count: self.count + ones(valid),
-                sum,
-            }),
-            None => None,
-        }
+        let (sum, holds) = sum_of(self.sum, kept(valid, number));
+        self.count += ones(valid);
+        self.sum = sum;
+        holds
     }
+}
+
+// The sum of two numbers, if 64 bits hold it, and whether they do.
+#[tactic(auto, using(crate::proofs::Pieced::sum_held))]
+fn sum_of(a: i64, b: i64) -> (i64, bool)
+    ensures { result.1 ≡ true → result.0 ≡ a +ℤ b }
+{
+    let (sum, over) = a.overflowing_add(b);
+    (sum, !over)
 }
 
 /// As many pieces of no rows as there may be.
@@ -64,15 +70,16 @@ pub(crate) fn blank_pieces() -> [Piece; MOST_PIECES]
     [Piece::new(); MOST_PIECES]
 }
 
-/// Adds the number of each row to the piece of its group, where these are the numbers of the column, of a type. It gives up
-/// where 64 bits do not hold a sum.
-pub(crate) fn fill_pieces<N: Number>(
+/// Adds the number of each row to the piece of its group, where these are the numbers of the column, of a type, and says
+/// whether 64 bits hold each sum.
+pub(crate) fn fill_pieces<N: Number, V: Validity>(
     pieces: &mut [Piece],
     column: usize,
     slots: &Slots<'_>,
     part: &Part<'_>,
 ) -> bool
     requires kind { slots.now.kind ≡ N.kind }
+    requires marked { is_some slots.now.validity.now ≡ V.marked }
     requires slots { AreSlots slots.now column part.now.batch.now }
     requires within { All (λ row. row < part.now.batch.now.rows) part.now.rows.now }
     requires grouped { All (λ group. group < length pieces.old) part.now.groups.now }
@@ -83,17 +90,16 @@ pub(crate) fn fill_pieces<N: Number>(
         ≡ stepped (SumOf column) part.now.batch.now.columns part.now.groups.now part.now.rows.now (tallies_of pieces.old) (length part.now.rows.now) }
     ensures small { result ≡ true → AreWithin (length part.now.rows.now) (tallies_of pieces.new) }
 {
+    let mut holds = true;
     for k in 0..part.rows.len() {
         let row = part.rows[k] as usize;
-        let valid = slots.is_valid(row);
+        let valid = V::is_valid(slots, row);
         let number = slots.number::<N>(row);
         let group = part.groups[k] as usize;
-        match pieces[group].with_slot(valid, number) {
-            Some(piece) => pieces[group] = piece,
-            None => return false,
-        }
+        let fits = pieces[group].add_slot(valid, number);
+        holds = holds & fits;
     }
-    true
+    holds
 }
 
 /// Adds each piece to the tally of its group.

@@ -1,6 +1,6 @@
 //! Numbers of at most 64 bits with a sign, as they lie in the buffers of a column.
 
-ghost use Rattle.std.specs.Prelude.{◌≡◌, ◌≤◌, ◌<◌, ◌+◌, ◌*◌, ℕ, length};
+ghost use Rattle.std.specs.Prelude.{◌≡◌, ◌≤◌, ◌<◌, ◌+◌, ◌*◌, ℕ, Bool, true, false, is_some, length};
 ghost use Rattle.arrow_schema.specs.declared.data_type.IntegerType.{IntegerType as Kind};
 ghost use Rattle.arrow_schema.specs.declared.data_type.IntegerType.TheVariants as integer;
 ghost use Rattle.arrays.specs.Number.{byte_width, integer_at};
@@ -106,6 +106,44 @@ impl<'a> Slots<'a> {
         match self.validity {
             None => true,
             Some(bits) => bits.get(self.first + row),
+        }
+    }
+}
+
+/// Which numbers of a column are valid.
+pub(crate) trait Validity {
+    ghost marked: { Bool };
+
+    /// Whether the number of a row is valid.
+    fn is_valid(slots: &Slots<'_>, row: usize) -> bool
+        requires marked { is_some slots.now.validity.now ≡ marked }
+        requires room { (rows : ℕ) × (row < rows) × HaveRoom slots.now rows }
+        ensures { result ≡ slot_is_valid slots.now row };
+}
+
+/// Each number is valid.
+#[derive(Clone, Copy, Drop)]
+pub(crate) struct Whole;
+
+impl Validity for Whole {
+    ghost marked = { false };
+
+    fn is_valid(slots: &Slots<'_>, _row: usize) -> bool {
+        true
+    }
+}
+
+/// Bits tell which numbers are valid.
+#[derive(Clone, Copy, Drop)]
+pub(crate) struct Marked;
+
+impl Validity for Marked {
+    ghost marked = { true };
+
+    fn is_valid(slots: &Slots<'_>, row: usize) -> bool {
+        match slots.validity {
+            None => unreachable!(),
+            Some(bits) => bits.get(slots.first + row),
         }
     }
 }

@@ -1,6 +1,6 @@
 //! Sums of a column, for each group.
 
-ghost use Rattle.std.specs.Prelude.{◌≡◌, ◌≤◌, ◌<◌, ◌+◌, All, length};
+ghost use Rattle.std.specs.Prelude.{◌≡◌, ◌≤◌, ◌<◌, ◌+◌, All, is_some, length};
 ghost use Rattle.scan_base.specs.Limits.{most_rows};
 ghost use Rattle.typed_plan.specs.declared.plan.Aggregate.TheVariants.{Sum as SumOf};
 ghost use Rattle.grouping.specs.inside.Counting.{AreWithin, CanCount, stepped};
@@ -8,7 +8,7 @@ ghost use Rattle.grouping.specs.inside.Slots.{AreSlots};
 
 use crate::part::{Part, add_each};
 use crate::pieces::{MOST_PIECES, blank_pieces, fill_pieces, join_pieces};
-use crate::slots::{Number, Slots, integer_slots};
+use crate::slots::{Marked, Number, Slots, Validity, Whole, integer_slots};
 use crate::tally::Tally;
 use arrays::{Cells, Layout};
 use arrow_schema::IntegerType;
@@ -60,8 +60,7 @@ fn sum_kind(tallies: &mut [Tally], column: usize, slots: &Slots<'_>, part: &Part
     }
 }
 
-// Adds the number of each row to the tally of its group, where these are the numbers of the column, of a type: in pieces,
-// where each of few groups has some rows.
+// Adds the number of each row to the tally of its group, where these are the numbers of the column, of a type.
 fn sum_slots<N: Number>(tallies: &mut [Tally], column: usize, slots: &Slots<'_>, part: &Part<'_>)
     requires kind { slots.now.kind ≡ N.kind }
     requires slots { AreSlots slots.now column part.now.batch.now }
@@ -73,14 +72,39 @@ fn sum_slots<N: Number>(tallies: &mut [Tally], column: usize, slots: &Slots<'_>,
     ensures stepped { tallies.new ≡ stepped (SumOf column) part.now.batch.now.columns part.now.groups.now part.now.rows.now tallies.old (length part.now.rows.now) }
     ensures small { AreWithin (part.now.fed + length part.now.rows.now) tallies.new }
 {
-    if tallies.len() <= MOST_PIECES && tallies.len() <= part.rows.len() / LEAST_ROWS {
-        return sum_in_pieces::<N>(tallies, column, slots, part);
+    match slots.validity {
+        None => sum_valid::<N, Whole>(tallies, column, slots, part),
+        Some(_) => sum_valid::<N, Marked>(tallies, column, slots, part),
     }
-    sum_each::<N>(tallies, column, slots, part)
 }
 
-// Adds the number of each row to the tally of its group, of few, where these are the numbers of the column, of a type.
-fn sum_in_pieces<N: Number>(
+// The same, by which numbers are valid: in pieces, where each of few groups has some rows.
+fn sum_valid<N: Number, V: Validity>(
+    tallies: &mut [Tally],
+    column: usize,
+    slots: &Slots<'_>,
+    part: &Part<'_>,
+)
+    requires kind { slots.now.kind ≡ N.kind }
+    requires marked { is_some slots.now.validity.now ≡ V.marked }
+    requires slots { AreSlots slots.now column part.now.batch.now }
+    requires within { All (λ row. row < part.now.batch.now.rows) part.now.rows.now }
+    requires grouped { All (λ group. group < length tallies.old) part.now.groups.now }
+    requires long { length part.now.groups.now ≡ length part.now.rows.now }
+    requires few { part.now.fed + length part.now.rows.now ≤ most_rows }
+    requires small { AreWithin part.now.fed tallies.old }
+    ensures stepped { tallies.new ≡ stepped (SumOf column) part.now.batch.now.columns part.now.groups.now part.now.rows.now tallies.old (length part.now.rows.now) }
+    ensures small { AreWithin (part.now.fed + length part.now.rows.now) tallies.new }
+{
+    if tallies.len() <= MOST_PIECES && tallies.len() <= part.rows.len() / LEAST_ROWS {
+        return sum_in_pieces::<N, V>(tallies, column, slots, part);
+    }
+    sum_each::<N, V>(tallies, column, slots, part)
+}
+
+// The same in pieces, of few groups. The table of pieces is large, so that it stays out of its callers.
+#[inline(never)]
+fn sum_in_pieces<N: Number, V: Validity>(
     tallies: &mut [Tally],
     column: usize,
     slots: &Slots<'_>,
@@ -88,6 +112,7 @@ fn sum_in_pieces<N: Number>(
 )
     requires groups { length tallies.old ≤ 1024 }
     requires kind { slots.now.kind ≡ N.kind }
+    requires marked { is_some slots.now.validity.now ≡ V.marked }
     requires slots { AreSlots slots.now column part.now.batch.now }
     requires within { All (λ row. row < part.now.batch.now.rows) part.now.rows.now }
     requires grouped { All (λ group. group < length tallies.old) part.now.groups.now }
@@ -99,15 +124,21 @@ fn sum_in_pieces<N: Number>(
 {
     let mut blank = blank_pieces();
     let pieces = &mut blank[..tallies.len()];
-    if !fill_pieces::<N>(pieces, column, slots, part) {
-        return sum_each::<N>(tallies, column, slots, part);
+    if !fill_pieces::<N, V>(pieces, column, slots, part) {
+        return sum_each::<N, V>(tallies, column, slots, part);
     }
     join_pieces(tallies, pieces);
 }
 
-// Adds the number of each row to the tally of its group, where these are the numbers of the column, of a type.
-fn sum_each<N: Number>(tallies: &mut [Tally], column: usize, slots: &Slots<'_>, part: &Part<'_>)
+// The same, tally by tally.
+fn sum_each<N: Number, V: Validity>(
+    tallies: &mut [Tally],
+    column: usize,
+    slots: &Slots<'_>,
+    part: &Part<'_>,
+)
     requires kind { slots.now.kind ≡ N.kind }
+    requires marked { is_some slots.now.validity.now ≡ V.marked }
     requires slots { AreSlots slots.now column part.now.batch.now }
     requires within { All (λ row. row < part.now.batch.now.rows) part.now.rows.now }
     requires grouped { All (λ group. group < length tallies.old) part.now.groups.now }
@@ -119,7 +150,7 @@ fn sum_each<N: Number>(tallies: &mut [Tally], column: usize, slots: &Slots<'_>, 
 {
     for k in 0..part.rows.len() {
         let row = part.rows[k] as usize;
-        let valid = slots.is_valid(row);
+        let valid = V::is_valid(slots, row);
         let number = slots.number::<N>(row);
         let group = part.groups[k] as usize;
         tallies[group].add_slot(valid, number);
