@@ -1,5 +1,5 @@
 -- Keys that join are of one bucket.
-use Rattle.std.proofs.Common.{◌≡◌, ℕ, Bool, if◌then◌else◌, option_map, true, false, List, [], ◌∷◌, length, Option, Some, None, refl, sym, ap, ◌∙◌, arith}
+use Rattle.std.proofs.Common.{◌≡◌, ℕ, ℤ, Bool, if◌then◌else◌, option_map, true, false, List, [], ◌∷◌, length, Option, Some, None, refl, sym, ap, ◌∙◌, arith}
 use Rattle.std.specs.List.{list_any}
 use Rattle.std.specs.Ordering.{int_cmp, nat_cmp, bool_cmp, is_eq}
 use Rattle.std.specs.Cmp.Lexicographic.{slice_cmp}
@@ -19,7 +19,7 @@ use Rattle.scan_base.specs.Value.{is_null}
 use Rattle.hash_join.specs.Pairs.{keys_join}
 use Rattle.hash_join.specs.declared.buckets.Buckets.{Buckets}
 use Rattle.hash_join.specs.declared.buckets.Buckets.TheVariants as parted
-use Rattle.hash_join.specs.Hashes.{fed, hash_of, number_of, bucket_among, bucket_of}
+use Rattle.hash_join.specs.Hashes.{fed, hash_of, number_of, product_of, bucket_among, bucket_of}
 use Rattle.hash_join.specs.Chains.{stands}
 
 kept : (b : Bool) → keeps (truth_from b) ≡ true → b ≡ true
@@ -80,6 +80,8 @@ none_null (a ∷ xs) (b ∷ ys) e h =
 some_bucket : (buckets : Buckets) (xs ys : List Value) → length xs ≡ length ys → keys_join xs ys ≡ true → (bucket : ℕ) × (bucket_of buckets xs ≡ Some bucket)
 some_bucket (parted.Hashed hashing) xs ys e h =
     let hash = some_hash hashing.begun xs ys e h in (_, ap (option_map (λ hash. bit_and hash hashing.mask)) hash.1)
+some_bucket (parted.Multiplied product) xs ys e h =
+    (product_of product (number_of xs), ap (λ (null : Bool). if null then None else Some (product_of product (number_of xs))) (none_null xs ys e h))
 some_bucket (parted.Ranked ranks) xs ys e h =
     (bucket_among ranks (number_of xs), ap (λ (null : Bool). if null then None else Some (bucket_among ranks (number_of xs))) (none_null xs ys e h))
 
@@ -104,3 +106,15 @@ pub standing : (o p : Option ℕ) → stands o p ≡ true → (bucket : ℕ) × 
 standing None p h = absurd (false≢true h)
 standing (Some a) None h = absurd (false≢true h)
 standing (Some a) (Some b) h = (a, refl, ap Some (eqb-true b a h))
+
+-- a key that is a number has no null
+pub number_known : (key : List Value) (number : ℤ) → number_of key ≡ Some number → list_any is_null key ≡ false
+number_known [] number e = cc
+number_known (Null ∷ []) number e = cc
+number_known (Flag flag ∷ []) number e = cc
+number_known (Text text ∷ []) number e = cc
+number_known (Int found ∷ []) number e = refl
+number_known (Null ∷ second ∷ rest) number e = cc
+number_known (Flag flag ∷ second ∷ rest) number e = cc
+number_known (Text text ∷ second ∷ rest) number e = cc
+number_known (Int found ∷ second ∷ rest) number e = cc

@@ -1,6 +1,6 @@
 -- Left rows whose number is no right key join nothing; the others join each row of their chain.
-use Rattle.std.proofs.Common.{◌≡◌, ◌<◌, ◌+◌, ◌-ℤ◌, ◌^◌, ◌&&◌, ℕ, ℤ, pos, negsuc, FitsSigned, Bool, true, false, if◌then◌else◌, List, [], ◌∷◌, length, get_or, unwrap_or, Option, Some, None, refl, sym, ap, ◌∙◌, arith, inl, inr}
-use Rattle.std.specs.Int.{w64, w128, FitsUnsigned}
+use Rattle.std.proofs.Common.{◌≡◌, ◌≤◌, ◌<◌, ◌+◌, ◌-ℤ◌, ◌^◌, ◌&&◌, ℕ, ℤ, pos, negsuc, FitsSigned, Bool, true, false, if◌then◌else◌, List, [], ◌∷◌, length, get_or, unwrap_or, Option, Some, None, refl, sym, ap, ◌∙◌, arith, inl, inr, subst, nat_lt, ◌*◌, ◌/◌, ◌%◌}
+use Rattle.std.specs.Int.{w64, w128, cast_unsigned, FitsUnsigned}
 use Rattle.std.specs.List.{list_any}
 use Rattle.std.specs.Ordering.{is_eq}
 use Rattle.std.specs.Cmp.{int_cmp_is}
@@ -8,7 +8,8 @@ use Rattle.std.specs.declared.cmp.Ordering.TheVariants.{Equal as Same}
 use Rattle.std.proofs.Math.Facts.{yes_ltb, yes_leb}
 use Rattle.std.proofs.lemmas.Int.{ints}
 use Rattle.std.proofs.lemmas.List.{length-map}
-use Rattle.std.proofs.lemmas.Bool.{cases_lt}
+use Rattle.std.proofs.lemmas.Bool.{cases_lt, ltb-false}
+use Rattle.std.proofs.lemmas.Nat.{and_le_r}
 use Rattle.scan_base.specs.declared.value.Value.{Value}
 use Rattle.scan_base.specs.declared.comparison.Comparison.TheVariants.{Equal}
 use Rattle.scan_base.specs.Comparison.{compared}
@@ -18,20 +19,26 @@ use Rattle.scan_base.specs.Value.{is_null}
 use Rattle.scan_base.specs.Predicate.{cell_in}
 use Rattle.arrays.specs.Batch.{row_of}
 use Rattle.arrays.specs.Column.{ColumnAt, slot_of}
+use Rattle.arrays.specs.Integers.{IntegersAt}
 use Rattle.arrays.specs.Number.{integer_at}
 use Rattle.arrays.specs.Validity.{is_valid, where_valid}
 use Rattle.arrays.specs.declared.layout.Layout.TheVariants as layout
 use Rattle.hash_join.specs.declared.ranks.Ranks.{Ranks}
 use Rattle.hash_join.specs.declared.search.Search.{Search}
-use Rattle.hash_join.specs.declared.search.NumberKeys.{NumberKeys}
+use Rattle.hash_join.specs.declared.buckets.Buckets.{Buckets}
+use Rattle.hash_join.specs.declared.buckets.Buckets.TheVariants as parted
+use Rattle.hash_join.specs.declared.look.Told.{Told}
+use Rattle.hash_join.specs.declared.look.Told.TheVariants as known
+use Rattle.hash_join.specs.declared.product.Product.{Product}
+use Rattle.hash_join.specs.Looks.{ranks_told}
 use Rattle.hash_join.specs.Pairs.{keys_join}
 use Rattle.hash_join.specs.Ranks.{rank_at}
-use Rattle.hash_join.specs.Hashes.{number_of, place_among, is_key, own_bucket, bucket_among, ranked_bucket, bucket_of, last_of, index_among}
+use Rattle.hash_join.specs.Hashes.{number_of, place_among, is_key, own_bucket, bucket_among, ranked_bucket, bucket_of, last_of, index_among, product_at, product_bucket}
 use Rattle.hash_join.specs.KeyRows.{key_of}
 use Rattle.hash_join.specs.Walks.{pairs_past, bucket_left}
 use Rattle.hash_join.specs.Rights.{key_at, bucket_at}
 use Rattle.hash_join.proofs.EqualKeys.{standing}
-use Rattle.hash_join.specs.Searches.{walk_at, AreKeysOf, IsSearch, IsTold}
+use Rattle.hash_join.specs.Searches.{walk_at, AreKeysOf, HasBucket, IsSearch, IsTold, TellsNumbers}
 use Rattle.hash_join.proofs.Cells.{part_at}
 use Rattle.hash_join.proofs.Searching.{can_walk}
 use Rattle.hash_join.proofs.Ranking.{bit_there, rank_tells, rank_within}
@@ -136,72 +143,116 @@ told_joins ranks left right told l r less =
     let same : one.0 ≡ other.0 = own_tells ranks one.0 other.0 told one.2 other.2 in
     rw (one.1, other.1, same) (ap (λ (b : Bool). b && true) (equal_numbers other.0))
 
-module _ (search : Search) (keys : NumberKeys) (is : IsSearch search) (are : AreKeysOf search keys) (row from : ℕ) (h : row < search.left.batch.now.rows) where
-  -- the key of a left row
-  key_is : key_of (walk_at search row).left ≡ where_valid keys.cells.validity (λ at. Int (integer_at keys.cells.integer keys.cells.values at)) (keys.first + row) ∷ []
-  key_is =
-      let columns = search.left.batch.now.columns in
-      let column : ColumnAt = record { layout = layout.Integers keys.cells; first = keys.first; len = search.left.batch.now.rows } in
-      one_part (key_of (walk_at search row).left) (slot_of column row) (length-map search.left.key.now (cell_in (row_of columns row)) ∙ are.single)
-      (part_at columns search.left.key.now row 0 column is.columns (omega (arith, are.single)) (sym (are.slots column)))
+-- a key of one part that is null has no bucket
+null_bucket : (buckets : Buckets) → bucket_of buckets (Null ∷ []) ≡ None
+null_bucket (parted.Hashed hashing) = refl
+null_bucket (parted.Multiplied product) = refl
+null_bucket (parted.Ranked ranks) = refl
 
-  -- the row is null
-  null_row : is_valid keys.cells.validity (keys.first + row) ≡ false → pairs_past (walk_at search row) from ≡ []
-  null_row e =
-      let null : key_of (walk_at search row).left ≡ Null ∷ [] =
-      key_is ∙ ap (λ (valid : Bool). (if valid then Int (integer_at keys.cells.integer keys.cells.values (keys.first + row)) else Null) ∷ []) e in
-      let bucket : bucket_left (walk_at search row) ≡ None = ap (λ b. bucket_of b (key_of (walk_at search row).left)) are.parted ∙ ap (ranked_bucket keys.ranks.now) null in
-      none_joins (walk_at search row) (can_walk search is row h) from (length search.rights.now.places.items) bucket (omega arith)
-      ∙ past_all (walk_at search row) (can_walk search is row h)
+module _ (search : Search) (is : IsSearch search) where
+  -- the last of the ranks' buckets has no right row
+  module _ (ranks : Ranks) (parts : search.rights.now.buckets ≡ parted.Ranked ranks)
+      (empty : length search.rights.now.places.items ≤ get_or search.chains.now.heads.items ranks.last 0) where
+    -- the bucket of a row whose key is a number
+    row_bucket : (row : ℕ) (number : ℤ) → key_of (walk_at search row).left ≡ Int number ∷ [] → bucket_left (walk_at search row) ≡ Some (bucket_among ranks (Some number))
+    row_bucket row number key = ap (λ b. bucket_of b (key_of (walk_at search row).left)) parts ∙ ap (ranked_bucket ranks) key
 
-  -- the row's number is no right key
-  other_row : is_valid keys.cells.validity (keys.first + row) ≡ true → is_key keys.ranks.now (integer_at keys.cells.integer keys.cells.values (keys.first + row)) ≡ false →
-      pairs_past (walk_at search row) from ≡ []
-  other_row valid bit =
-      let number = integer_at keys.cells.integer keys.cells.values (keys.first + row) in
-      let ranks = keys.ranks.now in
-      let some : key_of (walk_at search row).left ≡ Int number ∷ [] = key_is ∙ ap (λ (v : Bool). (if v then Int number else Null) ∷ []) valid in
-      let own : own_bucket ranks number ≡ None =
-      ap (λ (b : Bool). if b then Some (rank_at ranks.keys (place_among ranks.span number)) else None) bit in
-      let bucket : bucket_left (walk_at search row) ≡ Some ranks.last =
-      ap (λ b. bucket_of b (key_of (walk_at search row).left)) are.parted ∙ ap (ranked_bucket ranks) some ∙ ap (λ (b : Option ℕ). Some (unwrap_or b ranks.last)) own in
-      let last : last_of search.rights.now.buckets ≡ ranks.last = ap last_of are.parted in
-      none_led (walk_at search row) (can_walk search is row h) ranks.last from bucket (omega (arith, last)) are.empty
+    -- a row whose number is no right key joins nothing
+    other_row : (row from : ℕ) (number : ℤ) → row < search.left.batch.now.rows → key_of (walk_at search row).left ≡ Int number ∷ [] → is_key ranks number ≡ false →
+        pairs_past (walk_at search row) from ≡ []
+    other_row row from number h key bit =
+        let own : own_bucket ranks number ≡ None =
+        ap (λ (b : Bool). if b then Some (rank_at ranks.keys (place_among ranks.span number)) else None) bit in
+        let bucket : bucket_left (walk_at search row) ≡ Some ranks.last =
+        row_bucket row number key ∙ ap (λ (b : Option ℕ). Some (unwrap_or b ranks.last)) own in
+        let last : last_of search.rights.now.buckets ≡ ranks.last = ap last_of parts in
+        none_led (walk_at search row) (can_walk search is row h) ranks.last from bucket (omega (arith, last)) empty
 
-  -- a row that does not pass joins nothing
-  pub stopped_row : (is_valid keys.cells.validity (keys.first + row) && is_key keys.ranks.now (integer_at keys.cells.integer keys.cells.values (keys.first + row))) ≡ false →
-      pairs_past (walk_at search row) from ≡ []
-  stopped_row e = by (is_valid keys.cells.validity (keys.first + row)) refl e
-    where
-      by : (valid : Bool) → is_valid keys.cells.validity (keys.first + row) ≡ valid →
-          (valid && is_key keys.ranks.now (integer_at keys.cells.integer keys.cells.values (keys.first + row))) ≡ false → pairs_past (walk_at search row) from ≡ []
-      by true valid bit = other_row valid bit
-      by false null bit = null_row null
+    -- a row whose number is a right key joins each right row of its bucket
+    own_row : (row : ℕ) (number : ℤ) (told : ℕ) → key_of (walk_at search row).left ≡ Int number ∷ [] → own_bucket ranks number ≡ Some told → IsTold search row (known.Own told)
+    own_row row number told key e =
+        let less = own_within ranks number told e in
+        let left : ranked_bucket ranks (key_of (walk_at search row).left) ≡ Some told =
+        ap (ranked_bucket ranks) key ∙ ap (λ (b : Option ℕ). Some (unwrap_or b ranks.last)) e in
+        let bucket : bucket_left (walk_at search row) ≡ Some told = ap (λ b. bucket_of b (key_of (walk_at search row).left)) parts ∙ left in
+        let last : last_of search.rights.now.buckets ≡ ranks.last = ap last_of parts in (
+          record { is = bucket; within = omega (arith, less, last) },
+          λ right low stands_there.
+              let found = standing (bucket_left (walk_at search row)) (bucket_at search.rights.now right) stands_there in
+              let same : found.0 ≡ told = some_is (sym found.1 ∙ bucket) in
+              let there : ranked_bucket ranks (key_at search.rights.now right) ≡ Some told =
+              sym (ap (λ b. bucket_of b (key_at search.rights.now right)) parts) ∙ found.2 ∙ ap Some same in
+              told_joins ranks (key_of (walk_at search row).left) (key_at search.rights.now right) told left there less,
+        )
 
-  -- a row that is told a bucket of its own joins each right row of it
-  pub told_row : (told : ℕ) → (if is_valid keys.cells.validity (keys.first + row) then own_bucket keys.ranks.now (integer_at keys.cells.integer keys.cells.values (keys.first + row)) else None) ≡ Some told →
-      IsTold search row told
-  told_row told e = by (is_valid keys.cells.validity (keys.first + row)) refl e
-    where
-      by : (valid : Bool) → is_valid keys.cells.validity (keys.first + row) ≡ valid →
-          (if valid then own_bucket keys.ranks.now (integer_at keys.cells.integer keys.cells.values (keys.first + row)) else None) ≡ Some told → IsTold search row told
-      by false valid e = cc
-      by true valid e =
-          let number = integer_at keys.cells.integer keys.cells.values (keys.first + row) in
-          let ranks = keys.ranks.now in
-          let less = own_within ranks number told e in
-          let some : key_of (walk_at search row).left ≡ Int number ∷ [] = key_is ∙ ap (λ (v : Bool). (if v then Int number else Null) ∷ []) valid in
-          let left : ranked_bucket ranks (key_of (walk_at search row).left) ≡ Some told =
-          ap (ranked_bucket ranks) some ∙ ap (λ (b : Option ℕ). Some (unwrap_or b ranks.last)) e in
-          let bucket : bucket_left (walk_at search row) ≡ Some told = ap (λ b. bucket_of b (key_of (walk_at search row).left)) are.parted ∙ left in
-          let last : last_of search.rights.now.buckets ≡ ranks.last = ap last_of are.parted in
-          record {
-            own = bucket;
-            within = omega (arith, less, last);
-            all = λ right low stands_there.
-                let found = standing (bucket_left (walk_at search row)) (bucket_at search.rights.now right) stands_there in
-                let same : found.0 ≡ told = some_is (sym found.1 ∙ bucket) in
-                let there : ranked_bucket ranks (key_at search.rights.now right) ≡ Some told =
-                sym (ap (λ b. bucket_of b (key_at search.rights.now right)) are.parted) ∙ found.2 ∙ ap Some same in
-                told_joins ranks (key_of (walk_at search row).left) (key_at search.rights.now right) told left there less;
-          }
+    told_row : (row : ℕ) (number : ℤ) → key_of (walk_at search row).left ≡ Int number ∷ [] → IsTold search row (ranks_told ranks number)
+    told_row row number key = by (is_key ranks number) refl
+      where
+        by : (one : Bool) → is_key ranks number ≡ one → IsTold search row (if one then known.Own (rank_at ranks.keys (place_among ranks.span number)) else known.Nothing)
+        by true one = own_row row number (rank_at ranks.keys (place_among ranks.span number)) key
+            (ap (λ (b : Bool). if b then Some (rank_at ranks.keys (place_among ranks.span number)) else None) one)
+        by false one = tt
+
+    pub ranks_tell : TellsNumbers search (is_key ranks) (ranks_told ranks)
+    ranks_tell = record { sound = other_row; holds = λ row number h key. told_row row number key }
+
+  -- the chains of buckets by a product tell of numbers
+  module _ (product : Product) (parts : search.rights.now.buckets ≡ parted.Multiplied product) where
+    -- the bucket of a row whose key is a number
+    product_row : (row : ℕ) (number : ℤ) → key_of (walk_at search row).left ≡ Int number ∷ [] → HasBucket search row (product_at product number)
+    product_row row number key = record {
+      is = ap (λ b. bucket_of b (key_of (walk_at search row).left)) parts ∙ ap (product_bucket product) key;
+      within = subst (λ (buckets : Buckets). product_at product number ≤ last_of buckets) (sym parts) (and_le_r (cast_unsigned w128 number % 2 ^ 64 * product.odd % 2 ^ 64 / 2 ^ product.shift) product.mask);
+    }
+
+    pub products_tell : (heads : List ℕ) (count : ℕ) → heads ≡ search.chains.now.heads.items → count ≡ length search.rights.now.places.items →
+        TellsNumbers search (λ number. nat_lt (get_or heads (product_at product number) 0) count) (λ number. known.Shared (product_at product number))
+    products_tell heads count heads_are counted = record {
+      sound = λ row from number h key empty.
+          let has = product_row row number key in
+          let bucket = product_at product number in
+          let none : count ≤ get_or heads bucket 0 = ltb-false (get_or heads bucket 0) count empty in
+          let same : get_or heads bucket 0 ≡ get_or search.chains.now.heads.items bucket 0 = ap (λ (all : List ℕ). get_or all bucket 0) heads_are in
+          none_led (walk_at search row) (can_walk search is row h) bucket from has.is has.within (omega (arith, none, same, counted));
+      holds = λ row number h key. product_row row number key;
+    }
+
+  module _ (cells : IntegersAt) (first : ℕ) (are : AreKeysOf search cells first) (row : ℕ) (h : row < search.left.batch.now.rows) where
+    -- the key of a left row
+    key_is : key_of (walk_at search row).left ≡ where_valid cells.validity (λ at. Int (integer_at cells.integer cells.values at)) (first + row) ∷ []
+    key_is =
+        let columns = search.left.batch.now.columns in
+        let column : ColumnAt = record { layout = layout.Integers cells; first = first; len = search.left.batch.now.rows } in
+        one_part (key_of (walk_at search row).left) (slot_of column row) (length-map search.left.key.now (cell_in (row_of columns row)) ∙ are.single)
+        (part_at columns search.left.key.now row 0 column is.columns (omega (arith, are.single)) (sym (are.slots column)))
+
+    -- a row that is null joins nothing
+    null_row : (from : ℕ) → is_valid cells.validity (first + row) ≡ false → pairs_past (walk_at search row) from ≡ []
+    null_row from e =
+        let null : key_of (walk_at search row).left ≡ Null ∷ [] =
+        key_is ∙ ap (λ (valid : Bool). (if valid then Int (integer_at cells.integer cells.values (first + row)) else Null) ∷ []) e in
+        let bucket : bucket_left (walk_at search row) ≡ None = ap (bucket_of search.rights.now.buckets) null ∙ null_bucket search.rights.now.buckets in
+        none_joins (walk_at search row) (can_walk search is row h) from (length search.rights.now.places.items) bucket (omega arith)
+        ∙ past_all (walk_at search row) (can_walk search is row h)
+
+    -- the key of a row that is not
+    number_row : is_valid cells.validity (first + row) ≡ true → key_of (walk_at search row).left ≡ Int (integer_at cells.integer cells.values (first + row)) ∷ []
+    number_row valid = key_is ∙ ap (λ (v : Bool). (if v then Int (integer_at cells.integer cells.values (first + row)) else Null) ∷ []) valid
+
+    module _ (passes : ℤ → Bool) (told : ℤ → Told) (tells : TellsNumbers search passes told) where
+      -- a row that does not pass joins nothing
+      pub row_stopped : (from : ℕ) → (is_valid cells.validity (first + row) && passes (integer_at cells.integer cells.values (first + row))) ≡ false → pairs_past (walk_at search row) from ≡ []
+      row_stopped from e = by (is_valid cells.validity (first + row)) refl e
+        where
+          by : (valid : Bool) → is_valid cells.validity (first + row) ≡ valid → (valid && passes (integer_at cells.integer cells.values (first + row))) ≡ false →
+              pairs_past (walk_at search row) from ≡ []
+          by true valid bit = tells.sound row from (integer_at cells.integer cells.values (first + row)) h (number_row valid) bit
+          by false null bit = null_row from null
+
+      -- what is told of a row is so
+      pub row_told : IsTold search row (if is_valid cells.validity (first + row) then told (integer_at cells.integer cells.values (first + row)) else known.Nothing)
+      row_told = by (is_valid cells.validity (first + row)) refl
+        where
+          by : (valid : Bool) → is_valid cells.validity (first + row) ≡ valid → IsTold search row (if valid then told (integer_at cells.integer cells.values (first + row)) else known.Nothing)
+          by true valid = tells.holds row (integer_at cells.integer cells.values (first + row)) h (number_row valid)
+          by false null = tt

@@ -1,5 +1,6 @@
 -- Inside: the bucket of a key. It is a function of the key's values, so that equal keys have one; nothing else matters of it.
-use Rattle.std.specs.Prelude.{◌-ℤ◌, ℕ, ℤ, pos, negsuc, Bool, false, List, [], ◌∷◌, Option, Some, None, unwrap_or, get_or, if◌then◌else◌, bit_and, min}
+use Rattle.std.specs.Prelude.{◌-ℤ◌, ◌*◌, ◌/◌, ◌%◌, ◌^◌, ℕ, ℤ, pos, negsuc, Bool, false, List, [], ◌∷◌, Option, Some, None, unwrap_or, get_or, if◌then◌else◌, bit_and, min}
+use Rattle.std.specs.Int.{w128, cast_unsigned}
 use Rattle.std.specs.List.{fold, list_any}
 use Rattle.std.specs.Option.{option_map}
 use Rattle.std.specs.Hash as written
@@ -9,6 +10,7 @@ use Rattle.scan_base.specs.declared.value.Value.{Value}
 use Rattle.scan_base.specs.declared.value.Value.TheVariants.{Null, Bool as Flag, Int, Text}
 use Rattle.scan_base.specs.Value.{is_null}
 use Rattle.hash_join.specs.declared.buckets.Hashing.{Hashing}
+use Rattle.hash_join.specs.declared.product.Product.{Product}
 use Rattle.hash_join.specs.declared.spans.Span.{Span}
 use Rattle.hash_join.specs.declared.ranks.Ranks.{Ranks}
 use Rattle.hash_join.specs.declared.buckets.Buckets.{Buckets}
@@ -35,6 +37,19 @@ hashed_bucket hashing key = option_map (λ hash. bit_and hash hashing.mask) (has
 abbrev pub number_of : List Value → Option ℤ
 number_of (Int number ∷ []) = Some number
 number_of _ = None
+
+-- the bucket of a number by its product: of the last 64 bits the first ones
+abbrev pub product_at : Product → ℤ → ℕ
+product_at product number = bit_and (cast_unsigned w128 number % 2 ^ 64 * product.odd % 2 ^ 64 / 2 ^ product.shift) product.mask
+
+-- a key that is no number has the first bucket
+abbrev pub product_of : Product → Option ℤ → ℕ
+product_of product (Some number) = product_at product number
+product_of product None = 0
+
+-- the bucket of a key by the product of its number; none where a part of it is null
+abbrev pub product_bucket : Product → List Value → Option ℕ
+product_bucket product key = if list_any is_null key then None else Some (product_of product (number_of key))
 
 -- the place of a number, counted from the first of so many; behind the last of them where it is none of them
 abbrev pub index_among : ℤ → ℕ → ℕ
@@ -65,9 +80,11 @@ ranked_bucket ranks key = if list_any is_null key then None else Some (bucket_am
 -- the bucket of a key; none where a part of it is null
 abbrev pub bucket_of : Buckets → List Value → Option ℕ
 bucket_of (parted.Hashed hashing) key = hashed_bucket hashing key
+bucket_of (parted.Multiplied product) key = product_bucket product key
 bucket_of (parted.Ranked ranks) key = ranked_bucket ranks key
 
 -- the last bucket
 abbrev pub last_of : Buckets → ℕ
 last_of (parted.Hashed hashing) = hashing.mask
+last_of (parted.Multiplied product) = product.mask
 last_of (parted.Ranked ranks) = ranks.last

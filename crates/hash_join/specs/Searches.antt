@@ -1,16 +1,19 @@
 -- Inside: a left batch whose rows look for their partners.
-use Rattle.std.specs.Prelude.{◌≡◌, ◌≤◌, ◌<◌, ◌+◌, ◌^◌, ◌++◌, ℕ, Bool, false, List, [], Option, Some, IsTrue, length, get_or, nat_lt}
+use Rattle.std.specs.Prelude.{◌≡◌, ◌≤◌, ◌<◌, ◌+◌, ◌^◌, ◌++◌, ℕ, ℤ, Bool, false, List, [], ◌∷◌, Some, IsTrue, length, get_or, nat_lt}
 use Rattle.std.specs.List.{list_all}
 use Rattle.hash_join.specs.declared.build.Probe.{Probe}
 use Rattle.hash_join.specs.declared.pair.Pair.{Pair}
 use Rattle.hash_join.specs.declared.rights.Rights.{Rights}
 use Rattle.hash_join.specs.declared.chains.Chains.{Chains}
 use Rattle.hash_join.specs.declared.search.Search.{Search}
-use Rattle.hash_join.specs.declared.search.NumberKeys.{NumberKeys}
+use Rattle.hash_join.specs.declared.look.Told.{Told}
+use Rattle.hash_join.specs.declared.look.Told.TheVariants as known
 use Rattle.hash_join.specs.declared.walk.Walk.{Walk}
-use Rattle.hash_join.specs.declared.buckets.Buckets.TheVariants as parted
 use Rattle.arrays.specs.declared.layout.Layout.TheVariants as layout
 use Rattle.arrays.specs.Column.{ColumnAt}
+use Rattle.arrays.specs.Integers.{IntegersAt}
+use Rattle.scan_base.specs.declared.value.Value.TheVariants.{Int}
+use Rattle.hash_join.specs.KeyRows.{key_of}
 use Rattle.hash_join.specs.Hashes.{last_of}
 use Rattle.hash_join.specs.Walks.{pairs_past, bucket_left, JoinsChain}
 use Rattle.hash_join.specs.Pairs.{BuildAt, pairs_ahead}
@@ -45,23 +48,32 @@ walk_at search row = record { rights = search.rights; chains = search.chains; le
 abbrev pub Passes : Search → (ℕ → Bool) → Type 0
 Passes search passes = (row from : ℕ) → row < search.left.batch.now.rows → passes row ≡ false → pairs_past (walk_at search row) from ≡ []
 
--- a left row that is told a bucket has it, and joins each right row of it
-pub record IsTold (search : Search) (row told : ℕ) : Type 0 where
-  pub own : bucket_left (walk_at search row) ≡ Some told
-  pub within : told ≤ last_of search.rights.now.buckets
-  pub all : JoinsChain (walk_at search row)
+-- a left row has this bucket
+pub record HasBucket (search : Search) (row bucket : ℕ) : Type 0 where
+  pub is : bucket_left (walk_at search row) ≡ Some bucket
+  pub within : bucket ≤ last_of search.rights.now.buckets
 
-abbrev pub Tells : Search → (ℕ → Option ℕ) → Type 0
-Tells search bucket = (row told : ℕ) → row < search.left.batch.now.rows → bucket row ≡ Some told → IsTold search row told
+-- what is told of a left row is so
+abbrev pub IsTold : Search → ℕ → Told → Type 0
+IsTold search row known.Nothing = Unit {0}
+IsTold search row (known.Shared bucket) = HasBucket search row bucket
+IsTold search row (known.Own bucket) = HasBucket search row bucket × JoinsChain (walk_at search row)
 
--- the left key is one column of integers, and each right row has a bucket of its number's own
-pub record AreKeysOf (search : Search) (keys : NumberKeys) : Type 0 where
-  pub parted : search.rights.now.buckets ≡ parted.Ranked keys.ranks.now
-  pub empty : length search.rights.now.places.items ≤ get_or search.chains.now.heads.items keys.ranks.now.last 0
+abbrev pub Tells : Search → (ℕ → Told) → Type 0
+Tells search told = (row : ℕ) → row < search.left.batch.now.rows → IsTold search row (told row)
+
+-- what is told of a number is so of each left row whose key it is
+pub record TellsNumbers (search : Search) (passes : ℤ → Bool) (told : ℤ → Told) : Type 0 where
+  pub sound : (row from : ℕ) (number : ℤ) → row < search.left.batch.now.rows → key_of (walk_at search row).left ≡ Int number ∷ [] → passes number ≡ false →
+      pairs_past (walk_at search row) from ≡ []
+  pub holds : (row : ℕ) (number : ℤ) → row < search.left.batch.now.rows → key_of (walk_at search row).left ≡ Int number ∷ [] → IsTold search row (told number)
+
+-- the left key is one column of integers
+pub record AreKeysOf (search : Search) (cells : IntegersAt) (first : ℕ) : Type 0 where
   pub single : length search.left.key.now ≡ 1
   pub slots : (other : ColumnAt) → get_or search.left.batch.now.columns (get_or search.left.key.now 0 0) other
-      ≡ record { layout = layout.Integers keys.cells; first = keys.first; len = search.left.batch.now.rows }
-  pub there : keys.first + search.left.batch.now.rows ≤ keys.cells.len
+      ≡ record { layout = layout.Integers cells; first = first; len = search.left.batch.now.rows }
+  pub there : first + search.left.batch.now.rows ≤ cells.len
 
 -- the pairs that are found, and those that are still to be found, are all
 pub record Searches (search : Search) (probe : Probe) (made whole : List Pair) (most : ℕ) : Type 0 where

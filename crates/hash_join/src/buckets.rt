@@ -5,6 +5,7 @@ ghost use Rattle.hash_join.specs.Hashes.{last_of, bucket_of, hashed_bucket};
 ghost use Rattle.hash_join.specs.KeyRows.{key_of, IsKeyRow};
 
 use crate::key_row::KeyRow;
+use crate::product::Product;
 use crate::ranks::Ranks;
 use std::hash::DefaultHasher;
 
@@ -19,6 +20,7 @@ pub(crate) struct Hashing {
 #[derive(Drop)]
 pub(crate) enum Buckets {
     Hashed(Hashing),
+    Multiplied(Product),
     Ranked(Ranks),
 }
 
@@ -29,6 +31,7 @@ impl Buckets {
     {
         match self {
             Buckets::Hashed(hashing) => hashing.mask,
+            Buckets::Multiplied(product) => product.mask,
             Buckets::Ranked(ranks) => ranks.last,
         }
     }
@@ -41,6 +44,7 @@ impl Buckets {
     {
         match self {
             Buckets::Hashed(hashing) => hashing.bucket(row),
+            Buckets::Multiplied(product) => product.bucket(row),
             Buckets::Ranked(ranks) => ranks.bucket(row),
         }
     }

@@ -1,7 +1,8 @@
 //! The numbers that are right keys, one by one.
 
-ghost use Rattle.std.specs.Prelude.{◌≡◌, ◌≤◌, ◌<◌, ◌^◌, IsTrue, length, nat_lt};
+ghost use Rattle.std.specs.Prelude.{◌≡◌, ◌≤◌, ◌<◌, ◌^◌, All, IsTrue, length, nat_lt};
 ghost use Rattle.std.specs.List.{list_all};
+ghost use Rattle.arrays.specs.Batch.{BatchAt};
 
 use crate::key_element::{KeyElement, is_known};
 use arrays::{Batch, Cells, Column, Integers, Layout};
@@ -33,6 +34,21 @@ pub(crate) fn take_numbers<T: TakesNumbers>(batch: &Batch, key: &[usize], taker:
             true
         }
     }
+}
+
+// Whether the keys of these batches are integers of one column.
+pub(crate) fn are_numbers(batches: &[Batch], key: &[usize]) -> bool
+    requires { All (λ (batch : BatchAt). IsTrue (list_all (λ column. nat_lt column (length batch.columns)) key.now)) batches.now }
+{
+    if key.len() != 1 {
+        return false;
+    }
+    for batch in batches {
+        if slots_of(key_column(batch, key)).is_none() {
+            return false;
+        }
+    }
+    true
 }
 
 // The column that is the key.

@@ -1,6 +1,6 @@
 //! Buckets by the number that is the key.
 
-ghost use Rattle.std.specs.Prelude.{◌≡◌, ◌≤◌, ◌<◌, ◌^◌, All, IfOk, IfSome, IsTrue, count_by, length, nat_lt};
+ghost use Rattle.std.specs.Prelude.{◌≡◌, ◌≤◌, ◌<◌, ◌^◌, All, IfOk, IfSome, IsTrue, Some, count_by, length, nat_lt};
 ghost use Rattle.hash_join.specs.Ranks.{rank_at, AreCounts};
 
 use crate::key_row::KeyRow;
@@ -59,25 +59,24 @@ impl Ranks {
     }
 
     // The bucket of a row's key; none where a part of it is null.
+    #[tactic(auto, using(crate::proofs::EqualKeys::number_known))]
     pub(crate) fn bucket(&self, row: &KeyRow<'_>) -> Option<usize>
         requires { IsKeyRow row.now }
         ensures bucket { result ≡ ranked_bucket self.now (key_of row.now) }
         ensures within { IfSome result (λ bucket. bucket ≤ self.now.last) }
     {
-        if row.has_null() {
-            return None;
+        match row.number() {
+            Some(number) => Some(self.bucket_among(number)),
+            None if row.has_null() => None,
+            None => Some(self.last),
         }
-        Some(self.bucket_among(row.number()))
     }
 
-    // The bucket of a key that is this number, or none.
-    fn bucket_among(&self, number: Option<i128>) -> usize
-        ensures bucket { result ≡ bucket_among self.now number }
+    // The bucket of a number.
+    fn bucket_among(&self, number: i128) -> usize
+        ensures bucket { result ≡ bucket_among self.now (Some number) }
         ensures within { result ≤ self.now.last }
     {
-        let Some(number) = number else {
-            return self.last;
-        };
         match self.own_bucket(number) {
             None => self.last,
             Some(bucket) => bucket,

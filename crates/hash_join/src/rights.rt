@@ -11,6 +11,8 @@ ghost use Rattle.hash_join.specs.Rights.{key_at, bucket_at, AreRights};
 
 use crate::buckets::{Buckets, Hashing};
 use crate::key_row::KeyRow;
+use crate::numbers::are_numbers;
+use crate::product::Product;
 use crate::ranks::Ranks;
 use crate::spans::Span;
 use arrays::Batch;
@@ -40,8 +42,8 @@ impl Drop for Rights {
 }
 
 impl Rights {
-    // The rows of these batches, parted into buckets: by their number, where these are keys that lie close together, and else
-    // by their hash into as many as there are rows, or up to twice as many.
+    // The rows of these batches, parted into buckets: by rank where the keys are numbers that lie close together, and else by
+    // a product or a hash into more than there are rows, up to twice as many.
     pub(crate) fn new(
         alloc: Global,
         seed: HashSeed,
@@ -56,11 +58,13 @@ impl Rights {
         ensures whole { IfOk result (λ rights. AreRights rights) }
     {
         let places = places_of(alloc, &batches)?;
+        let mask = (places.len() + 1).next_power_of_two() - 1;
         let buckets = match Span::of(&batches, &key, places.len()) {
             Some(span) => Buckets::Ranked(Ranks::of(alloc, span, &batches, &key)?),
+            None if are_numbers(&batches, &key) => Buckets::Multiplied(Product::new(seed, mask)),
             None => Buckets::Hashed(Hashing {
                 begun: seed.build_hasher(),
-                mask: (places.len() + 1).next_power_of_two() - 1,
+                mask,
             }),
         };
         Ok(Rights {

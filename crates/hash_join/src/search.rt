@@ -4,15 +4,16 @@ ghost use Rattle.std.specs.Prelude.{◌≡◌, ◌≤◌, ◌<◌, ◌++◌, ◌
 ghost use Rattle.hash_join.specs.declared.buckets.Buckets.TheVariants as parted;
 ghost use Rattle.hash_join.specs.Hashes.{last_of};
 ghost use Rattle.hash_join.specs.Walks.{pairs_past};
-ghost use Rattle.hash_join.specs.Searches.{ahead_of, walk_at, AreKeysOf, IsSearch, Passes, Tells};
+ghost use Rattle.hash_join.specs.Searches.{ahead_of, walk_at, AreKeysOf, IsSearch, Passes, Tells, TellsNumbers};
 
 use crate::buckets::Buckets;
 use crate::build::{LeftSide, Probe};
 use crate::chains::Chains;
 use crate::key_element::KeyElement;
 use crate::key_row::KeyRow;
+use crate::look::{Look, ProductHeads, Told};
 use crate::pair::Pair;
-use crate::ranks::Ranks;
+use crate::product::Product;
 use crate::rights::Rights;
 use crate::sieve::{AllRows, NumberRows, Sieve, first_passing};
 use crate::walk::Walk;
@@ -29,12 +30,12 @@ pub(crate) struct Search<'a> {
     pub(crate) left: LeftSide<'a>,
 }
 
-// Left keys that are integers of one column, and the ranks by which the right keys are parted.
+// Left keys that are integers of one column, and what tells of a number.
 #[derive(Drop)]
-pub(crate) struct NumberKeys<'a> {
+pub(crate) struct NumberKeys<'a, L: Look> {
     pub(crate) cells: Integers<'a>,
     pub(crate) first: usize,
-    pub(crate) ranks: &'a Ranks,
+    pub(crate) look: &'a L,
 }
 
 impl<'a> Search<'a> {
@@ -54,6 +55,9 @@ impl<'a> Search<'a> {
         match &self.rights.buckets {
             Buckets::Ranked(ranks) if self.has_one_part() && self.is_empty(ranks.last) => {
                 self.push_numbers(ranks, probe, most, pairs)
+            }
+            Buckets::Multiplied(product) if self.has_one_part() => {
+                self.push_products(*product, probe, most, pairs)
             }
             _ => self.push_all(probe, most, pairs),
         }
@@ -94,17 +98,40 @@ impl<'a> Search<'a> {
         self.push_through(&sieve, probe, most, pairs)
     }
 
-    // The same, where each right row has a bucket of its number's own, and the left key is one column.
-    fn push_numbers(
+    // The same, where the right keys are parted by a product, and the left key is one column.
+    fn push_products(
         &self,
-        ranks: &'a Ranks,
+        product: Product,
         probe: &Probe,
         most: usize,
         pairs: &mut Vec<Pair>,
     ) -> Result<Probe, AllocError>
         requires whole { IsSearch self.now }
-        requires parted { (self.now).rights.now.buckets ≡ parted.Ranked ranks.now }
-        requires empty { length (self.now).rights.now.places.items ≤ get_or (self.now).chains.now.heads.items ranks.now.last 0 }
+        requires parted { (self.now).rights.now.buckets ≡ parted.Multiplied product }
+        requires single { length (self.now).left.key.now ≡ 1 }
+        requires few { length pairs.old.items ≤ most }
+        ensures given { IfOk result (λ stop. pairs.new.items ++ ahead_of self.now stop ≡ pairs.old.items ++ ahead_of self.now probe.now) }
+        ensures few { IfOk result (λ _. length pairs.new.items ≤ most) }
+        ensures ended { IfOk result (λ stop. length pairs.new.items < most → ahead_of self.now stop ≡ []) }
+    {
+        let heads = ProductHeads {
+            product,
+            heads: self.chains.heads.as_slice(),
+            count: self.rights.places.len(),
+        };
+        self.push_numbers(&heads, probe, most, pairs)
+    }
+
+    // The same, where the left key is one column, whose numbers are looked at.
+    fn push_numbers<L: Look>(
+        &self,
+        look: &L,
+        probe: &Probe,
+        most: usize,
+        pairs: &mut Vec<Pair>,
+    ) -> Result<Probe, AllocError>
+        requires whole { IsSearch self.now }
+        requires look { TellsNumbers self.now (L.passes look.now) (L.told look.now) }
         requires single { length (self.now).left.key.now ≡ 1 }
         requires few { length pairs.old.items ≤ most }
         ensures given { IfOk result (λ stop. pairs.new.items ++ ahead_of self.now stop ≡ pairs.old.items ++ ahead_of self.now probe.now) }
@@ -118,7 +145,7 @@ impl<'a> Search<'a> {
                 let keys = NumberKeys {
                     cells,
                     first: column.first(),
-                    ranks,
+                    look,
                 };
                 self.push_keys(keys, probe, most, pairs)
             }
@@ -127,53 +154,55 @@ impl<'a> Search<'a> {
     }
 
     // The same, where the left keys are integers of one column.
-    fn push_keys(
+    fn push_keys<L: Look>(
         &self,
-        keys: NumberKeys<'a>,
+        keys: NumberKeys<'_, L>,
         probe: &Probe,
         most: usize,
         pairs: &mut Vec<Pair>,
     ) -> Result<Probe, AllocError>
         requires whole { IsSearch self.now }
-        requires keys { AreKeysOf self.now keys }
+        requires keys { AreKeysOf self.now keys.cells keys.first }
+        requires look { TellsNumbers self.now (L.passes keys.look.now) (L.told keys.look.now) }
         requires few { length pairs.old.items ≤ most }
         ensures given { IfOk result (λ stop. pairs.new.items ++ ahead_of self.now stop ≡ pairs.old.items ++ ahead_of self.now probe.now) }
         ensures few { IfOk result (λ _. length pairs.new.items ≤ most) }
         ensures ended { IfOk result (λ stop. length pairs.new.items < most → ahead_of self.now stop ≡ []) }
     {
         match keys.cells.integer_type() {
-            IntegerType::Int8 => self.push_as::<i8>(keys, probe, most, pairs),
-            IntegerType::Int16 => self.push_as::<i16>(keys, probe, most, pairs),
-            IntegerType::Int32 => self.push_as::<i32>(keys, probe, most, pairs),
-            IntegerType::Int64 => self.push_as::<i64>(keys, probe, most, pairs),
-            IntegerType::UInt8 => self.push_as::<u8>(keys, probe, most, pairs),
-            IntegerType::UInt16 => self.push_as::<u16>(keys, probe, most, pairs),
-            IntegerType::UInt32 => self.push_as::<u32>(keys, probe, most, pairs),
-            IntegerType::UInt64 => self.push_as::<u64>(keys, probe, most, pairs),
+            IntegerType::Int8 => self.push_as::<i8, L>(keys, probe, most, pairs),
+            IntegerType::Int16 => self.push_as::<i16, L>(keys, probe, most, pairs),
+            IntegerType::Int32 => self.push_as::<i32, L>(keys, probe, most, pairs),
+            IntegerType::Int64 => self.push_as::<i64, L>(keys, probe, most, pairs),
+            IntegerType::UInt8 => self.push_as::<u8, L>(keys, probe, most, pairs),
+            IntegerType::UInt16 => self.push_as::<u16, L>(keys, probe, most, pairs),
+            IntegerType::UInt32 => self.push_as::<u32, L>(keys, probe, most, pairs),
+            IntegerType::UInt64 => self.push_as::<u64, L>(keys, probe, most, pairs),
         }
     }
 
     // The same for integers of a type.
-    fn push_as<E: KeyElement>(
+    fn push_as<E: KeyElement, L: Look>(
         &self,
-        keys: NumberKeys<'a>,
+        keys: NumberKeys<'_, L>,
         probe: &Probe,
         most: usize,
         pairs: &mut Vec<Pair>,
     ) -> Result<Probe, AllocError>
         requires whole { IsSearch self.now }
-        requires keys { AreKeysOf self.now keys }
+        requires keys { AreKeysOf self.now keys.cells keys.first }
+        requires look { TellsNumbers self.now (L.passes keys.look.now) (L.told keys.look.now) }
         requires kind { E.kind ≡ keys.cells.integer }
         requires few { length pairs.old.items ≤ most }
         ensures given { IfOk result (λ stop. pairs.new.items ++ ahead_of self.now stop ≡ pairs.old.items ++ ahead_of self.now probe.now) }
         ensures few { IfOk result (λ _. length pairs.new.items ≤ most) }
         ensures ended { IfOk result (λ stop. length pairs.new.items < most → ahead_of self.now stop ≡ []) }
     {
-        let sieve: NumberRows<'_, E> = NumberRows {
+        let sieve: NumberRows<'_, E, L> = NumberRows {
             cells: keys.cells,
             first: keys.first,
             count: self.left.batch.rows(),
-            ranks: keys.ranks,
+            look: keys.look,
             kind: PhantomData,
         };
         self.push_through(&sieve, probe, most, pairs)
@@ -190,7 +219,7 @@ impl<'a> Search<'a> {
         requires whole { IsSearch self.now }
         requires all { (self.now).left.batch.now.rows ≤ S.count sieve.now }
         requires sound { Passes self.now (S.passes sieve.now) }
-        requires told { Tells self.now (S.bucket sieve.now) }
+        requires told { Tells self.now (S.told sieve.now) }
         requires few { length pairs.old.items ≤ most }
         ensures given { IfOk result (λ stop. pairs.new.items ++ ahead_of self.now stop ≡ pairs.old.items ++ ahead_of self.now probe.now) }
         ensures few { IfOk result (λ _. length pairs.new.items ≤ most) }
@@ -227,7 +256,7 @@ impl<'a> Search<'a> {
         requires row { probe.now.left < (self.now).left.batch.now.rows }
         requires all { (self.now).left.batch.now.rows ≤ S.count sieve.now }
         requires sound { Passes self.now (S.passes sieve.now) }
-        requires told { Tells self.now (S.bucket sieve.now) }
+        requires told { Tells self.now (S.told sieve.now) }
         requires few { length pairs.old.items ≤ most }
         ensures given { IfOk result (λ stop. pairs.new.items ++ pairs_past (walk_at self.now probe.now.left) stop
             ≡ pairs.old.items ++ pairs_past (walk_at self.now probe.now.left) probe.now.from) }
@@ -246,9 +275,10 @@ impl<'a> Search<'a> {
                 row: probe.left,
             },
         };
-        match sieve.bucket(probe.left) {
-            None => walk.push_pairs(probe.from, most, pairs),
-            Some(bucket) => walk.push_chain(bucket, probe.from, most, pairs),
+        match sieve.tell(probe.left) {
+            Told::Nothing => walk.push_pairs(probe.from, most, pairs),
+            Told::Shared(bucket) => walk.push_bucket(bucket, probe.from, most, pairs),
+            Told::Own(bucket) => walk.push_chain(bucket, probe.from, most, pairs),
         }
     }
 }

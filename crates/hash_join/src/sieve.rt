@@ -1,13 +1,14 @@
 //! Left rows, of which those that join nothing are mostly told by one look.
 
-ghost use Rattle.std.specs.Prelude.{◌≡◌, ◌≤◌, ◌<◌, ◌+◌, ◌&&◌, ℕ, Bool, Option, None, if◌then◌else◌, false, true};
+ghost use Rattle.std.specs.Prelude.{◌≡◌, ◌≤◌, ◌<◌, ◌+◌, ◌&&◌, ℕ, Bool, if◌then◌else◌, false, true};
 ghost use Rattle.arrays.specs.Integers.{AreIntegers};
 ghost use Rattle.arrays.specs.Number.{integer_at};
 ghost use Rattle.arrays.specs.Validity.{is_valid};
-ghost use Rattle.hash_join.specs.Hashes.{is_key, own_bucket};
+ghost use Rattle.hash_join.specs.declared.look.Told.{Told as ToldOf};
+ghost use Rattle.hash_join.specs.declared.look.Told.TheVariants as known;
 
 use crate::key_element::{KeyElement, is_known};
-use crate::ranks::Ranks;
+use crate::look::{Look, Told};
 use arrays::Integers;
 use std::marker::PhantomData;
 
@@ -17,17 +18,17 @@ pub(crate) trait Sieve {
 
     ghost passes: { Self → ℕ → Bool };
 
-    ghost bucket: { Self → ℕ → Option ℕ };
+    ghost told: { Self → ℕ → ToldOf };
 
     // Whether a row may join a right row.
     fn passes(&self, row: usize) -> bool
         requires { row < count self.now }
         ensures { result ≡ passes self.now row };
 
-    // The bucket of a row that joins each right row of it, where it is known to do so.
-    fn bucket(&self, row: usize) -> Option<usize>
+    // What is known of the bucket of a row.
+    fn tell(&self, row: usize) -> Told
         requires { row < count self.now }
-        ensures { result ≡ bucket self.now row };
+        ensures { result ≡ told self.now row };
 }
 
 // So many rows, of which nothing is told.
@@ -41,37 +42,37 @@ impl Sieve for AllRows {
 
     ghost passes = { λ _ _. true };
 
-    ghost bucket = { λ _ _. None };
+    ghost told = { λ _ _. known.Nothing };
 
     fn passes(&self, _row: usize) -> bool {
         true
     }
 
-    fn bucket(&self, _row: usize) -> Option<usize> {
-        None
+    fn tell(&self, _row: usize) -> Told {
+        Told::Nothing
     }
 }
 
-// Rows whose keys are integers, as they lie, and the ranks of the right keys.
+// Rows whose keys are integers, as they lie, and what tells of a number.
 #[derive(Drop)]
-pub(crate) struct NumberRows<'a, E: KeyElement> {
+pub(crate) struct NumberRows<'a, E: KeyElement, L: Look> {
     pub(crate) cells: Integers<'a>,
     pub(crate) first: usize,
     pub(crate) count: usize,
-    pub(crate) ranks: &'a Ranks,
+    pub(crate) look: &'a L,
     pub(crate) kind: PhantomData<E>,
     ghost same: { E.kind ≡ cells.integer },
     ghost there: { first + count ≤ cells.len },
 }
 
-impl<'a, E: KeyElement> Sieve for NumberRows<'a, E> {
+impl<'a, E: KeyElement, L: Look> Sieve for NumberRows<'a, E, L> {
     ghost count = { λ rows. rows.count };
 
     ghost passes = { λ rows row. is_valid rows.cells.validity (rows.first + row)
-        && is_key rows.ranks.now (integer_at E.kind rows.cells.values (rows.first + row)) };
+        && L.passes rows.look.now (integer_at E.kind rows.cells.values (rows.first + row)) };
 
-    ghost bucket = { λ rows row. if is_valid rows.cells.validity (rows.first + row)
-        then own_bucket rows.ranks.now (integer_at E.kind rows.cells.values (rows.first + row)) else None };
+    ghost told = { λ rows row. if is_valid rows.cells.validity (rows.first + row)
+        then L.told rows.look.now (integer_at E.kind rows.cells.values (rows.first + row)) else known.Nothing };
 
     fn passes(&self, row: usize) -> bool {
         let _count = self.cells.len();
@@ -79,17 +80,16 @@ impl<'a, E: KeyElement> Sieve for NumberRows<'a, E> {
         if !is_known(self.cells.validity(), place) {
             return false;
         }
-        self.ranks.is_key(E::number_at(self.cells.values(), place))
+        self.look.passes(E::number_at(self.cells.values(), place))
     }
 
-    fn bucket(&self, row: usize) -> Option<usize> {
+    fn tell(&self, row: usize) -> Told {
         let _count = self.cells.len();
         let place = self.first + row;
         if !is_known(self.cells.validity(), place) {
-            return None;
+            return Told::Nothing;
         }
-        self.ranks
-            .own_bucket(E::number_at(self.cells.values(), place))
+        self.look.tell(E::number_at(self.cells.values(), place))
     }
 }
 

@@ -37,8 +37,27 @@ impl<'a> Walk<'a> {
     {
         match self.rights.buckets.bucket(&self.left) {
             None => Ok(self.rights.places.len()),
-            Some(bucket) => self.follow(self.first_in(bucket, from), most, pairs),
+            Some(bucket) => self.push_bucket(bucket, from, most, pairs),
         }
+    }
+
+    // The same, where the left row has this bucket.
+    pub(crate) fn push_bucket(
+        &self,
+        bucket: usize,
+        from: usize,
+        most: usize,
+        pairs: &mut Vec<Pair>,
+    ) -> Result<usize, AllocError>
+        requires whole { IsWalk self.now }
+        requires bucket { bucket_left self.now ≡ Some bucket }
+        requires within { bucket ≤ last_of (self.now).rights.now.buckets }
+        requires few { length pairs.old.items ≤ most }
+        ensures given { IfOk result (λ stop. pairs.new.items ++ pairs_past self.now stop ≡ pairs.old.items ++ pairs_past self.now from) }
+        ensures few { IfOk result (λ _. length pairs.new.items ≤ most) }
+        ensures stop { IfOk result (λ stop. stop < length (self.now).rights.now.places.items → most ≤ length pairs.new.items) }
+    {
+        self.follow(self.first_in(bucket, from), most, pairs)
     }
 
     // The first right row from one on that stands in the left row's chain. Where a walk has stopped, that is the row itself.

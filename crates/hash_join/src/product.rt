@@ -1,0 +1,55 @@
+//! Buckets by a product of the number that is the key.
+
+ghost use Rattle.std.specs.Prelude.{◌≡◌, ◌≤◌, ◌<◌, IfSome};
+
+use crate::key_row::KeyRow;
+use hash_seed::HashSeed;
+use std::hash::{BuildHasher, Hasher};
+
+// Buckets by the first bits of a number's product with an odd one that is secret. Keys that are no number share the first.
+#[derive(Clone, Copy, Drop)]
+pub(crate) struct Product {
+    pub(crate) odd: u64,
+    pub(crate) shift: u32,
+    pub(crate) mask: usize,
+    ghost small: { shift < 64 },
+}
+
+impl Product {
+    ghost use Rattle.hash_join.specs.Hashes.{product_at, product_bucket};
+    ghost use Rattle.hash_join.specs.KeyRows.{key_of, IsKeyRow};
+
+    // As many buckets as the bits of the mask name, by a product with what the seed hides.
+    pub(crate) fn new(seed: HashSeed, mask: usize) -> Product
+        ensures { result.mask ≡ mask }
+    {
+        Product {
+            odd: seed.build_hasher().finish() | 1,
+            shift: mask.leading_zeros().min(63),
+            mask,
+        }
+    }
+
+    // The bucket of a row's key; none where a part of it is null.
+    #[tactic(auto, using(crate::proofs::EqualKeys::number_known))]
+    pub(crate) fn bucket(&self, row: &KeyRow<'_>) -> Option<usize>
+        requires { IsKeyRow row.now }
+        ensures bucket { result ≡ product_bucket self.now (key_of row.now) }
+        ensures within { IfSome result (λ bucket. bucket ≤ self.now.mask) }
+    {
+        match row.number() {
+            Some(number) => Some(self.at(number)),
+            None if row.has_null() => None,
+            None => Some(0),
+        }
+    }
+
+    // The bucket of a number.
+    pub(crate) fn at(&self, number: i128) -> usize
+        ensures place { result ≡ product_at self.now number }
+        ensures within { result ≤ self.now.mask }
+    {
+        let low = (number.cast_unsigned() % (1 << 64)) as u64;
+        (low.wrapping_mul(self.odd) >> self.shift) as usize & self.mask
+    }
+}
