@@ -17,14 +17,8 @@ use Rattle.grouping.specs.declared.table.Chosen.{Chosen}
 use Rattle.grouping.specs.Fed.{batch_at}
 use Rattle.grouping.specs.Found.{key_in, place_in, found_then}
 use Rattle.grouping.specs.Keys.{key_self}
-use Rattle.grouping.specs.inside.Placing.{ArePlaced, FirstsStay, IsFirst, found_by}
+use Rattle.grouping.specs.inside.Placing.{ArePlaced, FirstsStay, IsFinding, IsFirst, found_by}
 use Rattle.grouping.specs.RowKeys.{key_of, same_first}
-
--- the invariant of the loop over rows
-pub record IsFinding (chosen : Chosen) (before : List RowKey) (count : ℕ) (firsts : List RowKey) (groups : List ℕ) : Type 0 where
-  pub found : map key_of firsts ≡ found_then chosen.columns.now (map key_of before) (map (row_of chosen.batch.now.columns) (take count chosen.rows.now))
-  pub placed : ArePlaced chosen.columns.now chosen.batch.now.columns (map key_of firsts) chosen.rows.now groups count
-  pub kept : FirstsStay chosen before firsts
 
 pub any_map : {A B : Type 0} (f : A → B) (p : B → Bool) (xs : List A) → list_any p (map f xs) ≡ list_any (λ x. p (f x)) xs
 any_map f p [] = refl
@@ -166,3 +160,17 @@ found_alone [] firsts rows empty = one rows
     one [] = refl
     one (row ∷ rows) = one rows
 found_alone (key ∷ keys) firsts rows empty = let no_key : nat_eq (length (key ∷ keys)) 0 ≡ false = ne_eqb _ _ (λ (h : length (key ∷ keys) ≡ 0). omega arith) in cc
+
+-- the same, by what stands then
+pub step_more : (chosen : Chosen) (before firsts then : List RowKey) (groups after : List ℕ) (group : ℕ) (first : RowKey) →
+    IsFinding chosen before (length groups) firsts groups → length groups < length chosen.rows.now → first.columns.now ≡ chosen.columns.now →
+    first.batch.now ≡ chosen.batch.now → first.number ≡ chosen.number → first.row ≡ get_or chosen.rows.now (length groups) 0 →
+    then ≡ insert_key same_first firsts first → group ≡ place_in (map key_of firsts) (key_of first) → after ≡ groups ++ group ∷ [] →
+    IsFinding chosen before (length after) then after
+step_more chosen before firsts then groups after group first so more same_keys same_batch same_number same_row inserted is grown =
+    let count = length groups in
+    let long : length after ≡ count + 1 = ap length grown ∙ length-append groups (group ∷ []) in
+    let next = step chosen before count firsts groups first so more same_keys same_batch same_number same_row in
+    subst (λ (n : ℕ). IsFinding chosen before n then after) (sym long)
+    (subst (λ (all : List ℕ). IsFinding chosen before (count + 1) then all) (ap (λ (g : ℕ). groups ++ g ∷ []) (sym is) ∙ sym grown)
+    (subst (λ (all : List RowKey). IsFinding chosen before (count + 1) all (groups ++ place_in (map key_of firsts) (key_of first) ∷ [])) (sym inserted) next))

@@ -100,6 +100,24 @@ known_hit meaning firsts first entries at d kind key value known there is says s
     let place : place_in (map key_of firsts) (key_of first) ≡ entry.group = ap (place_in (map key_of firsts)) (sym of_it) ∙ sym (now.place its) in
     sym (found_before firsts first (omega (arith, place, now.there its)))
 
+-- and it has the entry's group
+pub known_place : (meaning : ℕ → ℕ → Value) (firsts : List RowKey) (first : RowKey) (entries : List Known) (at : ℕ) (d : Known) (kind key : ℕ) (value : Value) →
+    AreKnown meaning (map key_of firsts) entries → at < length entries → key_of first ≡ value ∷ [] →
+    (kind ≢ 0 → meaning kind key ≡ value) →
+    (not (kind == 0) && (((get_or entries at d).kind == kind) && ((get_or entries at d).key == key))) ≡ true →
+    (get_or entries at d).group ≡ place_in (map key_of firsts) (key_of first)
+known_place meaning firsts first entries at d kind key value known there is says same =
+    let entry = get_or entries at d in
+    let parts = and_parts (not (kind == 0)) ((entry.kind == kind) && (entry.key == key)) same in
+    let rest = and_parts (entry.kind == kind) (entry.key == key) parts.1 in
+    let same_kind : entry.kind ≡ kind = eqb-true _ _ rest.0 in
+    let same_key : entry.key ≡ key = eqb-true _ _ rest.1 in
+    let some : kind ≢ 0 = λ (none : kind ≡ 0). true≢false (sym parts.0 ∙ ap not (eq-eqb kind 0 none)) in
+    let of_it : meaning entry.kind entry.key ∷ [] ≡ key_of first =
+    ap (λ (k : ℕ). meaning k entry.key ∷ []) same_kind ∙ ap (λ (k : ℕ). meaning kind k ∷ []) same_key ∙ ap (λ (v : Value). v ∷ []) (says some) ∙ sym is in
+    let its : entry.kind ≢ 0 = λ (none : entry.kind ≡ 0). some (sym same_kind ∙ none) in
+    (known at d there).place its ∙ ap (place_in (map key_of firsts)) of_it
+
 pub known_found : (meaning : ℕ → ℕ → Value) (keys : List ℕ) (before after : List (List Value)) (rows : List Row) (entries : List Known) →
     after ≡ found_then keys before rows → AreKnown meaning before entries → AreKnown meaning after entries
 known_found meaning keys before after rows entries is known =

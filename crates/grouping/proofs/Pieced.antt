@@ -80,7 +80,7 @@ fill column columns groups rows before k pieces d piece slots valid number so th
     let fewer : piece.count ≤ old.count + 1 = omega (arith, few, ap (λ (tally : Tally). tally.count) same) in
     rw map-set
     (step (Sum column) columns groups rows 0 before k tallies (piece_tally piece) so inside
-    (now ∙ summed_cell old slots row (cell_in (row_of columns row) column) valid number is_valid is_number is)
+    (summed_cell old (piece_tally piece) slots row (cell_in (row_of columns row) column) valid number now is_valid is_number is)
     fewer (small_after old (piece_tally piece) valid number fits (so.small.small group inside) now))
 
 -- ---- the pieces of all rows

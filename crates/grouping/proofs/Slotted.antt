@@ -1,8 +1,7 @@
 -- Slots that are counted and summed.
-use Rattle.std.proofs.Common.{◌≡◌, ◌≤◌, ◌<◌, ℕ, ◌+◌, ◌*◌, ℤ, ◌+ℤ◌, pos, Bool, true, false, if◌then◌else◌, FitsSigned, ◌^◌, List, Option, Some, None, length, get_or, refl, sym, ap, ◌∙◌, subst, arith}
+use Rattle.std.proofs.Common.{◌≡◌, ◌≤◌, ◌<◌, ℕ, ◌+◌, ◌*◌, ℤ, Bool, true, false, FitsSigned, ◌^◌, List, Option, Some, None, length, get_or, sym, ap, ◌∙◌, subst, arith}
 use Rattle.std.specs.Int.{w64}
 use Rattle.std.proofs.lemmas.Int.{ints}
-use Rattle.std.proofs.Math.IntN.{+ℤ_comm, +ℤ_idl}
 use Rattle.std.proofs.Math.Nat.{le_trans, mul-le-mul_left}
 use Rattle.arrow_schema.specs.declared.data_type.IntegerType.{IntegerType}
 use Rattle.arrays.specs.Number.{byte_width}
@@ -23,16 +22,7 @@ use Rattle.arrays.specs.Batch.{AreLong, BatchAt}
 use Rattle.arrays.specs.Column.{ColumnAt, slot_of}
 use Rattle.scan_base.specs.declared.value.Value.{Value}
 
--- a slot of a number is counted and summed where it is valid
-pub summed_slot : (tally : Tally) (valid : Bool) (number : ℤ) →
-    record { count = tally.count + (if valid then 1 else 0); sum = tally.sum +ℤ (if valid then number else pos 0) } ≡ summed tally (number_or_null valid number)
-summed_slot tally true number = refl
-summed_slot tally false number =
-    let count : tally.count + 0 ≡ tally.count = omega arith in
-    let sum : tally.sum +ℤ pos 0 ≡ tally.sum = +ℤ_comm tally.sum (pos 0) ∙ +ℤ_idl tally.sum in
-    ap (λ (n : ℕ). record { count = n; sum = tally.sum +ℤ pos 0 }) count ∙ ap (λ (z : ℤ). record { count = tally.count; sum = z }) sum
-
--- its tally stays small
+-- a tally stays small where a slot of a number is added
 pub small_slot : (tally : Tally) (valid : Bool) (number : ℤ) → FitsSigned w64 number → IsSmall tally → IsSmall (summed tally (number_or_null valid number))
 small_slot tally true number fits small = record { low = omega (arith, ints, small.low); high = omega (arith, ints, small.high) }
 small_slot tally false number fits small = small
@@ -43,13 +33,13 @@ pub small_after : (before after : Tally) (valid : Bool) (number : ℤ) → FitsS
 small_after before after valid number fits small is = subst IsSmall (sym is) (small_slot before valid number fits small)
 
 -- what is added is the cell of the row
-pub summed_cell : (tally : Tally) (slots : Slots) (row : ℕ) (value : Value) (valid : Bool) (number : ℤ) →
-    valid ≡ slot_is_valid slots row → number ≡ slot_number slots row → value ≡ slot_cell slots row →
-    summed tally (number_or_null valid number) ≡ summed tally value
-summed_cell tally slots row value valid number is_valid is_number is =
-    ap (λ (b : Bool). summed tally (number_or_null b number)) is_valid
-    ∙ ap (λ (z : ℤ). summed tally (number_or_null (slot_is_valid slots row) z)) is_number
-    ∙ ap (summed tally) (sym is)
+pub summed_cell : (before after : Tally) (slots : Slots) (row : ℕ) (value : Value) (valid : Bool) (number : ℤ) → after ≡ summed before (number_or_null valid number) →
+    valid ≡ slot_is_valid slots row → number ≡ slot_number slots row → value ≡ slot_cell slots row → after ≡ summed before value
+summed_cell before after slots row value valid number added is_valid is_number is =
+    added
+    ∙ ap (λ (b : Bool). summed before (number_or_null b number)) is_valid
+    ∙ ap (λ (z : ℤ). summed before (number_or_null (slot_is_valid slots row) z)) is_number
+    ∙ ap (summed before) (sym is)
 
 -- a cell of a row, by the slots of its column
 pub are_slots : (slots : Slots) (column : ℕ) (found : ColumnAt) (batch : BatchAt) → found ≡ get_or batch.columns column found → column < length batch.columns →

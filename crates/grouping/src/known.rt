@@ -1,13 +1,14 @@
 //! Keys that were found before, each by one number.
 
-ghost use Rattle.std.specs.Prelude.{◌≡◌, ◌<◌, ◌==◌, ◌&&◌, ◌∷◌, [], not, length, map, OnOk, IfOk};
+ghost use Rattle.std.specs.Prelude.{◌≡◌, ◌≤◌, ◌<◌, ◌==◌, ◌&&◌, ◌∷◌, [], not, length, map, nat_lt, All, OnOk, IfOk, IfSome, IsTrue};
+ghost use Rattle.std.specs.List.{list_all};
 ghost use Rattle.indexmap.specs.IndexSet.{insert_key};
 ghost use Rattle.grouping.specs.Found.{place_in};
 ghost use Rattle.grouping.specs.RowKeys.{key_of, same_first};
-ghost use Rattle.grouping.specs.inside.Knowing.{AreKnown, AreNothing};
+ghost use Rattle.grouping.specs.inside.Knowing.{AreKnown, AreNothing, AreTagged, GoOn, IsTold};
 
 use crate::key::RowKey;
-use crate::table::group_of;
+use crate::table::{Chosen, group_of};
 use crate::tags::Tags;
 use hash_seed::HashSeed;
 use indexmap::IndexSet;
@@ -152,6 +153,58 @@ pub(crate) fn known_group<'t, T: Tags>(
         group,
     };
     Ok(group)
+}
+
+// The group of a row, whose key has this tag, where it is known.
+fn told_group<T: Tags>(known: &[Known], tags: &T, first: RowKey<'_>) -> Option<u32>
+    requires some { 0 < length known.now }
+    requires there { first.row < T.count tags.now }
+    requires tagged { key_of first ≡ T.value tags.now first.row ∷ [] }
+    ensures { IfSome result (IsTold (T.meaning tags.now) known.now first.entry) }
+{
+    let tag = tags.tag(first.row as usize);
+    let at = place_of(tag, known.len());
+    let entry = known[at];
+    if entry.is_of(tag) {
+        Some(entry.group)
+    } else {
+        None
+    }
+}
+
+/// Adds the groups of the next rows whose keys are known, until one is not. Here no set is at hand, so that the loop is short.
+///
+/// # Errors
+///
+/// `AllocError` where memory is refused.
+pub(crate) fn push_known<T: Tags>(
+    known: &[Known],
+    tags: &T,
+    chosen: &Chosen<'_, '_>,
+    groups: &mut Vec<u32>,
+) -> Result<(), AllocError>
+    requires some { 0 < length known.now }
+    requires there { IsTrue (list_all (λ column. nat_lt column (length chosen.now.batch.now.columns)) chosen.now.columns.now) }
+    requires within { All (λ row. row < chosen.now.batch.now.rows) chosen.now.rows.now }
+    requires tagged { AreTagged (T.count tags.now) (T.value tags.now) chosen.now.columns.now chosen.now.batch.now }
+    requires few { length groups.old.items ≤ length chosen.now.rows.now }
+    ensures more { OnOk result (length groups.old.items ≤ length groups.new.items) }
+    ensures few { OnOk result (length groups.new.items ≤ length chosen.now.rows.now) }
+    ensures found { OnOk result (GoOn (T.meaning tags.now) known.now chosen.now groups.old.items groups.new.items) }
+{
+    for k in groups.len()..chosen.rows.len() {
+        let first = RowKey {
+            number: chosen.number,
+            batch: chosen.batch,
+            columns: chosen.columns,
+            row: chosen.rows[k],
+        };
+        match told_group(known, tags, first) {
+            Some(group) => groups.push(group)?,
+            None => return Ok(()),
+        }
+    }
+    Ok(())
 }
 
 /// The group of a row, by the first rows. It is opened where the row's key is new.

@@ -10,7 +10,7 @@ ghost use Rattle.grouping.specs.inside.Slots.{AreSlots, number_or_null};
 
 use crate::part::Part;
 use crate::slots::{Number, Slots, Validity};
-use crate::tally::{Tally, kept, ones};
+use crate::tally::Tally;
 
 /// Of how many groups there are pieces at most.
 pub(crate) const MOST_PIECES: usize = 1_024;
@@ -41,16 +41,15 @@ impl Piece {
     }
 
     // Adds a slot, and says whether 64 bits still hold the sum.
-    #[tactic(auto, using(crate::proofs::Slotted::summed_slot))]
     fn add_slot(&mut self, valid: bool, number: i64) -> bool
         requires { self.old.count < most_rows }
         ensures added { result ≡ true → piece_tally self.new ≡ summed (piece_tally self.old) (number_or_null valid number) }
         ensures few { self.new.count ≤ self.old.count + 1 }
     {
-        let (sum, holds) = sum_of(self.sum, kept(valid, number));
-        self.count += ones(valid);
-        self.sum = sum;
-        holds
+        let (sum, holds) = sum_of(self.sum, number);
+        self.count += valid as u64;
+        self.sum = if valid { sum } else { self.sum };
+        holds | !valid
     }
 }
 

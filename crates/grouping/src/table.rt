@@ -10,7 +10,7 @@ ghost use Rattle.grouping.specs.inside.Placing.{found_by, ArePlaced, FirstsStay}
 ghost use Rattle.grouping.specs.RowKeys.{key_of, same_first};
 
 use crate::key::RowKey;
-use crate::known::{Known, index_count, know_nothing, known_group, short_group};
+use crate::known::{Known, index_count, know_nothing, known_group, push_known, short_group};
 use crate::slots::{Entries, Number, Slots, entry_slots, integer_slots};
 use crate::tags::{IndexTags, NumberTags, Tags, text_tags};
 use arrays::{Batch, Layout};
@@ -217,14 +217,15 @@ fn groups_by<'t, T: Tags>(
     ensures known { OnOk result (AreKnown (T.meaning tags.now) (map key_of firsts.new.keys) known.new) }
 {
     let mut groups = Vec::with_capacity(alloc, chosen.rows.len())?;
-    for row in chosen.rows {
+    'rows: while groups.len() < chosen.rows.len() {
         let first = RowKey {
             number: chosen.number,
             batch: chosen.batch,
             columns: chosen.columns,
-            row: *row,
+            row: chosen.rows[groups.len()],
         };
         groups.push(known_group(firsts, known, tags, first)?)?;
+        push_known(known, tags, chosen, &mut groups)?;
     }
     Ok(groups)
 }

@@ -1,6 +1,6 @@
 //! Tallies of groups.
 
-ghost use Rattle.std.specs.Prelude.{◌≡◌, ◌≤◌, ◌<◌, ◌+◌, ◌+ℤ◌, pos, IfSome, if◌then◌else◌};
+ghost use Rattle.std.specs.Prelude.{◌≡◌, ◌≤◌, ◌<◌, ◌+◌, ◌+ℤ◌, IfSome};
 ghost use Rattle.scan_base.specs.Limits.{most_rows};
 ghost use Rattle.scan_base.specs.declared.value.Value.TheVariants as value;
 ghost use Rattle.arrays.specs.Batch.{row_of};
@@ -68,15 +68,16 @@ impl Tally {
     }
 
     /// Adds a slot: its number counts where it is valid.
-    #[tactic(auto, using(crate::proofs::Slotted::summed_slot))]
     pub(crate) fn add_slot(&mut self, valid: bool, number: i64)
         requires few { self.old.count < most_rows }
         requires small { IsSmall self.old }
         ensures added { self.new ≡ summed self.old (number_or_null valid number) }
         ensures few { self.new.count ≤ self.old.count + 1 }
     {
-        self.count += ones(valid);
-        self.sum += i128::from(kept(valid, number));
+        if valid {
+            self.count += 1;
+            self.sum += i128::from(number);
+        }
     }
 
     /// With the rows of another.
@@ -106,20 +107,6 @@ impl Tally {
             sum: self.sum + number,
         }
     }
-}
-
-/// 1 for a valid slot, and 0 for another.
-pub(crate) fn ones(valid: bool) -> u64
-    ensures { result ≡ (if valid then 1 else 0) }
-{
-    valid as u64
-}
-
-/// The number of a valid slot, and 0 of another.
-pub(crate) fn kept(valid: bool, number: i64) -> i64
-    ensures { result ≡ (if valid then number else pos 0) }
-{
-    if valid { number } else { 0 }
 }
 
 // The number of a slot, if it is not null.

@@ -1,14 +1,19 @@
 -- Inside: keys that are known by a number.
-use Rattle.std.specs.Prelude.{◌≡◌, ◌≢◌, ◌≤◌, ◌<◌, ◌==◌, ℕ, zero, suc, ◌-◌, ◌/◌, ◌%◌, unwrap_or, if◌then◌else◌, All, List, [], ◌∷◌, length, get_or}
+use Rattle.std.specs.Prelude.{◌≡◌, ◌≢◌, ◌≤◌, ◌<◌, ◌==◌, ℕ, zero, suc, ◌-◌, ◌/◌, ◌%◌, unwrap_or, if◌then◌else◌, All, List, [], ◌∷◌, length, map, get_or}
 use Rattle.std.specs.Int.{w64, cast_signed}
 use Rattle.scan_base.specs.declared.value.Value.{Value}
 use Rattle.scan_base.specs.declared.value.Value.TheVariants.{Null, Int, Text}
+use Rattle.indexmap.specs.IndexSet.{insert_key}
+use Rattle.grouping.specs.declared.key.RowKey.{RowKey}
 use Rattle.grouping.specs.declared.known.Known.{Known}
+use Rattle.grouping.specs.declared.table.Chosen.{Chosen}
 use Rattle.arrays.specs.Batch.{BatchAt, row_of}
 use Rattle.arrays.specs.Dictionary.{entry_at}
 use Rattle.grouping.specs.declared.slots.Entries.{Entries}
 use Rattle.grouping.specs.declared.slots.Slots.{Slots}
 use Rattle.grouping.specs.Found.{key_in, place_in}
+use Rattle.grouping.specs.RowKeys.{key_of, same_first}
+use Rattle.grouping.specs.inside.Placing.{IsFinding}
 use Rattle.grouping.specs.inside.Slots.{HaveRoom, entry_cell, slot_cell}
 
 -- the lowest bytes of a number, the lowest first
@@ -50,6 +55,16 @@ AreKnown meaning found entries = All (IsKnown meaning found) entries
 -- whatever entries say of some keys, they say of later keys
 abbrev pub StayKnown : List (List Value) → List (List Value) → Type 0
 StayKnown before after = (entries : List Known) → AreKnown value_tagged before entries → AreKnown value_tagged after entries
+
+-- a row opens no group, and has this one, wherever what the entries say is true
+abbrev pub IsTold : (ℕ → ℕ → Value) → List Known → RowKey → ℕ → Type 0
+IsTold meaning entries first group = (firsts : List RowKey) → AreKnown meaning (map key_of firsts) entries →
+    (firsts ≡ insert_key same_first firsts first) × (group ≡ place_in (map key_of firsts) (key_of first))
+
+-- the groups of more rows are found with no further key, wherever what the entries say is true
+abbrev pub GoOn : (ℕ → ℕ → Value) → List Known → Chosen → List ℕ → List ℕ → Type 0
+GoOn meaning entries chosen groups after = (before firsts : List RowKey) → AreKnown meaning (map key_of firsts) entries →
+    IsFinding chosen before (length groups) firsts groups → IsFinding chosen before (length after) firsts after
 
 -- the key of each row of the batch is one of these numbers
 pub record AreKeys (slots : Slots) (keys : List ℕ) (batch : BatchAt) : Type 0 where

@@ -1,5 +1,5 @@
 -- Inside: places of rows among the keys that were found.
-use Rattle.std.specs.Prelude.{◌≡◌, ◌<◌, ℕ, All, List, [], ◌∷◌, length, map, get_or}
+use Rattle.std.specs.Prelude.{◌≡◌, ◌<◌, ℕ, All, List, [], ◌∷◌, length, map, get_or, take}
 use Rattle.scan_base.specs.declared.value.Value.{Value}
 use Rattle.arrays.specs.Batch.{BatchAt, row_of}
 use Rattle.arrays.specs.Column.{ColumnAt}
@@ -7,7 +7,7 @@ use Rattle.grouping.specs.declared.key.Place.{Place}
 use Rattle.grouping.specs.declared.key.RowKey.{RowKey}
 use Rattle.grouping.specs.declared.table.Chosen.{Chosen}
 use Rattle.grouping.specs.Fed.{batch_at}
-use Rattle.grouping.specs.Found.{key_in, place_in}
+use Rattle.grouping.specs.Found.{found_then, key_in, place_in}
 use Rattle.grouping.specs.RowKeys.{key_of}
 
 -- the keys that were found, by the first rows; without columns there is one key
@@ -39,3 +39,9 @@ FirstsStay chosen before after = (batches : List BatchAt) → IsBatchAt batches 
 -- where a first row stands
 abbrev pub place_of : RowKey → Place
 place_of first = record { batch = first.number; row = first.row }
+
+-- the keys of the first so many of these rows were found behind earlier ones, and each of these rows has the place of its key
+pub record IsFinding (chosen : Chosen) (before : List RowKey) (count : ℕ) (firsts : List RowKey) (groups : List ℕ) : Type 0 where
+  pub found : map key_of firsts ≡ found_then chosen.columns.now (map key_of before) (map (row_of chosen.batch.now.columns) (take count chosen.rows.now))
+  pub placed : ArePlaced chosen.columns.now chosen.batch.now.columns (map key_of firsts) chosen.rows.now groups count
+  pub kept : FirstsStay chosen before firsts

@@ -1,10 +1,9 @@
-use Rattle.std.proofs.Common.{◌<◌, ℤ, FitsSigned, length, get_or, ap, ◌∙◌, arith, rules}
+use Rattle.std.proofs.Common.{◌<◌, FitsSigned, length, get_or, arith, rules}
 use Rattle.std.specs.Int.{w64}
 use Rattle.std.proofs.lemmas.Int.{to_z-of_z}
 use Rattle.std.proofs.lemmas.List.Elements.{All-get_or}
 use Rattle.typed_plan.specs.declared.plan.Aggregate.TheVariants.{Sum}
-use Rattle.grouping.specs.Tallies.{no_rows, summed}
-use Rattle.grouping.specs.inside.Slots.{number_or_null}
+use Rattle.grouping.specs.Tallies.{no_rows}
 use Rattle.grouping.proofs.Stepping.{step}
 use Rattle.grouping.proofs.Slotted.{small_after, summed_cell}
 use Rattle.grouping.proofs.sums.sum_each.Goals as goal
@@ -21,7 +20,7 @@ loop-k-preserved g c =
     let there : group < length c.args.tallies.now =
     All-get_or (λ group. group < length c.args.tallies.now) groups c.loop-k.k 0 (omega arith) c.requires.grouped in
     let inside : group < length c.loop-k.tallies = omega (arith, there, c.loop-k.invariant.long) in
-    let added = c.add_slot.ensures.added ∙ ap (λ (z : ℤ). summed old (number_or_null valid z)) (to_z-of_z w64 number fits) in
+    let added = rw (to_z-of_z w64 number fits) at c.add_slot.ensures.added in
     step (Sum c.args.column) _ groups _ _ _ c.loop-k.k _ _ c.loop-k.invariant inside
-    (added ∙ summed_cell old c.args.slots.now row _ valid number c.is_valid-valid.ensures c.number-number.ensures (c.requires.slots.cells row))
+    (summed_cell old _ c.args.slots.now row _ valid number added c.is_valid-valid.ensures c.number-number.ensures (c.requires.slots.cells row))
     c.add_slot.ensures.few (small_after old _ valid number fits (c.loop-k.invariant.small.small group inside) added)

@@ -1,4 +1,4 @@
-use Rattle.grouping.proofs.Finding.{IsFinding}
+use Rattle.grouping.specs.inside.Placing.{IsFinding}
 use Rattle.grouping.proofs.table.groups_one_by_one.Given as goal
 
 abbrev pub invariant-loop-row : goal.invariant-loop-row
