@@ -129,6 +129,9 @@ PREDICATES = [
     ("(a = 3 AND b = 40) IS UNKNOWN", [3]),
     ("a = 1 OR NOT b = 10 AND a > 4", [1, 5, 6]),
     ("a IS NULL IS NOT TRUE", [1, 3, 4, 5, 6]),
+    # nearly as many sides as a query's text has room for
+    ("{2300:a=9 OR }a BETWEEN 3 AND 5", [3, 4, 5]),
+    ("{1700:a>=3 AND }a BETWEEN 3 AND 5", [3, 4, 5]),
 ]
 
 # Predicates over `types`, and the rows where each is true: of a column `?` with a sign and its least and greatest number,
