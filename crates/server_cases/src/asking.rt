@@ -1,8 +1,9 @@
 //! Calls over a stream that stays open, each by itself.
 
+use crate::texts::push_text;
 use bytes::Bytes;
 use client_calls::{Connection, Failure, Target, fetch, info, put};
-use flight_client::{Stream, join};
+use flight_client::{Rows, Stream, join};
 use flight_proto::{FlightEndpoint, Wanted};
 use grpc_frame::{Counted, MemoryOutput};
 use ipc_stream::ipc_messages;
@@ -80,17 +81,18 @@ pub(crate) fn connected<R: Net<Listener = TcpListener, Stream = TcpStream>>(
     }
 }
 
-// Puts an Arrow IPC stream into table t, and tells how many rows were put.
+// Puts an Arrow IPC stream into table t.
 pub(crate) fn put_into(
     alloc: Global,
     wire: &Wire,
     mode: PutMode,
     rows: &'static [u8],
-) -> Result<u64, Failure> {
+) -> Result<(), Failure> {
     let messages = ipc_messages(alloc, &Bytes::from_static(rows))?;
     let mut connection = Connection::new(alloc, Counted::new(wire), Counted::new(wire));
     let target = Target { table: "t", mode };
-    put(alloc, &mut connection, target, &messages)
+    put(alloc, &mut connection, target, &messages)?;
+    Ok(())
 }
 
 // The endpoints of all rows of table t.
@@ -105,19 +107,12 @@ fn fetched(alloc: Global, wire: &Wire, endpoint: &FlightEndpoint) -> Result<Stre
     fetch(alloc, &mut connection, &endpoint.ticket)
 }
 
-// What is printed of all rows of table t.
-pub(crate) fn all_lines(alloc: Global, wire: &Wire) -> Result<MemoryOutput, Failure> {
-    let endpoints = endpoints_of(alloc, wire)?;
-    lines_of(alloc, [wire, wire], &endpoints)
-}
-
-// What is printed of the rows of two endpoints, each fetched over the wire in its place. The second is fetched first.
-pub(crate) fn lines_of(
+// The rows of two endpoints, each fetched over the wire in its place. The second is fetched first.
+fn rows_of(
     alloc: Global,
     wires: [&Wire; 2],
     endpoints: &[FlightEndpoint],
-) -> Result<MemoryOutput, Failure> {
-    let mut output = MemoryOutput::new(alloc);
+) -> Result<Rows, Failure> {
     let [first, second] = endpoints else {
         return Err(Failure::Found(Fault::BadTicket));
     };
@@ -126,7 +121,25 @@ pub(crate) fn lines_of(
     let Ok(streams) = vec![in alloc; before, behind] else {
         return Err(Failure::Found(Fault::OutOfMemory));
     };
-    let rows = join(streams)?;
+    Ok(join(streams)?)
+}
+
+// Adds what is printed of the rows of two endpoints.
+pub(crate) fn add_lines(
+    alloc: Global,
+    told: &mut String,
+    wires: [&Wire; 2],
+    endpoints: &[FlightEndpoint],
+) -> Result<(), Failure> {
+    let rows = rows_of(alloc, wires, endpoints)?;
+    let mut output = MemoryOutput::new(alloc);
     write_rows(alloc, rows.schema(), rows.batches(), &mut output)?;
-    Ok(output)
+    push_text(told, output.as_slice())?;
+    Ok(())
+}
+
+// Adds what is printed of all rows of table t.
+pub(crate) fn add_all(alloc: Global, told: &mut String, wire: &Wire) -> Result<(), Failure> {
+    let endpoints = endpoints_of(alloc, wire)?;
+    add_lines(alloc, told, [wire, wire], &endpoints)
 }

@@ -3,6 +3,7 @@
 ghost use Rattle.std.specs.Prelude.{◌<◌, ◌≡◌};
 
 use crate::clients::STREAM;
+use crate::texts::push_text;
 use client_commands::query::{Querying, query};
 use command_ends::Connect;
 use grpc_frame::{Input, MemoryInput, MemoryOutput};
@@ -10,16 +11,13 @@ use scan_base::Fault;
 use std::alloc::{AllocError, Global};
 use std::io::ErrorKind;
 use std::sync::atomic::{AtomicU64, Ordering};
-use std::test::Fail;
+use std::thread::Threads;
 use std::time::{Clock, Duration};
 use std::{io, thread};
 
 // The answer to an info: one FlightInfo of two endpoints, with the tickets `A` and `B`, and status 0.
 const INFO: &[u8] =
     b"\x02\x00\x00\x00\x00\x0e\x1a\x05\x0a\x03\x0a\x01A\x1a\x05\x0a\x03\x0a\x01B\x04\x00\x00\x00";
-
-// The lines of both streams, in the order of the endpoints.
-const LINES: &[u8] = b"s\n'b'\nNULL\n'a'\nNULL\n'b'\n'v'\nNULL\n'x'\nNULL\n'z'\n";
 
 // An input whose reads behind the first one wait until another connection was closed, or for 10,000 turns.
 struct Gated<'a, R> {
@@ -116,33 +114,57 @@ impl<'a, R: Clock> Connect for Two<'a, R> {
     }
 }
 
-// Adds the answer to a fetch: the schema, a batch of five rows with these letters of texts, and status 0.
-fn add_stream(answer: &mut Vec<u8>, letters: &[u8; 5]) -> Result<(), AllocError> {
-    answer.extend_from_slice(b"\x02\x00\x00\x00\x01\x03\x12\x80\x02")?;
-    answer.extend_from_slice(&STREAM[8..264])?;
-    answer.extend_from_slice(b"\x02\x00\x00\x00\x01\x16\x12\xe8\x01")?;
-    answer.extend_from_slice(&STREAM[272..504])?;
-    answer.extend_from_slice(b"\xc2\x3e\x28")?;
-    answer.extend_from_slice(&STREAM[504..536])?;
-    answer.extend_from_slice(letters)?;
-    answer.extend_from_slice(&STREAM[541..544])?;
-    answer.extend_from_slice(b"\x04\x00\x00\x00")
+// The bytes of the stream from a place to another.
+fn part(from: usize, to: usize) -> &'static [u8] {
+    STREAM.get(from..to).unwrap_or(b"")
 }
 
-#[test]
-fn second_ends_first(rt: HostRuntime) -> Result<(), Fail> {
-    let alloc = rt.alloc();
+// Adds the answer to a fetch: the schema, a batch of five rows with these letters of texts, and status 0.
+fn add_stream(answer: &mut Vec<u8>, letters: &'static [u8]) -> Result<(), AllocError> {
+    let pieces = [
+        b"\x02\x00\x00\x00\x01\x03\x12\x80\x02",
+        part(8, 264),
+        b"\x02\x00\x00\x00\x01\x16\x12\xe8\x01",
+        part(272, 504),
+        b"\xc2\x3e\x28",
+        part(504, 536),
+        letters,
+        part(541, 544),
+        b"\x04\x00\x00\x00",
+    ];
+    for piece in pieces {
+        answer.extend_from_slice(piece)?;
+    }
+    Ok(())
+}
+
+// What a query comes to whose second connection ends before the first one: the exit status, how many connections were made and
+// closed, and the lines, which come in the order of the endpoints.
+pub(crate) fn told_order<R: Clock + Threads + Sync>(
+    rt: &R,
+    alloc: Global,
+) -> Result<String, AllocError> {
     let mut first = Vec::new(alloc);
     first.extend_from_slice(INFO)?;
     add_stream(&mut first, b"baaab")?;
     let mut second = Vec::new(alloc);
     add_stream(&mut second, b"vwxyz")?;
+    told_rows(rt, alloc, &first, &second)
+}
+
+// What the query comes to over these answers of two connections.
+fn told_rows<R: Clock + Threads + Sync>(
+    rt: &R,
+    alloc: Global,
+    first: &[u8],
+    second: &[u8],
+) -> Result<String, AllocError> {
     let closed = AtomicU64::new(0);
     let mut network = Two {
-        rt: &rt,
+        rt,
         alloc,
-        first: first.as_slice(),
-        second: second.as_slice(),
+        first,
+        second,
         closed: &closed,
         made: 0,
     };
@@ -153,10 +175,10 @@ fn second_ends_first(rt: HostRuntime) -> Result<(), Fail> {
         streams: 3,
         sql: "SELECT s FROM t",
     };
-    let status = query(&rt, alloc, &mut network, &mut output, &mut faults, querying);
-    assert!(rt; status.number() == 0);
-    assert!(rt; network.made == 2);
-    assert!(rt; closed.load(Ordering::SeqCst) == 2);
-    assert!(rt; output.as_slice() == LINES);
-    Ok(())
+    let status = query(rt, alloc, &mut network, &mut output, &mut faults, querying).number();
+    let made = network.made;
+    let closed = closed.load(Ordering::SeqCst);
+    let mut told = format!(in alloc; "{status} {made} {closed}")?;
+    push_text(&mut told, output.as_slice())?;
+    Ok(told)
 }

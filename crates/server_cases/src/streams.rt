@@ -1,5 +1,4 @@
-//! Arrow IPC streams that are put, a put that is cut, and rows as they are printed. vectors/arrow/layout.py laid out the headers
-//! of the streams.
+//! Arrow IPC streams that are put, and a put that is cut. vectors/arrow/layout.py laid out the headers of the streams.
 
 // A nullable Int64 column `a`: 1 to 5.
 pub(crate) const ONE_TO_FIVE: &[u8] =
@@ -58,9 +57,3 @@ pub(crate) const CUT_PUT: &[u8] = b"\x01\x00\x2a/arrow.flight.protocol.FlightSer
     \x00\x00\x00\x00\x00\x02\x00\x00\x00\x00\x00\x00\x00\x00\x00\x00\x00\x00\x00\x00\x00\x00\x00\x00\
     \x00\x00\x00\x00\x00\x00\x00\x00\x00\x10\x00\x00\x00\x00\x00\x00\x00\xc2\x3e\x10\x01\x00\x00\x00\
     \x00\x00\x00\x00\x02\x00";
-
-// What is printed of the first.
-pub(crate) const FIVE_LINES: &[u8] = b"a\n1\n2\n3\n4\n5\n";
-
-// What is printed of the first with the second behind it.
-pub(crate) const SEVEN_LINES: &[u8] = b"a\n1\n2\n3\n4\n5\n6\n7\n";

@@ -1,0 +1,39 @@
+//! Prints what becomes of a server with several seats and of the commands of clients, over loopback and over answers in memory:
+//! a line for each case. `README.md` says what stands in a line.
+#![tactic(auto)]
+
+mod asking;
+mod at_once;
+mod clients;
+mod serving;
+mod side_by_side;
+mod streams;
+mod texts;
+
+use crate::clients::{PUTS, told_port, told_put};
+use crate::serving::{Client, beside};
+use crate::side_by_side::told_order;
+use std::io;
+
+// Each piece is written whole.
+const WHOLE: usize = usize::MAX;
+
+fn main(rt: HostRuntime) -> io::Result<()> {
+    let alloc = rt.alloc();
+    let whole = beside(&rt, 3, Client::StaysOpen(WHOLE))?;
+    println!(rt; "open connection, whole writes: {whole}")?;
+    let bytewise = beside(&rt, 3, Client::StaysOpen(1))?;
+    println!(rt; "open connection, writes of a byte: {bytewise}")?;
+    let cut = beside(&rt, 3, Client::StaysWhole)?;
+    println!(rt; "cut connection: {cut}")?;
+    let commands = beside(&rt, 6, Client::Commands)?;
+    println!(rt; "five commands: {commands}")?;
+    let port = told_port(&rt)?;
+    println!(rt; "nobody listens: {port}")?;
+    for case in PUTS.iter() {
+        let put = told_put(alloc, case)?;
+        println!(rt; "{}: {put}", case.name)?;
+    }
+    let order = told_order(&rt, alloc)?;
+    println!(rt; "second ends first: {order}")
+}

@@ -1,0 +1,163 @@
+//! A server in a thread, and a client beside it.
+
+use crate::asking::connected;
+use crate::at_once::{stay_open, stay_whole};
+use crate::clients::run_commands;
+use crate::texts::push_text;
+use client_calls::Failure;
+use command_ends::Listen;
+use command_line::Serving;
+use commands::serve::{Host, serve};
+use grpc_frame::{Counted, MemoryOutput};
+use hash_seed::HashSeed;
+use loopback::Port;
+use scan_base::Fault;
+use std::alloc::{AllocGlobal, Global};
+use std::net::{Net, TcpListener, TcpStream};
+use std::random::RandomSource;
+use std::sync::Wait;
+use std::thread::Threads;
+use std::time::Clock;
+use std::{io, thread};
+
+// What calls a server.
+#[derive(Clone, Copy)]
+pub(crate) enum Client {
+    // A connection that stays open while others put. So many bytes are written at once.
+    StaysOpen(usize),
+    // A connection beside one that is cut.
+    StaysWhole,
+    // Five commands.
+    Commands,
+}
+
+// Has a client call the server at this port, and adds what comes of it.
+fn call<R>(rt: &R, client: Client, port: u16, told: &mut String) -> Result<(), Failure>
+where
+    R: Net<Listener = TcpListener, Stream = TcpStream> + AllocGlobal + Threads + Clock + Sync,
+{
+    match client {
+        Client::StaysOpen(most) => stay_open(rt, port, most, told),
+        Client::StaysWhole => stay_whole(rt, port, told),
+        Client::Commands => run_commands(rt, port, told),
+    }
+}
+
+// A port that is listened to already.
+#[derive(Drop)]
+struct Bound<'a, R> {
+    port: Port<'a, R>,
+    number: u16,
+}
+
+impl<R: Net<Listener = TcpListener, Stream = TcpStream>> Listen for Bound<'_, R> {
+    type Reader = Counted<TcpStream>;
+
+    type Writer = Counted<TcpStream>;
+
+    ghost listens = { λ _ _ _ _. Unit {0} };
+
+    ghost shares = { λ _ _. Unit {0} };
+
+    ghost accepts = { λ _ _ _. Unit {0} };
+
+    fn listen(&mut self, _port: u16) -> io::Result<u16> {
+        Ok(self.number)
+    }
+
+    fn share(&self) -> io::Result<Self> {
+        Ok(Bound {
+            port: self.port.share()?,
+            number: self.number,
+        })
+    }
+
+    fn accept(&mut self) -> io::Result<(Counted<TcpStream>, Counted<TcpStream>)> {
+        self.port.accept()
+    }
+}
+
+// Whether a server has printed the line of its port, and nothing else.
+fn names_port(alloc: Global, output: &MemoryOutput, port: u16) -> bool {
+    match format!(in alloc; "listening 127.0.0.1:{port}\n") {
+        Ok(line) => output.as_slice() == line.as_bytes(),
+        Err(_) => false,
+    }
+}
+
+// What came of a server: its exit status, whether it printed the line of its port and nothing else, and what it said of faults.
+#[derive(Drop)]
+struct Served {
+    status: u8,
+    names_port: bool,
+    faults: MemoryOutput,
+}
+
+// Serves so many connections, two at once.
+fn serve_bound<R>(host: Host<'_, R>, mut bound: Bound<'_, R>, accept: u16) -> Served
+where
+    R: Net<Listener = TcpListener, Stream = TcpStream> + Threads + Wait + Clock + Sync,
+{
+    let alloc = host.alloc;
+    let mut output = MemoryOutput::new(alloc);
+    let mut faults = MemoryOutput::new(alloc);
+    let serving = Serving {
+        port: 0,
+        seats: 2,
+        accept,
+        parts: 2,
+        workers: 1,
+    };
+    let status = serve(host, &mut bound, &mut output, &mut faults, serving).number();
+    let names_port = names_port(alloc, &output, bound.number);
+    Served {
+        status,
+        names_port,
+        faults,
+    }
+}
+
+// The fault of a failure, wherever it was found.
+fn fault_of(failure: Failure) -> Fault {
+    match failure {
+        Failure::Answered(fault) | Failure::Found(fault) => fault,
+    }
+}
+
+// What comes of a client that calls the server at this port. Where it fails, its fault stands last, and it may not have made all
+// connections: so many are made then, that the server ends.
+fn called<R>(rt: &R, client: Client, port: u16, accept: u16) -> String
+where
+    R: Net<Listener = TcpListener, Stream = TcpStream> + AllocGlobal + Threads + Clock + Sync,
+{
+    let mut told = String::new(rt.alloc());
+    if let Err(failure) = call(rt, client, port, &mut told) {
+        let _ = write!(told, " {}", fault_of(failure));
+        for _ in 0..accept {
+            let _ = connected(rt, port, 1);
+        }
+    }
+    told
+}
+
+// What comes of a server that serves so many connections, and of a client beside it.
+pub(crate) fn beside<R>(rt: &R, accept: u16, client: Client) -> io::Result<String>
+where
+    R: Net<Listener = TcpListener, Stream = TcpStream> + RandomSource + AllocGlobal,
+    R: Threads + Wait + Clock + Sync,
+{
+    let (alloc, seed) = (rt.alloc(), HashSeed::new(rt)?);
+    let host = Host { rt, alloc, seed };
+    let mut port = Port::new(rt);
+    let number = port.listen(0)?;
+    let bound = Bound { port, number };
+    let (served, told) = thread::join(
+        rt,
+        move || serve_bound(host, bound, accept),
+        || called(rt, client, number, accept),
+    );
+    let mut line = format!(in alloc; "server {} {}", served.status, served.names_port)?;
+    push_text(&mut line, served.faults.as_slice())?;
+    write!(line, ", client{told}")?;
+    Ok(line)
+}
