@@ -1,4 +1,4 @@
-use Rattle.cell_tests.proofs.alone.refusals.Given as goal
+use Rattle.cell_cases.proofs.alone.refusals.Given as goal
 
 -- the cell that was just opened
 abbrev pub ghosts-refuses-C-CellName : goal.ghosts-refuses-C-CellName

@@ -1,4 +1,4 @@
-use Rattle.cell_tests.proofs.several.two_look_while_one_puts.Given as goal
+use Rattle.cell_cases.proofs.several.two_look_while_one_puts.Given as goal
 
 -- the cell that was just opened
 abbrev pub ghosts-looked_at_by_two-C-CellName : goal.ghosts-looked_at_by_two-C-CellName

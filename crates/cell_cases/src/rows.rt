@@ -1,4 +1,4 @@
-//! A put of one row, and how many rows a version has.
+//! Puts of one row, and how many rows a version has.
 
 ghost use Rattle.std.specs.Prelude.{◌≡◌, ◌∷◌, [], true, IfOk, codes};
 ghost use Rattle.arrow_schema.specs.Schema.{IsSchema};
@@ -10,7 +10,9 @@ use arrays::Batch;
 use arrow_schema::{DataType, Field, IntegerType, Schema};
 use scan_base::{Fault, Items, Text};
 use std::alloc::{AllocError, Global};
+use std::sync::Wait;
 use table_versions::{IfExists, IfNotExist, Put, Snapshot};
+use version_cell::{CellName, Putter, Scanner, SharedPutter};
 
 // One nullable Int64 column `a`.
 fn schema(alloc: Global) -> Result<Schema, AllocError>
@@ -38,6 +40,27 @@ pub(crate) fn one_row(alloc: Global, table: &str) -> Result<Put, Fault> {
     batches.push(Batch::new(columns, 1))?;
     let name = Text::new(alloc, table)?;
     Ok(Put::new(name, IfNotExist::Create, IfExists::Append, schema, batches))
+}
+
+// The number of a put of one row into table t.
+pub(crate) fn put_one<C: CellName, R: Wait + Drop>(
+    alloc: Global,
+    putter: &mut Putter<C, R>,
+) -> Result<u64, Fault> {
+    let put = one_row(alloc, "t")?;
+    let receipt = putter.put(alloc, put)?;
+    Ok(receipt.number)
+}
+
+// The number of such a put through a seat, by a putter that is shared.
+pub(crate) fn put_through<C: CellName, R: Wait + Drop>(
+    rt: &impl Wait,
+    alloc: Global,
+    putter: &SharedPutter<C, R>,
+    seat: &mut Scanner<C>,
+) -> Result<u64, Fault> {
+    let put = one_row(alloc, "t")?;
+    putter.put(rt, alloc, seat, put)
 }
 
 // How many rows the table of a name has.

@@ -1,4 +1,4 @@
-use Rattle.cell_tests.proofs.several.two_put_by_one_lock.Given as goal
+use Rattle.cell_cases.proofs.several.two_put_by_one_lock.Given as goal
 
 -- the cell that was just opened
 abbrev pub ghosts-put_by_two-C-CellName : goal.ghosts-put_by_two-C-CellName

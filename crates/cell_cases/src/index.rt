@@ -7,7 +7,6 @@ use crate::rows::{one_row, rows_of};
 use hash_seed::HashSeed;
 use scan_base::{Fault, Text};
 use std::alloc::Global;
-use std::test::Fail;
 use table_versions::apply;
 use version_index::VersionIndex;
 
@@ -53,23 +52,19 @@ fn found(index: &VersionIndex, number: u64, table: &Text) -> Result<(u64, u64), 
     Ok((version.number(), rows_of(&version, table)))
 }
 
-// An index stays as it is when a longer one is made of it.
-#[test]
-fn an_index_stays(rt: HostRuntime) -> Result<(), Fail> {
-    let table = Text::new(rt.alloc(), "t")?;
-    let index = of_one_put(rt.alloc(), HashSeed::new(&rt)?)?;
-    let both = newest_of_both(rt.alloc(), &index, &table);
-    assert!(rt; both == Ok(((1, 1), (2, 2))));
-    Ok(())
+/// An index stays as it is when a longer one is made of it: the newest version of it, and then of the longer one.
+pub fn an_index_stays(alloc: Global, seed: HashSeed) -> Result<String, Fault> {
+    let table = Text::new(alloc, "t")?;
+    let index = of_one_put(alloc, seed)?;
+    let ((number, rows), (next, more)) = newest_of_both(alloc, &index, &table)?;
+    Ok(format!(in alloc; "{number} {rows}, {next} {more}")?)
 }
 
-// Each version is found by its number.
-#[test]
-fn versions_by_number(rt: HostRuntime) -> Result<(), Fail> {
-    let table = Text::new(rt.alloc(), "t")?;
-    let index = of_one_put(rt.alloc(), HashSeed::new(&rt)?)?;
-    let first = found(&index, 0, &table);
-    let second = found(&index, 1, &table);
-    assert!(rt; first == Ok((0, 0)) && second == Ok((1, 1)));
-    Ok(())
+/// Versions 0 and 1, each found by its number.
+pub fn versions_by_number(alloc: Global, seed: HashSeed) -> Result<String, Fault> {
+    let table = Text::new(alloc, "t")?;
+    let index = of_one_put(alloc, seed)?;
+    let (first, rows) = found(&index, 0, &table)?;
+    let (second, more) = found(&index, 1, &table)?;
+    Ok(format!(in alloc; "{first} {rows}, {second} {more}")?)
 }

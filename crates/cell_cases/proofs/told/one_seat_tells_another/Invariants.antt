@@ -1,4 +1,4 @@
-use Rattle.cell_tests.proofs.told.one_seat_tells_another.Given as goal
+use Rattle.cell_cases.proofs.told.one_seat_tells_another.Given as goal
 
 -- the cell that was just opened
 abbrev pub ghosts-told_by_another-C-CellName : goal.ghosts-told_by_another-C-CellName

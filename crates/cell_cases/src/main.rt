@@ -1,0 +1,39 @@
+//! What calls of a cell answer, in one thread and in several: of each case a line, with its name and what it saw.
+//! `stdout` has what is wanted.
+#![tactic(auto)]
+
+mod alone;
+mod index;
+mod rows;
+mod several;
+mod told;
+
+use hash_seed::HashSeed;
+use scan_base::Fault;
+use std::alloc::{AllocError, Global};
+use std::io;
+
+// The line of a case: its name, and what it saw.
+fn line(alloc: Global, name: &str, seen: Result<String, Fault>) -> Result<String, AllocError> {
+    match seen {
+        Ok(seen) => format!(in alloc; "{name}: {seen}"),
+        Err(fault) => format!(in alloc; "{name}: fault: {fault}"),
+    }
+}
+
+fn main(rt: HostRuntime) -> io::Result<()> {
+    let alloc = rt.alloc();
+    let seed = HashSeed::new(&rt)?;
+    let seen = alone::refusals(&rt, alloc, seed);
+    println!(rt; "{}", line(alloc, "refusals", seen)?)?;
+    let seen = index::an_index_stays(alloc, seed);
+    println!(rt; "{}", line(alloc, "an_index_stays", seen)?)?;
+    let seen = index::versions_by_number(alloc, seed);
+    println!(rt; "{}", line(alloc, "versions_by_number", seen)?)?;
+    let seen = several::two_look_while_one_puts(&rt, alloc, seed);
+    println!(rt; "{}", line(alloc, "two_look_while_one_puts", seen)?)?;
+    let seen = several::two_put_by_one_lock(&rt, alloc, seed);
+    println!(rt; "{}", line(alloc, "two_put_by_one_lock", seen)?)?;
+    let seen = told::one_seat_tells_another(&rt, alloc, seed);
+    println!(rt; "{}", line(alloc, "one_seat_tells_another", seen)?)
+}

@@ -1,0 +1,57 @@
+//! What one seat tells another, and what all have seen in the end.
+
+ghost use Rattle.std.specs.Prelude.{◌≡◌};
+ghost use Rattle.version_cell.specs.Blanks.{IsNamed};
+
+use crate::rows::put_through;
+use hash_seed::HashSeed;
+use scan_base::Fault;
+use std::alloc::Global;
+use std::sync::Wait;
+use version_cell::{Blank, Brand, CellName, Scanner, SharedPutter, open};
+
+// How many puts a seat has seen or was told of.
+fn told_of<C: CellName>(seat: &Scanner<C>) -> u64 {
+    seat.tell().number()
+}
+
+// Tells one seat what another has seen.
+fn tell<C: CellName>(ahead: &Scanner<C>, behind: &mut Scanner<C>) {
+    let told = ahead.tell();
+    behind.learn(&told);
+}
+
+/// A put is made through one of two seats, and the other is told of it: the put's number, of how many puts each seat was
+/// told before, of how many the other was told then, and how many there are in all.
+pub fn one_seat_tells_another<R: Wait>(
+    rt: &R,
+    alloc: Global,
+    seed: HashSeed,
+) -> Result<String, Fault> {
+    let blank = open(alloc, seed, 2)?;
+    told_by_another::<Brand, R>(rt, alloc, blank)
+}
+
+fn told_by_another<C: CellName, R: Wait>(
+    rt: &R,
+    alloc: Global,
+    blank: Blank,
+) -> Result<String, Fault>
+    requires cell { IsNamed blank C.book C.name C.parts }
+    requires seats { blank.seats ≡ 2 }
+{
+    let (putter, mut seats) = blank.named::<C, &R>(alloc, rt)?;
+    let shared = SharedPutter::new(putter);
+    let (Some(mut ahead), Some(mut behind)) = (seats.pop(), seats.pop()) else {
+        return Ok(String::from_str(alloc, "fewer seats")?);
+    };
+    let put = put_through(rt, alloc, &shared, &mut ahead);
+    let (told, before) = (told_of(&ahead), told_of(&behind));
+    tell(&ahead, &mut behind);
+    let learnt = told_of(&behind);
+    let mut all = shared.gather(rt);
+    all.take(ahead);
+    all.take(behind);
+    let whole = shared.whole_log(rt, all).number();
+    Ok(format!(in alloc; "{} {told} {before} {learnt} {whole}", put?)?)
+}
