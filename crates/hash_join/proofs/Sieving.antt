@@ -33,7 +33,7 @@ use Rattle.hash_join.specs.declared.product.Product.{Product}
 use Rattle.hash_join.specs.Looks.{ranks_told}
 use Rattle.hash_join.specs.Pairs.{keys_join}
 use Rattle.hash_join.specs.Ranks.{rank_at}
-use Rattle.hash_join.specs.Hashes.{number_of, place_among, is_key, own_bucket, bucket_among, ranked_bucket, bucket_of, last_of, index_among, product_at, product_bucket}
+use Rattle.hash_join.specs.Hashes.{number_of, place_among, is_key, own_bucket, bucket_among, ranked_bucket, bucket_of, last_of, index_among, product_at, product_bucket, product_sum}
 use Rattle.hash_join.specs.KeyRows.{key_of}
 use Rattle.hash_join.specs.Walks.{pairs_past, bucket_left}
 use Rattle.hash_join.specs.Rights.{key_at, bucket_at}
@@ -202,7 +202,7 @@ module _ (search : Search) (is : IsSearch search) where
     product_row : (row : ℕ) (number : ℤ) → key_of (walk_at search row).left ≡ Int number ∷ [] → HasBucket search row (product_at product number)
     product_row row number key = record {
       is = ap (λ b. bucket_of b (key_of (walk_at search row).left)) parts ∙ ap (product_bucket product) key;
-      within = subst (λ (buckets : Buckets). product_at product number ≤ last_of buckets) (sym parts) (and_le_r (cast_unsigned w128 number % 2 ^ 64 * product.odd % 2 ^ 64 / 2 ^ product.shift) product.mask);
+      within = subst (λ (buckets : Buckets). product_at product number ≤ last_of buckets) (sym parts) (and_le_r (product_sum product (cast_unsigned w128 number) / 2 ^ product.shift) product.mask);
     }
 
     pub products_tell : (heads : List ℕ) (count : ℕ) → heads ≡ search.chains.now.heads.items → count ≡ length search.rights.now.places.items →

@@ -1,5 +1,5 @@
 -- Inside: the bucket of a key. It is a function of the key's values, so that equal keys have one; nothing else matters of it.
-use Rattle.std.specs.Prelude.{◌-ℤ◌, ◌*◌, ◌/◌, ◌%◌, ◌^◌, ℕ, ℤ, pos, negsuc, Bool, false, List, [], ◌∷◌, Option, Some, None, unwrap_or, get_or, if◌then◌else◌, bit_and, min}
+use Rattle.std.specs.Prelude.{◌+◌, ◌-ℤ◌, ◌*◌, ◌/◌, ◌%◌, ◌^◌, ℕ, ℤ, pos, negsuc, Bool, false, List, [], ◌∷◌, Option, Some, None, unwrap_or, get_or, if◌then◌else◌, bit_and, min}
 use Rattle.std.specs.Int.{w128, cast_unsigned}
 use Rattle.std.specs.List.{fold, list_any}
 use Rattle.std.specs.Option.{option_map}
@@ -38,9 +38,13 @@ abbrev pub number_of : List Value → Option ℤ
 number_of (Int number ∷ []) = Some number
 number_of _ = None
 
--- the bucket of a number by its product: of the last 64 bits the first ones
+-- the products of the halves of a number with the two secret ones, added in 64 bits
+abbrev pub product_sum : Product → ℕ → ℕ
+product_sum product bits = (bits % 2 ^ 64 * product.odd % 2 ^ 64 + bits / 2 ^ 64 * product.high % 2 ^ 64) % 2 ^ 64
+
+-- the bucket of a number by that sum: the first bits of it
 abbrev pub product_at : Product → ℤ → ℕ
-product_at product number = bit_and (cast_unsigned w128 number % 2 ^ 64 * product.odd % 2 ^ 64 / 2 ^ product.shift) product.mask
+product_at product number = bit_and (product_sum product (cast_unsigned w128 number) / 2 ^ product.shift) product.mask
 
 -- a key that is no number has the first bucket
 abbrev pub product_of : Product → Option ℤ → ℕ

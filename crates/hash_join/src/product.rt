@@ -6,10 +6,12 @@ use crate::key_row::KeyRow;
 use hash_seed::HashSeed;
 use std::hash::{BuildHasher, Hasher};
 
-// Buckets by the first bits of a number's product with an odd one that is secret. Keys that are no number share the first.
+// Buckets by the first bits of a sum: of the products of a number's halves with two secret numbers. Keys that are no number share
+// the first.
 #[derive(Clone, Copy, Drop)]
 pub(crate) struct Product {
     pub(crate) odd: u64,
+    pub(crate) high: u64,
     pub(crate) shift: u32,
     pub(crate) mask: usize,
     ghost small: { shift < 64 },
@@ -23,8 +25,11 @@ impl Product {
     pub(crate) fn new(seed: HashSeed, mask: usize) -> Product
         ensures { result.mask ≡ mask }
     {
+        let mut second = seed.build_hasher();
+        second.write_u8(1);
         Product {
             odd: seed.build_hasher().finish() | 1,
+            high: second.finish(),
             shift: mask.leading_zeros().min(63),
             mask,
         }
@@ -49,7 +54,12 @@ impl Product {
         ensures place { result ≡ product_at self.now number }
         ensures within { result ≤ self.now.mask }
     {
-        let low = (number.cast_unsigned() % (1 << 64)) as u64;
-        (low.wrapping_mul(self.odd) >> self.shift) as usize & self.mask
+        let bits = number.cast_unsigned();
+        let low = (bits % (1 << 64)) as u64;
+        let high = (bits >> 64) as u64;
+        let sum = low
+            .wrapping_mul(self.odd)
+            .wrapping_add(high.wrapping_mul(self.high));
+        (sum >> self.shift) as usize & self.mask
     }
 }
