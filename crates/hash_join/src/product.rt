@@ -29,7 +29,7 @@ impl Product {
         second.write_u8(1);
         Product {
             odd: seed.build_hasher().finish() | 1,
-            high: second.finish(),
+            high: second.finish() | 1,
             shift: mask.leading_zeros().min(63),
             mask,
         }
