@@ -79,8 +79,7 @@ pub(crate) fn add<'t>(
     Ok(())
 }
 
-// The group of each of these rows, by what is known of keys. Where the key is not one column, or most rows opened a group, that is
-// left aside.
+// The group of each of these rows, by what is known of keys. Where most rows opened a group, that is left aside.
 fn place_kept<'t>(
     alloc: Global,
     kept: &mut Kept<'t>,
@@ -99,8 +98,7 @@ fn place_kept<'t>(
     ensures count { OnOk result (kept.new.count ≡ kept.old.count) }
 {
     let found = kept.firsts.len();
-    let is_new_mostly = found > LEAST_GROUPS && kept.count / 2 < found;
-    if chosen.columns.len() != 1 || is_new_mostly {
+    if found > LEAST_GROUPS && kept.count / 2 < found {
         let groups = place_rows(alloc, &mut kept.firsts, &mut [], chosen)?;
         return Ok(groups);
     }
