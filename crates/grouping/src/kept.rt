@@ -79,7 +79,8 @@ pub(crate) fn add<'t>(
     Ok(())
 }
 
-// The group of each of these rows, by what is known of keys. Where most rows opened a group, that is left aside.
+// The group of each of these rows, by what is known of keys. Where the key is not one column, or most rows opened a group, that is
+// left aside.
 fn place_kept<'t>(
     alloc: Global,
     kept: &mut Kept<'t>,
@@ -98,7 +99,8 @@ fn place_kept<'t>(
     ensures count { OnOk result (kept.new.count ≡ kept.old.count) }
 {
     let found = kept.firsts.len();
-    if found > LEAST_GROUPS && kept.count / 2 < found {
+    let is_new_mostly = found > LEAST_GROUPS && kept.count / 2 < found;
+    if chosen.columns.len() != 1 || is_new_mostly {
         let groups = place_rows(alloc, &mut kept.firsts, &mut [], chosen)?;
         return Ok(groups);
     }
