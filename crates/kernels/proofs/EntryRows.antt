@@ -13,7 +13,7 @@ use Rattle.scan_base.specs.declared.comparison.Comparison.TheVariants.{Equal}
 use Rattle.scan_base.specs.declared.predicate.Operand.{Operand}
 use Rattle.scan_base.specs.declared.predicate.Operand.TheVariants.{Column, Literal}
 use Rattle.scan_base.specs.Comparison.{compared, nullness}
-use Rattle.scan_base.specs.Predicate.{Pred, conjunction, disjunction, negation, truth_test, comparing, between, membership, null_test, any_equal, operand_names, operand_value, names_only, truth_of, within}
+use Rattle.scan_base.specs.Predicate.{Pred, conjunction, disjunction, negation, truth_test, comparing, between, membership, null_test, constant, any_equal, operand_names, operand_value, names_only, truth_of, within}
 use Rattle.scan_base.specs.Truth.{truth_and, truth_or, truth_not, truth_is, negated_if, truth_from}
 use Rattle.scan_base.proofs.Truths.{or_false}
 use Rattle.arrow_schema.specs.DataType.{is_signed}
@@ -68,6 +68,7 @@ alone_truth number cell (membership negated a items) named =
     ap (λ v. negated_if negated (any_equal cell v items)) (operand_alone number cell a both.0)
     ∙ ap (negated_if negated) (items_alone number cell (operand_value (λ (column : ℕ). cell number) a) items both.1)
 alone_truth number cell (null_test negated a) named = ap (λ v. negated_if negated (nullness v)) (operand_alone number cell a named)
+alone_truth number cell (constant truth) named = refl
 
 operand_any : (passes : ℕ → Bool) → ((column : ℕ) → passes column ≡ true) → (operand : Operand ℕ) → operand_names passes operand ≡ true
 operand_any passes all (Column column) = all column
@@ -87,6 +88,7 @@ names_any passes all (comparing comparison a b) = rw (operand_any passes all a) 
 names_any passes all (between negated a low high) = rw (operand_any passes all a, operand_any passes all low) (operand_any passes all high)
 names_any passes all (membership negated a items) = rw (operand_any passes all a) (items_any passes all items)
 names_any passes all (null_test negated a) = operand_any passes all a
+names_any passes all (constant truth) = refl
 
 -- ---- the truths of entries, one by one
 

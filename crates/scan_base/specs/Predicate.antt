@@ -22,6 +22,8 @@ pub data Pred (C : Type 0) : Type 0 where
   between : (negated : Bool) → Operand C → Operand C → Operand C → Pred C
   membership : (negated : Bool) → Operand C → List (Operand C) → Pred C
   null_test : (negated : Bool) → Operand C → Pred C
+  -- a truth that is known before any row is looked at
+  constant : Truth → Pred C
 
 -- the cell of a row in the column of this number, counted from 0
 abbrev pub cell_in : List Value → ℕ → Value
@@ -51,6 +53,7 @@ truth_of cell (comparing comparison a b) = compared comparison (operand_value ce
 truth_of cell (between negated a low high) = negated_if negated (within (operand_value cell a) (operand_value cell low) (operand_value cell high))
 truth_of cell (membership negated a items) = negated_if negated (any_equal cell (operand_value cell a) items)
 truth_of cell (null_test negated a) = negated_if negated (nullness (operand_value cell a))
+truth_of cell (constant truth) = truth
 
 -- whether each column that an operand names passes a test
 abbrev pub operand_names : {C : Type 0} → (C → Bool) → Operand C → Bool
@@ -67,3 +70,4 @@ names_only passes (comparing comparison a b) = operand_names passes a && operand
 names_only passes (between negated a low high) = operand_names passes a && (operand_names passes low && operand_names passes high)
 names_only passes (membership negated a items) = operand_names passes a && list_all (operand_names passes) items
 names_only passes (null_test negated a) = operand_names passes a
+names_only passes (constant truth) = true

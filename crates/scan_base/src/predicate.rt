@@ -67,6 +67,8 @@ pub enum Predicate<C> {
         negated: bool,
         operand: Operand<C>,
     },
+    /// A truth that is known before any row is looked at. No query says one: folding makes it.
+    Constant(Truth),
 }
 
 // A loop down the left sides: a query may be a chain of thousands of ANDs or ORs.
@@ -102,6 +104,7 @@ impl<C: Drop> Drop for Predicate<C> {
                     negated: _,
                     operand: _operand,
                 } => return,
+                Predicate::Constant(_) => return,
             }
         }
     }
@@ -222,6 +225,7 @@ impl<C> Predicate<C> {
             Predicate::IsNull { negated, operand } => {
                 not_if(*negated, operand.value(row).is_null())
             }
+            Predicate::Constant(truth) => *truth,
         }
     }
 }

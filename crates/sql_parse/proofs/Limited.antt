@@ -4,7 +4,7 @@ use Rattle.std.proofs.Common.{Option, Some, None, refl, sym, subst, flat_map, ar
 use Rattle.std.specs.Prelude.{All}
 use Rattle.std.proofs.lemmas.List.Elements.{All-nil, All-cons, All-head, All-tail, All-append}
 use Rattle.scan_base.specs.Predicate.{conjunction, disjunction, negation, truth_test, comparing, between, membership}
-use Rattle.scan_base.specs.Predicate.{null_test}
+use Rattle.scan_base.specs.Predicate.{null_test, constant}
 use Rattle.sql_query.specs.declared.query.ColumnName.{ColumnName}
 use Rattle.sql_query.specs.declared.query.Select.{Select}
 use Rattle.sql_query.specs.declared.query.Select.TheVariants as select
@@ -134,6 +134,7 @@ condition_fresh (comparing o a b) rest fresh = fresh
 condition_fresh (between n a low high) rest fresh = fresh
 condition_fresh (membership n a items) rest fresh = tt
 condition_fresh (null_test n a) rest fresh = fresh
+condition_fresh (constant t) rest fresh = fresh
 
 condition_fits : (p : Condition) (rest : List Step) → IsFresh rest → Fit 0 64 (condition_steps p ++ rest) →
     All Few (members p) × Fit 0 64 rest
@@ -155,6 +156,7 @@ condition_fits (membership n a items) rest fresh f =
     let here = list_fits 256 items rest fresh f.1 in
     (All-cons Few (length items) [] here.0 (All-nil Few), here.1)
 condition_fits (null_test n a) rest fresh f = (All-nil Few, f)
+condition_fits (constant t) rest fresh f = (All-nil Few, f)
 
 all_front : (xs ys : List ℕ) → All Few (xs ++ ys) → All Few xs
 all_front [] ys a = All-nil Few
@@ -184,6 +186,7 @@ fits_condition (between n a low high) rest fresh few f = f
 fits_condition (membership n a items) rest fresh few f =
     (omega arith, fits_list 256 items rest fresh (omega arith) (All-head Few (length items) [] few) f)
 fits_condition (null_test n a) rest fresh few f = f
+fits_condition (constant t) rest fresh few f = f
 
 -- ---- clauses
 

@@ -6,7 +6,7 @@ use Rattle.scan_base.specs.Limits.{most_places, most_items, most_members, most_n
 use Rattle.scan_base.specs.declared.predicate.Operand.{Operand}
 use Rattle.scan_base.specs.declared.predicate.Operand.TheVariants as operand
 use Rattle.scan_base.specs.Predicate.{Pred, conjunction, disjunction, negation, truth_test, comparing, between}
-use Rattle.scan_base.specs.Predicate.{membership, null_test}
+use Rattle.scan_base.specs.Predicate.{membership, null_test, constant}
 use Rattle.sql_query.specs.declared.query.ColumnName.{ColumnName}
 use Rattle.sql_query.specs.declared.query.Expression.{Expression}
 use Rattle.sql_query.specs.declared.query.Expression.TheVariants as expression
@@ -58,6 +58,7 @@ condition_names (comparing comparison a b) = operand_names a ++ operand_names b
 condition_names (between negated a low high) = operand_names a ++ (operand_names low ++ operand_names high)
 condition_names (membership negated a items) = operand_names a ++ flat_map operand_names items
 condition_names (null_test negated a) = operand_names a
+condition_names (constant truth) = []
 
 abbrev pub filter_names : Option (Pred ColumnName) → List (List ℕ)
 filter_names None = []

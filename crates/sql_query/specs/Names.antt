@@ -4,7 +4,7 @@ use Rattle.std.specs.Prelude.{ℕ, ◌≤◌, List, length, IfSome, All, IsUtf8}
 use Rattle.scan_base.specs.declared.predicate.Operand.{Operand}
 use Rattle.scan_base.specs.declared.predicate.Operand.TheVariants as operand
 use Rattle.scan_base.specs.Predicate.{Pred, conjunction, disjunction, negation, truth_test, comparing, between}
-use Rattle.scan_base.specs.Predicate.{membership, null_test}
+use Rattle.scan_base.specs.Predicate.{membership, null_test, constant}
 use Rattle.sql_query.specs.declared.query.ColumnName.{ColumnName}
 use Rattle.sql_query.specs.declared.query.Expression.{Expression}
 use Rattle.sql_query.specs.declared.query.Expression.TheVariants as expression
@@ -74,6 +74,7 @@ ConditionHasNames (comparing comparison a b) = OperandHasNames a × OperandHasNa
 ConditionHasNames (between negated a low high) = OperandHasNames a × OperandHasNames low × OperandHasNames high
 ConditionHasNames (membership negated a items) = OperandHasNames a × All OperandHasNames items
 ConditionHasNames (null_test negated a) = OperandHasNames a
+ConditionHasNames (constant truth) = Unit {0}
 
 -- each name in the query, of a table, a column or an alias, is one
 pub record QueryHasNames (query : Sentence) : Type 0 where

@@ -4,7 +4,7 @@ use Rattle.std.proofs.Common.{ap, sym, ◌∙◌}
 use Rattle.std.proofs.lemmas.List.{map-append}
 use Rattle.scan_base.specs.declared.fault.Fault.{Fault}
 use Rattle.scan_base.specs.Predicate.{Pred, conjunction, disjunction, negation, truth_test, comparing, between}
-use Rattle.scan_base.specs.Predicate.{membership, null_test}
+use Rattle.scan_base.specs.Predicate.{membership, null_test, constant}
 use Rattle.sql_query.specs.declared.query.ColumnName.{ColumnName}
 use Rattle.typed_plan.specs.declared.chain.Connective.{Connective}
 use Rattle.typed_plan.specs.declared.chain.Connective.TheVariants.{And, Or}
@@ -25,6 +25,7 @@ operators (comparing comparison left right) = 0
 operators (between negated operand low high) = 0
 operators (membership negated operand items) = 0
 operators (null_test negated operand) = 0
+operators (constant truth) = 0
 
 -- a predicate with these behind it, the last first
 abbrev pub chained : Pred ColumnName → List SideAt → Pred ColumnName
@@ -40,6 +41,7 @@ chained_first (comparing comparison left right) = refl
 chained_first (between negated operand low high) = refl
 chained_first (membership negated operand items) = refl
 chained_first (null_test negated operand) = refl
+chained_first (constant truth) = refl
 
 -- the side that is nearest is behind the predicate
 pub chained_nearest : (p : Pred ColumnName) (sides : List SideAt) (side : SideAt) →
@@ -91,6 +93,7 @@ first_operators (comparing comparison left right) = omega arith
 first_operators (between negated operand low high) = omega arith
 first_operators (membership negated operand items) = omega arith
 first_operators (null_test negated operand) = omega arith
+first_operators (constant truth) = omega arith
 
 pub chain_fault : (f : ColumnName → Result Class Fault) (p whole : Pred ColumnName) (sides : List SideAt)
     (fault : Fault) →

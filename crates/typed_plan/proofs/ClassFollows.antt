@@ -4,7 +4,7 @@ use Rattle.scan_base.specs.declared.fault.Fault.{Fault}
 use Rattle.scan_base.specs.declared.predicate.Operand.{Operand}
 use Rattle.scan_base.specs.declared.predicate.Operand.TheVariants as operand
 use Rattle.scan_base.specs.Predicate.{Pred, conjunction, disjunction, negation, truth_test, comparing, between}
-use Rattle.scan_base.specs.Predicate.{membership, null_test}
+use Rattle.scan_base.specs.Predicate.{membership, null_test, constant}
 use Rattle.typed_plan.specs.declared.class.Class.{Class}
 use Rattle.typed_plan.specs.Faults.{◌then◌, fault_in, operand_class, compare_fault, items_fault, predicate_fault}
 use Rattle.typed_plan.specs.Numbered.{operand_map, predicate_map}
@@ -77,3 +77,4 @@ predicate_follows f g h same (membership negated o items) e =
     ∙ items_follow f g h same a b first items parts.1
 predicate_follows f g h same (null_test negated o) e =
     fault_follows (operand_class f o) (operand_class g (operand_map h o)) (operand_follows f g h same o) e
+predicate_follows f g h same (constant truth) e = refl

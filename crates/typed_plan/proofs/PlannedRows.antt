@@ -16,7 +16,7 @@ use Rattle.scan_base.specs.declared.value.Value.{Value}
 use Rattle.scan_base.specs.declared.value.Value.TheVariants.{Null, Bool as Flag, Int, Text}
 use Rattle.scan_base.specs.Comparison.{compared, nullness}
 use Rattle.scan_base.specs.Predicate.{Pred, conjunction, disjunction, negation, truth_test, comparing, between}
-use Rattle.scan_base.specs.Predicate.{membership, null_test, truth_of, operand_value, any_equal, cell_in}
+use Rattle.scan_base.specs.Predicate.{membership, null_test, constant, truth_of, operand_value, any_equal, cell_in}
 use Rattle.scan_base.specs.Truth.{truth_or, truth_not, truth_is, truth_from, negated_if, keeps}
 use Rattle.sql_query.specs.declared.query.ColumnName.{ColumnName}
 use Rattle.sql_query.specs.declared.query.Equality.{Equality}
@@ -151,6 +151,7 @@ truth_of-map cell f (membership negated o items) =
     ∙ ap (negated_if negated) (any_equal-map cell f (operand_value (λ c. cell (f c)) o) items)
 truth_of-map cell f (null_test negated o) =
     ap (λ value. negated_if negated (nullness value)) (operand_value-map cell f o)
+truth_of-map cell f (constant truth) = refl
 
 -- a filter that all pass
 filter-all : {X : Type 0} (xs : List X) → filter (λ x. true) xs ≡ xs

@@ -9,7 +9,7 @@ use Rattle.scan_base.specs.declared.fault.Fault.{Fault}
 use Rattle.scan_base.specs.declared.predicate.Operand.{Operand}
 use Rattle.scan_base.specs.declared.predicate.Operand.TheVariants.{Column, Literal}
 use Rattle.scan_base.specs.Predicate.{conjunction, disjunction, negation, truth_test, comparing, between, membership}
-use Rattle.scan_base.specs.Predicate.{null_test, operand_names, names_only}
+use Rattle.scan_base.specs.Predicate.{null_test, constant, operand_names, names_only}
 use Rattle.typed_plan.specs.declared.class.Class.{Class}
 use Rattle.typed_plan.specs.Faults.{◌then◌, fault_in, operand_class, compare_fault, items_fault, predicate_fault}
 use Rattle.typed_plan.specs.Typed.{class_if_there, class_of_number, TypedPredicatesNameColumns}
@@ -81,3 +81,4 @@ names_there types (membership negated o items) e =
     and_from (operand_names (is_there types) o) (list_all (operand_names (is_there types)) items)
     (operand_there types o parts.0) (items_there types (operand_class f o) items parts.1)
 names_there types (null_test negated o) e = operand_there types o e
+names_there types (constant truth) e = refl

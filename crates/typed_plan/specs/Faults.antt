@@ -6,7 +6,7 @@ use Rattle.scan_base.specs.declared.fault.Fault.TheVariants.{TypeClash}
 use Rattle.scan_base.specs.declared.predicate.Operand.{Operand}
 use Rattle.scan_base.specs.declared.predicate.Operand.TheVariants.{Column, Literal}
 use Rattle.scan_base.specs.Predicate.{Pred, conjunction, disjunction, negation, truth_test, comparing, between}
-use Rattle.scan_base.specs.Predicate.{membership, null_test}
+use Rattle.scan_base.specs.Predicate.{membership, null_test, constant}
 use Rattle.sql_query.specs.declared.query.ColumnName.{ColumnName}
 use Rattle.typed_plan.specs.declared.class.Class.{Class}
 use Rattle.typed_plan.specs.declared.class.Class.TheVariants.{Number}
@@ -79,6 +79,7 @@ predicate_fault class_of (between negated operand low high) =
 predicate_fault class_of (membership negated operand items) =
     fault_in (operand_class class_of operand) then items_fault class_of (operand_class class_of operand) items
 predicate_fault class_of (null_test negated operand) = fault_in (operand_class class_of operand)
+predicate_fault class_of (constant truth) = None
 
 -- the predicate of WHERE, where there is one
 abbrev pub filter_fault : Scope → Option (Pred ColumnName) → Option Fault

@@ -3,7 +3,7 @@ use Rattle.std.specs.Prelude.{map}
 use Rattle.scan_base.specs.declared.predicate.Operand.{Operand}
 use Rattle.scan_base.specs.declared.predicate.Operand.TheVariants.{Column, Literal}
 use Rattle.scan_base.specs.Predicate.{Pred, conjunction, disjunction, negation, truth_test, comparing, between}
-use Rattle.scan_base.specs.Predicate.{membership, null_test}
+use Rattle.scan_base.specs.Predicate.{membership, null_test, constant}
 
 -- an operand with another name of its column
 abbrev pub operand_map : {C D : Type 0} → (C → D) → Operand C → Operand D
@@ -22,3 +22,4 @@ predicate_map f (between negated operand low high) =
 predicate_map f (membership negated operand items) =
     membership negated (operand_map f operand) (map (operand_map f) items)
 predicate_map f (null_test negated operand) = null_test negated (operand_map f operand)
+predicate_map f (constant truth) = constant truth

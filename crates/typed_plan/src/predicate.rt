@@ -178,6 +178,7 @@ pub(crate) fn number_predicate(
             items,
         } => number_in(alloc, scope, *negated, operand, items.as_slice()),
         Predicate::IsNull { negated, operand } => number_null_test(scope, *negated, operand),
+        Predicate::Constant(truth) => Ok(Predicate::Constant(*truth)),
     }
 }
 
