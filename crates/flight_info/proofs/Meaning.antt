@@ -20,10 +20,10 @@ use Rattle.table_versions.specs.Table.{Name}
 use Rattle.table_versions.specs.Database.{Database, table_at}
 use Rattle.table_versions.specs.Stored.{CatalogAt, TableAt, plain, tables_of}
 use Rattle.table_versions.proofs.Stores.{table_at-tables_of}
-use Rattle.typed_plan.specs.Binding.{IsPlanOf}
-use Rattle.typed_plan.specs.Bound.{fault_of}
+use Rattle.query_binder.specs.Binding.{IsPlanOf}
+use Rattle.query_binder.specs.Bound.{fault_of}
 use Rattle.typed_plan.specs.Joined.{place_rows, rows_in}
-use Rattle.typed_plan.specs.Named.{IsNameIfThere, HasNames}
+use Rattle.query_binder.specs.Named.{IsNameIfThere, HasNames}
 use Rattle.typed_plan.specs.Plan.{PlanAt}
 use Rattle.flight_info.specs.Meant.{first_rows}
 use Rattle.flight_info.specs.Planned.{IsPlanned}

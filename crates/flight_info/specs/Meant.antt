@@ -5,10 +5,10 @@ use Rattle.sql_parse.specs.Parse.{Parsed}
 use Rattle.sql_query.specs.Sentence.{Sentence, is_grouped}
 use Rattle.table_versions.specs.Table.{Table}
 use Rattle.table_versions.specs.Database.{Database}
-use Rattle.typed_plan.specs.Bound.{fault_of}
+use Rattle.query_binder.specs.Bound.{fault_of}
 use Rattle.typed_plan.specs.Joined.{place_rows}
 use Rattle.typed_plan.specs.Meaning.{meaning}
-use Rattle.typed_plan.specs.ResultSchema.{result_schema}
+use Rattle.query_binder.specs.ResultSchema.{result_schema}
 use Rattle.flight_proto.specs.Wanted.{Wanted, rows_of, tables}
 use Rattle.flight_info.specs.Tables.{tables_listed}
 

@@ -4,7 +4,7 @@ use Rattle.scan_base.specs.Limits.{most_rows}
 use Rattle.arrow_schema.specs.Schema.{IsSchema}
 use Rattle.sql_query.specs.Sentence.{Sentence, is_grouped}
 use Rattle.table_versions.specs.Database.{Database}
-use Rattle.typed_plan.specs.Binding.{IsPlanOf}
+use Rattle.query_binder.specs.Binding.{IsPlanOf}
 use Rattle.typed_plan.specs.Plan.{PlanAt}
 use Rattle.flight_info.specs.Meant.{Asks, first_rows}
 

@@ -11,11 +11,12 @@ ghost use Rattle.flight_proto.specs.Wanted.{rows_of};
 ghost use Rattle.flight_info.specs.Meant.{Misses};
 ghost use Rattle.flight_info.specs.Planned.{IsPlanned};
 
+use query_binder::bind;
 use scan_base::Fault;
 use sql_parse::parse;
 use std::alloc::Global;
 use table_versions::CatalogVersion;
-use typed_plan::{TypedPlan, bind};
+use typed_plan::TypedPlan;
 
 /// The plan of a query, how many rows its first place has, and whether the query makes groups.
 #[derive(Drop)]

@@ -1,12 +1,12 @@
 //! Queries, and the rows that they give.
 
 use arrays::{Batch, Cells};
+use query_binder::bind;
 use scan_base::{Fault, ValueRef};
 use scan_exec::Scan;
 use sql_parse::parse;
 use std::alloc::{AllocError, Global};
 use table_versions::CatalogVersion;
-use typed_plan::bind;
 
 // What a scan gave: the cells of its rows, how many batches, and how many batches were opened.
 #[derive(Drop)]

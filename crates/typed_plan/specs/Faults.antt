@@ -1,17 +1,13 @@
 -- The first fault of several, and the faults of a predicate.
-use Rattle.std.specs.Prelude.{ℕ, Bool, true, false, List, [], ◌∷◌}
-use Rattle.std.specs.Prelude.{slice_get, Option, Some, None, Result, Ok, Err}
+use Rattle.std.specs.Prelude.{Bool, true, false, List, [], ◌∷◌, Option, Some, None, Result, Ok, Err}
 use Rattle.scan_base.specs.declared.fault.Fault.{Fault}
 use Rattle.scan_base.specs.declared.fault.Fault.TheVariants.{TypeClash}
 use Rattle.scan_base.specs.declared.predicate.Operand.{Operand}
 use Rattle.scan_base.specs.declared.predicate.Operand.TheVariants.{Column, Literal}
 use Rattle.scan_base.specs.Predicate.{Pred, conjunction, disjunction, negation, truth_test, comparing, between}
 use Rattle.scan_base.specs.Predicate.{membership, null_test, constant}
-use Rattle.sql_query.specs.declared.query.ColumnName.{ColumnName}
 use Rattle.typed_plan.specs.declared.class.Class.{Class}
-use Rattle.typed_plan.specs.declared.class.Class.TheVariants.{Number}
-use Rattle.typed_plan.specs.Class.{same_class, type_class, value_class}
-use Rattle.typed_plan.specs.Scope.{Scope, ScopeColumn, column_of}
+use Rattle.typed_plan.specs.Class.{same_class, value_class}
 
 infixr 5 ◌then◌
 -- the first fault of the one check, then of the other
@@ -37,20 +33,6 @@ first_in check (x ∷ xs) = check x then first_in check xs
 -- the fault of what was looked up
 abbrev pub fault_in : {A : Type 0} → Result A Fault → Option Fault
 fault_in result = found result (λ _. None)
-
--- the class of the column of a number
-abbrev pub class_at : Option ScopeColumn → Class
-class_at (Some column) = type_class column.field.data_type
-class_at None = Number
-
--- the class of the column that was looked up
-abbrev pub class_of_column : Scope → Result ℕ Fault → Result Class Fault
-class_of_column scope (Ok number) = Ok (class_at (slice_get scope number))
-class_of_column scope (Err fault) = Err fault
-
--- the class of the column that a name means
-abbrev pub class_of_name : Scope → ColumnName → Result Class Fault
-class_of_name scope name = class_of_column scope (column_of scope name)
 
 -- the class of an operand, where `class_of` says each column's
 abbrev pub operand_class : {C : Type 0} → (C → Result Class Fault) → Operand C → Result Class Fault
@@ -80,8 +62,3 @@ predicate_fault class_of (membership negated operand items) =
     fault_in (operand_class class_of operand) then items_fault class_of (operand_class class_of operand) items
 predicate_fault class_of (null_test negated operand) = fault_in (operand_class class_of operand)
 predicate_fault class_of (constant truth) = None
-
--- the predicate of WHERE, where there is one
-abbrev pub filter_fault : Scope → Option (Pred ColumnName) → Option Fault
-filter_fault scope None = None
-filter_fault scope (Some predicate) = predicate_fault (class_of_name scope) predicate

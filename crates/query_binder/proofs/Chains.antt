@@ -1,0 +1,141 @@
+-- A chain is bound from its first predicate on, and each predicate of it is smaller than it.
+use Rattle.std.proofs.Common.{◌≡◌, ℕ, ◌+◌, ◌≤◌, List, [], ◌∷◌, ◌++◌, map, Some, None, Result, arith, refl}
+use Rattle.std.proofs.Common.{ap, sym, ◌∙◌}
+use Rattle.std.proofs.lemmas.List.{map-append}
+use Rattle.scan_base.specs.declared.fault.Fault.{Fault}
+use Rattle.scan_base.specs.Predicate.{Pred, conjunction, disjunction, negation, truth_test, comparing, between}
+use Rattle.scan_base.specs.Predicate.{membership, null_test, constant}
+use Rattle.sql_query.specs.declared.query.ColumnName.{ColumnName}
+use Rattle.query_binder.specs.declared.chain.Connective.{Connective}
+use Rattle.query_binder.specs.declared.chain.Connective.TheVariants.{And, Or}
+use Rattle.typed_plan.specs.declared.class.Class.{Class}
+use Rattle.typed_plan.specs.Faults.{◌then◌, predicate_fault}
+use Rattle.scan_base.specs.View.{pred_of}
+use Rattle.query_binder.specs.declared.chain.Side.{Side}
+use Rattle.query_binder.specs.Chain.{SideAt, side_of, connected, first_of, sides_of}
+use Rattle.typed_plan.specs.Numbered.{predicate_map}
+
+-- how many operators a predicate has
+abbrev pub operators : {C : Type 0} → Pred C → ℕ
+operators (conjunction p q) = 1 + (operators p + operators q)
+operators (disjunction p q) = 1 + (operators p + operators q)
+operators (negation p) = 1 + operators p
+operators (truth_test negated tested p) = 1 + operators p
+operators (comparing comparison left right) = 0
+operators (between negated operand low high) = 0
+operators (membership negated operand items) = 0
+operators (null_test negated operand) = 0
+operators (constant truth) = 0
+
+-- a predicate with these behind it, the last first
+abbrev pub chained : Pred ColumnName → List SideAt → Pred ColumnName
+chained p [] = p
+chained p (side ∷ sides) = connected side.connective (chained p sides) side.predicate
+
+pub chained_first : (p : Pred ColumnName) → chained (first_of p) (sides_of p) ≡ p
+chained_first (conjunction p q) = ap (λ left. conjunction left q) (chained_first p)
+chained_first (disjunction p q) = ap (λ left. disjunction left q) (chained_first p)
+chained_first (negation p) = refl
+chained_first (truth_test negated tested p) = refl
+chained_first (comparing comparison left right) = refl
+chained_first (between negated operand low high) = refl
+chained_first (membership negated operand items) = refl
+chained_first (null_test negated operand) = refl
+chained_first (constant truth) = refl
+
+-- the side that is nearest is behind the predicate
+pub chained_nearest : (p : Pred ColumnName) (sides : List SideAt) (side : SideAt) →
+    chained p (sides ++ side ∷ []) ≡ chained (connected side.connective p side.predicate) sides
+chained_nearest p [] side = refl
+chained_nearest p (far ∷ sides) side =
+    ap (λ left. connected far.connective left far.predicate) (chained_nearest p sides side)
+
+-- a fault of what comes first is the chain's
+pub first_fault : (f : ColumnName → Result Class Fault) (p : Pred ColumnName) (sides : List SideAt) (fault : Fault) →
+    predicate_fault f p ≡ Some fault → predicate_fault f (chained p sides) ≡ Some fault
+first_fault f p [] fault e = e
+first_fault f p (side ∷ sides) fault e = connected_fault side.connective (first_fault f p sides fault e)
+  where
+    connected_fault : (connective : Connective) → predicate_fault f (chained p sides) ≡ Some fault →
+        predicate_fault f (connected connective (chained p sides) side.predicate) ≡ Some fault
+    connected_fault And e = ap (λ first. first then predicate_fault f side.predicate) e
+    connected_fault Or e = ap (λ first. first then predicate_fault f side.predicate) e
+
+-- without a fault of what comes first, the side's is the first
+pub side_fault : (f : ColumnName → Result Class Fault) (p q : Pred ColumnName) (connective : Connective) →
+    predicate_fault f p ≡ None →
+    predicate_fault f (connected connective p q) ≡ predicate_fault f q
+side_fault f p q And e = ap (λ first. first then predicate_fault f q) e
+side_fault f p q Or e = ap (λ first. first then predicate_fault f q) e
+
+pub connected_map : {C : Type 0} (g : ColumnName → C) (p q : Pred ColumnName) (connective : Connective) →
+    predicate_map g (connected connective p q) ≡ connected connective (predicate_map g p) (predicate_map g q)
+connected_map g p q And = refl
+connected_map g p q Or = refl
+
+pub connected_operators : (p q : Pred ColumnName) (connective : Connective) →
+    operators (connected connective p q) ≡ 1 + (operators p + operators q)
+connected_operators p q And = refl
+connected_operators p q Or = refl
+
+-- what a chain begins with has no more operators than the chain
+pub chained_grows : (p : Pred ColumnName) (sides : List SideAt) → operators p ≤ operators (chained p sides)
+chained_grows p [] = omega arith
+chained_grows p (side ∷ sides) =
+    omega (arith, chained_grows p sides, connected_operators (chained p sides) side.predicate side.connective)
+
+pub first_operators : (p : Pred ColumnName) → operators (first_of p) ≤ operators p
+first_operators (conjunction p q) = omega (arith, first_operators p)
+first_operators (disjunction p q) = omega (arith, first_operators p)
+first_operators (negation p) = omega arith
+first_operators (truth_test negated tested p) = omega arith
+first_operators (comparing comparison left right) = omega arith
+first_operators (between negated operand low high) = omega arith
+first_operators (membership negated operand items) = omega arith
+first_operators (null_test negated operand) = omega arith
+first_operators (constant truth) = omega arith
+
+pub chain_fault : (f : ColumnName → Result Class Fault) (p whole : Pred ColumnName) (sides : List SideAt)
+    (fault : Fault) →
+    chained p sides ≡ whole → predicate_fault f p ≡ Some fault → predicate_fault f whole ≡ Some fault
+chain_fault f p whole sides fault is e = ap (predicate_fault f) (sym is) ∙ first_fault f p sides fault e
+
+-- a predicate and a side, taken apart
+pub started : (side : Side) (left : Pred ColumnName) (fresh pushed all : List Side) → fresh ≡ [] →
+    pushed ≡ fresh ++ side ∷ [] →
+    map side_of all ≡ map side_of pushed ++ sides_of left →
+    chained (first_of left) (map side_of all) ≡ connected side.connective left (pred_of side.predicate.now)
+started side left fresh pushed all is_new is_pushed behind =
+    ap (chained (first_of left)) (behind
+    ∙ ap (λ sides. map side_of sides ++ sides_of left) (is_pushed ∙ ap (λ front. front ++ side ∷ []) is_new))
+    ∙ ap (λ p. connected side.connective p (pred_of side.predicate.now)) (chained_first left)
+
+-- the nearest side, taken from the sides that are left
+pub popped : (done whole : Pred ColumnName) (all rest : List Side) (side : Side) → all ≡ rest ++ side ∷ [] →
+    chained done (map side_of all) ≡ whole →
+    chained (connected side.connective done (pred_of side.predicate.now)) (map side_of rest) ≡ whole
+popped done whole all rest side is chain =
+    sym (chained_nearest done (map side_of rest) (side_of side))
+    ∙ ap (chained done) (sym (map-append side_of rest (side ∷ [])))
+    ∙ ap (λ sides. chained done (map side_of sides)) (sym is) ∙ chain
+
+-- a side has fewer operators than the chain
+pub side_operators : (done q left right : Pred ColumnName) (connective outer : Connective) (sides : List SideAt) →
+    chained (connected connective done q) sides ≡ connected outer left right →
+    operators q ≤ operators left + operators right
+side_operators done q left right connective outer sides is =
+    omega (
+      arith,
+      chained_grows (connected connective done q) sides,
+      ap (λ (p : Pred ColumnName). operators p) is,
+      connected_operators done q connective,
+      connected_operators left right outer,
+    )
+
+pub bound_more : {C : Type 0} (g : ColumnName → C) (connective : Connective) (done q : Pred ColumnName)
+    (whole left right : Pred C) →
+    whole ≡ connected connective left right → left ≡ predicate_map g done → right ≡ predicate_map g q →
+    whole ≡ predicate_map g (connected connective done q)
+bound_more g connective done q whole left right is l r =
+    is ∙ ap (λ p. connected connective p right) l ∙ ap (λ p. connected connective (predicate_map g done) p) r
+    ∙ sym (connected_map g done q connective)

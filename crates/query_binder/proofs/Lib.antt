@@ -1,0 +1,15 @@
+pub mod Rows
+pub mod Chains
+pub mod Found
+pub mod Outcomes
+pub mod Over
+pub mod Listed
+pub mod LookedUp
+pub mod PlannedRows
+pub mod PlannedGroups
+pub mod PlanMeans
+pub mod ScopeTypes
+pub mod PlannedJoins
+pub mod PlannedOutput
+pub mod PlannedTypes
+pub mod Written

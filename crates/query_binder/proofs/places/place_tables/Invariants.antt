@@ -1,0 +1,13 @@
+use Rattle.std.proofs.Common.{◌≡◌, [], take, drop, map}
+use Rattle.table_versions.specs.Stored.{tables_of}
+use Rattle.query_binder.specs.Bound.{places_fault}
+use Rattle.query_binder.specs.Over.{AreTablesOf, names_of, places_of}
+use Rattle.query_binder.proofs.places.place_tables.Given as goal
+
+abbrev pub invariant-loop-number : goal.invariant-loop-number
+invariant-loop-number l = record {
+  made : AreTablesOf l.catalog (places_of l.query.first (take l.number l.joins)) l.tables.items;
+  left : places_fault (tables_of l.catalog) [] (places_of l.query.first l.joins)
+      ≡ places_fault (tables_of l.catalog) (names_of l.query.first (take l.number l.joins))
+      (map (λ join. join.place) (drop l.number l.joins));
+}

@@ -1,0 +1,10 @@
+pub mod NameClasses
+pub mod Bound
+pub mod ResultSchema
+pub mod Chain
+pub mod Outcome
+pub mod Named
+pub mod Binding
+pub mod Planned
+pub mod Over
+pub mod Listed

@@ -1,0 +1,17 @@
+//! Binding: the names of a query become columns of tables, and the query a plan.
+#![tactic(auto)]
+
+mod answer;
+pub mod binding;
+mod chain;
+mod grouped;
+mod joining;
+mod places;
+mod predicate;
+mod scope;
+mod selection;
+
+pub use crate::binding::bind;
+
+/// How many columns a result may have.
+pub const MAX_COLUMNS: usize = 64;

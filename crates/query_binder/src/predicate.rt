@@ -1,0 +1,228 @@
+//! Predicates whose columns are numbers, from those of names.
+
+ghost use Rattle.std.specs.Prelude.{◌≡◌, Ok, map};
+ghost use Rattle.scan_base.specs.Predicate.{truth_test, comparing, between, membership, null_test};
+ghost use Rattle.scan_base.specs.View.{pred_of};
+ghost use Rattle.typed_plan.specs.Scope.{numbered};
+ghost use Rattle.typed_plan.specs.Faults.{operand_class, compare_fault, items_fault, fault_in};
+ghost use Rattle.query_binder.specs.NameClasses.{class_of_name};
+ghost use Rattle.typed_plan.specs.Numbered.{operand_map};
+ghost use Rattle.query_binder.specs.Chain.{connected};
+ghost use Rattle.query_binder.specs.Outcome.{Binds, BindsPredicate};
+
+use crate::chain::{Connective, Side, first_of};
+use crate::scope::Scope;
+use scan_base::{Comparison, Fault, Items, Operand, Predicate, Truth};
+use sql_query::ColumnName;
+use std::alloc::Global;
+use typed_plan::Class;
+
+// The class of the column that a name means.
+fn name_class(scope: &Scope<'_>, name: &ColumnName) -> Result<Class, Fault>
+    ensures { result ≡ class_of_name scope.now name.now }
+{
+    let number = scope.column_of(name)?;
+    Ok(Class::of_type(scope.field(number).data_type))
+}
+
+fn operand_class(scope: &Scope<'_>, operand: &Operand<ColumnName>) -> Result<Class, Fault>
+    ensures { result ≡ operand_class (class_of_name scope.now) operand.now }
+{
+    match operand {
+        Operand::Column(name) => name_class(scope, name),
+        Operand::Literal(value) => Ok(Class::of_value(value)),
+    }
+}
+
+// Whether the classes of two operands agree, the name of the other one first.
+fn agree(class: Class, other: Result<Class, Fault>) -> Result<(), Fault>
+    ensures { fault_in result ≡ compare_fault (Ok class) other }
+{
+    if class == other? {
+        Ok(())
+    } else {
+        Err(Fault::TypeClash)
+    }
+}
+
+fn number_operand(scope: &Scope<'_>, operand: &Operand<ColumnName>) -> Result<Operand<usize>, Fault>
+    ensures { Binds (fault_in (operand_class (class_of_name scope.now) operand.now))
+        (λ bound. bound ≡ operand_map (numbered scope.now) operand.now) result }
+{
+    match operand {
+        Operand::Column(name) => Ok(Operand::Column(scope.column_of(name)?)),
+        Operand::Literal(value) => Ok(Operand::Literal(value.copy()?)),
+    }
+}
+
+// The items whose classes agree with an operand's.
+fn number_items(
+    alloc: Global,
+    scope: &Scope<'_>,
+    class: Class,
+    items: &[Operand<ColumnName>],
+) -> Result<Items<Operand<usize>>, Fault>
+    ensures { Binds (items_fault (class_of_name scope.now) (Ok class) items.now)
+        (λ bound. bound ≡ map (operand_map (numbered scope.now)) items.now) result }
+{
+    let mut bound = Items::new(alloc);
+    for item in items {
+        agree(class, operand_class(scope, item))?;
+        bound.push(number_operand(scope, item)?)?;
+    }
+    Ok(bound)
+}
+
+// The left side, the right side, then whether their classes agree.
+fn number_comparison(
+    scope: &Scope<'_>,
+    comparison: Comparison,
+    left: &Operand<ColumnName>,
+    right: &Operand<ColumnName>,
+) -> Result<Predicate<usize>, Fault>
+    ensures { BindsPredicate scope.now (comparing comparison left.now right.now) result }
+{
+    agree(operand_class(scope, left)?, operand_class(scope, right))?;
+    Ok(Predicate::Compare {
+        comparison,
+        left: number_operand(scope, left)?,
+        right: number_operand(scope, right)?,
+    })
+}
+
+// `operand BETWEEN low AND high`: the operand, then each end's name and class.
+fn number_between(
+    scope: &Scope<'_>,
+    negated: bool,
+    operand: &Operand<ColumnName>,
+    low: &Operand<ColumnName>,
+    high: &Operand<ColumnName>,
+) -> Result<Predicate<usize>, Fault>
+    ensures { BindsPredicate scope.now (between negated operand.now low.now high.now) result }
+{
+    let class = operand_class(scope, operand)?;
+    agree(class, operand_class(scope, low))?;
+    agree(class, operand_class(scope, high))?;
+    Ok(Predicate::Between {
+        negated,
+        operand: number_operand(scope, operand)?,
+        low: number_operand(scope, low)?,
+        high: number_operand(scope, high)?,
+    })
+}
+
+// `operand IN (items)`: the operand, then each item's name and class.
+fn number_in(
+    alloc: Global,
+    scope: &Scope<'_>,
+    negated: bool,
+    operand: &Operand<ColumnName>,
+    items: &[Operand<ColumnName>],
+) -> Result<Predicate<usize>, Fault>
+    ensures { BindsPredicate scope.now (membership negated operand.now items.now) result }
+{
+    let class = operand_class(scope, operand)?;
+    let items = number_items(alloc, scope, class, items)?;
+    Ok(Predicate::In {
+        negated,
+        operand: number_operand(scope, operand)?,
+        items,
+    })
+}
+
+fn number_null_test(
+    scope: &Scope<'_>,
+    negated: bool,
+    operand: &Operand<ColumnName>,
+) -> Result<Predicate<usize>, Fault>
+    ensures { BindsPredicate scope.now (null_test negated operand.now) result }
+{
+    let operand = number_operand(scope, operand)?;
+    Ok(Predicate::IsNull { negated, operand })
+}
+
+// The predicate by numbers of columns, or its first fault from the left.
+#[cycle(number)]
+pub(crate) fn number_predicate(
+    alloc: Global,
+    scope: &Scope<'_>,
+    predicate: &Predicate<ColumnName>,
+) -> Result<Predicate<usize>, Fault>
+    ensures { BindsPredicate scope.now (pred_of predicate.now) result }
+{
+    match predicate {
+        Predicate::And(left, right) => number_chain(alloc, scope, Connective::And, left, right),
+        Predicate::Or(left, right) => number_chain(alloc, scope, Connective::Or, left, right),
+        Predicate::Not(predicate) => {
+            let predicate = number_predicate(alloc, scope, predicate)?;
+            Ok(Predicate::Not(Box::new(alloc, predicate)?))
+        }
+        Predicate::Is {
+            negated,
+            tested,
+            predicate,
+        } => number_truth_test(alloc, scope, *negated, *tested, predicate),
+        Predicate::Compare {
+            comparison,
+            left,
+            right,
+        } => number_comparison(scope, *comparison, left, right),
+        Predicate::Between {
+            negated,
+            operand,
+            low,
+            high,
+        } => number_between(scope, *negated, operand, low, high),
+        Predicate::In {
+            negated,
+            operand,
+            items,
+        } => number_in(alloc, scope, *negated, operand, items.as_slice()),
+        Predicate::IsNull { negated, operand } => number_null_test(scope, *negated, operand),
+        Predicate::Constant(truth) => Ok(Predicate::Constant(*truth)),
+    }
+}
+
+// `predicate IS tested`.
+#[cycle(number)]
+fn number_truth_test(
+    alloc: Global,
+    scope: &Scope<'_>,
+    negated: bool,
+    tested: Truth,
+    predicate: &Predicate<ColumnName>,
+) -> Result<Predicate<usize>, Fault>
+    ensures { BindsPredicate scope.now (truth_test negated tested (pred_of predicate.now)) result }
+{
+    let predicate = number_predicate(alloc, scope, predicate)?;
+    Ok(Predicate::Is {
+        negated,
+        tested,
+        predicate: Box::new(alloc, predicate)?,
+    })
+}
+
+// `left AND right` or `left OR right`: what the left side is a chain of comes first, from the left, and then the right.
+#[cycle(number)]
+fn number_chain(
+    alloc: Global,
+    scope: &Scope<'_>,
+    connective: Connective,
+    left: &Predicate<ColumnName>,
+    right: &Predicate<ColumnName>,
+) -> Result<Predicate<usize>, Fault>
+    ensures { BindsPredicate scope.now (connected connective (pred_of left.now) (pred_of right.now)) result }
+{
+    let mut sides = Vec::new(alloc);
+    sides.push(Side {
+        connective,
+        predicate: right,
+    })?;
+    let first = first_of(left, &mut sides)?;
+    let mut bound = number_predicate(alloc, scope, first)?;
+    while let Some(side) = sides.pop() {
+        let right = number_predicate(alloc, scope, side.predicate)?;
+        bound = side.connective.connect(alloc, bound, right)?;
+    }
+    Ok(bound)
+}

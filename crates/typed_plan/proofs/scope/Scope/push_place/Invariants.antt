@@ -1,6 +1,0 @@
-use Rattle.std.proofs.Common.{◌≡◌, ◌++◌, take}
-use Rattle.typed_plan.specs.Scope.{columns_in}
-use Rattle.typed_plan.proofs.scope.Scope.push_place.Given as goal
-
-abbrev pub invariant-loop-field : goal.invariant-loop-field
-invariant-loop-field l = l.self-inside.columns.items ≡ l.initial.self-inside.columns.items ++ columns_in l.place (take l.field-index l.fields)
