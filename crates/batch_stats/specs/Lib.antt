@@ -1,2 +1,3 @@
 pub mod Stats
 pub mod Sides
+pub mod Held

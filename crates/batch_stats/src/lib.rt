@@ -2,5 +2,7 @@
 #![tactic(auto)]
 
 pub mod side;
+pub mod stats;
 
 pub use crate::side::{Ends, Side};
+pub use crate::stats::Stats;
