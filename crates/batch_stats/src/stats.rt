@@ -60,8 +60,16 @@ impl Stats {
                 _ => self,
             },
             Stats::Texts { least, greatest } => Stats::Texts {
-                least: if is_less(value, column.value_at(least)) { place } else { least },
-                greatest: if is_less(column.value_at(greatest), value) { place } else { greatest },
+                least: if is_less(value, column.value_at(least)) {
+                    place
+                } else {
+                    least
+                },
+                greatest: if is_less(column.value_at(greatest), value) {
+                    place
+                } else {
+                    greatest
+                },
             },
         }
     }

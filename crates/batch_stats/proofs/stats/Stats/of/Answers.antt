@@ -11,8 +11,8 @@ loop-place-preserved c =
     let place = c.loop-place.place in
     record {
       ends =
-        ap (λ ends. fold with_value ends (rest_of column (place + 1))) c.with_slot-stats.ensures.ends
-        ∙ sym (ap (λ values. fold with_value (ends_held column c.loop-place.stats) values) (rest_more column place (omega (arith, c.loop-place-test.true, c.len-place-end.ensures.count))))
-        ∙ c.loop-place.invariant.ends;
+          ap (λ ends. fold with_value ends (rest_of column (place + 1))) c.with_slot-stats.ensures.ends
+          ∙ sym (ap (λ values. fold with_value (ends_held column c.loop-place.stats) values) (rest_more column place (omega (arith, c.loop-place-test.true, c.len-place-end.ensures.count))))
+          ∙ c.loop-place.invariant.ends;
       slots = c.with_slot-stats.ensures.slots;
     }
