@@ -1,5 +1,5 @@
 -- Numbers of packed types as values.
-use Rattle.std.proofs.Common.{◌≡◌, ◌≤◌, ◌<◌, ◌+◌, ◌-◌, ◌^◌, ℕ, ℤ, pos, negsuc, suc, Bool, true, false, if◌then◌else◌, List, Option, Some, None, refl, sym, ap, ◌∙◌}
+use Rattle.std.proofs.Common.{◌≡◌, ◌+◌, ◌-◌, ◌^◌, ℕ, ℤ, pos, negsuc, suc, Bool, true, false, if◌then◌else◌, List, Option, None, refl, ap, ◌∙◌}
 use Rattle.std.specs.Int.{w8, w16, w32, w64, w128, cast_signed}
 use Rattle.scan_base.specs.declared.value.Value.TheVariants.{Int, Null}
 use Rattle.arrays.specs.Number.{decimal_at, integer_at, signed_from}

@@ -1,9 +1,9 @@
 -- Ends over slots, one slot after another.
-use Rattle.std.proofs.Common.{◌≡◌, ◌<◌, ◌≤◌, ◌+◌, ◌-◌, ℕ, zero, suc, Bool, true, false, if◌then◌else◌, List, [], ◌∷◌, fold, map, Option, None, Some, refl, sym, ap, subst, ◌∙◌, arith}
+use Rattle.std.proofs.Common.{◌≡◌, ◌<◌, ◌≤◌, ◌+◌, ◌-◌, ℕ, zero, suc, Bool, true, false, List, ◌∷◌, fold, map, Option, None, refl, sym, ap, subst, ◌∙◌, arith}
 use Rattle.std.specs.List.{range_with_len}
 use Rattle.scan_base.specs.declared.value.Value.{Value}
 use Rattle.scan_base.specs.declared.value.Value.TheVariants.{Null}
-use Rattle.arrays.specs.Column.{ColumnAt, slot_of, values_of}
+use Rattle.arrays.specs.Column.{ColumnAt, values_of}
 use Rattle.arrays.specs.Layout.{layout_slot}
 use Rattle.arrays.specs.Validity.{is_valid, where_valid}
 use Rattle.batch_stats.specs.Stats.{ends_of, with_value}

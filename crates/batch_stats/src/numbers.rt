@@ -6,7 +6,6 @@ ghost use Rattle.arrays.specs.Column.{ColumnAt};
 ghost use Rattle.arrays.specs.Number.{element_at};
 ghost use Rattle.arrays.specs.Validity.{where_valid};
 ghost use Rattle.arrays.specs.declared.layout.Layout.TheVariants.{Integers as IntegersLayout, Decimals as DecimalsLayout};
-ghost use Rattle.arrays.specs.Decimals.{AreDecimals};
 ghost use Rattle.batch_stats.specs.Held.{ends_held, AreSlots, IsStatsOf};
 ghost use Rattle.batch_stats.specs.Stats.{with_value};
 ghost use Rattle.batch_stats.specs.inside.Slots.{ends_with, HasBits};

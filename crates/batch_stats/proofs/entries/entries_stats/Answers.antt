@@ -1,4 +1,4 @@
-use Rattle.std.proofs.Common.{◌≡◌, ℕ, ◌+◌, Bool, List, Option, subst, sym, ap, ◌∙◌}
+use Rattle.std.proofs.Common.{ℕ, ◌+◌, Bool, List, Option, subst, sym, ap, ◌∙◌}
 use Rattle.arrays.specs.Layout.{layout_slot}
 use Rattle.arrays.specs.Validity.{where_valid}
 use Rattle.arrays.specs.declared.layout.Layout.{Layout}

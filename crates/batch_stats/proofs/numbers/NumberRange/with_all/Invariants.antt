@@ -1,7 +1,6 @@
 use Rattle.std.proofs.Common.{◌≡◌, Some}
 use Rattle.scan_base.specs.declared.value.Value.TheVariants.{Int}
 use Rattle.arrays.specs.Number.{element_at}
-use Rattle.arrays.specs.Validity.{where_valid}
 use Rattle.batch_stats.specs.inside.Slots.{ends_with}
 use Rattle.batch_stats.proofs.numbers.NumberRange.with_all.Given as goal
 
