@@ -30,11 +30,14 @@ pub(crate) struct TextRange<'a> {
     pub(crate) greatest: SlotText<'a>,
 }
 
-// Whether a text is below another, by their bytes.
+// Whether a text is below another, by their bytes. Mostly the first ones tell.
 fn is_below(text: &str, other: &str) -> bool
     ensures { result ≡ stand Less (Text text.now) (Text other.now) }
 {
-    text.cmp(other) == Ordering::Less
+    match (text.as_bytes(), other.as_bytes()) {
+        ([first, ..], [second, ..]) if *first != *second => *first < *second,
+        (_, _) => text.cmp(other) == Ordering::Less,
+    }
 }
 
 impl<'a> TextRange<'a> {
