@@ -3,6 +3,7 @@ use Rattle.std.proofs.Common.{◌≡◌, ◌≤◌, ◌<◌, ℕ, ◌+◌, true,
 use Rattle.std.specs.List.{flat_map, list_all}
 use Rattle.std.proofs.lemmas.Bool.{cases_lt, and_parts}
 use Rattle.std.proofs.lemmas.List.{length-map, map-append, take_all, take-append-le, take-append-drop, length-take}
+use Rattle.std.proofs.lemmas.List.Elements.{All-push}
 use Rattle.std.proofs.lemmas.List.Folds.{list_all-append}
 use Rattle.std.proofs.lemmas.Option.{slice_get-map, slice_get_within}
 use Rattle.arrow_schema.specs.declared.schema.Schema.{Schema}
@@ -11,7 +12,7 @@ use Rattle.arrays.specs.Typed.{AreOfTypes}
 use Rattle.scan_base.specs.Limits.{most_rows}
 use Rattle.table_versions.specs.declared.placed_batch.PlacedBatch.{PlacedBatch}
 use Rattle.table_versions.specs.Batches.{placed_table, AreStarts, ArePlaced}
-use Rattle.table_versions.specs.Kept.{AreSound, IsKept}
+use Rattle.table_versions.specs.Kept.{AreSound, IsKept, Stands}
 use Rattle.table_versions.specs.Standing.{rows_before, StandsIn}
 use Rattle.table_versions.specs.Stored.{has_rows}
 use Rattle.table_versions.proofs.ListTests.{all_push}
@@ -58,15 +59,16 @@ starts_push placed batch rows are counted i one at = by (cases_lt i (length plac
         length-push (x ∷ xs) = omega (arith, length-push xs)
 
 module _ (schema : Schema) (placed : List PlacedBatch) (rows : ℕ) (are : ArePlaced schema placed rows) where
-  pub placed_push : (batch : BatchAt) (more : ℕ) → IsTrue (has_rows batch) → AreOfTypes schema.fields batch.columns → AreSound schema.fields (rows_of batch) →
+  pub placed_push : (batch : BatchAt) (more : ℕ) → IsTrue (has_rows batch) → AreOfTypes schema.fields batch.columns → Stands batch → AreSound schema.fields (rows_of batch) →
       length (flat_map rows_of (batches placed)) + batch.rows ≤ most_rows → more ≡ rows + batch.rows →
       ArePlaced schema (placed ++ record { batch = batch; start = rows } ∷ []) more
-  placed_push batch more filled typed sound few e =
+  placed_push batch more filled typed stands sound few e =
       let all = batches placed in
       let next = rows-push all batch in
       let kept : IsKept (record { schema = schema; batches = all ++ batch ∷ [] }) more = record {
         storable = storable_push schema all batch are.kept.storable typed;
         filled = all_push has_rows all batch are.kept.filled filled;
+        stand = All-push Stands all batch are.kept.stand stands;
         sound = sound_push schema.fields all batch are.kept.sound sound;
         counted = omega (arith, are.kept.counted, e, next);
         few = omega (arith, few, are.kept.counted, e);

@@ -1,9 +1,8 @@
 -- Inside: the tests of rows, column by column.
-use Rattle.std.specs.Prelude.{Bool, not, ◌&&◌, List, All}
+use Rattle.std.specs.Prelude.{Bool, not, ◌&&◌, List}
 use Rattle.std.specs.List.{list_any, zip}
 use Rattle.arrow_schema.specs.declared.schema.Field.{Field}
-use Rattle.arrays.specs.Batch.{BatchAt, AreLong}
-use Rattle.arrays.specs.Column.{ColumnAt, IsColumn, values_of}
+use Rattle.arrays.specs.Column.{ColumnAt, values_of}
 use Rattle.scan_base.specs.Value.{is_null}
 use Rattle.table_versions.specs.Table.{is_long_text}
 
@@ -18,8 +17,3 @@ has_bad_column fields columns = list_any is_bad_column (zip fields columns)
 -- whether a column has a text that is too long
 abbrev pub is_long_column : ColumnAt → Bool
 is_long_column column = list_any is_long_text (values_of column)
-
--- each column of a batch has a slot for each row, and its slots are slots of its buffers
-pub record Stands (batch : BatchAt) : Type 0 where
-  pub long : AreLong batch.rows batch.columns
-  pub columns : All IsColumn batch.columns

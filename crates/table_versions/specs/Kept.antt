@@ -5,7 +5,8 @@ use Rattle.std.specs.List.{list_all, list_any}
 use Rattle.arrow_schema.specs.declared.schema.Field.{Field}
 use Rattle.arrow_schema.specs.declared.schema.Schema.{Schema}
 use Rattle.arrow_schema.specs.Schema.{IsSchema}
-use Rattle.arrays.specs.Batch.{BatchAt}
+use Rattle.arrays.specs.Batch.{AreLong, BatchAt}
+use Rattle.arrays.specs.Column.{IsColumn}
 use Rattle.arrays.specs.Typed.{AreOfTypes}
 use Rattle.scan_base.specs.Limits.{most_rows, most_tables}
 use Rattle.table_versions.specs.Table.{Name, Row, has_bad_null, is_long_text}
@@ -18,6 +19,11 @@ pub record IsStorable (schema : Schema) (batches : List BatchAt) : Type 0 where
   pub valid : IsSchema schema
   pub typed : All (λ (batch : BatchAt). AreOfTypes schema.fields batch.columns) batches
 
+-- each column of a batch has a slot for each row, and its slots are slots of its buffers
+pub record Stands (batch : BatchAt) : Type 0 where
+  pub long : AreLong batch.rows batch.columns
+  pub columns : All IsColumn batch.columns
+
 -- no cell is null in a column that takes no null, and no text is too long
 pub record AreSound (fields : List Field) (rows : List Row) : Type 0 where
   pub nulls : list_any (has_bad_null fields) rows ≡ false
@@ -27,6 +33,7 @@ pub record AreSound (fields : List Field) (rows : List Row) : Type 0 where
 pub record IsKept (table : TableAt) (rows : ℕ) : Type 0 where
   pub storable : IsStorable table.schema table.batches
   pub filled : IsTrue (list_all has_rows table.batches)
+  pub stand : All Stands table.batches
   pub sound : AreSound table.schema.fields (table_of table).rows
   pub counted : rows ≡ length (table_of table).rows
   pub few : rows ≤ most_rows

@@ -7,7 +7,7 @@ ghost use Rattle.std.specs.Option.{option_copied};
 ghost use Rattle.scan_base.specs.Reading.{GivesUnlessMemory, RefusesFirst, first_fault};
 ghost use Rattle.arrays.specs.Batch.{BatchAt, rows_of};
 ghost use Rattle.arrays.specs.Typed.{AreOfTypes};
-ghost use Rattle.table_versions.specs.Columns.{Stands};
+ghost use Rattle.table_versions.specs.Kept.{Stands};
 ghost use Rattle.scan_base.specs.Limits.{most_name_bytes, most_rows};
 ghost use Rattle.table_versions.specs.Database.{table_after, columns_of, differs, faults_at, put_faults, after};
 ghost use Rattle.table_versions.specs.Stored.{tables_of, put_of, plain, kept};
@@ -125,6 +125,7 @@ fn appended(
 ) -> Result<TableVersion, AllocError>
     requires typed { All (λ (batch : BatchAt). AreOfTypes old.now.schema.fields batch.columns)
         batches.items }
+    requires stand { All Stands batches.items }
     requires sound { AreSound old.now.schema.fields (flat_map rows_of batches.items) }
     requires few { length (flat_map rows_of old.now.batches ++ flat_map rows_of batches.items)
         ≤ most_rows }
@@ -142,6 +143,7 @@ fn created(
     batches: Vec<MeasuredBatch>,
 ) -> Result<TableVersion, AllocError>
     requires storable { IsStorable schema batches.items }
+    requires stand { All Stands batches.items }
     requires sound { AreSound schema.fields (flat_map rows_of batches.items) }
     requires few { length (flat_map rows_of batches.items) ≤ most_rows }
     ensures { IfOk result (λ table. table
@@ -159,6 +161,7 @@ fn made(
 ) -> Result<(Text, TableVersion), AllocError>
     requires alike { differs put.if_exists (columns_of (plain (option_copied old))) put.schema
         ≡ false }
+    requires stand { All Stands put.batches }
     requires sound { AreSound put.schema.fields (put_of put).rows }
     requires few { length (table_after put.if_exists (plain (option_copied old)) (put_of put)).rows
         ≤ most_rows }

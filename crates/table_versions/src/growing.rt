@@ -9,7 +9,7 @@ ghost use Rattle.arrays.specs.Typed.{AreOfTypes};
 ghost use Rattle.scan_base.specs.Limits.{most_rows};
 ghost use Rattle.table_versions.specs.Batches.{ArePlaced, placed_table};
 ghost use Rattle.table_versions.specs.Stored.{has_rows, kept};
-ghost use Rattle.table_versions.specs.Kept.{AreSound};
+ghost use Rattle.table_versions.specs.Kept.{AreSound, Stands};
 
 use crate::placed_batch::PlacedBatch;
 use arrow_schema::Schema;
@@ -56,6 +56,7 @@ impl GrowingTable {
     fn with(self, alloc: Global, batch: MeasuredBatch) -> Result<GrowingTable, AllocError>
         requires filled { IsTrue (has_rows batch) }
         requires typed { AreOfTypes self.schema.fields batch.columns }
+        requires stands { Stands batch }
         requires sound { AreSound self.schema.fields (rows_of batch) }
         requires few { length (flat_map rows_of self.batches) + batch.rows ≤ most_rows }
         ensures { IfOk result (λ table. table
@@ -83,6 +84,7 @@ impl GrowingTable {
     ) -> Result<GrowingTable, AllocError>
         requires typed { All (λ (batch : BatchAt). AreOfTypes self.schema.fields batch.columns)
             batches.items }
+        requires stand { All Stands batches.items }
         requires sound { AreSound self.schema.fields (flat_map rows_of batches.items) }
         requires few { length (flat_map rows_of (self.batches ++ batches.items)) ≤ most_rows }
         ensures { IfOk result (λ table. table

@@ -19,3 +19,11 @@ appended-requires-clause-sound c =
     let sound = rw (← c.put.view_is) at c.requires.sound in
     sound_alike schema.fields c.put.inside.schema.fields (flat_map rows_of c.put.inside.batches.items)
     (not-false (same_fields schema.fields c.put.inside.schema.fields) alike) sound
+
+pub appended-requires-clause-stand : goal.appended-requires-clause-stand
+appended-requires-clause-stand c =
+    let stand = rw (← c.put.view_is) at c.requires.stand in stand
+
+pub created-requires-clause-stand : goal.created-requires-clause-stand
+created-requires-clause-stand c =
+    let stand = rw (← c.put.view_is) at c.requires.stand in stand

@@ -94,3 +94,8 @@ with-requires-clause-room c =
     let named : c.in_ok-name.name ≡ c.args.put.table = search rules in
     let room = room_after catalog c.args.snapshot.now.number c.args.put there c.len.result at count passes c.in_ok-name.table ordered few in
     rw (c.catalog-catalog.ensures, named) room
+
+pub made-requires-clause-stand : goal.made-requires-clause-stand
+made-requires-clause-stand c =
+    let passes : c.refusal_at.result ≡ None = search rules in
+    c.refusal_at.ensures.stand passes

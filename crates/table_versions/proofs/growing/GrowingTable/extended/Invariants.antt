@@ -4,7 +4,7 @@ use Rattle.std.specs.Vec.Iter.{into_iter_items}
 use Rattle.arrays.specs.Batch.{rows_of}
 use Rattle.scan_base.specs.Limits.{most_rows}
 use Rattle.table_versions.specs.Stored.{kept}
-use Rattle.table_versions.specs.Kept.{AreSound}
+use Rattle.table_versions.specs.Kept.{AreSound, Stands}
 use Rattle.table_versions.proofs.Storable.{AreTyped}
 use Rattle.table_versions.proofs.growing.GrowingTable.extended.Given as goal
 
@@ -14,6 +14,7 @@ invariant-loop-batch l =
       schema : l.table.schema ≡ l.fn.self.schema;
       stored : l.table.batches ++ kept left ≡ l.fn.self.batches ++ kept l.fn.batches.items;
       typed : All (AreTyped l.fn.self.schema.fields) left;
+      stand : All Stands left;
       sound : AreSound l.fn.self.schema.fields (flat_map rows_of left);
       few : length (flat_map rows_of (l.table.batches ++ left)) ≤ most_rows;
     }

@@ -13,4 +13,4 @@ invariant_of-result c =
     let placed : arc_value c.in_ok-placed.placed ≡ new = search rules in
     rw (c.in_ok-with.ensures, placed)
     (placed_push (arc_value c.self.inside.schema) c.self.inside.batches c.self.inside.rows c.self.invariant c.args.batch
-    (c.self.inside.rows + c.rows.result) c.requires.filled typed sound few (omega (arith, c.rows.ensures)))
+    (c.self.inside.rows + c.rows.result) c.requires.filled typed c.requires.stands sound few (omega (arith, c.rows.ensures)))
