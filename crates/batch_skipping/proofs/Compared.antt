@@ -276,6 +276,7 @@ turned (Text x) (Int y) = refl
 -- the truth of a comparison is a possible one
 pub compare_law : (comparison : Comparison) (a b : StatsAt) (v w : Value) → IsWithin a v → IsWithin b w →
     has (can_compare comparison a b) (compared comparison v w) ≡ true
+unfolding can_compare
 compare_law Equal a b v w h k = sides Equal equal_between equal_allows a b v w h k
 compare_law NotEqual a b v w h k =
     rw (not_equal (order_of v w)) (has_over truth_not (of_sides equal_between a b) (compared Equal v w) (sides Equal equal_between equal_allows a b v w h k))

@@ -30,6 +30,7 @@ has_only t = has_set (same_truth t) t ∙ itself t
 
 -- what a table gives of a truth of a set is in the set that it gives
 pub has_over : (table : Truth → Truth) (a : Possible) (x : Truth) → has a x ≡ true → has (over table a) (table x) ≡ true
+unfolding over
 has_over table a x e =
     let test : Truth → Truth → Bool = λ t y. has a y && same_truth (table y) t in
     has_set (λ t. list_any (test t) all_truths) (table x)
@@ -37,6 +38,7 @@ has_over table a x e =
 
 pub has_both : (table : Truth → Truth → Truth) (a b : Possible) (x y : Truth) → has a x ≡ true → has b y ≡ true →
     has (over_both table a b) (table x y) ≡ true
+unfolding over_both
 has_both table a b x y e f =
     let test : Truth → Truth → Truth → Bool = λ t v w. has a v && (has b w && same_truth (table v w) t) in
     let t = table x y in

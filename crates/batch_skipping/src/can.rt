@@ -59,8 +59,9 @@ fn can_be_among<C, M: Measured<C>>(side: Side<'_>, items: &[Operand<C>], batch: 
     ensures { result ≡ can_be_among (M.stats batch.now) (side_at side.entry) items.now }
 {
     let mut found = Possible::only(Truth::False);
-    for item in items.iter().rev() {
-        found = can_compare(Comparison::Equal, side, side_of(item, batch)).or(found);
+    for index in (0..items.len()).rev() {
+        let item = side_of(&items[index], batch);
+        found = can_compare(Comparison::Equal, side, item).or(found);
     }
     found
 }

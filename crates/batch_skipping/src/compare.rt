@@ -76,6 +76,7 @@ fn can_be_less(left: Side<'_>, right: Side<'_>) -> Possible
 }
 
 /// The possible truths of a comparison of a value of the one side with a value of the other.
+#[tactic(auto, unfolding(crate::specs::Can::can_compare))]
 pub fn can_compare(comparison: Comparison, left: Side<'_>, right: Side<'_>) -> Possible
     ensures { result ≡ can_compare comparison (side_at left.entry) (side_at right.entry) }
 {

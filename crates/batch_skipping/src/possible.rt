@@ -39,6 +39,7 @@ impl Possible {
     }
 
     /// What NOT gives of the truths.
+    #[tactic(auto, unfolding(crate::specs::Possible::over))]
     pub fn not(self) -> Possible
         ensures { result ≡ over truth_not self }
     {
@@ -57,6 +58,7 @@ impl Possible {
     }
 
     /// What AND gives of a truth of each.
+    #[tactic(auto, unfolding(crate::specs::Possible::over_both))]
     pub fn and(self, other: Possible) -> Possible
         ensures { result ≡ over_both truth_and self other }
     {
@@ -69,6 +71,7 @@ impl Possible {
     }
 
     /// What OR gives of a truth of each.
+    #[tactic(auto, unfolding(crate::specs::Possible::over_both))]
     pub fn or(self, other: Possible) -> Possible
         ensures { result ≡ over_both truth_or self other }
     {
@@ -81,6 +84,7 @@ impl Possible {
     }
 
     /// What `IS tested` gives of the truths.
+    #[tactic(auto, unfolding(crate::specs::Possible::over))]
     pub fn is(self, tested: Truth) -> Possible
         ensures { result ≡ over (λ x. truth_is x tested) self }
     {
@@ -104,6 +108,7 @@ impl Possible {
     }
 
     /// What NOT gives of the truths, where one is written.
+    #[tactic(auto, unfolding(crate::specs::Possible::over))]
     pub fn not_if(self, negated: bool) -> Possible
         ensures { result ≡ over (negated_if negated) self }
     {
