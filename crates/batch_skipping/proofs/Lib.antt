@@ -5,3 +5,4 @@ pub mod Possibles
 pub mod Ends
 pub mod SameCells
 pub mod InBatch
+mod Rows
