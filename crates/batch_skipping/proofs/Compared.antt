@@ -1,27 +1,26 @@
 -- The possible truths of a comparison, of values between the ends of both sides.
-use Rattle.std.proofs.Common.{◌≡◌, ℕ, ℤ, Bool, true, false, not, ◌&&◌, ◌||◌, if◌then◌else◌, List, [], ◌∷◌, Option, Some, None, is_some, nat_cmp, int_cmp, refl, sym, ap, ◌∙◌}
+use Rattle.std.proofs.Common.{◌≡◌, ℕ, ℤ, Bool, true, false, ◌||◌, if◌then◌else◌, List, Option, Some, None, is_some, nat_cmp, int_cmp, refl, ap, ◌∙◌}
 use Rattle.std.proofs.lemmas.Bool.{or_left, or_right}
 use Rattle.std.proofs.lemmas.Cmp.{nat_list_cmp_total, int_cmp_total}
 use Rattle.std.specs.Cmp.{IsTotalOrder, bool_cmp_total}
 use Rattle.std.specs.Cmp.Lexicographic.{slice_cmp}
-use Rattle.std.specs.Ordering.{bool_cmp, ordering_reverse, is_eq, is_ne, is_lt, is_gt, is_le, is_ge}
+use Rattle.std.specs.Ordering.{bool_cmp, ordering_reverse, is_gt, is_le}
 use Rattle.std.specs.declared.cmp.Ordering.{Ordering}
 use Rattle.std.specs.declared.cmp.Ordering.TheVariants as ordering
 use Rattle.scan_base.specs.declared.comparison.Comparison.{Comparison}
 use Rattle.scan_base.specs.declared.comparison.Comparison.TheVariants.{Equal, NotEqual, Less, LessOrEqual, Greater, GreaterOrEqual}
-use Rattle.scan_base.specs.declared.truth.Truth.{Truth}
-use Rattle.scan_base.specs.declared.truth.Truth.TheVariants.{True, False, Unknown}
+use Rattle.scan_base.specs.declared.truth.Truth.TheVariants.{Unknown}
 use Rattle.scan_base.specs.declared.value.Value.{Value}
 use Rattle.scan_base.specs.declared.value.Value.TheVariants.{Null, Bool as Flag, Int, Text}
 use Rattle.scan_base.specs.Comparison.{order_of, compared, judged, satisfies}
 use Rattle.scan_base.specs.Truth.{keeps, truth_from, truth_not}
 use Rattle.batch_skipping.specs.declared.possible.Possible.{Possible}
-use Rattle.batch_skipping.specs.Possible.{has, only, over}
+use Rattle.batch_skipping.specs.Possible.{has, only}
 use Rattle.batch_stats.specs.Stats.{StatsAt, stand, has_nulls}
 use Rattle.batch_skipping.specs.Can.{equal_between, less_between, between_sides, of_sides, can_compare}
 use Rattle.batch_skipping.specs.Laws.{IsBetween, IsWithin}
-use Rattle.batch_skipping.proofs.Orders.{gt_of_le, equal_true, equal_false, less_true, less_false}
-use Rattle.batch_skipping.proofs.Sets.{has_over, has_only}
+use Rattle.batch_skipping.proofs.Orders.{equal_true, equal_false, less_true, less_false}
+use Rattle.batch_skipping.proofs.Sets.{has_over}
 
 keeps_from : (b : Bool) → keeps (truth_from b) ≡ b
 keeps_from true = refl
