@@ -1,8 +1,14 @@
 pub mod Filters
 pub mod Naming
 pub mod Splitting
-pub mod Pushing
+pub mod PushedRows
 pub mod Below
 pub mod Skipping
 pub mod Pruning
 pub mod Folding
+pub mod TakenApart
+pub mod WellTyped
+pub mod FoldedTrees
+pub mod Widths
+pub mod Databases
+pub mod PushedTrees

@@ -23,7 +23,7 @@ use Rattle.typed_plan.specs.declared.plan.JoinKey.{JoinKey}
 use Rattle.rewrite.proofs.Filters.{filter-map}
 use Rattle.typed_plan.proofs.Numbered.{truth_of-map}
 use Rattle.rewrite.proofs.Naming.{agrees}
-use Rattle.rewrite.proofs.Pushing.{IsWide, wide_rows}
+use Rattle.rewrite.proofs.PushedRows.{IsWide, wide_rows}
 
 -- ---- used cells
 

@@ -13,7 +13,7 @@ use Rattle.typed_plan.specs.Held.{tree_schemas}
 use Rattle.typed_plan.specs.Plan.{Tree, scan, filtered, joined, is_true, fits, joined_rows}
 use Rattle.typed_plan.specs.declared.plan.JoinKey.{JoinKey}
 use Rattle.rewrite.proofs.Filters.{filter-all, filter-none, filter-filter, filter-map, filter-flat_map}
-use Rattle.rewrite.proofs.Pushing.{IsWide, wide_rows}
+use Rattle.rewrite.proofs.PushedRows.{IsWide, wide_rows}
 use Rattle.rewrite.proofs.Splitting.{conjuncts_are, all-append, of_left, of_right}
 
 -- what is true of a joined row is true of its parts

@@ -2,6 +2,7 @@
 use Rattle.std.specs.Prelude.{◌≡◌, ℕ, Bool, true, false, not, ◌&&◌, if◌then◌else◌}
 use Rattle.scan_base.specs.declared.value.Value.{Value}
 use Rattle.scan_base.specs.declared.value.Value.TheVariants.{Null}
+use Rattle.typed_plan.specs.Plan.{Tree, scan, filtered, joined}
 use Rattle.scan_base.specs.Predicate.{Pred, conjunction, disjunction, negation, truth_test, comparing, between, membership, null_test, constant, truth_of, names_only}
 
 -- whether a predicate is a comparison, BETWEEN, IN or IS NULL
@@ -47,3 +48,15 @@ FoldingKeepsTruths = (predicate : Pred ℕ) (cell : ℕ → Value) → truth_of 
 
 abbrev pub FoldedNamesColumns : Type 0
 FoldedNamesColumns = (predicate : Pred ℕ) → is_folded (folded predicate) ≡ true
+
+-- a tree whose filters are folded
+abbrev pub folded_tree : Tree → Tree
+folded_tree (scan table schema columns) = scan table schema columns
+folded_tree (filtered predicate tree) = filtered (folded predicate) (folded_tree tree)
+folded_tree (joined left right on) = joined (folded_tree left) (folded_tree right) on
+
+-- whether each filter of a tree is folded
+abbrev pub is_folded_tree : Tree → Bool
+is_folded_tree (scan table schema columns) = true
+is_folded_tree (filtered predicate tree) = is_folded predicate && is_folded_tree tree
+is_folded_tree (joined left right on) = is_folded_tree left && is_folded_tree right

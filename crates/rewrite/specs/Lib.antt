@@ -4,3 +4,4 @@ pub mod Pushed
 pub mod Laws
 pub mod Pruned
 pub mod Folded
+pub mod Same
