@@ -12,3 +12,4 @@ pub mod FoldedTrees
 pub mod Widths
 pub mod Databases
 pub mod PushedTrees
+pub mod FoldedPushed
