@@ -1,24 +1,22 @@
 -- What a tree gives of the rows of its places is what it gives of a database that has them.
-use Rattle.std.proofs.Common.{◌≡◌, ◌<◌, ℕ, zero, suc, ◌+◌, ◌-◌, Bool, true, false, if◌then◌else◌, List, [], ◌∷◌, ◌++◌, length, map, take, drop, filter, All, Option, Some, None, refl, sym, ap, ◌∙◌, subst, arith, append_assoc}
+use Rattle.std.proofs.Common.{◌≡◌, ◌<◌, ℕ, zero, suc, ◌-◌, Bool, true, false, if◌then◌else◌, List, [], ◌∷◌, ◌++◌, length, map, take, drop, filter, All, Option, Some, None, refl, sym, ap, ◌∙◌, subst, arith, append_assoc}
 use Rattle.std.specs.List.{AllByRecursion}
 use Rattle.std.specs.Str.{bytes_eq}
 use Rattle.std.proofs.Math.Seq.{drop-append_seam}
-use Rattle.std.proofs.lemmas.List.{append-nil, length-append, length-map, map-append}
+use Rattle.std.proofs.lemmas.List.{length-append, length-map, map-append}
 use Rattle.std.proofs.lemmas.List.Elements.{All-head, All-tail}
 use Rattle.arrow_schema.specs.declared.schema.Field.{Field}
 use Rattle.arrow_schema.specs.declared.schema.Schema.{Schema}
-use Rattle.scan_base.specs.Predicate.{cell_in}
 use Rattle.table_versions.specs.Database.{Database, table_at, columns_of}
 use Rattle.table_versions.specs.Table.{Name, Row, Table}
 use Rattle.table_versions.specs.Valid.{IsRow, IsTable, IsDatabase}
 use Rattle.typed_plan.proofs.Scans.{some_schema}
-use Rattle.typed_plan.specs.declared.plan.JoinKey.{JoinKey}
 use Rattle.typed_plan.specs.Held.{tree_tables, tree_schemas}
 use Rattle.typed_plan.specs.Joined.{rows_in, rows_between}
 use Rattle.typed_plan.specs.Plan.{Tree, scan, filtered, joined, is_true, joined_rows, tree_rows, PlanAt, output_rows}
 use Rattle.typed_plan.specs.Typed.{IsOver}
 use Rattle.rewrite.specs.Laws.{AreWide}
-use Rattle.rewrite.specs.Places.{first_rows, rows_over}
+use Rattle.rewrite.specs.Places.{rows_over}
 use Rattle.rewrite.specs.Same.{SameRows, SameOverPlaces}
 
 -- a table for each of the columns of tables
@@ -139,11 +137,12 @@ module _ (database : Database) where
       ∙ append_assoc front rights more in
       let behind : rest ≡ drop (length (tree_schemas left)) (front ++ rest) =
       sym (ap (λ (n : ℕ). drop n (front ++ rest)) (sym (cut_wide cut lefts ∙ wide)) ∙ drop-append_seam front rest) in
-      subst (AreWide (joined left right on)) (sym split)
-      (places_wide is left cut keeps rest over.0,
-      subst (AreWide right) behind
-      (subst (λ (places : List (List Row)). AreWide right (places ++ more)) (cut_none rights)
-      (places_wide is right (λ rows. rows) (λ schema rows h. h) more over.1)))
+      subst (AreWide (joined left right on)) (sym split) (
+        places_wide is left cut keeps rest over.0,
+        subst (AreWide right) behind
+            (subst (λ (places : List (List Row)). AreWide right (places ++ more)) (cut_none rights)
+            (places_wide is right (λ rows. rows) (λ schema rows h. h) more over.1)),
+      )
 
 -- what holds over the rows of places holds on every database
 pub same_of_places : (new old : PlanAt) → tree_tables new.tree ≡ tree_tables old.tree → SameOverPlaces new old → SameRows new old

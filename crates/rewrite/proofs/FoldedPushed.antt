@@ -1,5 +1,5 @@
 -- Pushing down keeps filters folded, and a plan that was rewritten twice stands for the first one.
-use Rattle.std.proofs.Common.{◌≡◌, ℕ, ◌-◌, Bool, true, false, not, ◌&&◌, cond, List, [], ◌∷◌, ◌++◌, length, map, filter, drop, refl, sym, ap, ◌∙◌, subst}
+use Rattle.std.proofs.Common.{◌≡◌, ℕ, ◌-◌, Bool, true, false, not, cond, List, [], ◌∷◌, ◌++◌, length, map, filter, drop, refl, sym, ap, ◌∙◌, subst}
 use Rattle.std.specs.List.{list_all}
 use Rattle.std.proofs.lemmas.Bool.{and_from, and_parts}
 use Rattle.arrow_schema.specs.declared.schema.Schema.{Schema}
@@ -15,7 +15,7 @@ use Rattle.typed_plan.specs.Typed.{IsOver}
 use Rattle.typed_plan.specs.View.{BoundAt, tree_of}
 use Rattle.rewrite.proofs.FoldedTrees.{folded_schemas}
 use Rattle.rewrite.specs.Conjuncts.{conjuncts, is_sure, parts_of, all_of}
-use Rattle.rewrite.specs.Folded.{is_folded, is_folded_tree, names_none, folded_tree}
+use Rattle.rewrite.specs.Folded.{is_folded, is_folded_tree, folded_tree}
 use Rattle.rewrite.specs.Laws.{AreWide}
 use Rattle.rewrite.specs.Places.{tree_width}
 use Rattle.rewrite.specs.Pushed.{is_left, is_right, is_both, moved, above, pushed}
@@ -122,10 +122,11 @@ folded_over (joined left right on) database h = (folded_over left database h.0, 
 folded_wide : (tree : Tree) (places : List (List Row)) → AreWide tree places → AreWide (folded_tree tree) places
 folded_wide (scan table schema columns) places h = h
 folded_wide (filtered predicate tree) places h = folded_wide tree places h
-folded_wide (joined left right on) places h =
-    (folded_wide left places h.0,
-    subst (λ (s : List Schema). AreWide (folded_tree right) (drop (length s) places)) (sym (folded_schemas left))
-    (folded_wide right (drop (length (tree_schemas left)) places) h.1))
+folded_wide (joined left right on) places h = (
+  folded_wide left places h.0,
+  subst (λ (s : List Schema). AreWide (folded_tree right) (drop (length s) places)) (sym (folded_schemas left))
+      (folded_wide right (drop (length (tree_schemas left)) places) h.1),
+)
 
 pub stands_after : (new middle old : BoundAt) → tree_of middle.plan ≡ folded_tree (tree_of old.plan) → StandsFor new middle → StandsFor middle old → StandsFor new old
 stands_after new middle old tree one other = record {

@@ -1,12 +1,11 @@
 -- A tree whose filters are folded is well typed, and gives the same rows.
-use Rattle.std.proofs.Common.{◌≡◌, ℕ, Bool, true, false, ◌&&◌, cond, List, [], ◌∷◌, ◌++◌, length, map, filter, drop, Option, Some, None, Result, IsTrue, refl, sym, ap, ◌∙◌, subst}
+use Rattle.std.proofs.Common.{◌≡◌, ℕ, Bool, true, false, cond, List, ◌++◌, length, filter, drop, Option, None, Result, IsTrue, refl, sym, ap, ◌∙◌, subst}
 use Rattle.std.specs.List.{list_all}
 use Rattle.std.proofs.lemmas.Bool.{and_from}
 use Rattle.std.proofs.lemmas.List.Elements.{filter_agree}
 use Rattle.arrow_schema.specs.declared.data_type.DataType.{DataType}
 use Rattle.arrow_schema.specs.declared.schema.Schema.{Schema}
 use Rattle.scan_base.specs.declared.fault.Fault.{Fault}
-use Rattle.scan_base.specs.declared.value.Value.{Value}
 use Rattle.scan_base.specs.declared.value.Value.TheVariants.{Null}
 use Rattle.scan_base.specs.Predicate.{Pred, conjunction, disjunction, negation, truth_test, comparing, between, membership, null_test, constant, cell_in, truth_of}
 use Rattle.scan_base.specs.Truth.{keeps}
@@ -14,13 +13,12 @@ use Rattle.table_versions.specs.Database.{Database}
 use Rattle.table_versions.specs.Table.{Row}
 use Rattle.typed_plan.proofs.TypedNames.{then_none}
 use Rattle.typed_plan.specs.declared.class.Class.{Class}
-use Rattle.typed_plan.specs.declared.plan.JoinKey.{JoinKey}
 use Rattle.typed_plan.specs.Faults.{◌then◌, predicate_fault, first_in}
 use Rattle.typed_plan.specs.Held.{tree_schemas}
 use Rattle.typed_plan.specs.Joined.{rows_between}
 use Rattle.typed_plan.specs.Plan.{Tree, scan, filtered, joined, is_true, joined_rows, tree_rows, output_rows}
 use Rattle.typed_plan.specs.Typed.{class_of_number, tree_types, is_place, IsTypedTree, key_fault, spans}
-use Rattle.typed_plan.specs.View.{BoundAt, tree_of, plan_of}
+use Rattle.typed_plan.specs.View.{BoundAt, tree_of}
 use Rattle.rewrite.proofs.Folding.{folded_keeps, folded_names}
 use Rattle.rewrite.specs.Folded.{names_none, folded_atom, folded, folded_tree, is_folded, is_folded_tree}
 use Rattle.rewrite.specs.Places.{rows_over}
@@ -69,13 +67,18 @@ module _ {C : Type 0} (f : C → Result Class Fault) where
 
 pub folded_typed : (tree : Tree) → IsTypedTree tree → IsTypedTree (folded_tree tree)
 folded_typed (scan table schema columns) h = h
-folded_typed (filtered predicate tree) h =
-    (ap (λ types. predicate_fault (class_of_number types) (folded predicate)) (folded_types tree)
-    ∙ folded_fault (class_of_number (tree_types tree)) predicate h.0, folded_typed tree h.1)
-folded_typed (joined left right on) h =
-    (folded_typed left h.0, folded_typed right h.1, folded_place right ∙ h.2,
-    ap (λ types. first_in (key_fault types) on) (folded_types (joined left right on)) ∙ h.3,
-    subst (λ (types : List DataType). IsTrue (list_all (spans (length types)) on)) (sym (folded_types left)) h.4)
+folded_typed (filtered predicate tree) h = (
+  ap (λ types. predicate_fault (class_of_number types) (folded predicate)) (folded_types tree)
+      ∙ folded_fault (class_of_number (tree_types tree)) predicate h.0,
+  folded_typed tree h.1,
+)
+folded_typed (joined left right on) h = (
+  folded_typed left h.0,
+  folded_typed right h.1,
+  folded_place right ∙ h.2,
+  ap (λ types. first_in (key_fault types) on) (folded_types (joined left right on)) ∙ h.3,
+  subst (λ (types : List DataType). IsTrue (list_all (spans (length types)) on)) (sym (folded_types left)) h.4,
+)
 
 folded_sees : (p : Pred ℕ) (row : Row) → is_true (folded p) row ≡ is_true p row
 folded_sees p row = ap keeps (folded_keeps (cell_in row) p)

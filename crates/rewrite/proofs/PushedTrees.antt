@@ -1,16 +1,14 @@
 -- A pushed tree is well typed, and a plan with it stands for the one that it was made of.
-use Rattle.std.proofs.Common.{◌≡◌, ℕ, ◌-◌, Bool, true, false, not, ◌&&◌, cond, List, [], ◌∷◌, ◌++◌, length, map, filter, drop, nat_lt, Option, Some, None, Result, IsTrue, refl, sym, ap, ◌∙◌, subst}
+use Rattle.std.proofs.Common.{◌≡◌, ℕ, Bool, true, false, not, cond, List, [], ◌∷◌, ◌++◌, length, map, filter, None, IsTrue, refl, sym, ap, ◌∙◌, subst}
 use Rattle.std.specs.List.{list_all, AllByRecursion}
 use Rattle.std.proofs.lemmas.Bool.{and_parts}
 use Rattle.arrow_schema.specs.declared.data_type.DataType.{DataType}
-use Rattle.arrow_schema.specs.declared.schema.Schema.{Schema}
-use Rattle.scan_base.specs.declared.fault.Fault.{Fault}
 use Rattle.scan_base.specs.Predicate.{Pred, conjunction, disjunction, negation, truth_test, comparing, between, membership, null_test, constant}
 use Rattle.table_versions.specs.Table.{Name}
 use Rattle.typed_plan.proofs.TypedNames.{then_none}
 use Rattle.typed_plan.specs.declared.plan.JoinKey.{JoinKey}
 use Rattle.typed_plan.specs.Faults.{◌then◌, predicate_fault, first_in}
-use Rattle.typed_plan.specs.Held.{tree_schemas, tree_tables}
+use Rattle.typed_plan.specs.Held.{tree_tables}
 use Rattle.typed_plan.specs.Plan.{Tree, scan, filtered, joined, output_rows}
 use Rattle.typed_plan.specs.Typed.{class_of_number, tree_types, is_place, IsTypedTree, key_fault, spans}
 use Rattle.rewrite.proofs.Databases.{same_of_places}
@@ -134,11 +132,14 @@ pushed_tables ps (joined left right on) =
 
 joined_typed : (left right l r : Tree) (on : List JoinKey) → tree_types l ≡ tree_types left → tree_types r ≡ tree_types right → is_place r ≡ is_place right →
     IsTypedTree l → IsTypedTree r → IsTypedTree (joined left right on) → IsTypedTree (joined l r on)
-joined_typed left right l r on e f place typed_l typed_r h =
-    (typed_l, typed_r, place ∙ h.2,
-    ap (λ (types : List DataType). first_in (key_fault (types ++ tree_types r)) on) e
-    ∙ ap (λ (types : List DataType). first_in (key_fault (tree_types left ++ types)) on) f ∙ h.3,
-    subst (λ (types : List DataType). IsTrue (list_all (spans (length types)) on)) (sym e) h.4)
+joined_typed left right l r on e f place typed_l typed_r h = (
+  typed_l,
+  typed_r,
+  place ∙ h.2,
+  ap (λ (types : List DataType). first_in (key_fault (types ++ tree_types r)) on) e
+      ∙ ap (λ (types : List DataType). first_in (key_fault (tree_types left ++ types)) on) f ∙ h.3,
+  subst (λ (types : List DataType). IsTrue (list_all (spans (length types)) on)) (sym e) h.4,
+)
 
 pub pushed_typed : (ps : List (Pred ℕ)) (tree : Tree) → AreTyped (tree_types tree) ps → IsTypedTree tree → IsTypedTree (pushed ps tree)
 pushed_typed ps (scan table schema columns) k h = above_typed ps (scan table schema columns) k h

@@ -1,7 +1,7 @@
 -- A plan stays well typed where its tree is another one of the same types.
-use Rattle.std.proofs.Common.{◌≡◌, ◌<◌, ◌≤◌, ℕ, zero, suc, ◌+◌, ◌-◌, Bool, true, false, not, ◌&&◌, cond, List, [], ◌∷◌, ◌++◌, length, map, filter, nat_lt, slice_get, Option, Some, None, Result, Ok, Err, IsTrue, refl, sym, ap, ◌∙◌, subst, arith}
-use Rattle.std.specs.List.{list_all, AllByRecursion}
-use Rattle.std.proofs.lemmas.Bool.{and_from, and_parts, ltb-true, ltb-false, not-true}
+use Rattle.std.proofs.Common.{◌≡◌, ◌<◌, ◌≤◌, ℕ, zero, suc, ◌-◌, Bool, true, not, ◌&&◌, List, [], ◌∷◌, ◌++◌, length, map, nat_lt, slice_get, None, Result, refl, sym, ap, ◌∙◌, subst, arith}
+use Rattle.std.specs.List.{list_all}
+use Rattle.std.proofs.lemmas.Bool.{and_parts, ltb-true, ltb-false, not-true}
 use Rattle.arrow_schema.specs.declared.data_type.DataType.{DataType}
 use Rattle.arrow_schema.specs.declared.schema.Schema.{Schema}
 use Rattle.scan_base.specs.declared.fault.Fault.{Fault}
@@ -9,10 +9,9 @@ use Rattle.scan_base.specs.declared.predicate.Operand.{Operand}
 use Rattle.scan_base.specs.declared.predicate.Operand.TheVariants as operand
 use Rattle.scan_base.specs.Predicate.{Pred, conjunction, disjunction, negation, truth_test, comparing, between, membership, null_test, constant, operand_names, names_only}
 use Rattle.typed_plan.proofs.ClassFollows.{predicate_follows}
-use Rattle.typed_plan.proofs.TypedNames.{then_none}
 use Rattle.typed_plan.specs.declared.class.Class.{Class}
 use Rattle.typed_plan.specs.declared.plan.Output.{Output}
-use Rattle.typed_plan.specs.Faults.{◌then◌, fault_in, operand_class, compare_fault, items_fault, predicate_fault}
+use Rattle.typed_plan.specs.Faults.{fault_in, operand_class, items_fault, predicate_fault}
 use Rattle.typed_plan.specs.Numbered.{predicate_map}
 use Rattle.arrow_schema.specs.Answer.{answer_type}
 use Rattle.typed_plan.specs.Plan.{Tree, PlanAt}

@@ -1,13 +1,13 @@
 -- How many columns a tree gives, and a list apart.
-use Rattle.std.proofs.Common.{◌≡◌, ◌<◌, ℕ, ◌+◌, Bool, true, false, not, ◌&&◌, cond, List, [], ◌∷◌, ◌++◌, length, map, filter, remove, slice_index_or, refl, sym, ap, ◌∙◌, arith}
-use mathlib.Core.List.{append_assoc, append-nil}
+use Rattle.std.proofs.Common.{◌≡◌, ◌<◌, ℕ, ◌+◌, Bool, true, false, cond, List, [], ◌∷◌, ◌++◌, length, map, filter, remove, slice_index_or, sym, ap, ◌∙◌, arith}
+use mathlib.Core.List.{append_assoc}
 use Rattle.std.proofs.lemmas.List.{length-map, length-append}
 use Rattle.arrow_schema.specs.declared.schema.Schema.{Schema}
 use Rattle.rewrite.specs.Places.{tree_width}
 use Rattle.table_versions.specs.Table.{Name}
 use Rattle.typed_plan.specs.declared.plan.Columns.TheVariants.{All, These}
 use Rattle.typed_plan.specs.declared.plan.JoinKey.{JoinKey}
-use Rattle.typed_plan.specs.Plan.{Tree, scan, filtered, joined}
+use Rattle.typed_plan.specs.Plan.{Tree, scan, joined}
 use Rattle.typed_plan.specs.Typed.{tree_types, type_at, types_of}
 
 pub all_width : (table : Name) (schema : Schema) → tree_width (scan table schema All) ≡ length schema.fields

@@ -91,8 +91,7 @@ pub(crate) fn names_only<T: ColumnTest>(predicate: &Predicate<usize>, test: &T) 
             low,
             high,
         } => {
-            operand_names(operand, test)
-                && (operand_names(low, test) && operand_names(high, test))
+            operand_names(operand, test) && (operand_names(low, test) && operand_names(high, test))
         }
         Predicate::In {
             negated: _,

@@ -26,11 +26,7 @@ struct Sides {
 }
 
 // The parts of a join whose left has so many columns, each on its side.
-fn split(
-    alloc: Global,
-    parts: Vec<Predicate<usize>>,
-    seam: usize,
-) -> Result<Sides, AllocError>
+fn split(alloc: Global, parts: Vec<Predicate<usize>>, seam: usize) -> Result<Sides, AllocError>
     ensures left { IfOk result (λ sides. map pred_of sides.left.items ≡ filter (is_left seam) (map pred_of parts.items)) }
     ensures right { IfOk result (λ sides. map pred_of sides.right.items ≡ map (moved seam) (filter (is_right seam) (map pred_of parts.items))) }
     ensures both { IfOk result (λ sides. map pred_of sides.both.items ≡ filter (is_both seam) (map pred_of parts.items)) }
@@ -86,11 +82,7 @@ fn width(plan: &Plan) -> Result<usize, AllocError>
 }
 
 // A tree below one filter of these parts, in their order.
-fn above(
-    alloc: Global,
-    parts: Vec<Predicate<usize>>,
-    plan: Plan,
-) -> Result<Plan, AllocError>
+fn above(alloc: Global, parts: Vec<Predicate<usize>>, plan: Plan) -> Result<Plan, AllocError>
     ensures { IfOk result (λ filtered. tree_of filtered ≡ above (map pred_of parts.items) (tree_of plan)) }
 {
     if parts.is_empty() {
@@ -104,12 +96,7 @@ fn above(
 }
 
 // The join of two trees.
-fn joined(
-    alloc: Global,
-    left: Plan,
-    right: Plan,
-    on: Items<JoinKey>,
-) -> Result<Plan, AllocError>
+fn joined(alloc: Global, left: Plan, right: Plan, on: Items<JoinKey>) -> Result<Plan, AllocError>
     ensures { IfOk result (λ plan. tree_of plan ≡ joined_trees (tree_of left) (tree_of right) on) }
 {
     let left = Box::new(alloc, left).map_err(|_| AllocError)?;

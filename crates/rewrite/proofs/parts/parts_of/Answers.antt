@@ -1,4 +1,4 @@
-use Rattle.std.proofs.Common.{◌≡◌, ◌++◌, map, ap, ◌∙◌}
+use Rattle.std.proofs.Common.{◌++◌, map, ap, ◌∙◌}
 use Rattle.scan_base.specs.View.{pred_of}
 use Rattle.rewrite.proofs.TakenApart.{sides_behind, popped_lighter, part_kept, part_left_out}
 use Rattle.rewrite.proofs.parts.parts_of.Goals as goal

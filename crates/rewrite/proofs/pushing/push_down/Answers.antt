@@ -1,4 +1,4 @@
-use Rattle.std.proofs.Common.{◌≡◌, ℕ, List, [], map, ap, sym, ◌∙◌}
+use Rattle.std.proofs.Common.{ℕ, List, [], map, ap, sym, ◌∙◌}
 use Rattle.scan_base.specs.declared.predicate.Predicate.{Predicate}
 use Rattle.scan_base.specs.View.{pred_of}
 use Rattle.table_versions.specs.Stored.{TableAt}
