@@ -1,3 +1,4 @@
+pub mod Rows
 pub mod Filters
 pub mod Naming
 pub mod Splitting
