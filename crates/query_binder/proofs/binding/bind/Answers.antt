@@ -1,5 +1,6 @@
-use Rattle.std.proofs.Common.{◌≡◌, ◌-◌, [], ◌∷◌, false, None, length, map, take, drop, refl, sym, ap, subst, ◌∙◌, rules}
+use Rattle.std.proofs.Common.{◌≡◌, ◌-◌, [], ◌∷◌, false, Some, None, length, map, take, drop, refl, sym, ap, subst, ◌∙◌, rules}
 use Rattle.std.proofs.lemmas.Result.{err_from_is_err_and}
+use Rattle.arrow_schema.specs.Schema.{IsSchema}
 use Rattle.std.specs.Option.{option_copied}
 use Rattle.sql_query.specs.Sentence.{sentence_of, is_left_out_whole}
 use Rattle.table_versions.specs.Stored.{TableAt, tables_of, plain}
@@ -11,6 +12,7 @@ use Rattle.query_binder.specs.Bound.{places_fault}
 use Rattle.typed_plan.specs.Held.{tree_tables, tree_schemas}
 use Rattle.typed_plan.specs.Plan.{PlanAt}
 use Rattle.typed_plan.specs.Typed.{IsTyped}
+use Rattle.typed_plan.specs.View.{BoundAt, plan_of}
 use Rattle.query_binder.proofs.LookedUp.{glance_is, glance_refuses}
 use Rattle.query_binder.proofs.Over.{others_are, fault_is, bound_over, schemas_are, names_hold}
 use Rattle.query_binder.proofs.PlanMeans.{plan_means, plan_reads}
@@ -75,25 +77,32 @@ returns-in_err-plan-clause-bound c =
     let p = err_from_is_err_and c.from_residual-in_err-plan.result c.from_residual-in_err-plan.ensures.1 in
     rw (p.1, p.2) (λ apart. is ∙ c.in_err-plan.ensures.bound apart)
 
-pub invariant_of-result : goal.invariant_of-result
-invariant_of-result c =
+pub new-requires-clause-typed : goal.new-requires-clause-typed
+new-requires-clause-typed c =
     let query = sentence_of c.args.query.now in
     let catalog = c.args.catalog.now in
     let tables = c.deref.result.now in
     let same : c.in_ok-tables.tables.items ≡ tables = search (rules, c.deref.ensures.value) in
     let are = subst (AreTablesOf catalog (places_of query.first query.joins)) same c.in_ok-tables.ensures.1 in
     let others = take (length tables - 1) (drop 1 tables) in
-    let first = c.in-Some.first.now in
     let head = sym c.get.ensures ∙ ap option_copied c.in-Some.is in
     let tail = others_are catalog query.first query.joins tables are in
     let parts = c.in_ok-plan.ensures.bound in
-    let bound = bound_over query catalog first others _ (sym c.is_left_out.ensures ∙ c.if-is_left_out.false)
-    head tail c.in_ok-tables.ensures.0 parts.0 parts.1 in (
-      subst IsTyped (sym bound.1) (plan_typed query (tables_of catalog) bound.0),
-      ap (λ (plan : PlanAt). tree_schemas plan.tree) parts.1
-          ∙ schemas_are query catalog first tables head are
-          ∙ ap (map (λ (table : TableAt). table.schema)) (sym same),
-    )
+    let bound = bound_over query catalog c.in-Some.first.now others _ (sym c.is_left_out.ensures ∙ c.if-is_left_out.false)
+    head tail c.in_ok-tables.ensures.0 parts.0 parts.1 in
+    subst IsTyped (sym bound.1) (plan_typed query (tables_of catalog) bound.0)
+
+pub new-requires-clause-columns : goal.new-requires-clause-columns
+new-requires-clause-columns c =
+    let query = sentence_of c.args.query.now in
+    let catalog = c.args.catalog.now in
+    let tables = c.deref.result.now in
+    let same : c.in_ok-tables.tables.items ≡ tables = search (rules, c.deref.ensures.value) in
+    let are = subst (AreTablesOf catalog (places_of query.first query.joins)) same c.in_ok-tables.ensures.1 in
+    let head = sym c.get.ensures ∙ ap option_copied c.in-Some.is in
+    ap (λ (plan : PlanAt). tree_schemas plan.tree) c.in_ok-plan.ensures.bound.1
+    ∙ schemas_are query catalog c.in-Some.first.now tables head are
+    ∙ ap (map (λ (table : TableAt). table.schema)) (sym same)
 
 pub returns-clause-bound : goal.returns-clause-bound
 returns-clause-bound c =
@@ -105,8 +114,9 @@ returns-clause-bound c =
     let others = take (length tables - 1) (drop 1 tables) in
     let tail = others_are catalog query.first query.joins tables are in
     let parts = c.in_ok-plan.ensures.bound in
-    bound_over query catalog c.in-Some.first.now others _ (sym c.is_left_out.ensures ∙ c.if-is_left_out.false)
-    (sym c.get.ensures ∙ ap option_copied c.in-Some.is) tail c.in_ok-tables.ensures.0 parts.0 parts.1
+    let bound = bound_over query catalog c.in-Some.first.now others _ (sym c.is_left_out.ensures ∙ c.if-is_left_out.false)
+    (sym c.get.ensures ∙ ap option_copied c.in-Some.is) tail c.in_ok-tables.ensures.0 parts.0 parts.1 in
+    (bound.0, ap plan_of c.new.ensures ∙ bound.1)
 
 pub returns-clause-means : goal.returns-clause-means
 returns-clause-means c =
@@ -116,7 +126,8 @@ returns-clause-means c =
     subst (IsPlanOf query database) (sym bound.1) (plan_means query database bound.0)
 
 pub returns-clause-named : goal.returns-clause-named
-returns-clause-named c names = c.in_ok-plan.ensures.named names
+returns-clause-named c names =
+    subst IsSchema (ap (λ (bound : BoundAt). bound.schema) (sym c.new.ensures)) (c.in_ok-plan.ensures.named names)
 
 pub returns-clause-places : goal.returns-clause-places
 returns-clause-places c =
@@ -131,3 +142,4 @@ returns-clause-held c =
     ap (map (table_at catalog)) (returns-clause-places c)
     ∙ ap (λ rest. table_at catalog query.first.table ∷ rest) (names_hold catalog query.joins)
     ∙ c.in_ok-tables.ensures.1
+    ∙ ap (λ (bound : BoundAt). map (λ (table : TableAt). Some table) bound.tables) (sym c.new.ensures)
