@@ -1,0 +1,5 @@
+pub mod Sets
+pub mod Orders
+pub mod Compared
+pub mod Possibles
+pub mod Ends
