@@ -67,18 +67,20 @@ stands R wrap has comparison v w x y e f =
 
 equal_allows : Allows Equal equal_between
 equal_allows K R wrap has a b x y h k =
-    let s : (c : Comparison) (v w : Value) (p q : K) → v ≡ wrap p → w ≡ wrap q → stand c v w ≡ satisfies c (R p q) = stands R wrap has in
-    (λ e. rw (s LessOrEqual a.0 b.1 h.low k.high h.low_is k.high_is, s LessOrEqual b.0 a.1 k.low h.high k.low_is h.high_is)
-      (equal_true R has.total h.low h.high k.low k.high x y h.above h.below k.above k.below e),
-    λ e. rw (s Equal a.0 a.1 h.low h.high h.low_is h.high_is, s Equal b.0 b.1 k.low k.high k.low_is k.high_is, s Equal a.0 b.0 h.low k.low h.low_is k.low_is)
-      (equal_false R has.total h.low h.high k.low k.high x y h.above h.below k.above k.below e))
+    let s : (c : Comparison) (v w : Value) (p q : K) → v ≡ wrap p → w ≡ wrap q → stand c v w ≡ satisfies c (R p q) = stands R wrap has in (
+      λ e. rw (s LessOrEqual a.0 b.1 h.low k.high h.low_is k.high_is, s LessOrEqual b.0 a.1 k.low h.high k.low_is h.high_is)
+          (equal_true R has.total h.low h.high k.low k.high x y h.above h.below k.above k.below e),
+      λ e. rw (s Equal a.0 a.1 h.low h.high h.low_is h.high_is, s Equal b.0 b.1 k.low k.high k.low_is k.high_is, s Equal a.0 b.0 h.low k.low h.low_is k.low_is)
+          (equal_false R has.total h.low h.high k.low k.high x y h.above h.below k.above k.below e),
+    )
 
 less_allows : Allows Less less_between
-less_allows K R wrap has a b x y h k =
-    (λ e. stands R wrap has Less a.0 b.1 h.low k.high h.low_is k.high_is
+less_allows K R wrap has a b x y h k = (
+  λ e. stands R wrap has Less a.0 b.1 h.low k.high h.low_is k.high_is
       ∙ less_true R has.total h.low h.high k.low k.high x y h.above h.below k.above k.below e,
-    λ e. stands R wrap has GreaterOrEqual a.1 b.0 h.high k.low h.high_is k.low_is
-      ∙ less_false R has.total h.low h.high k.low k.high x y h.above h.below k.above k.below e)
+  λ e. stands R wrap has GreaterOrEqual a.1 b.0 h.high k.low h.high_is k.low_is
+      ∙ less_false R has.total h.low h.high k.low k.high x y h.above h.below k.above k.below e,
+)
 
 -- ---- values between ends are of the class of the ends
 

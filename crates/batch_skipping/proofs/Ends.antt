@@ -1,8 +1,9 @@
 -- Values stand between the ends of their own statistics.
 use Rattle.std.proofs.Common.{◌≡◌, ◌⊎◌, ◌<◌, ℕ, suc, ◌+◌, ℤ, Bool, true, false, cond, List, [], ◌∷◌, length, filter, fold, Option, Some, None, nat_cmp, nat_lt, int_cmp, inl, inr, refl, sym, ap, ◌∙◌, subst, arith}
 use Rattle.std.specs.List.{list_all, AllByRecursion}
-use Rattle.std.proofs.lemmas.Bool.{and_parts, cases_Bool, lt-ltb}
+use Rattle.std.proofs.lemmas.Bool.{and_from, and_parts, cases_Bool, lt-ltb}
 use Rattle.std.proofs.lemmas.Cmp.{tied_itself, upto}
+use Rattle.std.proofs.lemmas.List.Elements.{All-from_recursion, recursion_from_All}
 use Rattle.std.specs.Cmp.Lexicographic.{slice_cmp}
 use Rattle.std.specs.Ordering.{bool_cmp, ordering_reverse, is_lt, is_gt, is_le}
 use Rattle.std.specs.declared.cmp.Ordering.{Ordering}
@@ -11,7 +12,10 @@ use Rattle.scan_base.specs.declared.comparison.Comparison.TheVariants.{Less, Les
 use Rattle.scan_base.specs.declared.value.Value.{Value}
 use Rattle.scan_base.specs.declared.value.Value.TheVariants.{Null, Bool as Flag, Int, Text}
 use Rattle.scan_base.specs.Value.{is_null}
-use Rattle.batch_skipping.specs.Laws.{IsBetween, IsWithin, Kind, flags, numbers, texts, is_of, OwnValuesAreWithin}
+use Rattle.arrow_schema.specs.declared.data_type.DataType.{DataType}
+use Rattle.arrow_schema.specs.declared.data_type.DataType.TheVariants.{Integer, Utf8, Bool as Flags, Decimal128, Dictionary}
+use Rattle.arrays.specs.Typed.{IsValueOf}
+use Rattle.batch_skipping.specs.Laws.{IsBetween, IsWithin, OwnValuesAreWithin}
 use Rattle.batch_stats.specs.Stats.{StatsAt, ends_of, has_nulls, lesser, greater, stand, stats_of, with_value}
 use Rattle.batch_skipping.proofs.Compared.{HasOrder, flag_order, number_order, text_order, stands}
 
@@ -164,6 +168,19 @@ module _ {K : Type 0} (R : K → K → Ordering) (wrap : K → Value) (passes : 
   own_within : (values : List Value) → list_all passes values ≡ true → AllByRecursion (IsWithin (stats_of values)) values
   own_within values h = within_all values values (omega arith) (ended values h)
 
+-- the classes of values, and whether a value is null or of one
+data Kind : Type 0 where
+  flags : Kind
+  numbers : Kind
+  texts : Kind
+
+abbrev is_of : Kind → Value → Bool
+is_of kind Null = true
+is_of flags (Flag value) = true
+is_of numbers (Int value) = true
+is_of texts (Text value) = true
+is_of kind value = false
+
 flag_view : (v : Value) → is_of flags v ≡ true → (v ≡ Null) ⊎ ((w : Bool) × (v ≡ Flag w))
 flag_view Null e = inl refl
 flag_view (Flag w) e = inr (w, refl)
@@ -191,7 +208,44 @@ number_class = record { order = number_order; first = λ w. refl; more = λ ends
 text_class : IsClass (slice_cmp nat_cmp) Text (is_of texts)
 text_class = record { order = text_order; first = λ w. refl; more = λ ends w. refl; within = λ stats w h. h; view = text_view }
 
+of_class : (kind : Kind) (values : List Value) → list_all (is_of kind) values ≡ true → AllByRecursion (IsWithin (stats_of values)) values
+of_class flags values h = own_within bool_cmp Flag (is_of flags) flag_class values h
+of_class numbers values h = own_within int_cmp Int (is_of numbers) number_class values h
+of_class texts values h = own_within (slice_cmp nat_cmp) Text (is_of texts) text_class values h
+
+-- ---- the values of a type are of one class
+
+abbrev kind_of : DataType → Kind
+kind_of (Integer integer) = numbers
+kind_of Utf8 = texts
+kind_of Flags = flags
+kind_of Decimal128 = numbers
+kind_of (Dictionary encoding) = texts
+
+of_kind : (data_type : DataType) (value : Value) → IsValueOf data_type value → is_of (kind_of data_type) value ≡ true
+of_kind data_type Null is = refl
+of_kind (Integer integer) (Int number) is = refl
+of_kind Decimal128 (Int number) is = refl
+of_kind Flags (Flag flag) is = refl
+of_kind Utf8 (Text bytes) is = refl
+of_kind (Dictionary encoding) (Text bytes) is = refl
+of_kind (Integer integer) (Flag flag) is = absurd is
+of_kind (Integer integer) (Text bytes) is = absurd is
+of_kind Decimal128 (Flag flag) is = absurd is
+of_kind Decimal128 (Text bytes) is = absurd is
+of_kind Flags (Int number) is = absurd is
+of_kind Flags (Text bytes) is = absurd is
+of_kind Utf8 (Flag flag) is = absurd is
+of_kind Utf8 (Int number) is = absurd is
+of_kind (Dictionary encoding) (Flag flag) is = absurd is
+of_kind (Dictionary encoding) (Int number) is = absurd is
+
+all_of_kind : (data_type : DataType) (values : List Value) → AllByRecursion (IsValueOf data_type) values → list_all (is_of (kind_of data_type)) values ≡ true
+all_of_kind data_type [] h = refl
+all_of_kind data_type (value ∷ values) h =
+    and_from (is_of (kind_of data_type) value) (list_all (is_of (kind_of data_type)) values) (of_kind data_type value h.0) (all_of_kind data_type values h.1)
+
 pub own_values_are_within : OwnValuesAreWithin
-own_values_are_within flags values h = own_within bool_cmp Flag (is_of flags) flag_class values h
-own_values_are_within numbers values h = own_within int_cmp Int (is_of numbers) number_class values h
-own_values_are_within texts values h = own_within (slice_cmp nat_cmp) Text (is_of texts) text_class values h
+own_values_are_within data_type values typed =
+    All-from_recursion (IsWithin (stats_of values)) values
+    (of_class (kind_of data_type) values (all_of_kind data_type values (recursion_from_All (IsValueOf data_type) values typed)))

@@ -3,3 +3,6 @@ pub mod Orders
 pub mod Compared
 pub mod Possibles
 pub mod Ends
+pub mod SameCells
+pub mod InBatch
+mod Rows

@@ -8,6 +8,7 @@ ghost use Rattle.arrow_schema.specs.declared.data_type.IntegerType.TheVariants.{
 use array_select::column_of_int64s;
 use arrays::Batch;
 use arrow_schema::{DataType, Field, IntegerType, Schema};
+use batch_stats::MeasuredBatch;
 use scan_base::{Fault, Items, Text};
 use std::alloc::{AllocError, Global};
 use std::sync::Wait;
@@ -37,7 +38,7 @@ pub(crate) fn one_row(alloc: Global, table: &str) -> Result<Put, Fault> {
     let mut columns = Vec::new(alloc);
     columns.push(column)?;
     let mut batches = Vec::new(alloc);
-    batches.push(Batch::new(columns, 1))?;
+    batches.push(MeasuredBatch::new(alloc, Batch::new(columns, 1))?)?;
     let name = Text::new(alloc, table)?;
     Ok(Put::new(name, IfNotExist::Create, IfExists::Append, schema, batches))
 }

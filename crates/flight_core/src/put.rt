@@ -13,6 +13,7 @@ ghost use Rattle.flight_core.specs.Stored.{MayBeStored, batches_in};
 ghost use Rattle.flight_core.specs.Arriving.{BegunAt, begun_by, after_payload, glance_next, said_next, whole_put, put_from, HasRead};
 
 use arrays::Batch;
+use batch_stats::MeasuredBatch;
 use bytes::Bytes;
 use flight_proto::{BorrowedData, FlightData, Ingest, read_ingest};
 use ipc_batch::Reader;
@@ -60,7 +61,7 @@ struct Begun {
     if_not_exist: IfNotExist,
     if_exists: IfExists,
     reader: Reader,
-    batches: Vec<Batch>,
+    batches: Vec<MeasuredBatch>,
 }
 
 impl Model for Begun {
@@ -114,7 +115,7 @@ impl Begun {
             (after_payload self.old payload.now) }
     {
         if let Some(batch) = read_payload(alloc, &mut self.reader, payload)? {
-            self.batches.push(batch)?;
+            self.batches.push(MeasuredBatch::new(alloc, batch)?)?;
         }
         Ok(())
     }
@@ -154,7 +155,8 @@ fn whole_put(begun: Option<Begun>) -> Result<Put, Fault>
 }
 
 /// Reads the payloads of a put one after another. Of those that came it holds no more than the put needs: the
-/// columns of their batches, which are cuts of them, and behind the first fault nothing.
+/// columns of their batches, which are cuts of them, and the statistics of each column. Behind the first fault it holds
+/// nothing.
 ///
 /// A contract sees what the payloads say so far, or the first fault.
 #[derive(Drop)]

@@ -1,5 +1,6 @@
 //! Puts of Arrow messages.
 
+use batch_stats::MeasuredBatch;
 use bytes::Bytes;
 use ipc_batch::Reader;
 use scan_base::{Fault, Text};
@@ -48,7 +49,7 @@ fn put(alloc: Global, case: &str) -> Result<Put, Fault> {
         return Err(Fault::BadBatch);
     };
     let name = Text::new(alloc, name)?;
-    let batches = vec![in alloc; batch]?;
+    let batches = vec![in alloc; MeasuredBatch::new(alloc, batch)?]?;
     Ok(Put::new(name, IfNotExist::Create, IfExists::Append, schema, batches))
 }
 

@@ -11,6 +11,7 @@ ghost use Rattle.table_versions.specs.Columns.{has_bad_column, is_long_column, S
 use crate::limits::MAX_TEXT_BYTES;
 use arrays::{Batch, Cells, Column};
 use arrow_schema::Field;
+use batch_stats::MeasuredBatch;
 use scan_base::ValueRef;
 
 // Whether a value is a text of more than 65,536 bytes.
@@ -91,11 +92,11 @@ fn is_long_batch(batch: &Batch) -> bool
 }
 
 // Whether a row has a null in a column that takes none.
-pub(crate) fn has_bad_null(fields: &[Field], batches: &[Batch]) -> bool
+pub(crate) fn has_bad_null(fields: &[Field], batches: &[MeasuredBatch]) -> bool
     ensures { result ≡ list_any (has_bad_null fields.now) (flat_map rows_of batches.now) }
 {
     for batch in batches {
-        if is_bad_batch(fields, batch) {
+        if is_bad_batch(fields, batch.batch()) {
             return true;
         }
     }
@@ -103,12 +104,12 @@ pub(crate) fn has_bad_null(fields: &[Field], batches: &[Batch]) -> bool
 }
 
 // Whether a row has a text that is too long. Where none has, each column was looked at.
-pub(crate) fn has_long_row(batches: &[Batch]) -> bool
+pub(crate) fn has_long_row(batches: &[MeasuredBatch]) -> bool
     ensures long { result ≡ list_any (list_any is_long_text) (flat_map rows_of batches.now) }
     ensures stand { result ≡ false → All Stands batches.now }
 {
     for batch in batches {
-        if is_long_batch(batch) {
+        if is_long_batch(batch.batch()) {
             return true;
         }
     }

@@ -23,9 +23,9 @@ use crate::limits::{MAX_COMMITS, MAX_NAME_BYTES, MAX_ROWS, MAX_TABLES};
 use crate::put::Put;
 use crate::snapshot::Snapshot;
 use crate::table::TableVersion;
-use arrays::Batch;
 use arrays::laws::values_are_of_their_type;
 use arrow_schema::Schema;
+use batch_stats::MeasuredBatch;
 use scan_base::{Fault, IfExists, Text};
 use std::alloc::{AllocError, Global};
 
@@ -51,7 +51,7 @@ fn differs(old: Option<&TableVersion>, put: &Put) -> bool
 }
 
 // Whether so many rows and those of the batches are more than a table may have.
-fn has_too_many_rows(stored: usize, batches: &[Batch]) -> bool
+fn has_too_many_rows(stored: usize, batches: &[MeasuredBatch]) -> bool
     requires { stored ≤ most_rows }
     ensures { result ≡ nat_lt most_rows (stored + length (flat_map rows_of batches.now)) }
 {
@@ -121,7 +121,7 @@ pub fn refusal(snapshot: &Snapshot, put: &Put) -> Option<Fault>
 fn appended(
     alloc: Global,
     old: &TableVersion,
-    batches: Vec<Batch>,
+    batches: Vec<MeasuredBatch>,
 ) -> Result<TableVersion, AllocError>
     requires typed { All (λ (batch : BatchAt). AreOfTypes old.now.schema.fields batch.columns)
         batches.items }
@@ -136,7 +136,11 @@ fn appended(
 }
 
 // A table of these batches alone.
-fn created(alloc: Global, schema: Schema, batches: Vec<Batch>) -> Result<TableVersion, AllocError>
+fn created(
+    alloc: Global,
+    schema: Schema,
+    batches: Vec<MeasuredBatch>,
+) -> Result<TableVersion, AllocError>
     requires storable { IsStorable schema batches.items }
     requires sound { AreSound schema.fields (flat_map rows_of batches.items) }
     requires few { length (flat_map rows_of batches.items) ≤ most_rows }

@@ -12,8 +12,8 @@ ghost use Rattle.table_versions.specs.Stored.{has_rows, kept};
 ghost use Rattle.table_versions.specs.Kept.{AreSound};
 
 use crate::placed_batch::PlacedBatch;
-use arrays::Batch;
 use arrow_schema::Schema;
+use batch_stats::MeasuredBatch;
 use shared_pages::Pages;
 use std::alloc::{AllocError, Global};
 use std::marker::Model;
@@ -53,7 +53,7 @@ impl GrowingTable {
     }
 
     // The table with one batch more behind its others.
-    fn with(self, alloc: Global, batch: Batch) -> Result<GrowingTable, AllocError>
+    fn with(self, alloc: Global, batch: MeasuredBatch) -> Result<GrowingTable, AllocError>
         requires filled { IsTrue (has_rows batch) }
         requires typed { AreOfTypes self.schema.fields batch.columns }
         requires sound { AreSound self.schema.fields (rows_of batch) }
@@ -79,7 +79,7 @@ impl GrowingTable {
     pub(crate) fn extended(
         self,
         alloc: Global,
-        batches: Vec<Batch>,
+        batches: Vec<MeasuredBatch>,
     ) -> Result<GrowingTable, AllocError>
         requires typed { All (λ (batch : BatchAt). AreOfTypes self.schema.fields batch.columns)
             batches.items }

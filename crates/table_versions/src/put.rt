@@ -6,8 +6,8 @@ ghost use Rattle.arrays.specs.Batch.{BatchAt};
 ghost use Rattle.arrays.specs.Typed.{AreOfTypes};
 ghost use Rattle.table_versions.specs.Stored.{put_of};
 
-use arrays::Batch;
 use arrow_schema::Schema;
+use batch_stats::MeasuredBatch;
 use scan_base::{IfExists, IfNotExist, Text};
 use std::marker::Model;
 
@@ -19,7 +19,7 @@ pub struct Put {
     pub(crate) if_not_exist: IfNotExist,
     pub(crate) if_exists: IfExists,
     pub(crate) schema: Schema,
-    pub(crate) batches: Vec<Batch>,
+    pub(crate) batches: Vec<MeasuredBatch>,
 }
 
 impl Model for Put {
@@ -47,7 +47,7 @@ impl Put {
         if_not_exist: IfNotExist,
         if_exists: IfExists,
         schema: Schema,
-        batches: Vec<Batch>,
+        batches: Vec<MeasuredBatch>,
     ) -> Put
         requires valid { IsSchema schema }
         requires typed { All (λ (batch : BatchAt). AreOfTypes schema.fields batch.columns)

@@ -14,6 +14,7 @@ use crate::growing::GrowingTable;
 use crate::placed_batch::PlacedBatch;
 use arrays::Batch;
 use arrow_schema::Schema;
+use batch_stats::MeasuredBatch;
 use shared_pages::Pages;
 use std::alloc::{AllocError, Global};
 use std::marker::Model;
@@ -87,6 +88,19 @@ impl TableVersion {
     /// The batch of a number, counted from 0. It has rows, and one column for each field, of the field's
     /// type. The rows of the batches, in order, are those of the table.
     pub fn batch(&self, index: usize) -> &Batch
+        requires { index < length self.now.batches }
+        ensures batch { slice_get self.now.batches index ≡ Some result.now }
+        ensures filled { 0 < result.now.rows }
+        ensures typed { AreOfTypes self.now.schema.fields result.now.columns }
+        ensures wide { length result.now.columns ≡ length self.now.schema.fields }
+        ensures few { length result.now.columns ≤ most_columns }
+        ensures sound { AreSound self.now.schema.fields (rows_of result.now) }
+    {
+        self.measured(index).batch()
+    }
+
+    /// The batch of a number with the statistics of its columns.
+    pub fn measured(&self, index: usize) -> &MeasuredBatch
         requires { index < length self.now.batches }
         ensures batch { slice_get self.now.batches index ≡ Some result.now }
         ensures filled { 0 < result.now.rows }

@@ -18,10 +18,11 @@ loop-batch-preserved c =
     let long = list_any is_long_text in
     let front = (split_at batches i batch (slice_get_read batches (length batches) i batch refl c.loop-batch-test.true c.batch-item.is)).0 in
     let short = c.if-is_long_batch.false in
-    let none = c.is_long_batch.ensures.stands short in
+    let none = rw c.batch.ensures at (c.is_long_batch.ensures.stands short) in
+    let told = rw c.batch.ensures at (sym c.is_long_batch.ensures.long ∙ short) in
     record {
       long = c.loop-batch.invariant.long ∙ ap (λ left. list_any long (flat_map rows_of left)) front
-          ∙ list_any-append long (rows_of batch) (flat_map rows_of (drop (i + 1) batches)) ∙ rw (sym c.is_long_batch.ensures.long ∙ short) refl;
+          ∙ list_any-append long (rows_of batch) (flat_map rows_of (drop (i + 1) batches)) ∙ rw told refl;
       stand = All-more Stands batches i batch c.loop-batch-test.true c.loop-batch.invariant.stand (subst Stands c.batch-item.is none);
     }
 

@@ -3,7 +3,7 @@ use Rattle.std.specs.Arc.{arc_value}
 use Rattle.table_versions.specs.Batches.{placed_table}
 use Rattle.table_versions.proofs.Placing.{batches, batch_there}
 use Rattle.table_versions.proofs.Storable.{IsBatch, batch_at}
-use Rattle.table_versions.proofs.table.TableVersion.batch.Goals as goal
+use Rattle.table_versions.proofs.table.TableVersion.measured.Goals as goal
 
 there : (c : goal.After-deref-2) → slice_get (batches (arc_value c.self.inside.batches)) c.args.index ≡ Some c.deref-2.result.now.batch
 there c = batch_there (arc_value c.self.inside.batches) c.args.index c.deref-2.result.now (rw (← c.deref-2.ensures) at (rw c.deref.ensures at c.get.ensures))
