@@ -33,8 +33,14 @@ pub fit_tree : (tree : Tree) → IsTypedTree tree → Fit (scans_of tree) (tree_
 fit_tree (scan table schema columns) typed = (typed, tt)
 fit_tree (filtered predicate tree) typed = fit_tree tree typed.1
 fit_tree (joined left right on) typed =
-    let (a, b, others) = typed in
+    let (a, b, alone, keys, span) = typed in
     fit_append (scans_of left) (scans_of right) (tree_schemas left) (tree_schemas right) (fit_tree left a) (fit_tree right b)
+
+pub fit_all : (tree : Tree) (scans : List Columns) (tables : List TableAt) → IsTypedTree tree → scans ≡ scans_of tree →
+    tree_schemas tree ≡ map (λ (table : TableAt). table.schema) tables → Fit scans (map (λ (table : TableAt). table.schema) tables)
+fit_all tree scans tables typed a b =
+    subst (λ (some : List Columns). Fit some (map (λ (table : TableAt). table.schema) tables)) (sym a)
+    (subst (λ (some : List Schema). Fit (scans_of tree) some) b (fit_tree tree typed))
 
 pub fit_long : (scans : List Columns) (tables : List TableAt) → Fit scans (map (λ (table : TableAt). table.schema) tables) → length scans ≡ length tables
 fit_long [] [] fit = refl
@@ -51,6 +57,12 @@ fit_at (c ∷ scans) (t ∷ tables) zero columns table fit h a b =
     subst (λ (one : Columns). IsTrue (has_columns (length table.schema.fields) one)) (sym a)
     (subst (λ (one : TableAt). IsTrue (has_columns (length one.schema.fields) c)) (sym b) fit.0)
 fit_at (c ∷ scans) (t ∷ tables) (suc i) columns table fit h a b = fit_at scans tables i columns table fit.1 (omega (arith, h)) a b
+
+-- what stands at a place of a list, and of what is made of it
+pub at_map : {X Y : Type 0} (f : X → Y) (xs : List X) (i : ℕ) (x : X) → i < length xs → x ≡ get_or xs i x → f x ≡ get_or (map f xs) i (f x)
+at_map f [] i x h is = absurd (omega (arith, h))
+at_map f (y ∷ ys) zero x h is = ap f is
+at_map f (y ∷ ys) (suc i) x h is = at_map f ys i x (omega (arith, h)) is
 
 -- what passes a test, all of it
 pub all_pass : {X : Type 0} (p : X → Bool) (xs : List X) → list_all p (filter p xs) ≡ true
@@ -72,6 +84,22 @@ module _ (parts : List (Pred ℕ)) (from to : ℕ) where
   abbrev pub end_at : ℕ → TableAt → ℕ
   end_at zero table = to
   end_at (suc place) table = length (table_of table).rows
+
+  pub begin_first : (place begin : ℕ) → place ≡ 0 → begin ≡ from → begin ≡ begin_at place
+  begin_first zero begin h is = is
+  begin_first (suc place) begin h is = absurd (omega (arith, h))
+
+  pub begin_other : (place begin : ℕ) → 0 < place → begin ≡ 0 → begin ≡ begin_at place
+  begin_other zero begin h is = absurd (omega (arith, h))
+  begin_other (suc place) begin h is = is
+
+  pub end_first : (place : ℕ) (table : TableAt) (end : ℕ) → place ≡ 0 → end ≡ to → end ≡ end_at place table
+  end_first zero table end h is = is
+  end_first (suc place) table end h is = absurd (omega (arith, h))
+
+  pub end_other : (place : ℕ) (table : TableAt) (end : ℕ) → 0 < place → end ≡ length (table_of table).rows → end ≡ end_at place table
+  end_other zero table end h is = absurd (omega (arith, h))
+  end_other (suc place) table end h is = is
 
   -- the lists of places, from this one on, where so many columns stand before theirs
   abbrev pub AreOpened : ℕ → ℕ → List Columns → List TableAt → List OpenedList → Type 0

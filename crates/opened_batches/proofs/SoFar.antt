@@ -189,9 +189,11 @@ module _ (parts : List (Pred ℕ)) (first : ℕ) (columns : Columns) (begin end 
         (λ k low high. let order = grows table.batches index k low in let within = in_all table.batches (k + 1) (omega (arith, high)) in
         ap (λ (b : Bool). b && list_all (λ (batch : BatchAt). all_can parts first (given_columns columns batch.columns)) (option_to_list (slice_get table.batches k)))
         (le-ltb (max (rows_before table.batches k) begin) (min (rows_before table.batches (k + 1)) end) (omega (arith, order, within, so_far.at, done, is_last)))) in
-        let all = in_all table.batches index so_far.inside in
-        (so_far.numbers ∙ sym rest, record {
-          can = record { there = so_far.within; counted = so_far.rows; few = omega (arith, so_far.few, so_far.at, all, few) };
-          from = so_far.from;
-          to = so_far.to;
-        })
+        let all = in_all table.batches index so_far.inside in (
+          so_far.numbers ∙ sym rest,
+          record {
+            can = record { there = so_far.within; counted = so_far.rows; few = omega (arith, so_far.few, so_far.at, all, few) };
+            from = so_far.from;
+            to = so_far.to;
+          },
+        )

@@ -70,9 +70,16 @@ pub fn opened_lists(
         let end = if place == 0 { to } else { table.rows() };
         let from = if place == 0 { from } else { 0 };
         lists.push(place_list(alloc, table, &filter, from, end)?)?;
-        first = first.checked_add(width).ok_or(AllocError)?;
+        first = column_behind(first, width)?;
     }
     Ok(lists)
+}
+
+// The number of the column behind so many. Columns that no number counts are more than memory holds.
+fn column_behind(first: usize, width: usize) -> Result<usize, AllocError>
+    ensures { IfOk result (λ behind. behind ≡ first + width) }
+{
+    first.checked_add(width).ok_or(AllocError)
 }
 
 // The batches of a table with one of the rows `from` up to, not with, `to` in which each conjunct of a filter can be true. The
