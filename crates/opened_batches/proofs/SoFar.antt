@@ -1,6 +1,6 @@
 -- The list of the batches that are opened, as it grows.
-use Rattle.std.proofs.Common.{◌≡◌, ◌≤◌, ◌<◌, ◌⊎◌, inl, inr, ℕ, zero, suc, ◌+◌, ◌-◌, ◌==◌, ◌&&◌, ◌++◌, Bool, true, false, if◌then◌else◌, List, [], ◌∷◌, length, max, min, nat_lt, slice_get, Option, Some, refl, sym, ap, ◌∙◌, subst, arith, append-nil}
-use Rattle.std.specs.List.{filter, flat_map, list_all, range_with_len}
+use Rattle.std.proofs.Common.{◌≡◌, ◌≤◌, ◌<◌, ◌⊎◌, inl, inr, ℕ, ◌+◌, ◌-◌, ◌==◌, ◌&&◌, ◌++◌, Bool, true, false, if◌then◌else◌, List, [], ◌∷◌, length, max, min, nat_lt, slice_get, Option, Some, refl, sym, ap, ◌∙◌, arith}
+use Rattle.std.specs.List.{flat_map, list_all}
 use Rattle.std.specs.Option.{option_to_list}
 use Rattle.std.proofs.lemmas.Bool.{and_from, lt-ltb, le-ltb}
 use Rattle.std.proofs.Math.Dec.{eqb-suc-zero}
@@ -16,7 +16,7 @@ use Rattle.typed_plan.specs.declared.plan.Columns.{Columns}
 use Rattle.opened_batches.specs.declared.opened.OpenedList.{OpenedList}
 use Rattle.opened_batches.specs.Chosen.{are_within}
 use Rattle.opened_batches.specs.Listed.{IsListOf}
-use Rattle.opened_batches.specs.Narrow.{CanNarrow, batches_at, narrowed_from, narrowed_to}
+use Rattle.opened_batches.specs.Narrow.{batches_at, narrowed_from, narrowed_to}
 use Rattle.opened_batches.specs.Opened.{given_columns, has_row_in}
 use Rattle.opened_batches.specs.inside.Judged.{all_can, is_judged, judged_before}
 use Rattle.opened_batches.proofs.Judging.{passes, fails, none_behind, none_before}

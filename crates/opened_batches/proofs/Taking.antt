@@ -1,5 +1,5 @@
 -- Predicates that wait to be taken apart. The last one is taken first.
-use Rattle.std.proofs.Common.{Box, Global, ◌-◌, take, ◌≡◌, ◌≤◌, ◌<◌, ℕ, ◌+◌, List, [], ◌∷◌, ◌++◌, map, refl, sym, ap, ◌∙◌, arith, append_assoc, append-nil}
+use Rattle.std.proofs.Common.{Box, Global, ◌-◌, take, ◌≡◌, ◌<◌, ℕ, ◌+◌, List, [], ◌∷◌, ◌++◌, map, refl, sym, ap, ◌∙◌, arith, append_assoc, append-nil}
 use Rattle.std.proofs.lemmas.List.{map-append}
 use Rattle.scan_base.specs.Predicate.{Pred, conjunction, disjunction, negation, truth_test, comparing, between, membership, null_test, constant}
 use Rattle.scan_base.specs.declared.predicate.Predicate.{Predicate, And, And', Or', Not', Is', Compare, Between, In, IsNull, Constant}

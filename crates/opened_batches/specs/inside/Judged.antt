@@ -1,5 +1,5 @@
 -- Batches that are judged by some conjuncts.
-use Rattle.std.specs.Prelude.{ℕ, ◌-◌, Bool, ◌&&◌, List, length, slice_get}
+use Rattle.std.specs.Prelude.{ℕ, ◌-◌, Bool, ◌&&◌, List, slice_get}
 use Rattle.std.specs.List.{filter, list_all, range_with_len}
 use Rattle.std.specs.Option.{option_to_list}
 use Rattle.arrays.specs.Batch.{BatchAt}

@@ -1,6 +1,5 @@
-use Rattle.std.proofs.Common.{◌≡◌, ◌≤◌, ◌<◌, ◌+◌, ◌-◌, ℕ, List, Bor, length, map, min, ap, sym, ◌∙◌, subst, refl, arith}
+use Rattle.std.proofs.Common.{◌≡◌, ◌<◌, ◌+◌, ◌-◌, ℕ, Bor, length, map, min, ap, sym, ◌∙◌, subst, refl, arith}
 use Rattle.scan_base.specs.declared.predicate.Predicate.{Predicate}
-use Rattle.scan_base.specs.Predicate.{Pred}
 use Rattle.scan_base.specs.View.{pred_of}
 use Rattle.table_versions.specs.Stored.{table_of}
 use Rattle.opened_batches.specs.declared.opened.OpenedList.{OpenedList}

@@ -2,7 +2,6 @@ use Rattle.std.proofs.Common.{◌-◌, ℕ, List, slice_index_or, ap, sym, ◌�
 use Rattle.batch_stats.specs.Columns.{stats_if_there, stats_in}
 use Rattle.typed_plan.specs.declared.plan.Columns.{Columns}
 use Rattle.opened_batches.specs.Opened.{given_columns}
-use Rattle.typed_plan.specs.declared.plan.Columns.TheVariants.{These}
 use Rattle.std.proofs.Common.{subst, length, ◌&&◌}
 use Rattle.std.specs.Prelude.{IsTrue}
 use Rattle.rewrite.specs.Conjuncts.{is_between}

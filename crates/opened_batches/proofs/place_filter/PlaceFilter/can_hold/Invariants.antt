@@ -1,4 +1,4 @@
-use Rattle.std.proofs.Common.{◌≡◌, ◌-◌, drop, map}
+use Rattle.std.proofs.Common.{◌≡◌, drop, map}
 use Rattle.scan_base.specs.View.{pred_of}
 use Rattle.opened_batches.specs.Opened.{given_columns}
 use Rattle.opened_batches.specs.inside.Judged.{all_can}
