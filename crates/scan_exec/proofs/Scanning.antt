@@ -1,7 +1,9 @@
 -- A scan as contracts see it.
-use Rattle.std.proofs.Common.{◌≡◌, ◌≤◌, ◌<◌, ◌⊎◌, inl, inr, ℕ, zero, suc, ◌+◌, List, [], ◌∷◌, ◌++◌, length, map, take, drop, Option, Some, None, Result, Ok, Err, refl, sym, ap, ◌∙◌, subst, arith, length-append, length-take-le}
-use Rattle.std.specs.List.{last_or}
-use Rattle.std.proofs.lemmas.List.{map-append, length-map, take-append-drop, take-take}
+use Rattle.std.proofs.Common.{◌≡◌, ◌≤◌, ◌<◌, ◌⊎◌, inl, inr, ℕ, zero, suc, ◌+◌, ◌-◌, ◌==◌, true, List, [], ◌∷◌, ◌++◌, length, map, take, drop, get_or, Option, Some, None, option_map, Result, Ok, Err, refl, sym, ap, ◌∙◌, subst, arith, length-append, length-drop, length-take}
+use Rattle.std.specs.List.{last_or, list_all, range_with_len}
+use Rattle.std.proofs.lemmas.Bool.{and_parts, eqb-true}
+use Rattle.std.proofs.lemmas.List.{map-append, length-map, take_all}
+use Rattle.std.proofs.lemmas.List.FromFn.{length-range_with_len}
 use Rattle.std.proofs.lemmas.Simd.{map-map}
 use Rattle.arrow_schema.specs.declared.schema.Schema.{Schema}
 use Rattle.arrow_schema.specs.declared.data_type.DataType.{DataType}
@@ -9,12 +11,13 @@ use Rattle.arrays.specs.Batch.{BatchAt, rows_of}
 use Rattle.arrays.specs.Typed.{AreOf}
 use Rattle.scan_base.specs.Limits.{most_answer_rows}
 use Rattle.scan_base.specs.declared.fault.Fault.{Fault}
+use Rattle.scan_base.specs.declared.fault.Fault.TheVariants.{OutOfMemory, ResultTooLarge}
 use Rattle.table_versions.specs.Table.{Row}
 use Rattle.table_versions.proofs.Rowing.{length-rows_of}
 use Rattle.scan_exec.specs.declared.piece.Piece.{Piece}
-use Rattle.scan_exec.specs.Answering.{GivingAt, GivingOn, IsOfLast, GivesBatch, GivesNone, CountsNext, IsScan, of_rows, scan_at}
+use Rattle.scan_exec.specs.Answering.{GivingAt, GivingOn, IsOfLast, GivesBatch, GivesNone, CountsNext, IsScan, number_in, of_rows, renumbered, scan_at}
 use Rattle.scan_exec.specs.Running.{RowsAt, GoesOn, FindsPiece}
-use Rattle.scan_exec.specs.Scan.{ScanAt, BeginsWith, Continues, IsLatest, GivesRows, Gives}
+use Rattle.scan_exec.specs.Scan.{ScanAt, Continues, IsLatest, GivesRows, MayRefuse, Gives}
 use Rattle.scan_exec.proofs.JoinSteps.{as_many}
 
 -- a piece is a batch
@@ -35,80 +38,118 @@ gives_of before after piece finds =
 
 -- ---- what was opened
 
-take_whole : {X : Type 0} (xs ys : List X) (n : ℕ) → take (length xs + n) (xs ++ ys) ≡ xs ++ take n ys
-take_whole [] ys n = let e : 0 + n ≡ n = omega arith in ap (λ (m : ℕ). take m ys) e
-take_whole (x ∷ xs) ys n =
-    let e : suc (length xs) + n ≡ suc (length xs + n) = omega arith in
-    ap (λ (m : ℕ). take m (x ∷ (xs ++ ys))) e ∙ ap (λ rest. x ∷ rest) (take_whole xs ys n)
+-- a beginning begins a list, and a longer beginning
+begin_whole : {X : Type 0} (n : ℕ) (xs : List X) → take (length (take n xs)) xs ≡ take n xs
+begin_whole zero xs = refl
+begin_whole (suc n) [] = refl
+begin_whole (suc n) (x ∷ xs) = ap (λ rest. x ∷ rest) (begin_whole n xs)
 
-map_take : {X Y : Type 0} (f : X → Y) (n : ℕ) (xs : List X) → take n (map f xs) ≡ map f (take n xs)
-map_take f zero xs = refl
-map_take f (suc n) [] = refl
-map_take f (suc n) (x ∷ xs) = ap (λ rest. f x ∷ rest) (map_take f n xs)
+begin_longer : {X : Type 0} (n m : ℕ) (xs : List X) → n ≤ m → take (length (take n xs)) (take m xs) ≡ take n xs
+begin_longer zero m xs h = refl
+begin_longer (suc n) zero xs h = absurd (omega (arith, h))
+begin_longer (suc n) (suc m) [] h = refl
+begin_longer (suc n) (suc m) (x ∷ xs) h = ap (λ rest. x ∷ rest) (begin_longer n m xs (omega (arith, h)))
 
--- a list that begins with another, behind the same front
-begins_behind : (front : List (ℕ × ℕ)) (whole begin : List ℕ) → take (length begin) whole ≡ begin →
-    BeginsWith (front ++ map (λ batch. (0, batch)) whole) (front ++ map (λ batch. (0, batch)) begin)
-begins_behind front whole begin e =
-    let number : ℕ → ℕ × ℕ = λ batch. (0, batch) in
-    let size : length (front ++ map number begin) ≡ length front + length begin =
-    length-append front (map number begin) ∙ ap (λ (n : ℕ). length front + n) (length-map begin number) in
-    ap (λ (n : ℕ). take n (front ++ map number whole)) size ∙ take_whole front (map number whole) (length begin)
-    ∙ ap (λ (some : List (ℕ × ℕ)). front ++ some) (map_take number (length begin) whole ∙ ap (map number) e)
+-- the last of a beginning
+last_taken : (before : Option (ℕ × ℕ)) (xs : List (ℕ × ℕ)) (further i : ℕ) → further + i < length xs →
+    last_or before (take (further + (i + 1)) xs) ≡ Some (get_or (drop further xs) i (0, 0))
+last_taken before [] further i h = absurd (omega (arith, h))
+last_taken before (x ∷ xs) zero zero h = refl
+last_taken before (x ∷ xs) zero (suc i) h =
+    let e : zero + (suc i + 1) ≡ suc (zero + (i + 1)) = omega arith in
+    ap (λ (n : ℕ). last_or before (take n (x ∷ xs))) e ∙ last_taken (Some x) xs zero i (omega (arith, h))
+last_taken before (x ∷ xs) (suc further) i h =
+    let e : suc further + (i + 1) ≡ suc (further + (i + 1)) = omega arith in
+    ap (λ (n : ℕ). last_or before (take n (x ∷ xs))) e ∙ last_taken (Some x) xs further i (omega (arith, h))
+
+-- the last of numbers that are counted
+last_counted : (before : Option ℕ) (first n number : ℕ) → last_or before (range_with_len first (n + 1)) ≡ Some number → number ≡ first + n
+last_counted before first n number e = by n e
+  where
+    by : (n : ℕ) → last_or before (range_with_len first (n + 1)) ≡ Some number → number ≡ first + n
+    by zero e = let same : first ≡ number = cc in omega (arith, same)
+    by (suc n) e =
+        let shift : suc n + 1 ≡ suc (n + 1) = omega arith in
+        omega (arith, last_counted (Some first) (first + 1) n number (ap (λ (m : ℕ). last_or before (range_with_len first m)) (sym shift) ∙ e))
+
+take_counted : (first n k : ℕ) → k ≤ n → take k (range_with_len first n) ≡ range_with_len first k
+take_counted first n zero h = refl
+take_counted first zero (suc k) h = absurd (omega (arith, h))
+take_counted first (suc n) (suc k) h = ap (λ rest. first ∷ rest) (take_counted (first + 1) n k (omega (arith, h)))
 
 -- a batch of the first place
-abbrev of_first : ℕ → ℕ × ℕ
-of_first batch = (0, batch)
-
--- the batch that was opened last, behind others
-last_of : (before : Option (ℕ × ℕ)) (opened : List ℕ) (first number : ℕ) → last_or (Some first) opened ≡ Some number →
-    last_or (Some (of_first first)) (map of_first opened) ≡ Some (of_first number)
-last_of before [] first number e = ap with_zero e
-  where
-    with_zero : Option ℕ → Option (ℕ × ℕ)
-    with_zero (Some n) = Some (of_first n)
-    with_zero None = None
-last_of before (next ∷ opened) first number e = last_of before opened next number e
-
-last_behind : (before : Option (ℕ × ℕ)) (front : List (ℕ × ℕ)) (opened : List ℕ) (number : ℕ) → last_or None opened ≡ Some number →
-    last_or before (front ++ map of_first opened) ≡ Some (of_first number)
-last_behind before [] [] number e = cc
-last_behind before [] (first ∷ opened) number e = last_of before opened first number e
-last_behind before (pair ∷ front) opened number e = last_behind (Some pair) front opened number e
+first_place : (firsts : List (ℕ × ℕ)) (i : ℕ) → i < length firsts → list_all (λ (batch : ℕ × ℕ). batch.0 == 0) firsts ≡ true →
+    get_or firsts i (0, 0) ≡ (0, number_in firsts i)
+first_place [] i h all = absurd (omega (arith, h))
+first_place (batch ∷ firsts) zero h all =
+    let zero_is = eqb-true batch.0 0 (and_parts (batch.0 == 0) (list_all (λ (b : ℕ × ℕ). b.0 == 0) firsts) all).0 in
+    ap (λ (place : ℕ). (place, batch.1)) zero_is
+first_place (batch ∷ firsts) (suc i) h all =
+    first_place firsts i (omega (arith, h)) (and_parts (batch.0 == 0) (list_all (λ (b : ℕ × ℕ). b.0 == 0) firsts) all).1
 
 -- ---- a step of a scan
 
 module _ (schema : Schema) (batches : List (ℕ × ℕ)) (further : ℕ) (before after : GivingAt) (given now : ℕ) (is : IsScan before batches further given) where
-  abbrev front : List (ℕ × ℕ)
-  front = take further batches
+  abbrev firsts : List (ℕ × ℕ)
+  firsts = drop further batches
 
-  -- all batches
-  all_are : front ++ map of_first before.batches ≡ batches
-  all_are = ap (λ (some : List (ℕ × ℕ)). front ++ some) (sym is.first) ∙ take-append-drop further batches
+  abbrev count : ℕ
+  count = length batches - further
 
   continues : GivingOn before after → (was refused : Option Fault) → Continues (scan_at schema before batches further given was) (scan_at schema after batches further now refused)
   continues on was refused = record {
     schema = refl;
     types = on.types;
     batches = refl;
-    opening = begins_behind front after.opened before.opened on.opening;
-    opened = subst (λ (all : List (ℕ × ℕ)). BeginsWith all (front ++ map of_first after.opened))
-        (ap (λ (some : List ℕ). front ++ map of_first some) on.batches ∙ all_are)
-        (begins_behind front after.batches after.opened on.opened);
+    opening = begin_longer (further + length before.opened) (further + length after.opened) batches (omega (arith, grown));
+    opened = begin_whole (further + length after.opened) batches;
   }
+    where
+      grown : length before.opened ≤ length after.opened
+      grown = omega (arith, ap length on.opening, length-take (length before.opened) after.opened)
 
-  is_latest : (number : Option ℕ) → IsOfLast number after.opened → IsLatest number (front ++ map of_first after.opened)
-  is_latest None of = tt
-  is_latest (Some number) of = last_behind None front after.opened number of
+  -- the batches that were opened are counted
+  counted : GivingOn before after → (after.opened ≡ range_with_len 0 (length after.opened)) × (length after.opened ≤ count)
+  counted on =
+      let all : after.batches ≡ range_with_len 0 count = on.batches ∙ is.first in
+      let some : take (length after.opened) (range_with_len 0 count) ≡ after.opened =
+      ap (take (length after.opened)) (sym all) ∙ on.opened in
+      let few : length after.opened ≤ count =
+      omega (arith, ap length some, length-take (length after.opened) (range_with_len 0 count), length-range_with_len 0 count) in
+      (sym some ∙ take_counted 0 count (length after.opened) few, few)
+
+  is_latest : GivingOn before after → (number : Option ℕ) → IsOfLast number after.opened →
+      IsLatest (option_map (number_in firsts) number) (take (further + length after.opened) batches)
+  is_latest on None of = tt
+  is_latest on (Some number) of = by (length after.opened) refl
+    where
+      size : length firsts ≡ count
+      size = length-drop further batches
+
+      by : (n : ℕ) → length after.opened ≡ n → last_or None (take (further + length after.opened) batches) ≡ Some (0, number_in firsts number)
+      by zero e =
+          let none : after.opened ≡ [] = (counted on).0 ∙ ap (range_with_len 0) e in
+          let no : None ≡ Some number = ap (last_or None) (sym none) ∙ of in
+          cc
+      by (suc n) e =
+          let more : length after.opened ≡ n + 1 = omega (arith, e) in
+          let which : number ≡ 0 + n = last_counted None 0 n number (ap (last_or None) (sym ((counted on).0 ∙ ap (range_with_len 0) more)) ∙ of) in
+          let here : further + n < length batches = omega (arith, more, (counted on).1, is.there) in
+          let at : n ≡ number = omega (arith, which) in
+          ap (λ (m : ℕ). last_or None (take (further + m) batches)) more
+          ∙ last_taken None batches further n here
+          ∙ ap Some (first_place firsts n (omega (arith, size, here)) is.places ∙ ap (λ (i : ℕ). (0, number_in firsts i)) at)
 
   pub gives_rows : (batch : BatchAt) → CountsNext before given (Ok (Some batch)) after now →
       GivesRows (scan_at schema before batches further given None) batch (scan_at schema after batches further now None)
   gives_rows batch counts =
       let gives = counts.0 in
+      let with_number : Row → Option ℕ × Row = λ row. (gives.number, row) in
       record {
-        number = gives.number;
-        next = gives.next;
-        latest = is_latest gives.number gives.latest;
+        number = option_map (number_in firsts) gives.number;
+        next = ap (map (renumbered firsts)) gives.next ∙ map-append (renumbered firsts) (map with_number (rows_of batch)) after.ahead
+            ∙ ap (λ (some : List (Option ℕ × Row)). some ++ map (renumbered firsts) after.ahead) (map-map (renumbered firsts) with_number (rows_of batch));
+        latest = is_latest gives.on gives.number gives.latest;
         some = gives.some;
         few = gives.few;
         wide = as_many before.types batch.columns gives.typed;
@@ -123,10 +164,12 @@ module _ (schema : Schema) (batches : List (ℕ × ℕ)) (further : ℕ) (before
       scan_at schema after batches further now None ≡ record (scan_at schema before batches further given None) { opened = batches }
   ends_is ends same =
       let made : List DataType → List (Option ℕ × Row) → List (ℕ × ℕ) → ℕ → ScanAt = λ types ahead opened given.
-      record { schema = schema; types = types; ahead = ahead; batches = batches; opened = opened; given = given; refused = None } in
-      ap (λ (types : List DataType). made types after.ahead (front ++ map of_first after.opened) now) ends.on.types
-      ∙ ap (λ (ahead : List (Option ℕ × Row)). made before.types ahead (front ++ map of_first after.opened) now) (ends.still ∙ sym ends.none)
-      ∙ ap (λ (opened : List (ℕ × ℕ)). made before.types before.ahead opened now) (ap (λ (some : List ℕ). front ++ map of_first some) ends.all ∙ all_are)
+      record { schema = schema; types = types; ahead = map (renumbered firsts) ahead; batches = batches; opened = opened; given = given; refused = None } in
+      let size : length after.opened ≡ count = ap length (ends.all ∙ is.first) ∙ length-range_with_len 0 count in
+      let whole : take (further + length after.opened) batches ≡ batches = take_all (further + length after.opened) batches (omega (arith, size)) in
+      ap (λ (types : List DataType). made types after.ahead (take (further + length after.opened) batches) now) ends.on.types
+      ∙ ap (λ (ahead : List (Option ℕ × Row)). made before.types ahead (take (further + length after.opened) batches) now) (ends.still ∙ sym ends.none)
+      ∙ ap (λ (opened : List (ℕ × ℕ)). made before.types before.ahead opened now) whole
       ∙ ap (made before.types before.ahead batches) same
 
   -- what a call gives
@@ -139,20 +182,27 @@ module _ (schema : Schema) (batches : List (ℕ × ℕ)) (further : ℕ) (before
   gave view refused None v n counts =
       subst (λ (s : ScanAt). Gives s (Ok None) (scan_at schema after batches further now refused)) v
       (subst (λ (r : Option Fault). Gives (scan_at schema before batches further given r) (Ok None) (scan_at schema after batches further now r)) (sym n)
-      (counts.0.none, ends_is counts.0 counts.1))
+      (ap (map (renumbered firsts)) counts.0.none, ends_is counts.0 counts.1))
 
   pub refuses : (view : ScanAt) (refused : Option Fault) (fault : Fault) → scan_at schema before batches further given refused ≡ view → refused ≡ None →
       CountsNext before given (Err fault) after now → Gives view (Err fault) (scan_at schema after batches further now (Some fault))
   refuses view refused fault v n counts =
       subst (λ (s : ScanAt). Gives s (Err fault) (scan_at schema after batches further now (Some fault))) v
       (subst (λ (r : Option Fault). Gives (scan_at schema before batches further given r) (Err fault) (scan_at schema after batches further now (Some fault))) (sym n)
-      (counts.2, refl, continues counts.0 None (Some fault)))
+      (may counts.2, refl, continues counts.0 None (Some fault)))
+    where
+      -- as many rows are to come, whatever their numbers
+      may : (fault ≡ OutOfMemory) ⊎ ((fault ≡ ResultTooLarge) × (most_answer_rows < given + length before.ahead)) →
+          MayRefuse (scan_at schema before batches further given None) fault
+      may (inl memory) = inl memory
+      may (inr large) = inr (large.0, omega (arith, large.1, length-map before.ahead (renumbered firsts)))
 
   -- what holds afterwards
   pub still_scan : GivingOn before after → now ≤ most_answer_rows → IsScan after batches further now
   still_scan on few = record {
     there = is.there;
-    first = is.first ∙ ap (map of_first) (sym on.batches);
+    first = on.batches ∙ is.first;
+    places = is.places;
     front = on.opened;
     few = few;
   }
@@ -165,16 +215,3 @@ batch_few before batch after gives =
     let both = length-append (map with_number (rows_of batch)) after.ahead in
     let size = length-map (rows_of batch) with_number in
     omega (arith, long, both, size, length-rows_of batch)
-
--- those that were opened are the first ones
-pub opened_are : (giving : GivingAt) (batches : List (ℕ × ℕ)) (further given count : ℕ) → IsScan giving batches further given → count ≡ length giving.opened →
-    take (further + count) batches ≡ take further batches ++ map of_first giving.opened
-opened_are giving batches further given count is e =
-    let front = take further batches in
-    let long : length front ≡ further = length-take-le further batches is.there in
-    let whole = take_whole front (drop further batches) count in
-    ap (take (further + count)) (sym (take-append-drop further batches))
-    ∙ ap (λ (n : ℕ). take (n + count) (front ++ drop further batches)) (sym long) ∙ whole
-    ∙ ap (λ (some : List (ℕ × ℕ)). front ++ take count some) is.first
-    ∙ ap (λ (some : List (ℕ × ℕ)). front ++ some) (map_take of_first count giving.batches
-    ∙ ap (map of_first) (ap (λ (n : ℕ). take n giving.batches) e ∙ is.front))

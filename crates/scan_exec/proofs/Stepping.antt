@@ -7,13 +7,13 @@ use Rattle.arrays.specs.Batch.{BatchAt, rows_of, cut_batch, BatchSlicesKeepRows}
 use Rattle.arrays.specs.Typed.{AreOf}
 use Rattle.typed_plan.specs.Typed.{types_of}
 use Rattle.scan_base.specs.Limits.{most_rows}
-use Rattle.table_versions.specs.declared.table.BatchPlace.{BatchPlace}
 use Rattle.table_versions.specs.Stored.{TableAt, table_of}
-use Rattle.table_versions.specs.Standing.{rows_before, BatchesAreRows, StandsIn}
+use Rattle.table_versions.specs.Standing.{rows_before, BatchesAreRows}
 use Rattle.typed_plan.specs.Joined.{rows_between}
 use Rattle.scan_exec.specs.declared.cursor.Cursor.{Cursor}
 use Rattle.scan_exec.specs.declared.cursor.Part.{Part}
 use Rattle.array_select.specs.Room.{most_batch_rows}
+use Rattle.scan_exec.specs.Narrow.{BeginsInFirst}
 use Rattle.scan_exec.specs.Opened.{batches_in}
 use Rattle.scan_exec.specs.Placed.{IsPlaced, IsPart, Opens}
 use Rattle.scan_exec.proofs.Batched.{rows_next}
@@ -165,29 +165,15 @@ module _ (table : TableAt) (cursor : Cursor) (is : IsPlaced table cursor) (more 
           }
 
 -- before the first row of a range
-pub placed_first : (table : TableAt) (from to : ℕ) (place : BatchPlace) → from < to → to ≤ length (table_of table).rows → StandsIn table from place →
-    IsPlaced table (record { from = from; to = to; at = from; batch = place.index; start = place.start; opened = 0 })
-placed_first table from to place more few stands = record {
-  begun = omega arith;
-  ordered = omega (arith, more);
-  few = λ _. few;
-  start = stands.start;
-  behind = λ _. stands.behind;
-  within = λ _. inr stands.before;
-  filled = stands.filled;
-  opened = ap length (sym (none_in from from table.batches (omega arith)));
-}
-
--- a range of no rows
-pub placed_nowhere : (table : TableAt) (from to : ℕ) → from ≤ to → to ≤ from →
+pub placed_first : (table : TableAt) (from to : ℕ) → from ≤ to → (from < to → to ≤ length (table_of table).rows) → BeginsInFirst from table.batches →
     IsPlaced table (record { from = from; to = to; at = from; batch = 0; start = 0; opened = 0 })
-placed_nowhere table from to ordered none = record {
+placed_first table from to ordered few first = record {
   begun = omega arith;
   ordered = ordered;
-  few = λ more. absurd (omega (arith, more, none));
-  behind = λ more. absurd (omega (arith, more, none));
+  few = few;
   start = refl;
-  within = λ more. absurd (omega (arith, more, none));
+  behind = λ _. omega arith;
+  within = λ _. first;
   filled = omega arith;
   opened = ap length (sym (none_in from from table.batches (omega arith)));
 }

@@ -1,5 +1,6 @@
 -- Inside: what a scan still has to give, of rows or of groups.
-use Rattle.std.specs.Prelude.{◌≡◌, ◌≤◌, ◌<◌, ◌⊎◌, ℕ, ◌+◌, List, ◌++◌, length, map, take, drop, Option, Some, None, Result, Ok, Err}
+use Rattle.std.specs.Prelude.{◌≡◌, ◌≤◌, ◌<◌, ◌⊎◌, ℕ, ◌+◌, ◌-◌, IsTrue, ◌==◌, List, ◌++◌, length, map, take, drop, get_or, Option, Some, None, option_map, Result, Ok, Err}
+use Rattle.std.specs.List.{list_all, range_with_len}
 use Rattle.arrays.specs.Batch.{BatchAt}
 use Rattle.arrow_schema.specs.Answer.{answer_type}
 use Rattle.typed_plan.specs.declared.plan.Output.{Output}
@@ -35,22 +36,32 @@ CountsNext before given (Ok None) after now = GivesNone before after × (now ≡
 CountsNext before given (Err fault) after now = GivingOn before after × (now ≤ most_answer_rows)
     × ((fault ≡ OutOfMemory) ⊎ ((fault ≡ ResultTooLarge) × (most_answer_rows < given + length before.ahead)))
 
+-- the number that a batch of the first place has in its table, by its number among those that are opened
+abbrev pub number_in : List (ℕ × ℕ) → ℕ → ℕ
+number_in firsts number = (get_or firsts number (0, 0)).1
+
+-- a row with the number of its batch in its table
+abbrev pub renumbered : List (ℕ × ℕ) → Option ℕ × Row → Option ℕ × Row
+renumbered firsts row = (option_map (number_in firsts) row.0, row.1)
+
 -- a scan as contracts see it, over the batches that it opens: those of the further places are the first `further` ones
 abbrev pub scan_at : Schema → GivingAt → List (ℕ × ℕ) → ℕ → ℕ → Option Fault → ScanAt
 scan_at schema giving batches further given refused = record {
   schema = schema;
   types = giving.types;
-  ahead = giving.ahead;
+  ahead = map (renumbered (drop further batches)) giving.ahead;
   batches = batches;
-  opened = take further batches ++ map (λ batch. (0, batch)) giving.opened;
+  opened = take (further + length giving.opened) batches;
   given = given;
   refused = refused;
 }
 
--- what holds of a scan: its list of batches ends with those of the first place, and no more rows were given than may be
+-- what holds of a scan: its list of batches ends with those of the first place, which are all opened in turn, and no more
+-- rows were given than may be
 pub record IsScan (giving : GivingAt) (batches : List (ℕ × ℕ)) (further given : ℕ) : Type 0 where
   pub there : further ≤ length batches
-  pub first : drop further batches ≡ map (λ batch. (0, batch)) giving.batches
+  pub first : giving.batches ≡ range_with_len 0 (length batches - further)
+  pub places : IsTrue (list_all (λ (batch : ℕ × ℕ). batch.0 == 0) (drop further batches))
   pub front : take (length giving.opened) giving.batches ≡ giving.opened
   pub few : given ≤ most_answer_rows
 

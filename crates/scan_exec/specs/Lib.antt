@@ -15,3 +15,4 @@ pub mod Shown
 pub mod Showing
 pub mod Collected
 pub mod Grouped
+pub mod Narrow

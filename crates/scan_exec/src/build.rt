@@ -10,8 +10,10 @@ ghost use Rattle.typed_plan.specs.View.{tree_of};
 ghost use Rattle.scan_exec.specs.Begun.{IsBegun, IsSourced, sourced_at};
 ghost use Rattle.scan_exec.specs.Given.{first_batches};
 ghost use Rattle.scan_exec.specs.Joined.{source_at};
+ghost use Rattle.scan_exec.specs.Narrow.{BeginsInFirst};
 
 use crate::join_source::{Sides, join_source};
+use crate::opened_table::OpenedTable;
 use crate::picker::Picker;
 use crate::rows::{Rows, Source};
 use crate::scan_source::scan_source;
@@ -20,7 +22,6 @@ use arrow_schema::DataType;
 use hash_seed::HashSeed;
 use scan_base::Predicate;
 use std::alloc::{AllocError, Global};
-use table_versions::TableVersion;
 use typed_plan::Plan;
 use typed_plan::laws::typed_predicates_name_columns;
 
@@ -41,16 +42,17 @@ pub(crate) struct Reading {
     pub(crate) to: usize,
 }
 
-// What gives the rows of a plan over a range of its first place. The tables are those of its places, in order. The further
-// places are read here.
+// What gives the rows of a plan over a range of its first place, which begins in the first batch that is read. The tables are
+// those of its places, in order. The further places are read here.
 pub(crate) fn build(
     alloc: Global,
     plan: Plan,
-    tables: Vec<TableVersion>,
+    tables: Vec<OpenedTable>,
     reading: Reading,
 ) -> Result<Sourced, AllocError>
     requires typed { IsTypedTree (tree_of plan) }
     requires schemas { tree_schemas (tree_of plan) ≡ map (λ (table : TableAt). table.schema) tables.items }
+    requires first { BeginsInFirst reading.from (first_batches tables.items) }
     ensures sourced { IfOk result IsSourced }
     ensures begun { IfOk result (λ made. IsBegun (tree_of plan) tables.items reading.from reading.to (sourced_at made)) }
     ensures few { IfOk result (λ made. is_place (tree_of plan) ≡ true →

@@ -2,13 +2,14 @@
 
 ghost use Rattle.std.specs.Prelude.{◌≡◌, ◌≤◌, ◌<◌, length};
 ghost use Rattle.table_versions.specs.Stored.{table_of};
+ghost use Rattle.scan_exec.specs.Narrow.{BeginsInFirst};
 ghost use Rattle.scan_exec.specs.Placed.{IsPlaced, IsPart, Begins, Opens};
 
+use crate::opened_table::OpenedTable;
 use array_select::MOST_BATCH_ROWS;
 use arrays::Batch;
 use arrays::laws::batch_slices_keep_rows;
 use table_versions::laws::batches_are_rows;
-use table_versions::{BatchPlace, TableVersion};
 
 // The rows `from` up to, not with, `to` of a batch.
 #[derive(Clone, Copy, Drop)]
@@ -33,30 +34,26 @@ pub(crate) struct Cursor {
 }
 
 impl Cursor {
-    // Before the rows `from` up to, not with, `to` of a table.
-    pub(crate) fn new(table: &TableVersion, from: usize, to: usize) -> Cursor
+    // Before the rows `from` up to, not with, `to` of a table, of which the first is one of its first batch.
+    pub(crate) fn new(table: &OpenedTable, from: usize, to: usize) -> Cursor
         requires ordered { from ≤ to }
         requires within { from < to → to ≤ length (table_of table.now).rows }
+        requires first { BeginsInFirst from table.now.batches }
         ensures placed { IsPlaced table.now result }
         ensures begins { Begins from to result }
     {
-        let place = if from < to {
-            table.batch_of(from)
-        } else {
-            BatchPlace { index: 0, start: 0 }
-        };
         Cursor {
             from,
             to,
             at: from,
-            batch: place.index,
-            start: place.start,
+            batch: 0,
+            start: 0,
             opened: 0,
         }
     }
 
     // The next rows of the range that stand in one batch, as many as are looked at at once. The cursor goes on behind them.
-    pub(crate) fn open<'a>(&mut self, table: &'a TableVersion) -> Part<'a>
+    pub(crate) fn open<'a>(&mut self, table: &'a OpenedTable) -> Part<'a>
         requires more { self.old.at < self.old.to }
         requires placed { IsPlaced table.now self.old }
         ensures placed { IsPlaced table.now self.new }

@@ -1,91 +1,96 @@
 //! Which batches a scan opens.
 
-ghost use Rattle.std.specs.Prelude.{◌≡◌, ◌<◌, ◌≤◌, ◌++◌, All, IfOk, OnOk, drop, length, map};
-ghost use Rattle.std.specs.List.{flat_map, range_with_len};
+ghost use Rattle.std.specs.Prelude.{◌≡◌, ◌<◌, ◌≤◌, ◌+◌, ◌-◌, ◌∷◌, ◌++◌, [], All, List, IfOk, OnOk, IsTrue, length, map, min};
+ghost use Rattle.std.specs.List.{flat_map};
 ghost use Rattle.arrays.specs.Batch.{rows_of};
 ghost use Rattle.scan_base.specs.Limits.{most_rows};
+ghost use Rattle.scan_base.specs.View.{pred_of};
+ghost use Rattle.table_versions.specs.Standing.{rows_before};
 ghost use Rattle.table_versions.specs.Stored.{table_of};
-ghost use Rattle.scan_exec.specs.Given.{first_batches};
+ghost use Rattle.typed_plan.specs.Typed.{has_columns};
+ghost use Rattle.typed_plan.specs.View.{tree_of, plan_of};
+ghost use Rattle.scan_exec.specs.Narrow.{CanNarrow, narrowed_from, narrowed_to};
+ghost use Rattle.scan_exec.specs.Opened.{further_opened, numbered_batches, place_opened};
 ghost use Rattle.scan_exec.specs.Showing.{IsShort};
-ghost use Rattle.scan_exec.specs.Opened.{batches_in, first_opened, further_batches};
 
+use crate::place_filter::PlaceFilter;
 use std::alloc::{AllocError, Global};
-use table_versions::TableVersion;
 use table_versions::laws::batches_are_rows;
+use table_versions::{BatchPlace, TableVersion};
 
-// The batches that are opened, and how many of them are of the further places.
+// What is read of a table: the numbers of batches, how many rows these have in all, and which of these rows.
 #[derive(Drop)]
-pub(crate) struct OpenedList {
-    pub(crate) batches: Vec<(usize, usize)>,
-    pub(crate) further: usize,
+pub(crate) struct PlaceList {
+    pub(crate) numbers: Vec<usize>,
+    pub(crate) rows: usize,
+    pub(crate) from: usize,
+    pub(crate) to: usize,
 }
 
-// The batches that a scan of the rows `from` up to, not with, `to` of the first place opens.
-pub(crate) fn listed(
+// The batches of a table with one of the rows `from` up to, not with, `to` that can hold a row that is kept. The first is
+// looked for by halves.
+pub(crate) fn place_list(
     alloc: Global,
-    tables: &[TableVersion],
+    table: &TableVersion,
+    filter: &PlaceFilter<'_>,
     from: usize,
     to: usize,
-) -> Result<OpenedList, AllocError>
-    requires { 0 < length tables.now }
-    ensures batches { IfOk result (λ listed. listed.batches.items ≡ further_batches tables.now ++ first_opened from to tables.now) }
-    ensures further { IfOk result (λ listed. listed.further ≡ length (further_batches tables.now)) }
-    ensures short { IfOk result (λ _. All IsShort tables.now) }
-    ensures few { IfOk result (λ _. length (flat_map rows_of (first_batches tables.now)) ≤ most_rows) }
+) -> Result<PlaceList, AllocError>
+    requires { IsTrue (has_columns (length table.now.schema.fields) filter.now.columns.now) }
+    ensures numbers { IfOk result (λ list. list.numbers.items
+        ≡ place_opened (filter_parts filter.now) filter.now.first filter.now.columns.now from to table.now) }
+    ensures can { IfOk result (λ list. CanNarrow table.now list.numbers.items list.rows) }
+    ensures from { IfOk result (λ list. list.from ≡ narrowed_from from table.now.batches list.numbers.items) }
+    ensures to { IfOk result (λ list. list.to ≡ narrowed_to to table.now.batches list.numbers.items) }
+    ensures short { IfOk result (λ _. IsShort table.now) }
 {
-    let mut batches = further_list(alloc, tables)?;
-    let further = batches.len();
-    push_first(&mut batches, &tables[0], from, to)?;
-    Ok(OpenedList { batches, further })
-}
-
-// All batches of a place, behind others.
-fn push_all(list: &mut Vec<(usize, usize)>, place: usize, count: usize) -> Result<(), AllocError>
-    ensures { OnOk result (list.new.items ≡ list.old.items ++ map (λ batch. (place, batch)) (range_with_len 0 count)) }
-{
-    for batch in 0..count {
-        list.push((place, batch))?;
+    batches_are_rows();
+    let mut list = PlaceList {
+        numbers: Vec::new(alloc),
+        rows: 0,
+        from: 0,
+        to: 0,
+    };
+    let end = to.min(table.rows());
+    if from >= end {
+        return Ok(list);
     }
-    Ok(())
-}
-
-// All batches of the further places.
-fn further_list(alloc: Global, tables: &[TableVersion]) -> Result<Vec<(usize, usize)>, AllocError>
-    ensures batches { IfOk result (λ list. list.items ≡ further_batches tables.now) }
-    ensures short { IfOk result (λ _. All IsShort (drop 1 tables.now)) }
-{
-    let mut list = Vec::new(alloc);
-    for place in 1..tables.len() {
-        let table = &tables[place];
-        let _most = table.rows();
-        push_all(&mut list, place, table.batch_count())?;
+    let mut place = table.batch_of(from);
+    while place.start < end {
+        let batch = table.measured(place.index);
+        let rows = batch.rows();
+        if filter.can_hold(batch) {
+            list.push(place, rows, from, end)?;
+        }
+        place.start += rows;
+        place.index += 1;
     }
     Ok(list)
 }
 
-// The batches of a table with one of the rows `from` up to, not with, `to`, as those of place 0, behind others. The first is
-// looked for by halves.
-fn push_first(
-    list: &mut Vec<(usize, usize)>,
-    table: &TableVersion,
-    from: usize,
-    to: usize,
-) -> Result<(), AllocError>
-    ensures batches { OnOk result (list.new.items ≡ list.old.items ++ map (λ batch. (0, batch)) (batches_in from to table.now.batches)) }
-    ensures short { IsShort table.now }
-    ensures few { length (table_of table.now).rows ≤ most_rows }
-{
-    batches_are_rows();
-    let end = to.min(table.rows());
-    if from >= end {
-        return Ok(());
+impl PlaceList {
+    // A batch more, of which the rows `from` up to, not with, `end` of the table are read.
+    fn push(
+        &mut self,
+        place: BatchPlace,
+        rows: usize,
+        from: usize,
+        end: usize,
+    ) -> Result<(), AllocError>
+        requires before { place.start < end }
+        requires rows { self.old.rows + rows < 2 ^ 64 }
+        requires to { self.old.to ≤ self.old.rows }
+        ensures numbers { OnOk result (self.new.numbers.items ≡ self.old.numbers.items ++ place.index ∷ []) }
+        ensures rows { OnOk result (self.new.rows ≡ self.old.rows + rows) }
+        ensures to { OnOk result (self.new.to ≡ self.old.to + min rows (end - place.start)) }
+        ensures from { OnOk result (self.new.from ≡ begun_at self.old.numbers.items self.old.from (from - place.start)) }
+    {
+        if self.numbers.is_empty() {
+            self.from = from.saturating_sub(place.start);
+        }
+        self.numbers.push(place.index)?;
+        self.rows += rows;
+        self.to += rows.min(end - place.start);
+        Ok(())
     }
-    let place = table.batch_of(from);
-    let (mut index, mut start) = (place.index, place.start);
-    while start < end {
-        list.push((0, index))?;
-        start += table.batch(index).rows();
-        index += 1;
-    }
-    Ok(())
 }

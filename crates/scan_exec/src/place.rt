@@ -7,15 +7,15 @@ ghost use Rattle.scan_exec.specs.Running.{FindsNext, picked_of};
 ghost use Rattle.scan_exec.specs.Sources.{place_at};
 
 use crate::cursor::Cursor;
+use crate::opened_table::OpenedTable;
 use crate::picker::Picker;
 use crate::piece::Piece;
 use array_select::Selection;
 use std::alloc::{AllocError, Global};
-use table_versions::TableVersion;
 
 // A table, and where a scan of a range of its rows has come to.
 pub(crate) struct PlaceRows {
-    pub(crate) table: TableVersion,
+    pub(crate) table: OpenedTable,
     pub(crate) cursor: Cursor,
 }
 

@@ -9,25 +9,27 @@ ghost use Rattle.typed_plan.specs.Typed.{has_columns, type_at, types_of};
 ghost use Rattle.scan_exec.specs.Begun.{IsBegun, IsSourced, sourced_at};
 ghost use Rattle.scan_exec.specs.Chosen.{are_within};
 ghost use Rattle.scan_exec.specs.Joined.{source_at};
+ghost use Rattle.scan_exec.specs.Narrow.{BeginsInFirst};
 
 use crate::build::{Reading, Sourced};
 use crate::columns::{numbers_below, picked};
 use crate::cursor::Cursor;
+use crate::opened_table::OpenedTable;
 use crate::place::PlaceRows;
 use crate::rows::Source;
 use arrow_schema::{DataType, Field};
 use std::alloc::{AllocError, Global};
-use table_versions::TableVersion;
 use typed_plan::Columns;
 
 // What gives these columns of the rows of a table that are read.
 pub(crate) fn scan_source(
     alloc: Global,
     columns: &Columns,
-    table: TableVersion,
+    table: OpenedTable,
     reading: Reading,
 ) -> Result<Sourced, AllocError>
-    requires { IsTrue (has_columns (length table.schema.fields) columns.now) }
+    requires there { IsTrue (has_columns (length table.schema.fields) columns.now) }
+    requires first { BeginsInFirst reading.from table.batches }
     ensures sourced { IfOk result IsSourced }
     ensures begun { IfOk result (λ made. (name : Name) →
         IsBegun (scan name table.schema columns.now) (table ∷ []) reading.from reading.to (sourced_at made)) }

@@ -1,0 +1,6 @@
+pub mod Taking
+pub mod GivenColumns
+pub mod Judging
+pub mod Standing
+pub mod SoFar
+pub mod Places

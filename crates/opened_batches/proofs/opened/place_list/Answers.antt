@@ -1,0 +1,85 @@
+use Rattle.std.proofs.Common.{◌≡◌, ◌<◌, ◌+◌, ◌-◌, ℕ, Bor, length, map, min, ap, sym, ◌∙◌, subst, refl, arith}
+use Rattle.scan_base.specs.declared.predicate.Predicate.{Predicate}
+use Rattle.scan_base.specs.View.{pred_of}
+use Rattle.table_versions.specs.Stored.{table_of}
+use Rattle.opened_batches.specs.declared.opened.OpenedList.{OpenedList}
+use Rattle.opened_batches.proofs.SoFar.{IsSoFar, begun, nothing, fits, passed, listed, all_listed}
+use Rattle.opened_batches.proofs.opened.place_list.Goals.{then-can_hold+in_ok-push, else-can_hold}
+use Rattle.opened_batches.proofs.opened.place_list.Goals as goal
+
+pub returns-then-from-end-clause-numbers : goal.returns-then-from-end-clause-numbers
+returns-then-from-end-clause-numbers c =
+    let place = c.args.filter.now.place in
+    c.new.ensures.items
+    ∙ nothing (map (λ (part : Bor (Predicate ℕ)). pred_of part.now) c.args.filter.now.parts.items) place.first place.columns.now c.args.from c.args.to c.args.table.now
+    (omega (arith, c.min-end.ensures, c.rows.ensures.rows, c.if-from-end.true))
+
+pub loop-place-init : goal.loop-place-init
+loop-place-init c =
+    let place = c.args.filter.now.place in
+    let at = c.batch_of-place in
+    begun (map (λ (part : Bor (Predicate ℕ)). pred_of part.now) c.args.filter.now.parts.items) place.first place.columns.now c.args.from c.args.to c.args.table.now
+    at.result.index at.result.start _ c.new.ensures.items refl refl refl at.ensures.start at.ensures.behind at.ensures.before at.ensures.filled (omega (arith, at.ensures.there))
+
+pub push-requires-clause-rows : goal.push-requires-clause-rows
+push-requires-clause-rows c =
+    let place = c.args.filter.now.place in
+    let at = c.loop-place.place in
+    let batch = c.measured-batch in
+    let most = fits (map (λ (part : Bor (Predicate ℕ)). pred_of part.now) c.args.filter.now.parts.items) place.first place.columns.now c.args.from c.args.to c.args.table.now
+    c.batches_are_rows.ensures at.index at.start c.min-end.result c.loop-place.list c.loop-place.invariant
+    (c.min-end.ensures ∙ ap (λ (n : ℕ). min c.args.to n) c.rows.ensures.rows) batch.result.now batch.ensures.batch batch.ensures.filled
+    (omega (arith, c.if-from-end.false)) c.loop-place-test.true in
+    omega (arith, most, c.rows-rows.ensures, c.loop-place.invariant.few, c.rows.ensures.rows, c.rows.ensures.few)
+
+pub overflow_add-place : goal.overflow_add-place
+overflow_add-place c =
+    let place = c.args.filter.now.place in
+    let at = c.loop-place.place in
+    let batch = c.measured-batch in
+    let most = fits (map (λ (part : Bor (Predicate ℕ)). pred_of part.now) c.args.filter.now.parts.items) place.first place.columns.now c.args.from c.args.to c.args.table.now
+    c.batches_are_rows.ensures at.index at.start c.min-end.result c.loop-place.list c.loop-place.invariant
+    (c.min-end.ensures ∙ ap (λ (n : ℕ). min c.args.to n) c.rows.ensures.rows) batch.result.now batch.ensures.batch batch.ensures.filled
+    (omega (arith, c.if-from-end.false)) c.loop-place-test.true in
+    omega (arith, most, c.rows-rows.ensures, c.rows.ensures.rows, c.rows.ensures.few)
+
+pub loop-place-preserved : goal.loop-place-preserved
+loop-place-preserved c =
+    let place = c.args.filter.now.place in
+    let parts = map (λ (part : Bor (Predicate ℕ)). pred_of part.now) c.args.filter.now.parts.items in
+    let table = c.args.table.now in
+    let at = c.loop-place.place in
+    let batch = c.measured-batch in
+    let last : c.min-end.result ≡ min c.args.to (length (table_of table).rows) = c.min-end.ensures ∙ ap (λ (n : ℕ). min c.args.to n) c.rows.ensures.rows in
+    let before : c.args.from < c.min-end.result = omega (arith, c.if-from-end.false) in
+    subst (λ (n : ℕ). IsSoFar parts place.first place.columns.now c.args.from c.args.to table (at.index + 1) (at.start + n) c.if-can_hold.list) (sym c.rows-rows.ensures)
+    (elim c.if-can_hold.branch [
+      | then-can_hold+in_ok-push w ↦
+          subst (λ (list : OpenedList). IsSoFar parts place.first place.columns.now c.args.from c.args.to table (at.index + 1) (at.start + batch.result.now.rows) list) (sym w.list-is)
+          (listed parts place.first place.columns.now c.args.from c.args.to table c.batches_are_rows.ensures at.index at.start c.min-end.result c.loop-place.list
+          c.loop-place.invariant last batch.result.now batch.ensures.batch batch.ensures.filled before c.loop-place-test.true c.can_hold.result c.can_hold.ensures
+          w.if-can_hold.true w.push.new.self w.in_ok-push.ensures.numbers
+          (w.in_ok-push.ensures.rows ∙ ap (λ (n : ℕ). c.loop-place.list.rows + n) c.rows-rows.ensures) w.in_ok-push.ensures.from
+          (w.in_ok-push.ensures.to ∙ ap (λ (n : ℕ). c.loop-place.list.to + min n (c.min-end.result - at.start)) c.rows-rows.ensures))
+      | else-can_hold w ↦
+          subst (λ (list : OpenedList). IsSoFar parts place.first place.columns.now c.args.from c.args.to table (at.index + 1) (at.start + batch.result.now.rows) list) (sym w.list-is)
+          (passed parts place.first place.columns.now c.args.from c.args.to table c.batches_are_rows.ensures at.index at.start c.min-end.result c.loop-place.list
+          c.loop-place.invariant last batch.result.now batch.ensures.batch batch.ensures.filled before c.loop-place-test.true c.can_hold.result c.can_hold.ensures
+          w.if-can_hold.false)
+    ])
+
+pub returns-clause-numbers : goal.returns-clause-numbers
+returns-clause-numbers c =
+    let place = c.args.filter.now.place in
+    (all_listed (map (λ (part : Bor (Predicate ℕ)). pred_of part.now) c.args.filter.now.parts.items) place.first place.columns.now c.args.from c.args.to c.args.table.now
+    c.batches_are_rows.ensures c.loop-place.place.index c.loop-place.place.start c.min-end.result c.loop-place.list c.loop-place.invariant
+    (c.min-end.ensures ∙ ap (λ (n : ℕ). min c.args.to n) c.rows.ensures.rows) (omega (arith, c.loop-place-test.false))
+    (omega (arith, c.rows.ensures.rows, c.rows.ensures.few))).0
+
+pub returns-clause-list : goal.returns-clause-list
+returns-clause-list c =
+    let place = c.args.filter.now.place in
+    (all_listed (map (λ (part : Bor (Predicate ℕ)). pred_of part.now) c.args.filter.now.parts.items) place.first place.columns.now c.args.from c.args.to c.args.table.now
+    c.batches_are_rows.ensures c.loop-place.place.index c.loop-place.place.start c.min-end.result c.loop-place.list c.loop-place.invariant
+    (c.min-end.ensures ∙ ap (λ (n : ℕ). min c.args.to n) c.rows.ensures.rows) (omega (arith, c.loop-place-test.false))
+    (omega (arith, c.rows.ensures.rows, c.rows.ensures.few))).1

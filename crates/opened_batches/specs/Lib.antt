@@ -1,0 +1,5 @@
+pub mod Chosen
+pub mod Opened
+pub mod Narrow
+pub mod Listed
+pub mod inside

@@ -1,0 +1,9 @@
+//! Which batches of its tables a plan opens.
+#![tactic(auto)]
+
+mod conjuncts;
+pub mod opened;
+mod place_filter;
+mod scans;
+
+pub use crate::opened::{OpenedList, opened_lists};
