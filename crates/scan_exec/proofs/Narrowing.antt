@@ -31,11 +31,11 @@ module _ (P : BatchAt → Type 0) where
 
   pub all_at : (batches : List BatchAt) → All P batches → (numbers : List ℕ) → All P (batches_at numbers batches)
   all_at batches all [] = All-nil P
-  all_at batches all (number ∷ numbers) = by (slice_get batches number) refl
+  all_at batches all (number ∷ numbers) = by (slice_get batches number) refl (all_at batches all numbers)
     where
-      by : (found : Option BatchAt) → slice_get batches number ≡ found → All P (option_to_list found ++ batches_at numbers batches)
-      by None e = all_at batches all numbers
-      by (Some batch) e = All-cons P batch (batches_at numbers batches) (one_all batches all number batch e) (all_at batches all numbers)
+      by : (found : Option BatchAt) → slice_get batches number ≡ found → All P (batches_at numbers batches) → All P (option_to_list found ++ batches_at numbers batches)
+      by None e rest = rest
+      by (Some batch) e rest = All-cons P batch (batches_at numbers batches) (one_all batches all number batch e) rest
 
 -- a test that no row passes, no row of a batch passes
 none_each : (test : Row → Bool) (batches : List BatchAt) → list_any test (flat_map rows_of batches) ≡ false →
@@ -103,9 +103,10 @@ at_number batches [] i h low = absurd (omega (arith, low))
 at_number batches (number ∷ numbers) i h low =
     let both = and_parts (nat_lt number (length batches)) (are_within (length batches) numbers) h in
     let one = there_at batches number (ltb-true number (length batches) both.0) in
-    by i low one.0 one.1 both.1
+    by i low one.0 one.1 (λ j here. at_number batches numbers j both.1 here)
   where
-    by : (i : ℕ) → i < length (number ∷ numbers) → (batch : BatchAt) → slice_get batches number ≡ Some batch → are_within (length batches) numbers ≡ true →
+    by : (i : ℕ) → i < length (number ∷ numbers) → (batch : BatchAt) → slice_get batches number ≡ Some batch →
+        ((j : ℕ) → j < length numbers → slice_get (batches_at numbers batches) j ≡ slice_get batches (get_or numbers j 0)) →
         slice_get (batches_at (number ∷ numbers) batches) i ≡ slice_get batches (get_or (number ∷ numbers) i 0)
     by zero low batch e rest = rw e refl
-    by (suc i) low batch e rest = rw e (at_number batches numbers i rest (omega (arith, low)))
+    by (suc i) low batch e rest = rw e (rest i (omega (arith, low)))
