@@ -1,0 +1,13 @@
+//! What a batch may hold: the possible truths of a predicate, from the least and the greatest value and the nulls of each column.
+#![tactic(auto)]
+
+pub mod batch_sides;
+pub mod can;
+pub mod compare;
+pub mod laws;
+pub mod possible;
+
+pub use crate::batch_sides::BatchSides;
+pub use crate::can::{Measured, may_hold};
+pub use crate::compare::{can_be_null, can_compare};
+pub use crate::possible::Possible;
