@@ -168,18 +168,6 @@ module _ (need : List (Pred ℕ)) (some : Columns) (table : TableAt) (can : ℕ 
       through need some (part_at from to table.batches i batch) ≡ []
   none_in from to i batch there h = by (cases_Bool (has_row_in from to table.batches i)) (cases_Bool (can i))
     where
-      by : (has_row_in from to table.batches i ≡ true) ⊎ (has_row_in from to table.batches i ≡ false) → (can i ≡ true) ⊎ (can i ≡ false) →
-          through need some (part_at from to table.batches i batch) ≡ []
-      by a (inr off) =
-          none_between need some (from - rows_before table.batches i) (to - rows_before table.batches i) (rows_of batch) (none i batch there off)
-      by (inr out) b =
-          let next = before_next from to table.batches i batch there in
-          let less = ltb-false (max (rows_before table.batches i) from) (min (rows_before table.batches (i + 1)) to) out in
-          ap (through need some) (outside (from - rows_before table.batches i) (to - rows_before table.batches i) (rows_of batch)
-          (empty_by (rows_before table.batches i) (rows_before table.batches (i + 1)) batch.rows next (length-rows_of batch) less))
-          ∙ through_none need some
-      by (inl on) (inl yes) = absurd (both_ways (rows_in from to i) h (rw (on, yes) refl))
-
       -- a range without a row of a batch
       empty_by : (s e r : ℕ) → e ≡ s + r → length (rows_of batch) ≡ r → min e to ≤ max s from →
           (length (rows_of batch) ≤ from - s) ⊎ (to - s ≤ from - s)
@@ -192,6 +180,18 @@ module _ (need : List (Pred ℕ)) (some : Columns) (table : TableAt) (can : ℕ 
       outside : (a b : ℕ) (rows : List Row) → (length rows ≤ a) ⊎ (b ≤ a) → rows_between a b rows ≡ []
       outside a b rows (inl past) = none_behind a b rows past
       outside a b rows (inr before) = no_rows a b rows before
+
+      by : (has_row_in from to table.batches i ≡ true) ⊎ (has_row_in from to table.batches i ≡ false) → (can i ≡ true) ⊎ (can i ≡ false) →
+          through need some (part_at from to table.batches i batch) ≡ []
+      by a (inr off) =
+          none_between need some (from - rows_before table.batches i) (to - rows_before table.batches i) (rows_of batch) (none i batch there off)
+      by (inr out) b =
+          let next = before_next from to table.batches i batch there in
+          let less = ltb-false (max (rows_before table.batches i) from) (min (rows_before table.batches (i + 1)) to) out in
+          ap (through need some) (outside (from - rows_before table.batches i) (to - rows_before table.batches i) (rows_of batch)
+          (empty_by (rows_before table.batches i) (rows_before table.batches (i + 1)) batch.rows next (length-rows_of batch) less))
+          ∙ through_none need some
+      by (inl on) (inl held) = absurd (both_ways (rows_in from to i) h (rw (on, held) refl))
 
   -- of a range
   pub range_same : (from to : ℕ) →

@@ -144,7 +144,7 @@ module _ {Y : Type 0} (from to : ℕ) (batches : List BatchAt) (make : ℕ → L
     whole_made = whole_from 0 batches refl from to (omega arith) (omega arith)
 
   -- the parts of these batches alone
-  narrow_from : (low k a b : ℕ) (number_of : ℕ → ℕ) (numbers : List ℕ) → ((j : ℕ) → j < length numbers → number_of (k + j) ≡ get_or numbers j 0) →
+  pub narrow_from : (low k a b : ℕ) (number_of : ℕ → ℕ) (numbers : List ℕ) → ((j : ℕ) → j < length numbers → number_of (k + j) ≡ get_or numbers j 0) →
       AreListed from to batches low numbers → a ≡ narrowed_from from batches numbers → b ≡ narrowed_to to batches numbers →
       flat_map (λ (part : ℕ × List Row). make (number_of part.0) part.1)
       (zip (range_with_len k (length (batches_at numbers batches))) (parts a b (batches_at numbers batches)))

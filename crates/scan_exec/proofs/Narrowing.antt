@@ -24,10 +24,10 @@ there_at (x ∷ xs) (suc i) h = there_at xs i (omega (arith, h))
 
 -- what holds of each batch holds of each of these numbers
 module _ (P : BatchAt → Type 0) where
-  one_all : (batches : List BatchAt) → All P batches → (i : ℕ) (batch : BatchAt) → slice_get batches i ≡ Some batch → P batch
-  one_all [] all i batch e = cc
-  one_all (b ∷ batches) all zero batch e = let same : b ≡ batch = cc in subst P same (All-head P b batches all)
-  one_all (b ∷ batches) all (suc i) batch e = one_all batches (All-tail P b batches all) i batch e
+  pub one_of : (batches : List BatchAt) → All P batches → (i : ℕ) (batch : BatchAt) → slice_get batches i ≡ Some batch → P batch
+  one_of [] all i batch e = cc
+  one_of (b ∷ batches) all zero batch e = let same : b ≡ batch = cc in subst P same (All-head P b batches all)
+  one_of (b ∷ batches) all (suc i) batch e = one_of batches (All-tail P b batches all) i batch e
 
   pub all_at : (batches : List BatchAt) → All P batches → (numbers : List ℕ) → All P (batches_at numbers batches)
   all_at batches all [] = All-nil P
@@ -35,7 +35,7 @@ module _ (P : BatchAt → Type 0) where
     where
       by : (found : Option BatchAt) → slice_get batches number ≡ found → All P (batches_at numbers batches) → All P (option_to_list found ++ batches_at numbers batches)
       by None e rest = rest
-      by (Some batch) e rest = All-cons P batch (batches_at numbers batches) (one_all batches all number batch e) rest
+      by (Some batch) e rest = All-cons P batch (batches_at numbers batches) (one_of batches all number batch e) rest
 
 -- a test that no row passes, no row of a batch passes
 none_each : (test : Row → Bool) (batches : List BatchAt) → list_any test (flat_map rows_of batches) ≡ false →
@@ -60,7 +60,7 @@ none_at : (test : Row → Bool) (batches : List BatchAt) (numbers : List ℕ) �
 none_at test batches numbers h =
     each_none test (batches_at numbers batches) (all_at (λ (b : BatchAt). list_any test (rows_of b) ≡ false) batches (none_each test batches h) numbers)
 
-filled_each : (batches : List BatchAt) → list_all has_rows batches ≡ true → All (λ (batch : BatchAt). has_rows batch ≡ true) batches
+pub filled_each : (batches : List BatchAt) → list_all has_rows batches ≡ true → All (λ (batch : BatchAt). has_rows batch ≡ true) batches
 filled_each [] h = All-nil (λ (batch : BatchAt). has_rows batch ≡ true)
 filled_each (batch ∷ batches) h =
     let both = and_parts (has_rows batch) (list_all has_rows batches) h in
@@ -110,3 +110,9 @@ at_number batches (number ∷ numbers) i h low =
         slice_get (batches_at (number ∷ numbers) batches) i ≡ slice_get batches (get_or (number ∷ numbers) i 0)
     by zero low batch e rest = rw e refl
     by (suc i) low batch e rest = rw e (rest i (omega (arith, low)))
+
+-- what stands at a place that is there
+pub at_any : {X : Type 0} (xs : List X) (i : ℕ) (d e : X) → i < length xs → get_or xs i d ≡ get_or xs i e
+at_any [] i d e h = absurd (omega (arith, h))
+at_any (x ∷ xs) zero d e h = refl
+at_any (x ∷ xs) (suc i) d e h = at_any xs i d e (omega (arith, h))

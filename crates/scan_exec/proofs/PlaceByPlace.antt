@@ -73,7 +73,7 @@ place_schema (filtered predicate tree) h = place_schema tree h
 place_schema (joined left right on) h = cc
 
 -- a scan for each table
-as_many_scans : (tree : Tree) → length (scans_of tree) ≡ length (tree_schemas tree)
+pub as_many_scans : (tree : Tree) → length (scans_of tree) ≡ length (tree_schemas tree)
 as_many_scans (scan table schema some) = refl
 as_many_scans (filtered predicate tree) = as_many_scans tree
 as_many_scans (joined left right on) =

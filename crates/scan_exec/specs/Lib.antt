@@ -16,3 +16,6 @@ pub mod Showing
 pub mod Collected
 pub mod Grouped
 pub mod Narrow
+pub mod Listed
+pub mod Rewritten
+pub mod OpenedTables

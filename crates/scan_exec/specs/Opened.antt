@@ -96,3 +96,9 @@ abbrev pub first_opened : ℕ → ℕ → BoundAt → List (ℕ × ℕ)
 first_opened from to bound =
     let tree = (plan_of bound).tree in
     map (λ batch. (0, batch)) (first_numbers (where_parts tree) from to (scans_of tree) bound.tables)
+
+-- the numbers of the batches of each place that are opened: of the first place over the rows `from` up to, not with, `to`
+abbrev pub opened_numbers : BoundAt → ℕ → ℕ → List (List ℕ)
+opened_numbers bound from to =
+    let tree = (plan_of bound).tree in
+    first_numbers (where_parts tree) from to (scans_of tree) bound.tables ∷ further_numbers (where_parts tree) (scans_of tree) bound.tables
