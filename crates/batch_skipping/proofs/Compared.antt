@@ -1,27 +1,26 @@
 -- The possible truths of a comparison, of values between the ends of both sides.
-use Rattle.std.proofs.Common.{◌≡◌, ℕ, ℤ, Bool, true, false, not, ◌&&◌, ◌||◌, if◌then◌else◌, List, [], ◌∷◌, Option, Some, None, is_some, nat_cmp, int_cmp, refl, sym, ap, ◌∙◌}
+use Rattle.std.proofs.Common.{◌≡◌, ℕ, ℤ, Bool, true, false, ◌||◌, if◌then◌else◌, List, Option, Some, None, is_some, nat_cmp, int_cmp, refl, ap, ◌∙◌}
 use Rattle.std.proofs.lemmas.Bool.{or_left, or_right}
 use Rattle.std.proofs.lemmas.Cmp.{nat_list_cmp_total, int_cmp_total}
 use Rattle.std.specs.Cmp.{IsTotalOrder, bool_cmp_total}
 use Rattle.std.specs.Cmp.Lexicographic.{slice_cmp}
-use Rattle.std.specs.Ordering.{bool_cmp, ordering_reverse, is_eq, is_ne, is_lt, is_gt, is_le, is_ge}
+use Rattle.std.specs.Ordering.{bool_cmp, ordering_reverse, is_gt, is_le}
 use Rattle.std.specs.declared.cmp.Ordering.{Ordering}
 use Rattle.std.specs.declared.cmp.Ordering.TheVariants as ordering
 use Rattle.scan_base.specs.declared.comparison.Comparison.{Comparison}
 use Rattle.scan_base.specs.declared.comparison.Comparison.TheVariants.{Equal, NotEqual, Less, LessOrEqual, Greater, GreaterOrEqual}
-use Rattle.scan_base.specs.declared.truth.Truth.{Truth}
-use Rattle.scan_base.specs.declared.truth.Truth.TheVariants.{True, False, Unknown}
+use Rattle.scan_base.specs.declared.truth.Truth.TheVariants.{Unknown}
 use Rattle.scan_base.specs.declared.value.Value.{Value}
 use Rattle.scan_base.specs.declared.value.Value.TheVariants.{Null, Bool as Flag, Int, Text}
 use Rattle.scan_base.specs.Comparison.{order_of, compared, judged, satisfies}
 use Rattle.scan_base.specs.Truth.{keeps, truth_from, truth_not}
 use Rattle.batch_skipping.specs.declared.possible.Possible.{Possible}
-use Rattle.batch_skipping.specs.Possible.{has, only, over}
+use Rattle.batch_skipping.specs.Possible.{has, only}
 use Rattle.batch_stats.specs.Stats.{StatsAt, stand, has_nulls}
 use Rattle.batch_skipping.specs.Can.{equal_between, less_between, between_sides, of_sides, can_compare}
 use Rattle.batch_skipping.specs.Laws.{IsBetween, IsWithin}
-use Rattle.batch_skipping.proofs.Orders.{gt_of_le, equal_true, equal_false, less_true, less_false}
-use Rattle.batch_skipping.proofs.Sets.{has_over, has_only}
+use Rattle.batch_skipping.proofs.Orders.{equal_true, equal_false, less_true, less_false}
+use Rattle.batch_skipping.proofs.Sets.{has_over}
 
 keeps_from : (b : Bool) → keeps (truth_from b) ≡ b
 keeps_from true = refl
@@ -67,18 +66,20 @@ stands R wrap has comparison v w x y e f =
 
 equal_allows : Allows Equal equal_between
 equal_allows K R wrap has a b x y h k =
-    let s : (c : Comparison) (v w : Value) (p q : K) → v ≡ wrap p → w ≡ wrap q → stand c v w ≡ satisfies c (R p q) = stands R wrap has in
-    (λ e. rw (s LessOrEqual a.0 b.1 h.low k.high h.low_is k.high_is, s LessOrEqual b.0 a.1 k.low h.high k.low_is h.high_is)
-      (equal_true R has.total h.low h.high k.low k.high x y h.above h.below k.above k.below e),
-    λ e. rw (s Equal a.0 a.1 h.low h.high h.low_is h.high_is, s Equal b.0 b.1 k.low k.high k.low_is k.high_is, s Equal a.0 b.0 h.low k.low h.low_is k.low_is)
-      (equal_false R has.total h.low h.high k.low k.high x y h.above h.below k.above k.below e))
+    let s : (c : Comparison) (v w : Value) (p q : K) → v ≡ wrap p → w ≡ wrap q → stand c v w ≡ satisfies c (R p q) = stands R wrap has in (
+      λ e. rw (s LessOrEqual a.0 b.1 h.low k.high h.low_is k.high_is, s LessOrEqual b.0 a.1 k.low h.high k.low_is h.high_is)
+          (equal_true R has.total h.low h.high k.low k.high x y h.above h.below k.above k.below e),
+      λ e. rw (s Equal a.0 a.1 h.low h.high h.low_is h.high_is, s Equal b.0 b.1 k.low k.high k.low_is k.high_is, s Equal a.0 b.0 h.low k.low h.low_is k.low_is)
+          (equal_false R has.total h.low h.high k.low k.high x y h.above h.below k.above k.below e),
+    )
 
 less_allows : Allows Less less_between
-less_allows K R wrap has a b x y h k =
-    (λ e. stands R wrap has Less a.0 b.1 h.low k.high h.low_is k.high_is
+less_allows K R wrap has a b x y h k = (
+  λ e. stands R wrap has Less a.0 b.1 h.low k.high h.low_is k.high_is
       ∙ less_true R has.total h.low h.high k.low k.high x y h.above h.below k.above k.below e,
-    λ e. stands R wrap has GreaterOrEqual a.1 b.0 h.high k.low h.high_is k.low_is
-      ∙ less_false R has.total h.low h.high k.low k.high x y h.above h.below k.above k.below e)
+  λ e. stands R wrap has GreaterOrEqual a.1 b.0 h.high k.low h.high_is k.low_is
+      ∙ less_false R has.total h.low h.high k.low k.high x y h.above h.below k.above k.below e,
+)
 
 -- ---- values between ends are of the class of the ends
 

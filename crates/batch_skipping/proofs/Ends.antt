@@ -16,7 +16,7 @@ use Rattle.arrow_schema.specs.declared.data_type.DataType.{DataType}
 use Rattle.arrow_schema.specs.declared.data_type.DataType.TheVariants.{Integer, Utf8, Bool as Flags, Decimal128, Dictionary}
 use Rattle.arrays.specs.Typed.{IsValueOf}
 use Rattle.batch_skipping.specs.Laws.{IsBetween, IsWithin, OwnValuesAreWithin}
-use Rattle.batch_stats.specs.Stats.{StatsAt, ends_of, has_nulls, lesser, greater, stand, stats_of, with_value}
+use Rattle.batch_stats.specs.Stats.{StatsAt, ends_of, lesser, greater, stand, stats_of, with_value}
 use Rattle.batch_skipping.proofs.Compared.{HasOrder, flag_order, number_order, text_order, stands}
 
 le_from : (o : Ordering) → is_gt o ≡ false → is_le o ≡ true

@@ -1,7 +1,6 @@
 -- The truth of a predicate is a possible one.
-use Rattle.std.proofs.Common.{◌≡◌, ℕ, ℤ, Bool, true, false, List, [], ◌∷◌, Option, Some, None, is_some, nat_cmp, int_cmp, refl, sym, ap, ◌∙◌}
+use Rattle.std.proofs.Common.{◌≡◌, ℕ, true, false, List, [], ◌∷◌, Option, Some, None, is_some, refl, ap}
 use Rattle.std.proofs.lemmas.Cmp.{tied_itself, nat_list_cmp_total, int_cmp_total}
-use Rattle.std.specs.Cmp.Lexicographic.{slice_cmp}
 use Rattle.std.specs.Ordering.{is_le}
 use Rattle.std.specs.declared.cmp.Ordering.{Ordering}
 use Rattle.scan_base.specs.declared.comparison.Comparison.TheVariants.{Equal, LessOrEqual, GreaterOrEqual}
@@ -16,7 +15,7 @@ use Rattle.scan_base.specs.Truth.{keeps, truth_from, truth_and, truth_or, truth_
 use Rattle.batch_skipping.specs.Can.{side_of, can_compare, can_be_null, can_be_among, can_be_within, can}
 use Rattle.batch_skipping.specs.Laws.{IsBetween, IsWithin, TruthIsPossible}
 use Rattle.batch_skipping.specs.Possible.{has, over}
-use Rattle.batch_stats.specs.Stats.{StatsAt, stats_of, has_nulls}
+use Rattle.batch_stats.specs.Stats.{StatsAt, stats_of}
 use Rattle.batch_skipping.proofs.Compared.{compare_law}
 use Rattle.batch_skipping.proofs.Sets.{has_only, has_over, has_both}
 

@@ -6,7 +6,7 @@ use Rattle.scan_base.specs.declared.predicate.Operand.TheVariants.{Column, Liter
 use Rattle.scan_base.specs.declared.truth.Truth.TheVariants.{False, Unknown}
 use Rattle.scan_base.specs.declared.value.Value.{Value}
 use Rattle.scan_base.specs.declared.value.Value.TheVariants.{Null, Int, Text}
-use Rattle.scan_base.specs.Predicate.{Pred, conjunction, disjunction, negation, comparing, between, membership, null_test, constant}
+use Rattle.scan_base.specs.Predicate.{Pred, disjunction, negation, comparing, between, membership, null_test, constant}
 use Rattle.batch_stats.specs.Stats.{StatsAt, stats_of}
 use Rattle.batch_skipping.specs.Can.{can, can_compare}
 use Rattle.batch_skipping.specs.Possible.{only, over, over_both}

@@ -4,7 +4,7 @@ ghost use Rattle.std.specs.Prelude.{◌≡◌, Bool, IsTrue};
 ghost use Rattle.std.specs.List.{list_all};
 ghost use Rattle.scan_base.specs.Predicate.{names_only, operand_names};
 ghost use Rattle.scan_base.specs.View.{pred_of};
-ghost use Rattle.batch_skipping.specs.Can.{can, can_be_among, can_be_within, side_of};
+ghost use Rattle.batch_skipping.specs.Can.{can, can_be_among, can_be_null, can_be_within, can_compare, side_of};
 ghost use Rattle.batch_stats.specs.Sides.{side_at};
 ghost use Rattle.batch_stats.specs.Stats.{StatsAt};
 
@@ -38,9 +38,31 @@ fn side_of<'a, C, M: Measured<C>>(operand: &'a Operand<C>, batch: &'a M) -> Side
     }
 }
 
+// The functions of the leaves are not inlined: a chain has a frame of `can` for each side, which is to be small.
+
+// left comparison right
+#[inline(never)]
+fn can_be_compared<C, M: Measured<C>>(
+    comparison: Comparison,
+    left: &Operand<C>,
+    right: &Operand<C>,
+    batch: &M,
+) -> Possible
+    requires left { IsTrue (operand_names (M.has batch.now) left.now) }
+    requires right { IsTrue (operand_names (M.has batch.now) right.now) }
+    ensures { result ≡ can_compare comparison (side_of (M.stats batch.now) left.now) (side_of (M.stats batch.now) right.now) }
+{
+    can_compare(comparison, side_of(left, batch), side_of(right, batch))
+}
+
 // operand >= low AND operand <= high
 #[inline(never)]
-fn can_be_within<C, M: Measured<C>>(operand: &Operand<C>, low: &Operand<C>, high: &Operand<C>, batch: &M) -> Possible
+fn can_be_within<C, M: Measured<C>>(
+    operand: &Operand<C>,
+    low: &Operand<C>,
+    high: &Operand<C>,
+    batch: &M,
+) -> Possible
     requires operand { IsTrue (operand_names (M.has batch.now) operand.now) }
     requires low { IsTrue (operand_names (M.has batch.now) low.now) }
     requires high { IsTrue (operand_names (M.has batch.now) high.now) }
@@ -54,16 +76,31 @@ fn can_be_within<C, M: Measured<C>>(operand: &Operand<C>, low: &Operand<C>, high
 
 // The OR of the equalities with each item.
 #[inline(never)]
-fn can_be_among<C, M: Measured<C>>(side: Side<'_>, items: &[Operand<C>], batch: &M) -> Possible
-    requires { IsTrue (list_all (operand_names (M.has batch.now)) items.now) }
-    ensures { result ≡ can_be_among (M.stats batch.now) (side_at side.entry) items.now }
+fn can_be_among<C, M: Measured<C>>(
+    operand: &Operand<C>,
+    items: &[Operand<C>],
+    batch: &M,
+) -> Possible
+    requires operand { IsTrue (operand_names (M.has batch.now) operand.now) }
+    requires items { IsTrue (list_all (operand_names (M.has batch.now)) items.now) }
+    ensures { result ≡ can_be_among (M.stats batch.now) (side_of (M.stats batch.now) operand.now) items.now }
 {
+    let side = side_of(operand, batch);
     let mut found = Possible::only(Truth::False);
     for index in (0..items.len()).rev() {
         let item = side_of(&items[index], batch);
         found = can_compare(Comparison::Equal, side, item).or(found);
     }
     found
+}
+
+// operand IS NULL
+#[inline(never)]
+fn can_be_missing<C, M: Measured<C>>(operand: &Operand<C>, batch: &M) -> Possible
+    requires { IsTrue (operand_names (M.has batch.now) operand.now) }
+    ensures { result ≡ can_be_null (side_of (M.stats batch.now) operand.now) }
+{
+    can_be_null(side_of(operand, batch))
 }
 
 // The possible truths of a predicate.
@@ -84,7 +121,7 @@ fn can<C, M: Measured<C>>(predicate: &Predicate<C>, batch: &M) -> Possible
             comparison,
             left,
             right,
-        } => can_compare(*comparison, side_of(left, batch), side_of(right, batch)),
+        } => can_be_compared(*comparison, left, right, batch),
         Predicate::Between {
             negated,
             operand,
@@ -95,9 +132,9 @@ fn can<C, M: Measured<C>>(predicate: &Predicate<C>, batch: &M) -> Possible
             negated,
             operand,
             items,
-        } => can_be_among(side_of(operand, batch), items.as_slice(), batch).not_if(*negated),
+        } => can_be_among(operand, items.as_slice(), batch).not_if(*negated),
         Predicate::IsNull { negated, operand } => {
-            can_be_null(side_of(operand, batch)).not_if(*negated)
+            can_be_missing(operand, batch).not_if(*negated)
         }
         Predicate::Constant(truth) => Possible::only(*truth),
     }

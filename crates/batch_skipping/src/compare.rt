@@ -75,9 +75,9 @@ fn can_be_less(left: Side<'_>, right: Side<'_>) -> Possible
     }
 }
 
-/// The possible truths of a comparison of a value of the one side with a value of the other.
+// The possible truths of a comparison of a value of the one side with a value of the other.
 #[tactic(auto, unfolding(crate::specs::Can::can_compare))]
-pub fn can_compare(comparison: Comparison, left: Side<'_>, right: Side<'_>) -> Possible
+pub(crate) fn can_compare(comparison: Comparison, left: Side<'_>, right: Side<'_>) -> Possible
     ensures { result ≡ can_compare comparison (side_at left.entry) (side_at right.entry) }
 {
     match comparison {
@@ -90,8 +90,8 @@ pub fn can_compare(comparison: Comparison, left: Side<'_>, right: Side<'_>) -> P
     }
 }
 
-/// The possible truths of IS NULL of a value of a side.
-pub fn can_be_null(side: Side<'_>) -> Possible
+// The possible truths of IS NULL of a value of a side.
+pub(crate) fn can_be_null(side: Side<'_>) -> Possible
     ensures { result ≡ can_be_null (side_at side.entry) }
 {
     Possible {

@@ -3,11 +3,10 @@
 
 pub mod batch_sides;
 pub mod can;
-pub mod compare;
+mod compare;
 pub mod laws;
 pub mod possible;
 
 pub use crate::batch_sides::BatchSides;
 pub use crate::can::{Measured, may_hold};
-pub use crate::compare::{can_be_null, can_compare};
 pub use crate::possible::Possible;

@@ -1,5 +1,5 @@
 -- Ends with one value more, and values that change no end.
-use Rattle.std.proofs.Common.{◌≡◌, Bool, true, false, if◌then◌else◌, List, [], ◌∷◌, fold, Option, Some, None, nat_cmp, int_cmp, inl, inr, refl, sym, ap, ◌∙◌}
+use Rattle.std.proofs.Common.{◌≡◌, Bool, true, false, Option, Some, None, nat_cmp, int_cmp, inl, inr, refl, ap}
 use Rattle.std.proofs.lemmas.Bool.{cases_Bool, both_ways, false_from_ne_true}
 use Rattle.std.proofs.lemmas.Cmp.{nat_list_cmp_total, int_cmp_total, tied_itself}
 use Rattle.std.specs.Cmp.{IsTotalOrder, bool_cmp_total}

@@ -8,8 +8,12 @@ ghost use Rattle.batch_stats.specs.Held.{ends_held, AreSlots, IsStatsOf};
 ghost use Rattle.batch_stats.specs.Sides.{ends_at, side_at};
 ghost use Rattle.batch_stats.specs.Stats.{stand, stats_of, with_value};
 
+use crate::entries::entries_stats;
+use crate::flags::flags_stats;
+use crate::numbers::{decimals_stats, integers_stats};
 use crate::side::{Ends, Side};
-use arrays::{Cells, Column};
+use crate::texts::texts_stats;
+use arrays::{Cells, Column, Layout};
 use scan_base::{Comparison, Truth, ValueRef};
 
 /// The least and the greatest value of a column.
@@ -28,15 +32,18 @@ impl Stats {
     pub fn of(column: &Column) -> Stats
         ensures { IsStatsOf column.now result }
     {
-        let mut stats = Stats::Nulls;
-        for place in 0..column.len() {
-            stats = stats.with_slot(column, place);
+        let (first, len) = (column.first(), column.len());
+        match column.layout() {
+            Layout::Integers(cells) => integers_stats(&cells, first, len),
+            Layout::Decimals(cells) => decimals_stats(&cells, first, len),
+            Layout::Bools(cells) => flags_stats(&cells, first, len),
+            Layout::Texts(cells) => texts_stats(&cells, first, len),
+            Layout::Indices(cells) => entries_stats(column, &cells),
         }
-        stats
     }
 
-    // The statistics with the value of one slot more.
-    fn with_slot(self, column: &Column, place: usize) -> Stats
+    /// The statistics with the value of one slot more.
+    pub(crate) fn with_slot(self, column: &Column, place: usize) -> Stats
         requires slots { AreSlots column.now self }
         requires place { place < (column.now).len }
         ensures ends { ends_held column.now result ≡ with_value (ends_held column.now self) (slot_of column.now place) }

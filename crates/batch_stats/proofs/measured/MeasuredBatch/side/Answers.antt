@@ -2,7 +2,6 @@ use Rattle.std.proofs.Common.{◌≡◌, length, get_or, ap, ◌∙◌, arith}
 use Rattle.std.proofs.lemmas.Option.{slice_get-get_or}
 use Rattle.std.proofs.lemmas.Slice.Zip.{AllZip-long}
 use Rattle.arrays.specs.Batch.{BatchAt}
-use Rattle.arrays.specs.Column.{ColumnAt}
 use Rattle.batch_stats.specs.Held.{IsStatsOf}
 use Rattle.batch_stats.proofs.Zipped.{zip_at}
 use Rattle.batch_stats.proofs.measured.MeasuredBatch.side.Goals as goal

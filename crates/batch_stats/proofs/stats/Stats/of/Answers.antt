@@ -1,18 +1,19 @@
-use Rattle.std.proofs.Common.{◌≡◌, ◌+◌, fold, sym, ap, ◌∙◌, arith}
-use Rattle.arrays.specs.Column.{slot_of}
-use Rattle.arrays.proofs.Rest.{rest_of, rest_more}
-use Rattle.batch_stats.specs.Held.{ends_held}
-use Rattle.batch_stats.specs.Stats.{with_value}
+use Rattle.arrays.specs.declared.layout.Layout.TheVariants.{Integers, Decimals, Bools, Texts}
+use Rattle.batch_stats.proofs.Passes.{column_is}
 use Rattle.batch_stats.proofs.stats.Stats.of.Goals as goal
 
-pub loop-place-preserved : goal.loop-place-preserved
-loop-place-preserved c =
-    let column = c.args.column.now in
-    let place = c.loop-place.place in
-    record {
-      ends =
-          ap (λ ends. fold with_value ends (rest_of column (place + 1))) c.with_slot-stats.ensures.ends
-          ∙ sym (ap (λ values. fold with_value (ends_held column c.loop-place.stats) values) (rest_more column place (omega (arith, c.loop-place-test.true, c.len-place-end.ensures.count))))
-          ∙ c.loop-place.invariant.ends;
-      slots = c.with_slot-stats.ensures.slots;
-    }
+pub returns-in-Integers : goal.returns-in-Integers
+returns-in-Integers c =
+    column_is c.args.column.now (Integers c.in-Integers.cells) c.first-first.result c.len-len.result c.in-Integers.ensures.value c.first-first.ensures c.len-len.ensures.count c.integers_stats.result c.integers_stats.ensures
+
+pub returns-in-Decimals : goal.returns-in-Decimals
+returns-in-Decimals c =
+    column_is c.args.column.now (Decimals c.in-Decimals.cells) c.first-first.result c.len-len.result c.in-Decimals.ensures.value c.first-first.ensures c.len-len.ensures.count c.decimals_stats.result c.decimals_stats.ensures
+
+pub returns-in-Bools : goal.returns-in-Bools
+returns-in-Bools c =
+    column_is c.args.column.now (Bools c.in-Bools.cells) c.first-first.result c.len-len.result c.in-Bools.ensures.value c.first-first.ensures c.len-len.ensures.count c.flags_stats.result c.flags_stats.ensures
+
+pub returns-in-Texts : goal.returns-in-Texts
+returns-in-Texts c =
+    column_is c.args.column.now (Texts c.in-Texts.cells) c.first-first.result c.len-len.result c.in-Texts.ensures.value c.first-first.ensures c.len-len.ensures.count c.texts_stats.result c.texts_stats.ensures

@@ -1,9 +1,12 @@
-use Rattle.std.proofs.Common.{◌≡◌, ◌<◌, ◌≤◌, ◌++◌, ◌∷◌, [], ℕ, true, false, List, length, map, drop, get_or, Option, None, ap, sym, ◌∙◌, subst, refl, arith}
+use Rattle.std.proofs.Common.{All, ◌≡◌, ◌<◌, ◌≤◌, ◌++◌, ◌∷◌, [], ℕ, true, false, List, length, map, drop, get_or, Option, None, ap, sym, ◌∙◌, subst, refl, arith, rules}
 use Rattle.std.specs.List.{flat_map, list_any}
 use Rattle.arrow_schema.specs.declared.schema.Schema.{Schema}
 use Rattle.arrays.specs.Batch.{rows_of}
 use Rattle.scan_base.specs.Limits.{most_rows}
-use Rattle.table_versions.specs.Stored.{TableAt}
+use Rattle.std.proofs.lemmas.List.Elements.{All-nil, All-cons, All-head, All-tail}
+use Rattle.table_versions.specs.Kept.{IsKept}
+use Rattle.table_versions.specs.Stored.{TableAt, table_of}
+use Rattle.scan_exec.specs.Showing.{IsShort}
 use Rattle.table_versions.specs.Table.{Row, is_long_text}
 use Rattle.typed_plan.specs.declared.plan.Output.{Output}
 use Rattle.typed_plan.specs.declared.plan.Plan.{Plan}
@@ -13,25 +16,99 @@ use Rattle.typed_plan.specs.View.{BoundAt, plan_of, tree_of}
 use Rattle.rewrite.specs.Laws.{SkippingKeepsRows}
 use Rattle.scan_exec.specs.declared.build.Sourced.{Sourced}
 use Rattle.scan_exec.specs.declared.stubs.OpenedList.{OpenedList}
-use Rattle.scan_exec.specs.Answering.{answer_for, giving_at, scan_at}
-use Rattle.scan_exec.specs.Begun.{IsBegun, sourced_at}
+use Rattle.scan_exec.specs.Answering.{IsScan, answer_for, giving_at, scan_at}
+use Rattle.scan_exec.specs.Begun.{IsBegun, IsSourced, sourced_at}
 use Rattle.scan_exec.specs.Giving.{GivingAt}
 use Rattle.scan_exec.specs.Given.{first_batches}
 use Rattle.scan_exec.specs.Listed.{AreKept, AreLists}
 use Rattle.scan_exec.specs.Narrow.{BeginsInFirst}
-use Rattle.scan_exec.specs.Opened.{first_opened, further_opened, opened_numbers, numbered_batches}
+use Rattle.scan_exec.specs.Opened.{first_opened, further_opened, opened_numbers, numbered_batches, where_parts}
 use Rattle.scan_exec.specs.OpenedTables.{CanAll, narrow_all}
 use Rattle.scan_exec.specs.Rewritten.{IsSame}
 use Rattle.scan_exec.specs.Scan.{IsBeginning}
 use Rattle.scan_exec.proofs.Beginning.{begins_is, is_scan}
 use Rattle.scan_exec.proofs.Hopeless.{holds}
 use Rattle.scan_exec.proofs.NarrowLaw.{schemas_of}
-use Rattle.scan_exec.proofs.NarrowScan.{Laws, first_list, laws, lists_can, narrow_schemas, opened_bound, typed_fit}
+use Rattle.scan_exec.proofs.NarrowScan.{Laws, first_list, laws, lists_can, narrow_schemas, typed_fit}
 use Rattle.scan_exec.proofs.OpenedLists.{numbers_of}
 use Rattle.scan_exec.proofs.Outputs.{output_there}
 use Rattle.scan_exec.proofs.PlanGives.{rows_law}
-use Rattle.scan_exec.proofs.ShortGiven.{short_law, kept_short}
+use Rattle.scan_exec.proofs.ShortGiven.{short_law}
 use Rattle.scan_exec.proofs.scan.Scan.new.Goals as goal
+
+-- tables that are kept have no text that is too long
+kept_short : (tables : List TableAt) → AreKept tables → All IsShort tables
+kept_short [] kept = All-nil IsShort
+kept_short (table ∷ tables) kept =
+    let is_kept : TableAt → Type 0 = λ t. IsKept t (length (table_of t).rows) in
+    All-cons IsShort table tables (All-head is_kept table tables kept).sound.texts (kept_short tables (All-tail is_kept table tables kept))
+
+-- the numbers of the first list
+abbrev first_numbers_of : List (List ℕ) → List ℕ
+first_numbers_of [] = []
+first_numbers_of (numbers ∷ lists) = numbers
+
+first_named : (lists : List OpenedList) (list : OpenedList) → 0 < length lists → first_list lists list ≡ list → first_numbers_of (numbers_of lists) ≡ list.numbers.items
+first_named [] list more e = absurd (omega (arith, more))
+first_named (one ∷ lists) list more e = ap (λ (l : OpenedList). l.numbers.items) e
+
+-- there is one
+lists_some : (lists : List OpenedList) (all : List (List ℕ)) (first : List ℕ) → numbers_of lists ≡ first ∷ all → 0 < length lists
+lists_some [] all first e = cc
+lists_some (one ∷ lists) all first e = omega arith
+
+list_at : (lists : List OpenedList) (list : OpenedList) → list ≡ get_or lists 0 list → first_list lists list ≡ list
+list_at [] list e = refl
+list_at (one ∷ lists) list e = sym e
+
+-- what is known of the plan and of the lists
+module _ (old new : BoundAt) (from to : ℕ) (lists : List OpenedList) (list : OpenedList) (typed : IsTyped (plan_of old))
+    (columns : tree_schemas (tree_of old.plan) ≡ schemas_of old.tables) (skipping : SkippingKeepsRows) (same : IsSame old new) (kept : AreKept old.tables)
+    (numbers : numbers_of lists ≡ opened_numbers old from to) (are : AreLists from to old.tables lists) (first : first_list lists list ≡ list) where
+  abbrev bound : BoundAt
+  bound = record { tables = narrow_all (numbers_of lists) old.tables; plan = new.plan; output = new.output; schema = new.schema }
+
+  all_laws : Laws old from to bound list.from list.to
+  all_laws = laws old new from to lists list typed.tree columns (typed_fit (tree_of old.plan) old.tables typed.tree columns) skipping same (holds {!!} (where_parts (tree_of old.plan))) kept numbers are first
+
+  -- the batches that are opened: those of the further places, and then those of the first
+  further_is : (pairs : List (ℕ × ℕ)) → pairs ≡ numbered_batches 1 (drop 1 (numbers_of lists)) → pairs ≡ further_opened old
+  further_is pairs e = e ∙ ap (λ (some : List (List ℕ)). numbered_batches 1 (drop 1 some)) numbers
+
+  all_pairs : (front pairs : List (ℕ × ℕ)) → front ≡ numbered_batches 1 (drop 1 (numbers_of lists)) →
+      pairs ≡ front ++ map (λ number. (0, number)) list.numbers.items → pairs ≡ further_opened old ++ first_opened from to old
+  all_pairs front pairs e f =
+      let some = lists_some lists _ _ numbers in
+      f ∙ ap (λ (some : List (ℕ × ℕ)). some ++ map (λ number. (0, number)) list.numbers.items) (further_is front e)
+      ∙ ap (λ (ns : List ℕ). further_opened old ++ map (λ number. (0, number)) ns) (sym (first_named lists list some first) ∙ ap first_numbers_of numbers)
+
+  -- what gives the rows of the new plan over these batches
+  module _ (typed_new : IsTyped (plan_of new)) (plan : Plan) (tables : List TableAt) (sourced : Sourced) (plan_is : plan ≡ new.plan) (tables_are : tables ≡ narrow_all (numbers_of lists) old.tables)
+      (begun : IsBegun (tree_of plan) tables list.from list.to (sourced_at sourced)) where
+    begun_over : IsBegun (tree_of new.plan) bound.tables list.from list.to (sourced_at sourced)
+    begun_over =
+        subst (λ (some : Plan). IsBegun (tree_of some) bound.tables list.from list.to (sourced_at sourced)) plan_is
+        (subst (λ (some : List TableAt). IsBegun (tree_of plan) some list.from list.to (sourced_at sourced)) tables_are begun)
+
+    pub output_is : IsSourced sourced → HasOutput new.output sourced.types.items
+    output_is is = output_there bound list.from list.to typed_new sourced is begun_over
+
+    module _ (output : Output) (giving : GivingAt) (schema : Schema) (front pairs : List (ℕ × ℕ)) (further : ℕ) (output_same : output ≡ new.output) (schema_is : schema ≡ new.schema)
+        (answer : giving ≡ answer_for output (sourced_at sourced)) (front_is : front ≡ numbered_batches 1 (drop 1 (numbers_of lists)))
+        (pairs_are : pairs ≡ front ++ map (λ number. (0, number)) list.numbers.items) (count : further ≡ length front) where
+      giving_is : giving ≡ answer_for new.output (sourced_at sourced)
+      giving_is = answer ∙ ap (λ (o : Output). answer_for o (sourced_at sourced)) output_same
+
+      pub begins : IsBeginning old from to (scan_at schema giving pairs further 0 None)
+      begins =
+          subst (λ (s : Schema). IsBeginning old from to (scan_at s giving pairs further 0 None)) (sym (schema_is ∙ same.schema))
+          (begins_is bound list.from list.to typed_new (sourced_at sourced) begun_over old from to giving pairs further giving_is (all_pairs front pairs front_is pairs_are)
+          (count ∙ ap length (further_is front front_is)) same.schema all_laws.given)
+
+      pub scans : IsScan giving pairs further 0
+      scans =
+          is_scan bound list.from list.to typed_new (sourced_at sourced) begun_over old from to giving pairs further giving_is (all_pairs front pairs front_is pairs_are)
+          (count ∙ ap length (further_is front front_is)) all_laws.batches
 
 -- the tables of the new plan are those of the old one
 pub opened_tables-requires : goal.opened_tables-requires
@@ -51,3 +128,47 @@ build-requires-clause-schemas c =
     ap (λ (plan : Plan). tree_schemas (tree_of plan)) parts.ensures.plan ∙ parts.ensures.columns ∙ ap schemas_of same.tables
     ∙ sym (narrow_schemas old.tables lists (lists_can c.args.range.start c.args.range.end old.tables lists c.in_ok-lists.ensures.lists))
     ∙ ap schemas_of (sym (c.in_ok-tables.ensures ∙ ap (narrow_all (numbers_of lists)) tables))
+
+pub build-requires-clause-first : goal.build-requires-clause-first
+build-requires-clause-first c =
+    let known = all_laws c.args.plan c.in_ok-rewrite.field-0 c.args.range.start c.args.range.end c.in_ok-lists.lists.items c.index-first.result.now c.plan-typed.ensures.typed c.tables-columns.ensures.columns c.skipping_keeps_rows.ensures c.in_ok-rewrite.ensures.same c.in_ok-lists.ensures.kept c.in_ok-lists.ensures.numbers c.in_ok-lists.ensures.lists (list_at c.in_ok-lists.lists.items c.index-first.result.now c.index-first.ensures) in
+    let tables = c.in_ok-tables.ensures ∙ ap (narrow_all (numbers_of c.in_ok-lists.lists.items)) (c.as_slice-3.ensures.value ∙ c.into_parts-tables.ensures.tables ∙ c.in_ok-rewrite.ensures.same.tables) in
+    subst (λ (ts : List TableAt). BeginsInFirst c.index-first.result.now.from (first_batches ts)) (sym tables) known.begins
+
+pub answer_of-requires-clause-output : goal.answer_of-requires-clause-output
+answer_of-requires-clause-output c =
+    subst (λ (output : Output). HasOutput output c.in_ok-sourced.sourced.types.items) (sym c.into_parts-tables.ensures.output)
+    (output_is c.args.plan c.in_ok-rewrite.field-0 c.args.range.start c.args.range.end c.in_ok-lists.lists.items c.index-first.result.now c.plan-typed.ensures.typed c.tables-columns.ensures.columns c.skipping_keeps_rows.ensures c.in_ok-rewrite.ensures.same c.in_ok-lists.ensures.kept c.in_ok-lists.ensures.numbers c.in_ok-lists.ensures.lists (list_at c.in_ok-lists.lists.items c.index-first.result.now c.index-first.ensures)
+    c.into_parts-tables.ensures.typed c.into_parts-tables.result.1 c.in_ok-tables.tables.items c.in_ok-sourced.sourced c.into_parts-tables.ensures.plan (c.in_ok-tables.ensures ∙ ap (narrow_all (numbers_of c.in_ok-lists.lists.items)) (c.as_slice-3.ensures.value ∙ c.into_parts-tables.ensures.tables ∙ c.in_ok-rewrite.ensures.same.tables)) c.in_ok-sourced.ensures.begun c.in_ok-sourced.ensures.sourced)
+
+pub answer_of-requires-clause-few : goal.answer_of-requires-clause-few
+answer_of-requires-clause-few c grouped =
+    let known = all_laws c.args.plan c.in_ok-rewrite.field-0 c.args.range.start c.args.range.end c.in_ok-lists.lists.items c.index-first.result.now c.plan-typed.ensures.typed c.tables-columns.ensures.columns c.skipping_keeps_rows.ensures c.in_ok-rewrite.ensures.same c.in_ok-lists.ensures.kept c.in_ok-lists.ensures.numbers c.in_ok-lists.ensures.lists (list_at c.in_ok-lists.lists.items c.index-first.result.now c.index-first.ensures) in
+    let new = c.in_ok-rewrite.field-0 in
+    let parts = c.into_parts-tables in
+    let tables = c.in_ok-tables.ensures ∙ ap (narrow_all (numbers_of c.in_ok-lists.lists.items)) (c.as_slice-3.ensures.value ∙ parts.ensures.tables ∙ c.in_ok-rewrite.ensures.same.tables) in
+    let place : is_place (tree_of parts.result.1) ≡ true =
+    ap (λ (plan : Plan). is_place (tree_of plan)) parts.ensures.plan ∙ parts.ensures.typed.alone (ap is_grouping (sym parts.ensures.output) ∙ grouped) in
+    omega (arith, c.in_ok-sourced.ensures.few place, ap (λ (ts : List TableAt). length (flat_map rows_of (first_batches ts))) tables, known.few)
+
+pub invariant_of-result : goal.invariant_of-result
+invariant_of-result c =
+    (c.in_ok-answer_of.ensures.giving, scans c.args.plan c.in_ok-rewrite.field-0 c.args.range.start c.args.range.end c.in_ok-lists.lists.items c.index-first.result.now c.plan-typed.ensures.typed c.tables-columns.ensures.columns c.skipping_keeps_rows.ensures c.in_ok-rewrite.ensures.same c.in_ok-lists.ensures.kept c.in_ok-lists.ensures.numbers c.in_ok-lists.ensures.lists (list_at c.in_ok-lists.lists.items c.index-first.result.now c.index-first.ensures)
+    c.into_parts-tables.ensures.typed c.into_parts-tables.result.1 c.in_ok-tables.tables.items c.in_ok-sourced.sourced c.into_parts-tables.ensures.plan (c.in_ok-tables.ensures ∙ ap (narrow_all (numbers_of c.in_ok-lists.lists.items)) (c.as_slice-3.ensures.value ∙ c.into_parts-tables.ensures.tables ∙ c.in_ok-rewrite.ensures.same.tables)) c.in_ok-sourced.ensures.begun
+    c.into_parts-tables.result.2 (giving_at c.in_ok-answer_of.field-0) c.into_parts-tables.result.3 c.in_ok-batches.batches.items c.push_numbers.new.batches.items c.len-further.result c.into_parts-tables.ensures.output c.into_parts-tables.ensures.schema c.in_ok-answer_of.ensures.answer (c.in_ok-batches.ensures ∙ ap (λ (some : List OpenedList). numbered_batches 1 (drop 1 (numbers_of some))) c.as_slice.ensures.value) (c.in_ok-push_numbers.ensures ∙ ap (λ (ns : List ℕ). c.in_ok-batches.batches.items ++ map (λ number. (0, number)) ns) c.as_slice-2.ensures.value) (search rules))
+
+pub returns-clause-begins : goal.returns-clause-begins
+returns-clause-begins c =
+    begins c.args.plan c.in_ok-rewrite.field-0 c.args.range.start c.args.range.end c.in_ok-lists.lists.items c.index-first.result.now c.plan-typed.ensures.typed c.tables-columns.ensures.columns c.skipping_keeps_rows.ensures c.in_ok-rewrite.ensures.same c.in_ok-lists.ensures.kept c.in_ok-lists.ensures.numbers c.in_ok-lists.ensures.lists (list_at c.in_ok-lists.lists.items c.index-first.result.now c.index-first.ensures)
+    c.into_parts-tables.ensures.typed c.into_parts-tables.result.1 c.in_ok-tables.tables.items c.in_ok-sourced.sourced c.into_parts-tables.ensures.plan (c.in_ok-tables.ensures ∙ ap (narrow_all (numbers_of c.in_ok-lists.lists.items)) (c.as_slice-3.ensures.value ∙ c.into_parts-tables.ensures.tables ∙ c.in_ok-rewrite.ensures.same.tables)) c.in_ok-sourced.ensures.begun
+    c.into_parts-tables.result.2 (giving_at c.in_ok-answer_of.field-0) c.into_parts-tables.result.3 c.in_ok-batches.batches.items c.push_numbers.new.batches.items c.len-further.result c.into_parts-tables.ensures.output c.into_parts-tables.ensures.schema c.in_ok-answer_of.ensures.answer (c.in_ok-batches.ensures ∙ ap (λ (some : List OpenedList). numbered_batches 1 (drop 1 (numbers_of some))) c.as_slice.ensures.value) (c.in_ok-push_numbers.ensures ∙ ap (λ (ns : List ℕ). c.in_ok-batches.batches.items ++ map (λ number. (0, number)) ns) c.as_slice-2.ensures.value) (search rules)
+
+pub returns-clause-rows : goal.returns-clause-rows
+returns-clause-rows c catalog held =
+    ap (map (λ (given : Option ℕ × Row). given.1)) (returns-clause-begins c).ahead
+    ∙ rows_law catalog c.args.plan c.args.range.start c.args.range.end c.plan-typed.ensures.typed c.tables-columns.ensures.columns held
+
+pub returns-clause-short : goal.returns-clause-short
+returns-clause-short c =
+    ap (λ (ahead : List (Option ℕ × Row)). list_any (list_any is_long_text) (map (λ (given : Option ℕ × Row). given.1) ahead)) (returns-clause-begins c).ahead
+    ∙ short_law c.args.plan c.args.range.start c.args.range.end (kept_short c.args.plan.tables c.in_ok-lists.ensures.kept)
