@@ -27,7 +27,7 @@ use Rattle.scan_exec.specs.declared.cursor.Cursor.{Cursor}
 use Rattle.scan_exec.specs.Begun.{IsBegun, tree_given}
 use Rattle.scan_exec.specs.Chosen.{numbers_at}
 use Rattle.scan_exec.specs.Given.{rows_over, first_batches, further_rows, numbered_parts}
-use Rattle.scan_exec.specs.Opened.{batches_in}
+use Rattle.opened_batches.specs.Opened.{batches_in}
 use Rattle.scan_exec.specs.Picking.{PickAt, IsPick, given_numbered}
 use Rattle.scan_exec.specs.Placed.{Begins, rows_ahead}
 use Rattle.scan_exec.specs.Running.{RowsAt, picked_of}

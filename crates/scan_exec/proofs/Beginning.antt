@@ -1,6 +1,7 @@
 -- A scan before its first batch.
-use Rattle.std.proofs.Common.{◌≡◌, ◌<◌, ℕ, zero, suc, false, All, List, [], ◌∷◌, ◌++◌, length, map, take, drop, unwrap_or, slice_get, Option, Some, None, option_map, refl, sym, ap, ◌∙◌, subst, arith, append-nil, length-append, get_or, if◌then◌else◌}
-use Rattle.std.specs.List.{flat_map}
+use Rattle.std.proofs.Common.{◌≡◌, ◌<◌, ℕ, zero, suc, ◌+◌, ◌-◌, ◌==◌, true, false, All, List, [], ◌∷◌, ◌++◌, length, map, take, drop, unwrap_or, slice_get, Option, Some, None, option_map, refl, sym, ap, ◌∙◌, subst, arith, length-append, get_or, if◌then◌else◌}
+use Rattle.std.specs.List.{flat_map, list_all, range_with_len}
+use Rattle.arrow_schema.specs.declared.schema.Schema.{Schema}
 use Rattle.std.proofs.lemmas.Option.{slice_get-map}
 use Rattle.std.proofs.lemmas.Simd.{map-map}
 use Rattle.arrow_schema.specs.Answer.{answer_type}
@@ -19,12 +20,12 @@ use Rattle.typed_plan.specs.Joined.{rows_between}
 use Rattle.arrays.specs.Batch.{rows_of}
 use Rattle.typed_plan.specs.Plan.{answered, groups_by, output_rows}
 use Rattle.typed_plan.specs.Typed.{IsTyped, type_at, types_taken, types_of, tree_types, output_types, item_type, is_grouping}
-use Rattle.typed_plan.specs.View.{BoundAt, plan_of}
-use Rattle.scan_exec.specs.Answering.{GivingAt, IsScan, answer_for, of_rows, scan_at}
+use Rattle.typed_plan.specs.View.{BoundAt, plan_of, tree_of}
+use Rattle.scan_exec.specs.Answering.{GivingAt, IsScan, answer_for, of_rows, renumbered, scan_at}
 use Rattle.scan_exec.specs.Begun.{IsBegun, tree_given}
 use Rattle.scan_exec.specs.Showing.{shown_of}
 use Rattle.scan_exec.specs.Given.{given_of, first_batches, further_rows, numbered_parts, rows_over}
-use Rattle.scan_exec.specs.Opened.{batches_in, further_batches, first_opened}
+use Rattle.opened_batches.specs.Opened.{batches_in, first_numbers, first_opened, further_opened, scans_of, where_parts}
 use Rattle.scan_exec.specs.Running.{RowsAt}
 use Rattle.scan_exec.specs.Scan.{ScanAt, IsBeginning}
 use Rattle.scan_exec.specs.Shown.{cells}
@@ -120,44 +121,56 @@ module _ (bound : BoundAt) (from to : ℕ) (typed : IsTyped (plan_of bound)) (ro
   batches_is (Project columns) = begun.batches
   batches_is (Groups keys items) = begun.batches
 
-  pub begins_is : (giving : GivingAt) (batches : List (ℕ × ℕ)) (further : ℕ) → giving ≡ answer_for bound.output rows →
-      batches ≡ further_batches bound.tables ++ first_opened from to bound.tables →
-      further ≡ length (further_batches bound.tables) → IsBeginning bound from to (scan_at bound.schema giving batches further 0 None)
-  begins_is giving batches further is all count = record {
-    schema = refl;
-    types = ap (λ (g : GivingAt). map answer_type g.types) is ∙ types_is bound.output refl;
-    ahead = ap (λ (g : GivingAt). g.ahead) is ∙ ahead_is bound.output refl;
-    batches = all;
-    opened = ap (λ (g : GivingAt). take further batches ++ map (λ batch. (0, batch)) g.opened) is
-        ∙ ap (λ (opened : List ℕ). take further batches ++ map (λ batch. (0, batch)) opened) (opened_is bound.output) ∙ append-nil (take further batches)
-        ∙ ap (take further) all ∙ ap (λ (n : ℕ). take n (further_batches bound.tables ++ first_opened from to bound.tables)) count
-        ∙ take_front (further_batches bound.tables) (first_opened from to bound.tables);
-    given = refl;
-    refused = refl;
-  }
-    where
-      take_front : (xs ys : List (ℕ × ℕ)) → take (length xs) (xs ++ ys) ≡ xs
-      take_front [] ys = refl
-      take_front (x ∷ xs) ys = ap (λ rest. x ∷ rest) (take_front xs ys)
+  -- of a plan that gives the same over all batches, where these are the batches that it opens
+  module _ (old : BoundAt) (begin end : ℕ) (giving : GivingAt) (batches : List (ℕ × ℕ)) (further : ℕ) (is : giving ≡ answer_for bound.output rows)
+      (all : batches ≡ further_opened old ++ first_opened begin end old) (count : further ≡ length (further_opened old)) where
+    firsts_are : drop further batches ≡ first_opened begin end old
+    firsts_are = ap (drop further) all ∙ ap (λ (n : ℕ). drop n (further_opened old ++ first_opened begin end old)) count
+        ∙ drop_front (further_opened old) (first_opened begin end old)
+      where
+        drop_front : (xs ys : List (ℕ × ℕ)) → drop (length xs) (xs ++ ys) ≡ ys
+        drop_front [] ys = refl
+        drop_front (x ∷ xs) ys = drop_front xs ys
 
-  -- and what holds of the scan
-  pub is_scan : (giving : GivingAt) (batches : List (ℕ × ℕ)) (further : ℕ) → giving ≡ answer_for bound.output rows →
-      batches ≡ further_batches bound.tables ++ first_opened from to bound.tables →
-      further ≡ length (further_batches bound.tables) → IsScan giving batches further 0
-  is_scan giving batches further is all count =
-      let long = ap length all ∙ length-append (further_batches bound.tables) (first_opened from to bound.tables) in
-      record {
-        there = omega (arith, long, count);
-        first = ap (drop further) all ∙ ap (λ (n : ℕ). drop n (further_batches bound.tables ++ first_opened from to bound.tables)) count
-            ∙ drop_front (further_batches bound.tables) (first_opened from to bound.tables)
-            ∙ ap (map (λ batch. (0, batch))) (sym (ap (λ (g : GivingAt). g.batches) is ∙ batches_is bound.output));
-        front = ap (λ (opened : List ℕ). take (length opened) giving.batches) none ∙ sym none;
-        few = omega arith;
-      }
-    where
-      none : giving.opened ≡ []
-      none = ap (λ (g : GivingAt). g.opened) is ∙ opened_is bound.output
+    none : giving.opened ≡ []
+    none = ap (λ (g : GivingAt). g.opened) is ∙ opened_is bound.output
 
-      drop_front : (xs ys : List (ℕ × ℕ)) → drop (length xs) (xs ++ ys) ≡ ys
-      drop_front [] ys = refl
-      drop_front (x ∷ xs) ys = drop_front xs ys
+    pub begins_is : bound.schema ≡ old.schema → map (renumbered (first_opened begin end old)) (given_of bound from to) ≡ given_of old begin end →
+        IsBeginning old begin end (scan_at old.schema giving batches further 0 None)
+    begins_is schema law = record {
+      schema = refl;
+      types = ap (λ (g : GivingAt). map answer_type g.types) is ∙ types_is bound.output refl ∙ ap (λ (s : Schema). types_of s.fields) schema;
+      ahead = ap (λ (some : List (ℕ × ℕ)). map (renumbered some) giving.ahead) firsts_are
+          ∙ ap (map (renumbered (first_opened begin end old))) (ap (λ (g : GivingAt). g.ahead) is ∙ ahead_is bound.output refl) ∙ law;
+      batches = all;
+      opened = ap (λ (n : ℕ). take n batches) none_more ∙ ap (take further) all
+          ∙ ap (λ (n : ℕ). take n (further_opened old ++ first_opened begin end old)) count
+          ∙ take_front (further_opened old) (first_opened begin end old);
+      given = refl;
+      refused = refl;
+    }
+      where
+        none_more : further + length giving.opened ≡ further
+        none_more = omega (arith, ap length none)
+
+        take_front : (xs ys : List (ℕ × ℕ)) → take (length xs) (xs ++ ys) ≡ xs
+        take_front [] ys = refl
+        take_front (x ∷ xs) ys = ap (λ rest. x ∷ rest) (take_front xs ys)
+
+    -- and what holds of the scan
+    pub is_scan : batches_in from to (first_batches bound.tables) ≡ range_with_len 0 (length (first_opened begin end old)) → IsScan giving batches further 0
+    is_scan ranged =
+        let long = ap length all ∙ length-append (further_opened old) (first_opened begin end old) in
+        let size : length (first_opened begin end old) ≡ length batches - further = omega (arith, long, count) in
+        record {
+          there = omega (arith, long, count);
+          first = ap (λ (g : GivingAt). g.batches) is ∙ batches_is bound.output ∙ ranged ∙ ap (range_with_len 0) size;
+          places = subst (λ (some : List (ℕ × ℕ)). list_all (λ (batch : ℕ × ℕ). batch.0 == 0) some ≡ true) (sym firsts_are)
+              (all_first (first_numbers (where_parts (tree_of old.plan)) begin end (scans_of (tree_of old.plan)) old.tables));
+          front = ap (λ (opened : List ℕ). take (length opened) giving.batches) none ∙ sym none;
+          few = omega arith;
+        }
+      where
+        all_first : (numbers : List ℕ) → list_all (λ (batch : ℕ × ℕ). batch.0 == 0) (map (λ number. (0, number)) numbers) ≡ true
+        all_first [] = refl
+        all_first (number ∷ numbers) = all_first numbers

@@ -12,8 +12,8 @@ use Rattle.table_versions.proofs.Rowing.{length-rows_of, rows-append, rows-cons}
 use Rattle.typed_plan.specs.Joined.{rows_between}
 use Rattle.scan_exec.specs.Chosen.{are_within}
 use Rattle.scan_exec.specs.Given.{numbered_parts, parts}
-use Rattle.scan_exec.specs.Narrow.{BeginsInFirst, batches_at, narrowed_from, narrowed_to}
-use Rattle.scan_exec.specs.Opened.{has_row_in, batches_in}
+use Rattle.opened_batches.specs.Narrow.{BeginsInFirst, batches_at, narrowed_from, narrowed_to}
+use Rattle.opened_batches.specs.Opened.{has_row_in, batches_in}
 use Rattle.scan_exec.proofs.Narrowing.{at_many, there_at}
 use Rattle.scan_exec.proofs.Opening.{grows}
 
@@ -28,7 +28,7 @@ AreListed from to batches low (number ∷ numbers) =
 listed_lower : (from to : ℕ) (batches : List BatchAt) (low lower : ℕ) (numbers : List ℕ) → lower ≤ low →
     AreListed from to batches low numbers → AreListed from to batches lower numbers
 listed_lower from to batches low lower [] h listed = tt
-listed_lower from to batches low lower (number ∷ numbers) h listed = (omega (arith, h, listed.0), listed.1)
+listed_lower from to batches low lower (number ∷ numbers) h listed = (omega (arith, h, listed.0), listed.1, listed.2, listed.3)
 
 -- the batches that pass a test, of those that have one
 pub listed_of : (from to : ℕ) (batches : List BatchAt) (test : ℕ → Bool) → ((i : ℕ) → test i ≡ true → has_row_in from to batches i ≡ true) →
@@ -49,7 +49,7 @@ pub listed_within : (from to : ℕ) (batches : List BatchAt) (low : ℕ) (number
 listed_within from to batches low [] listed = refl
 listed_within from to batches low (number ∷ numbers) listed =
     and_from (nat_lt number (length batches)) (are_within (length batches) numbers) (lt-ltb number (length batches) listed.1)
-    (listed_within from to batches (number + 1) numbers listed.2.1)
+    (listed_within from to batches (number + 1) numbers listed.3)
 
 -- ---- where a batch stands
 
@@ -144,7 +144,7 @@ module _ {Y : Type 0} (from to : ℕ) (batches : List BatchAt) (make : ℕ → L
     whole_made = whole_from 0 batches refl from to (omega arith) (omega arith)
 
   -- the parts of these batches alone
-  narrow_from : (low k a b : ℕ) (number_of : ℕ → ℕ) (numbers : List ℕ) → ((j : ℕ) → j < length numbers → number_of (k + j) ≡ get_or numbers j 0) →
+  pub narrow_from : (low k a b : ℕ) (number_of : ℕ → ℕ) (numbers : List ℕ) → ((j : ℕ) → j < length numbers → number_of (k + j) ≡ get_or numbers j 0) →
       AreListed from to batches low numbers → a ≡ narrowed_from from batches numbers → b ≡ narrowed_to to batches numbers →
       flat_map (λ (part : ℕ × List Row). make (number_of part.0) part.1)
       (zip (range_with_len k (length (batches_at numbers batches))) (parts a b (batches_at numbers batches)))
@@ -153,14 +153,14 @@ module _ {Y : Type 0} (from to : ℕ) (batches : List BatchAt) (make : ℕ → L
   narrow_from low k a b number_of (number ∷ numbers) named listed f t =
       let one = there_at batches number listed.1 in
       let batch = one.0 in
-      let range = in_range from to batches number listed.2.0 in
+      let range = in_range from to batches number listed.2 in
       let next = before_next from to batches number batch one.1 in
       let more = behind_first number batch numbers one.1 listed in
       let here : rows_between a b (rows_of batch) ≡ part_at from to batches number batch =
       ap (λ (n : ℕ). rows_between n b (rows_of batch)) f
       ∙ between_same (from - rows_before batches number) b (to - rows_before batches number) (rows_of batch) (omega (arith, t, next, more.1, length-rows_of batch)) in
       let name : number_of k ≡ number = ap number_of (add_none k) ∙ named 0 (omega arith) in
-      let rest = narrow_from (number + 1) (k + 1) (a - batch.rows) (b - batch.rows) number_of numbers (later numbers named) listed.2.1
+      let rest = narrow_from (number + 1) (k + 1) (a - batch.rows) (b - batch.rows) number_of numbers (later numbers named) listed.3
       (omega (arith, f, next, range.0, more.0)) (omega (arith, t, next, more.1)) in
       ap (λ (found : Option BatchAt). flat_map (λ (part : ℕ × List Row). make (number_of part.0) part.1)
       (zip (range_with_len k (length (option_to_list found ++ batches_at numbers batches))) (parts a b (option_to_list found ++ batches_at numbers batches)))) one.1
@@ -183,9 +183,9 @@ module _ {Y : Type 0} (from to : ℕ) (batches : List BatchAt) (make : ℕ → L
           (narrowed_from from batches numbers ≡ 0) × ((narrowed_to to batches numbers ≡ 0) ⊎ (rows_before batches (number + 1) ≤ to))
       behind_first number batch [] there listed = (refl, inl refl)
       behind_first number batch (second ∷ numbers) there listed =
-          let this = in_range from to batches number listed.2.0 in
-          let that = in_range from to batches second listed.2.1.2.0 in
-          let order = grows batches (number + 1) second listed.2.1.0 in
+          let this = in_range from to batches number listed.2 in
+          let that = in_range from to batches second listed.3.2 in
+          let order = grows batches (number + 1) second listed.3.0 in
           (omega (arith, this.0, order), inr (omega (arith, that.1, order)))
 
 -- ---- the range among the batches
@@ -197,7 +197,7 @@ module _ (from to : ℕ) (batches : List BatchAt) where
   begins_in_first low (number ∷ numbers) listed =
       let one = there_at batches number listed.1 in
       let batch = one.0 in
-      let range = in_range from to batches number listed.2.0 in
+      let range = in_range from to batches number listed.2 in
       let next = before_next from to batches number batch one.1 in
       let first : rows_before (batch ∷ batches_at numbers batches) 1 ≡ batch.rows = rows-cons batch [] ∙ omega arith in
       inr (subst (λ (found : Option BatchAt). from - rows_before batches number < rows_before (option_to_list found ++ batches_at numbers batches) 1) (sym one.1)
@@ -210,19 +210,20 @@ module _ (from to : ℕ) (batches : List BatchAt) where
   begins_before low (number ∷ numbers) i listed h =
       let one = there_at batches number listed.1 in
       subst (λ (found : Option BatchAt). rows_before (option_to_list found ++ batches_at numbers batches) i < narrowed_to to batches (number ∷ numbers)) (sym one.1)
-      (by i numbers h one.0 one.1 listed)
+      (by i numbers h one.0 one.1 listed (λ j here. begins_before (number + 1) numbers j listed.3 here))
     where
       by : (i : ℕ) (numbers : List ℕ) → i < length (number ∷ numbers) → (batch : BatchAt) → slice_get batches number ≡ Some batch →
-          AreListed from to batches low (number ∷ numbers) → rows_before (batch ∷ batches_at numbers batches) i < narrowed_to to batches (number ∷ numbers)
-      by zero numbers h batch there listed =
-          let range = in_range from to batches number listed.2.0 in
-          omega (arith, range.1, range.2.0)
-      by (suc i) [] h batch there listed = absurd (omega (arith, h))
-      by (suc i) (second ∷ numbers) h batch there listed =
+          AreListed from to batches low (number ∷ numbers) → ((j : ℕ) → j < length numbers → rows_before (batches_at numbers batches) j < narrowed_to to batches numbers) →
+          rows_before (batch ∷ batches_at numbers batches) i < narrowed_to to batches (number ∷ numbers)
+      by zero numbers h batch there listed later =
+          let range = in_range from to batches number listed.2 in
+          omega (arith, range.1, range.2)
+      by (suc i) [] h batch there listed later = absurd (omega (arith, h))
+      by (suc i) (second ∷ numbers) h batch there listed later =
           let next = before_next from to batches number batch there in
-          let that = in_range from to batches second listed.2.1.2.0 in
-          let order = grows batches (number + 1) second listed.2.1.0 in
-          let rest = begins_before (number + 1) (second ∷ numbers) i listed.2.1 (omega (arith, h)) in
+          let that = in_range from to batches second listed.3.2 in
+          let order = grows batches (number + 1) second listed.3.0 in
+          let rest = later i (omega (arith, h)) in
           let some = rows-cons batch (take i (batches_at (second ∷ numbers) batches)) in
           omega (arith, next, that.1, order, rest, some)
 
@@ -231,8 +232,8 @@ module _ (from to : ℕ) (batches : List BatchAt) where
       narrowed_from from batches numbers < narrowed_to to batches numbers
   begins_low low [] listed h = absurd (omega (arith, h))
   begins_low low (number ∷ numbers) listed h =
-      let range = in_range from to batches number listed.2.0 in
-      omega (arith, range.0, range.1, range.2.0, range.2.1)
+      let range = in_range from to batches number listed.2 in
+      omega (arith, range.0, range.1, range.2, range.3)
 
   -- so each has a row in it
   pub all_in : (numbers : List ℕ) → AreListed from to batches 0 numbers → ((i : ℕ) → i < length numbers → rows_before (batches_at numbers batches) i < rows_before (batches_at numbers batches) (i + 1)) →

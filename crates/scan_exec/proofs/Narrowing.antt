@@ -14,7 +14,7 @@ use Rattle.table_versions.proofs.Storable.{first_false, second_false}
 use Rattle.table_versions.specs.Stored.{TableAt, table_of, has_rows}
 use Rattle.table_versions.specs.Table.{Row, has_bad_null, is_long_text}
 use Rattle.scan_exec.specs.Chosen.{are_within}
-use Rattle.scan_exec.specs.Narrow.{CanNarrow, batches_at, narrowed}
+use Rattle.opened_batches.specs.Narrow.{CanNarrow, batches_at, narrowed}
 
 -- what is there, at a place
 pub there_at : {X : Type 0} (xs : List X) (i : ℕ) → i < length xs → (x : X) × (slice_get xs i ≡ Some x)
@@ -24,18 +24,18 @@ there_at (x ∷ xs) (suc i) h = there_at xs i (omega (arith, h))
 
 -- what holds of each batch holds of each of these numbers
 module _ (P : BatchAt → Type 0) where
-  one_all : (batches : List BatchAt) → All P batches → (i : ℕ) (batch : BatchAt) → slice_get batches i ≡ Some batch → P batch
-  one_all [] all i batch e = cc
-  one_all (b ∷ batches) all zero batch e = let same : b ≡ batch = cc in subst P same (All-head P b batches all)
-  one_all (b ∷ batches) all (suc i) batch e = one_all batches (All-tail P b batches all) i batch e
+  pub one_of : (batches : List BatchAt) → All P batches → (i : ℕ) (batch : BatchAt) → slice_get batches i ≡ Some batch → P batch
+  one_of [] all i batch e = cc
+  one_of (b ∷ batches) all zero batch e = let same : b ≡ batch = cc in subst P same (All-head P b batches all)
+  one_of (b ∷ batches) all (suc i) batch e = one_of batches (All-tail P b batches all) i batch e
 
   pub all_at : (batches : List BatchAt) → All P batches → (numbers : List ℕ) → All P (batches_at numbers batches)
   all_at batches all [] = All-nil P
-  all_at batches all (number ∷ numbers) = by (slice_get batches number) refl
+  all_at batches all (number ∷ numbers) = by (slice_get batches number) refl (all_at batches all numbers)
     where
-      by : (found : Option BatchAt) → slice_get batches number ≡ found → All P (option_to_list found ++ batches_at numbers batches)
-      by None e = all_at batches all numbers
-      by (Some batch) e = All-cons P batch (batches_at numbers batches) (one_all batches all number batch e) (all_at batches all numbers)
+      by : (found : Option BatchAt) → slice_get batches number ≡ found → All P (batches_at numbers batches) → All P (option_to_list found ++ batches_at numbers batches)
+      by None e rest = rest
+      by (Some batch) e rest = All-cons P batch (batches_at numbers batches) (one_of batches all number batch e) rest
 
 -- a test that no row passes, no row of a batch passes
 none_each : (test : Row → Bool) (batches : List BatchAt) → list_any test (flat_map rows_of batches) ≡ false →
@@ -60,7 +60,7 @@ none_at : (test : Row → Bool) (batches : List BatchAt) (numbers : List ℕ) �
 none_at test batches numbers h =
     each_none test (batches_at numbers batches) (all_at (λ (b : BatchAt). list_any test (rows_of b) ≡ false) batches (none_each test batches h) numbers)
 
-filled_each : (batches : List BatchAt) → list_all has_rows batches ≡ true → All (λ (batch : BatchAt). has_rows batch ≡ true) batches
+pub filled_each : (batches : List BatchAt) → list_all has_rows batches ≡ true → All (λ (batch : BatchAt). has_rows batch ≡ true) batches
 filled_each [] h = All-nil (λ (batch : BatchAt). has_rows batch ≡ true)
 filled_each (batch ∷ batches) h =
     let both = and_parts (has_rows batch) (list_all has_rows batches) h in
@@ -103,9 +103,16 @@ at_number batches [] i h low = absurd (omega (arith, low))
 at_number batches (number ∷ numbers) i h low =
     let both = and_parts (nat_lt number (length batches)) (are_within (length batches) numbers) h in
     let one = there_at batches number (ltb-true number (length batches) both.0) in
-    by i low one.0 one.1 both.1
+    by i low one.0 one.1 (λ j here. at_number batches numbers j both.1 here)
   where
-    by : (i : ℕ) → i < length (number ∷ numbers) → (batch : BatchAt) → slice_get batches number ≡ Some batch → are_within (length batches) numbers ≡ true →
+    by : (i : ℕ) → i < length (number ∷ numbers) → (batch : BatchAt) → slice_get batches number ≡ Some batch →
+        ((j : ℕ) → j < length numbers → slice_get (batches_at numbers batches) j ≡ slice_get batches (get_or numbers j 0)) →
         slice_get (batches_at (number ∷ numbers) batches) i ≡ slice_get batches (get_or (number ∷ numbers) i 0)
     by zero low batch e rest = rw e refl
-    by (suc i) low batch e rest = rw e (at_number batches numbers i rest (omega (arith, low)))
+    by (suc i) low batch e rest = rw e (rest i (omega (arith, low)))
+
+-- what stands at a place that is there
+pub at_any : {X : Type 0} (xs : List X) (i : ℕ) (d e : X) → i < length xs → get_or xs i d ≡ get_or xs i e
+at_any [] i d e h = absurd (omega (arith, h))
+at_any (x ∷ xs) zero d e h = refl
+at_any (x ∷ xs) (suc i) d e h = at_any xs i d e (omega (arith, h))

@@ -13,7 +13,7 @@ use Rattle.scan_exec.specs.declared.cursor.Cursor.{Cursor}
 use Rattle.scan_exec.specs.declared.cursor.Part.{Part}
 use Rattle.scan_exec.specs.declared.piece.Piece.{Piece}
 use Rattle.scan_exec.specs.declared.place.PlaceRows.{PlaceRows}
-use Rattle.scan_exec.specs.Opened.{batches_in}
+use Rattle.opened_batches.specs.Opened.{batches_in}
 use Rattle.scan_exec.specs.Picking.{PickAt, cells_at, holds, given, given_numbered, given_of_part, IsPicked}
 use Rattle.scan_exec.specs.Placed.{IsPlaced, IsPart, Opens, rows_ahead}
 use Rattle.scan_exec.specs.Running.{RowsAt, GoesOn, FindsPiece, Ends, picked_of}

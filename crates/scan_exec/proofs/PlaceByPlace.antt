@@ -12,7 +12,7 @@ use Rattle.typed_plan.specs.Plan.{Tree, scan, filtered, joined, taken}
 use Rattle.typed_plan.specs.Typed.{is_place, tree_types, types_of, types_taken, type_at}
 use Rattle.rewrite.specs.Conjuncts.{all_true}
 use Rattle.rewrite.specs.Places.{first_rows, tree_width}
-use Rattle.scan_exec.specs.Opened.{given_width, scans_of}
+use Rattle.opened_batches.specs.Opened.{given_width, scans_of}
 use Rattle.scan_exec.proofs.Through.{IsDeep, PlacesSame, first_need, need_behind, place_columns}
 use Rattle.scan_exec.proofs.Wide.{drop_one}
 
@@ -51,8 +51,7 @@ each_last parts first (c ∷ scans) [] last schema some all same each = absurd (
 each_last parts first (c ∷ scans) (s ∷ schemas) last schema some all same each =
     let width = given_width c (length s.fields) in
     let rest = each_last parts (first + width) scans schemas last schema (drop 1 some) (drop 1 all) (omega (arith, same)) each.1 in
-    let e : first + width + total_width scans schemas ≡ first + (width + total_width scans schemas) = omega arith in
-    (
+    let e : first + width + total_width scans schemas ≡ first + (width + total_width scans schemas) = omega arith in (
       (each.0, rest.0),
       subst (λ (xs : List (List Row)). LetsSame (need_behind parts (first + (width + total_width scans schemas)) (given_width last (length schema.fields))) last xs (drop (length (s ∷ schemas)) all))
           (drop_one (length schemas) some)
@@ -73,7 +72,7 @@ place_schema (filtered predicate tree) h = place_schema tree h
 place_schema (joined left right on) h = cc
 
 -- a scan for each table
-as_many_scans : (tree : Tree) → length (scans_of tree) ≡ length (tree_schemas tree)
+pub as_many_scans : (tree : Tree) → length (scans_of tree) ≡ length (tree_schemas tree)
 as_many_scans (scan table schema some) = refl
 as_many_scans (filtered predicate tree) = as_many_scans tree
 as_many_scans (joined left right on) =
@@ -94,8 +93,7 @@ all_last parts scans [] last schema some all same more each = absurd (omega (ari
 all_last parts [] (s ∷ schemas) last schema some all same more each = absurd (omega (arith, same))
 all_last parts (c ∷ scans) (s ∷ schemas) last schema some all same more each =
     let width = given_width c (length s.fields) in
-    let rest = each_last parts width scans schemas last schema (drop 1 some) (drop 1 all) (omega (arith, same)) each.1 in
-    (
+    let rest = each_last parts width scans schemas last schema (drop 1 some) (drop 1 all) (omega (arith, same)) each.1 in (
       (each.0, rest.0),
       subst (λ (xs : List (List Row)). LetsSame (need_behind parts (width + total_width scans schemas) (given_width last (length schema.fields))) last xs (drop (length (s ∷ schemas)) all))
           (drop_one (length schemas) some)
@@ -135,8 +133,7 @@ places_same parts (joined left right on) deep some all each =
     let schemas = ap (λ (xs : List Schema). tree_schemas left ++ xs) one.1.0 in
     let split = all_last parts (scans_of left) (tree_schemas left) (place_columns right) one.0 some all (as_many_scans left) (schemas_some left)
     (subst (λ (xs : List Schema). AllSame parts (scans_of left ++ place_columns right ∷ []) xs some all) schemas
-    (subst (λ (xs : List Columns). AllSame parts xs (tree_schemas left ++ tree_schemas right) some all) scans each)) in
-    (
+    (subst (λ (xs : List Columns). AllSame parts xs (tree_schemas left ++ tree_schemas right) some all) scans each)) in (
       places_same parts left deep.0 some all split.0,
       subst (λ (n : ℕ). LetsSame (need_behind parts (tree_width left) n) (place_columns right) (drop (length (tree_schemas left)) some) (drop (length (tree_schemas left)) all)) (sym one.1.1)
           (subst (λ (n : ℕ). LetsSame (need_behind parts n (given_width (place_columns right) (length (one.0).fields))) (place_columns right) (drop (length (tree_schemas left)) some) (drop (length (tree_schemas left)) all))

@@ -64,13 +64,10 @@ last_taken before (x ∷ xs) (suc further) i h =
 
 -- the last of numbers that are counted
 last_counted : (before : Option ℕ) (first n number : ℕ) → last_or before (range_with_len first (n + 1)) ≡ Some number → number ≡ first + n
-last_counted before first n number e = by n e
-  where
-    by : (n : ℕ) → last_or before (range_with_len first (n + 1)) ≡ Some number → number ≡ first + n
-    by zero e = let same : first ≡ number = cc in omega (arith, same)
-    by (suc n) e =
-        let shift : suc n + 1 ≡ suc (n + 1) = omega arith in
-        omega (arith, last_counted (Some first) (first + 1) n number (ap (λ (m : ℕ). last_or before (range_with_len first m)) (sym shift) ∙ e))
+last_counted before first zero number e = let same : first ≡ number = cc in omega (arith, same)
+last_counted before first (suc n) number e =
+    let shift : suc n + 1 ≡ suc (n + 1) = omega arith in
+    omega (arith, last_counted (Some first) (first + 1) n number (ap (λ (m : ℕ). last_or before (range_with_len first m)) (sym shift) ∙ e))
 
 take_counted : (first n k : ℕ) → k ≤ n → take k (range_with_len first n) ≡ range_with_len first k
 take_counted first n zero h = refl
@@ -215,3 +212,11 @@ batch_few before batch after gives =
     let both = length-append (map with_number (rows_of batch)) after.ahead in
     let size = length-map (rows_of batch) with_number in
     omega (arith, long, both, size, length-rows_of batch)
+
+-- no more were opened than there are
+pub opened_few : (giving : GivingAt) (batches : List (ℕ × ℕ)) (further given : ℕ) → IsScan giving batches further given → further + length giving.opened ≤ length batches
+opened_few giving batches further given is =
+    let count = length batches - further in
+    let some = ap length is.front in
+    let all = ap length is.first in
+    omega (arith, some, all, length-take (length giving.opened) giving.batches, length-range_with_len 0 count, is.there)

@@ -13,8 +13,8 @@ use Rattle.typed_plan.specs.Joined.{rows_between}
 use Rattle.scan_exec.specs.declared.cursor.Cursor.{Cursor}
 use Rattle.scan_exec.specs.declared.cursor.Part.{Part}
 use Rattle.array_select.specs.Room.{most_batch_rows}
-use Rattle.scan_exec.specs.Narrow.{BeginsInFirst}
-use Rattle.scan_exec.specs.Opened.{batches_in}
+use Rattle.opened_batches.specs.Narrow.{BeginsInFirst}
+use Rattle.opened_batches.specs.Opened.{batches_in}
 use Rattle.scan_exec.specs.Placed.{IsPlaced, IsPart, Opens}
 use Rattle.scan_exec.proofs.Batched.{rows_next}
 use Rattle.scan_exec.proofs.Opening.{in_all, in_few, none_in, opens_one, opens_last}

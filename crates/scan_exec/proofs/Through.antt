@@ -15,7 +15,7 @@ use Rattle.rewrite.specs.Conjuncts.{all_true, conjuncts, is_between}
 use Rattle.rewrite.specs.Laws.{SameThrough}
 use Rattle.rewrite.specs.Places.{first_rows, tree_width}
 use Rattle.rewrite.specs.Pushed.{is_behind, is_left, moved}
-use Rattle.scan_exec.specs.Opened.{where_parts}
+use Rattle.opened_batches.specs.Opened.{where_parts}
 
 -- ---- tests that more columns pass
 
@@ -95,15 +95,15 @@ in_map f p (q ∷ qs) (inr i) = inr (in_map f p qs i)
 -- one that is among others, of those that pass a test
 from_filter : (test : Pred ℕ → Bool) (p : Pred ℕ) (qs : List (Pred ℕ)) → In p (filter test qs) → (test p ≡ true) × In p qs
 from_filter test p [] i = absurd i
-from_filter test p (q ∷ qs) i = by (cases_Bool (test q))
+from_filter test p (q ∷ qs) i = by (cases_Bool (test q)) (from_filter test p qs)
   where
-    by : (test q ≡ true) ⊎ (test q ≡ false) → (test p ≡ true) × In p (q ∷ qs)
-    by (inl on) = elim (subst (λ (b : Bool). In p (cond b (q ∷ filter test qs) (filter test qs))) on i) [
+    by : (test q ≡ true) ⊎ (test q ≡ false) → (In p (filter test qs) → (test p ≡ true) × In p qs) → (test p ≡ true) × In p (q ∷ qs)
+    by (inl on) later = elim (subst (λ (b : Bool). In p (cond b (q ∷ filter test qs) (filter test qs))) on i) [
       | inl e ↦ (ap test (sym e) ∙ on, inl e)
-      | inr more ↦ let rest = from_filter test p qs more in (rest.0, inr rest.1)
+      | inr more ↦ let rest = later more in (rest.0, inr rest.1)
     ]
-    by (inr off) =
-        let rest = from_filter test p qs (subst (λ (b : Bool). In p (cond b (q ∷ filter test qs) (filter test qs))) off i) in (rest.0, inr rest.1)
+    by (inr off) later =
+        let rest = later (subst (λ (b : Bool). In p (cond b (q ∷ filter test qs) (filter test qs))) off i) in (rest.0, inr rest.1)
 
 from_map : (f : Pred ℕ → Pred ℕ) (p : Pred ℕ) (qs : List (Pred ℕ)) → In p (map f qs) → (q : Pred ℕ) × ((f q ≡ p) × In q qs)
 from_map f p [] i = absurd i
@@ -128,16 +128,13 @@ all_has ps (p ∷ need) has row h =
 
 filter_twice : (f g : Row → Bool) → ((row : Row) → f row ≡ true → g row ≡ true) → (rows : List Row) → filter f (filter g rows) ≡ filter f rows
 filter_twice f g more [] = refl
-filter_twice f g more (row ∷ rows) = by (cases_Bool (g row)) (cases_Bool (f row))
+filter_twice f g more (row ∷ rows) = by (cases_Bool (g row)) (cases_Bool (f row)) (filter_twice f g more rows)
   where
-    rest : filter f (filter g rows) ≡ filter f rows
-    rest = filter_twice f g more rows
-
-    by : (g row ≡ true) ⊎ (g row ≡ false) → (f row ≡ true) ⊎ (f row ≡ false) → filter f (filter g (row ∷ rows)) ≡ filter f (row ∷ rows)
-    by (inl on) (inl here) = rw (on, here) (ap (λ some. row ∷ some) rest)
-    by (inl on) (inr out) = rw (on, out) rest
-    by (inr off) (inl here) = absurd (both_ways (g row) (more row here) off)
-    by (inr off) (inr out) = rw (off, out) rest
+    by : (g row ≡ true) ⊎ (g row ≡ false) → (f row ≡ true) ⊎ (f row ≡ false) → filter f (filter g rows) ≡ filter f rows → filter f (filter g (row ∷ rows)) ≡ filter f (row ∷ rows)
+    by (inl on) (inl here) rest = rw (on, here) (ap (λ some. row ∷ some) rest)
+    by (inl on) (inr out) rest = rw (on, out) rest
+    by (inr off) (inl here) rest = absurd (both_ways (g row) off (more row here))
+    by (inr off) (inr out) rest = rw (off, out) rest
 
 pub through_more : (ps need : List (Pred ℕ)) → Has ps need → (xs ys : List Row) → filter (all_true need) xs ≡ filter (all_true need) ys →
     filter (all_true ps) xs ≡ filter (all_true ps) ys
@@ -189,7 +186,10 @@ place_through (joined left right on) place ps need has some all same = cc
 
 -- what names columns between two numbers
 below_end : (width : ℕ) (p : Pred ℕ) → names_only (is_between 0 width) p ≡ true → is_left width p ≡ true
-below_end width p h = names_more (is_between 0 width) (λ (c : ℕ). nat_lt c width) (λ c i. (and_parts (nat_le 0 c) (nat_lt c width) i).1) p h
+below_end width p h =
+    let e : 0 + width ≡ width = omega arith in
+    names_more (is_between 0 width) (λ (c : ℕ). nat_lt c width)
+    (λ c i. subst (λ (n : ℕ). nat_lt c n ≡ true) e (and_parts (nat_le 0 c) (nat_lt c (0 + width)) i).1) p h
 
 left_more : (seam width : ℕ) (p : Pred ℕ) → is_left seam p ≡ true → is_left (seam + width) p ≡ true
 left_more seam width p h =
@@ -217,8 +217,7 @@ module _ (parts : List (Pred ℕ)) where
   core_through (joined left right on) deep ps has some all same =
       let seam = tree_width left in
       let width = tree_width right in
-      let whole : tree_width (joined left right on) ≡ seam + width = joined_width left right in
-      (
+      let whole : tree_width (joined left right on) ≡ seam + width = joined_width left right in (
         core_through left deep.0 (filter (is_left seam) ps)
             (λ p i h. in_filter (is_left seam) p ps h (has p i (ap (λ (n : ℕ). is_left n p) whole ∙ left_more seam width p h))) some all same.0,
         place_through right deep.1 (map (moved seam) (filter (is_behind seam) ps)) (need_behind parts seam width)

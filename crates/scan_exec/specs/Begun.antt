@@ -12,7 +12,7 @@ use Rattle.typed_plan.specs.Typed.{spans, tree_types}
 use Rattle.scan_exec.specs.declared.build.Sourced.{Sourced}
 use Rattle.scan_exec.specs.Given.{rows_over, first_batches, further_rows, numbered_parts}
 use Rattle.scan_exec.specs.Joined.{source_at, IsSource}
-use Rattle.scan_exec.specs.Opened.{batches_in}
+use Rattle.opened_batches.specs.Opened.{batches_in}
 use Rattle.scan_exec.specs.Picking.{PickAt, IsPick}
 use Rattle.scan_exec.specs.Placed.{numbered_rows}
 use Rattle.scan_exec.specs.Running.{RowsAt, picked_of}

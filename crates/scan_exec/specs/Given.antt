@@ -1,26 +1,14 @@
 -- The rows that a plan gives of the rows of its places.
 use Rattle.std.specs.Prelude.{ℕ, ◌-◌, if◌then◌else◌, List, [], ◌∷◌, length, map, drop, Option, Some, None, zip}
-use Rattle.std.specs.List.{filter, flat_map, range_with_len}
+use Rattle.std.specs.List.{flat_map, range_with_len}
 use Rattle.arrays.specs.Batch.{BatchAt, rows_of}
 use Rattle.table_versions.specs.Stored.{TableAt, table_of}
 use Rattle.table_versions.specs.Table.{Row}
-use Rattle.typed_plan.specs.Held.{tree_schemas}
 use Rattle.typed_plan.specs.Joined.{rows_between}
-use Rattle.typed_plan.specs.Plan.{Tree, scan, filtered, joined, PlanAt, taken, is_true, joined_rows, output_rows}
+use Rattle.typed_plan.specs.Plan.{output_rows}
 use Rattle.typed_plan.specs.Typed.{is_grouping}
 use Rattle.typed_plan.specs.View.{BoundAt, plan_of}
-
--- the rows of the first place, where there is one
-abbrev pub first_rows : List (List Row) → List Row
-first_rows [] = []
-first_rows (rows ∷ places) = rows
-
--- the rows of a tree, where these are the rows of its places in order
-abbrev pub rows_over : Tree → List (List Row) → List Row
-rows_over (scan table schema columns) places = taken columns (first_rows places)
-rows_over (filtered predicate tree) places = filter (is_true predicate) (rows_over tree places)
-rows_over (joined left right on) places =
-    joined_rows on (rows_over left places) (rows_over right (drop (length (tree_schemas left)) places))
+pub use Rattle.rewrite.specs.Places.{first_rows, rows_over}
 
 -- all rows of the further places
 abbrev pub further_rows : List TableAt → List (List Row)

@@ -1,5 +1,4 @@
 pub mod Given
-pub mod Opened
 pub mod Scan
 pub mod Chosen
 pub mod Picking
@@ -15,4 +14,4 @@ pub mod Shown
 pub mod Showing
 pub mod Collected
 pub mod Grouped
-pub mod Narrow
+pub mod OpenedTables

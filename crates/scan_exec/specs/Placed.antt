@@ -11,7 +11,7 @@ use Rattle.typed_plan.specs.Typed.{types_of}
 use Rattle.scan_exec.specs.declared.cursor.Cursor.{Cursor}
 use Rattle.scan_exec.specs.declared.cursor.Part.{Part}
 use Rattle.scan_exec.specs.Given.{numbered_parts}
-use Rattle.scan_exec.specs.Opened.{batches_in}
+use Rattle.opened_batches.specs.Opened.{batches_in}
 use Rattle.array_select.specs.Room.{most_batch_rows}
 
 -- Where a cursor stands: between the range's ends, in its batch or at its begin, behind the batches that were opened. Each

@@ -14,7 +14,7 @@ use Rattle.table_versions.specs.Table.{Row}
 use Rattle.typed_plan.specs.Typed.{types_of}
 use Rattle.typed_plan.specs.View.{BoundAt}
 use Rattle.scan_exec.specs.Given.{given_of}
-use Rattle.scan_exec.specs.Opened.{further_batches, first_opened}
+use Rattle.opened_batches.specs.Opened.{further_opened, first_opened}
 
 -- The columns of the result; the types of the columns of its batches; the rows that are still to be given, each with the
 -- number of the batch of the first place of which it comes, if it is one; the batches that are to be opened, each by its
@@ -85,7 +85,7 @@ pub record IsBeginning (bound : BoundAt) (from to : ℕ) (scan : ScanAt) : Type 
   pub schema : scan.schema ≡ bound.schema
   pub types : map answer_type scan.types ≡ types_of bound.schema.fields
   pub ahead : scan.ahead ≡ given_of bound from to
-  pub batches : scan.batches ≡ further_batches bound.tables ++ first_opened from to bound.tables
-  pub opened : scan.opened ≡ further_batches bound.tables
+  pub batches : scan.batches ≡ further_opened bound ++ first_opened from to bound
+  pub opened : scan.opened ≡ further_opened bound
   pub given : scan.given ≡ 0
   pub refused : scan.refused ≡ None

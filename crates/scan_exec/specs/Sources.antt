@@ -2,7 +2,7 @@
 use Rattle.std.specs.Prelude.{ℕ, List}
 use Rattle.typed_plan.specs.Typed.{types_of}
 use Rattle.scan_exec.specs.declared.place.PlaceRows.{PlaceRows}
-use Rattle.scan_exec.specs.Opened.{batches_in}
+use Rattle.opened_batches.specs.Opened.{batches_in}
 use Rattle.scan_exec.specs.Placed.{rows_ahead}
 use Rattle.scan_exec.specs.Running.{RowsAt}
 

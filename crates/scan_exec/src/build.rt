@@ -10,7 +10,7 @@ ghost use Rattle.typed_plan.specs.View.{tree_of};
 ghost use Rattle.scan_exec.specs.Begun.{IsBegun, IsSourced, sourced_at};
 ghost use Rattle.scan_exec.specs.Given.{first_batches};
 ghost use Rattle.scan_exec.specs.Joined.{source_at};
-ghost use Rattle.scan_exec.specs.Narrow.{BeginsInFirst};
+ghost use Rattle.opened_batches.specs.Narrow.{BeginsInFirst};
 
 use crate::join_source::{Sides, join_source};
 use crate::opened_table::OpenedTable;

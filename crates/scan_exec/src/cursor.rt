@@ -2,7 +2,7 @@
 
 ghost use Rattle.std.specs.Prelude.{◌≡◌, ◌≤◌, ◌<◌, length};
 ghost use Rattle.table_versions.specs.Stored.{table_of};
-ghost use Rattle.scan_exec.specs.Narrow.{BeginsInFirst};
+ghost use Rattle.opened_batches.specs.Narrow.{BeginsInFirst};
 ghost use Rattle.scan_exec.specs.Placed.{IsPlaced, IsPart, Begins, Opens};
 
 use crate::opened_table::OpenedTable;

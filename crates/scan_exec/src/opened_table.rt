@@ -4,7 +4,7 @@ ghost use Rattle.std.specs.Prelude.{◌≡◌, ◌<◌, Some, length, slice_get}
 ghost use Rattle.arrays.specs.Typed.{AreOfTypes};
 ghost use Rattle.table_versions.specs.Kept.{IsKept};
 ghost use Rattle.table_versions.specs.Stored.{table_of};
-ghost use Rattle.scan_exec.specs.Narrow.{CanNarrow, narrowed};
+ghost use Rattle.opened_batches.specs.Narrow.{CanNarrow, narrowed};
 
 use arrays::Batch;
 use arrow_schema::Schema;
@@ -31,7 +31,7 @@ impl Drop for OpenedTable {
 
 impl Model for OpenedTable {
     ghost use Rattle.table_versions.specs.Stored.{TableAt};
-    ghost use Rattle.scan_exec.specs.Narrow.{CanNarrow, narrowed};
+    ghost use Rattle.opened_batches.specs.Narrow.{CanNarrow, narrowed};
 
     ghost Value = { TableAt };
 

@@ -13,10 +13,12 @@ ghost use Rattle.scan_exec.specs.Scan.{Gives, IsBeginning, left};
 
 use crate::answer::{Answer, answer_of};
 use crate::build::{Reading, build};
-use crate::opened::listed;
+use crate::opened::{further_batches, opened_tables, push_numbers};
 use arrays::Batch;
 use arrow_schema::Schema;
 use hash_seed::HashSeed;
+use opened_batches::opened_lists;
+use rewrite::laws::skipping_keeps_rows;
 use scan_base::Fault;
 use std::alloc::{AllocError, Global};
 use std::marker::Model;
@@ -83,15 +85,23 @@ impl Scan {
             left scan ≡ plan_rows (plan_of plan) (tables_of catalog) range.start range.end) }
         ensures short { IfOk result (λ scan. list_any (list_any is_long_text) (left scan) ≡ false) }
     {
-        let (tables, plan, output, schema) = plan.into_parts();
-        let (from, to) = (range.start, range.end);
-        let listed = listed(alloc, tables.as_slice(), from, to)?;
+        skipping_keeps_rows();
+        let _typed = plan.plan();
+        let _columns = plan.tables();
+        let lists = opened_lists(alloc, &plan, range.start, range.end)?;
+        let mut batches = further_batches(alloc, lists.as_slice())?;
+        let further = batches.len();
+        let first = &lists[0];
+        push_numbers(&mut batches, 0, first.numbers.as_slice())?;
+        let (from, to) = (first.from, first.to);
+        let (tables, plan, output, schema) = rewrite::rewrite(alloc, plan)?.into_parts();
+        let tables = opened_tables(alloc, tables.as_slice(), lists)?;
         let sourced = build(alloc, plan, tables, Reading { seed, from, to })?;
         Ok(Scan {
             schema,
             answer: answer_of(alloc, sourced, output, seed)?,
-            batches: listed.batches,
-            further: listed.further,
+            batches,
+            further,
             given: 0,
             refused: None,
         })

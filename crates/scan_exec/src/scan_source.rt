@@ -9,7 +9,7 @@ ghost use Rattle.typed_plan.specs.Typed.{has_columns, type_at, types_of};
 ghost use Rattle.scan_exec.specs.Begun.{IsBegun, IsSourced, sourced_at};
 ghost use Rattle.scan_exec.specs.Chosen.{are_within};
 ghost use Rattle.scan_exec.specs.Joined.{source_at};
-ghost use Rattle.scan_exec.specs.Narrow.{BeginsInFirst};
+ghost use Rattle.opened_batches.specs.Narrow.{BeginsInFirst};
 
 use crate::build::{Reading, Sourced};
 use crate::columns::{numbers_below, picked};

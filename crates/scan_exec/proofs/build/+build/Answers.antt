@@ -1,7 +1,7 @@
-use Rattle.std.proofs.Common.{◌≡◌, ◌≤◌, ◌<◌, ℕ, List, [], ◌∷◌, ◌++◌, length, map, Option, Some, ap, sym, ◌∙◌, subst, arith, rules, true, false}
+use Rattle.std.proofs.Common.{◌≡◌, ◌≤◌, ◌<◌, inl, refl, ℕ, List, [], ◌∷◌, ◌++◌, length, map, Option, Some, ap, sym, ◌∙◌, subst, arith, rules, true, false}
 use Rattle.std.specs.List.{flat_map}
 use Rattle.std.specs.Option.{option_to_list}
-use Rattle.std.proofs.lemmas.List.{map-append}
+use Rattle.std.proofs.lemmas.List.{length-append, length-map, map-append}
 use Rattle.std.proofs.lemmas.Result.{IfOk-weaker}
 use Rattle.arrays.specs.Batch.{rows_of}
 use Rattle.scan_base.specs.Predicate.{Pred}
@@ -10,17 +10,20 @@ use Rattle.table_versions.specs.Stored.{TableAt}
 use Rattle.typed_plan.specs.declared.plan.Plan.{Plan}
 use Rattle.typed_plan.specs.declared.plan.JoinKey.{JoinKey}
 use Rattle.typed_plan.specs.Held.{tree_schemas}
-use Rattle.typed_plan.specs.Plan.{Tree, filtered, joined}
+use Rattle.arrow_schema.specs.declared.schema.Schema.{Schema}
+use Rattle.table_versions.specs.Table.{Name}
+use Rattle.typed_plan.specs.Plan.{Tree, scan, filtered, joined}
 use Rattle.typed_plan.specs.Typed.{IsTypedTree, is_place, tree_types}
 use Rattle.typed_plan.specs.View.{tree_of}
 use Rattle.scan_exec.specs.declared.build.Sourced.{Sourced}
 use Rattle.scan_exec.specs.Begun.{CanJoin, IsBegun, JoinsRows, sourced_at}
 use Rattle.scan_exec.specs.Given.{first_batches}
 use Rattle.scan_exec.specs.Joined.{source_at}
+use Rattle.opened_batches.specs.Narrow.{BeginsInFirst}
 use Rattle.scan_exec.specs.Picking.{IsPick}
 use Rattle.scan_exec.specs.Running.{picked_of}
 use Rattle.scan_exec.proofs.BeginPick.{pick_with}
-use Rattle.scan_exec.proofs.BeginPlan.{schemas_of, sides_tables, can_join, joined_begun}
+use Rattle.scan_exec.proofs.BeginPlan.{schemas_of, sides_tables, can_join, joined_begun, tree_some}
 use Rattle.scan_exec.proofs.BeginTree.{filter_begun, filter_pick}
 use Rattle.scan_exec.proofs.Sizes.{tree_size}
 use Rattle.scan_exec.proofs.build.+build.Goals as goal
@@ -75,6 +78,11 @@ returns-in-Filter-clause-few t c place =
 with_last : (all popped : List TableAt) (found : Option TableAt) (last : TableAt) → all ≡ popped ++ option_to_list found → found ≡ Some last → all ≡ popped ++ last ∷ []
 with_last all popped found last e is = e ∙ ap (λ (some : Option TableAt). popped ++ option_to_list some) is
 
+-- the first place is the same without the last one
+first_front : (tables : List TableAt) (last : TableAt) → 0 < length tables → first_batches (tables ++ last ∷ []) ≡ first_batches tables
+first_front [] last more = absurd (omega (arith, more))
+first_front (table ∷ tables) last more = refl
+
 pub build-requires-in-Join : goal.build-requires-in-Join
 build-requires-in-Join t c =
     let left = tree_of c.in-Join.left.value in
@@ -89,7 +97,11 @@ build-requires-in-Join t c =
       first_of (omega (arith, smaller), search (rules, smaller)),
       (
         subst (λ (plan : Plan). IsTypedTree (tree_of plan)) (sym c.into_inner-in-Join.ensures) typed.0,
-        ap (λ (plan : Plan). tree_schemas (tree_of plan)) c.into_inner-in-Join.ensures ∙ sides.0,
+        (
+          ap (λ (plan : Plan). tree_schemas (tree_of plan)) c.into_inner-in-Join.ensures ∙ sides.0,
+          subst (BeginsInFirst c.args.reading.from) (ap first_batches all ∙ first_front popped c.in_ok-table-in-Join.table
+              (omega (arith, tree_some left, ap length sides.0, length-map popped (λ (table : TableAt). table.schema)))) c.requires.first,
+        ),
       ),
     )
 
@@ -109,7 +121,7 @@ build-requires-in-Join-2 t c =
       first_of (omega (arith, smaller), search (rules, smaller)),
       (
         subst (λ (plan : Plan). IsTypedTree (tree_of plan)) (sym c.into_inner-in-Join-2.ensures) typed.1,
-        ap (λ (plan : Plan). tree_schemas (tree_of plan)) c.into_inner-in-Join-2.ensures ∙ sides.1 ∙ ap schemas_of (sym lasts),
+        (ap (λ (plan : Plan). tree_schemas (tree_of plan)) c.into_inner-in-Join-2.ensures ∙ sides.1 ∙ ap schemas_of (sym lasts), inl refl),
       ),
     )
 
@@ -172,3 +184,30 @@ returns-clause-few t c =
     (λ (made : Sourced). is_place (tree_of c.args.plan) ≡ true → length (source_at made.source).ahead ≤ length (flat_map rows_of (first_batches c.args.tables.items)))
     (λ (made : Sourced) joins place. absurd cc)
     c.join_source.ensures.joins
+
+-- the one table of a place
+single : (tables popped : List TableAt) (last : TableAt) (schema : Schema) → schema ∷ [] ≡ schemas_of tables → tables ≡ popped ++ last ∷ [] →
+    (tables ≡ last ∷ []) × (schema ≡ last.schema)
+single tables [] last schema e all =
+    let one : schema ∷ [] ≡ last.schema ∷ [] = e ∙ ap schemas_of all in
+    (all, cc)
+single tables (first ∷ popped) last schema e all =
+    absurd (omega (arith, ap length e, ap length all, length-map tables (λ (table : TableAt). table.schema), length-append popped (last ∷ [])))
+
+pub returns-in-Scan-clause-begun : goal.returns-in-Scan-clause-begun
+returns-in-Scan-clause-begun t c =
+    let table = c.in_ok-table-in-Scan.table in
+    let name = c.in-Scan.table in
+    let some = c.in-Scan.columns in
+    let from = c.args.reading.from in
+    let to = c.args.reading.to in
+    let tree : tree_of c.args.plan ≡ scan name c.in-Scan.schema some = ap tree_of c.in-Scan.is in
+    let all = with_last c.args.tables.items c.pop.new.self.items c.pop.result table c.pop.ensures.items c.in_ok-table-in-Scan.ensures.ok_part in
+    let one = single c.args.tables.items c.pop.new.self.items table c.in-Scan.schema (sym (ap tree_schemas tree) ∙ c.requires.schemas) all in
+    IfOk-weaker c.scan_source.result (λ (made : Sourced). (name : Name) → IsBegun (scan name table.schema some) (table ∷ []) from to (sourced_at made))
+    (λ (made : Sourced). IsBegun (tree_of c.args.plan) c.args.tables.items from to (sourced_at made))
+    (λ (made : Sourced) begun.
+    subst (λ (tables : List TableAt). IsBegun (tree_of c.args.plan) tables from to (sourced_at made)) (sym one.0)
+    (subst (λ (some_tree : Tree). IsBegun some_tree (table ∷ []) from to (sourced_at made)) (sym tree)
+    (subst (λ (schema : Schema). IsBegun (scan name schema some) (table ∷ []) from to (sourced_at made)) (sym one.1) (begun name))))
+    c.scan_source.ensures.begun

@@ -63,7 +63,7 @@ returns-clause-placed c =
 
 pub returns-clause-part : goal.returns-clause-part
 returns-clause-part c =
-    let few : length (table_of c.args.table.now).rows ≤ most_rows = omega (arith, c.rows-most.ensures.rows, c.rows-most.ensures.few) in
+    let few : length (table_of c.args.table.now).rows ≤ most_rows = omega (arith, c.rows-most.ensures.rows, c.rows-most.ensures.kept.few) in
     is_part c.args.table.now c.args.self.now c.requires.placed c.requires.more c.batches_are_rows.ensures c.batch-batch.result.now
     c.batch-batch.ensures.batch c.batch-batch.ensures.filled c.min-to.result (last_is c)
     (record { batch = c.batch-batch.result; from = c.args.self.now.at - c.args.self.now.start; to = c.min-to.result })
