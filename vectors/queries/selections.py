@@ -26,7 +26,7 @@ sys.dont_write_bytecode = True
 import table
 from table import BOOL, DECIMAL, UTF8, batch, bits, dictionary, encoding, field, integer, numbers, schema, texts
 from truths import (SIGNS, Name, all_of, among, any_of, between, compare, grouped, is_not_null, is_null, joined, kept,
-                    negated, not_among, not_between, number_of, sum_of, tested)
+                    may_hold, negated, not_among, not_between, number_of, statistics_of, sum_of, tested)
 
 LENGTHS = [0, 1, 63, 64, 65, 130]
 FIRSTS = range(8)
@@ -147,15 +147,16 @@ def each_table():
 
 
 EACH = each_table()
+STATISTICS = {name: statistics_of([row[name] for row in EACH.rows]) for name in EACH.rows[0]}
 SPREAD = itertools.cycle(ALL[step % 6 * 8 + (step + step // 24) % 8] for step in range(48))
 LONG = itertools.cycle(ALL[16 + (step + step // 8) % 8 + 8 * (step % 4)] for step in range(32))
 
 
 def of_each(predicate, place):
-    """A case: the numbers of the rows that a predicate keeps, of a range."""
+    """A case: the numbers of the rows that a predicate keeps, of a range. The batch is opened where it may hold one."""
     first, length = place
     rows = kept(EACH.rows[first : first + length], predicate)
-    batches = f" {min(len(rows), 1)} of {min(length, 1)}"
+    batches = f" {min(len(rows), 1)} of {int(length > 0 and may_hold(predicate, STATISTICS))}"
     return f"range {first} {first + length} SELECT k FROM each WHERE {predicate.text}", shown((row["k"],) for row in rows) + batches
 
 

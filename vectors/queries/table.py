@@ -171,6 +171,16 @@ def for_joins_and_groups():
     yield few_rows("letters", ("s", UTF8, ["b", None, "a"]), ("i", i64, [1, 2, 3]))
 
 
+def for_skipping():
+    """Tables whose batches are apart in their least and greatest values, or in their nulls."""
+    i64 = integer(64, True)
+    for name, batches in [("steps", [[1, 2], [10, 11]]), ("gap", [[2, 10]]), ("holes", [[1, 2], [None, 4]])]:
+        for values in batches:
+            heads = schema(field("a", i64, True)), b""
+            yield name, [("a", i64, values)], [heads, batch(2, column(i64, values, []))]
+    yield few_rows("small", ("k", integer(8, True), [1, None]))
+
+
 def hexed(data, periods=()):
     """Hexadecimal digits, in which what is repeated is written once behind its number, where that is shorter. Repeats of
     1 to 16 bytes are found, and those of the periods that are said."""
@@ -213,4 +223,4 @@ def put(name, columns, messages, periods=()):
 
 
 def puts():
-    return [put(*one) for one in [*two_columns(), six_rows(), many_rows(), *for_joins_and_groups()]]
+    return [put(*one) for one in [*two_columns(), six_rows(), many_rows(), *for_joins_and_groups(), *for_skipping()]]

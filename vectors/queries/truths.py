@@ -2,8 +2,11 @@
 loops, and groups by first appearance.
 
 A value is None, a truth value, a whole number or a text. A row is a dict from a column's name to its value. A predicate
-has its text and says its truth in a row: True, False, or None for unknown. Nothing is shared with the crates.
+has its text and says its truth in a row: True, False, or None for unknown. It also says which truths are possible in a batch
+of which only the statistics of each column are known. Nothing is shared with the crates.
 """
+import functools
+import itertools
 import operator
 from collections.abc import Callable
 from dataclasses import dataclass
@@ -20,9 +23,19 @@ class Name:
 
 
 @dataclass(frozen=True)
+class Statistics:
+    """The least and the greatest of some values, or None where all are null, and whether one is null."""
+
+    ends: tuple | None
+    nulls: bool
+
+
+@dataclass(frozen=True)
 class Predicate:
     text: str
     truth: Callable[[dict], bool | None]
+    possible: Callable[[dict], set]  # the possible truths, of a dict from a column's name to its statistics
+    conjuncts: tuple = ()  # of an AND
 
 
 # ---- operands
@@ -30,6 +43,20 @@ class Predicate:
 
 def value(operand, row):
     return row[operand.column] if isinstance(operand, Name) else operand
+
+
+def order(one):
+    return one.encode() if isinstance(one, str) else one
+
+
+def statistics_of(values):
+    stand = sorted((one for one in values if one is not None), key=order)
+    return Statistics((stand[0], stand[-1]) if stand else None, len(stand) < len(values))
+
+
+def statistics_in(operand, batch):
+    """A literal is as a column of one value."""
+    return batch[operand.column] if isinstance(operand, Name) else statistics_of([operand])
 
 
 def spelled(operand):
@@ -66,67 +93,102 @@ def compared(left, sign, right):
     return SIGNS[sign](left, right)
 
 
+# ---- possible truths
+
+
+def possible_of(left, sign, right):
+    """Those of a comparison of two sides. Two ranges that overlap may meet in one value."""
+    if left.ends is None or right.ends is None:
+        return {None}
+    found = {compared(one, sign, other) for one, other in itertools.product(left.ends, right.ends)}
+    if sign in ("=", "<>") and compared(left.ends[0], "<=", right.ends[1]) and compared(right.ends[0], "<=", left.ends[1]):
+        found.add(sign == "=")
+    return found | ({None} if left.nulls or right.nulls else set())
+
+
+def over(table, *sets):
+    """What a table of two truths gives over each choice of one of each set."""
+    return functools.reduce(lambda one, other: {table(pair) for pair in itertools.product(one, other)}, sets)
+
+
+def may_hold(predicate, batch):
+    """Whether a batch may hold a row that is kept: no conjunct is without the possible truth TRUE."""
+    if predicate.conjuncts:
+        return all(may_hold(part, batch) for part in predicate.conjuncts)
+    return True in predicate.possible(batch)
+
+
 # ---- predicates
 
 
 def compare(left, sign, right):
     text = f"{spelled(left)} {sign} {spelled(right)}"
-    return Predicate(text, lambda row: compared(value(left, row), sign, value(right, row)))
+    return Predicate(text, lambda row: compared(value(left, row), sign, value(right, row)),
+                     lambda batch: possible_of(statistics_in(left, batch), sign, statistics_in(right, batch)))
+
+
+def inverse(inner, text):
+    return Predicate(text, lambda row: negation(inner.truth(row)), lambda batch: {negation(one) for one in inner.possible(batch)})
 
 
 def between(operand, low, high):
-    def truth(row):
-        of, least, greatest = (value(one, row) for one in (operand, low, high))
-        return lesser([compared(of, ">=", least), compared(of, "<=", greatest)])
-
-    return Predicate(f"{spelled(operand)} BETWEEN {spelled(low)} AND {spelled(high)}", truth)
+    both = all_of(compare(operand, ">=", low), compare(operand, "<=", high))
+    return Predicate(f"{spelled(operand)} BETWEEN {spelled(low)} AND {spelled(high)}", both.truth, both.possible)
 
 
 def among(operand, *items):
     """IN."""
-
-    def truth(row):
-        return greater([compared(value(operand, row), "=", value(item, row)) for item in items])
-
-    return Predicate(f"{spelled(operand)} IN ({', '.join(map(spelled, items))})", truth)
+    one = any_of(*(compare(operand, "=", item) for item in items))
+    return Predicate(f"{spelled(operand)} IN ({', '.join(map(spelled, items))})", one.truth, one.possible)
 
 
 def not_between(*operands):
     inner = between(*operands)
-    return Predicate(inner.text.replace(" BETWEEN ", " NOT BETWEEN ", 1), lambda row: negation(inner.truth(row)))
+    return inverse(inner, inner.text.replace(" BETWEEN ", " NOT BETWEEN ", 1))
 
 
 def not_among(*operands):
     inner = among(*operands)
-    return Predicate(inner.text.replace(" IN ", " NOT IN ", 1), lambda row: negation(inner.truth(row)))
+    return inverse(inner, inner.text.replace(" IN ", " NOT IN ", 1))
 
 
 def is_null(operand):
-    return Predicate(f"{spelled(operand)} IS NULL", lambda row: value(operand, row) is None)
+    def possible(batch):
+        of = statistics_in(operand, batch)
+        return ({True} if of.nulls else set()) | ({False} if of.ends else set())
+
+    return Predicate(f"{spelled(operand)} IS NULL", lambda row: value(operand, row) is None, possible)
 
 
 def is_not_null(operand):
-    return Predicate(f"{spelled(operand)} IS NOT NULL", lambda row: value(operand, row) is not None)
+    return inverse(is_null(operand), f"{spelled(operand)} IS NOT NULL")
 
 
 def tested(part, word):
     """`part IS word`, of a word as `TRUE` or `NOT UNKNOWN`."""
     wanted = {"TRUE": True, "FALSE": False, "UNKNOWN": None}[word.removeprefix("NOT ")]
-    return Predicate(f"({part.text}) IS {word}", lambda row: (part.truth(row) is wanted) != word.startswith("NOT "))
+
+    def test(truth):
+        return (truth is wanted) != word.startswith("NOT ")
+
+    return Predicate(f"({part.text}) IS {word}", lambda row: test(part.truth(row)),
+                     lambda batch: {test(one) for one in part.possible(batch)})
 
 
 def negated(part):
-    return Predicate(f"NOT ({part.text})", lambda row: negation(part.truth(row)))
+    return inverse(part, f"NOT ({part.text})")
 
 
 def all_of(*parts):
     """AND, of parts in parentheses where they have an AND or OR."""
     text = " AND ".join(f"({part.text})" if {"AND", "OR"} & set(part.text.split()) else part.text for part in parts)
-    return Predicate(text, lambda row: lesser([part.truth(row) for part in parts]))
+    return Predicate(text, lambda row: lesser([part.truth(row) for part in parts]),
+                     lambda batch: over(lesser, *(part.possible(batch) for part in parts)), parts)
 
 
 def any_of(*parts):
-    return Predicate(" OR ".join(part.text for part in parts), lambda row: greater([part.truth(row) for part in parts]))
+    return Predicate(" OR ".join(part.text for part in parts), lambda row: greater([part.truth(row) for part in parts]),
+                     lambda batch: over(greater, *(part.possible(batch) for part in parts)))
 
 
 # ---- rows

@@ -444,18 +444,34 @@ RANGES = [
     (4, 2, "SELECT b FROM t", [], 0, 0),
     (5, 100, "SELECT b FROM t", [60], 1, 1),
     (6, 100, "SELECT b FROM t", [], 0, 0),
-    (0, 6, "SELECT b, a, a FROM t WHERE a = 3", [(None, 3, 3)], 1, 3),
-    (1, 5, "SELECT a FROM t WHERE a >= 3", [3, 4, 5], 2, 3),
+    (0, 6, "SELECT b, a, a FROM t WHERE a = 3", [(None, 3, 3)], 1, 1),
+    (1, 5, "SELECT a FROM t WHERE a >= 3", [3, 4, 5], 2, 2),
     (0, 6, "SELECT a FROM t WHERE a <> 4", [1, 3, 5, 6], 3, 3),
-    (1, 4, "SELECT a FROM t WHERE a > 4", [], 0, 2),
+    (1, 4, "SELECT a FROM t WHERE a > 4", [], 0, 0),
     (3, 5, "SELECT * FROM t WHERE b > 0", [(4, 40), (5, 50)], 2, 2),
     # over the rows 1, null and 3, and over the row (3, null)
-    (0, 3, "SELECT a FROM t WHERE a NOT IN (1)", [3], 1, 2),
-    (0, 3, "SELECT a FROM t WHERE (a = 1) IS UNKNOWN", [None], 1, 2),
+    (0, 3, "SELECT a FROM t WHERE a NOT IN (1)", [3], 1, 1),
+    (0, 3, "SELECT a FROM t WHERE (a = 1) IS UNKNOWN", [None], 1, 1),
     (2, 3, "SELECT a FROM t WHERE a NOT IN (1, b)", [], 0, 1),
     # of a join the other place is opened whole
     (0, 1, "SELECT x.i, y.i FROM pairs AS x JOIN pairs AS y ON x.a = y.a", [(10, 10), (10, 20)], 1, 2),
     (1, 2, "SELECT x.i, y.i FROM pairs AS x JOIN pairs AS y ON x.a = y.a", [(20, 10), (20, 20)], 1, 2),
+    # a batch stays closed in which a conjunct cannot be true
+    (0, 4, "SELECT a FROM steps WHERE a > 5 OR a IS NULL", [10, 11], 1, 1),
+    (0, 4, "SELECT a FROM steps WHERE a > 5", [10, 11], 1, 1),
+    (0, 4, "SELECT a FROM steps WHERE a BETWEEN 3 AND 9", [], 0, 0),
+    (0, 2, "SELECT a FROM gap WHERE a BETWEEN 3 AND 9", [], 0, 1),
+    (0, 4, "SELECT a FROM holes WHERE a IS NULL", [None], 1, 1),
+    (0, 2, "SELECT k FROM small WHERE NOT (k < 1000)", [], 0, 0),
+    (0, 2, "SELECT k FROM small WHERE k < 1000", [1], 1, 1),
+    (0, 4, "SELECT a FROM steps WHERE 1 = 2", [], 0, 0),
+    (0, 4, "SELECT COUNT(*) FROM steps", [4], 1, 2),
+    (0, 4, "SELECT COUNT(*) FROM steps WHERE a > 20", [0], 1, 0),
+    # of each place, by the conjuncts that name columns of no other one
+    (0, 4, "SELECT x.a, y.a FROM steps x JOIN steps y ON x.a = y.a WHERE 1 = 2", [], 0, 0),
+    (0, 4, "SELECT x.a, y.a FROM steps x JOIN steps y ON x.a = y.a WHERE x.a > 5 AND y.a < 5", [], 0, 2),
+    (0, 4, "SELECT x.a, y.a FROM steps x JOIN steps y ON x.a = y.a WHERE x.a > 5 AND y.a > 5", [(10, 10), (11, 11)], 1, 2),
+    (0, 4, "SELECT x.a, y.a FROM steps x JOIN steps y ON x.a = y.a WHERE x.a > 5 OR y.a < 5", [(1, 1), (2, 2), (10, 10), (11, 11)], 2, 4),
 ]
 
 # The columns of a result: names as they are written, the types of answers, and whether they may be null.
