@@ -1,0 +1,5 @@
+pub mod Stats
+pub mod Sides
+pub mod Held
+pub mod Columns
+pub mod inside

@@ -1,0 +1,4 @@
+-- What contracts of this crate's private functions alone cite.
+pub mod Measured
+pub mod Slots
+pub mod TextSlots

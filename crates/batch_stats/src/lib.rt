@@ -1,0 +1,17 @@
+//! The statistics of a column: the least and the greatest value that is not null, and how many are null.
+#![tactic(auto)]
+
+mod codes;
+mod entries;
+mod flags;
+pub mod measured;
+mod numbers;
+pub mod side;
+pub mod stats;
+mod texts;
+mod validity;
+mod wide;
+
+pub use crate::measured::MeasuredBatch;
+pub use crate::side::{Ends, Side};
+pub use crate::stats::Stats;

@@ -1,0 +1,159 @@
+//! The statistics of columns of numbers.
+
+ghost use Rattle.std.specs.Prelude.{◌≡◌, ◌≤◌, ◌+◌, ◌*◌, length, None, Some};
+ghost use Rattle.scan_base.specs.declared.value.Value.TheVariants.{Int};
+ghost use Rattle.arrays.specs.Column.{ColumnAt};
+ghost use Rattle.arrays.specs.Number.{element_at};
+ghost use Rattle.arrays.specs.Validity.{where_valid};
+ghost use Rattle.arrays.specs.declared.layout.Layout.TheVariants.{Integers as IntegersLayout, Decimals as DecimalsLayout};
+ghost use Rattle.batch_stats.specs.Held.{ends_held, AreSlots, IsStatsOf};
+ghost use Rattle.batch_stats.specs.Stats.{with_value};
+ghost use Rattle.batch_stats.specs.inside.Slots.{ends_with, HasBits};
+
+use crate::stats::Stats;
+use crate::validity::{first_valid, is_valid};
+use crate::wide::Wide;
+use arrays::{Decimals, Integers};
+use arrow_schema::IntegerType;
+use bitmap::Bits;
+
+/// Packed numbers in slots, and where there may be nulls the bits that say which slots are valid.
+#[derive(Clone, Copy, Drop)]
+pub(crate) struct Packed<'a> {
+    pub(crate) values: &'a [u8],
+    pub(crate) validity: &'a Option<Bits>,
+}
+
+/// The least and the greatest of some numbers.
+#[derive(Clone, Copy, Drop)]
+pub(crate) struct NumberRange<E> {
+    pub(crate) least: E,
+    pub(crate) greatest: E,
+}
+
+impl<E: Wide> NumberRange<E> {
+    // The same with one number more.
+    fn with(self, number: E) -> NumberRange<E>
+        ensures { Some (Int (E.value result.least), Int (E.value result.greatest))
+            ≡ with_value (Some (Int (E.value self.least), Int (E.value self.greatest))) (Int (E.value number)) }
+    {
+        NumberRange {
+            least: if number < self.least {
+                number
+            } else {
+                self.least
+            },
+            greatest: if self.greatest < number {
+                number
+            } else {
+                self.greatest
+            },
+        }
+    }
+
+    // The same with the numbers `from` up to, not with, `to`.
+    fn with_all(self, values: &[u8], from: usize, to: usize) -> NumberRange<E>
+        requires { E.WIDTH * to ≤ length values.now }
+        ensures { Some (Int (E.value result.least), Int (E.value result.greatest))
+            ≡ ends_with (Some (Int (E.value self.least), Int (E.value self.greatest)))
+            (λ place. Int (E.value (E.of_bits (element_at E.WIDTH values.now place)))) from to }
+    {
+        let mut range = self;
+        for place in from..to {
+            range = range.with(E::read(values, place));
+        }
+        range
+    }
+
+    // The same with those that are valid.
+    fn with_valid(self, packed: &Packed<'_>, from: usize, to: usize) -> NumberRange<E>
+        requires room { E.WIDTH * to ≤ length packed.now.values.now }
+        requires bits { HasBits packed.now.validity.now to }
+        ensures { Some (Int (E.value result.least), Int (E.value result.greatest))
+            ≡ ends_with (Some (Int (E.value self.least), Int (E.value self.greatest)))
+            (where_valid packed.now.validity.now (λ place. Int (E.value (E.of_bits (element_at E.WIDTH packed.now.values.now place))))) from to }
+    {
+        let mut range = self;
+        for place in from..to {
+            let more = range.with(E::read(packed.values, place));
+            if is_valid(packed.validity, place) {
+                range = more;
+            }
+        }
+        range
+    }
+
+    // The same: without a test of each slot, where there are no bits.
+    fn with_slots(self, packed: &Packed<'_>, from: usize, to: usize) -> NumberRange<E>
+        requires room { E.WIDTH * to ≤ length packed.now.values.now }
+        requires bits { HasBits packed.now.validity.now to }
+        ensures { Some (Int (E.value result.least), Int (E.value result.greatest))
+            ≡ ends_with (Some (Int (E.value self.least), Int (E.value self.greatest)))
+            (where_valid packed.now.validity.now (λ place. Int (E.value (E.of_bits (element_at E.WIDTH packed.now.values.now place))))) from to }
+    {
+        match packed.validity {
+            None => self.with_all(packed.values, from, to),
+            Some(_) => self.with_valid(packed, from, to),
+        }
+    }
+}
+
+// The statistics of the slots `from` up to, not with, `to`.
+fn numbers_stats<E: Wide>(packed: &Packed<'_>, from: usize, to: usize) -> Stats
+    requires ordered { from ≤ to }
+    requires room { E.WIDTH * to ≤ length packed.now.values.now }
+    requires bits { HasBits packed.now.validity.now to }
+    ensures ends { (column : ColumnAt) → ends_held column result ≡ ends_with None
+        (where_valid packed.now.validity.now (λ place. Int (E.value (E.of_bits (element_at E.WIDTH packed.now.values.now place))))) from to }
+    ensures slots { (column : ColumnAt) → AreSlots column result }
+{
+    let Some(start) = first_valid(packed.validity, from, to) else {
+        return Stats::Nulls;
+    };
+    let number = E::read(packed.values, start);
+    let one = NumberRange {
+        least: number,
+        greatest: number,
+    };
+    let range = one.with_slots(packed, start + 1, to);
+    Stats::Numbers {
+        least: range.least.wide(),
+        greatest: range.greatest.wide(),
+    }
+}
+
+/// The statistics of `len` slots of integers from `first` on.
+pub(crate) fn integers_stats(cells: &Integers<'_>, first: usize, len: usize) -> Stats
+    requires { first + len ≤ (cells.now).len }
+    ensures { IsStatsOf (record { layout = IntegersLayout cells.now; first = first; len = len }) result }
+{
+    let _count = cells.len();
+    let packed = Packed {
+        values: cells.values(),
+        validity: cells.validity(),
+    };
+    let to = first + len;
+    match cells.integer_type() {
+        IntegerType::Int8 => numbers_stats::<i8>(&packed, first, to),
+        IntegerType::Int16 => numbers_stats::<i16>(&packed, first, to),
+        IntegerType::Int32 => numbers_stats::<i32>(&packed, first, to),
+        IntegerType::Int64 => numbers_stats::<i64>(&packed, first, to),
+        IntegerType::UInt8 => numbers_stats::<u8>(&packed, first, to),
+        IntegerType::UInt16 => numbers_stats::<u16>(&packed, first, to),
+        IntegerType::UInt32 => numbers_stats::<u32>(&packed, first, to),
+        IntegerType::UInt64 => numbers_stats::<u64>(&packed, first, to),
+    }
+}
+
+/// The statistics of `len` slots of decimals from `first` on.
+pub(crate) fn decimals_stats(cells: &Decimals<'_>, first: usize, len: usize) -> Stats
+    requires { first + len ≤ (cells.now).len }
+    ensures { IsStatsOf (record { layout = DecimalsLayout cells.now; first = first; len = len }) result }
+{
+    let _count = cells.len();
+    let packed = Packed {
+        values: cells.values(),
+        validity: cells.validity(),
+    };
+    numbers_stats::<i128>(&packed, first, first + len)
+}
