@@ -1,0 +1,8 @@
+pub mod Sets
+pub mod Orders
+pub mod Compared
+pub mod Possibles
+pub mod Ends
+pub mod SameCells
+pub mod InBatch
+mod Rows

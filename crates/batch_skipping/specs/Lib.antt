@@ -1,0 +1,3 @@
+pub mod Possible
+pub mod Can
+pub mod Laws

@@ -1,0 +1,149 @@
+//! The possible truths of a predicate on a batch.
+
+ghost use Rattle.std.specs.Prelude.{◌≡◌, Bool, IsTrue};
+ghost use Rattle.std.specs.List.{list_all};
+ghost use Rattle.scan_base.specs.Predicate.{names_only, operand_names};
+ghost use Rattle.scan_base.specs.View.{pred_of};
+ghost use Rattle.batch_skipping.specs.Can.{can, can_be_among, can_be_null, can_be_within, can_compare, side_of};
+ghost use Rattle.batch_stats.specs.Sides.{side_at};
+ghost use Rattle.batch_stats.specs.Stats.{StatsAt};
+
+use crate::compare::{can_be_null, can_compare};
+use crate::possible::Possible;
+use batch_stats::Side;
+use scan_base::{Comparison, Operand, Predicate, Truth};
+
+/// The statistics of the columns of a batch, by what names a column.
+pub trait Measured<C> {
+    /// The statistics of a column.
+    ghost stats: { Self → C → StatsAt };
+
+    /// Whether the batch has the column.
+    ghost has: { Self → C → Bool };
+
+    /// What the values of a column are between, and how many are null.
+    fn side(&self, column: &C) -> Side<'_>
+        requires { IsTrue (has self.now column.now) }
+        ensures { side_at result ≡ stats self.now column.now };
+}
+
+// The statistics of an operand: of a literal those of its one value.
+fn side_of<'a, C, M: Measured<C>>(operand: &'a Operand<C>, batch: &'a M) -> Side<'a>
+    requires { IsTrue (operand_names (M.has batch.now) operand.now) }
+    ensures { side_at result ≡ side_of (M.stats batch.now) operand.now }
+{
+    match operand {
+        Operand::Column(column) => batch.side(column),
+        Operand::Literal(value) => Side::of(value),
+    }
+}
+
+// The functions of the leaves are not inlined: a chain has a frame of `can` for each side, which is to be small.
+
+// left comparison right
+#[inline(never)]
+fn can_be_compared<C, M: Measured<C>>(
+    comparison: Comparison,
+    left: &Operand<C>,
+    right: &Operand<C>,
+    batch: &M,
+) -> Possible
+    requires left { IsTrue (operand_names (M.has batch.now) left.now) }
+    requires right { IsTrue (operand_names (M.has batch.now) right.now) }
+    ensures { result ≡ can_compare comparison (side_of (M.stats batch.now) left.now) (side_of (M.stats batch.now) right.now) }
+{
+    can_compare(comparison, side_of(left, batch), side_of(right, batch))
+}
+
+// operand >= low AND operand <= high
+#[inline(never)]
+fn can_be_within<C, M: Measured<C>>(
+    operand: &Operand<C>,
+    low: &Operand<C>,
+    high: &Operand<C>,
+    batch: &M,
+) -> Possible
+    requires operand { IsTrue (operand_names (M.has batch.now) operand.now) }
+    requires low { IsTrue (operand_names (M.has batch.now) low.now) }
+    requires high { IsTrue (operand_names (M.has batch.now) high.now) }
+    ensures { result ≡ can_be_within (side_of (M.stats batch.now) operand.now)
+        (side_of (M.stats batch.now) low.now) (side_of (M.stats batch.now) high.now) }
+{
+    let side = side_of(operand, batch);
+    let above = can_compare(Comparison::GreaterOrEqual, side, side_of(low, batch));
+    above.and(can_compare(Comparison::LessOrEqual, side, side_of(high, batch)))
+}
+
+// The OR of the equalities with each item.
+#[inline(never)]
+fn can_be_among<C, M: Measured<C>>(
+    operand: &Operand<C>,
+    items: &[Operand<C>],
+    batch: &M,
+) -> Possible
+    requires operand { IsTrue (operand_names (M.has batch.now) operand.now) }
+    requires items { IsTrue (list_all (operand_names (M.has batch.now)) items.now) }
+    ensures { result ≡ can_be_among (M.stats batch.now) (side_of (M.stats batch.now) operand.now) items.now }
+{
+    let side = side_of(operand, batch);
+    let mut found = Possible::only(Truth::False);
+    for index in (0..items.len()).rev() {
+        let item = side_of(&items[index], batch);
+        found = can_compare(Comparison::Equal, side, item).or(found);
+    }
+    found
+}
+
+// operand IS NULL
+#[inline(never)]
+fn can_be_missing<C, M: Measured<C>>(operand: &Operand<C>, batch: &M) -> Possible
+    requires { IsTrue (operand_names (M.has batch.now) operand.now) }
+    ensures { result ≡ can_be_null (side_of (M.stats batch.now) operand.now) }
+{
+    can_be_null(side_of(operand, batch))
+}
+
+// The possible truths of a predicate.
+fn can<C, M: Measured<C>>(predicate: &Predicate<C>, batch: &M) -> Possible
+    requires { IsTrue (names_only (M.has batch.now) (pred_of predicate.now)) }
+    ensures { result ≡ can (M.stats batch.now) (pred_of predicate.now) }
+{
+    match predicate {
+        Predicate::And(left, right) => can(left, batch).and(can(right, batch)),
+        Predicate::Or(left, right) => can(left, batch).or(can(right, batch)),
+        Predicate::Not(predicate) => can(predicate, batch).not(),
+        Predicate::Is {
+            negated,
+            tested,
+            predicate,
+        } => can(predicate, batch).is(*tested).not_if(*negated),
+        Predicate::Compare {
+            comparison,
+            left,
+            right,
+        } => can_be_compared(*comparison, left, right, batch),
+        Predicate::Between {
+            negated,
+            operand,
+            low,
+            high,
+        } => can_be_within(operand, low, high, batch).not_if(*negated),
+        Predicate::In {
+            negated,
+            operand,
+            items,
+        } => can_be_among(operand, items.as_slice(), batch).not_if(*negated),
+        Predicate::IsNull { negated, operand } => {
+            can_be_missing(operand, batch).not_if(*negated)
+        }
+        Predicate::Constant(truth) => Possible::only(*truth),
+    }
+}
+
+/// Whether a predicate can be true in a row of a batch, by the statistics of its columns. It takes no memory.
+pub fn may_hold<C, M: Measured<C>>(conjunct: &Predicate<C>, batch: &M) -> bool
+    requires { IsTrue (names_only (M.has batch.now) (pred_of conjunct.now)) }
+    ensures { result ≡ (can (M.stats batch.now) (pred_of conjunct.now)).can_true }
+{
+    can(conjunct, batch).can_true
+}

@@ -1,0 +1,102 @@
+//! The possible truths of a comparison of two sides, and of IS NULL.
+
+ghost use Rattle.std.specs.Prelude.{◌≡◌};
+ghost use Rattle.scan_base.specs.Value.{value_of};
+ghost use Rattle.batch_skipping.specs.Can.{can_be_null, can_compare, equal_between, less_between, of_sides};
+ghost use Rattle.batch_stats.specs.Sides.{ends_at, side_at};
+ghost use Rattle.batch_stats.specs.Stats.{stand};
+
+use crate::possible::Possible;
+use batch_stats::{Ends, Side};
+use scan_base::{Comparison, Truth, ValueRef};
+
+// Whether a comparison of two values is true.
+fn stand(comparison: Comparison, left: ValueRef<'_>, right: ValueRef<'_>) -> bool
+    ensures { result ≡ stand comparison (value_of left.entry) (value_of right.entry) }
+{
+    left.compare(comparison, right) == Truth::True
+}
+
+// Whether `=` can be true, and false, of values between these ends.
+fn equal_between(left: Ends<'_>, right: Ends<'_>) -> (bool, bool)
+    ensures { result ≡ equal_between (ends_at left.entry) (ends_at right.entry) }
+{
+    let can_true = stand(Comparison::LessOrEqual, left.least, right.greatest)
+        && stand(Comparison::LessOrEqual, right.least, left.greatest);
+    let is_one_value = stand(Comparison::Equal, left.least, left.greatest)
+        && (stand(Comparison::Equal, right.least, right.greatest)
+            && stand(Comparison::Equal, left.least, right.least));
+    (can_true, !is_one_value)
+}
+
+// Whether `<` can be true, and false, of values between these ends.
+fn less_between(left: Ends<'_>, right: Ends<'_>) -> (bool, bool)
+    ensures { result ≡ less_between (ends_at left.entry) (ends_at right.entry) }
+{
+    (
+        stand(Comparison::Less, left.least, right.greatest),
+        stand(Comparison::GreaterOrEqual, left.greatest, right.least),
+    )
+}
+
+// The possible truths of `=`.
+fn can_be_equal(left: Side<'_>, right: Side<'_>) -> Possible
+    ensures { result ≡ of_sides equal_between (side_at left.entry) (side_at right.entry) }
+{
+    let can_unknown = left.nulls > 0 || right.nulls > 0;
+    match (left.ends, right.ends) {
+        (Some(a), Some(b)) if a.least.order(b.least).is_some() => {
+            let (can_true, can_false) = equal_between(a, b);
+            Possible {
+                can_true,
+                can_false,
+                can_unknown,
+            }
+        }
+        (_, _) => Possible::only(Truth::Unknown),
+    }
+}
+
+// The possible truths of `<`.
+fn can_be_less(left: Side<'_>, right: Side<'_>) -> Possible
+    ensures { result ≡ of_sides less_between (side_at left.entry) (side_at right.entry) }
+{
+    let can_unknown = left.nulls > 0 || right.nulls > 0;
+    match (left.ends, right.ends) {
+        (Some(a), Some(b)) if a.least.order(b.least).is_some() => {
+            let (can_true, can_false) = less_between(a, b);
+            Possible {
+                can_true,
+                can_false,
+                can_unknown,
+            }
+        }
+        (_, _) => Possible::only(Truth::Unknown),
+    }
+}
+
+// The possible truths of a comparison of a value of the one side with a value of the other.
+#[tactic(auto, unfolding(crate::specs::Can::can_compare))]
+pub(crate) fn can_compare(comparison: Comparison, left: Side<'_>, right: Side<'_>) -> Possible
+    ensures { result ≡ can_compare comparison (side_at left.entry) (side_at right.entry) }
+{
+    match comparison {
+        Comparison::Equal => can_be_equal(left, right),
+        Comparison::NotEqual => can_be_equal(left, right).not(),
+        Comparison::Less => can_be_less(left, right),
+        Comparison::Greater => can_be_less(right, left),
+        Comparison::LessOrEqual => can_be_less(right, left).not(),
+        Comparison::GreaterOrEqual => can_be_less(left, right).not(),
+    }
+}
+
+// The possible truths of IS NULL of a value of a side.
+pub(crate) fn can_be_null(side: Side<'_>) -> Possible
+    ensures { result ≡ can_be_null (side_at side.entry) }
+{
+    Possible {
+        can_true: side.nulls > 0,
+        can_false: side.ends.is_some(),
+        can_unknown: false,
+    }
+}
