@@ -1,0 +1,16 @@
+pub mod Rows
+pub mod Filters
+pub mod Naming
+pub mod Splitting
+pub mod PushedRows
+pub mod Below
+pub mod Skipping
+pub mod Pruning
+pub mod Folding
+pub mod TakenApart
+pub mod WellTyped
+pub mod FoldedTrees
+pub mod Widths
+pub mod Databases
+pub mod PushedTrees
+pub mod FoldedPushed

@@ -1,0 +1,7 @@
+pub mod Places
+pub mod Conjuncts
+pub mod Pushed
+pub mod Laws
+pub mod Pruned
+pub mod Folded
+pub mod Same
