@@ -136,6 +136,7 @@ stands_after new middle old tree one other = record {
   places = λ places wide.
       one.places places (subst (λ (t : Tree). AreWide t places) (sym tree) (folded_wide (tree_of old.plan) places wide))
       ∙ other.places places wide;
+  grouping = one.grouping ∙ other.grouping;
   tables = one.tables ∙ other.tables;
   schema = one.schema ∙ other.schema;
 }

@@ -17,7 +17,7 @@ use Rattle.typed_plan.specs.Faults.{◌then◌, predicate_fault, first_in}
 use Rattle.typed_plan.specs.Held.{tree_schemas}
 use Rattle.typed_plan.specs.Joined.{rows_between}
 use Rattle.typed_plan.specs.Plan.{Tree, scan, filtered, joined, is_true, joined_rows, tree_rows, output_rows}
-use Rattle.typed_plan.specs.Typed.{class_of_number, tree_types, is_place, IsTypedTree, key_fault, spans}
+use Rattle.typed_plan.specs.Typed.{class_of_number, tree_types, is_grouping, is_place, IsTypedTree, key_fault, spans}
 use Rattle.typed_plan.specs.View.{BoundAt, tree_of}
 use Rattle.rewrite.proofs.Folding.{folded_keeps, folded_names}
 use Rattle.rewrite.specs.Folded.{names_none, folded_atom, folded, folded_tree, is_folded, is_folded_tree}
@@ -119,6 +119,7 @@ folded_stands new old tree output tables schema = record {
       ap (λ (some : Tree). output_rows new.output (rows_over some places)) tree
       ∙ ap (output_rows new.output) (folded_rows (tree_of old.plan) places)
       ∙ ap (λ o. output_rows o (rows_over (tree_of old.plan) places)) output;
+  grouping = ap is_grouping output;
   tables = tables;
   schema = schema;
 }

@@ -10,7 +10,7 @@ use Rattle.typed_plan.specs.declared.plan.JoinKey.{JoinKey}
 use Rattle.typed_plan.specs.Faults.{◌then◌, predicate_fault, first_in}
 use Rattle.typed_plan.specs.Held.{tree_tables}
 use Rattle.typed_plan.specs.Plan.{Tree, scan, filtered, joined, output_rows}
-use Rattle.typed_plan.specs.Typed.{class_of_number, tree_types, is_place, IsTypedTree, key_fault, spans}
+use Rattle.typed_plan.specs.Typed.{class_of_number, tree_types, is_grouping, is_place, IsTypedTree, key_fault, spans}
 use Rattle.rewrite.proofs.Databases.{same_of_places}
 use Rattle.rewrite.proofs.PushedRows.{pushing_keeps_rows}
 use Rattle.rewrite.proofs.WellTyped.{fault_of_left, fault_of_right}
@@ -172,6 +172,7 @@ pushed_stands new old tree output tables schema =
     record {
       rows = same_of_places (plan_of new) (plan_of old) (ap tree_tables tree ∙ pushed_tables [] (tree_of old.plan)) same;
       places = same;
+      grouping = ap is_grouping output;
       tables = tables;
       schema = schema;
     }
