@@ -11,16 +11,16 @@ ghost use Rattle.typed_plan.specs.View.{tree_of};
 use scan_base::{Operand, Predicate, RowCells, ValueRef};
 use typed_plan::{Plan, TypedPlan};
 
-// A row without cells.
-struct NoCells;
+// A row whose every cell is NULL: literals do not look at it.
+struct NullCells;
 
-impl RowCells<usize> for NoCells {
+impl RowCells<usize> for NullCells {
     ghost use Rattle.scan_base.specs.declared.value.Value.TheVariants.{Null};
-    ghost use Rattle.std.specs.Prelude.{false};
+    ghost use Rattle.std.specs.Prelude.{true};
 
     ghost cell = { λ row column. Null };
 
-    ghost has = { λ row column. false };
+    ghost has = { λ row column. true };
 
     fn cell(&self, _column: &usize) -> ValueRef<'_> {
         ValueRef::Null
@@ -78,7 +78,7 @@ fn fold_atom(atom: &mut Predicate<usize>)
     ensures { pred_of atom.new ≡ folded_atom (pred_of atom.old) }
 {
     if has_literals_alone(atom) {
-        let truth = atom.truth(&NoCells);
+        let truth = atom.truth(&NullCells);
         *atom = Predicate::Constant(truth);
     }
 }
