@@ -1,4 +1,4 @@
--- Inside: tables of which a scan reads some batches alone.
+-- Tables of which a scan reads some batches alone.
 use Rattle.std.specs.Prelude.{◌≡◌, ◌≤◌, ◌⊎◌, ◌<◌, ℕ, ◌+◌, ◌-◌, IsTrue, List, [], ◌∷◌, length, min, slice_get}
 use Rattle.std.specs.List.{flat_map}
 use Rattle.std.specs.Option.{option_to_list}

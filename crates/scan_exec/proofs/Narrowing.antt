@@ -9,7 +9,7 @@ use Rattle.std.proofs.lemmas.List.Folds.{list_any-append, list_any_none}
 use Rattle.std.proofs.lemmas.Option.{slice_get_within}
 use Rattle.arrays.specs.Batch.{BatchAt, rows_of}
 use Rattle.arrays.specs.Typed.{AreOfTypes}
-use Rattle.table_versions.specs.Kept.{IsKept, AreSound, IsStorable}
+use Rattle.table_versions.specs.Kept.{IsKept, AreSound, IsStorable, Stands}
 use Rattle.table_versions.proofs.Storable.{first_false, second_false}
 use Rattle.table_versions.specs.Stored.{TableAt, table_of, has_rows}
 use Rattle.table_versions.specs.Table.{Row, has_bad_null, is_long_text}
@@ -80,6 +80,7 @@ narrowed_kept table numbers all rows kept can = record {
     typed = all_at (λ (batch : BatchAt). AreOfTypes table.schema.fields batch.columns) table.batches kept.storable.typed numbers;
   };
   filled = each_filled (batches_at numbers table.batches) (all_at (λ (batch : BatchAt). has_rows batch ≡ true) table.batches (filled_each table.batches kept.filled) numbers);
+  stand = all_at Stands table.batches kept.stand numbers;
   sound = record {
     nulls = none_at (has_bad_null table.schema.fields) table.batches numbers kept.sound.nulls;
     texts = none_at (list_any is_long_text) table.batches numbers kept.sound.texts;
