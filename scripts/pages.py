@@ -128,6 +128,7 @@ def list_of_files(amiss):
     rows = [f"{len(believed)} definitions in {len(among)} files: {machine + formats:,} lines of code. Our own machine and the "
             f"meaning of queries have {trusted_base.against(machine, trusted_base.MACHINE_GOAL)}, formats and grammar "
             f"{trusted_base.against(formats, trusted_base.FORMATS_GOAL)}.", "",
+            f"{trusted_base.missed_by_form(believed.values())}", "",
             "| Crate | To believe | Of other public calls, and of laws | Inside |", "|---|---|---|---|"]
     for crate in stands_on():
         specs = CRATES / crate / "specs"
@@ -240,7 +241,7 @@ def look_at_tour(page, text, amiss):
         crates = [name for name in re.findall(r"`(\w+)`", section.partition("\n")[0]) if (CRATES / name).exists()]
         said = "".join(path.read_text() for crate in crates for folder in ("specs", "src")
                        for path in CRATES.glob(f"{crate}/{folder}/**/*.*t*") if path.is_file())
-        for row, says in re.findall(r"(?m)^\| (`.*?) \| (.*?) \|", section) if crates else []:
+        for row, says in re.findall(r"(?m)^\| (`.*?|) ?\| (.*?) \|", section) if crates else []:
             amiss.extend(f"{page.relative_to(TOP)}: {name} does not stand in {', '.join(crates)}"
                          for name in re.findall(r"`([A-Za-z_]\w*)[^`.]*`", says) if not re.search(rf"(?<!\w){name}(?!\w)", said))
             for name in re.findall(r"(\w+)\.antt|, `(\w+)`", row):
