@@ -9,7 +9,8 @@ what scripts/trusted_base.py counts and what public contracts cite. Looked at, i
 that links lead to are there; that a name in a link to a source file stands in that file; that files and wrong bodies
 named in backticks are there; that each wrong body has its row in the README of its crate, with a link to where it
 stands, and fits the code; that code which is shown stands so in a source file; that the tour of docs/SEMANTICS.md leaves
-out no file to believe; and that README.md has at most 10,000 bytes.
+out no file to believe; that no sentence and no cell of a table has more than 35 words, where a code span is one word and
+quotations are left out; and that README.md has at most 10,000 bytes.
 """
 
 import pathlib
@@ -23,8 +24,11 @@ import trusted_base  # noqa: E402
 TOP = pathlib.Path(__file__).resolve().parent.parent
 CRATES = TOP / "crates"
 README_BYTES = 10_000
+MOST_WORDS = 35  # of a sentence, and of a cell
 LINK = re.compile(r"\[([^\]]*)\]\(([^)\s]+)\)")
 NAMED_FILE = re.compile(r"`((?:crates/)?(\w+)/(specs|src|proofs|must-fail)/[\w/{}, .-]+)`")
+STARTS_ANEW = re.compile(r"([-*>]|[1-9]\d*\.)\s|[|#]|<!--")
+SENTENCE_END = re.compile(r"(?<=[.!?])(?<!\.\.)[)*_\"]*\s+")
 BEGIN, END = "<!-- made by scripts/pages.py -->", "<!-- end -->"
 
 
@@ -261,6 +265,39 @@ def look_at_code(page, text, sources, amiss):
             amiss.append(f"{page.relative_to(TOP)}: no source has what begins {shown.splitlines()[0]!r}")
 
 
+def pieces(text):
+    """What a page says, each piece with its line and whether it is a cell: paragraphs, items of lists and cells of tables.
+    Code, headings and quotations are left out."""
+    text = re.sub(r"```.*?```", lambda code: "\n" * code[0].count("\n"), text, flags=re.S)
+    begin, held = 0, []
+    for number, line in enumerate([*text.split("\n"), ""], 1):
+        stripped = line.strip()
+        if held and (not stripped or STARTS_ANEW.match(stripped)):
+            yield begin, False, " ".join(held)
+            held = []
+        if stripped.startswith("|"):
+            yield from ((number, True, cell) for cell in re.split(r"(?<!\\)\|", stripped))
+        elif stripped and not stripped.startswith(("#", ">", "<!--")) and (held or STARTS_ANEW.match(stripped) or line[:4].strip()):
+            begin = begin if held else number
+            held.append(stripped)
+
+
+def words_in(said):
+    """How many words a sentence or a cell has: a code span is one, and of a link its label counts."""
+    said = re.sub(r"`[^`]*`", "x", LINK.sub(r"\1", said))
+    return sum(bool(re.search(r"\w", word)) for word in said.split())
+
+
+def look_at_lengths(page, text, amiss):
+    """Tells which sentences and cells have too many words."""
+    for line, is_cell, piece in pieces(text):
+        for said in [piece] if is_cell else SENTENCE_END.split(piece):
+            count = words_in(said)
+            if count > MOST_WORDS:
+                kind = "cell" if is_cell else "sentence"
+                amiss.append(f"{page.relative_to(TOP)}:{line}: {count} words in a {kind}: {' '.join(said.split()[:8])} ..")
+
+
 def pages():
     yield from sorted(TOP.glob("*.md"))
     for folder in ("docs", "bench", "plants", "scripts", "vectors", "crates"):
@@ -286,6 +323,7 @@ def main(words):
             look_at_tour(page, text, amiss)
         look_at_links(page, text, amiss)
         look_at_names(page, text, amiss)
+        look_at_lengths(page, text, amiss)
     look_at_wrong_bodies(amiss)
     look_at_edits(amiss)
     listed = stands_on()
