@@ -3,8 +3,8 @@
 behind 64,000 other puts.
 
 One `flightscan pipe` a case makes what has to be there first, and then takes 1,000 puts, each an append of one row, whose
-processor time is the server's own as the system counts it. Each answer is compared with the bytes that it has to be. Told is
-the least of some runs, and what the server holds more behind the 1,000 puts. Build the program first:
+processor time is the server's own as the system counts it. Each answer is compared with the bytes that it has to be. It tells
+the least of some runs, and what the server holds more after the 1,000 puts. Build the program first:
 `cd crates/flightscan && rt run -- pipe < stdin > /dev/null`.
 
     python3 bench/commits.py [--program PATH] [--runs N]        # some ten seconds a run

@@ -9,8 +9,8 @@ this is done with nobody writing, beside a writer that replaces a table of two r
 replaces a table of 1 MB. The client is bench/sockets.cpp, compiled with g++, with a thread for each connection; the kernel
 throws its answers away, so readers copy none of them. Each case has a server of its own and lasts S seconds (1.5), or
 until 60,000 small puts or 2,000 large ones were made, since a server takes 65,536 and keeps them all. All cases are gone
-through N times (5), and of each the run with the most fetches is told, and the least time of a put. Told too is how much
-of the processors the server and the clients took, how much others did beside them, and what the server holds at the end.
+through N times (5), and of each the run with the most fetches is told, and the least time of a put. It also tells how
+much of the processors the server and the clients took, how much others did beside them, and what the server holds at the end.
 The tables printed are those of bench/README.md. Build the program first, as for pipe.py.
 """
 

@@ -245,8 +245,8 @@ def table_of(log):
     seconds, whole, measured = times_of(path) if path.exists() else none
     slower = slower_by(seconds)
     lines = [f"The budget, in processor time of a quiet machine: at most {WHOLE_MINUTES} minutes with all stages, and {NOW_MINUTES} "
-             f"for what is built today; {PROOF_SECONDS} seconds for the proof of a crate, {TEST_SECONDS} for a test function; "
-             f"{MOST_EDITS} wrong bodies in all.", "", measured, "", *rows_of(counts, seconds), ""]
+             f"for what is built today. The proof of a crate has {PROOF_SECONDS} seconds, and a test function {TEST_SECONDS}. There "
+             f"are at most {MOST_EDITS} wrong bodies.", "", measured, "", *rows_of(counts, seconds), ""]
     if whole is not None:
         total, wall, held = whole
         lines.append(f"{total / 60:.0f} processor minutes in {wall / 60:.0f} minutes, with at most {held / 1e9:.1f} GB held at once. "

@@ -9,7 +9,8 @@ what scripts/trusted_base.py counts and what public contracts cite. Looked at, i
 that links lead to are there; that a name in a link to a source file stands in that file; that files and wrong bodies
 named in backticks are there; that each wrong body has its row in the README of its crate, with a link to where it
 stands, and fits the code; that code which is shown stands so in a source file; that the tour of docs/SEMANTICS.md leaves
-out no file to believe; and that README.md has at most 10,000 bytes.
+out no file to believe; that no sentence and no cell of a table has more than 35 words, where a code span is one word and
+quotations are left out; and that README.md has at most 9,216 bytes.
 """
 
 import pathlib
@@ -22,9 +23,12 @@ import trusted_base  # noqa: E402
 
 TOP = pathlib.Path(__file__).resolve().parent.parent
 CRATES = TOP / "crates"
-README_BYTES = 10_000
+README_BYTES = 9_216
+MOST_WORDS = 35  # of a sentence, and of a cell
 LINK = re.compile(r"\[([^\]]*)\]\(([^)\s]+)\)")
 NAMED_FILE = re.compile(r"`((?:crates/)?(\w+)/(specs|src|proofs|must-fail)/[\w/{}, .-]+)`")
+STARTS_ANEW = re.compile(r"([-*>]|[1-9]\d*\.)\s|[|#]|<!--")
+SENTENCE_END = re.compile(r"(?<=[.!?])(?<!\.\.)[)*_\"]*\s+")
 BEGIN, END = "<!-- made by scripts/pages.py -->", "<!-- end -->"
 
 
@@ -128,6 +132,7 @@ def list_of_files(amiss):
     rows = [f"{len(believed)} definitions in {len(among)} files: {machine + formats:,} lines of code. Our own machine and the "
             f"meaning of queries have {trusted_base.against(machine, trusted_base.MACHINE_GOAL)}, formats and grammar "
             f"{trusted_base.against(formats, trusted_base.FORMATS_GOAL)}.", "",
+            f"{trusted_base.missed_by_form(believed.values())}", "",
             "| Crate | To believe | Of other public calls, and of laws | Inside |", "|---|---|---|---|"]
     for crate in stands_on():
         specs = CRATES / crate / "specs"
@@ -240,7 +245,7 @@ def look_at_tour(page, text, amiss):
         crates = [name for name in re.findall(r"`(\w+)`", section.partition("\n")[0]) if (CRATES / name).exists()]
         said = "".join(path.read_text() for crate in crates for folder in ("specs", "src")
                        for path in CRATES.glob(f"{crate}/{folder}/**/*.*t*") if path.is_file())
-        for row, says in re.findall(r"(?m)^\| (`.*?) \| (.*?) \|", section) if crates else []:
+        for row, says in re.findall(r"(?m)^\| (`.*?|) ?\| (.*?) \|", section) if crates else []:
             amiss.extend(f"{page.relative_to(TOP)}: {name} does not stand in {', '.join(crates)}"
                          for name in re.findall(r"`([A-Za-z_]\w*)[^`.]*`", says) if not re.search(rf"(?<!\w){name}(?!\w)", said))
             for name in re.findall(r"(\w+)\.antt|, `(\w+)`", row):
@@ -258,6 +263,39 @@ def look_at_code(page, text, sources, amiss):
     for kind, shown in re.findall(r"```(rust|antt)\n(.*?)```", text, flags=re.S):
         if not any(" ".join(shown.split()) in source for source in sources[kind]):
             amiss.append(f"{page.relative_to(TOP)}: no source has what begins {shown.splitlines()[0]!r}")
+
+
+def pieces(text):
+    """What a page says, each piece with its line and whether it is a cell: paragraphs, items of lists and cells of tables.
+    Code, headings and quotations are left out."""
+    text = re.sub(r"```.*?```", lambda code: "\n" * code[0].count("\n"), text, flags=re.S)
+    begin, held = 0, []
+    for number, line in enumerate([*text.split("\n"), ""], 1):
+        stripped = line.strip()
+        if held and (not stripped or STARTS_ANEW.match(stripped)):
+            yield begin, False, " ".join(held)
+            held = []
+        if stripped.startswith("|"):
+            yield from ((number, True, cell) for cell in re.split(r"(?<!\\)\|", stripped))
+        elif stripped and not stripped.startswith(("#", ">", "<!--")) and (held or STARTS_ANEW.match(stripped) or line[:4].strip()):
+            begin = begin if held else number
+            held.append(stripped)
+
+
+def words_in(said):
+    """How many words a sentence or a cell has: a code span is one, and of a link its label counts."""
+    said = re.sub(r"`[^`]*`", "x", LINK.sub(r"\1", said))
+    return sum(bool(re.search(r"\w", word)) for word in said.split())
+
+
+def look_at_lengths(page, text, amiss):
+    """Tells which sentences and cells have too many words."""
+    for line, is_cell, piece in pieces(text):
+        for said in [piece] if is_cell else SENTENCE_END.split(piece):
+            count = words_in(said)
+            if count > MOST_WORDS:
+                kind = "cell" if is_cell else "sentence"
+                amiss.append(f"{page.relative_to(TOP)}:{line}: {count} words in a {kind}: {' '.join(said.split()[:8])} ..")
 
 
 def pages():
@@ -285,6 +323,7 @@ def main(words):
             look_at_tour(page, text, amiss)
         look_at_links(page, text, amiss)
         look_at_names(page, text, amiss)
+        look_at_lengths(page, text, amiss)
     look_at_wrong_bodies(amiss)
     look_at_edits(amiss)
     listed = stands_on()

@@ -225,6 +225,13 @@ def against(size, goal):
     return f"{size:,} lines (the goal of {goal:,} is {'met' if size <= goal else f'missed by {size - goal}'})"
 
 
+def missed_by_form(definitions):
+    """How many definitions have no comment, and how many files of theirs are too long, where the goal is none."""
+    bare = sum(not item.commented for item in definitions)
+    long = sum(len(path.read_text().splitlines()) > LONGEST_FILE for path in {item.path for item in definitions})
+    return f"Without a comment: {bare}. Files above {LONGEST_FILE} lines: {long}. Both have the goal of none."
+
+
 def print_crates(definitions):
     """The lines and definitions of each crate, and how many have no comment."""
     code, bare, count = collections.Counter(), collections.Counter(), collections.Counter()
