@@ -16,9 +16,10 @@ use Rattle.typed_plan.specs.declared.plan.Columns.TheVariants.{All, These}
 use Rattle.typed_plan.specs.declared.plan.JoinKey.{JoinKey}
 use Rattle.typed_plan.specs.declared.plan.Output.{Output}
 use Rattle.typed_plan.specs.declared.plan.Output.TheVariants.{Project, Groups}
+use Rattle.typed_plan.specs.Class.{can_sum}
 use Rattle.typed_plan.specs.Faults.{first_in}
 use Rattle.typed_plan.specs.Plan.{Tree, scan, filtered, joined}
-use Rattle.typed_plan.specs.Typed.{tree_types, IsTypedTree, key_fault, HasOutput, has_item, can_sum, type_at}
+use Rattle.typed_plan.specs.Typed.{tree_types, IsTypedTree, key_fault, HasOutput, has_item, type_at}
 use Rattle.rewrite.specs.Places.{tree_width}
 use Rattle.rewrite.specs.Pruned.{is_used, names_column, key_names, tree_names, item_names, output_names, uses_key, uses_item, uses_output, AreUsed}
 use Rattle.rewrite.specs.Uses.{with_column, with_columns, with_operand, with_operands, with_predicate, with_keys, with_tree, with_item, with_items, with_output, uses_of}

@@ -68,6 +68,26 @@ module _ (uses : List Bool) where
       either (list_any (λ key. key == n) keys) (list_any (item_names n) items) (list_any (λ key. key == number_in uses n) (map (number_in uses) keys))
       (list_any (item_names (number_in uses n)) (map (item_in uses) items)) (column_named keys n) (items_named items n) e
 
+-- what is named on one side of a seam is named there under its new number
+side_named : (uses : List Bool) (seam n : ℕ) → is_used uses n ≡ true → (left right l r : Tree) →
+    ((m : ℕ) → is_used (take seam uses) m ≡ true → tree_names left m ≡ true → tree_names l (number_in (take seam uses) m) ≡ true) →
+    ((m : ℕ) → is_used (drop seam uses) m ≡ true → tree_names right m ≡ true → tree_names r (number_in (drop seam uses) m) ≡ true) →
+    (b : Bool) → nat_lt n seam ≡ b → (if b then tree_names left n else tree_names right (n - seam)) ≡ true →
+    (if nat_lt (number_in uses n) (count (take seam uses)) then tree_names l (number_in uses n) else tree_names r (number_in uses n - count (take seam uses))) ≡ true
+side_named uses seam n u left right l r one other true lt named =
+    let s = ltb-true n seam lt in
+    ap (λ b. if b then tree_names l (number_in uses n) else tree_names r (number_in uses n - count (take seam uses))) (number_lt uses seam n u ∙ lt)
+    ∙ ap (tree_names l) (sym (number_take uses seam n s))
+    ∙ one n (used_take uses seam n s ∙ u) named
+side_named uses seam n u left right l r one other false lt named =
+    let s = ltb-false n seam lt in
+    let whole : n ≡ seam + (n - seam) = omega (arith, s) in
+    let d = number_drop uses seam (n - seam) n whole in
+    let m : number_in uses n - count (take seam uses) ≡ number_in (drop seam uses) (n - seam) = omega (arith, d) in
+    ap (λ b. if b then tree_names l (number_in uses n) else tree_names r (number_in uses n - count (take seam uses))) (number_lt uses seam n u ∙ lt)
+    ∙ ap (tree_names r) m
+    ∙ other (n - seam) (used_drop uses seam (n - seam) n whole ∙ u) named
+
 -- what a filter or an ON names, it names under its new number
 tree_named : (uses : List Bool) (tree : Tree) → length uses ≡ tree_width tree → (n : ℕ) → is_used uses n ≡ true → tree_names tree n ≡ true →
     tree_names (pruned uses tree) (number_in uses n) ≡ true
@@ -84,32 +104,12 @@ tree_named uses (joined left right on) wide n u e =
     let l = pruned (take seam uses) left in
     let r = pruned (drop seam uses) right in
     let new = number_in uses n in
-    let here : ℕ → Bool = λ k. if nat_lt k (tree_width l) then tree_names l k else tree_names r (k - tree_width l) in
     either (list_any (key_names n) on) (if nat_lt n seam then tree_names left n else tree_names right (n - seam))
-    (list_any (key_names new) (map (key_in uses) on)) (here new) (keys_named uses on n)
+    (list_any (key_names new) (map (key_in uses) on))
+    (if nat_lt new (tree_width l) then tree_names l new else tree_names r (new - tree_width l)) (keys_named uses on n)
     (λ named.
     ap (λ k. if nat_lt new k then tree_names l new else tree_names r (new - k)) (pruned_width (take seam uses) left front)
-    ∙ by seam front back l r refl refl (nat_lt n seam) refl named) e
-  where
-    by : (seam : ℕ) → length (take seam uses) ≡ tree_width left → length (drop seam uses) ≡ tree_width right → (l r : Tree) →
-        pruned (take seam uses) left ≡ l → pruned (drop seam uses) right ≡ r → (b : Bool) → nat_lt n seam ≡ b →
-        (if b then tree_names left n else tree_names right (n - seam)) ≡ true →
-        (if nat_lt (number_in uses n) (count (take seam uses)) then tree_names l (number_in uses n) else tree_names r (number_in uses n - count (take seam uses))) ≡ true
-    by seam front back l r el er true lt named =
-        let s = ltb-true n seam lt in
-        ap (λ b. if b then tree_names l (number_in uses n) else tree_names r (number_in uses n - count (take seam uses))) (number_lt uses seam n u ∙ lt)
-        ∙ ap (λ (t : Tree). tree_names t (number_in uses n)) (sym el)
-        ∙ ap (tree_names (pruned (take seam uses) left)) (sym (number_take uses seam n s))
-        ∙ tree_named (take seam uses) left front n (used_take uses seam n s ∙ u) named
-    by seam front back l r el er false lt named =
-        let s = ltb-false n seam lt in
-        let e : n ≡ seam + (n - seam) = omega (arith, s) in
-        let d = number_drop uses seam (n - seam) n e in
-        let m : number_in uses n - count (take seam uses) ≡ number_in (drop seam uses) (n - seam) = omega (arith, d) in
-        ap (λ b. if b then tree_names l (number_in uses n) else tree_names r (number_in uses n - count (take seam uses))) (number_lt uses seam n u ∙ lt)
-        ∙ ap (tree_names r) m
-        ∙ ap (λ (t : Tree). tree_names t (number_in (drop seam uses) (n - seam))) (sym er)
-        ∙ tree_named (drop seam uses) right back (n - seam) (used_drop uses seam (n - seam) n e ∙ u) named
+    ∙ side_named uses seam n u left right l r (tree_named (take seam uses) left front) (tree_named (drop seam uses) right back) (nat_lt n seam) refl named) e
 
 -- each column of a pruned plan is named
 pub all_named : (tree : Tree) (output : Output) (n : ℕ) → n < tree_width (pruned (uses_of tree output) tree) →

@@ -1,17 +1,20 @@
 -- A plan with a pruned tree is well typed, and stands for the one that it was made of.
-use Rattle.std.proofs.Common.{◌≡◌, List, map, refl, sym, ap, ◌∙◌, subst, length, Bool, true}
+use Rattle.std.proofs.Common.{◌≡◌, ◌≤◌, ℕ, Bool, true, List, length, map, refl, sym, ap, ◌∙◌, subst, arith}
 use Rattle.std.specs.List.{AllByRecursion}
 use Rattle.arrow_schema.specs.Answer.{answer_type}
 use Rattle.arrow_schema.specs.declared.data_type.DataType.{DataType}
 use Rattle.arrow_schema.specs.declared.schema.Schema.{Schema}
-use Rattle.table_versions.specs.Table.{Row}
+use Rattle.scan_base.specs.Predicate.{Pred, names_only}
+use Rattle.table_versions.specs.Table.{Name, Row}
+use Rattle.typed_plan.specs.declared.plan.Columns.{Columns}
+use Rattle.typed_plan.specs.declared.plan.JoinKey.{JoinKey}
 use Rattle.typed_plan.specs.declared.plan.Output.{Output}
 use Rattle.typed_plan.specs.Held.{tree_tables}
-use Rattle.typed_plan.specs.Plan.{Tree, output_rows}
+use Rattle.typed_plan.specs.Plan.{Tree, scan, filtered, joined, output_rows}
 use Rattle.typed_plan.specs.Typed.{tree_types, IsTyped, HasOutput, output_types, is_grouping}
 use Rattle.typed_plan.specs.View.{BoundAt, tree_of, plan_of}
-use Rattle.rewrite.specs.Places.{rows_over}
-use Rattle.rewrite.specs.Pruned.{kept, output_in, pruned, uses_output, AreUsed, IsPruned}
+use Rattle.rewrite.specs.Places.{rows_over, tree_width}
+use Rattle.rewrite.specs.Pruned.{kept, is_used, numbers_of, output_in, pruned, uses_output, AreUsed, IsPruned}
 use Rattle.rewrite.specs.Same.{SameOverPlaces, StandsFor}
 use Rattle.rewrite.specs.Uses.{uses_of}
 use Rattle.rewrite.proofs.Databases.{same_of_places}
@@ -21,6 +24,7 @@ use Rattle.rewrite.proofs.PrunedResults.{result_kept}
 use Rattle.rewrite.proofs.PrunedTrees.{pruned_types, pruned_place, pruned_tables, pruned_typed, output_there, output_types_kept, output_grouping}
 use Rattle.rewrite.proofs.PrunedRows.{pruning_keeps_rows, used_width}
 use Rattle.rewrite.proofs.PushedRows.{IsWide, wide_rows}
+use Rattle.rewrite.proofs.TreeWidths.{scan_width, joined_width}
 use Rattle.rewrite.proofs.WellTyped.{typed_as}
 
 -- the pruned tree and the renumbered result of a plan are well typed
@@ -95,3 +99,22 @@ pub output_as : (tree old : Tree) (output before : Output) (uses : List Bool) �
     output_in uses output ≡ output_in (uses_of old before) before
 output_as tree old output before uses same e f =
     ap (λ (some : List Bool). output_in some output) same ∙ ap (λ (t : Tree). output_in (uses_of t output) output) e ∙ ap (λ (o : Output). output_in (uses_of old o) o) f
+
+-- ---- what a node of a tree needs
+
+pub scan_used : (uses : List Bool) (whole : Tree) (table : Name) (schema : Schema) (columns : Columns) (width : ℕ) → AreUsed uses whole →
+    whole ≡ scan table schema columns → width ≡ length schema.fields → length (numbers_of columns width) ≡ length uses
+scan_used uses whole table schema columns width u e w =
+    ap (λ n. length (numbers_of columns n)) w ∙ scan_width table schema columns ∙ sym (subst (AreUsed uses) e u)
+
+pub filter_used : (uses among : List Bool) (whole : Tree) (p : Pred ℕ) (tree : Tree) → AreUsed uses whole → whole ≡ filtered p tree → among ≡ uses →
+    names_only (is_used among) p ≡ true
+filter_used uses among whole p tree u e same =
+    ap (λ (some : List Bool). names_only (is_used some) p) same ∙ (subst (AreUsed uses) e u).0
+
+pub join_used : (uses : List Bool) (whole left right : Tree) (on : List JoinKey) (seam : ℕ) → AreUsed uses whole → whole ≡ joined left right on →
+    seam ≡ tree_width left → seam ≤ length uses
+join_used uses whole left right on seam u e s =
+    let w = used_width uses (joined left right on) (subst (AreUsed uses) e u) in
+    let both = joined_width left right on in
+    omega (arith, w, both, s)

@@ -47,8 +47,11 @@ module _ (uses : List Bool) where
   -- ---- groups
 
   -- a group of the used cells
+  abbrev group_of : List Value → List Row → Group
+  group_of key rows = record { key = key; rows = rows }
+
   abbrev group_in : Group → Group
-  group_in group = record { key = group.key; rows = map (kept uses) group.rows }
+  group_in group = group_of group.key (map (kept uses) group.rows)
 
   abbrev AreGroups : List Group → Type 0
   AreGroups groups = AllByRecursion (λ (group : Group). AreFull group.rows) groups
@@ -57,25 +60,28 @@ module _ (uses : List Bool) where
   full-append [] ys h k = k
   full-append (x ∷ xs) ys h k = (h.0, full-append xs ys h.1 k)
 
+  one_with : (b : Bool) (key : List Value) (row : Row) (group : Group) (groups : List Group) → length row ≡ length uses → AreFull group.rows → AreGroups groups →
+      AreGroups (with_row key row groups) → AreGroups (cond b (group_of group.key (group.rows ++ row ∷ []) ∷ groups) (group ∷ with_row key row groups))
+  one_with true key row group groups full h rest more = (full-append group.rows (row ∷ []) h (full, tt), rest)
+  one_with false key row group groups full h rest more = (h, more)
+
   groups_with : (key : List Value) (row : Row) → length row ≡ length uses → (groups : List Group) → AreGroups groups → AreGroups (with_row key row groups)
   groups_with key row full [] h = ((full, tt), tt)
-  groups_with key row full (group ∷ groups) h = by (same_key group.key key)
-    where
-      by : (b : Bool) → AreGroups (cond b (record { key = group.key; rows = group.rows ++ row ∷ [] } ∷ groups) (group ∷ with_row key row groups))
-      by true = (full-append group.rows (row ∷ []) h.0 (full, tt), h.1)
-      by false = (h.0, groups_with key row full groups h.1)
+  groups_with key row full (group ∷ groups) h =
+      one_with (same_key group.key key) key row group groups full h.0 h.1 (groups_with key row full groups h.1)
+
+  one_kept : (b : Bool) (key : List Value) (row : Row) (group : Group) (groups more : List Group) → more ≡ map group_in (with_row key row groups) →
+      cond b (group_of group.key (map (kept uses) group.rows ++ kept uses row ∷ []) ∷ map group_in groups) (group_in group ∷ more)
+      ≡ map group_in (cond b (group_of group.key (group.rows ++ row ∷ []) ∷ groups) (group ∷ with_row key row groups))
+  one_kept true key row group groups more e =
+      ap (λ (rows : List Row). group_of group.key rows ∷ map group_in groups) (sym (map-append (kept uses) group.rows (row ∷ [])))
+  one_kept false key row group groups more e = ap (λ (rest : List Group). group_in group ∷ rest) e
 
   with_kept : (key : List Value) (row : Row) (groups : List Group) →
       with_row key (kept uses row) (map group_in groups) ≡ map group_in (with_row key row groups)
   with_kept key row [] = refl
-  with_kept key row (group ∷ groups) = by (same_key group.key key)
-    where
-      by : (b : Bool) →
-          cond b (record { key = group.key; rows = map (kept uses) group.rows ++ kept uses row ∷ [] } ∷ map group_in groups) (group_in group ∷ with_row key (kept uses row) (map group_in groups))
-          ≡ map group_in (cond b (record { key = group.key; rows = group.rows ++ row ∷ [] } ∷ groups) (group ∷ with_row key row groups))
-      by true =
-          ap (λ (rows : List Row). record { key = group.key; rows = rows } ∷ map group_in groups) (sym (map-append (kept uses) group.rows (row ∷ [])))
-      by false = ap (λ (rest : List Group). group_in group ∷ rest) (with_kept key row groups)
+  with_kept key row (group ∷ groups) =
+      one_kept (same_key group.key key) key row group groups (with_row key (kept uses row) (map group_in groups)) (with_kept key row groups)
 
   module _ (keys : List ℕ) (u : list_all (is_used uses) keys ≡ true) where
     -- groups with a row more

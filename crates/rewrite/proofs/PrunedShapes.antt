@@ -43,29 +43,23 @@ abbrev widths_in : List Bool → List ℕ → List ℕ
 widths_in uses [] = []
 widths_in uses (width ∷ widths) = count (take width uses) ∷ widths_in (drop width uses) widths
 
+abbrev none : List Bool
+none = []
+
+take_none : (n k : ℕ) → take n (take k none) ≡ none
+take_none zero k = refl
+take_none (suc n) zero = refl
+take_none (suc n) (suc k) = refl
+
 take_front : (n m : ℕ) (uses : List Bool) → take n (take (n + m) uses) ≡ take n uses
 take_front zero m uses = refl
-take_front (suc n) m [] = nothing (suc n + m)
-  where
-    nothing : (k : ℕ) → take (suc n) (take k []) ≡ []
-    nothing zero = refl
-    nothing (suc k) = refl
+take_front (suc n) m [] = take_none (suc n) (suc n + m)
 take_front (suc n) m (used ∷ uses) =
     let s : suc n + m ≡ suc (n + m) = omega arith in
     ap (λ k. take (suc n) (take k (used ∷ uses))) s ∙ ap (λ some. used ∷ some) (take_front n m uses)
 
 drop_both : (n m : ℕ) (uses : List Bool) → drop (n + m) uses ≡ drop m (drop n uses)
-drop_both zero m uses = ap (λ k. drop k uses) (omega arith)
-drop_both (suc n) m [] = nothing (suc n + m) m
-  where
-    nothing : (k l : ℕ) → drop k [] ≡ drop l []
-    nothing zero zero = refl
-    nothing zero (suc l) = refl
-    nothing (suc k) zero = refl
-    nothing (suc k) (suc l) = refl
-drop_both (suc n) m (used ∷ uses) =
-    let s : suc n + m ≡ suc (n + m) = omega arith in
-    ap (λ k. drop k (used ∷ uses)) s ∙ drop_both n m uses
+drop_both n m uses = ap (λ k. drop k uses) (omega arith) ∙ sym (drop-drop m n uses)
 
 widths_in-append : (ws vs : List ℕ) (uses : List Bool) →
     widths_in uses (ws ++ vs) ≡ widths_in (take (total ws) uses) ws ++ widths_in (drop (total ws) uses) vs

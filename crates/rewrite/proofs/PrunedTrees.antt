@@ -20,11 +20,12 @@ use Rattle.typed_plan.specs.declared.plan.Columns.TheVariants.{All, These}
 use Rattle.typed_plan.specs.declared.plan.JoinKey.{JoinKey}
 use Rattle.typed_plan.specs.declared.plan.Output.{Output}
 use Rattle.typed_plan.specs.declared.plan.Output.TheVariants.{Project, Groups}
+use Rattle.typed_plan.specs.Class.{can_sum}
 use Rattle.typed_plan.specs.Faults.{◌then◌, compare_fault, first_in, predicate_fault}
 use Rattle.typed_plan.specs.Held.{tree_tables}
 use Rattle.typed_plan.specs.Numbered.{predicate_map}
 use Rattle.typed_plan.specs.Plan.{Tree, scan, filtered, joined}
-use Rattle.typed_plan.specs.Typed.{class_if_there, class_of_number, has_columns, type_at, types_of, tree_types, is_place, key_fault, spans, IsTypedTree, has_item, item_type, output_types, HasOutput, is_grouping, can_sum}
+use Rattle.typed_plan.specs.Typed.{class_if_there, class_of_number, has_columns, type_at, types_of, tree_types, is_place, key_fault, spans, IsTypedTree, has_item, item_type, output_types, HasOutput, is_grouping}
 use Rattle.rewrite.specs.Places.{tree_width}
 use Rattle.rewrite.specs.Pruned.{kept, is_used, number_in, numbers_of, key_in, item_in, output_in, pruned, uses_key, uses_item, uses_output, AreUsed}
 use Rattle.rewrite.proofs.PrunedRows.{used_width}

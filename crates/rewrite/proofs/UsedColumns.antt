@@ -1,5 +1,5 @@
 -- Used columns, and their numbers among those that are used.
-use Rattle.std.proofs.Common.{◌≡◌, ◌<◌, ◌≤◌, ℕ, zero, suc, ◌+◌, ◌-◌, Bool, true, false, not, ◌&&◌, cond, List, [], ◌∷◌, ◌++◌, length, map, take, drop, set, get_or, nat_lt, nat_le, slice_get, refl, sym, ap, ◌∙◌, arith}
+use Rattle.std.proofs.Common.{◌≡◌, ◌<◌, ◌≤◌, ℕ, zero, suc, ◌+◌, ◌-◌, Bool, true, false, not, ◌&&◌, cond, List, [], ◌∷◌, ◌++◌, length, map, take, drop, set, get_or, nat_lt, nat_le, slice_get, refl, sym, ap, ◌∙◌, arith, append_assoc}
 use Rattle.std.specs.List.{list_all, range_with_len}
 use Rattle.std.proofs.Math.Seq.{take-length}
 use Rattle.std.proofs.lemmas.Bool.{and_parts, and_from, lt-ltb, le-ltb, le-leb, lt-leb, ltb-true, ltb-false}
@@ -106,21 +106,46 @@ number_zero [] = refl
 number_zero (used ∷ uses) = refl
 
 -- one column further
-pub number_next : (uses : List Bool) (n : ℕ) → n < length uses → (used : Bool) → used ≡ get_or uses n used →
+pub number_next : (uses : List Bool) (n : ℕ) → n < length uses → (used unknown : Bool) → used ≡ get_or uses n unknown →
     number_in uses (n + 1) ≡ number_in uses n + count (used ∷ [])
-number_next [] n h used e = absurd (omega (arith, h))
-number_next (true ∷ uses) zero h true e = ap suc (number_zero uses)
-number_next (true ∷ uses) zero h false e = cc
-number_next (false ∷ uses) zero h true e = cc
-number_next (false ∷ uses) zero h false e = number_zero uses
-number_next (true ∷ uses) (suc n) h used e =
-    let i = number_next uses n (omega (arith, h)) used e in
+number_next [] n h used unknown e = absurd (omega (arith, h))
+number_next (true ∷ uses) zero h true unknown e = ap suc (number_zero uses)
+number_next (true ∷ uses) zero h false unknown e = cc
+number_next (false ∷ uses) zero h true unknown e = cc
+number_next (false ∷ uses) zero h false unknown e = number_zero uses
+number_next (true ∷ uses) (suc n) h used unknown e =
+    let i = number_next uses n (omega (arith, h)) used unknown e in
     let s : suc n + 1 ≡ suc (n + 1) = omega arith in
     ap (number_in (true ∷ uses)) s ∙ ap suc i ∙ omega arith
-number_next (false ∷ uses) (suc n) h used e =
-    let i = number_next uses n (omega (arith, h)) used e in
+number_next (false ∷ uses) (suc n) h used unknown e =
+    let i = number_next uses n (omega (arith, h)) used unknown e in
     let s : suc n + 1 ≡ suc (n + 1) = omega arith in
     ap (number_in (false ∷ uses)) s ∙ i
+
+-- the numbers of columns so far, and one more
+front_of : (xs : List ℕ) (x k : ℕ) → k < length xs → get_or (xs ++ x ∷ []) k 0 ≡ get_or xs k 0
+front_of [] x k h = absurd (omega (arith, h))
+front_of (y ∷ xs) x zero h = refl
+front_of (y ∷ xs) x (suc k) h = front_of xs x k (omega (arith, h))
+
+last_of : (xs : List ℕ) (x k : ℕ) → k ≡ length xs → get_or (xs ++ x ∷ []) k 0 ≡ x
+last_of [] x zero h = refl
+last_of [] x (suc k) h = absurd (omega (arith, h))
+last_of (y ∷ xs) x zero h = absurd (omega (arith, h))
+last_of (y ∷ xs) x (suc k) h = last_of xs x k (omega (arith, h))
+
+pub counted_more : (numbers new : List ℕ) (uses : List Bool) (i before : ℕ) → length numbers ≡ i → new ≡ numbers ++ before ∷ [] → before ≡ number_in uses i →
+    ((k : ℕ) → k < i → get_or numbers k 0 ≡ number_in uses k) → (k : ℕ) → k < i + 1 → get_or new k 0 ≡ number_in uses k
+counted_more numbers new uses i before long is e counts k h = by (nat_lt k i) refl
+  where
+    by : (b : Bool) → nat_lt k i ≡ b → get_or new k 0 ≡ number_in uses k
+    by true t =
+        let l = ltb-true k i t in
+        ap (λ (some : List ℕ). get_or some k 0) is ∙ front_of numbers before k (omega (arith, l, long)) ∙ counts k l
+    by false t =
+        let l = ltb-false k i t in
+        let s : k ≡ i = omega (arith, l, h) in
+        ap (λ (some : List ℕ). get_or some k 0) is ∙ last_of numbers before k (omega (arith, s, long)) ∙ e ∙ ap (number_in uses) (sym s)
 
 pub range_more : (a n j : ℕ) → a + n ≡ j → range_with_len a (n + 1) ≡ range_with_len a n ++ j ∷ []
 range_more a zero j e = let same : a ≡ j = omega (arith, e) in ap (λ number. number ∷ []) same
@@ -169,16 +194,37 @@ kept_pass test (true ∷ uses) (x ∷ xs) h =
 kept_pass test (false ∷ uses) (x ∷ xs) h = kept_pass test uses xs (and_parts (test x) (list_all test xs) h).1
 
 -- one item further
-pub kept_next : {X : Type 0} (uses : List Bool) (xs : List X) (i : ℕ) (x : X) → i < length uses → i < length xs → x ≡ get_or xs i x →
+kept_next : {X : Type 0} (uses : List Bool) (xs : List X) (i : ℕ) (x unknown : X) → i < length uses → i < length xs → x ≡ get_or xs i unknown →
     kept (drop i uses) (drop i xs) ≡ cond (get_or uses i false) (x ∷ kept (drop (i + 1) uses) (drop (i + 1) xs)) (kept (drop (i + 1) uses) (drop (i + 1) xs))
-kept_next [] xs i x h k e = absurd (omega (arith, h))
-kept_next (used ∷ uses) [] i x h k e = absurd (omega (arith, k))
-kept_next (true ∷ uses) (y ∷ xs) zero x h k e = ap (λ z. z ∷ kept uses xs) (sym e)
-kept_next (false ∷ uses) (y ∷ xs) zero x h k e = refl
-kept_next (used ∷ uses) (y ∷ xs) (suc i) x h k e =
+kept_next [] xs i x unknown h k e = absurd (omega (arith, h))
+kept_next (used ∷ uses) [] i x unknown h k e = absurd (omega (arith, k))
+kept_next (true ∷ uses) (y ∷ xs) zero x unknown h k e = ap (λ z. z ∷ kept uses xs) (sym e)
+kept_next (false ∷ uses) (y ∷ xs) zero x unknown h k e = refl
+kept_next (used ∷ uses) (y ∷ xs) (suc i) x unknown h k e =
     let s : suc i + 1 ≡ suc (i + 1) = omega arith in
-    kept_next uses xs i x (omega (arith, h)) (omega (arith, k)) e
+    kept_next uses xs i x unknown (omega (arith, h)) (omega (arith, k)) e
     ∙ ap (λ n. cond (get_or uses i false) (x ∷ kept (drop n (used ∷ uses)) (drop n (y ∷ xs))) (kept (drop n (used ∷ uses)) (drop n (y ∷ xs)))) (sym s)
+
+-- a number that is used is kept, and one that is not is left out
+pub kept_more : (uses : List Bool) (numbers : List ℕ) (i : ℕ) (made new whole : List ℕ) → length numbers ≡ length uses → i < length numbers →
+    get_or uses i false ≡ true → new ≡ made ++ get_or numbers i 0 ∷ [] → made ++ kept (drop i uses) (drop i numbers) ≡ whole →
+    new ++ kept (drop (i + 1) uses) (drop (i + 1) numbers) ≡ whole
+kept_more uses numbers i made new whole wide within used is e =
+    let x = get_or numbers i 0 in
+    let more = kept (drop (i + 1) uses) (drop (i + 1) numbers) in
+    ap (λ (some : List ℕ). some ++ more) is ∙ append_assoc made (x ∷ []) more
+    ∙ ap (λ (some : List ℕ). made ++ some) (sym (kept_next uses numbers i x 0 (omega (arith, wide, within)) within refl ∙ ap (λ b. cond b (x ∷ more) more) used))
+    ∙ e
+
+pub left_out : (uses : List Bool) (numbers : List ℕ) (i : ℕ) (made new whole : List ℕ) → length numbers ≡ length uses → i < length numbers →
+    get_or uses i false ≡ false → new ≡ made → made ++ kept (drop i uses) (drop i numbers) ≡ whole →
+    new ++ kept (drop (i + 1) uses) (drop (i + 1) numbers) ≡ whole
+left_out uses numbers i made new whole wide within used is e =
+    let x = get_or numbers i 0 in
+    let more = kept (drop (i + 1) uses) (drop (i + 1) numbers) in
+    ap (λ (some : List ℕ). some ++ more) is
+    ∙ ap (λ (some : List ℕ). made ++ some) (sym (kept_next uses numbers i x 0 (omega (arith, wide, within)) within refl ∙ ap (λ b. cond b (x ∷ more) more) used))
+    ∙ e
 
 -- where all are used, all are kept
 pub kept_whole : {X : Type 0} (uses : List Bool) (xs : List X) → length xs ≡ length uses → list_all (λ used. used) uses ≡ true → kept uses xs ≡ xs

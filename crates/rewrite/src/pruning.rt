@@ -76,16 +76,13 @@ fn prune_tree(alloc: Global, plan: &mut Plan, uses: &[bool]) -> Result<(), Alloc
             Ok(())
         }
         Plan::Filter { predicate, input } => {
-            let among = UsedNumbers::of(alloc, uses)?;
-            renumber(alloc, predicate, &among);
+            renumber(alloc, predicate, &UsedNumbers::of(alloc, uses)?);
             prune_tree(alloc, input, uses)
         }
         Plan::Join { left, right, on } => {
-            let among = UsedNumbers::of(alloc, uses)?;
-            let keys = among.keys(alloc, on.as_slice())?;
+            let keys = UsedNumbers::of(alloc, uses)?.keys(alloc, on.as_slice())?;
             *on = keys;
-            let seam = width(left)?;
-            let (left_uses, right_uses) = uses.split_at(seam);
+            let (left_uses, right_uses) = uses.split_at(width(left)?);
             prune_tree(alloc, left, left_uses)?;
             prune_tree(alloc, right, right_uses)
         }

@@ -24,15 +24,15 @@ prune_tree-requires c =
     (typed_as (tree_of plan) (tree_of old.plan) output old.output old.schema old.schema (ap tree_of parts.plan) parts.output refl parts.typed)
     (c.as_slice.ensures.value ∙ c.in_ok-uses.ensures)).0
 
-pub output-renumbered-requires : goal.output-renumbered-requires
-output-renumbered-requires c =
+pub output-requires : goal.output-requires
+output-requires c =
     let old = c.args.plan in
     let parts = c.into_parts-tables.ensures in
     let plan = c.into_parts-tables.result.1 in
     let output = c.into_parts-tables.result.2 in
     (used_as (tree_of plan) output old.schema c.in_ok-among.among.uses.now
     (typed_as (tree_of plan) (tree_of old.plan) output old.output old.schema old.schema (ap tree_of parts.plan) parts.output refl parts.typed)
-    (c.in_ok-among.ensures ∙ c.as_slice-among.ensures.value ∙ c.in_ok-uses.ensures)).1
+    (c.in_ok-among.ensures ∙ c.as_slice-2.ensures.value ∙ c.in_ok-uses.ensures)).1
 
 pub new-requires-clause-typed : goal.new-requires-clause-typed
 new-requires-clause-typed c =
@@ -46,7 +46,7 @@ new-requires-clause-typed c =
     (typed_as (tree_of plan) (tree_of old.plan) output old.output schema old.schema (ap tree_of parts.plan) parts.output parts.schema parts.typed)
     c.in_ok-uses.ensures
     (c.in_ok-prune_tree.ensures ∙ ap (λ (some : List Bool). pruned some (tree_of plan)) c.as_slice.ensures.value)
-    (c.in_ok-renumbered.ensures ∙ ap (λ (some : List Bool). output_in some output) (c.in_ok-among.ensures ∙ c.as_slice-among.ensures.value))
+    (c.in_ok-renumbered.ensures ∙ ap (λ (some : List Bool). output_in some output) (c.in_ok-among.ensures ∙ c.as_slice-2.ensures.value))
 
 pub new-requires-clause-columns : goal.new-requires-clause-columns
 new-requires-clause-columns c =
@@ -68,7 +68,7 @@ returns-clause-same c =
     ∙ ap (λ (some : List Bool). pruned some (tree_of plan)) c.as_slice.ensures.value
     ∙ tree_as (tree_of plan) (tree_of old.plan) output old.output uses c.in_ok-uses.ensures (ap tree_of parts.plan) parts.output)
     (ap (λ (bound : BoundAt). bound.output) c.new.ensures ∙ c.in_ok-renumbered.ensures
-    ∙ ap (λ (some : List Bool). output_in some output) (c.in_ok-among.ensures ∙ c.as_slice-among.ensures.value)
+    ∙ ap (λ (some : List Bool). output_in some output) (c.in_ok-among.ensures ∙ c.as_slice-2.ensures.value)
     ∙ output_as (tree_of plan) (tree_of old.plan) output old.output uses c.in_ok-uses.ensures (ap tree_of parts.plan) parts.output)
     (ap (λ (bound : BoundAt). bound.tables) c.new.ensures ∙ parts.tables)
     (ap (λ (bound : BoundAt). bound.schema) c.new.ensures ∙ parts.schema)
@@ -85,7 +85,7 @@ returns-clause-pruned c =
     ∙ ap (λ (some : List Bool). pruned some (tree_of plan)) c.as_slice.ensures.value
     ∙ tree_as (tree_of plan) (tree_of old.plan) output old.output uses c.in_ok-uses.ensures (ap tree_of parts.plan) parts.output)
     (ap (λ (bound : BoundAt). bound.output) c.new.ensures ∙ c.in_ok-renumbered.ensures
-    ∙ ap (λ (some : List Bool). output_in some output) (c.in_ok-among.ensures ∙ c.as_slice-among.ensures.value)
+    ∙ ap (λ (some : List Bool). output_in some output) (c.in_ok-among.ensures ∙ c.as_slice-2.ensures.value)
     ∙ output_as (tree_of plan) (tree_of old.plan) output old.output uses c.in_ok-uses.ensures (ap tree_of parts.plan) parts.output)
 
 pub returns-clause-folded : goal.returns-clause-folded
