@@ -1,5 +1,5 @@
 -- What is marked as used is what a plan names.
-use Rattle.std.proofs.Common.{◌≡◌, ◌<◌, ◌≤◌, ℕ, zero, suc, ◌+◌, ◌-◌, Bool, true, false, not, ◌&&◌, ◌||◌, ◌==◌, cond, if◌then◌else◌, List, [], ◌∷◌, ◌++◌, length, map, take, drop, set, replicate, nat_lt, get_or, None, Option, IsTrue, refl, sym, ap, ◌∙◌, arith}
+use Rattle.std.proofs.Common.{◌≡◌, ◌<◌, ◌≤◌, ℕ, zero, suc, ◌+◌, ◌-◌, Bool, true, false, not, ◌&&◌, ◌||◌, ◌==◌, if◌then◌else◌, List, [], ◌∷◌, ◌++◌, length, take, drop, set, replicate, nat_lt, None, refl, ap, ◌∙◌, arith}
 use Rattle.std.specs.List.{list_all, list_any}
 use Rattle.std.proofs.Math.ListN.{length-replicate}
 use Rattle.std.proofs.lemmas.Bool.{and_from, and_parts, or_left, or_right, ltb-true, ltb-false, lt-ltb, le-ltb, eqb-true, eqb-false, eq-eqb}
@@ -156,10 +156,13 @@ marked_sides uses left right seam f g within h k = (long, λ n lt. by n lt (nat_
   where
     front : length left ≡ seam
     front = h.0 ∙ length-take-le seam uses within
+
     back : length right ≡ length uses - seam
     back = k.0 ∙ length-drop seam uses
+
     long : length (left ++ right) ≡ length uses
     long = let l = length-append left right in let a = front in let b = back in omega (arith, l, a, b, within)
+
     by : (n : ℕ) → n < length uses → (b : Bool) → nat_lt n seam ≡ b → is_used (left ++ right) n ≡ (is_used uses n || (if b then f n else g (n - seam)))
     by n lt true e =
         let s = ltb-true n seam e in

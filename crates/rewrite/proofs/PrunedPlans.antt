@@ -5,7 +5,7 @@ use Rattle.arrow_schema.specs.Answer.{answer_type}
 use Rattle.arrow_schema.specs.declared.data_type.DataType.{DataType}
 use Rattle.arrow_schema.specs.declared.schema.Schema.{Schema}
 use Rattle.scan_base.specs.Predicate.{Pred, names_only}
-use Rattle.table_versions.specs.Table.{Name, Row}
+use Rattle.table_versions.specs.Table.{Name}
 use Rattle.typed_plan.specs.declared.plan.Columns.{Columns}
 use Rattle.typed_plan.specs.declared.plan.JoinKey.{JoinKey}
 use Rattle.typed_plan.specs.declared.plan.Output.{Output}

@@ -1,5 +1,5 @@
 -- Filters of a pruned tree are folded, and stand as low, where they were and did.
-use Rattle.std.proofs.Common.{◌≡◌, ◌<◌, ◌≤◌, ℕ, zero, suc, ◌+◌, ◌-◌, Bool, true, false, not, ◌&&◌, ◌||◌, List, [], ◌∷◌, ◌++◌, length, map, take, drop, nat_lt, nat_le, refl, sym, ap, ◌∙◌, arith, drop-drop}
+use Rattle.std.proofs.Common.{◌≡◌, ℕ, zero, suc, ◌+◌, Bool, true, false, not, ◌&&◌, ◌||◌, List, [], ◌∷◌, ◌++◌, map, take, drop, nat_lt, nat_le, refl, sym, ap, ◌∙◌, arith, drop-drop}
 use Rattle.std.specs.List.{list_all}
 use Rattle.std.proofs.lemmas.Bool.{and_from, and_parts}
 use Rattle.std.proofs.lemmas.List.{drop-take, map-append}
@@ -8,7 +8,7 @@ use Rattle.std.proofs.Math.Seq.{take-length, take-add}
 use Rattle.scan_base.specs.Predicate.{Pred, conjunction, disjunction, negation, truth_test, comparing, between, membership, null_test, constant, names_only}
 use Rattle.typed_plan.specs.Numbered.{predicate_map}
 use Rattle.typed_plan.specs.Plan.{Tree, scan, filtered, joined}
-use Rattle.typed_plan.specs.Typed.{is_place, tree_types}
+use Rattle.typed_plan.specs.Typed.{is_place}
 use Rattle.rewrite.specs.Conjuncts.{conjuncts, names_some, is_between, is_of_one, is_of_one_place, place_widths}
 use Rattle.rewrite.specs.Folded.{is_folded, is_folded_tree}
 use Rattle.rewrite.specs.Places.{tree_width}
@@ -18,7 +18,6 @@ use Rattle.rewrite.proofs.Below.{total, all_widths}
 use Rattle.rewrite.proofs.FoldedPushed.{folded_map}
 use Rattle.rewrite.proofs.NamedColumns.{names_only-map, names_agree}
 use Rattle.rewrite.proofs.PrunedTrees.{pruned_width, pruned_place}
-use Rattle.rewrite.proofs.PrunedRows.{used_width}
 use Rattle.rewrite.proofs.UsedColumns.{count, number_lt, number_le}
 
 -- ---- folded

@@ -28,7 +28,7 @@ fn numbers_below(alloc: Global, count: usize) -> Result<Vec<usize>, AllocError>
 }
 
 // Those of some numbers that are used.
-fn kept(alloc: Global, uses: &[bool], numbers: &[usize]) -> Result<Vec<usize>, AllocError>
+fn kept_numbers(alloc: Global, uses: &[bool], numbers: &[usize]) -> Result<Vec<usize>, AllocError>
     requires { length numbers.now ≡ length uses.now }
     ensures { IfOk result (λ made. made.items ≡ kept uses.now numbers.now) }
 {
@@ -54,9 +54,9 @@ fn kept_columns(
     match columns {
         Columns::All => {
             let numbers = numbers_below(alloc, width)?;
-            kept(alloc, uses, numbers.as_slice())
+            kept_numbers(alloc, uses, numbers.as_slice())
         }
-        Columns::These(numbers) => kept(alloc, uses, numbers.as_slice()),
+        Columns::These(numbers) => kept_numbers(alloc, uses, numbers.as_slice()),
     }
 }
 

@@ -166,11 +166,7 @@ fn mark_tree(uses: &mut [bool], plan: &Plan) -> Result<(), AllocError>
 }
 
 // Which columns of the rows of a tree are used: those that a filter, an ON or the result names.
-pub(crate) fn uses_of(
-    alloc: Global,
-    plan: &Plan,
-    output: &Output,
-) -> Result<Vec<bool>, AllocError>
+pub(crate) fn uses_of(alloc: Global, plan: &Plan, output: &Output) -> Result<Vec<bool>, AllocError>
     ensures { IfOk result (λ uses. uses.items ≡ uses_of (tree_of plan.now) output.now) }
 {
     let mut uses = vec![in alloc; false; width(plan)?]?;

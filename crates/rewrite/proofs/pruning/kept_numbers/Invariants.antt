@@ -1,6 +1,6 @@
 use Rattle.std.proofs.Common.{◌≡◌, ◌++◌, drop}
 use Rattle.rewrite.specs.Pruned.{kept}
-use Rattle.rewrite.proofs.pruning.kept.Given as goal
+use Rattle.rewrite.proofs.pruning.kept_numbers.Given as goal
 
 -- what is kept, and then what is still to be kept
 abbrev pub invariant-loop-place : goal.invariant-loop-place
