@@ -24,24 +24,12 @@ use Rattle.rewrite.proofs.Filters.{filter-map}
 use Rattle.typed_plan.proofs.Numbered.{truth_of-map}
 use Rattle.rewrite.proofs.Naming.{agrees}
 use Rattle.rewrite.proofs.PushedRows.{IsWide, wide_rows}
+use Rattle.rewrite.proofs.UsedColumns.{kept-map, kept-append}
 
 -- ---- used cells
 
-kept-map : {X Y : Type 0} (f : X → Y) (uses : List Bool) (xs : List X) → map f (kept uses xs) ≡ kept uses (map f xs)
-kept-map f [] xs = refl
-kept-map f (used ∷ uses) [] = refl
-kept-map f (true ∷ uses) (x ∷ xs) = ap (λ ys. f x ∷ ys) (kept-map f uses xs)
-kept-map f (false ∷ uses) (x ∷ xs) = kept-map f uses xs
-
-kept-append : (uses : List Bool) (left right : Row) → kept (take (length left) uses) left ++ kept (drop (length left) uses) right ≡ kept uses (left ++ right)
-kept-append [] [] right = refl
-kept-append [] (value ∷ left) right = refl
-kept-append (used ∷ uses) [] right = refl
-kept-append (true ∷ uses) (value ∷ left) right = ap (λ row. value ∷ row) (kept-append uses left right)
-kept-append (false ∷ uses) (value ∷ left) right = kept-append uses left right
-
 -- a used cell stands at its number among those that are used
-cell_kept : (uses : List Bool) (row : Row) (n : ℕ) → length row ≡ length uses → is_used uses n ≡ true →
+pub cell_kept : (uses : List Bool) (row : Row) (n : ℕ) → length row ≡ length uses → is_used uses n ≡ true →
     cell_in (kept uses row) (number_in uses n) ≡ cell_in row n
 cell_kept [] row n h e = cc
 cell_kept (used ∷ uses) [] n h e = absurd (omega (arith, h))
@@ -135,7 +123,7 @@ taken_all width (row ∷ rows) h =
     ap (λ cells. cells ∷ taken (These (range_with_len 0 width)) rows) (ap (λ n. map (cell_in row) (range_with_len 0 n)) (sym h.0) ∙ all_cells row)
     ∙ ap (λ some. row ∷ some) (taken_all width rows h.1)
 
-used_width : (uses : List Bool) (tree : Tree) → AreUsed uses tree → length uses ≡ tree_width tree
+pub used_width : (uses : List Bool) (tree : Tree) → AreUsed uses tree → length uses ≡ tree_width tree
 used_width uses (scan table schema columns) h = h
 used_width uses (filtered predicate tree) h = used_width uses tree h.1
 used_width uses (joined left right on) h =
@@ -147,7 +135,7 @@ used_width uses (joined left right on) h =
     let parts = length-append (take seam uses) (drop seam uses) in
     omega (arith, l, r, both, whole, parts)
 
-pruned_schemas : (uses : List Bool) (tree : Tree) → tree_schemas (pruned uses tree) ≡ tree_schemas tree
+pub pruned_schemas : (uses : List Bool) (tree : Tree) → tree_schemas (pruned uses tree) ≡ tree_schemas tree
 pruned_schemas uses (scan table schema columns) = refl
 pruned_schemas uses (filtered predicate tree) = pruned_schemas uses tree
 pruned_schemas uses (joined left right on) =
