@@ -1,4 +1,4 @@
-use Rattle.std.proofs.Common.{◌≡◌, ◌-◌, ◌*◌, ◌/◌, ◌^◌, ℕ, ap, ◌∙◌, refl, arith}
+use Rattle.std.proofs.Common.{◌-◌, ◌*◌, ◌/◌, ◌^◌, ℕ, ap, ◌∙◌, refl, arith}
 use Rattle.batch_stats.proofs.TextKeys.{front_room, key_is, of_eight}
 use Rattle.batch_stats.proofs.keys.key_at.Goals as goal
 

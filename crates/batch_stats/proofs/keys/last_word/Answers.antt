@@ -1,4 +1,4 @@
-use Rattle.std.proofs.Common.{◌≡◌, ◌≤◌, ◌+◌, ◌-◌, ℕ, ap, ◌∙◌, arith}
+use Rattle.std.proofs.Common.{◌≡◌, ◌≤◌, ◌-◌, ℕ, ap, ◌∙◌, arith}
 use Rattle.byteorder.specs.Endian.{big_from}
 use Rattle.batch_stats.proofs.TextKeys.{big_next, seven_room}
 use Rattle.batch_stats.proofs.keys.last_word.Goals as goal

@@ -1,4 +1,4 @@
-use Rattle.std.proofs.Common.{◌≡◌, ◌≤◌, ◌+◌, ◌-◌}
+use Rattle.std.proofs.Common.{◌≡◌, ◌≤◌, ◌-◌}
 use Rattle.byteorder.specs.Endian.{big_from}
 use Rattle.batch_stats.proofs.keys.last_word.Given as goal
 

@@ -1,6 +1,5 @@
-use Rattle.std.proofs.Common.{◌≡◌, ◌<◌, inl, inr, sym, arith}
+use Rattle.std.proofs.Common.{inl, inr, sym, arith}
 use Rattle.std.proofs.lemmas.Bool.{cases_order, le-ltb, lt-ltb}
-use Rattle.batch_stats.specs.inside.TextKeys.{key_of}
 use Rattle.batch_stats.proofs.TextKeys.{below_by_key, not_below_by_key}
 use Rattle.batch_stats.proofs.texts.is_below.Goals as goal
 
