@@ -67,7 +67,8 @@ impl<'a> TextRange<'a> {
         KeyRange::new(self.least.key, self.greatest.key)
     }
 
-    // The same with one text more.
+    // The same with one text more. It stands apart, so that the loop over texts keeps few numbers.
+    #[inline(never)]
     fn with(self, text: SlotText<'a>) -> TextRange<'a>
         requires keys { AreKeyed self }
         requires key { IsKeyed text }
@@ -92,6 +93,7 @@ impl<'a> TextRange<'a> {
 
     // The same with those of the slots `from` up to, not with, `to` that are valid. Most are told by their keys to change
     // no end.
+    #[inline(never)]
     fn with_slots(self, cells: &TextsRef<'a>, from: usize, to: usize) -> TextRange<'a>
         requires within { to ≤ (cells.now).len }
         requires keys { AreKeyed self }
