@@ -6,19 +6,17 @@ ghost use Rattle.grpc_frame.specs.declared.record.Record.TheVariants.{Message};
 ghost use Rattle.grpc_frame.specs.Records.{spelling};
 ghost use Rattle.grpc_frame.specs.Ends.{CountsFailure, FailsByTransport, Writes};
 ghost use Rattle.grpc_frame.specs.Sending.{Sends};
-ghost use Rattle.endpoint_split.specs.Handle.{HandleAt};
-ghost use Rattle.table_versions.specs.Database.{Database};
 ghost use Rattle.flight_info.specs.Payloads.{FitMessages};
-ghost use Rattle.fetch_stream.specs.Fetches.{FetchAt};
-ghost use Rattle.fetch_stream.specs.Streams.{Opens};
 ghost use Rattle.flight_core.specs.Asked.{Asked};
 ghost use Rattle.table_versions.specs.Log.{Log};
 ghost use Rattle.flight_calls.specs.Calls.{ReplyTo};
 ghost use Rattle.flight_calls.specs.Owed.{answer_bytes, last_status};
-ghost use Rattle.flight_calls.specs.Answered.{AnsweredBy, IsReplyOf, FitsMessages, WritesReply, SendsReply};
+ghost use Rattle.flight_calls.specs.Answered.{AnsweredBy, IsReplyOf, FitsMessages, WritesReply, SendsReply, SendsStream};
 
+use crate::setting::Setting;
+use fetch_stream::{Executor, FetchStream, Payload, Payloads, ReadsPayloads};
+use flight_core::Reply;
 use flight_core::laws::streams_answer;
-use flight_core::{FetchStream, Payload, Reply};
 use grpc_frame::{Outbox, Output};
 use scan_base::Fault;
 use std::alloc::Global;
@@ -39,8 +37,8 @@ pub enum Answer {
 /// # Errors
 ///
 /// `Fault::Transport` where a write failed. It is counted, and a beginning of the answer is written.
-pub fn write_answer<W: Output>(
-    alloc: Global,
+pub fn write_answer<W: Output, X: Executor>(
+    setting: &Setting<'_, X>,
     writer: &mut W,
     outbox: &mut Outbox,
     answer: Answer,
@@ -55,13 +53,13 @@ pub fn write_answer<W: Output>(
     ensures counted { CountsFailure result (W.failures writer.old) (W.failures writer.new) }
     ensures kind { FailsByTransport result }
 {
-    send_answer(alloc, writer, outbox, answer)?;
+    send_answer(setting, writer, outbox, answer)?;
     outbox.flush(writer)
 }
 
 // Sends an answer.
-fn send_answer<W: Output>(
-    alloc: Global,
+fn send_answer<W: Output, X: Executor>(
+    setting: &Setting<'_, X>,
     writer: &mut W,
     outbox: &mut Outbox,
     answer: Answer,
@@ -77,7 +75,7 @@ fn send_answer<W: Output>(
 {
     match answer {
         Answer::Whole(reply) => send_reply(writer, outbox, &reply),
-        Answer::Stream(stream) => send_stream(alloc, writer, outbox, stream),
+        Answer::Stream(stream) => send_made(setting, writer, outbox, stream),
     }
 }
 
@@ -117,25 +115,70 @@ fn send_payload<W: Output>(
     Ok(())
 }
 
-// Sends what a stream gives, and then the Status. Where the stream is refused, a beginning is sent, and the fault: F20 or F21.
-fn send_stream<W: Output>(
-    alloc: Global,
+// Has the payloads of a stream made, and sends them, and then the Status.
+fn send_made<W: Output, X: Executor>(
+    setting: &Setting<'_, X>,
     writer: &mut W,
     outbox: &mut Outbox,
     stream: FetchStream,
 ) -> Result<(), Fault>
     requires failures { W.failures writer.old < 18446744073709551615 }
-    ensures bytes { (database : Database) (handle : HandleAt) → Opens database handle (Ok stream) →
-        SendsReply (λ reply. FetchAt database handle reply.payloads reply.fault) result
-        (W.contents writer.old) (W.contents writer.new) outbox.old outbox.new }
-    ensures empty { OnErr result (outbox.new ≡ []) }
-    ensures counted { CountsFailure result (W.failures writer.old) (W.failures writer.new) }
-    ensures kind { FailsByTransport result }
+    ensures { SendsStream stream result (W.contents writer.old) (W.contents writer.new)
+        outbox.old outbox.new (W.failures writer.old) (W.failures writer.new) }
+{
+    let mut sending = Sending { writer, outbox };
+    let sent = setting
+        .executor
+        .execute(setting.alloc, stream, &mut sending);
+    let Sending { writer, outbox } = sending;
+    take_back(writer);
+    take_back(outbox);
+    sent
+}
+
+// Does nothing, but that what was lent is used behind the sending ties what was sent to it.
+fn take_back<T>(lent: &mut T)
+    ensures { lent.new ≡ lent.old }
+{}
+
+// Where payloads are sent.
+struct Sending<'a, W> {
+    writer: &'a mut W,
+    outbox: &'a mut Outbox,
+}
+
+// Each payload is sent before the next one is asked for, and behind the last one the Status.
+impl<'a, W: Output> ReadsPayloads for Sending<'a, W> {
+    ghost use Rattle.std.specs.Prelude.{◌≡◌, ◌<◌};
+    ghost use Rattle.flight_calls.specs.Answered.{SendsStream};
+
+    ghost takes = { λ s. W.failures s.writer.now < 18446744073709551615 };
+
+    ghost reads = { λ old stream result new.
+        (new.writer.ghost_name ≡ old.writer.ghost_name) × (new.outbox.ghost_name ≡ old.outbox.ghost_name)
+        × SendsStream stream result (W.contents old.writer.now) (W.contents new.writer.now)
+        old.outbox.now new.outbox.now (W.failures old.writer.now) (W.failures new.writer.now) };
+
+    fn read<P: Payloads>(&mut self, alloc: Global, payloads: &mut P) -> Result<(), Fault> {
+        send_stream(alloc, self.writer, self.outbox, payloads)
+    }
+}
+
+// Sends the payloads that are given, and then the Status. Where a stream is refused, a beginning is sent, and the fault: F20
+// or F21.
+fn send_stream<W: Output, P: Payloads>(
+    alloc: Global,
+    writer: &mut W,
+    outbox: &mut Outbox,
+    payloads: &mut P,
+) -> Result<(), Fault>
+    requires failures { W.failures writer.old < 18446744073709551615 }
+    ensures { SendsStream (P.stream payloads.old) result (W.contents writer.old) (W.contents writer.new)
+        outbox.old outbox.new (W.failures writer.old) (W.failures writer.new) }
 {
     streams_answer();
-    let mut stream = stream;
     loop {
-        match stream.next(alloc) {
+        match payloads.next(alloc) {
             Ok(Some(payload)) => send_payload(writer, outbox, &payload)?,
             Ok(None) => return outbox.send_status(writer, None),
             Err(fault) => return outbox.send_status(writer, Some(fault)),

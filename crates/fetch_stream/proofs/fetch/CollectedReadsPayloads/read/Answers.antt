@@ -4,32 +4,34 @@ use Rattle.flight_info.specs.Payloads.{Payload, FitMessages}
 use Rattle.flight_info.proofs.Fitting.{none_fit, one_fits}
 use Rattle.fetch_stream.specs.Streams.{StreamAt, Gives, GivesPayload, HasGiven, opened}
 use Rattle.fetch_stream.proofs.Answering.{given_none, fewer_turns, gave, ended, given_more, collected_before}
-use Rattle.fetch_stream.proofs.fetch.collect.Goals as goal
+use Rattle.fetch_stream.proofs.fetch.CollectedReadsPayloads.read.Goals as goal
 
 pub loop-payload-init : goal.loop-payload-init
-loop-payload-init c = record {
+loop-payload-init g c = record {
   given = λ answer same. (
     ap (λ (stream : StreamAt). stream.refused) same,
-    subst (λ (stream : StreamAt). HasGiven answer c.args.payloads.now.items stream) (sym same)
+    subst (λ (stream : StreamAt). HasGiven answer c.args.self.now.payloads.items stream) (sym same)
         (subst (λ (payloads : List Payload). HasGiven answer payloads (opened answer)) (sym c.requires) (given_none answer)),
   );
   fits = subst FitMessages (sym c.requires) none_fit;
 }
 
 pub loop-payload-smaller : goal.loop-payload-smaller
-loop-payload-smaller c =
-    let before = c.loop-payload.stream in
-    let after = c.next.new.self in
+loop-payload-smaller g c =
+    let stream = g.P.Payloads.stream in
+    let before = stream c.loop-payload.payloads in
+    let after = stream c.next.new.self in
     let payload = c.in-Some.payload in
     let gives : Gives before (Ok (Some payload)) after = subst (λ (found : Option Payload). Gives before (Ok found) after) c.in-Some.is c.in_ok-payload.ensures in
     fewer_turns before after payload (gave before after payload gives)
 
 pub loop-payload-preserved : goal.loop-payload-preserved
-loop-payload-preserved c =
-    let before = c.loop-payload.stream in
-    let after = c.next.new.self in
+loop-payload-preserved g c =
+    let stream = g.P.Payloads.stream in
+    let before = stream c.loop-payload.payloads in
+    let after = stream c.next.new.self in
     let payload = c.in-Some.payload in
-    let payloads = c.loop-payload.payloads.items in
+    let payloads = c.loop-payload.self.payloads.items in
     let gives : GivesPayload before payload after = gave before after payload (subst (λ (found : Option Payload). Gives before (Ok found) after) c.in-Some.is c.in_ok-payload.ensures) in
     let pushed : c.push.new.self.items ≡ payloads ++ payload ∷ [] = c.in_ok-push.ensures.items ∙ ap (λ (last : Payload). payloads ++ last ∷ []) c.in_ok-into_bytes.ensures.same in
     record {
@@ -40,15 +42,23 @@ loop-payload-preserved c =
       fits = subst FitMessages (sym pushed) (one_fits payloads payload c.loop-payload.invariant.fits gives.fits);
     }
 
-pub returns-in_err-payload-clause-said : goal.returns-in_err-payload-clause-said
-returns-in_err-payload-clause-said c answer same =
+pub returns-in_err-payload : goal.returns-in_err-payload
+returns-in_err-payload g c =
+    let stream = g.P.Payloads.stream in
     let p = err_from_is_err_and c.from_residual.result c.from_residual.ensures.1 in
-    rw (p.1, p.2) (collected_before answer c.loop-payload.payloads.items c.loop-payload.stream c.next.new.self c.in_err-payload.field-0.0 (c.loop-payload.invariant.given answer same) c.in_err-payload.ensures)
+    record {
+      said = λ answer same. rw (p.1, p.2) (collected_before answer c.loop-payload.self.payloads.items (stream c.loop-payload.payloads) (stream c.next.new.self) c.in_err-payload.field-0.0 (c.loop-payload.invariant.given answer same) c.in_err-payload.ensures);
+      fits = c.loop-payload.invariant.fits;
+    }
 
-pub returns-clause-said : goal.returns-clause-said
-returns-clause-said c answer same =
-    let before = c.loop-payload.stream in
-    let after = c.next.new.self in
+pub returns : goal.returns
+returns g c =
+    let stream = g.P.Payloads.stream in
+    let before = stream c.loop-payload.payloads in
+    let after = stream c.next.new.self in
     let gives : Gives before (Ok None) after = subst (λ (found : Option Payload). Gives before (Ok found) after) c.in_default.is c.in_ok-payload.ensures in
     let end = ended before after gives in
-    record { stream = before; given = (c.loop-payload.invariant.given answer same).1; stops = (end.0, end.1) }
+    record {
+      said = λ answer same. record { stream = before; given = (c.loop-payload.invariant.given answer same).1; stops = (end.0, end.1) };
+      fits = c.loop-payload.invariant.fits;
+    }
