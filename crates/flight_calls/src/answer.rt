@@ -6,12 +6,16 @@ ghost use Rattle.grpc_frame.specs.declared.record.Record.TheVariants.{Message};
 ghost use Rattle.grpc_frame.specs.Records.{spelling};
 ghost use Rattle.grpc_frame.specs.Ends.{CountsFailure, FailsByTransport, Writes};
 ghost use Rattle.grpc_frame.specs.Sending.{Sends};
+ghost use Rattle.endpoint_split.specs.Handle.{HandleAt};
+ghost use Rattle.table_versions.specs.Database.{Database};
 ghost use Rattle.flight_info.specs.Payloads.{FitMessages};
+ghost use Rattle.fetch_stream.specs.Fetches.{FetchAt};
+ghost use Rattle.fetch_stream.specs.Streams.{Opens};
 ghost use Rattle.flight_core.specs.Asked.{Asked};
 ghost use Rattle.table_versions.specs.Log.{Log};
 ghost use Rattle.flight_calls.specs.Calls.{ReplyTo};
 ghost use Rattle.flight_calls.specs.Owed.{answer_bytes, last_status};
-ghost use Rattle.flight_calls.specs.Answered.{AnsweredBy, IsReplyOf, FitsMessages, WritesReply, SendsReply, SendsStream};
+ghost use Rattle.flight_calls.specs.Answered.{AnsweredBy, IsReplyOf, FitsMessages, WritesReply, SendsReply};
 
 use crate::setting::Setting;
 use fetch_stream::{Executor, FetchStream, Payload, Payloads, ReadsPayloads};
@@ -75,7 +79,7 @@ fn send_answer<W: Output, X: Executor>(
 {
     match answer {
         Answer::Whole(reply) => send_reply(writer, outbox, &reply),
-        Answer::Stream(stream) => send_made(setting, writer, outbox, stream),
+        Answer::Stream(stream) => send_fetch(setting, writer, outbox, stream),
     }
 }
 
@@ -115,16 +119,20 @@ fn send_payload<W: Output>(
     Ok(())
 }
 
-// Has the payloads of a stream made, and sends them, and then the Status.
-fn send_made<W: Output, X: Executor>(
+// Sends the answer to a fetch: the payloads of its stream, as the executor has them made, and then the Status.
+fn send_fetch<W: Output, X: Executor>(
     setting: &Setting<'_, X>,
     writer: &mut W,
     outbox: &mut Outbox,
     stream: FetchStream,
 ) -> Result<(), Fault>
     requires failures { W.failures writer.old < 18446744073709551615 }
-    ensures { SendsStream stream result (W.contents writer.old) (W.contents writer.new)
-        outbox.old outbox.new (W.failures writer.old) (W.failures writer.new) }
+    ensures bytes { (database : Database) (handle : HandleAt) → Opens database handle (Ok stream) →
+        SendsReply (λ reply. FetchAt database handle reply.payloads reply.fault) result
+        (W.contents writer.old) (W.contents writer.new) outbox.old outbox.new }
+    ensures empty { OnErr result (outbox.new ≡ []) }
+    ensures counted { CountsFailure result (W.failures writer.old) (W.failures writer.new) }
+    ensures kind { FailsByTransport result }
 {
     let mut sending = Sending { writer, outbox };
     let sent = setting
@@ -142,13 +150,13 @@ fn take_back<T>(lent: &mut T)
 {}
 
 // Where payloads are sent.
-struct Sending<'a, W> {
-    writer: &'a mut W,
-    outbox: &'a mut Outbox,
+struct Sending<'w, 'o, W> {
+    writer: &'w mut W,
+    outbox: &'o mut Outbox,
 }
 
 // Each payload is sent before the next one is asked for, and behind the last one the Status.
-impl<'a, W: Output> ReadsPayloads for Sending<'a, W> {
+impl<'w, 'o, W: Output> ReadsPayloads for Sending<'w, 'o, W> {
     ghost use Rattle.std.specs.Prelude.{◌≡◌, ◌<◌};
     ghost use Rattle.flight_calls.specs.Answered.{SendsStream};
 
@@ -173,8 +181,12 @@ fn send_stream<W: Output, P: Payloads>(
     payloads: &mut P,
 ) -> Result<(), Fault>
     requires failures { W.failures writer.old < 18446744073709551615 }
-    ensures { SendsStream (P.stream payloads.old) result (W.contents writer.old) (W.contents writer.new)
-        outbox.old outbox.new (W.failures writer.old) (W.failures writer.new) }
+    ensures bytes { (database : Database) (handle : HandleAt) → Opens database handle (Ok (P.stream payloads.old)) →
+        SendsReply (λ reply. FetchAt database handle reply.payloads reply.fault) result
+        (W.contents writer.old) (W.contents writer.new) outbox.old outbox.new }
+    ensures empty { OnErr result (outbox.new ≡ []) }
+    ensures counted { CountsFailure result (W.failures writer.old) (W.failures writer.new) }
+    ensures kind { FailsByTransport result }
 {
     streams_answer();
     loop {
