@@ -84,7 +84,7 @@ impl Executor for OneWorker {
 }
 
 /// How a fetch is executed: who makes its payloads, and how many workers may do so at most.
-#[derive_where(Clone, Copy)]
+#[derive(Clone, Copy)]
 pub struct Execution<'a, X> {
     pub executor: &'a X,
     pub workers: usize,
