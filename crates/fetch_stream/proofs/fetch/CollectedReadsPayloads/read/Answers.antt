@@ -1,9 +1,10 @@
-use Rattle.std.proofs.Common.{◌≡◌, ◌∷◌, [], ◌++◌, List, Option, Some, None, Ok, sym, ap, subst, ◌∙◌}
+use Rattle.std.proofs.Common.{◌≡◌, ◌∷◌, [], ◌++◌, List, Option, Some, None, Ok, Err, sym, ap, subst, ◌∙◌, rules}
 use Rattle.std.proofs.lemmas.Result.{err_from_is_err_and}
+use Rattle.scan_base.specs.declared.fault.Fault.TheVariants.{OutOfMemory}
 use Rattle.flight_info.specs.Payloads.{Payload, FitMessages}
 use Rattle.flight_info.proofs.Fitting.{none_fit, one_fits}
 use Rattle.fetch_stream.specs.Streams.{StreamAt, Gives, GivesPayload, HasGiven, opened}
-use Rattle.fetch_stream.proofs.Answering.{given_none, fewer_turns, gave, ended, given_more, collected_before}
+use Rattle.fetch_stream.proofs.Answering.{given_none, fewer_turns, gave, ended, given_more, collected_before, collected_short}
 use Rattle.fetch_stream.proofs.fetch.CollectedReadsPayloads.read.Goals as goal
 
 pub loop-payload-init : goal.loop-payload-init
@@ -49,6 +50,23 @@ returns-in_err-payload g c =
     record {
       said = λ answer same. rw (p.1, p.2) (collected_before answer c.loop-payload.self.payloads.items (stream c.loop-payload.payloads) (stream c.next.new.self) c.in_err-payload.field-0.0 (c.loop-payload.invariant.given answer same) c.in_err-payload.ensures);
       fits = c.loop-payload.invariant.fits;
+    }
+
+pub returns-in_err-into_bytes : goal.returns-in_err-into_bytes
+returns-in_err-into_bytes g c =
+    let short : c.from_residual-in_err-into_bytes.result ≡ Err OutOfMemory = search rules in
+    record {
+      said = λ answer same. rw short (collected_short answer c.loop-payload.self.payloads.items (g.P.Payloads.stream c.loop-payload.payloads) (c.loop-payload.invariant.given answer same).1);
+      fits = c.loop-payload.invariant.fits;
+    }
+
+pub returns-in_err-push : goal.returns-in_err-push
+returns-in_err-push g c =
+    let short : c.from_residual-in_err-push.result ≡ Err OutOfMemory = search rules in
+    let same_payloads : c.push.new.self.items ≡ c.loop-payload.self.payloads.items = search rules in
+    record {
+      said = λ answer same. rw (short, same_payloads) (collected_short answer c.loop-payload.self.payloads.items (g.P.Payloads.stream c.loop-payload.payloads) (c.loop-payload.invariant.given answer same).1);
+      fits = subst FitMessages (sym same_payloads) c.loop-payload.invariant.fits;
     }
 
 pub returns : goal.returns
