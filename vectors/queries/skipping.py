@@ -77,8 +77,9 @@ def domain_of(draws, name):
         return sorted(draws.choice(TEXTS), key=order)
     (least, greatest), half = limits(name), 2 ** (TYPES[name][0] // 2)
     step = draws.choice([1, 1, 1, 2, 5] + [half - 1] * (name not in ("i8", "u8")))
-    around = max(least, draws.choice([-20, -10, -3, 0]) * step)
-    first = draws.choice([around, around, around, least, greatest - 40 * step])
+    last = greatest - 40 * step
+    around = min(max(least, draws.choice([-20, -10, -3, 0]) * step), last)
+    first = draws.choice([around, around, around, least, last])
     return [first + number * step for number in range(41)]
 
 
