@@ -391,7 +391,7 @@ def over_many():
     for where, count in [("a > 50", 14), ("a = 113", 1), ("NOT (a <= 14)", 14), ("s = 'c'", 13), ("s <> 'b'", 14), ("a BETWEEN 105 AND 200 AND s > 'b'", 9),
                          ("a IN (50, 100, 113)", 2), ("a > 50{500: AND a > 50}", 14), ("1 = 1{900: AND 2 > 1} AND a > 50", 14)]:
         yield f"opened 0 {rows} SELECT a FROM many WHERE {where}", f"{count} of 0.{BEFORE}"
-    for where in ["a IS NULL", "a > 113", "a BETWEEN 9 AND 3", "a > 14 AND a < 100 AND s = 'b'", "s = 'c' AND 1 = 2"]:
+    for where in ["a IS NULL", "a > 113", "a BETWEEN 103 AND 50", "a > 14 AND a < 100 AND s = 'b'", "s = 'c' AND 1 = 2"]:
         yield f"opened 0 {rows} SELECT a FROM many WHERE {where}", "0 of"
     yield f"opened {14 * BEFORE - 1} {14 * BEFORE + 15} SELECT a FROM many", f"16 of 0.{BEFORE - 1} 0.{BEFORE} 0.{BEFORE + 1}"
     yield f"opened {14 * BEFORE - 1} {14 * BEFORE + 15} SELECT a FROM many WHERE a < 3", f"1 of 0.{BEFORE - 1} 0.{BEFORE + 1}"
