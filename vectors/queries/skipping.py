@@ -7,7 +7,7 @@ random   any of some forty values; ends  the least and the greatest of these
 one      one value in each batch; same  one value in all of them
 
 Every type comes in every manner. Under a null stands any number or text, so a null that counts as a value is seen. Some
-batches of a put have no rows: these are not stored. The ranges are the whole table, a part of it, or empty.
+puts have no rows: no batch of theirs is stored. The ranges are the whole table, a part of it, or empty.
 
 Which batches are opened is written here from docs/SQL.md, section 7, over `may_hold` in truths.py. Each case is looked at in
 two more ways, which use no statistics or no rule about them: each row that is kept lies in a batch that is opened; and the
@@ -19,8 +19,8 @@ from dataclasses import dataclass
 sys.dont_write_bytecode = True
 import allowed
 import table
-from selections import Column, TYPES, drawn, ends
-from table import BOOL, DECIMAL, MOST, UTF8, batch, dictionary, field, integer, schema
+from selections import TYPES, WIDE, Column, Table, drawn, ends
+from table import BOOL, DECIMAL, MOST, UTF8, integer
 from truths import (SIGNS, Name, Predicate, all_of, among, any_of, between, compare, compared, is_not_null, is_null, kept,
                     may_hold, negated, not_among, not_between, order, statistics_of, tested)
 
@@ -123,7 +123,7 @@ class Kind:
 
 
 class Batched:
-    """A table of many small batches, of which some puts have several. Batches without rows are put, and not stored."""
+    """A table of many small batches. Those without rows are put, and not stored."""
 
     def __init__(self, number):
         draws, self.name = Draws(f"batches {number}"), f"b{number}"
@@ -134,25 +134,14 @@ class Batched:
         while len(self.sent) < count:
             rows = draws.choice(ROWS)
             self.sent.append([kind.batch(draws, len(self.sent), count, rows) for kind in self.kinds])
-        self.cuts = sorted({0, count, *(draws.below(count) for _ in range(draws.below(4)))})
         stored = [columns for columns in self.sent if columns[0].values]
         names = [kind.name for kind in self.kinds]
         self.batches = [[dict(zip(names, row)) for row in zip(*(column.values for column in columns))] for columns in stored]
         self.size = sum(map(len, self.batches))
 
     def puts(self):
-        for first, end in zip(self.cuts, self.cuts[1:]):
-            batches = self.sent[first:end]
-            messages = [(schema(*(column.field(number) for number, column in enumerate(batches[0]))), b"")]
-            for number, column in enumerate(batches[0]):
-                if column.entries:
-                    hidden = [one is None for one in column.entries]
-                    entries = Column("", UTF8, [one or "" for one in column.entries], hidden)
-                    messages.append(dictionary(number, batch(len(hidden), entries.buffers())))
-            messages += [batch(len(columns[0].values), *(column.buffers() for column in columns)) for columns in batches]
-            said = [(column.name, column.of, [one for columns in batches for one in columns[place].values])
-                    for place, column in enumerate(batches[0])]
-            yield table.put(self.name, said, messages)
+        """A put of each batch."""
+        yield from Table(self.name, *self.sent).puts()
 
 
 # ---- the model
@@ -368,39 +357,20 @@ def of_places(turn):
     return case_of(draws, f"SELECT {draws.choice(scopes[-1])} FROM {names[0]}{joins}", places, ons, where)
 
 
-# ---- 70,000 rows and more, in 5,001 batches
-
-LIKE = [[1 + row % 14 for row in range(14)], ["b"] * 14]  # of all batches but one
-ODD = [[100 + row for row in range(14)], ["a"] + ["c"] * 13]
-BEFORE, BEHIND = 3_000, 2_000  # batches before the odd one, and behind it
+# ---- 70,000 rows, and long chains of conjuncts
 
 
-def many_batches():
-    """The put of `many`, in which what is repeated stands once."""
-    i64, words = integer(64, True), []
-    for values, count in [(LIKE, BEFORE), (ODD, 1), (LIKE, BEHIND)]:
-        tree, body = batch(14, (0, b"", table.numbers(8, values[0])), (0, b"", *table.texts_of(values[1])))
-        words.append("{%d: %s/%s}" % (count, table.layout.written("Message", tree, "packed").hex(), body.hex()))
-    head = schema(field("a", i64, False), field("s", UTF8, False))
-    return f"put many {table.layout.written('Message', head, 'packed').hex()}/{''.join(words)}"
-
-
-def over_many():
-    """Where one batch alone may hold a row, and where all may; a range, and of a join each place by its own conjuncts."""
-    rows = 14 * (BEFORE + 1 + BEHIND)
-    for where, count in [("a > 50", 14), ("a = 113", 1), ("NOT (a <= 14)", 14), ("s = 'c'", 13), ("s <> 'b'", 14), ("a BETWEEN 105 AND 200 AND s > 'b'", 9),
-                         ("a IN (50, 100, 113)", 2), ("a > 50{500: AND a > 50}", 14), ("1 = 1{900: AND 2 > 1} AND a > 50", 14)]:
-        yield f"opened 0 {rows} SELECT a FROM many WHERE {where}", f"{count} of 0.{BEFORE}"
-    for where in ["a IS NULL", "a > 113", "a BETWEEN 103 AND 50", "a > 14 AND a < 100 AND s = 'b'", "s = 'c' AND 1 = 2"]:
-        yield f"opened 0 {rows} SELECT a FROM many WHERE {where}", "0 of"
-    yield f"opened {14 * BEFORE - 1} {14 * BEFORE + 15} SELECT a FROM many", f"16 of 0.{BEFORE - 1} 0.{BEFORE} 0.{BEFORE + 1}"
-    yield f"opened {14 * BEFORE - 1} {14 * BEFORE + 15} SELECT a FROM many WHERE a < 3", f"1 of 0.{BEFORE - 1} 0.{BEFORE + 1}"
-    yield f"range 0 {rows} SELECT COUNT(*), SUM(a) FROM many WHERE a = 7", f"5000,35000,; 1 of {BEFORE + BEHIND}"
-    yield f"range 0 {rows} SELECT COUNT(*), SUM(a) FROM many", f"{rows},{5000 * 105 + 1491},; 1 of {BEFORE + 1 + BEHIND}"
-    join = f"opened 0 {rows} SELECT y.s FROM many x JOIN many y ON x.a = y.a WHERE "
-    yield f"{join}x.a > 50 AND y.a > 50", f"14 of 1.{BEFORE} 0.{BEFORE}"
-    yield f"{join}x.a > 50{{300: AND x.a > 50}} AND y.s <> 'b'{{300: AND y.s <> 'b'}} AND x.s = y.s", f"14 of 1.{BEFORE} 0.{BEFORE}"
-    yield f"{join}x.a > 50 AND y.a > 113", f"0 of 0.{BEFORE}"
+def over_wide():
+    """Chains of conjuncts of one place, of both places of a join and of literals, over `wide`."""
+    opened = f"opened 0 {len(WIDE.rows)} SELECT a FROM wide WHERE "
+    few = len(kept(WIDE.rows, compare(Name("a"), ">", 97)))
+    yield f"{opened}a > 97{{500: AND a > 97}}", f"{few} of 0.0"
+    yield f"{opened}1 = 1{{900: AND 2 > 1}} AND a > 97", f"{few} of 0.0"
+    for where in ["a > 99", "a IS NULL", "a > 97{500: AND a > 97} AND a < 0", "a > 97 AND 1 = 2", "s > 'abcdefghi'", "NOT (v < 112)"]:
+        yield f"{opened}{where}", "0 of"
+    join = f"opened 0 {len(WIDE.rows)} SELECT x.a FROM wide x JOIN wide y ON x.u = y.u AND x.v = y.v WHERE x.a > 97{{300: AND x.a > 97}}"
+    yield f"{join} AND y.a > 97{{300: AND y.a > 97}} AND x.a = y.a", f"{few} of 1.0 0.0"
+    yield f"{join} AND y.a > 99", "0 of 0.0"
 
 
 BATCHED = [Batched(number) for number in range(TABLES)]
@@ -409,14 +379,13 @@ OF_PLACES = 400
 
 
 def puts():
-    yield many_batches()
     for one in BATCHED:
         yield from one.puts()
 
 
 def cases():
     allowed.look_at_small_domains()
-    yield from over_many()
+    yield from over_wide()
     for number, one in enumerate(BATCHED):
         yield from of_one_place(number, one)
     for turn in range(OF_PLACES):

@@ -34,20 +34,22 @@ fn parts(alloc: Global, message: &str) -> Result<(Bytes, Bytes), AllocError> {
     Ok((bytes_of(alloc, header)?, bytes_of(alloc, body)?))
 }
 
-// The put behind the table's name: a schema, dictionaries and batches.
+// The put behind the table's name: a schema, dictionaries, and last a batch.
 fn put(alloc: Global, case: &str) -> Result<Put, Fault> {
     let (name, messages) = case.split_once(' ').unwrap_or((case, ""));
-    let (mut reader, mut batches) = (Reader::new(), Vec::new(alloc));
-    for message in messages.split(' ') {
+    let (before, last) = messages.rsplit_once(' ').unwrap_or(("", messages));
+    let mut reader = Reader::new();
+    for message in before.split(' ') {
         let (header, body) = parts(alloc, message)?;
-        if let Some(batch) = reader.message(alloc, header, body)? {
-            batches.push(MeasuredBatch::new(alloc, batch)?)?;
-        }
+        reader.message(alloc, header, body)?;
     }
-    let Some(schema) = reader.into_schema() else {
+    let (header, body) = parts(alloc, last)?;
+    let batch = reader.message(alloc, header, body)?;
+    let (Some(batch), Some(schema)) = (batch, reader.into_schema()) else {
         return Err(Fault::BadBatch);
     };
     let name = Text::new(alloc, name)?;
+    let batches = vec![in alloc; MeasuredBatch::new(alloc, batch)?]?;
     Ok(Put::new(name, IfNotExist::Create, IfExists::Append, schema, batches))
 }
 
