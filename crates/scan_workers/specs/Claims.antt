@@ -1,4 +1,4 @@
--- What the workers have drawn from the claim word.
+-- Inside: what the workers have drawn from the claim word.
 use Rattle.std.specs.Prelude.{◌≡◌, ℕ, ◌+◌, ◌<◌, ◌==◌, Bool, true, false, List, [], ◌∷◌, ◌++◌, length}
 use lib.Dec.{ltb}
 use Rattle.atomic_table.specs.Table.{State, Me, Step}
