@@ -14,4 +14,5 @@ pub mod Shown
 pub mod Showing
 pub mod Collected
 pub mod Grouped
+pub mod Merged
 pub mod OpenedTables
