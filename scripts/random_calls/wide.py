@@ -187,7 +187,7 @@ class WideJoiner(Joiner):
         """Items and keys of a grouped query of one place."""
         place = self.places[0]
         names = [Name(column.name, place.name) for column in place.columns]
-        keys = tuple(self.random.sample(names, self.random.choice([0, 1, 1, 1, 2, 3])))
+        keys = tuple(self.random.sample(names, min(len(names), self.random.choice([0, 1, 1, 1, 2, 3]))))
         summed = [Name(column.name, place.name) for column in place.columns if class_of(column.type) == "number"
                   and column.type != "Decimal128" and self.sorted.may_sum(place.table, column.name)]
         items = [*keys, Count(None), Count(self.name()), *map(Sum, summed)]

@@ -18,7 +18,6 @@ from dataclasses import dataclass
 
 sys.dont_write_bytecode = True
 import allowed
-import table
 from selections import TYPES, WIDE, Column, Table, drawn, ends
 from table import BOOL, DECIMAL, MOST, UTF8, integer
 from truths import (SIGNS, Name, Predicate, all_of, among, any_of, between, compare, compared, is_not_null, is_null, kept,
