@@ -114,7 +114,7 @@ impl Cases {
             executor: &OneWorker,
             options: Options { parts, workers },
         };
-        let status = pipe(setting, self.seed, &mut reader, &mut writer, &mut faults).number();
+        let status = pipe(&setting, self.seed, &mut reader, &mut writer, &mut faults).number();
         let mut inbox = Inbox::of_client(alloc);
         inbox.feed(writer.as_slice())?;
         let mut told = String::new(alloc);

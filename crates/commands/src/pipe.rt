@@ -14,7 +14,7 @@ use hash_seed::HashSeed;
 /// Serves one connection, from the reader to the writer, on a catalog that is empty at first, of whose values hashes begin
 /// with the seed. It is done at the input's end. A fault of this end is printed on `faults` in a line, as far as that takes it.
 pub fn pipe<R: Input, W: Output, E: Output, X: Executor>(
-    setting: Setting<'_, X>,
+    setting: &Setting<'_, X>,
     seed: HashSeed,
     reader: &mut R,
     writer: &mut W,
@@ -23,7 +23,7 @@ pub fn pipe<R: Input, W: Output, E: Output, X: Executor>(
     requires reads { R.failures reader.old < 18446744073709551615 }
     requires writes { W.failures writer.old < 18446744073709551615 }
     requires prints { E.failures faults.old < 18446744073709551615 }
-    ensures { (seat : Seat) × Pipes setting.options result
+    ensures { (seat : Seat) × Pipes setting.now.options result
         (connection_of (R.remaining reader.old) (W.contents writer.old)
         (R.failures reader.old) (W.failures writer.old) (seat_of [] 0))
         (connection_of (R.remaining reader.new) (W.contents writer.new)

@@ -59,7 +59,7 @@ pub fn serve_in_turn<L: Listen, B: Backend, T: Wait + Clock, X: Executor>(
             executor: service.executor,
             options: service.options,
         };
-        let _ = flight_calls::serve(setting, &mut reader, &mut writer, backend);
+        let _ = flight_calls::serve(&setting, &mut reader, &mut writer, backend);
     }
     unreachable!()
 }

@@ -26,7 +26,7 @@ fn put_alone(alloc: Global, backend: &mut Alone) -> MemoryOutput {
         executor: &OneWorker,
         options: OPTIONS,
     };
-    match serve(setting, &mut MemoryInput::new(PUT), &mut writer, backend) {
+    match serve(&setting, &mut MemoryInput::new(PUT), &mut writer, backend) {
         Ok(()) => writer,
         Err(_) => MemoryOutput::new(alloc),
     }
@@ -74,7 +74,7 @@ fn a_flush_that_fails(rt: HostRuntime) -> Result<(), Fail> {
             options: OPTIONS,
         };
         let ended = serve(
-            setting,
+            &setting,
             &mut MemoryInput::new(PUT),
             &mut writer,
             &mut backend,

@@ -50,7 +50,7 @@ fn pipe_status<R: Input, W: Output, E: Output>(
         options: OPTIONS,
     };
     match HashSeed::new(&FixedSource) {
-        Ok(seed) => pipe(setting, seed, reader, writer, faults).number(),
+        Ok(seed) => pipe(&setting, seed, reader, writer, faults).number(),
         Err(_) => u8::MAX,
     }
 }

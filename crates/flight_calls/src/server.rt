@@ -30,14 +30,14 @@ use scan_base::Fault;
 /// Nothing is done for a call whose End has not come. Where only the writing of an answer failed, its call was
 /// done: a put that was accepted stands.
 pub fn serve<R: Input, W: Output, B: Backend, X: Executor>(
-    setting: Setting<'_, X>,
+    setting: &Setting<'_, X>,
     reader: &mut R,
     writer: &mut W,
     backend: &mut B,
 ) -> Result<(), Fault>
     requires reads { R.failures reader.old < 18446744073709551615 }
     requires writes { W.failures writer.old < 18446744073709551615 }
-    ensures { Serves B.moves setting.options result
+    ensures { Serves B.moves setting.now.options result
         (connection_of (R.remaining reader.old) (W.contents writer.old)
         (R.failures reader.old) (W.failures writer.old) (B.seat backend.old))
         (connection_of (R.remaining reader.new) (W.contents writer.new)
@@ -54,7 +54,7 @@ pub fn serve<R: Input, W: Output, B: Backend, X: Executor>(
             Err(fault) => return refuse(writer, &mut outbox, fault),
         };
         let answer = request.answer(alloc, backend, setting.options);
-        let Ok(()) = write_answer(&setting, writer, &mut outbox, answer) else {
+        let Ok(()) = write_answer(setting, writer, &mut outbox, answer) else {
             return Err(Fault::Transport);
         };
     }
@@ -66,14 +66,14 @@ pub fn serve<R: Input, W: Output, B: Backend, X: Executor>(
 ///
 /// Those of `serve`, and `Fault::OutOfMemory` (F21) where memory for the catalog is refused.
 pub fn serve_alone<R: Input, W: Output, X: Executor>(
-    setting: Setting<'_, X>,
+    setting: &Setting<'_, X>,
     seed: HashSeed,
     reader: &mut R,
     writer: &mut W,
 ) -> Result<(), Fault>
     requires reads { R.failures reader.old < 18446744073709551615 }
     requires writes { W.failures writer.old < 18446744073709551615 }
-    ensures { (seat : Seat) × Serves alone setting.options result
+    ensures { (seat : Seat) × Serves alone setting.now.options result
         (connection_of (R.remaining reader.old) (W.contents writer.old)
         (R.failures reader.old) (W.failures writer.old) (seat_of [] 0))
         (connection_of (R.remaining reader.new) (W.contents writer.new)

@@ -12,7 +12,7 @@ pub struct Options {
 }
 
 /// By what a server answers: where its memory comes from, who makes the payloads of a fetch, and its options.
-#[derive(Clone, Copy)]
+#[derive(Drop)]
 pub struct Setting<'a, X> {
     pub alloc: Global,
     pub executor: &'a X,

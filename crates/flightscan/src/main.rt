@@ -66,7 +66,7 @@ where
                 executor: &OneWorker,
                 options: Options { parts, workers },
             };
-            pipe(setting, seed, input, output, faults)
+            pipe(&setting, seed, input, output, faults)
         }
         _ => ExitStatus::BadCommandLine,
     }
