@@ -29,7 +29,7 @@ all_first (batch ∷ batches) all =
     let both = and_parts (batch.0 == 0) (list_all (λ (b : ℕ × ℕ). b.0 == 0) batches) all in
     rw (both.0, all_first batches both.1) refl
 
-none_from_nothing : {X : Type 0} (xs : List X) → length xs ≡ 0 → xs ≡ []
+pub none_from_nothing : {X : Type 0} (xs : List X) → length xs ≡ 0 → xs ≡ []
 none_from_nothing [] e = refl
 none_from_nothing (x ∷ xs) e = absurd (omega (arith, e))
 

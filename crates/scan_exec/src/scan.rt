@@ -177,6 +177,7 @@ impl Scan {
         let Answer::Rows(rows) = &self.answer else {
             return Err(AllocError);
         };
+        let _ordered = rows.opened();
         let rows = rows.part(alloc, number)?;
         let mut batches = Vec::with_capacity(alloc, 1)?;
         batches.push(self.batches[self.further + number])?;
