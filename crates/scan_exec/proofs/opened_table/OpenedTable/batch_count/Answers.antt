@@ -7,5 +7,10 @@ pub returns : goal.returns
 returns c =
     let s = c.self.inside in
     let size : vec_len s.numbers ≡ length s.numbers.items = search rules in
-    omega (arith, c.len.ensures, size, at_many s.table.batches s.numbers.items c.self.invariant.there,
-    ap (λ (table : TableAt). length table.batches) c.self.view_is)
+    omega (
+      arith,
+      c.len.ensures,
+      size,
+      at_many s.table.batches s.numbers.items c.self.invariant.there,
+      ap (λ (table : TableAt). length table.batches) c.self.view_is,
+    )
