@@ -1,5 +1,5 @@
 -- Inside: the rows that a joiner has still to give, and what it keeps.
-use Rattle.std.specs.Prelude.{◌≡◌, ◌≤◌, ◌<◌, All, List, ◌++◌, length, map, drop}
+use Rattle.std.specs.Prelude.{◌≤◌, ◌<◌, All, List, ◌++◌, length, map, drop}
 use Rattle.std.specs.Arc.{arc_value}
 use Rattle.arrays.specs.Typed.{AreOf}
 use Rattle.hash_join.specs.Pairs.{pairs_ahead}
