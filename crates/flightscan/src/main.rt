@@ -51,12 +51,7 @@ where
     match request {
         Request::Serve(serving) => {
             let alloc = rt.alloc();
-            let host = Host {
-                rt,
-                alloc,
-                executor: &OneWorker,
-                seed,
-            };
+            let host = Host { rt, alloc, seed };
             serve(host, &mut Port::new(rt), output, faults, serving)
         }
         Request::Pipe { parts, workers } => {

@@ -8,7 +8,6 @@ use client_calls::Failure;
 use command_ends::Listen;
 use command_line::Serving;
 use commands::serve::{Host, serve};
-use flight_calls::OneWorker;
 use grpc_frame::{Counted, MemoryOutput};
 use hash_seed::HashSeed;
 use loopback::Port;
@@ -95,7 +94,7 @@ struct Served {
 }
 
 // Serves so many connections, two at once.
-fn serve_bound<R>(host: Host<'_, R, OneWorker>, mut bound: Bound<'_, R>, accept: u16) -> Served
+fn serve_bound<R>(host: Host<'_, R>, mut bound: Bound<'_, R>, accept: u16) -> Served
 where
     R: Net<Listener = TcpListener, Stream = TcpStream> + Threads + Wait + Clock + Sync,
 {
@@ -148,12 +147,7 @@ where
     R: Threads + Wait + Clock + Sync,
 {
     let (alloc, seed) = (rt.alloc(), HashSeed::new(rt)?);
-    let host = Host {
-        rt,
-        alloc,
-        executor: &OneWorker,
-        seed,
-    };
+    let host = Host { rt, alloc, seed };
     let mut port = Port::new(rt);
     let number = port.listen(0)?;
     let bound = Bound { port, number };
