@@ -39,7 +39,7 @@ use Rattle.scan_exec.proofs.Giving.{filter-map}
 use Rattle.scan_exec.proofs.JoinSteps.{as_many}
 
 -- no more pass than there are
-pub passing_few : {X : Type 0} (test : X → Bool) (xs : List X) → length (filter test xs) ≤ length xs
+passing_few : {X : Type 0} (test : X → Bool) (xs : List X) → length (filter test xs) ≤ length xs
 passing_few test [] = omega arith
 passing_few test (x ∷ xs) = by (test x) (passing_few test xs)
   where
@@ -48,7 +48,7 @@ passing_few test (x ∷ xs) = by (test x) (passing_few test xs)
     by false few = omega (arith, few)
 
 -- what is alike to one that is alike
-pub alike_still : (first groups after : GroupsAt) → IsAlike first groups → IsAlike groups after → IsAlike first after
+alike_still : (first groups after : GroupsAt) → IsAlike first groups → IsAlike groups after → IsAlike first after
 alike_still first groups after before now = record {
   batches = now.batches ∙ before.batches;
   types = now.types ∙ before.types;
@@ -119,7 +119,7 @@ module _ (pick : PickAt) (batches : List BatchAt) (k : ℕ) (batch : BatchAt) (t
   so_far = passing pick (flat_map rows_of (take k batches))
 
   -- the rows so far, with those of this batch
-  pub rows_more : passing pick (flat_map rows_of (take (k + 1) batches)) ≡ so_far ++ passing pick (rows_of batch)
+  rows_more : passing pick (flat_map rows_of (take (k + 1) batches)) ≡ so_far ++ passing pick (rows_of batch)
   rows_more =
       let next : k + 1 ≡ suc k = omega arith in
       ap (λ (n : ℕ). passing pick (flat_map rows_of (take n batches))) next

@@ -16,5 +16,4 @@ pub mod Shown
 pub mod Showing
 pub mod Collected
 pub mod Grouped
-pub mod Merged
 pub mod OpenedTables
