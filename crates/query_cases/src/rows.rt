@@ -107,7 +107,11 @@ pub fn of_range(alloc: Global, catalog: &CatalogVersion, case: &str) -> Result<S
 }
 
 /// How many rows a range gives, and which batches were opened, in order: each by its place and its number there, as `0.3`.
-pub fn opened_batches(alloc: Global, catalog: &CatalogVersion, case: &str) -> Result<String, Fault> {
+pub fn opened_batches(
+    alloc: Global,
+    catalog: &CatalogVersion,
+    case: &str,
+) -> Result<String, Fault> {
     let ((from, to), sql) = range_before(case);
     let plan = bind(alloc, &parse(alloc, sql)?, catalog)?;
     let mut scan = Scan::new(alloc, catalog.seed(), plan, from..to)?;
