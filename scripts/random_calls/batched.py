@@ -114,6 +114,8 @@ class BatchedPuts:
         """A put that is mostly accepted: a new table, or an append in the manners of the table that is there."""
         random, name = self.random, self.random.choice(["t", "u"])
         there = random.choice(["APPEND", "APPEND", "APPEND", "REPLACE"])
+        if name in database and name not in self.tables:  # a put of another kind made it
+            there = "REPLACE"
         if there == "REPLACE" or name not in database:
             columns = batched_columns(random, 4)
             self.tables[name] = Batches(random, columns, domains_of(random, columns, 2**127))
@@ -131,8 +133,9 @@ def narrow(random: Random, name: Name, values: list[Value]) -> Predicate:
     if not values or random.random() < 0.15:
         return random.choice([IsNull, lambda one: Not(IsNull(one))])(name)
     place = random.choice([0, len(values) - 1, random.randrange(len(values))])
-    low, high = values[place], values[min(place + random.choice([0, 0, 1, 3]), len(values) - 1)]
+    low, high, least = values[place], values[min(place + random.choice([0, 0, 1, 3]), len(values) - 1)], values[0]
     if isinstance(low, int) and not isinstance(low, bool):
+        least = max(-GREATEST, min(GREATEST, least))
         low = max(-GREATEST, min(GREATEST, low + random.choice([0, 0, 0, 1, -1])))
         high = max(-GREATEST, min(GREATEST, high + random.choice([0, 0, 0, 1, -1])))
     match random.randrange(6):
@@ -141,7 +144,7 @@ def narrow(random: Random, name: Name, values: list[Value]) -> Predicate:
         case 2:
             return Comparison("=", *random.choice([(name, Literal(low)), (Literal(low), name)]))
         case 3:
-            return In(name, tuple(map(Literal, random.sample([low, high, values[0]], random.randint(1, 3)))))
+            return In(name, tuple(map(Literal, random.sample([low, high, least], random.randint(1, 3)))))
         case 4:
             return Comparison(random.choice(["<", "<="]), name, Literal(low)) if place * 2 < len(values) else Comparison(
                 random.choice([">", ">="]), name, Literal(high))
