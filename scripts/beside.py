@@ -108,7 +108,7 @@ class Vectors:
 
 
 STEPS = [Script("pages", ["--check"], of_program=False), Script("session"), Script("serving"), Script("each_allocation"),
-         Script("interleavings", ["--count", "200"]), Script("sqlite_answers", ["--count", "100", "--wide", "1"]),
+         Script("interleavings", ["--count", "200"]), Script("sqlite_answers", ["--count", "100", "--wide", "1", "--batched", "5"]),
          Script("drive", ["--seconds", "20", "--connections", "16"]), ColumnAnswers(), FirstRun(), Vectors()]
 
 

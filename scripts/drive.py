@@ -37,6 +37,7 @@ from random_calls import plain_model as model  # noqa: E402
 from random_calls.answers import Difference, FlightInfo, PutCount, Refusal, Rows, same  # noqa: E402
 from random_calls.plain_model import Refused  # noqa: E402
 from random_calls.puts import MadePut, made_put  # noqa: E402
+from random_calls.queries import Asker  # noqa: E402
 from reader import Fault  # noqa: E402
 from served.cases import A, descriptor_of, fetch_of, replaced  # noqa: E402
 
@@ -96,7 +97,7 @@ class Worker(threading.Thread):
         super().__init__(daemon=True)
         self.drive, self.connection, self.number, self.known = drive, connection, number, 0
         self.random, self.steps = Random(seed * 1000 + number), self.at_random
-        self.questions = Questions(self.random, drive.versions, True)
+        self.questions = Questions(self.random, drive.versions, True, Asker)
         self.end = 0.0
 
     def run(self) -> None:

@@ -7,6 +7,8 @@ Each interleaving is the input of one `pipe`: puts (refused ones too), GetFlight
 tables, and every endpoint of every info, fetched in any order and much later than its info. Compared are each put's
 answer; each info's fields, tickets and schema; each fetch's rows with those of its range; and, once the input is
 through, the joined rows of each info's endpoints with those of its query on the tables as they stood when it was given.
+Every fourth interleaving has tables of up to some hundred batches of few rows, whose columns rise from batch to batch, or
+fall, or have one value or nulls alone; most of its queries keep few rows, so a fetch passes over most batches.
 
 The input is written before the program runs: what a ticket has to be is known from the rules, and an info's tickets
 are compared with those that are fetched, byte for byte. With --without-infos no info is asked for, and the tickets
@@ -34,6 +36,7 @@ from built import program  # noqa: E402
 from random_calls import plain_model as model  # noqa: E402
 from random_calls.answers import Difference, FlightInfo, PutCount, Refusal, Rows, SchemaResult, Wanted  # noqa: E402
 from random_calls.answers import same  # noqa: E402
+from random_calls.batched import BatchedAsker, BatchedPuts  # noqa: E402
 from random_calls.plain_model import Column, Database, Query, Refused, Row  # noqa: E402
 from random_calls.puts import made_put  # noqa: E402
 from random_calls.queries import Asker, Speller, no_sentence  # noqa: E402
@@ -94,8 +97,8 @@ class Question:
 class Questions:
     """Questions at random over the versions so far, whose list may grow."""
 
-    def __init__(self, random: Random, versions: list[Database], of_tables: bool):
-        self.random, self.versions, self.of_tables = random, versions, of_tables
+    def __init__(self, random: Random, versions: list[Database], of_tables: bool, asker: type[Asker]):
+        self.random, self.versions, self.of_tables, self.asker = random, versions, of_tables, asker
 
     def question(self) -> Question:
         """A query over the tables of now or before, a text that does not parse, or the tables."""
@@ -105,7 +108,7 @@ class Questions:
             return Question("the tables", self.descriptor(TABLES, no_schemas))
         query, fault = None, None
         if chance < 0.96:
-            query = Asker(self.random, newest if chance < 0.9 else self.random.choice(self.versions)).query()
+            query = self.asker(self.random, newest if chance < 0.9 else self.random.choice(self.versions)).query()
             text = Speller(self.random).query(query)
         else:
             text, fault = no_sentence(self.random, newest)
@@ -147,7 +150,8 @@ class Interleaving:
         self.random, self.asks, self.seed = Random(seed), infos, seed
         self.parts = self.random.choice([1, 2, 3, 7, 63, 64, self.random.randint(1, 64)])
         self.versions: list[Database] = [{}]
-        self.questions = Questions(self.random, self.versions, infos)
+        self.batched = BatchedPuts(self.random) if seed % 4 == 0 else None
+        self.questions = Questions(self.random, self.versions, infos, BatchedAsker if self.batched else Asker)
         self.calls: list[Call] = []
         self.infos: list[Info] = []
         self.waiting: list[tuple[Info, int]] = []  # endpoints that are still to be fetched
@@ -165,7 +169,8 @@ class Interleaving:
 
     def put(self) -> None:
         """A put, which makes the next version; or its fault, and no version."""
-        made = made_put(self.random, self.versions[-1])
+        batched = self.batched and self.random.random() < 0.9
+        made = self.batched.made_put(self.versions[-1]) if batched else made_put(self.random, self.versions[-1])
         try:
             model.demand(made.fault is None, made.fault)
             self.versions.append(model.after(self.versions[-1], made.put))

@@ -1,7 +1,8 @@
 #!/usr/bin/env python3
 """Random queries over small and over wide random tables, through `flightscan pipe` and through sqlite3, compared.
 
-    python3 scripts/sqlite_answers.py [--count N] [--wide N] [--long] [--seed S] [--program PATH] [--plain] [--without-program]
+    python3 scripts/sqlite_answers.py [--count N] [--wide N] [--batched N] [--long] [--seed S] [--program PATH] [--plain]
+                                      [--without-program]
 
 What it shows: that the answers are those of a program which shares nothing with ours, wherever both define the same.
 Each of the small databases (400 if no count is said) has 1 to 4 tables of 1 to 4 columns of any types but floats and
@@ -15,6 +16,10 @@ together or anywhere, with those at the ends of their types. The queries keep no
 half, nearly all or all of them; an IN has up to 256 items; keys of joins and groups go from one for all rows to another
 one for each.
 
+Each of the batched databases (20 if no number is said) has two tables of up to some hundred batches of 0 to 5 rows. A column
+rises from batch to batch, or falls, or is random, or has one value or nulls alone, in each batch or in all. Most queries
+keep few rows, by ranges, IN, IS NULL and comparisons of which most batches can meet none, so a fetch passes over these.
+
 `pipe` gets the puts, the infos of all queries, of 1 to 3 parts each, and behind them the fetches of all endpoints in any
 order, so also of versions that are no longer the newest. sqlite3 gets the same tables and queries in turn, with an
 ORDER BY of the order that docs/SQL.md states. Compared are each put's count, each info's tickets, the schemas of an
@@ -23,9 +28,9 @@ info and of its streams, and the rows of each endpoint, one by one, in order.
 What both define alike, and no more: sqlite3 has its truth values as 1 and 0, names differ by more than their case,
 numbers have 64 bits with a sign, and such columns alone are summed whose sums have no more.
 
-With --long there are 2,000 small databases and 40 wide ones. With --plain no query has a join or groups. With
+With --long there are 2,000 small databases, 40 wide ones and 200 batched ones. With --plain no query has a join or groups. With
 --without-program the answers of sqlite3 are compared with those of the plain model in random_calls, which needs no built
-program; a wide database then has no joins. Seeds are S, S + 1, .. of both kinds; of one seed all is always the same.
+program; a wide database then has no joins. Seeds are S, S + 1, .. of all kinds; of one seed all is always the same.
 It ends with 1 at the first difference, and prints the query and both answers. It needs `sqlite3` on the path (tried
 with 3.40), and the program is built as for bench/pipe.py.
 
@@ -53,11 +58,12 @@ import wire  # noqa: E402
 from built import program  # noqa: E402
 from random_calls import joined  # noqa: E402
 from random_calls.answers import Difference, PutCount, columns_of, only_message, same  # noqa: E402
+from random_calls.batched import Batches, batched_columns, domains_of, stream_in_batches  # noqa: E402
 from random_calls.joined import Joiner, JoinSpeller, Query, Values  # noqa: E402
 from random_calls.joined_model import query_rows  # noqa: E402
 from random_calls.plain_model import Column, Database, Put, Row, Table, after, class_of, split  # noqa: E402
 from random_calls.puts import TREES, ingest, messages_of, stream_of  # noqa: E402
-from random_calls.wide import ROWS, Choices, Sorted, WideJoiner, wide_columns  # noqa: E402
+from random_calls.wide import ROWS, TOP, Choices, NarrowJoiner, Sorted, WideJoiner, wide_columns  # noqa: E402
 from reader import Fault, Reader  # noqa: E402
 
 SECONDS = 300  # that one program may take
@@ -67,7 +73,7 @@ COUNTS = [0, 1, 2, 4, 6, 8, 12]  # of a put's rows; of a large one as many times
 MARK = "="  # the line behind each answer of sqlite3
 TOGETHER = 500  # rows of a statement of sqlite3
 TOLD = 200  # rows of a table or an answer that are told
-LONG = 2000, 40
+LONG, SHORT = (2000, 40, 200), (400, 3, 20)  # small, wide and batched databases
 
 
 @dataclass
@@ -86,7 +92,7 @@ class Asked:
 class Case:
     """A database, its queries, and the calls and the script that say both."""
 
-    again = "--count 1 --wide 0"
+    again = "--count 1 --wide 0 --batched 0"
 
     def __init__(self, seed: int, plain: bool, modelled: bool):
         self.random, self.seed, self.plain, self.modelled = self.seeded(seed), seed, plain, modelled
@@ -131,9 +137,10 @@ class Case:
                       for column in columns) for _ in range(self.random.choice(COUNTS) * self.most // 12)][: self.most - old]
         self.put_rows(name, there, columns, rows)
 
-    def put_rows(self, name: str, there: str, columns: tuple[Column, ...], rows: list[Row]) -> None:
+    def put_rows(self, name: str, there: str, columns: tuple[Column, ...], rows: list[Row], ends: list[int] | None = None) -> None:
+        """A put of rows, in batches that end there, or anywhere."""
         put = Put(name, "CREATE", there, Table(columns, rows))
-        stream, _ = stream_of(self.random, put)
+        stream = stream_of(self.random, put)[0] if ends is None else stream_in_batches(self.random, put, ends)
         self.calls.append(wire.call(b"DoPut", messages_of(self.random, ingest(self.random, put, b""), stream)))
         self.counts.append((len(rows), None))
         self.tell_sqlite(put)
@@ -174,7 +181,7 @@ class Case:
 class WideCase(Case):
     """A database of a wide table and a small one, of which the wide one comes in two puts."""
 
-    again = "--count 0 --wide 1"
+    again = "--count 0 --wide 1 --batched 0"
 
     @staticmethod
     def seeded(seed: int) -> Random:
@@ -194,6 +201,43 @@ class WideCase(Case):
     def query(self) -> Query | None:
         tables = [("t",)] * 5 + ([] if self.plain or self.modelled else [("t", "u"), ("u", "t"), ("t", "t"), ("t", "u", "u")])
         return WideJoiner(self.random, self.database, self.sorted, self.random.choice(tables), self.plain).wide_query()
+
+
+class BatchedCase(Case):
+    """A database of two tables of many small batches, of which most queries keep few rows."""
+
+    again = "--count 0 --wide 0 --batched 1"
+
+    @staticmethod
+    def seeded(seed: int) -> Random:
+        return Random(f"batched {seed}")
+
+    def make(self) -> None:
+        """Puts of both tables, queries, an append, and queries of both versions."""
+        columns = batched_columns(self.random, 5)
+        domains = domains_of(self.random, columns, TOP)
+        tables = {name: Batches(self.random, columns, domains) for name in "tu"}
+        for name, batches in tables.items():
+            self.put_batches(name, "REPLACE", batches, self.random.choice([20, 100, 300] if name == "t" else [1, 10, 40]))
+        self.ask_some()
+        name = self.random.choice("tu")
+        for _ in range(self.random.choice([1, 3, 10])):
+            self.put_batches(name, "APPEND", tables[name], self.random.choice([1, 1, 2, 20]))
+        self.ask_some()
+
+    def put_batches(self, name: str, there: str, batches: Batches, count: int) -> None:
+        rows, ends = batches.rows(count)
+        self.put_rows(name, there, batches.columns, rows, ends)
+
+    def ask_some(self) -> None:
+        self.sorted = Sorted(self.database)
+        wanted = len(self.asked) + 15
+        while len(self.asked) < wanted:
+            self.ask()
+
+    def query(self) -> Query | None:
+        tables = [("t",)] * 3 + ([] if self.plain else [("t", "u"), ("u", "t"), ("u", "u", "t")])
+        return NarrowJoiner(self.random, self.database, self.sorted, self.random.choice(tables), self.plain).narrow_query()
 
 
 # ---- runs
@@ -317,14 +361,16 @@ def options() -> argparse.Namespace:
     parser = argparse.ArgumentParser(description=__doc__, formatter_class=argparse.RawDescriptionHelpFormatter)
     parser.add_argument("--count", type=int, help="how many small databases (400)")
     parser.add_argument("--wide", type=int, help="how many wide databases (3)")
-    parser.add_argument("--long", action="store_true", help="2,000 small and 40 wide ones, where no number is said")
+    parser.add_argument("--batched", type=int, help="how many batched databases (20)")
+    parser.add_argument("--long", action="store_true", help="2,000 small, 40 wide and 200 batched ones, where no number is said")
     parser.add_argument("--seed", type=int, default=1, help="the seed of the first (1)")
     parser.add_argument("--program", help="the built program (that of the repository)")
     parser.add_argument("--plain", action="store_true", help="ask no joins and no groups")
     parser.add_argument("--without-program", action="store_true", help="compare sqlite3 with the plain model")
     words = parser.parse_args()
-    small, wide = LONG if words.long else (400, 3)
-    words.count, words.wide = (small if words.count is None else words.count), (wide if words.wide is None else words.wide)
+    for name, usual in zip(["count", "wide", "batched"], LONG if words.long else SHORT):
+        if getattr(words, name) is None:
+            setattr(words, name, usual)
     return words
 
 
@@ -332,8 +378,8 @@ def main() -> int:
     words, counts = options(), collections.Counter()
     path = None if words.without_program else program(words.program)
     switches = ["--plain"] * words.plain + ["--without-program"] * words.without_program
-    kinds = [*[(Case, number) for number in range(words.count)], *[(WideCase, number) for number in range(words.wide)]]
-    for kind, number in kinds:
+    kinds = [(Case, words.count), (WideCase, words.wide), (BatchedCase, words.batched)]
+    for kind, number in [(kind, number) for kind, most in kinds for number in range(most)]:
         case = kind(words.seed + number, words.plain, words.without_program)
         try:
             compare(case, path)
@@ -341,7 +387,7 @@ def main() -> int:
         except (Difference, wire.Unreadable, Fault, ValueError, IndexError, subprocess.TimeoutExpired) as found:
             tell(case, str(found) if isinstance(found, Difference) else repr(found), switches)
             return 1
-    print(f"{words.count} small and {words.wide} wide databases from seed {words.seed} on, and no difference; "
+    print(f"{words.count} small, {words.wide} wide and {words.batched} batched databases from seed {words.seed} on, and no difference; "
           f"{counts['endpoints']} endpoints")
     for kind in ["groups", *(f"places: {number}" for number in range(1, 5))]:
         print(f"{counts[kind]:7} queries of {kind}, {counts[kind, 'none']} without rows; {counts[kind, 'rows']} rows")

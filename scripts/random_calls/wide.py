@@ -9,8 +9,10 @@ sqlite3 may look at all.
 from __future__ import annotations
 
 import collections
+from dataclasses import replace
 from random import Random
 
+from random_calls.batched import few_of, narrow
 from random_calls.joined import Count, Item, Joiner, Place, Query, Sum
 from random_calls.plain_model import (SIGNS, Between, Column, Comparison, Database, In, IsNull, Literal, Name, Operand,
                                       Predicate, Row, Value, class_of)
@@ -112,6 +114,10 @@ class Sorted:
         values = self.of[table, column]
         return values[min(int(share * len(values)), len(values) - 1)] if values else None
 
+    def once(self, table: str, column: str) -> list[Value]:
+        """Each of them once."""
+        return list(dict.fromkeys(self.of[table, column]))
+
     def may_sum(self, table: str, column: str) -> bool:
         """Whether sums of the column have 63 bits, and sqlite3 gives them."""
         values = self.of[table, column]
@@ -181,7 +187,7 @@ class WideJoiner(Joiner):
         """Items and keys of a grouped query of one place."""
         place = self.places[0]
         names = [Name(column.name, place.name) for column in place.columns]
-        keys = tuple(self.random.sample(names, self.random.choice([0, 1, 1, 1, 2, 3])))
+        keys = tuple(self.random.sample(names, min(len(names), self.random.choice([0, 1, 1, 1, 2, 3]))))
         summed = [Name(column.name, place.name) for column in place.columns if class_of(column.type) == "number"
                   and column.type != "Decimal128" and self.sorted.may_sum(place.table, column.name)]
         items = [*keys, Count(None), Count(self.name()), *map(Sum, summed)]
@@ -224,3 +230,18 @@ class WideJoiner(Joiner):
         numbers = [[column.name for column in place.columns].index(name.column) for name in names]
         keys = (tuple(row[number] for number in numbers) for row in self.database[place.table].rows)
         return collections.Counter(key for key in keys if None not in key)
+
+
+class NarrowJoiner(WideJoiner):
+    """Makes queries whose WHERE few rows of the tables meet, by tests of one place each and now and then of several."""
+
+    def narrow_query(self) -> Query | None:
+        query = self.wide_query()
+        if query is None or self.chance(0.1):
+            return query
+        tests = []
+        for _ in range(self.random.choice([1, 1, 2, 3])):
+            place = self.random.choice(self.places)
+            name = self.name(None, (place,))
+            tests.append(narrow(self.random, name, self.sorted.once(place.table, name.column)))
+        return replace(query, where=few_of(self.random, tests, self.predicate(1)))

@@ -2,7 +2,7 @@
 """Writes stdin and stdout of crates/query_cases: a case a line, and what is wanted of it.
 
 The tokens are those of lexer.py and the verdicts those of recogniser.py, which share nothing with the crates; what is
-wanted of the cases of worked.py was worked out by hand, and of those of selections.py by the model in truths.py.
+wanted of the cases of worked.py was worked out by hand, and of those of selections.py and skipping.py by the model in truths.py.
 """
 import pathlib
 import re
@@ -12,6 +12,7 @@ sys.dont_write_bytecode = True
 import lexer
 import recogniser
 import selections
+import skipping
 import table
 import worked
 
@@ -46,6 +47,8 @@ def cases():
     yield from worked.cases()
     yield from ((put, "None") for put in selections.puts())
     yield from selections.cases()
+    yield from ((put, "None") for put in skipping.puts())
+    yield from skipping.cases()
 
 
 def main():

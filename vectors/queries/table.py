@@ -211,14 +211,14 @@ def repeats(data, place, width):
 
 
 def put(name, columns, messages, periods=()):
-    """The case of a put, behind what its messages say by another reader."""
+    """The case of a put, behind what its messages say by another reader: these columns, in one batch or more."""
     reader, words = Reader(), []
     for tree, body in messages:
         header = layout.written("Message", tree, "packed")
-        answer = reader.message(header, body)
+        reader.message(header, body)
         words.append(f"{hexed(header)}/{hexed(body, periods)}")
     wanted = [list(row) for row in zip(*(values for _, _, values in columns))]
-    assert answer == "rows " + json.dumps(wanted), answer
+    assert json.dumps(reader.total) == json.dumps(wanted), reader.total
     return " ".join(["put", name, *words])
 
 

@@ -35,6 +35,7 @@ class Predicate:
     text: str
     truth: Callable[[dict], bool | None]
     possible: Callable[[dict], set]  # the possible truths, of a dict from a column's name to its statistics
+    operands: tuple  # the columns and literals, in the order in which `truth` looks at them
     conjuncts: tuple = ()  # of an AND
 
 
@@ -124,22 +125,23 @@ def may_hold(predicate, batch):
 def compare(left, sign, right):
     text = f"{spelled(left)} {sign} {spelled(right)}"
     return Predicate(text, lambda row: compared(value(left, row), sign, value(right, row)),
-                     lambda batch: possible_of(statistics_in(left, batch), sign, statistics_in(right, batch)))
+                     lambda batch: possible_of(statistics_in(left, batch), sign, statistics_in(right, batch)), (left, right))
 
 
 def inverse(inner, text):
-    return Predicate(text, lambda row: negation(inner.truth(row)), lambda batch: {negation(one) for one in inner.possible(batch)})
+    return Predicate(text, lambda row: negation(inner.truth(row)),
+                     lambda batch: {negation(one) for one in inner.possible(batch)}, inner.operands)
 
 
 def between(operand, low, high):
     both = all_of(compare(operand, ">=", low), compare(operand, "<=", high))
-    return Predicate(f"{spelled(operand)} BETWEEN {spelled(low)} AND {spelled(high)}", both.truth, both.possible)
+    return Predicate(f"{spelled(operand)} BETWEEN {spelled(low)} AND {spelled(high)}", both.truth, both.possible, both.operands)
 
 
 def among(operand, *items):
     """IN."""
     one = any_of(*(compare(operand, "=", item) for item in items))
-    return Predicate(f"{spelled(operand)} IN ({', '.join(map(spelled, items))})", one.truth, one.possible)
+    return Predicate(f"{spelled(operand)} IN ({', '.join(map(spelled, items))})", one.truth, one.possible, one.operands)
 
 
 def not_between(*operands):
@@ -157,7 +159,7 @@ def is_null(operand):
         of = statistics_in(operand, batch)
         return ({True} if of.nulls else set()) | ({False} if of.ends else set())
 
-    return Predicate(f"{spelled(operand)} IS NULL", lambda row: value(operand, row) is None, possible)
+    return Predicate(f"{spelled(operand)} IS NULL", lambda row: value(operand, row) is None, possible, (operand,))
 
 
 def is_not_null(operand):
@@ -172,23 +174,27 @@ def tested(part, word):
         return (truth is wanted) != word.startswith("NOT ")
 
     return Predicate(f"({part.text}) IS {word}", lambda row: test(part.truth(row)),
-                     lambda batch: {test(one) for one in part.possible(batch)})
+                     lambda batch: {test(one) for one in part.possible(batch)}, part.operands)
 
 
 def negated(part):
     return inverse(part, f"NOT ({part.text})")
 
 
+def operands_of(parts):
+    return tuple(operand for part in parts for operand in part.operands)
+
+
 def all_of(*parts):
     """AND, of parts in parentheses where they have an AND or OR."""
     text = " AND ".join(f"({part.text})" if {"AND", "OR"} & set(part.text.split()) else part.text for part in parts)
     return Predicate(text, lambda row: lesser([part.truth(row) for part in parts]),
-                     lambda batch: over(lesser, *(part.possible(batch) for part in parts)), parts)
+                     lambda batch: over(lesser, *(part.possible(batch) for part in parts)), operands_of(parts), parts)
 
 
 def any_of(*parts):
     return Predicate(" OR ".join(part.text for part in parts), lambda row: greater([part.truth(row) for part in parts]),
-                     lambda batch: over(greater, *(part.possible(batch) for part in parts)))
+                     lambda batch: over(greater, *(part.possible(batch) for part in parts)), operands_of(parts))
 
 
 # ---- rows

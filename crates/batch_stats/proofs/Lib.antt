@@ -3,6 +3,7 @@ pub mod Zipped
 pub mod Passes
 pub mod Numerals
 pub mod FlagEnds
+pub mod TextKeys
 pub mod TextPlaces
 pub mod Coded
 pub mod Rows

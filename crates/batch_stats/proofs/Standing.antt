@@ -31,14 +31,14 @@ module _ {K : Type 0} (R : K → K → Ordering) (o : IsTotalOrder R) where
   below_through x y z p q = ap (λ r. keeps (truth_from (is_lt r))) (o.trans x y z (less_from (R x y) p) (less_from (R y z) q))
 
 -- no value is below itself
-not_below_itself : (v : Value) → stand Less v v ≡ false
+pub not_below_itself : (v : Value) → stand Less v v ≡ false
 not_below_itself Null = refl
 not_below_itself (Flag x) = itself_not bool_cmp bool_cmp_total x
 not_below_itself (Int x) = itself_not int_cmp int_cmp_total x
 not_below_itself (Text x) = itself_not (slice_cmp nat_cmp) nat_list_cmp_total x
 
 -- what is below a value is below those above it
-less_through : (v w a : Value) → stand Less v w ≡ true → stand Less w a ≡ true → stand Less v a ≡ true
+pub less_through : (v w a : Value) → stand Less v w ≡ true → stand Less w a ≡ true → stand Less v a ≡ true
 less_through (Flag x) (Flag y) (Flag z) p q = below_through bool_cmp bool_cmp_total x y z p q
 less_through (Int x) (Int y) (Int z) p q = below_through int_cmp int_cmp_total x y z p q
 less_through (Text x) (Text y) (Text z) p q = below_through (slice_cmp nat_cmp) nat_list_cmp_total x y z p q

@@ -4,6 +4,7 @@
 mod codes;
 mod entries;
 mod flags;
+mod keys;
 pub mod measured;
 mod numbers;
 pub mod side;

@@ -1,6 +1,6 @@
 //! The statistics of columns of numbers.
 
-ghost use Rattle.std.specs.Prelude.{◌≡◌, ◌≤◌, ◌+◌, ◌*◌, length, None, Some};
+ghost use Rattle.std.specs.Prelude.{◌≡◌, ◌≤◌, ◌+◌, ◌*◌, length, true, None, Some};
 ghost use Rattle.scan_base.specs.declared.value.Value.TheVariants.{Int};
 ghost use Rattle.arrays.specs.Column.{ColumnAt};
 ghost use Rattle.arrays.specs.Number.{element_at};
@@ -51,6 +51,14 @@ impl<E: Wide> NumberRange<E> {
         }
     }
 
+    // Whether a number lies between, and so changes no end.
+    fn has(self, number: E) -> bool
+        ensures { result ≡ true → with_value (Some (Int (E.value self.least), Int (E.value self.greatest))) (Int (E.value number))
+            ≡ Some (Int (E.value self.least), Int (E.value self.greatest)) }
+    {
+        !(number < self.least) && !(self.greatest < number)
+    }
+
     // The same with the numbers `from` up to, not with, `to`.
     fn with_all(self, values: &[u8], from: usize, to: usize) -> NumberRange<E>
         requires { E.WIDTH * to ≤ length values.now }
@@ -65,7 +73,7 @@ impl<E: Wide> NumberRange<E> {
         range
     }
 
-    // The same with those that are valid.
+    // The same with those that are valid. Only of a number that changes an end, its bit is looked at.
     fn with_valid(self, packed: &Packed<'_>, from: usize, to: usize) -> NumberRange<E>
         requires room { E.WIDTH * to ≤ length packed.now.values.now }
         requires bits { HasBits packed.now.validity.now to }
@@ -75,9 +83,9 @@ impl<E: Wide> NumberRange<E> {
     {
         let mut range = self;
         for place in from..to {
-            let more = range.with(E::read(packed.values, place));
-            if is_valid(packed.validity, place) {
-                range = more;
+            let number = E::read(packed.values, place);
+            if !range.has(number) && is_valid(packed.validity, place) {
+                range = range.with(number);
             }
         }
         range

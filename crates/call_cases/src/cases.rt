@@ -6,7 +6,7 @@ use crate::answers::push_answer;
 use command_line::Request;
 use commands::pipe::pipe;
 use commands::words::read_words;
-use flight_calls::Options;
+use flight_calls::{OneWorker, Options, Setting};
 use grpc_frame::{Inbox, MemoryInput, MemoryOutput};
 use hash_seed::HashSeed;
 use scan_base::Fault;
@@ -109,16 +109,12 @@ impl Cases {
             return Err(Fault::BadFrame);
         };
         let workers = workers as usize;
-        let options = Options { parts, workers };
-        let status = pipe(
+        let setting = Setting {
             alloc,
-            self.seed,
-            &mut reader,
-            &mut writer,
-            &mut faults,
-            options,
-        )
-        .number();
+            executor: &OneWorker,
+            options: Options { parts, workers },
+        };
+        let status = pipe(&setting, self.seed, &mut reader, &mut writer, &mut faults).number();
         let mut inbox = Inbox::of_client(alloc);
         inbox.feed(writer.as_slice())?;
         let mut told = String::new(alloc);

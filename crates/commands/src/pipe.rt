@@ -7,25 +7,23 @@ ghost use Rattle.command_ends.specs.Printing.{said_of};
 ghost use Rattle.commands.specs.Pipe.{Pipes};
 
 use command_ends::{ExitStatus, end_by_fault};
-use flight_calls::{Options, serve_alone};
+use flight_calls::{Executor, Setting, serve_alone};
 use grpc_frame::{Input, Output};
 use hash_seed::HashSeed;
-use std::alloc::Global;
 
 /// Serves one connection, from the reader to the writer, on a catalog that is empty at first, of whose values hashes begin
 /// with the seed. It is done at the input's end. A fault of this end is printed on `faults` in a line, as far as that takes it.
-pub fn pipe<R: Input, W: Output, E: Output>(
-    alloc: Global,
+pub fn pipe<R: Input, W: Output, E: Output, X: Executor>(
+    setting: &Setting<'_, X>,
     seed: HashSeed,
     reader: &mut R,
     writer: &mut W,
     faults: &mut E,
-    options: Options,
 ) -> ExitStatus
     requires reads { R.failures reader.old < 18446744073709551615 }
     requires writes { W.failures writer.old < 18446744073709551615 }
     requires prints { E.failures faults.old < 18446744073709551615 }
-    ensures { (seat : Seat) × Pipes options result
+    ensures { (seat : Seat) × Pipes setting.now.options result
         (connection_of (R.remaining reader.old) (W.contents writer.old)
         (R.failures reader.old) (W.failures writer.old) (seat_of [] 0))
         (connection_of (R.remaining reader.new) (W.contents writer.new)
@@ -33,7 +31,7 @@ pub fn pipe<R: Input, W: Output, E: Output>(
         (said_of (E.contents faults.old) (E.failures faults.old))
         (said_of (E.contents faults.new) (E.failures faults.new)) }
 {
-    match serve_alone(alloc, seed, reader, writer, options) {
+    match serve_alone(setting, seed, reader, writer) {
         Ok(()) => ExitStatus::Done,
         Err(fault) => end_by_fault(faults, fault),
     }

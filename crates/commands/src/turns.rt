@@ -9,7 +9,7 @@ ghost use Rattle.commands.specs.inside.Accepting.{TakesNext, TakesNone};
 
 use command_ends::Listen;
 use connection_turns::{Drawer, Turns};
-use flight_calls::{Backend, Options};
+use flight_calls::{Backend, OneWorker, Options, Setting};
 use scan_base::Fault;
 use std::alloc::Global;
 use std::sync::Wait;
@@ -53,13 +53,12 @@ pub fn serve_in_turn<L: Listen, B: Backend, T: Wait + Clock>(
             return Ok(());
         }
         let (mut reader, mut writer) = accept_next(service.rt, network)?;
-        let _ = flight_calls::serve(
-            service.alloc,
-            &mut reader,
-            &mut writer,
-            backend,
-            service.options,
-        );
+        let setting = Setting {
+            alloc: service.alloc,
+            executor: &OneWorker,
+            options: service.options,
+        };
+        let _ = flight_calls::serve(&setting, &mut reader, &mut writer, backend);
     }
     unreachable!()
 }

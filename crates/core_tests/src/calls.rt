@@ -1,7 +1,7 @@
 //! Connections one after another over one catalog, and a writer whose flush fails.
 
 use crate::first_run::{PUT, PUT_ANSWER};
-use flight_calls::{Alone, Options, serve};
+use flight_calls::{Alone, OneWorker, Options, Setting, serve};
 use flight_core::Plain;
 use grpc_frame::{Counted, MemoryInput, MemoryOutput, Output};
 use hash_seed::HashSeed;
@@ -21,13 +21,12 @@ const TABLE_EXISTS: &[u8] = b"\x04\x06\x00\x0fF10 TableExists";
 // What is written to a connection that puts the first run's rows, or none where it did not end well.
 fn put_alone(alloc: Global, backend: &mut Alone) -> MemoryOutput {
     let mut writer = MemoryOutput::new(alloc);
-    match serve(
+    let setting = Setting {
         alloc,
-        &mut MemoryInput::new(PUT),
-        &mut writer,
-        backend,
-        OPTIONS,
-    ) {
+        executor: &OneWorker,
+        options: OPTIONS,
+    };
+    match serve(&setting, &mut MemoryInput::new(PUT), &mut writer, backend) {
         Ok(()) => writer,
         Err(_) => MemoryOutput::new(alloc),
     }
@@ -69,12 +68,16 @@ fn a_flush_that_fails(rt: HostRuntime) -> Result<(), Fail> {
     for flushes in 0..2u32 {
         let mut backend = Alone::new(Plain::new(rt.alloc(), HashSeed::new(&rt)?)?);
         let mut writer = Counted::new(Unflushed { flushes });
+        let setting = Setting {
+            alloc: rt.alloc(),
+            executor: &OneWorker,
+            options: OPTIONS,
+        };
         let ended = serve(
-            rt.alloc(),
+            &setting,
             &mut MemoryInput::new(PUT),
             &mut writer,
             &mut backend,
-            OPTIONS,
         );
         let fails = flushes < 1;
         assert!(rt; (ended == Err(Fault::Transport)) == fails);

@@ -9,7 +9,7 @@ use crate::first_run::{
 };
 use commands::arguments::refuse_arguments;
 use commands::pipe::pipe;
-use flight_calls::Options;
+use flight_calls::{OneWorker, Options, Setting};
 use grpc_frame::{Input, MemoryInput, MemoryOutput, Output};
 use hash_seed::HashSeed;
 use std::alloc::{AllocError, Global};
@@ -44,8 +44,13 @@ fn pipe_status<R: Input, W: Output, E: Output>(
     requires writes { W.failures writer.old < 18446744073709551615 }
     requires prints { E.failures faults.old < 18446744073709551615 }
 {
+    let setting = Setting {
+        alloc,
+        executor: &OneWorker,
+        options: OPTIONS,
+    };
     match HashSeed::new(&FixedSource) {
-        Ok(seed) => pipe(alloc, seed, reader, writer, faults, OPTIONS).number(),
+        Ok(seed) => pipe(&setting, seed, reader, writer, faults).number(),
         Err(_) => u8::MAX,
     }
 }

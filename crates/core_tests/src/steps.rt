@@ -5,7 +5,7 @@ use flight_core::laws::{
     answers_say_one_thing, handles_mean_one, joined, puts_are_said, refusals_leave_nothing,
     runs_meet_headline,
 };
-use flight_core::{Event, Reply, run};
+use flight_core::{Event, OneWorker, Reply, run};
 use hash_seed::HashSeed;
 use std::alloc::{AllocError, Global};
 use std::test::Fail;
@@ -64,7 +64,12 @@ fn ends_with(reply: &Reply, count: usize, end: &[u8]) -> bool {
 // Two rows are put and counted, and their values are fetched.
 #[test]
 fn first_run(rt: HostRuntime) -> Result<(), Fail> {
-    let replies = run(rt.alloc(), HashSeed::new(&rt)?, &events(rt.alloc())?)?;
+    let replies = run(
+        rt.alloc(),
+        &OneWorker,
+        HashSeed::new(&rt)?,
+        &events(rt.alloc())?,
+    )?;
     let [put, fetch] = replies.as_slice() else {
         panic!(rt; "two replies are wanted");
     };

@@ -164,6 +164,10 @@ pub collected_before : (answer : Table) (payloads : List Payload) (before after 
     → Gives before (Err fault) after → Collects answer payloads (Err fault)
 collected_before answer payloads before after fault has gives = record { stream = before; given = has.1; stops = was_refused before after fault has.0 gives }
 
+-- or where memory was refused for what it gave
+pub collected_short : (answer : Table) (payloads : List Payload) (stream : StreamAt) → HasGiven answer payloads stream → Collects answer payloads (Err OutOfMemory)
+collected_short answer payloads stream has = record { stream = stream; given = has; stops = inl refl }
+
 pub collected_whole : (database : Database) (handle : HandleAt) (answer : Table) (payloads : List Payload) (done : Unit {0}) → HandleMeans database handle answer
     → Collects answer payloads (Ok done) → FetchAt database handle payloads None
 collected_whole database handle answer payloads done means all = all_given database handle answer payloads all.stream means all.given all.stops.0 all.stops.1

@@ -4,15 +4,13 @@ ghost use Rattle.std.specs.Prelude.{◌≡◌, ◌≢◌, [], false, None, Some}
 ghost use Rattle.scan_base.specs.declared.fault.Fault.TheVariants.{BadTicket, ResultTooLarge};
 ghost use Rattle.scan_base.specs.Reading.{Gives};
 ghost use Rattle.endpoint_split.specs.Seen.{handle_seen};
-ghost use Rattle.table_versions.specs.Table.{Table};
 ghost use Rattle.table_versions.specs.Stored.{tables_of};
 ghost use Rattle.flight_info.specs.Replies.{refusal};
 ghost use Rattle.flight_info.specs.Infos.{handle_asked};
 ghost use Rattle.flight_info.specs.Payloads.{FitMessages};
 ghost use Rattle.fetch_stream.specs.Fetches.{version_of, may_mean, FetchAt};
-ghost use Rattle.fetch_stream.specs.Streams.{opened};
-ghost use Rattle.fetch_stream.specs.inside.Collected.{Collects};
 
+use crate::executor::{Execution, Executor, Payloads, ReadsPayloads};
 use crate::stream::FetchStream;
 use bytes::Bytes;
 use endpoint_split::{Handle, read_handle};
@@ -44,20 +42,31 @@ pub fn version_of(handle: &Handle<'_>) -> u64
     }
 }
 
-// Puts all payloads that a stream gives into an empty list, and says what refused it.
-fn collect(alloc: Global, stream: &mut FetchStream, payloads: &mut Vec<Bytes>) -> Result<(), Fault>
-    requires { payloads.old.items ≡ [] }
-    ensures said { (answer : Table) → stream.old ≡ opened answer → Collects answer payloads.new.items result }
-    ensures fits { FitMessages payloads.new.items }
-{
-    while let Some(payload) = stream.next(alloc)? {
-        payloads.push(payload.into_bytes()?)?;
-    }
-    Ok(())
+// The payloads of an answer, as they are read.
+#[derive(Drop)]
+struct Collected {
+    payloads: Vec<Bytes>,
 }
 
-/// The answer to a handle at a version of the catalog: what a [`FetchStream`] of it gives. Each payload is a FlightData,
-/// and has at most 16,777,216 bytes.
+// Collects all payloads that are given, of an answer whole or up to what refuses it.
+impl ReadsPayloads for Collected {
+    ghost use Rattle.std.specs.Prelude.{◌≡◌, []};
+    ghost use Rattle.fetch_stream.specs.inside.Collected.{CollectsAll};
+
+    ghost takes = { λ c. c.payloads.items ≡ [] };
+
+    ghost reads = { λ old stream result new. CollectsAll stream new.payloads.items result };
+
+    fn read<P: Payloads>(&mut self, alloc: Global, payloads: &mut P) -> Result<(), Fault> {
+        while let Some(payload) = payloads.next(alloc)? {
+            self.payloads.push(payload.into_bytes()?)?;
+        }
+        Ok(())
+    }
+}
+
+/// The answer to a handle at a version of the catalog: what a [`FetchStream`] of it gives, whose payloads are made as
+/// `execution` says. Each payload is a FlightData, and has at most 16,777,216 bytes.
 ///
 /// # Errors
 ///
@@ -66,22 +75,29 @@ fn collect(alloc: Global, stream: &mut FetchStream, payloads: &mut Vec<Bytes>) -
 /// the range is not within the rows of its first place, and where the query makes groups and the range is not all of them,
 /// so never for the list of tables; F21 (`Fault::OutOfMemory`) where memory is refused, but neither for a query of more than
 /// 16,384 bytes nor for a range that ends before it begins.
-pub fn answer_fetch(alloc: Global, snapshot: &Snapshot, handle: &Handle<'_>) -> Reply
+pub fn answer_fetch<X: Executor>(
+    alloc: Global,
+    snapshot: &Snapshot,
+    handle: &Handle<'_>,
+    execution: Execution<'_, X>,
+) -> Reply
     ensures answer { FetchAt (tables_of snapshot.now.catalog) (handle_seen handle.now)
         result.payloads result.fault }
     ensures first { may_mean (handle_seen handle.now) ≡ false → result ≡ refusal BadTicket }
     ensures none { result.fault ≢ None → result.fault ≢ Some ResultTooLarge → result.payloads ≡ [] }
     ensures fits { FitMessages result.payloads }
 {
-    let mut stream = match FetchStream::new(alloc, snapshot, handle, 1) {
+    let stream = match FetchStream::new(alloc, snapshot, handle, execution.workers) {
         Ok(stream) => stream,
         Err(fault) => return Reply::refusal(alloc, fault),
     };
-    let mut payloads = Vec::new(alloc);
-    match collect(alloc, &mut stream, &mut payloads) {
-        Ok(()) => Reply::whole(payloads),
+    let mut collected = Collected {
+        payloads: Vec::new(alloc),
+    };
+    match execution.executor.execute(alloc, stream, &mut collected) {
+        Ok(()) => Reply::whole(collected.payloads),
         Err(Fault::ResultTooLarge) => Reply {
-            payloads,
+            payloads: collected.payloads,
             fault: Some(Fault::ResultTooLarge),
         },
         Err(_) => Reply::refusal(alloc, Fault::OutOfMemory),

@@ -5,6 +5,7 @@
 #![tactic(auto)]
 
 mod cutter;
+pub mod executor;
 pub mod fetch;
 pub mod laws;
 mod message;
@@ -12,6 +13,7 @@ pub mod payload;
 mod source;
 pub mod stream;
 
+pub use crate::executor::{Execution, Executor, OneWorker, Payloads, ReadsPayloads};
 pub use crate::fetch::{answer_fetch, read_ticket, version_of};
 pub use crate::payload::Payload;
 pub use crate::stream::FetchStream;

@@ -39,6 +39,8 @@ pub struct FetchStream {
     cutter: Cutter,
     source: Source,
     refused: Option<Fault>,
+    // How many workers may make payloads, of which contracts see nothing: the answer is the same for any number.
+    workers: usize,
 }
 
 impl Model for FetchStream {
@@ -67,6 +69,7 @@ impl Drop for FetchStream {
             cutter: _,
             source: _,
             refused: _,
+            workers: _,
         } = self;
     }
 }
@@ -93,11 +96,33 @@ impl FetchStream {
             cutter: Cutter::new(batch),
             source,
             refused: None,
+            workers: 1,
+        }
+    }
+
+    // The same stream, with so many workers.
+    fn with_workers(self, workers: usize) -> FetchStream
+        ensures { result ≡ self }
+    {
+        let FetchStream {
+            begun,
+            cutter,
+            source,
+            refused,
+            workers: _,
+        } = self;
+        FetchStream {
+            begun,
+            cutter,
+            source,
+            refused,
+            workers,
         }
     }
 
     /// The stream of the answer to a handle at a version of the catalog. A dictionary of texts is answered as texts. The
-    /// list of tables has a row for each table of this version, in byte order of the names. One worker reads the rows.
+    /// list of tables has a row for each table of this version, in byte order of the names. So many workers may make its
+    /// payloads, if an executor lets them: what it gives is the same for any number.
     ///
     /// # Errors
     ///
@@ -109,20 +134,17 @@ impl FetchStream {
         alloc: Global,
         snapshot: &Snapshot,
         handle: &Handle<'_>,
-        _workers: usize,
+        workers: usize,
     ) -> Result<FetchStream, Fault>
         ensures opens { Opens (tables_of snapshot.now.catalog) (handle_seen handle.now) result }
         ensures first { may_mean (handle_seen handle.now) ≡ false → result ≡ Err BadTicket }
     {
-        let catalog = snapshot.catalog();
-        match handle {
-            Handle::Query { range, .. } if range.from > range.to => Err(Fault::BadTicket),
-            Handle::Query { range, query, .. } => match open_query(alloc, catalog, query, *range) {
-                Err(fault) if fault != Fault::OutOfMemory => Err(Fault::BadTicket),
-                opened => opened,
-            },
-            Handle::Tables { .. } => Ok(open_tables(alloc, catalog)?),
-        }
+        Ok(open(alloc, snapshot.catalog(), handle)?.with_workers(workers))
+    }
+
+    /// How many workers may make its payloads at most.
+    pub fn workers(&self) -> usize {
+        self.workers
     }
 
     /// The next payload, and `None` behind the last one: first the message of the schema, and then record batches of at
@@ -197,6 +219,21 @@ fn least_rows(planned: &Planned) -> usize
     ensures part { planned.now.grouped ≡ false → result ≡ 0 }
 {
     if planned.grouped { planned.rows } else { 0 }
+}
+
+// The stream of what a handle means.
+fn open(alloc: Global, catalog: &CatalogVersion, handle: &Handle<'_>) -> Result<FetchStream, Fault>
+    ensures opens { Opens (tables_of catalog.now) (handle_seen handle.now) result }
+    ensures first { may_mean (handle_seen handle.now) ≡ false → result ≡ Err BadTicket }
+{
+    match handle {
+        Handle::Query { range, .. } if range.from > range.to => Err(Fault::BadTicket),
+        Handle::Query { range, query, .. } => match open_query(alloc, catalog, query, *range) {
+            Err(fault) if fault != Fault::OutOfMemory => Err(Fault::BadTicket),
+            opened => opened,
+        },
+        Handle::Tables { .. } => Ok(open_tables(alloc, catalog)?),
+    }
 }
 
 // The stream of what a query means over a range of its first place, which does not end before it begins.

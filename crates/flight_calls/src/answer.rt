@@ -17,8 +17,10 @@ ghost use Rattle.flight_calls.specs.Calls.{ReplyTo};
 ghost use Rattle.flight_calls.specs.Owed.{answer_bytes, last_status};
 ghost use Rattle.flight_calls.specs.Answered.{AnsweredBy, IsReplyOf, FitsMessages, WritesReply, SendsReply};
 
+use crate::setting::Setting;
+use fetch_stream::{Executor, FetchStream, Payload, Payloads, ReadsPayloads};
+use flight_core::Reply;
 use flight_core::laws::streams_answer;
-use flight_core::{FetchStream, Payload, Reply};
 use grpc_frame::{Outbox, Output};
 use scan_base::Fault;
 use std::alloc::Global;
@@ -39,8 +41,8 @@ pub enum Answer {
 /// # Errors
 ///
 /// `Fault::Transport` where a write failed. It is counted, and a beginning of the answer is written.
-pub fn write_answer<W: Output>(
-    alloc: Global,
+pub fn write_answer<W: Output, X: Executor>(
+    setting: &Setting<'_, X>,
     writer: &mut W,
     outbox: &mut Outbox,
     answer: Answer,
@@ -55,13 +57,13 @@ pub fn write_answer<W: Output>(
     ensures counted { CountsFailure result (W.failures writer.old) (W.failures writer.new) }
     ensures kind { FailsByTransport result }
 {
-    send_answer(alloc, writer, outbox, answer)?;
+    send_answer(setting, writer, outbox, answer)?;
     outbox.flush(writer)
 }
 
 // Sends an answer.
-fn send_answer<W: Output>(
-    alloc: Global,
+fn send_answer<W: Output, X: Executor>(
+    setting: &Setting<'_, X>,
     writer: &mut W,
     outbox: &mut Outbox,
     answer: Answer,
@@ -77,7 +79,7 @@ fn send_answer<W: Output>(
 {
     match answer {
         Answer::Whole(reply) => send_reply(writer, outbox, &reply),
-        Answer::Stream(stream) => send_stream(alloc, writer, outbox, stream),
+        Answer::Stream(stream) => send_fetch(setting, writer, outbox, stream),
     }
 }
 
@@ -117,9 +119,9 @@ fn send_payload<W: Output>(
     Ok(())
 }
 
-// Sends what a stream gives, and then the Status. Where the stream is refused, a beginning is sent, and the fault: F20 or F21.
-fn send_stream<W: Output>(
-    alloc: Global,
+// Sends the answer to a fetch: the payloads of its stream, as the executor has them made, and then the Status.
+fn send_fetch<W: Output, X: Executor>(
+    setting: &Setting<'_, X>,
     writer: &mut W,
     outbox: &mut Outbox,
     stream: FetchStream,
@@ -132,10 +134,63 @@ fn send_stream<W: Output>(
     ensures counted { CountsFailure result (W.failures writer.old) (W.failures writer.new) }
     ensures kind { FailsByTransport result }
 {
+    let mut sending = Sending { writer, outbox };
+    let sent = setting
+        .executor
+        .execute(setting.alloc, stream, &mut sending);
+    let Sending { writer, outbox } = sending;
+    take_back(writer);
+    take_back(outbox);
+    sent
+}
+
+// Does nothing, but that what was lent is used behind the sending ties what was sent to it.
+fn take_back<T>(lent: &mut T)
+    ensures { lent.new ≡ lent.old }
+{}
+
+// Where payloads are sent.
+struct Sending<'w, 'o, W> {
+    writer: &'w mut W,
+    outbox: &'o mut Outbox,
+}
+
+// Each payload is sent before the next one is asked for, and behind the last one the Status.
+impl<'w, 'o, W: Output> ReadsPayloads for Sending<'w, 'o, W> {
+    ghost use Rattle.std.specs.Prelude.{◌≡◌, ◌<◌};
+    ghost use Rattle.flight_calls.specs.Answered.{SendsStream};
+
+    ghost takes = { λ s. W.failures s.writer.now < 18446744073709551615 };
+
+    ghost reads = { λ old stream result new.
+        (new.writer.ghost_name ≡ old.writer.ghost_name) × (new.outbox.ghost_name ≡ old.outbox.ghost_name)
+        × SendsStream stream result (W.contents old.writer.now) (W.contents new.writer.now)
+        old.outbox.now new.outbox.now (W.failures old.writer.now) (W.failures new.writer.now) };
+
+    fn read<P: Payloads>(&mut self, alloc: Global, payloads: &mut P) -> Result<(), Fault> {
+        send_stream(alloc, self.writer, self.outbox, payloads)
+    }
+}
+
+// Sends the payloads that are given, and then the Status. Where a stream is refused, a beginning is sent, and the fault: F20
+// or F21.
+fn send_stream<W: Output, P: Payloads>(
+    alloc: Global,
+    writer: &mut W,
+    outbox: &mut Outbox,
+    payloads: &mut P,
+) -> Result<(), Fault>
+    requires failures { W.failures writer.old < 18446744073709551615 }
+    ensures bytes { (database : Database) (handle : HandleAt) → Opens database handle (Ok (P.stream payloads.old)) →
+        SendsReply (λ reply. FetchAt database handle reply.payloads reply.fault) result
+        (W.contents writer.old) (W.contents writer.new) outbox.old outbox.new }
+    ensures empty { OnErr result (outbox.new ≡ []) }
+    ensures counted { CountsFailure result (W.failures writer.old) (W.failures writer.new) }
+    ensures kind { FailsByTransport result }
+{
     streams_answer();
-    let mut stream = stream;
     loop {
-        match stream.next(alloc) {
+        match payloads.next(alloc) {
             Ok(Some(payload)) => send_payload(writer, outbox, &payload)?,
             Ok(None) => return outbox.send_status(writer, None),
             Err(fault) => return outbox.send_status(writer, Some(fault)),

@@ -15,4 +15,5 @@ mod step;
 
 pub use crate::backend::{Alone, Backend};
 pub use crate::server::{serve, serve_alone};
-pub use crate::setting::Options;
+pub use crate::setting::{Options, Setting};
+pub use fetch_stream::{Executor, OneWorker};

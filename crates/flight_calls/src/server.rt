@@ -8,12 +8,12 @@ ghost use Rattle.flight_calls.specs.Ending.{RefusesBy};
 use crate::answer::{write_answer, write_last_status};
 use crate::backend::{Alone, Backend};
 use crate::call::{Arrival, read_call};
-use crate::setting::Options;
+use crate::setting::Setting;
+use fetch_stream::Executor;
 use flight_core::Plain;
 use grpc_frame::{Inbox, Input, Outbox, Output};
 use hash_seed::HashSeed;
 use scan_base::Fault;
-use std::alloc::Global;
 
 /// Serves a connection over a backend: answers its calls one after another, up to the end of its input.
 ///
@@ -29,21 +29,21 @@ use std::alloc::Global;
 ///
 /// Nothing is done for a call whose End has not come. Where only the writing of an answer failed, its call was
 /// done: a put that was accepted stands.
-pub fn serve<R: Input, W: Output, B: Backend>(
-    alloc: Global,
+pub fn serve<R: Input, W: Output, B: Backend, X: Executor>(
+    setting: &Setting<'_, X>,
     reader: &mut R,
     writer: &mut W,
     backend: &mut B,
-    options: Options,
 ) -> Result<(), Fault>
     requires reads { R.failures reader.old < 18446744073709551615 }
     requires writes { W.failures writer.old < 18446744073709551615 }
-    ensures { Serves B.moves options result
+    ensures { Serves B.moves setting.now.options result
         (connection_of (R.remaining reader.old) (W.contents writer.old)
         (R.failures reader.old) (W.failures writer.old) (B.seat backend.old))
         (connection_of (R.remaining reader.new) (W.contents writer.new)
         (R.failures reader.new) (W.failures writer.new) (B.seat backend.new)) }
 {
+    let alloc = setting.alloc;
     let mut inbox = Inbox::of_server(alloc);
     let mut outbox = Outbox::new(alloc);
     loop {
@@ -53,8 +53,8 @@ pub fn serve<R: Input, W: Output, B: Backend>(
             Ok(Arrival::CutShort) => return Err(Fault::Transport),
             Err(fault) => return refuse(writer, &mut outbox, fault),
         };
-        let answer = request.answer(alloc, backend, options);
-        let Ok(()) = write_answer(alloc, writer, &mut outbox, answer) else {
+        let answer = request.answer(alloc, backend, setting.options);
+        let Ok(()) = write_answer(setting, writer, &mut outbox, answer) else {
             return Err(Fault::Transport);
         };
     }
@@ -65,24 +65,23 @@ pub fn serve<R: Input, W: Output, B: Backend>(
 /// # Errors
 ///
 /// Those of `serve`, and `Fault::OutOfMemory` (F21) where memory for the catalog is refused.
-pub fn serve_alone<R: Input, W: Output>(
-    alloc: Global,
+pub fn serve_alone<R: Input, W: Output, X: Executor>(
+    setting: &Setting<'_, X>,
     seed: HashSeed,
     reader: &mut R,
     writer: &mut W,
-    options: Options,
 ) -> Result<(), Fault>
     requires reads { R.failures reader.old < 18446744073709551615 }
     requires writes { W.failures writer.old < 18446744073709551615 }
-    ensures { (seat : Seat) × Serves alone options result
+    ensures { (seat : Seat) × Serves alone setting.now.options result
         (connection_of (R.remaining reader.old) (W.contents writer.old)
         (R.failures reader.old) (W.failures writer.old) (seat_of [] 0))
         (connection_of (R.remaining reader.new) (W.contents writer.new)
         (R.failures reader.new) (W.failures writer.new) seat) }
 {
-    match Plain::new(alloc, seed) {
-        Ok(plain) => serve(alloc, reader, writer, &mut Alone::new(plain), options),
-        Err(fault) => refuse(writer, &mut Outbox::new(alloc), fault),
+    match Plain::new(setting.alloc, seed) {
+        Ok(plain) => serve(setting, reader, writer, &mut Alone::new(plain)),
+        Err(fault) => refuse(writer, &mut Outbox::new(setting.alloc), fault),
     }
 }
 

@@ -1,5 +1,7 @@
 //! How a server is set.
 
+use std::alloc::Global;
+
 /// How a server answers, where the calls leave it open.
 #[derive(Clone, Copy, Debug, PartialEq, Eq)]
 pub struct Options {
@@ -7,4 +9,12 @@ pub struct Options {
     pub parts: u32,
     /// How many workers may scan for the answer to a fetch, which is the same for any number.
     pub workers: usize,
+}
+
+/// By what a server answers: where its memory comes from, who makes the payloads of a fetch, and its options.
+#[derive(Drop)]
+pub struct Setting<'a, X> {
+    pub alloc: Global,
+    pub executor: &'a X,
+    pub options: Options,
 }

@@ -13,5 +13,8 @@ pub use crate::event::Event;
 pub use crate::machine::{put_answer, run, step, step_put};
 pub use crate::plain::Plain;
 pub use crate::put::{PutReader, read_put};
-pub use fetch_stream::{FetchStream, Payload, answer_fetch, read_ticket};
+pub use fetch_stream::{
+    Execution, Executor, FetchStream, OneWorker, Payload, Payloads, ReadsPayloads, answer_fetch,
+    read_ticket,
+};
 pub use flight_info::{Reply, answer_info, answer_schema, answer_tables};

@@ -20,7 +20,7 @@ use crate::event::Event;
 use crate::plain::Plain;
 use crate::put::read_put;
 use bytes::Bytes;
-use fetch_stream::{answer_fetch, read_ticket, version_of};
+use fetch_stream::{Execution, Executor, answer_fetch, read_ticket, version_of};
 use flight_info::{Reply, answer_info, answer_schema, answer_tables, payload_of};
 use flight_proto::put_rows_put;
 use hash_seed::HashSeed;
@@ -72,7 +72,13 @@ pub fn step_put(alloc: Global, plain: &mut Plain, read: Result<Put, Fault>) -> R
     }
 }
 
-fn step_fetch(alloc: Global, plain: &Plain, ticket: &[u8]) -> Reply
+// Answers a fetch, whose payloads are made as `execution` says.
+fn step_fetch<X: Executor>(
+    alloc: Global,
+    plain: &Plain,
+    ticket: &[u8],
+    execution: Execution<'_, X>,
+) -> Reply
     ensures fetch { FetchIn plain.now ticket.now result.payloads result.fault }
     ensures shown { FetchShown plain.now ticket.now result.fault }
     ensures fits { FitMessages result.payloads }
@@ -82,7 +88,7 @@ fn step_fetch(alloc: Global, plain: &Plain, ticket: &[u8]) -> Reply
         Err(fault) => return Reply::refusal(alloc, fault),
     };
     match plain.at(version_of(&handle)) {
-        Ok(snapshot) => answer_fetch(alloc, snapshot, &handle),
+        Ok(snapshot) => answer_fetch(alloc, snapshot, &handle, execution),
         Err(fault) => Reply::refusal(alloc, fault),
     }
 }
@@ -91,7 +97,8 @@ fn step_fetch(alloc: Global, plain: &Plain, ticket: &[u8]) -> Reply
 /// The reply's fault is one of those of `read_put` and `Plain::put`; of `answer_info`, `answer_tables` or
 /// `answer_schema`, at the newest version; or of `read_ticket`, `Plain::at` and `answer_fetch`, in that order: what a
 /// fetch shows before any memory is taken is never answered by want of it. Each payload has at most 16,777,216 bytes.
-pub fn step(alloc: Global, plain: &mut Plain, event: &Event) -> Reply
+/// The payloads of a fetch are made by the executor.
+pub fn step<X: Executor>(alloc: Global, executor: &X, plain: &mut Plain, event: &Event) -> Reply
     ensures step { StepOn plain.old (asked_in event.now) result plain.new }
     ensures shown { AsShown plain.old (asked_in event.now) result.fault }
     ensures puts { ArePuts plain.old → ArePuts plain.new }
@@ -112,19 +119,29 @@ pub fn step(alloc: Global, plain: &mut Plain, event: &Event) -> Reply
             *parts,
         ),
         Event::Schema { payload } => answer_schema(alloc, plain.current(), payload.as_slice()),
-        Event::Fetch { ticket, .. } => step_fetch(alloc, plain, ticket.as_slice()),
+        Event::Fetch { ticket, workers } => {
+            let workers = *workers;
+            let execution = Execution { executor, workers };
+            step_fetch(alloc, plain, ticket.as_slice(), execution)
+        }
     }
 }
 
 /// The replies to a list of events, from the empty log on: one for each. The log that they leave holds accepted puts
 /// alone, and every version of it has tables alone. What is refused changes nothing. If every endpoint of an info was fetched to its end, the rows
 /// that the fetches say, joined in the order of the endpoints, are those that the query means on the tables as they
-/// stood when the info was given. They are these whatever the seed is, with which hashes of values begin.
+/// stood when the info was given. They are these whatever the seed is, with which hashes of values begin, and whoever
+/// makes the payloads of a fetch.
 ///
 /// # Errors
 ///
 /// F21 (`Fault::OutOfMemory`) where memory is refused for the list itself, and no other.
-pub fn run(alloc: Global, seed: HashSeed, events: &[Event]) -> Result<Vec<Reply>, Fault>
+pub fn run<X: Executor>(
+    alloc: Global,
+    executor: &X,
+    seed: HashSeed,
+    events: &[Event],
+) -> Result<Vec<Reply>, Fault>
     ensures ok { IfOk result (λ replies. (log : Log) × Run [] (map asked_in events.now) replies.items log
         × IsLog log × HasDatabases (puts_of log) × RefusedLeaveNothing (map asked_in events.now) replies.items log) }
     ensures headline { IfOk result (λ replies. Headline (map asked_in events.now) replies.items) }
@@ -133,7 +150,7 @@ pub fn run(alloc: Global, seed: HashSeed, events: &[Event]) -> Result<Vec<Reply>
     let mut plain = Plain::new(alloc, seed)?;
     let mut replies = Vec::new(alloc);
     for event in events {
-        let reply = step(alloc, &mut plain, event);
+        let reply = step(alloc, executor, &mut plain, event);
         replies.push(reply)?;
     }
     Ok(replies)

@@ -15,7 +15,7 @@ use commands::arguments::refuse_arguments;
 use commands::pipe::pipe;
 use commands::serve::{Host, serve};
 use commands::words::read_words;
-use flight_calls::Options;
+use flight_calls::{OneWorker, Options, Setting};
 use grpc_frame::{Counted, Input, Output};
 use hash_seed::HashSeed;
 use loopback::{Loopback, Port};
@@ -56,8 +56,12 @@ where
         }
         Request::Pipe { parts, workers } => {
             let workers = workers as usize;
-            let options = Options { parts, workers };
-            pipe(rt.alloc(), seed, input, output, faults, options)
+            let setting = Setting {
+                alloc: rt.alloc(),
+                executor: &OneWorker,
+                options: Options { parts, workers },
+            };
+            pipe(&setting, seed, input, output, faults)
         }
         _ => ExitStatus::BadCommandLine,
     }

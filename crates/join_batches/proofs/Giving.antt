@@ -17,14 +17,14 @@ use Rattle.array_select.specs.Room.{most_batch_rows}
 use Rattle.join_batches.specs.Joiner.{GivesJoined}
 use Rattle.join_batches.specs.Rows.{pair_row, IsPair}
 use Rattle.join_batches.specs.Sides.{AreSides, IsBatchOf}
-use Rattle.join_batches.specs.Held.{joiner_of, IsJoiner}
+use Rattle.join_batches.specs.Held.{joiner_of, sides_of, IsJoiner}
 use Rattle.join_batches.proofs.Typed.{typed_long}
 
 -- the columns of a left batch's key are there
-pub left_key : (j : Inside) → IsJoiner j → 0 < j.batch.rows → list_all (λ column. nat_lt column (length j.batch.columns)) j.left.key.items ≡ true
+pub left_key : (j : Inside) → IsJoiner j → 0 < j.batch.rows → list_all (λ column. nat_lt column (length j.batch.columns)) (sides_of j).left.key.items ≡ true
 left_key j held some =
-    ap (λ (n : ℕ). list_all (λ column. nat_lt column n) j.left.key.items) (typed_long j.left.types.items j.batch.columns (held.left_typed some))
-    ∙ held.key_there
+    ap (λ (n : ℕ). list_all (λ column. nat_lt column n) (sides_of j).left.key.items) (typed_long (sides_of j).left.types.items j.batch.columns (held.left_typed some))
+    ∙ held.built.key_there
 
 -- a joiner that has the same rows to give, and keeps what one keeps
 pub record Goes (before after : Inside) : Type 0 where
@@ -33,49 +33,47 @@ pub record Goes (before after : Inside) : Type 0 where
 
 -- with the next pairs in place of those that were given
 pub goes_found : (j : Inside) (pairs : Vec Pair) (probe : Probe) → IsJoiner j → j.given ≡ length j.pairs.items →
-    pairs.items ++ pairs_ahead j.build j.batch j.left.key.items probe ≡ pairs_ahead j.build j.batch j.left.key.items j.probe →
-    All (IsPair j.build.batches j.batch) pairs.items → length pairs.items ≤ most_batch_rows → Goes j (record j { probe = probe; pairs = pairs; given = 0 })
+    pairs.items ++ pairs_ahead (sides_of j).build j.batch (sides_of j).left.key.items probe ≡ pairs_ahead (sides_of j).build j.batch (sides_of j).left.key.items j.probe →
+    All (IsPair (sides_of j).build.batches j.batch) pairs.items → length pairs.items ≤ most_batch_rows → Goes j (record j { probe = probe; pairs = pairs; given = 0 })
 goes_found j pairs probe held ended next there few = record {
   held = record {
-    alike = held.alike;
-    key_there = held.key_there;
+    built = held.built;
     left_typed = held.left_typed;
     left_few = held.left_few;
-    rights_typed = held.rights_typed;
     pairs_there = there;
     pairs_few = few;
     given_few = omega arith;
   };
   same =
       let none : drop j.given j.pairs.items ≡ [] = drop_all j.given j.pairs.items (omega (arith, ended)) in
-      ap (λ (pairs : List Pair). record (joiner_of j) { ahead = map (pair_row j.build.batches j.batch) pairs })
-      (next ∙ ap (λ (some : List Pair). some ++ pairs_ahead j.build j.batch j.left.key.items j.probe) (sym none));
+      ap (λ (pairs : List Pair). record (joiner_of j) { ahead = map (pair_row (sides_of j).build.batches j.batch) pairs })
+      (next ∙ ap (λ (some : List Pair). some ++ pairs_ahead (sides_of j).build j.batch (sides_of j).left.key.items j.probe) (sym none));
 }
 
 pub goes_on : (j : Inside) → IsJoiner j → Goes j j
 goes_on j held = record { held = held; same = refl }
 
 -- the sides of a joiner with a pair to give
-pub sides_are : (j : Inside) (sides : Sides) → IsJoiner j → sides.left.now ≡ j.batch → sides.left_types.now ≡ j.left.types.items →
-    sides.rights.now ≡ j.build.batches → sides.right_types.now ≡ j.right_types.items → j.given < length j.pairs.items → AreSides sides
+pub sides_are : (j : Inside) (sides : Sides) → IsJoiner j → sides.left.now ≡ j.batch → sides.left_types.now ≡ (sides_of j).left.types.items →
+    sides.rights.now ≡ (sides_of j).build.batches → sides.right_types.now ≡ (sides_of j).right_types.items → j.given < length j.pairs.items → AreSides sides
 sides_are j sides held left left_types rights right_types more =
     let pair = held.pairs_there j.given (record { left = 0; batch = 0; row = 0 }) more in
     record {
       left = subst (λ (batch : BatchAt). AreOf sides.left_types.now batch.columns) (sym left)
           (subst (λ (types : List DataType). AreOf types j.batch.columns) (sym left_types) (held.left_typed (omega (arith, pair.left_row))));
       rights = subst (λ (batches : List BatchAt). All (λ (batch : BatchAt). AreOf sides.right_types.now batch.columns) batches) (sym rights)
-          (subst (λ (types : List DataType). All (λ (batch : BatchAt). AreOf types batch.columns) j.build.batches) (sym right_types) held.rights_typed);
+          (subst (λ (types : List DataType). All (λ (batch : BatchAt). AreOf types batch.columns) (sides_of j).build.batches) (sym right_types) held.built.rights_typed);
     }
 
 -- the next rows, and those behind them
 pub gives_next : (j : Inside) (sides : Sides) (pairs : List Pair) (batch : BatchAt) (rows : ℕ) → IsJoiner j → sides.left.now ≡ j.batch →
-    sides.left_types.now ≡ j.left.types.items → sides.rights.now ≡ j.build.batches → sides.right_types.now ≡ j.right_types.items →
+    sides.left_types.now ≡ (sides_of j).left.types.items → sides.rights.now ≡ (sides_of j).build.batches → sides.right_types.now ≡ (sides_of j).right_types.items →
     pairs ≡ drop j.given j.pairs.items → rows ≡ batch.rows → IsBatchOf sides pairs batch →
     GivesJoined (joiner_of j) batch (joiner_of (record j { given = j.given + rows }))
 gives_next j sides pairs batch rows held left left_types rights right_types are size is =
-    let row = pair_row j.build.batches j.batch in
+    let row = pair_row (sides_of j).build.batches j.batch in
     let some = drop j.given j.pairs.items in
-    let ahead = pairs_ahead j.build j.batch j.left.key.items j.probe in
+    let ahead = pairs_ahead (sides_of j).build j.batch (sides_of j).left.key.items j.probe in
     let rows_are : rows_of batch ≡ map row (take rows some) =
     is.rows_are ∙ ap (λ (b : BatchAt). map (pair_row sides.rights.now b) (take batch.rows pairs)) left
     ∙ ap (λ (batches : List BatchAt). map (pair_row batches j.batch) (take batch.rows pairs)) rights
@@ -94,7 +92,7 @@ gives_next j sides pairs batch rows held left left_types rights right_types are 
           let few = is.few in
           omega (arith, long, rest, most, few);
       typed = subst (λ (types : List DataType). AreOf (map answer_type types) batch.columns)
-          (ap (λ (types : List DataType). types ++ sides.right_types.now) left_types ∙ ap (λ (types : List DataType). j.left.types.items ++ types) right_types) is.typed;
+          (ap (λ (types : List DataType). types ++ sides.right_types.now) left_types ∙ ap (λ (types : List DataType). (sides_of j).left.types.items ++ types) right_types) is.typed;
       light = is.light;
       on = refl;
     }

@@ -1,4 +1,5 @@
 pub mod Joiner
 pub mod Rows
 pub mod Sides
+pub mod Built
 pub mod Held

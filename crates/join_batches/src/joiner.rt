@@ -1,12 +1,14 @@
 //! Joins of left batches with the rows of a right side.
 
 ghost use Rattle.std.specs.Prelude.{◌≡◌, ◌≤◌, ◌<◌, ◌++◌, [], All, IfOk, IsTrue, OnErr, length, nat_lt};
+ghost use Rattle.std.specs.Arc.{arc_value};
 ghost use Rattle.std.specs.List.{list_all, flat_map};
 ghost use Rattle.scan_base.specs.Limits.{most_rows};
 ghost use Rattle.arrays.specs.Batch.{BatchAt, rows_of};
 ghost use Rattle.arrays.specs.Typed.{AreOf};
 ghost use Rattle.hash_join.specs.Pairs.{places, pairs_ahead};
 ghost use Rattle.array_select.specs.Room.{most_batch_rows};
+ghost use Rattle.join_batches.specs.Built.{AreBuilt, unfed};
 ghost use Rattle.join_batches.specs.Joiner.{JoinsNext, joined_of};
 ghost use Rattle.join_batches.specs.Rows.{IsPair};
 
@@ -18,6 +20,7 @@ use hash_join::{Build, LeftSide, Pair, Probe};
 use hash_seed::HashSeed;
 use std::alloc::{AllocError, Global};
 use std::marker::Model;
+use std::sync::Arc;
 
 /// The types of the columns of a side of a join, and the numbers of those that are the key.
 #[derive(Drop)]
@@ -33,12 +36,28 @@ pub struct JoinSides {
     pub right: JoinSide,
 }
 
+// What never changes of a join: the types of both sides, their keys, and the right rows by their keys. Joiners share it.
+pub(crate) struct BuiltSides {
+    pub(crate) left: JoinSide,
+    pub(crate) right_types: Vec<DataType>,
+    pub(crate) build: Build,
+}
+
+// Written out, so that dropping it is one call (docs/DECISIONS.md).
+impl Drop for BuiltSides {
+    fn drop(self) {
+        let BuiltSides {
+            left: _,
+            right_types: _,
+            build: _,
+        } = self;
+    }
+}
+
 /// The right side of a join, and the left batch whose joined rows are given. A contract sees the right rows, and the joined
-/// rows that are still to be given.
+/// rows that are still to be given. Joiners of one right side share it.
 pub struct Joiner {
-    left: JoinSide,
-    right_types: Vec<DataType>,
-    build: Build,
+    sides: Arc<BuiltSides>,
     batch: Batch,
     probe: Probe,
     // The next pairs, and how many of them were given.
@@ -50,9 +69,7 @@ pub struct Joiner {
 impl Drop for Joiner {
     fn drop(self) {
         let Joiner {
-            left: _,
-            right_types: _,
-            build: _,
+            sides: _,
             batch: _,
             probe: _,
             pairs: _,
@@ -104,15 +121,37 @@ impl Joiner {
         let JoinSides { left, right } = sides;
         let JoinSide { types, key } = right;
         let build = Build::new(alloc, seed, batches, key)?;
-        Ok(Joiner {
+        let sides = BuiltSides {
             left,
             right_types: types,
             build,
+        };
+        Ok(Joiner::unfed(alloc, Arc::new(alloc, sides)?))
+    }
+
+    /// The same join once more, which shares the right side. No left batch is there yet.
+    ///
+    /// # Errors
+    ///
+    /// `AllocError` where the right side refuses another owner.
+    pub fn again(&self, alloc: Global) -> Result<Joiner, AllocError>
+        ensures { IfOk result (λ joiner. joiner ≡ record self.now { ahead = [] }) }
+    {
+        Ok(Joiner::unfed(alloc, Arc::try_clone(&self.sides)?))
+    }
+
+    // The join of these sides, where no left batch is there yet.
+    fn unfed(alloc: Global, sides: Arc<BuiltSides>) -> Joiner
+        requires { AreBuilt (arc_value sides) }
+        ensures { result ≡ unfed (arc_value sides) }
+    {
+        Joiner {
+            sides,
             batch: Batch::new(Vec::new(alloc), 0),
             probe: Probe::new(),
             pairs: Vec::new(alloc),
             given: 0,
-        })
+        }
     }
 
     /// Joins a left batch next: all joined rows of the one before were given.
@@ -139,22 +178,24 @@ impl Joiner {
         ensures { JoinsNext self.old result self.new }
     {
         if self.given == self.pairs.len() {
+            let built: &BuiltSides = &self.sides;
             let left = LeftSide {
                 batch: &self.batch,
-                key: self.left.key.as_slice(),
+                key: built.left.key.as_slice(),
             };
-            self.pairs = next_pairs(alloc, &self.build, &left, &mut self.probe)?;
+            self.pairs = next_pairs(alloc, &built.build, &left, &mut self.probe)?;
             self.given = 0;
         }
         let pairs = &self.pairs.as_slice()[self.given..];
         if pairs.is_empty() {
             return Ok(None);
         }
+        let built: &BuiltSides = &self.sides;
         let sides = Sides {
             left: &self.batch,
-            left_types: self.left.types.as_slice(),
-            rights: self.build.batches(),
-            right_types: self.right_types.as_slice(),
+            left_types: built.left.types.as_slice(),
+            rights: built.build.batches(),
+            right_types: built.right_types.as_slice(),
         };
         let joined = sides.joined(alloc, pairs)?;
         self.given += joined.rows();

@@ -4,3 +4,4 @@ pub mod Judging
 pub mod Standing
 pub mod SoFar
 pub mod Places
+mod Rows

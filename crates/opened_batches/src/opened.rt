@@ -34,7 +34,7 @@ pub struct OpenedList {
 }
 
 /// What a plan reads of its places, over the rows `from` up to, not with, `to` of the first one. A batch is left out where a
-/// conjunct of WHERE that names columns of its place alone can be true in none of its rows, by the statistics of its columns.
+/// conjunct of WHERE that names no column of another place can be true in none of its rows, by the statistics of its columns.
 ///
 /// # Errors
 ///

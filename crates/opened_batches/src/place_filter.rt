@@ -48,7 +48,7 @@ impl PlaceColumns<'_> {
         operands.iter().all(|operand| self.has_operand(operand))
     }
 
-    // Whether a predicate names columns of them alone.
+    // Whether a predicate names no other column.
     fn has_all_of(&self, predicate: &Predicate<usize>) -> bool
         ensures { result ≡ names_only (is_between self.now.first self.now.width) (pred_of predicate.now) }
     {
@@ -75,7 +75,7 @@ impl PlaceColumns<'_> {
     }
 }
 
-// Conjuncts that name columns of a place alone.
+// Conjuncts that name no column of another place.
 #[derive(Drop)]
 pub(crate) struct PlaceFilter<'a> {
     pub(crate) parts: Vec<&'a Predicate<usize>>,
@@ -83,7 +83,7 @@ pub(crate) struct PlaceFilter<'a> {
 }
 
 impl<'a> PlaceFilter<'a> {
-    // Those of some conjuncts that name columns of a place alone.
+    // Those of some conjuncts that name no column of another place.
     pub(crate) fn new(
         alloc: Global,
         conjuncts: &[&'a Predicate<usize>],

@@ -4,7 +4,7 @@ use crate::answers::{bits, bytes, cut, told};
 use crate::pieces::{Named, bytes_of};
 use crate::runs::rows_in_runs;
 use bytes::Bytes;
-use flight_core::{Event, Plain, Reply, step};
+use flight_core::{Event, OneWorker, Plain, Reply, step};
 use hash_seed::HashSeed;
 use scan_base::Fault;
 use std::alloc::Global;
@@ -55,7 +55,7 @@ impl Script {
     // The reply to a put of these words.
     fn put(&mut self, alloc: Global, words: &str) -> Result<Reply, Fault> {
         let event = Event::Put(self.payloads(alloc, words)?);
-        Ok(step(alloc, &mut self.plain, &event))
+        Ok(step(alloc, &OneWorker, &mut self.plain, &event))
     }
 
     // The reply to a fetch of this ticket.
@@ -64,7 +64,7 @@ impl Script {
             ticket: self.payload(alloc, word)?,
             workers: 1,
         };
-        Ok(step(alloc, &mut self.plain, &event))
+        Ok(step(alloc, &OneWorker, &mut self.plain, &event))
     }
 
     /// What a line is answered, if it is.

@@ -68,10 +68,8 @@ pub fn all(alloc: Global, catalog: &CatalogVersion, sql: &str) -> Result<String,
     Ok(scanned(alloc, catalog, sql, (0, usize::MAX))?.cells)
 }
 
-/// How many rows there are.
-pub fn count(alloc: Global, catalog: &CatalogVersion, sql: &str) -> Result<String, Fault> {
-    let plan = bind(alloc, &parse(alloc, sql)?, catalog)?;
-    let mut scan = Scan::new(alloc, catalog.seed(), plan, 0..usize::MAX)?;
+// How many rows a scan gives.
+fn row_count(alloc: Global, scan: &mut Scan) -> Result<usize, Fault> {
     let mut rows = 0_usize;
     for _ in 0..usize::MAX {
         let Some(batch) = scan.next(alloc)? else {
@@ -79,21 +77,51 @@ pub fn count(alloc: Global, catalog: &CatalogVersion, sql: &str) -> Result<Strin
         };
         rows = rows.saturating_add(batch.rows());
     }
+    Ok(rows)
+}
+
+/// How many rows there are.
+pub fn count(alloc: Global, catalog: &CatalogVersion, sql: &str) -> Result<String, Fault> {
+    let plan = bind(alloc, &parse(alloc, sql)?, catalog)?;
+    let mut scan = Scan::new(alloc, catalog.seed(), plan, 0..usize::MAX)?;
+    let rows = row_count(alloc, &mut scan)?;
     Ok(format!(in alloc; "{rows} rows")?)
 }
 
-/// The cells of a range of rows, which stands before the query as `4 6 `, how many batches were given, and how many
-/// were opened.
-pub fn of_range(alloc: Global, catalog: &CatalogVersion, case: &str) -> Result<String, Fault> {
+// The range of rows that stands before a query, as `4 6 `, and the query.
+fn range_before(case: &str) -> ((usize, usize), &str) {
     let (from, case) = case.split_once(' ').unwrap_or((case, ""));
     let (to, sql) = case.split_once(' ').unwrap_or((case, ""));
-    let (from, to) = (from.parse().unwrap_or(0), to.parse().unwrap_or(0));
+    ((from.parse().unwrap_or(0), to.parse().unwrap_or(0)), sql)
+}
+
+/// The cells of a range of rows, how many batches were given, and how many were opened.
+pub fn of_range(alloc: Global, catalog: &CatalogVersion, case: &str) -> Result<String, Fault> {
+    let (range, sql) = range_before(case);
     let Given {
         cells,
         batches,
         opened,
-    } = scanned(alloc, catalog, sql, (from, to))?;
+    } = scanned(alloc, catalog, sql, range)?;
     Ok(format!(in alloc; "{cells} {batches} of {opened}")?)
+}
+
+/// How many rows a range gives, and which batches were opened, in order: each by its place and its number there, as `0.3`.
+pub fn opened_batches(
+    alloc: Global,
+    catalog: &CatalogVersion,
+    case: &str,
+) -> Result<String, Fault> {
+    let ((from, to), sql) = range_before(case);
+    let plan = bind(alloc, &parse(alloc, sql)?, catalog)?;
+    let mut scan = Scan::new(alloc, catalog.seed(), plan, from..to)?;
+    let rows = row_count(alloc, &mut scan)?;
+    let mut told = format!(in alloc; "{rows} of")?;
+    for (place, number) in scan.opened() {
+        let batch = format!(in alloc; " {place}.{number}")?;
+        told.push_str(batch.as_str())?;
+    }
+    Ok(told)
 }
 
 /// The columns of the result.

@@ -76,7 +76,7 @@ parts-moved seam (p ∷ ps) h =
 
 -- ---- the widths of places
 
-abbrev total : List ℕ → ℕ
+abbrev pub total : List ℕ → ℕ
 total [] = 0
 total (width ∷ widths) = width + total widths
 
@@ -84,7 +84,7 @@ total-append : (ws vs : List ℕ) → total (ws ++ vs) ≡ total ws + total vs
 total-append [] vs = omega arith
 total-append (w ∷ ws) vs = let h = total-append ws vs in omega (arith, h)
 
-all_widths : (tree : Tree) → total (place_widths tree) ≡ tree_width tree
+pub all_widths : (tree : Tree) → total (place_widths tree) ≡ tree_width tree
 all_widths (scan table schema columns) = omega arith
 all_widths (filtered predicate tree) = all_widths tree
 all_widths (joined left right on) =

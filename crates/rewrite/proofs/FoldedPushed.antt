@@ -14,6 +14,7 @@ use Rattle.typed_plan.specs.Plan.{Tree, scan, filtered, joined}
 use Rattle.typed_plan.specs.Typed.{IsOver}
 use Rattle.typed_plan.specs.View.{BoundAt, tree_of}
 use Rattle.rewrite.proofs.FoldedTrees.{folded_schemas}
+use Rattle.rewrite.proofs.PushedRows.{pushed_schemas}
 use Rattle.rewrite.specs.Conjuncts.{conjuncts, is_sure, parts_of, all_of}
 use Rattle.rewrite.specs.Folded.{is_folded, is_folded_tree, folded_tree}
 use Rattle.rewrite.specs.Laws.{AreWide}
@@ -32,7 +33,7 @@ module _ (f : ℕ → ℕ) where
   none_of_items [] = refl
   none_of_items (item ∷ items) = let here = none_of_operand item in let there = none_of_items items in cc
 
-  folded_map : (p : Pred ℕ) → is_folded (predicate_map f p) ≡ is_folded p
+  pub folded_map : (p : Pred ℕ) → is_folded (predicate_map f p) ≡ is_folded p
   folded_map (conjunction p q) = let here = folded_map p in let there = folded_map q in cc
   folded_map (disjunction p q) = let here = folded_map p in let there = folded_map q in cc
   folded_map (negation p) = folded_map p
@@ -128,15 +129,61 @@ folded_wide (joined left right on) places h = (
       (folded_wide right (drop (length (tree_schemas left)) places) h.1),
 )
 
-pub stands_after : (new middle old : BoundAt) → tree_of middle.plan ≡ folded_tree (tree_of old.plan) → StandsFor new middle → StandsFor middle old → StandsFor new old
-stands_after new middle old tree one other = record {
-  rows = λ database a b is over.
-      one.rows database a b is (subst (λ (t : Tree). IsOver t database) (sym tree) (folded_over (tree_of old.plan) database over))
-      ∙ other.rows database a b is over;
-  places = λ places wide.
-      one.places places (subst (λ (t : Tree). AreWide t places) (sym tree) (folded_wide (tree_of old.plan) places wide))
-      ∙ other.places places wide;
+-- ---- and a pushed tree too
+
+above_over : (ps : List (Pred ℕ)) (tree : Tree) (database : Database) → IsOver tree database → IsOver (above ps tree) database
+above_over [] tree database h = h
+above_over (p ∷ ps) tree database h = h
+
+above_wide : (ps : List (Pred ℕ)) (tree : Tree) (places : List (List Row)) → AreWide tree places → AreWide (above ps tree) places
+above_wide [] tree places h = h
+above_wide (p ∷ ps) tree places h = h
+
+pushed_over : (ps : List (Pred ℕ)) (tree : Tree) (database : Database) → IsOver tree database → IsOver (pushed ps tree) database
+pushed_over ps (scan table schema columns) database h = above_over ps (scan table schema columns) database h
+pushed_over ps (filtered predicate tree) database h = pushed_over (parts_of predicate ++ ps) tree database h
+pushed_over ps (joined left right on) database h =
+    let seam = tree_width left in
+    let ls = filter (is_left seam) ps in
+    let rs = map (moved seam) (filter (is_right seam) ps) in
+    above_over (filter (is_both seam) ps) (joined (pushed ls left) (pushed rs right) on) database
+    (pushed_over ls left database h.0, pushed_over rs right database h.1)
+
+pushed_wide : (ps : List (Pred ℕ)) (tree : Tree) (places : List (List Row)) → AreWide tree places → AreWide (pushed ps tree) places
+pushed_wide ps (scan table schema columns) places h = above_wide ps (scan table schema columns) places h
+pushed_wide ps (filtered predicate tree) places h = pushed_wide (parts_of predicate ++ ps) tree places h
+pushed_wide ps (joined left right on) places h =
+    let seam = tree_width left in
+    let ls = filter (is_left seam) ps in
+    let rs = map (moved seam) (filter (is_right seam) ps) in
+    above_wide (filter (is_both seam) ps) (joined (pushed ls left) (pushed rs right) on) places (
+      pushed_wide ls left places h.0,
+      subst (λ (s : List Schema). AreWide (pushed rs right) (drop (length s) places)) (sym (pushed_schemas ls left))
+          (pushed_wide rs right (drop (length (tree_schemas left)) places) h.1),
+    )
+
+-- ---- plans
+
+-- one that stands for another stands for what that one stands for, where the middle one reads what the old one reads
+stands_through : (new middle old : BoundAt) → ((database : Database) → IsOver (tree_of old.plan) database → IsOver (tree_of middle.plan) database) →
+    ((places : List (List Row)) → AreWide (tree_of old.plan) places → AreWide (tree_of middle.plan) places) →
+    StandsFor new middle → StandsFor middle old → StandsFor new old
+stands_through new middle old reads wider one other = record {
+  rows = λ database a b is over. one.rows database a b is (reads database over) ∙ other.rows database a b is over;
+  places = λ places wide. one.places places (wider places wide) ∙ other.places places wide;
   grouping = one.grouping ∙ other.grouping;
   tables = one.tables ∙ other.tables;
   schema = one.schema ∙ other.schema;
 }
+
+pub stands_after : (new middle old : BoundAt) → tree_of middle.plan ≡ folded_tree (tree_of old.plan) → StandsFor new middle → StandsFor middle old → StandsFor new old
+stands_after new middle old tree one other =
+    stands_through new middle old
+    (λ database over. subst (λ (t : Tree). IsOver t database) (sym tree) (folded_over (tree_of old.plan) database over))
+    (λ places wide. subst (λ (t : Tree). AreWide t places) (sym tree) (folded_wide (tree_of old.plan) places wide)) one other
+
+pub stands_behind : (new middle old : BoundAt) → tree_of middle.plan ≡ pushed [] (tree_of old.plan) → StandsFor new middle → StandsFor middle old → StandsFor new old
+stands_behind new middle old tree one other =
+    stands_through new middle old
+    (λ database over. subst (λ (t : Tree). IsOver t database) (sym tree) (pushed_over [] (tree_of old.plan) database over))
+    (λ places wide. subst (λ (t : Tree). AreWide t places) (sym tree) (pushed_wide [] (tree_of old.plan) places wide)) one other

@@ -1,4 +1,4 @@
--- Worked rows: predicates folded, and filters pushed below joins, worked out by hand.
+-- Worked rows: predicates folded, filters pushed below joins, and columns left out, worked out by hand.
 use Rattle.std.proofs.Common.{◌≡◌, ℕ, List, [], ◌∷◌, refl, pos}
 use Rattle.arrow_schema.specs.declared.schema.Schema.{Schema}
 use Rattle.scan_base.specs.declared.comparison.Comparison.TheVariants.{Less, Equal}
@@ -9,12 +9,16 @@ use Rattle.scan_base.specs.declared.truth.Truth.TheVariants.{True, False, Unknow
 use Rattle.scan_base.specs.declared.value.Value.TheVariants.{Null, Int}
 use Rattle.scan_base.specs.Predicate.{Pred, conjunction, disjunction, negation, comparing, constant}
 use Rattle.table_versions.specs.Table.{Name}
+use Rattle.typed_plan.specs.declared.plan.Aggregate.TheVariants.{CountRows}
 use Rattle.typed_plan.specs.declared.plan.Columns.TheVariants.{These}
 use Rattle.typed_plan.specs.declared.plan.JoinKey.{JoinKey}
+use Rattle.typed_plan.specs.declared.plan.Output.TheVariants.{Project, Groups}
 use Rattle.typed_plan.specs.Plan.{Tree, scan, filtered, joined}
 use Rattle.rewrite.specs.Conjuncts.{parts_of}
 use Rattle.rewrite.specs.Folded.{folded}
+use Rattle.rewrite.specs.Pruned.{pruned, output_in}
 use Rattle.rewrite.specs.Pushed.{pushed}
+use Rattle.rewrite.specs.Uses.{uses_of}
 
 abbrev number : ℕ → Operand ℕ
 number n = operand.Literal (Int (pos n))
@@ -61,3 +65,27 @@ module _ (t u : Name) (one other : Schema) (on : List JoinKey) where
   false_to_the_first : pushed [] (filtered (conjunction (constant False) (constant True)) (joined left right on))
       ≡ joined (filtered (constant False) left) right on
   false_to_the_first = refl
+
+  -- COUNT(*) reads no column
+  count_reads_none : pruned (uses_of left (Groups [] (CountRows ∷ []))) left ≡ scan t one (These [])
+  count_reads_none = refl
+
+  -- the second column of t and the one of u are to be equal, and the result takes that of u: the first of t is left out, and
+  -- the others are counted anew
+  abbrev same : JoinKey
+  same = record { left = 1; right = 2 }
+
+  abbrev both : Tree
+  both = joined left right (same ∷ [])
+
+  key_is_used : pruned (uses_of both (Project (These (2 ∷ [])))) both
+      ≡ joined (scan t one (These (1 ∷ []))) (scan u other (These (0 ∷ []))) (record { left = 0; right = 1 } ∷ [])
+  key_is_used = refl
+
+  result_counted_anew : output_in (uses_of both (Project (These (2 ∷ [])))) (Project (These (2 ∷ []))) ≡ Project (These (1 ∷ []))
+  result_counted_anew = refl
+
+  -- a column that a filter alone names is read
+  filter_is_used : pruned (uses_of (filtered (is 1 7) left) (Groups [] (CountRows ∷ []))) (filtered (is 1 7) left)
+      ≡ filtered (is 0 7) (scan t one (These (1 ∷ [])))
+  filter_is_used = refl

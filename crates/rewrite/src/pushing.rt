@@ -4,7 +4,6 @@ ghost use Rattle.std.specs.Prelude.{◌≡◌, [], ◌++◌, IfOk, true, map};
 ghost use Rattle.std.specs.List.{filter};
 ghost use Rattle.scan_base.specs.View.{pred_of};
 ghost use Rattle.rewrite.specs.Conjuncts.{parts_of};
-ghost use Rattle.rewrite.specs.Places.{tree_width};
 ghost use Rattle.rewrite.specs.Pushed.{above, is_behind, is_both, is_left, is_pushed, is_right, moved, pushed};
 ghost use Rattle.rewrite.specs.Same.{StandsFor};
 ghost use Rattle.typed_plan.specs.Plan.{joined as joined_trees};
@@ -13,9 +12,10 @@ ghost use Rattle.typed_plan.specs.View.{tree_of};
 use crate::columns::{Before, Behind, names_only};
 use crate::numbers::{FromSeam, renumber};
 use crate::parts::{all_of, parts_of};
+use crate::widths::width;
 use scan_base::{Items, Predicate};
 use std::alloc::{AllocError, Global};
-use typed_plan::{Columns, JoinKey, Plan, TypedPlan};
+use typed_plan::{JoinKey, Plan, TypedPlan};
 
 // Parts of filters over the rows of a join, by where their columns are. Those of the right count them from its first.
 #[derive(Drop)]
@@ -54,31 +54,6 @@ fn counted_from(alloc: Global, predicate: Predicate<usize>, seam: usize) -> Pred
     let mut counted = predicate;
     renumber(alloc, &mut counted, &FromSeam { seam });
     counted
-}
-
-// How many columns a tree gives. More than can be counted take more memory than there is.
-fn width(plan: &Plan) -> Result<usize, AllocError>
-    ensures { IfOk result (λ width. width ≡ tree_width (tree_of plan.now)) }
-{
-    match plan {
-        Plan::Scan {
-            table: _,
-            schema,
-            columns,
-        } => match columns {
-            Columns::All => Ok(schema.fields.len()),
-            Columns::These(numbers) => Ok(numbers.len()),
-        },
-        Plan::Filter {
-            predicate: _,
-            input,
-        } => width(input),
-        Plan::Join { left, right, on: _ } => {
-            let left = width(left)?;
-            let right = width(right)?;
-            left.checked_add(right).ok_or(AllocError)
-        }
-    }
 }
 
 // A tree below one filter of these parts, in their order.

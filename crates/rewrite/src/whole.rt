@@ -2,16 +2,19 @@
 
 ghost use Rattle.std.specs.Prelude.{◌≡◌, IfOk, true};
 ghost use Rattle.rewrite.specs.Folded.{is_folded_tree};
+ghost use Rattle.rewrite.specs.Pruned.{IsPruned};
 ghost use Rattle.rewrite.specs.Pushed.{is_pushed};
 ghost use Rattle.rewrite.specs.Same.{StandsFor};
-ghost use Rattle.typed_plan.specs.View.{tree_of};
+ghost use Rattle.typed_plan.specs.View.{plan_of, tree_of};
 
 use crate::literals::fold;
+use crate::pruning::prune;
 use crate::pushing::push_down;
 use std::alloc::{AllocError, Global};
 use typed_plan::TypedPlan;
 
-/// The plan with its literals worked out and its filters as low as they may stand. It gives the same rows.
+/// The plan with its literals worked out, its filters as low as they may stand, and scans that give those columns alone that
+/// something uses. It gives the same rows.
 ///
 /// # Errors
 ///
@@ -20,7 +23,9 @@ pub fn rewrite(alloc: Global, plan: TypedPlan) -> Result<TypedPlan, AllocError>
     ensures same { IfOk result (λ made. StandsFor made plan) }
     ensures folded { IfOk result (λ made. is_folded_tree (tree_of made.plan) ≡ true) }
     ensures below { IfOk result (λ made. is_pushed (tree_of made.plan) ≡ true) }
+    ensures pruned { IfOk result (λ made. IsPruned (plan_of made)) }
 {
     let folded = fold(plan);
-    push_down(alloc, folded)
+    let pushed = push_down(alloc, folded)?;
+    prune(alloc, pushed)
 }

@@ -3,6 +3,7 @@ use Rattle.std.proofs.Common.{◌≡◌, ◌<◌, ℕ, zero, suc, ◌+◌, ◌-�
 use Rattle.std.specs.List.{flat_map, list_all, range_with_len}
 use Rattle.arrow_schema.specs.declared.schema.Schema.{Schema}
 use Rattle.std.proofs.lemmas.Option.{slice_get-map}
+use Rattle.std.proofs.lemmas.List.Elements.{filter-append}
 use Rattle.std.proofs.lemmas.Simd.{map-map}
 use Rattle.arrow_schema.specs.Answer.{answer_type}
 use Rattle.arrow_schema.specs.declared.data_type.DataType.{DataType}
@@ -21,14 +22,16 @@ use Rattle.arrays.specs.Batch.{rows_of}
 use Rattle.typed_plan.specs.Plan.{answered, groups_by, output_rows}
 use Rattle.typed_plan.specs.Typed.{IsTyped, type_at, types_taken, types_of, tree_types, output_types, item_type, is_grouping}
 use Rattle.typed_plan.specs.View.{BoundAt, plan_of, tree_of}
-use Rattle.scan_exec.specs.Answering.{GivingAt, IsScan, answer_for, of_rows, renumbered, scan_at}
+use Rattle.scan_exec.specs.Answering.{GivingAt, IsScan, Rise, answer_for, of_rows, renumbered, scan_at}
 use Rattle.scan_exec.specs.Begun.{IsBegun, tree_given}
 use Rattle.scan_exec.specs.Showing.{shown_of}
 use Rattle.scan_exec.specs.Given.{given_of, first_batches, further_rows, numbered_parts, rows_over}
-use Rattle.opened_batches.specs.Opened.{batches_in, first_numbers, first_opened, further_opened, scans_of, where_parts}
+use Rattle.opened_batches.specs.Opened.{batches_in, first_numbers, first_opened, further_numbers, further_opened, scans_of, where_parts}
+use Rattle.scan_exec.specs.Morsels.{of_first}
 use Rattle.scan_exec.specs.Running.{RowsAt}
 use Rattle.scan_exec.specs.Scan.{ScanAt, IsBeginning}
 use Rattle.scan_exec.specs.Shown.{cells}
+use Rattle.scan_exec.proofs.PartScan.{firsts_rise, further_none}
 use Rattle.scan_exec.proofs.PlanGives.{given_rows}
 use Rattle.scan_exec.proofs.ScanGiven.{scan_given}
 
@@ -162,11 +165,18 @@ module _ (bound : BoundAt) (from to : ℕ) (typed : IsTyped (plan_of bound)) (ro
     is_scan ranged =
         let long = ap length all ∙ length-append (further_opened old) (first_opened begin end old) in
         let size : length (first_opened begin end old) ≡ length batches - further = omega (arith, long, count) in
+        let numbers = first_numbers (where_parts (tree_of old.plan)) begin end (scans_of (tree_of old.plan)) old.tables in
         record {
           there = omega (arith, long, count);
           first = ap (λ (g : GivingAt). g.batches) is ∙ batches_is bound.output ∙ ranged ∙ ap (range_with_len 0) size;
           places = subst (λ (some : List (ℕ × ℕ)). list_all (λ (batch : ℕ × ℕ). batch.0 == 0) some ≡ true) (sym firsts_are)
-              (all_first (first_numbers (where_parts (tree_of old.plan)) begin end (scans_of (tree_of old.plan)) old.tables));
+              (all_first numbers);
+          others = ap of_first all
+              ∙ filter-append (λ (batch : ℕ × ℕ). batch.0 == 0) (further_opened old) (first_opened begin end old)
+              ∙ ap (λ some. some ++ of_first (first_opened begin end old)) (further_none 0 (further_numbers (where_parts (tree_of old.plan)) (scans_of (tree_of old.plan)) old.tables))
+              ∙ only_first numbers ∙ sym firsts_are;
+          rising = subst (Rise 0) (sym (ap (map (λ (batch : ℕ × ℕ). batch.1)) firsts_are ∙ map-map (λ (batch : ℕ × ℕ). batch.1) (λ (number : ℕ). (0, number)) numbers ∙ map_same numbers))
+              (firsts_rise (where_parts (tree_of old.plan)) begin end (scans_of (tree_of old.plan)) old.tables);
           front = ap (λ (opened : List ℕ). take (length opened) giving.batches) none ∙ sym none;
           few = omega arith;
         }
@@ -174,3 +184,11 @@ module _ (bound : BoundAt) (from to : ℕ) (typed : IsTyped (plan_of bound)) (ro
         all_first : (numbers : List ℕ) → list_all (λ (batch : ℕ × ℕ). batch.0 == 0) (map (λ number. (0, number)) numbers) ≡ true
         all_first [] = refl
         all_first (number ∷ numbers) = all_first numbers
+
+        only_first : (numbers : List ℕ) → of_first (map (λ number. (0, number)) numbers) ≡ map (λ number. (0, number)) numbers
+        only_first [] = refl
+        only_first (number ∷ numbers) = ap (λ rest. (0, number) ∷ rest) (only_first numbers)
+
+        map_same : (numbers : List ℕ) → map (λ (number : ℕ). number) numbers ≡ numbers
+        map_same [] = refl
+        map_same (number ∷ numbers) = ap (λ rest. number ∷ rest) (map_same numbers)

@@ -35,7 +35,7 @@ use Rattle.opened_batches.specs.Opened.{batch_can, batches_in, given_width, has_
 use Rattle.scan_exec.proofs.NarrowGiven.{all_same, listed, none_in, range_same, ranged, through}
 use Rattle.scan_exec.proofs.BeginTree.{fields_wide}
 use Rattle.scan_exec.proofs.Narrowing.{all_at, at_many, filled_each, one_of, there_at}
-use Rattle.scan_exec.proofs.NarrowRange.{AreListed, all_in, before_next, begins_in_first, listed_of, listed_within, made_of, narrow_from, part_at, whole_made}
+use Rattle.scan_exec.proofs.NarrowRange.{AreListed, all_in, before_next, begins_in_first, listed_of, listed_within, made_of, narrow_from, part_at, whole_in, whole_made}
 use Rattle.scan_exec.proofs.PlaceByPlace.{AllSame, EachSame, LetsSame, places_same}
 use Rattle.scan_exec.proofs.Through.{IsDeep, first_need, need_behind, same_through}
 use Rattle.scan_exec.proofs.TreeGives.{over_none}
@@ -314,5 +314,22 @@ module _ (old new : BoundAt) (from to : ℕ) (some : Columns) (scans : List Colu
           (all_at (λ (batch : BatchAt). has_rows batch ≡ true) table.batches (filled_each table.batches here.filled) numbers) i one.0 one.1) in
           omega (arith, next, rows)
 
+  -- each of them has a row in the range
+  pub each_law : batches_in a b (batches_at numbers table.batches) ≡ range_with_len 0 (length (batches_at numbers table.batches))
+  each_law =
+      let many = at_many table.batches numbers (listed_within from to table.batches 0 numbers in_order) in
+      batches_law ∙ ap (range_with_len 0) (length-map numbers (λ (number : ℕ). (0, number)) ∙ sym many)
+
   pub begins_law : BeginsInFirst a (batches_at numbers table.batches)
   begins_law = begins_in_first from to table.batches 0 numbers in_order
+
+-- each batch of a table has one of all rows
+pub all_whole : (table : TableAt) (rows : ℕ) → IsKept table rows → batches_in 0 rows table.batches ≡ range_with_len 0 (length table.batches)
+all_whole table rows kept = whole_in rows table.batches kept.counted filled
+  where
+    filled : (i : ℕ) → i < length table.batches → rows_before table.batches i < rows_before table.batches (i + 1)
+    filled i h =
+        let one = there_at table.batches i h in
+        let next = before_next 0 rows table.batches i one.0 one.1 in
+        let some = ltb-true 0 (one.0).rows (one_of (λ (batch : BatchAt). has_rows batch ≡ true) table.batches (filled_each table.batches kept.filled) i one.0 one.1) in
+        omega (arith, next, some)

@@ -15,7 +15,7 @@ use Rattle.scan_exec.specs.Given.{numbered_parts, parts}
 use Rattle.opened_batches.specs.Narrow.{BeginsInFirst, batches_at, narrowed_from, narrowed_to}
 use Rattle.opened_batches.specs.Opened.{has_row_in, batches_in}
 use Rattle.scan_exec.proofs.Narrowing.{at_many, there_at}
-use Rattle.scan_exec.proofs.Opening.{grows}
+use Rattle.scan_exec.proofs.Opening.{grows, in_all}
 
 -- ---- batches of a range, in order
 
@@ -190,6 +190,25 @@ module _ {Y : Type 0} (from to : ℕ) (batches : List BatchAt) (make : ℕ → L
 
 -- ---- the range among the batches
 
+-- numbers that all pass a test
+filter_all : (test : ℕ → Bool) (first n : ℕ) → ((i : ℕ) → first ≤ i → i < first + n → test i ≡ true) → filter test (range_with_len first n) ≡ range_with_len first n
+filter_all test first zero all = refl
+filter_all test first (suc n) all =
+    rw (all first (omega arith) (omega arith))
+    (ap (λ rest. first ∷ rest) (filter_all test (first + 1) n (λ i low high. all i (omega (arith, low)) (omega (arith, high)))))
+
+-- all rows are in each batch
+pub whole_in : (rows : ℕ) (batches : List BatchAt) → rows ≡ length (flat_map rows_of batches) →
+    ((i : ℕ) → i < length batches → rows_before batches i < rows_before batches (i + 1)) → batches_in 0 rows batches ≡ range_with_len 0 (length batches)
+whole_in rows batches size filled =
+    filter_all (has_row_in 0 rows batches) 0 (length batches) (λ i low high. each i (omega (arith, high)))
+  where
+    each : (i : ℕ) → i < length batches → has_row_in 0 rows batches i ≡ true
+    each i h =
+        let all = in_all batches (i + 1) (omega (arith, h)) in
+        let more = filled i h in
+        lt-ltb (max (rows_before batches i) 0) (min (rows_before batches (i + 1)) rows) (omega (arith, all, more, size))
+
 module _ (from to : ℕ) (batches : List BatchAt) where
   -- the range begins in the first of them
   pub begins_in_first : (low : ℕ) (numbers : List ℕ) → AreListed from to batches low numbers → BeginsInFirst (narrowed_from from batches numbers) (batches_at numbers batches)
@@ -244,12 +263,6 @@ module _ (from to : ℕ) (batches : List BatchAt) where
       ∙ filter_all (has_row_in (narrowed_from from batches numbers) (narrowed_to to batches numbers) (batches_at numbers batches)) 0 (length numbers)
       (λ i low high. each i (omega (arith, high)))
     where
-      filter_all : (test : ℕ → Bool) (first n : ℕ) → ((i : ℕ) → first ≤ i → i < first + n → test i ≡ true) → filter test (range_with_len first n) ≡ range_with_len first n
-      filter_all test first zero all = refl
-      filter_all test first (suc n) all =
-          rw (all first (omega arith) (omega arith))
-          (ap (λ rest. first ∷ rest) (filter_all test (first + 1) n (λ i low high. all i (omega (arith, low)) (omega (arith, high)))))
-
       each : (i : ℕ) → i < length numbers → has_row_in (narrowed_from from batches numbers) (narrowed_to to batches numbers) (batches_at numbers batches) i ≡ true
       each i h =
           let some = batches_at numbers batches in

@@ -22,7 +22,7 @@ use Rattle.opened_batches.specs.Narrow.{BeginsInFirst, CanNarrow, batches_at, na
 use Rattle.opened_batches.specs.Opened.{batches_in, first_numbers, given_width, first_opened, further_numbers, numbers_behind, opened_numbers, place_opened, scans_of, where_parts}
 use Rattle.scan_exec.specs.OpenedTables.{CanAll, narrow_all}
 use Rattle.rewrite.specs.Same.{StandsFor}
-use Rattle.scan_exec.proofs.NarrowLaw.{Fit, Holds, batches_law, begins_law, given_law, narrow_bound, schemas_of}
+use Rattle.scan_exec.proofs.NarrowLaw.{Fit, Holds, batches_law, begins_law, each_law, given_law, narrow_bound, schemas_of}
 use Rattle.scan_exec.proofs.OpenedLists.{numbers_of}
 use Rattle.scan_exec.proofs.PlaceByPlace.{as_many_scans}
 use Rattle.scan_exec.proofs.Through.{IsDeep}
@@ -98,6 +98,7 @@ pub record Laws (old : BoundAt) (from to : ℕ) (bound : BoundAt) (begin end : �
   pub begins : BeginsInFirst begin (first_batches bound.tables)
   pub given : map (renumbered (first_opened from to old)) (given_of bound begin end) ≡ given_of old from to
   pub batches : batches_in begin end (first_batches bound.tables) ≡ range_with_len 0 (length (first_opened from to old))
+  pub each : batches_in begin end (first_batches bound.tables) ≡ range_with_len 0 (length (first_batches bound.tables))
   pub few : length (flat_map rows_of (first_batches bound.tables)) ≤ most_rows
 
 module _ (old new : BoundAt) (from to : ℕ) (lists : List OpenedList) (list : OpenedList)
@@ -149,6 +150,7 @@ module _ (old new : BoundAt) (from to : ℕ) (lists : List OpenedList) (list : O
                 ∙ given_law old new from to some scans table tables skipping same (typed_deep (tree_of old.plan) typed) holds found.1.1 (schemas ∙ ap schemas_of e) (fit_at found e) e (subst AreKept e kept);
             batches = batches_law old new from to some scans table tables skipping same (typed_deep (tree_of old.plan) typed) holds found.1.1 (schemas ∙ ap schemas_of e) (fit_at found e) e (subst AreKept e kept)
                 ∙ ap (λ (ts : List (ℕ × ℕ)). range_with_len 0 (length ts)) (sym (firsts found e));
+            each = each_law old new from to some scans table tables skipping same (typed_deep (tree_of old.plan) typed) holds found.1.1 (schemas ∙ ap schemas_of e) (fit_at found e) e (subst AreKept e kept);
             few = subst (λ (ns : List ℕ). length (flat_map rows_of (batches_at ns table.batches)) ≤ most_rows) head
                 (subst (λ (n : ℕ). n ≤ most_rows) here.0.can.counted here.0.can.few);
           })))

@@ -200,6 +200,8 @@ module _ (schema : Schema) (batches : List (ℕ × ℕ)) (further : ℕ) (before
     there = is.there;
     first = on.batches ∙ is.first;
     places = is.places;
+    others = is.others;
+    rising = is.rising;
     front = on.opened;
     few = few;
   }

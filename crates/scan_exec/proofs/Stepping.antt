@@ -1,6 +1,6 @@
 -- A cursor's steps over the batches of a table.
 use Rattle.std.proofs.Common.{◌≡◌, ◌≤◌, ◌<◌, ℕ, ◌+◌, ◌-◌, List, length, max, min, slice_get, Some, None, refl, sym, ap, ◌∙◌, ◌⊎◌, inl, inr, arith}
-use Rattle.std.specs.List.{flat_map, last_or}
+use Rattle.std.specs.List.{flat_map, last_or, range_with_len}
 use Rattle.std.proofs.lemmas.Bool.{cases_eq, cases_lt}
 use Rattle.std.proofs.lemmas.List.{take_all}
 use Rattle.arrays.specs.Batch.{BatchAt, rows_of, cut_batch, BatchSlicesKeepRows}
@@ -113,6 +113,13 @@ module _ (table : TableAt) (cursor : Cursor) (is : IsPlaced table cursor) (more 
           other (inl e) = absurd (later.0 e)
           other (inr ne) = omega (arith, ne, behind, is.begun)
 
+      -- one was opened
+      begun : (opened : ℕ) → Counts opened → opened ≡ 0 → ⊥
+      begun opened (inl first) none = omega (arith, first.1, none)
+      begun opened (inr later) none =
+          let fresh = is.fresh (omega (arith, later.1, none)) in
+          later.0 (omega (arith, fresh, behind))
+
       pub placed_after : (number start opened : ℕ) → Steps number start → Counts opened → IsPlaced table (after number start opened)
       placed_after number start opened (inl mid) counts = record {
         begun = omega (arith, forth, is.begun);
@@ -123,6 +130,8 @@ module _ (table : TableAt) (cursor : Cursor) (is : IsPlaced table cursor) (more 
         within = λ _. inr (rw mid.0 (omega (arith, next, mid.2)));
         filled = omega (arith, mid.0, mid.1, is.filled);
         opened = counted opened counts;
+        fresh = λ none. absurd (begun opened counts none);
+        each = is.each;
       }
       placed_after number start opened (inr whole) counts = record {
         begun = omega (arith, forth, is.begun);
@@ -133,6 +142,8 @@ module _ (table : TableAt) (cursor : Cursor) (is : IsPlaced table cursor) (more 
         within = λ _. inl (omega (arith, whole.1, whole.2));
         filled = omega (arith, whole.0, whole.1, is.filled, some);
         opened = counted opened counts;
+        fresh = λ none. absurd (begun opened counts none);
+        each = is.each;
       }
 
       part_rows : BatchSlicesKeepRows → rows_of (cut_batch batch (cursor.at - cursor.start) last) ≡ rows_between (cursor.at - cursor.start) last (rows_of batch)
@@ -166,8 +177,9 @@ module _ (table : TableAt) (cursor : Cursor) (is : IsPlaced table cursor) (more 
 
 -- before the first row of a range
 pub placed_first : (table : TableAt) (from to : ℕ) → from ≤ to → (from < to → to ≤ length (table_of table).rows) → BeginsInFirst from table.batches →
+    batches_in from to table.batches ≡ range_with_len 0 (length table.batches) →
     IsPlaced table (record { from = from; to = to; at = from; batch = 0; start = 0; opened = 0 })
-placed_first table from to ordered few first = record {
+placed_first table from to ordered few first each = record {
   begun = omega arith;
   ordered = ordered;
   few = few;
@@ -176,4 +188,6 @@ placed_first table from to ordered few first = record {
   within = λ _. first;
   filled = omega arith;
   opened = ap length (sym (none_in from from table.batches (omega arith)));
+  fresh = λ _. refl;
+  each = each;
 }

@@ -1,5 +1,5 @@
 -- Inside: what a scan still has to give, of rows or of groups.
-use Rattle.std.specs.Prelude.{◌≡◌, ◌≤◌, ◌<◌, ◌⊎◌, ℕ, ◌+◌, ◌-◌, IsTrue, ◌==◌, List, ◌++◌, length, map, take, drop, get_or, Option, Some, None, option_map, Result, Ok, Err}
+use Rattle.std.specs.Prelude.{◌≡◌, ◌≤◌, ◌<◌, ◌⊎◌, ℕ, ◌+◌, ◌-◌, IsTrue, ◌==◌, List, [], ◌∷◌, ◌++◌, length, map, take, drop, get_or, Option, Some, None, option_map, Result, Ok, Err}
 use Rattle.std.specs.List.{list_all, range_with_len}
 use Rattle.arrays.specs.Batch.{BatchAt}
 use Rattle.arrow_schema.specs.Answer.{answer_type}
@@ -17,6 +17,7 @@ use Rattle.scan_base.specs.declared.fault.Fault.TheVariants.{OutOfMemory, Result
 use Rattle.scan_exec.specs.declared.answer.Answer.{Answer}
 use Rattle.scan_exec.specs.declared.answer.Answer.TheVariants as answer
 pub use Rattle.scan_exec.specs.Giving.{GivingAt, of_rows, GivingOn, IsOfLast, GivesBatch, GivesNone, GivesNext}
+use Rattle.scan_exec.specs.Morsels.{of_first}
 use Rattle.scan_exec.specs.Scan.{ScanAt}
 
 -- what an answer still has to give
@@ -56,12 +57,19 @@ scan_at schema giving batches further given refused = record {
   refused = refused;
 }
 
--- what holds of a scan: its list of batches ends with those of the first place, which are all opened in turn, and no more
--- rows were given than may be
+-- numbers rise, from this one on
+abbrev pub Rise : ℕ → List ℕ → Type 0
+Rise low [] = Unit {0}
+Rise low (number ∷ numbers) = (low ≤ number) × Rise (number + 1) numbers
+
+-- What holds of a scan: its list of batches ends with those of the first place, which are all opened in turn, by the order of
+-- their numbers. No more rows were given than may be.
 pub record IsScan (giving : GivingAt) (batches : List (ℕ × ℕ)) (further given : ℕ) : Type 0 where
   pub there : further ≤ length batches
   pub first : giving.batches ≡ range_with_len 0 (length batches - further)
   pub places : IsTrue (list_all (λ (batch : ℕ × ℕ). batch.0 == 0) (drop further batches))
+  pub others : of_first batches ≡ drop further batches
+  pub rising : Rise 0 (map (λ (batch : ℕ × ℕ). batch.1) (drop further batches))
   pub front : take (length giving.opened) giving.batches ≡ giving.opened
   pub few : given ≤ most_answer_rows
 

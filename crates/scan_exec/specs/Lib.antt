@@ -1,9 +1,11 @@
 pub mod Given
 pub mod Scan
+pub mod Morsels
 pub mod Chosen
 pub mod Picking
 pub mod Placed
 pub mod Running
+pub mod Parting
 pub mod Sources
 pub mod Joined
 pub mod Joining

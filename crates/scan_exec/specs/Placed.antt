@@ -1,6 +1,6 @@
 -- Inside: where a cursor stands among the batches of a table, and how it goes on.
 use Rattle.std.specs.Prelude.{◌≡◌, ◌≤◌, ◌<◌, ◌⊎◌, ℕ, ◌+◌, List, ◌++◌, length, map, Some, None}
-use Rattle.std.specs.List.{flat_map, last_or}
+use Rattle.std.specs.List.{flat_map, last_or, range_with_len}
 use Rattle.arrays.specs.Batch.{rows_of, cut_batch}
 use Rattle.arrays.specs.Typed.{AreOf}
 use Rattle.scan_base.specs.Limits.{most_rows}
@@ -15,7 +15,7 @@ use Rattle.opened_batches.specs.Opened.{batches_in}
 use Rattle.array_select.specs.Room.{most_batch_rows}
 
 -- Where a cursor stands: between the range's ends, in its batch or at its begin, behind the batches that were opened. Each
--- batch before its own has a row.
+-- batch before its own has a row, and each of the table has one of the range.
 pub record IsPlaced (table : TableAt) (cursor : Cursor) : Type 0 where
   pub begun : cursor.from ≤ cursor.at
   pub ordered : cursor.at ≤ cursor.to
@@ -25,6 +25,8 @@ pub record IsPlaced (table : TableAt) (cursor : Cursor) : Type 0 where
   pub within : cursor.at < cursor.to → (cursor.at ≡ cursor.start) ⊎ (cursor.at < rows_before table.batches (cursor.batch + 1))
   pub filled : cursor.batch ≤ cursor.start
   pub opened : cursor.opened ≡ length (batches_in cursor.from cursor.at table.batches)
+  pub fresh : cursor.opened ≡ 0 → cursor.at ≡ cursor.from
+  pub each : batches_in cursor.from cursor.to table.batches ≡ range_with_len 0 (length table.batches)
 
 -- before the first row of a range
 pub record Begins (from to : ℕ) (cursor : Cursor) : Type 0 where

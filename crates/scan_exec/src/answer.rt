@@ -14,10 +14,10 @@ use crate::columns::numbers_below;
 use crate::grouped::{GroupedRows, Stage, Wanted};
 use crate::picker::Picker;
 use crate::rows::{Rows, Source};
-use array_select::Selection;
 use arrays::Batch;
 use hash_seed::HashSeed;
 use std::alloc::{AllocError, Global};
+use std::sync::Arc;
 use typed_plan::Output;
 
 // What is still to be given.
@@ -122,9 +122,5 @@ fn all_rows(alloc: Global, source: Source, columns: Vec<usize>) -> Result<Rows, 
         read,
         shown: columns,
     };
-    Ok(Rows {
-        source,
-        picker,
-        selection: Selection::new(alloc),
-    })
+    Ok(Rows::new(alloc, source, Arc::new(alloc, picker)?))
 }

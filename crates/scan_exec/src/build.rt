@@ -1,7 +1,7 @@
 //! A plan made ready to give its rows.
 
 ghost use Rattle.std.specs.Prelude.{◌≡◌, ◌≤◌, true, IfOk, length, map};
-ghost use Rattle.std.specs.List.{flat_map};
+ghost use Rattle.std.specs.List.{flat_map, range_with_len};
 ghost use Rattle.arrays.specs.Batch.{rows_of};
 ghost use Rattle.table_versions.specs.Stored.{TableAt};
 ghost use Rattle.typed_plan.specs.Held.{tree_schemas};
@@ -11,17 +11,18 @@ ghost use Rattle.scan_exec.specs.Begun.{IsBegun, IsSourced, sourced_at};
 ghost use Rattle.scan_exec.specs.Given.{first_batches};
 ghost use Rattle.scan_exec.specs.Joined.{source_at};
 ghost use Rattle.opened_batches.specs.Narrow.{BeginsInFirst};
+ghost use Rattle.opened_batches.specs.Opened.{batches_in};
 
 use crate::join_source::{Sides, join_source};
 use crate::opened_table::OpenedTable;
 use crate::picker::Picker;
 use crate::rows::{Rows, Source};
 use crate::scan_source::scan_source;
-use array_select::Selection;
 use arrow_schema::DataType;
 use hash_seed::HashSeed;
 use scan_base::Predicate;
 use std::alloc::{AllocError, Global};
+use std::sync::Arc;
 use typed_plan::Plan;
 use typed_plan::laws::typed_predicates_name_columns;
 
@@ -42,8 +43,8 @@ pub(crate) struct Reading {
     pub(crate) to: usize,
 }
 
-// What gives the rows of a plan over a range of its first place, which begins in the first batch that is read. The tables are
-// those of its places, in order. The further places are read here.
+// What gives the rows of a plan over a range of its first place, which begins in the first batch that is read, and of which
+// each such batch has a row. The tables are those of its places, in order. The further places are read here.
 pub(crate) fn build(
     alloc: Global,
     plan: Plan,
@@ -53,6 +54,8 @@ pub(crate) fn build(
     requires typed { IsTypedTree (tree_of plan) }
     requires schemas { tree_schemas (tree_of plan) ≡ map (λ (table : TableAt). table.schema) tables.items }
     requires first { BeginsInFirst reading.from (first_batches tables.items) }
+    requires each { batches_in reading.from reading.to (first_batches tables.items)
+        ≡ range_with_len 0 (length (first_batches tables.items)) }
     ensures sourced { IfOk result IsSourced }
     ensures begun { IfOk result (λ made. IsBegun (tree_of plan) tables.items reading.from reading.to (sourced_at made)) }
     ensures few { IfOk result (λ made. is_place (tree_of plan) ≡ true →
@@ -100,10 +103,6 @@ impl Sourced {
             read,
             shown: self.columns,
         };
-        Ok(Rows {
-            source: self.source,
-            picker,
-            selection: Selection::new(alloc),
-        })
+        Ok(Rows::new(alloc, self.source, Arc::new(alloc, picker)?))
     }
 }

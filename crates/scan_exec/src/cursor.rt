@@ -1,8 +1,10 @@
 //! Going through the batches of a table in order.
 
 ghost use Rattle.std.specs.Prelude.{◌≡◌, ◌≤◌, ◌<◌, length};
+ghost use Rattle.std.specs.List.{range_with_len};
 ghost use Rattle.table_versions.specs.Stored.{table_of};
 ghost use Rattle.opened_batches.specs.Narrow.{BeginsInFirst};
+ghost use Rattle.opened_batches.specs.Opened.{batches_in};
 ghost use Rattle.scan_exec.specs.Placed.{IsPlaced, IsPart, Begins, Opens};
 
 use crate::opened_table::OpenedTable;
@@ -34,11 +36,13 @@ pub(crate) struct Cursor {
 }
 
 impl Cursor {
-    // Before the rows `from` up to, not with, `to` of a table, of which the first is one of its first batch.
+    // Before the rows `from` up to, not with, `to` of a table, of which the first is one of its first batch, and each batch has
+    // one.
     pub(crate) fn new(table: &OpenedTable, from: usize, to: usize) -> Cursor
         requires ordered { from ≤ to }
         requires within { from < to → to ≤ length (table_of table.now).rows }
         requires first { BeginsInFirst from table.now.batches }
+        requires each { batches_in from to table.now.batches ≡ range_with_len 0 (length table.now.batches) }
         ensures placed { IsPlaced table.now result }
         ensures begins { Begins from to result }
     {

@@ -1,6 +1,7 @@
 //! Tables of which a scan reads some batches alone.
 
-ghost use Rattle.std.specs.Prelude.{◌≡◌, ◌<◌, Some, length, slice_get};
+ghost use Rattle.std.specs.Prelude.{◌≡◌, ◌<◌, IfOk, Some, length, slice_get};
+ghost use Rattle.std.specs.Option.{option_to_list};
 ghost use Rattle.arrays.specs.Typed.{AreOfTypes};
 ghost use Rattle.table_versions.specs.Kept.{IsKept};
 ghost use Rattle.table_versions.specs.Stored.{table_of};
@@ -8,6 +9,7 @@ ghost use Rattle.opened_batches.specs.Narrow.{CanNarrow, narrowed};
 
 use arrays::Batch;
 use arrow_schema::Schema;
+use std::alloc::{AllocError, Global};
 use std::marker::Model;
 use table_versions::TableVersion;
 
@@ -67,6 +69,26 @@ impl OpenedTable {
     {
         let _kept = self.table.rows();
         self.rows
+    }
+
+    // How many batches there are.
+    pub(crate) fn batch_count(&self) -> usize
+        ensures { result ≡ length self.now.batches }
+    {
+        self.numbers.len()
+    }
+
+    // The table with one of the batches alone.
+    pub(crate) fn only(&self, alloc: Global, index: usize) -> Result<OpenedTable, AllocError>
+        requires { index < length self.now.batches }
+        ensures { IfOk result
+            (λ table. table ≡ record self.now { batches = option_to_list (slice_get self.now.batches index) }) }
+    {
+        let number = self.numbers[index];
+        let rows = self.table.batch(number).rows();
+        let mut numbers = Vec::with_capacity(alloc, 1)?;
+        numbers.push(number)?;
+        Ok(OpenedTable::new(self.table.share()?, numbers, rows))
     }
 
     // One of the batches, counted from 0 among them.

@@ -1,6 +1,8 @@
 //! The rows of one place.
 
-ghost use Rattle.std.specs.Prelude.{◌≡◌, length};
+ghost use Rattle.std.specs.Prelude.{◌≡◌, ◌≤◌, ◌<◌, [], IfOk, length};
+ghost use Rattle.table_versions.specs.Stored.{table_of};
+ghost use Rattle.scan_exec.specs.Parting.{begin_in, end_in, part_of};
 ghost use Rattle.scan_exec.specs.Picking.{IsPick, pick_of};
 ghost use Rattle.scan_exec.specs.Placed.{IsPlaced};
 ghost use Rattle.scan_exec.specs.Running.{FindsNext, picked_of};
@@ -52,5 +54,42 @@ impl PlaceRows {
             }
         }
         Ok(None)
+    }
+
+    // The first row of the range in a batch, counted from the batch's first row. The range begins in the first batch.
+    fn begin_in(&self, number: usize) -> usize
+        requires placed { IsPlaced self.now.table self.now.cursor }
+        requires there { number < length self.now.table.batches }
+        ensures { result ≡ begin_in self.now.table self.now.cursor number }
+    {
+        if number == 0 { self.cursor.from } else { 0 }
+    }
+
+    // The first row behind those of the range in a batch, counted from the batch's first row. The range ends in the last batch.
+    fn end_in(&self, number: usize) -> usize
+        requires placed { IsPlaced self.now.table self.now.cursor }
+        requires there { number < length self.now.table.batches }
+        requires few { self.now.cursor.to ≤ length (table_of self.now.table).rows }
+        ensures { result ≡ end_in self.now.table self.now.cursor number }
+    {
+        let (rows, count) = (self.table.batch(number).rows(), self.table.batch_count());
+        if number + 1 < count {
+            return rows;
+        }
+        rows - (self.table.rows() - self.cursor.to)
+    }
+
+    // The rows of the range in one batch of the table, as those of a table that has no other.
+    pub(crate) fn part(&self, alloc: Global, number: usize) -> Result<PlaceRows, AllocError>
+        requires placed { IsPlaced self.now.table self.now.cursor }
+        requires unopened { (place_at self.now).opened ≡ [] }
+        requires there { number < length (place_at self.now).batches }
+        ensures placed { IfOk result (λ part. IsPlaced part.table part.cursor) }
+        ensures part { IfOk result (λ part. place_at part ≡ part_of number (place_at self.now)) }
+    {
+        let (from, to) = (self.begin_in(number), self.end_in(number));
+        let table = self.table.only(alloc, number)?;
+        let cursor = Cursor::new(&table, from, to);
+        Ok(PlaceRows { table, cursor })
     }
 }

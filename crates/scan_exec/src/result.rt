@@ -9,8 +9,8 @@ use crate::build::Sourced;
 use crate::columns::picked;
 use crate::picker::Picker;
 use crate::rows::Rows;
-use array_select::Selection;
 use std::alloc::{AllocError, Global};
+use std::sync::Arc;
 use typed_plan::Columns;
 
 impl Sourced {
@@ -26,10 +26,6 @@ impl Sourced {
             read: self.columns,
             shown,
         };
-        Ok(Rows {
-            source: self.source,
-            picker,
-            selection: Selection::new(alloc),
-        })
+        Ok(Rows::new(alloc, self.source, Arc::new(alloc, picker)?))
     }
 }

@@ -1,8 +1,10 @@
 //! Rows, piece by piece: those of a place, or joined ones.
 
-ghost use Rattle.std.specs.Prelude.{◌≡◌, length};
+ghost use Rattle.std.specs.Prelude.{◌≡◌, ◌<◌, [], IfOk, length};
+ghost use Rattle.std.specs.Arc.{arc_value};
 ghost use Rattle.join_batches.specs.Joiner.{joined_types};
-ghost use Rattle.scan_exec.specs.Joined.{IsJoined, joined_at};
+ghost use Rattle.scan_exec.specs.Joined.{IsJoined, IsSource, joined_at, source_at};
+ghost use Rattle.scan_exec.specs.Parting.{ComeInOrder, part_of};
 ghost use Rattle.scan_exec.specs.Picking.{IsPick, pick_of};
 ghost use Rattle.scan_exec.specs.Running.{FindsNext, picked_of};
 
@@ -14,13 +16,14 @@ use array_select::Selection;
 use join_batches::Joiner;
 use std::alloc::{AllocError, Global};
 use std::marker::Model;
+use std::sync::Arc;
 
-// Rows of a source that are still to be given, and what is given of them.
+// Rows of a source that are still to be given, and what is given of them: parts of the source share that.
 #[cycle(rows)]
 #[derive(Drop)]
 pub(crate) struct Rows {
     pub(crate) source: Source,
-    pub(crate) picker: Picker,
+    pub(crate) picker: Arc<Picker>,
     // The rows that were chosen last. Its memory is used again.
     pub(crate) selection: Selection,
 }
@@ -43,6 +46,7 @@ pub(crate) struct Joining {
 
 impl Model for Rows {
     ghost use Rattle.std.specs.Prelude.{length};
+    ghost use Rattle.std.specs.Arc.{arc_value};
     ghost use Rattle.scan_exec.specs.Picking.{IsPick, pick_of};
     ghost use Rattle.scan_exec.specs.Running.{RowsAt, picked_of};
 
@@ -50,9 +54,9 @@ impl Model for Rows {
 
     ghost use Rattle.scan_exec.specs.Joined.{source_at, IsSource};
 
-    ghost view = { λ r. picked_of (pick_of r.picker) (source_at r.source) };
+    ghost view = { λ r. picked_of (pick_of (arc_value r.picker)) (source_at r.source) };
 
-    ghost invariant = { λ r. IsSource r.source × IsPick (length (source_at r.source).types) (pick_of r.picker) };
+    ghost invariant = { λ r. IsSource r.source × IsPick (length (source_at r.source).types) (pick_of (arc_value r.picker)) };
 
     ghost size = { λ r. r.depth };
 
@@ -77,13 +81,48 @@ impl Rows {
 }
 
 impl Rows {
+    // What is picked of a source.
+    pub(crate) fn new(alloc: Global, source: Source, picker: Arc<Picker>) -> Rows
+        requires source { IsSource source }
+        requires pick { IsPick (length (source_at source).types) (pick_of (arc_value picker)) }
+        ensures { result ≡ picked_of (pick_of (arc_value picker)) (source_at source) }
+    {
+        Rows {
+            source,
+            picker,
+            selection: Selection::new(alloc),
+        }
+    }
+
     // How many batches of the first place were opened.
     pub(crate) fn opened(&self) -> usize
-        ensures { result ≡ length self.now.opened }
+        ensures opened { result ≡ length self.now.opened }
+        ensures ordered { ComeInOrder self.now }
     {
         match &self.source {
             Source::Place(place) => place.cursor.opened,
             Source::Joined(left, _) => left.opened(),
+        }
+    }
+
+    // The rows of one batch of the first place, of rows of which no batch was opened. Tables, filters and the right sides of
+    // joins are shared.
+    pub(crate) fn part(&self, alloc: Global, number: usize) -> Result<Rows, AllocError>
+        requires unopened { self.now.opened ≡ [] }
+        requires there { number < length self.now.batches }
+        ensures { IfOk result (λ part. part ≡ part_of number self.now) }
+    {
+        match &self.source {
+            Source::Place(place) => {
+                let source = Source::Place(place.part(alloc, number)?);
+                Ok(Rows::new(alloc, source, Arc::try_clone(&self.picker)?))
+            }
+            Source::Joined(left, joining) => {
+                let left = Box::new(alloc, left.part(alloc, number)?)?;
+                let joiner = joining.joiner.again(alloc)?;
+                let source = Source::Joined(left, Joining { joiner, number: 0 });
+                Ok(Rows::new(alloc, source, Arc::try_clone(&self.picker)?))
+            }
         }
     }
 }

@@ -1,6 +1,6 @@
 //! Scans.
 
-ghost use Rattle.std.specs.Prelude.{◌≡◌, ◌≤◌, false, IfOk};
+ghost use Rattle.std.specs.Prelude.{◌≡◌, ◌≤◌, ◌<◌, [], false, IfOk, IfSome, length};
 ghost use Rattle.std.specs.List.{list_any};
 ghost use Rattle.table_versions.specs.Stored.{CatalogAt, tables_of};
 ghost use Rattle.table_versions.specs.Table.{is_long_text};
@@ -9,6 +9,7 @@ ghost use Rattle.typed_plan.specs.Plan.{plan_rows};
 ghost use Rattle.typed_plan.specs.View.{plan_of};
 ghost use Rattle.scan_base.specs.Limits.{most_answer_rows};
 ghost use Rattle.scan_exec.specs.Answering.{CountsNext, IsGiving, giving_at};
+ghost use Rattle.scan_exec.specs.Morsels.{HasMorsels, morsel_of, of_first};
 ghost use Rattle.scan_exec.specs.Scan.{Gives, IsBeginning, left};
 
 use crate::answer::{Answer, answer_of};
@@ -23,6 +24,7 @@ use scan_base::Fault;
 use std::alloc::{AllocError, Global};
 use std::marker::Model;
 use std::ops::Range;
+use std::sync::Arc;
 use typed_plan::TypedPlan;
 
 // How many rows an answer has at most.
@@ -32,7 +34,7 @@ const MAX_ANSWER_ROWS: usize = 67_108_864;
 /// each with the batch of the first place of which it comes; which batches are to be opened, and which were; and what
 /// refused the scan.
 pub struct Scan {
-    schema: Schema,
+    schema: Arc<Schema>,
     answer: Answer,
     // The batches that are to be opened: those of the further places, and then those of the first.
     batches: Vec<(usize, usize)>,
@@ -43,11 +45,12 @@ pub struct Scan {
 
 impl Model for Scan {
     ghost use Rattle.scan_exec.specs.Answering.{IsGiving, IsScan, giving_at, scan_at};
+    ghost use Rattle.std.specs.Arc.{arc_value};
     ghost use Rattle.scan_exec.specs.Scan.{ScanAt};
 
     ghost Value = { ScanAt };
 
-    ghost view = { λ s. scan_at s.schema (giving_at s.answer) s.batches.items s.further s.given s.refused };
+    ghost view = { λ s. scan_at (arc_value s.schema) (giving_at s.answer) s.batches.items s.further s.given s.refused };
 
     ghost invariant = { λ s. IsGiving s.answer × IsScan (giving_at s.answer) s.batches.items s.further s.given };
 }
@@ -98,7 +101,7 @@ impl Scan {
         let tables = opened_tables(alloc, tables.as_slice(), lists)?;
         let sourced = build(alloc, plan, tables, Reading { seed, from, to })?;
         Ok(Scan {
-            schema,
+            schema: Arc::new(alloc, schema)?,
             answer: answer_of(alloc, sourced, output, seed)?,
             batches,
             further,
@@ -142,6 +145,50 @@ impl Scan {
         ensures { result.now ≡ self.now.opened }
     {
         &self.batches.as_slice()[..self.further + self.answer.opened()]
+    }
+
+    /// How many morsels the scan has: one for each batch of the first place that is to be opened. Its rows are those of its
+    /// morsels, in order. `None` for a scan that makes groups, and for one that has begun: that opened a batch of the first
+    /// place, gave rows, or was refused.
+    pub fn morsels(&self) -> Option<usize>
+        ensures { IfSome result (HasMorsels self.now) }
+    {
+        let Answer::Rows(rows) = &self.answer else {
+            return None;
+        };
+        if rows.opened() > 0 || self.given > 0 || self.refused.is_some() {
+            return None;
+        }
+        Some(self.batches.len() - self.further)
+    }
+
+    /// A morsel of a scan of which no batch of the first place was opened: the rows of one such batch, counted from 0 in the
+    /// order of opening, as a scan of their own. It shares tables, filters and the right sides of joins, which are not built
+    /// again, and takes memory for a few handles. Threads may ask one scan for morsels at the same time.
+    ///
+    /// # Errors
+    ///
+    /// `AllocError` where memory is refused. A scan that makes groups has no morsel, and answers it too.
+    pub fn morsel(&self, alloc: Global, number: usize) -> Result<Scan, AllocError>
+        requires unopened { of_first self.now.opened ≡ [] }
+        requires there { number < length (of_first self.now.batches) }
+        ensures { IfOk result (λ morsel. morsel ≡ morsel_of self.now number) }
+    {
+        let Answer::Rows(rows) = &self.answer else {
+            return Err(AllocError);
+        };
+        let _ordered = rows.opened();
+        let rows = rows.part(alloc, number)?;
+        let mut batches = Vec::with_capacity(alloc, 1)?;
+        batches.push(self.batches[self.further + number])?;
+        Ok(Scan {
+            schema: Arc::try_clone(&self.schema)?,
+            answer: Answer::Rows(rows),
+            batches,
+            further: 0,
+            given: 0,
+            refused: None,
+        })
     }
 }
 

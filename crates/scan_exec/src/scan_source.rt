@@ -1,7 +1,7 @@
 //! What gives columns of the rows of a table.
 
 ghost use Rattle.std.specs.Prelude.{◌≡◌, ◌≤◌, [], ◌∷◌, IfOk, IsTrue, length, map};
-ghost use Rattle.std.specs.List.{flat_map};
+ghost use Rattle.std.specs.List.{flat_map, range_with_len};
 ghost use Rattle.arrays.specs.Batch.{rows_of};
 ghost use Rattle.table_versions.specs.Table.{Name};
 ghost use Rattle.typed_plan.specs.Plan.{scan};
@@ -10,6 +10,7 @@ ghost use Rattle.scan_exec.specs.Begun.{IsBegun, IsSourced, sourced_at};
 ghost use Rattle.scan_exec.specs.Chosen.{are_within};
 ghost use Rattle.scan_exec.specs.Joined.{source_at};
 ghost use Rattle.opened_batches.specs.Narrow.{BeginsInFirst};
+ghost use Rattle.opened_batches.specs.Opened.{batches_in};
 
 use crate::build::{Reading, Sourced};
 use crate::columns::{numbers_below, picked};
@@ -30,6 +31,7 @@ pub(crate) fn scan_source(
 ) -> Result<Sourced, AllocError>
     requires there { IsTrue (has_columns (length table.schema.fields) columns.now) }
     requires first { BeginsInFirst reading.from table.batches }
+    requires each { batches_in reading.from reading.to table.batches ≡ range_with_len 0 (length table.batches) }
     ensures sourced { IfOk result IsSourced }
     ensures begun { IfOk result (λ made. (name : Name) →
         IsBegun (scan name table.schema columns.now) (table ∷ []) reading.from reading.to (sourced_at made)) }

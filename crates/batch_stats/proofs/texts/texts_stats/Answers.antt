@@ -7,10 +7,10 @@ use Rattle.arrays.specs.Validity.{is_valid, where_valid}
 use Rattle.arrays.specs.declared.layout.Layout.TheVariants.{Texts}
 use Rattle.batch_stats.specs.Stats.{ends_of}
 use Rattle.batch_stats.specs.inside.Slots.{ends_with}
-use Rattle.batch_stats.specs.inside.TextSlots.{AreEndsAt, IsTextAt}
+use Rattle.batch_stats.specs.inside.TextSlots.{AreEndsAt, IsKeyed, IsTextAt}
 use Rattle.batch_stats.specs.declared.texts.SlotText.{SlotText}
 use Rattle.batch_stats.proofs.Passes.{from_first, nulls_are, where_some}
-use Rattle.batch_stats.proofs.TextPlaces.{place_below, text_held}
+use Rattle.batch_stats.proofs.TextPlaces.{keyed_there, place_below, text_held}
 use Rattle.batch_stats.proofs.texts.texts_stats.Goals as goal
 
 pub returns-in_default : goal.returns-in_default
@@ -31,7 +31,7 @@ returns c =
     let to : ℕ = first + c.args.len in
     let found = c.in-Some.ensures.some in
     let range = c.with_slots-range.result in
-    let text : SlotText = record { place = start; text = c.get.result } in
+    let text : SlotText = record { place = start; text = c.get.result; key = c.slot_key.result } in
     let valid : is_valid cells.validity start ≡ true = sym (ap (λ v. is_valid v start) c.validity.ensures) ∙ found.valid in
     let one : IsTextAt slot first to text = record { low = found.low; high = found.high; is = where_some cells.validity value start valid ∙ ap Text (sym c.get.ensures) } in
     let low : first ≤ start + 1 = let at : first ≤ start = found.low in omega (arith, at) in
@@ -47,3 +47,12 @@ returns c =
           ∙ rest;
       slots = (place_below slot first c.args.len range.least both.0, place_below slot first c.args.len range.greatest both.1);
     }
+
+pub with_slots-range-requires-clause-keys : goal.with_slots-range-requires-clause-keys
+with_slots-range-requires-clause-keys c =
+    let cells = c.args.cells.now in
+    let start = c.in-Some.start in
+    let text : SlotText = record { place = start; text = c.get.result; key = c.slot_key.result } in
+    let keyed : IsKeyed text = keyed_there cells start c.slot_key.result c.offsets.result.now c.bytes.result.now c.offsets.ensures c.bytes.ensures
+    text refl c.get.ensures c.slot_key.ensures.bytes c.slot_key.ensures.key in
+    (keyed, keyed)

@@ -5,9 +5,9 @@ use Rattle.flight_calls.proofs.answer.send_stream.Given as goal
 
 abbrev pub invariant-loop-payload : goal.invariant-loop-payload
 invariant-loop-payload g l = record {
-  sent : HasSent l.initial.stream l.stream (g.W.Output.contents l.initial.writer) (g.W.Output.contents l.writer) l.initial.outbox l.outbox;
+  sent : HasSent (g.P.Payloads.stream l.initial.payloads) (g.P.Payloads.stream l.payloads) (g.W.Output.contents l.initial.writer) (g.W.Output.contents l.writer) l.initial.outbox l.outbox;
   count : g.W.Output.failures l.writer ≡ g.W.Output.failures l.initial.writer;
 }
 
 abbrev pub decreases-loop-payload : goal.decreases-loop-payload
-decreases-loop-payload g l = turns l.stream
+decreases-loop-payload g l = turns (g.P.Payloads.stream l.payloads)

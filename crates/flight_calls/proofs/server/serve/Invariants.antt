@@ -6,7 +6,7 @@ use Rattle.flight_calls.proofs.server.serve.Given as goal
 
 abbrev pub invariant-loop-request : goal.invariant-loop-request
 invariant-loop-request g l = record {
-  progress : Progress g.B.Backend.moves l.initial.options
+  progress : Progress g.B.Backend.moves l.setting.options
       (connection_of (g.R.Input.remaining l.initial.reader) (g.W.Output.contents l.initial.writer)
       (g.R.Input.failures l.initial.reader) (g.W.Output.failures l.initial.writer) (g.B.Backend.seat l.initial.backend))
       (connection_of (g.R.Input.remaining l.reader) (g.W.Output.contents l.writer)

@@ -7,13 +7,13 @@ use Rattle.flight_core.proofs.Runs.{run_more, whole_run, refusals_leave_nothing,
 use Rattle.flight_core.proofs.machine.run.Goals as goal
 
 pub loop-event-preserved : goal.loop-event-preserved
-loop-event-preserved c = record {
+loop-event-preserved g c = record {
   run = rw c.in_ok-push.ensures.items (run_more c.args.events.now c.loop-event.replies.items c.loop-event.plain c.step-reply.new.plain c.loop-event.event-index c.event-item.result _ c.loop-event-test.true c.event-item.is c.loop-event.invariant.run c.step-reply.ensures.step);
   puts = c.step-reply.ensures.puts c.loop-event.invariant.puts;
 }
 
 pub returns-clause-ok : goal.returns-clause-ok
-returns-clause-ok c =
+returns-clause-ok g c =
     let asked = map asked_in c.args.events.now in
     let replies = c.loop-event.replies.items in
     let log = c.loop-event.plain in
@@ -21,7 +21,7 @@ returns-clause-ok c =
     (log, run, run_is_log [] asked replies log none_is_log run, versions_are_databases (puts_of log) c.loop-event.invariant.puts, refusals_leave_nothing asked replies log run)
 
 pub returns-clause-headline : goal.returns-clause-headline
-returns-clause-headline c =
+returns-clause-headline g c =
     let asked = map asked_in c.args.events.now in
     let replies = c.loop-event.replies.items in
     let log = c.loop-event.plain in

@@ -1,4 +1,4 @@
-use Rattle.std.proofs.Common.{◌≡◌, Bool, true, false, ℕ, sym, refl}
+use Rattle.std.proofs.Common.{◌≡◌, true, false, ℕ, sym, refl}
 use Rattle.scan_base.specs.View.{pred_of}
 use Rattle.rewrite.proofs.Naming.{weaker}
 use Rattle.rewrite.proofs.literals.fold_atom.Goals as goal

@@ -1,9 +1,9 @@
 use Rattle.std.proofs.Common.{◌≡◌, ◌≤◌, ◌<◌, inl, refl, ℕ, List, [], ◌∷◌, ◌++◌, length, map, Option, Some, ap, sym, ◌∙◌, subst, arith, rules, true, false}
-use Rattle.std.specs.List.{flat_map}
+use Rattle.std.specs.List.{flat_map, range_with_len}
 use Rattle.std.specs.Option.{option_to_list}
 use Rattle.std.proofs.lemmas.List.{length-append, length-map, map-append}
 use Rattle.std.proofs.lemmas.Result.{IfOk-weaker}
-use Rattle.arrays.specs.Batch.{rows_of}
+use Rattle.arrays.specs.Batch.{BatchAt, rows_of}
 use Rattle.scan_base.specs.Predicate.{Pred}
 use Rattle.scan_base.specs.View.{pred_of}
 use Rattle.table_versions.specs.Stored.{TableAt}
@@ -20,11 +20,13 @@ use Rattle.scan_exec.specs.Begun.{CanJoin, IsBegun, JoinsRows, sourced_at}
 use Rattle.scan_exec.specs.Given.{first_batches}
 use Rattle.scan_exec.specs.Joined.{source_at}
 use Rattle.opened_batches.specs.Narrow.{BeginsInFirst}
+use Rattle.opened_batches.specs.Opened.{batches_in}
 use Rattle.scan_exec.specs.Picking.{IsPick}
 use Rattle.scan_exec.specs.Running.{picked_of}
 use Rattle.scan_exec.proofs.BeginPick.{pick_with}
 use Rattle.scan_exec.proofs.BeginPlan.{schemas_of, sides_tables, can_join, joined_begun, tree_some}
 use Rattle.scan_exec.proofs.BeginTree.{filter_begun, filter_pick}
+use Rattle.scan_exec.proofs.NarrowLaw.{all_whole}
 use Rattle.scan_exec.proofs.Sizes.{tree_size}
 use Rattle.scan_exec.proofs.build.+build.Goals as goal
 
@@ -92,6 +94,8 @@ build-requires-in-Join t c =
     let popped = c.pop-in-Join.new.self.items in
     let all = with_last c.args.tables.items popped c.pop-in-Join.result c.in_ok-table-in-Join.table c.pop-in-Join.ensures.items c.in_ok-table-in-Join.ensures.ok_part in
     let sides = sides_tables left right c.args.tables.items popped c.in_ok-table-in-Join.table typed.2 (sym (ap tree_schemas tree) ∙ c.requires.schemas) all in
+    let first : first_batches c.args.tables.items ≡ first_batches popped = ap first_batches all ∙ first_front popped c.in_ok-table-in-Join.table
+    (omega (arith, tree_some left, ap length sides.0, length-map popped (λ (table : TableAt). table.schema))) in
     let smaller : tree_size (tree_of c.into_inner-in-Join.result) < tree_size (tree_of c.args.plan) =
     omega (arith, ap (λ (plan : Plan). tree_size (tree_of plan)) c.into_inner-in-Join.ensures, ap tree_size tree) in (
       first_of (omega (arith, smaller), search (rules, smaller)),
@@ -99,8 +103,10 @@ build-requires-in-Join t c =
         subst (λ (plan : Plan). IsTypedTree (tree_of plan)) (sym c.into_inner-in-Join.ensures) typed.0,
         (
           ap (λ (plan : Plan). tree_schemas (tree_of plan)) c.into_inner-in-Join.ensures ∙ sides.0,
-          subst (BeginsInFirst c.args.reading.from) (ap first_batches all ∙ first_front popped c.in_ok-table-in-Join.table
-              (omega (arith, tree_some left, ap length sides.0, length-map popped (λ (table : TableAt). table.schema)))) c.requires.first,
+          (
+            subst (BeginsInFirst c.args.reading.from) first c.requires.first,
+            subst (λ (batches : List BatchAt). batches_in c.args.reading.from c.args.reading.to batches ≡ range_with_len 0 (length batches)) first c.requires.each,
+          ),
         ),
       ),
     )
@@ -121,7 +127,14 @@ build-requires-in-Join-2 t c =
       first_of (omega (arith, smaller), search (rules, smaller)),
       (
         subst (λ (plan : Plan). IsTypedTree (tree_of plan)) (sym c.into_inner-in-Join-2.ensures) typed.1,
-        (ap (λ (plan : Plan). tree_schemas (tree_of plan)) c.into_inner-in-Join-2.ensures ∙ sides.1 ∙ ap schemas_of (sym lasts), inl refl),
+        (
+          ap (λ (plan : Plan). tree_schemas (tree_of plan)) c.into_inner-in-Join-2.ensures ∙ sides.1 ∙ ap schemas_of (sym lasts),
+          (
+            inl refl,
+            subst (λ (tables : List TableAt). batches_in 0 c.rows-to.result (first_batches tables) ≡ range_with_len 0 (length (first_batches tables))) (sym lasts)
+                (all_whole table c.rows-to.result c.rows-to.ensures.kept),
+          ),
+        ),
       ),
     )
 

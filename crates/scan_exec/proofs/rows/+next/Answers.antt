@@ -1,8 +1,12 @@
 use Rattle.std.proofs.Common.{◌≡◌, ℕ, [], length, refl, sym, ap, ◌∙◌, subst, arith}
+use Rattle.std.specs.Arc.{arc_value}
 use Rattle.join_batches.specs.Joiner.{JoinerAt, joined_types, joined_of, GivesJoined}
-use Rattle.scan_exec.specs.Joined.{joined_at, IsJoined}
+use Rattle.scan_exec.specs.Joined.{joined_at, source_at, IsJoined}
 use Rattle.scan_exec.specs.Picking.{IsPick, pick_of}
-use Rattle.scan_exec.specs.Running.{RowsAt, FindsPiece, GoesOn}
+use Rattle.scan_exec.specs.Running.{RowsAt, FindsNext, FindsPiece, GoesOn, picked_of}
+use Rattle.scan_exec.specs.declared.picker.Picker.{Picker}
+use Rattle.scan_exec.specs.declared.rows.Source.{Source}
+use Rattle.scan_exec.specs.Sources.{place_at}
 use Rattle.scan_exec.specs.declared.piece.Piece.{Piece}
 use Rattle.arrays.specs.Batch.{rows_of}
 use Rattle.scan_exec.specs.Picking.{given_numbered}
@@ -100,4 +104,26 @@ pub Rows::next-invariant_of-self-in-Joined : goal.Rows::next-invariant_of-self-i
 Rows::next-invariant_of-self-in-Joined t c =
     let is = rw c.in-Joined.is at c.self.invariant in
     let done = c.next-in-Joined.ensures in
-    (done.joined, subst (λ (n : ℕ). IsPick n (pick_of c.self.inside.picker)) (ap length (sym done.types)) is.1)
+    (done.joined, subst (λ (n : ℕ). IsPick n (pick_of (arc_value c.self.inside.picker))) (ap length (sym done.types)) is.1)
+
+pub Rows::next-returns-in-Place : goal.Rows::next-returns-in-Place
+Rows::next-returns-in-Place t c =
+    let picker = arc_value c.self.inside.picker in
+    let after = c.next.new.self in
+    subst (λ (before : RowsAt). FindsNext before c.next.result (picked_of (pick_of picker) (place_at after)))
+    (ap (λ (source : Source). picked_of (pick_of picker) (source_at source)) (sym c.in-Place.is) ∙ c.self.view_is)
+    (subst (λ (p : Picker). FindsNext (picked_of (pick_of p) (place_at c.in-Place.place)) c.next.result (picked_of (pick_of p) (place_at after)))
+    c.deref.ensures c.next.ensures.found)
+
+pub Rows::next-returns-in-Joined : goal.Rows::next-returns-in-Joined
+Rows::next-returns-in-Joined t c =
+    let picker = arc_value c.self.inside.picker in
+    let joining = c.in-Joined.joining in
+    let after = c.next-in-Joined.new.self in
+    let left = c.next-in-Joined.new.left in
+    subst (λ (before : RowsAt). FindsNext before c.next-in-Joined.result (picked_of (pick_of picker) (joined_at left after.joiner after.number)))
+    (ap (λ (source : Source). picked_of (pick_of picker) (source_at source)) (sym c.in-Joined.is) ∙ c.self.view_is)
+    (subst (λ (rows : RowsAt). FindsNext (picked_of (pick_of picker) (joined_at rows joining.joiner joining.number)) c.next-in-Joined.result
+    (picked_of (pick_of picker) (joined_at left after.joiner after.number))) c.deref_mut.ensures.value
+    (subst (λ (p : Picker). FindsNext (picked_of (pick_of p) (joined_at c.deref_mut.result.now joining.joiner joining.number)) c.next-in-Joined.result
+    (picked_of (pick_of p) (joined_at left after.joiner after.number))) c.deref-in-Joined.ensures c.next-in-Joined.ensures.found))

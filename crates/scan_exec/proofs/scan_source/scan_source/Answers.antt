@@ -1,4 +1,4 @@
-use Rattle.std.proofs.Common.{◌≡◌, ℕ, true, List, [], ◌∷◌, length, map, max, min, ap, sym, ◌∙◌, subst}
+use Rattle.std.proofs.Common.{◌≡◌, ℕ, true, List, [], ◌∷◌, length, map, max, min, ap, sym, ◌∙◌, subst, arith}
 use Rattle.std.specs.List.{range_with_len}
 use Rattle.arrow_schema.specs.declared.schema.Field.{Field}
 use Rattle.arrow_schema.specs.declared.schema.Schema.{Schema}
@@ -12,6 +12,8 @@ use Rattle.scan_exec.specs.Running.{picked_of}
 use Rattle.scan_exec.proofs.Batched.{from_few}
 use Rattle.scan_exec.proofs.BeginPick.{numbers_within}
 use Rattle.scan_exec.proofs.BeginTree.{scan_begun, scan_pick, pick_is}
+use Rattle.opened_batches.specs.Opened.{batches_in}
+use Rattle.scan_exec.proofs.Opening.{in_clamped}
 use Rattle.scan_exec.proofs.Piecing.{place_of}
 use Rattle.std.proofs.lemmas.List.FromFn.{length-range_with_len}
 use Rattle.scan_exec.proofs.scan_source.scan_source.Goals as goal
@@ -71,3 +73,9 @@ returns-clause-begun c name =
 
 pub returns-clause-few : goal.returns-clause-few
 returns-clause-few c = from_few 0 c.new-cursor.result.at c.new-cursor.result.to c.args.table.batches
+
+pub new-cursor-requires-clause-each : goal.new-cursor-requires-clause-each
+new-cursor-requires-clause-each c =
+    let range : c.max-to.result ≡ max (min c.args.reading.to c.rows.result) c.args.reading.from = c.max-to.ensures ∙ ap (λ (n : ℕ). max n c.args.reading.from) c.min.ensures in
+    ap (λ (n : ℕ). batches_in c.args.reading.from n c.args.table.batches) range
+    ∙ in_clamped c.args.reading.from c.args.reading.to c.rows.result c.args.table.batches (omega (arith, c.rows.ensures.kept.counted)) ∙ c.requires.each

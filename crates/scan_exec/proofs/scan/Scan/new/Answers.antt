@@ -1,5 +1,6 @@
 use Rattle.std.proofs.Common.{All, ◌≡◌, ◌<◌, ◌≤◌, ◌++◌, ◌∷◌, [], ℕ, true, false, List, length, map, drop, get_or, Option, None, ap, sym, ◌∙◌, subst, refl, arith, rules}
-use Rattle.std.specs.List.{flat_map, list_any}
+use Rattle.std.specs.Arc.{arc_value}
+use Rattle.std.specs.List.{flat_map, list_any, range_with_len}
 use Rattle.arrow_schema.specs.declared.schema.Schema.{Schema}
 use Rattle.arrays.specs.Batch.{rows_of}
 use Rattle.scan_base.specs.Limits.{most_rows}
@@ -23,7 +24,7 @@ use Rattle.scan_exec.specs.Given.{first_batches}
 use Rattle.opened_batches.specs.Listed.{AreLists}
 use Rattle.scan_exec.specs.OpenedTables.{AreKept}
 use Rattle.opened_batches.specs.Narrow.{BeginsInFirst}
-use Rattle.opened_batches.specs.Opened.{first_opened, further_opened, opened_numbers, numbered_batches, where_parts}
+use Rattle.opened_batches.specs.Opened.{batches_in, first_opened, further_opened, opened_numbers, numbered_batches, where_parts}
 use Rattle.scan_exec.specs.OpenedTables.{CanAll, narrow_all}
 use Rattle.rewrite.specs.Same.{StandsFor}
 use Rattle.scan_exec.specs.Scan.{IsBeginning}
@@ -136,6 +137,12 @@ build-requires-clause-first c =
     let tables = c.in_ok-tables.ensures ∙ ap (narrow_all (numbers_of c.in_ok-lists.lists.items)) (c.as_slice-3.ensures.value ∙ c.into_parts-tables.ensures.tables ∙ c.in_ok-rewrite.ensures.same.tables) in
     subst (λ (ts : List TableAt). BeginsInFirst c.index-first.result.now.from (first_batches ts)) (sym tables) known.begins
 
+pub build-requires-clause-each : goal.build-requires-clause-each
+build-requires-clause-each c =
+    let known = all_laws c.args.plan c.in_ok-rewrite.field-0 c.args.range.start c.args.range.end c.in_ok-lists.lists.items c.index-first.result.now c.plan-typed.ensures.typed c.tables-columns.ensures.columns c.skipping_keeps_rows.ensures c.in_ok-rewrite.ensures.same c.in_ok-lists.ensures.kept c.in_ok-lists.ensures.numbers c.in_ok-lists.ensures.lists (list_at c.in_ok-lists.lists.items c.index-first.result.now c.index-first.ensures) in
+    let tables = c.in_ok-tables.ensures ∙ ap (narrow_all (numbers_of c.in_ok-lists.lists.items)) (c.as_slice-3.ensures.value ∙ c.into_parts-tables.ensures.tables ∙ c.in_ok-rewrite.ensures.same.tables) in
+    subst (λ (ts : List TableAt). batches_in c.index-first.result.now.from c.index-first.result.now.to (first_batches ts) ≡ range_with_len 0 (length (first_batches ts))) (sym tables) known.each
+
 pub answer_of-requires-clause-output : goal.answer_of-requires-clause-output
 answer_of-requires-clause-output c =
     subst (λ (output : Output). HasOutput output c.in_ok-sourced.sourced.types.items) (sym c.into_parts-tables.ensures.output)
@@ -164,7 +171,7 @@ pub returns-clause-begins : goal.returns-clause-begins
 returns-clause-begins c =
     begins c.args.plan c.in_ok-rewrite.field-0 c.args.range.start c.args.range.end c.in_ok-lists.lists.items c.index-first.result.now c.plan-typed.ensures.typed c.tables-columns.ensures.columns c.skipping_keeps_rows.ensures c.in_ok-rewrite.ensures.same c.in_ok-lists.ensures.kept c.in_ok-lists.ensures.numbers c.in_ok-lists.ensures.lists (list_at c.in_ok-lists.lists.items c.index-first.result.now c.index-first.ensures)
     c.into_parts-tables.ensures.typed c.into_parts-tables.result.1 c.in_ok-tables.tables.items c.in_ok-sourced.sourced c.into_parts-tables.ensures.plan (c.in_ok-tables.ensures ∙ ap (narrow_all (numbers_of c.in_ok-lists.lists.items)) (c.as_slice-3.ensures.value ∙ c.into_parts-tables.ensures.tables ∙ c.in_ok-rewrite.ensures.same.tables)) c.in_ok-sourced.ensures.begun
-    c.into_parts-tables.result.2 (giving_at c.in_ok-answer_of.field-0) c.into_parts-tables.result.3 c.in_ok-batches.batches.items c.push_numbers.new.batches.items c.len-further.result c.into_parts-tables.ensures.output c.into_parts-tables.ensures.schema c.in_ok-answer_of.ensures.answer (c.in_ok-batches.ensures ∙ ap (λ (some : List OpenedList). numbered_batches 1 (drop 1 (numbers_of some))) c.as_slice.ensures.value) (c.in_ok-push_numbers.ensures ∙ ap (λ (ns : List ℕ). c.in_ok-batches.batches.items ++ map (λ number. (0, number)) ns) c.as_slice-2.ensures.value) (search rules)
+    c.into_parts-tables.result.2 (giving_at c.in_ok-answer_of.field-0) (arc_value c.in_ok-new.field-0) c.in_ok-batches.batches.items c.push_numbers.new.batches.items c.len-further.result c.into_parts-tables.ensures.output (c.in_ok-new.ensures.ok ∙ c.into_parts-tables.ensures.schema) c.in_ok-answer_of.ensures.answer (c.in_ok-batches.ensures ∙ ap (λ (some : List OpenedList). numbered_batches 1 (drop 1 (numbers_of some))) c.as_slice.ensures.value) (c.in_ok-push_numbers.ensures ∙ ap (λ (ns : List ℕ). c.in_ok-batches.batches.items ++ map (λ number. (0, number)) ns) c.as_slice-2.ensures.value) (search rules)
 
 pub returns-clause-rows : goal.returns-clause-rows
 returns-clause-rows c catalog held =

@@ -1,0 +1,15 @@
+use Rattle.std.proofs.Common.{◌≡◌, None}
+use Rattle.table_versions.specs.Table.{Table}
+use Rattle.flight_info.specs.Payloads.{FitMessages}
+use Rattle.fetch_stream.specs.Streams.{HasGiven, opened}
+use Rattle.fetch_stream.proofs.Answering.{turns}
+use Rattle.fetch_stream.proofs.fetch.CollectedReadsPayloads.read.Given as goal
+
+abbrev pub invariant-loop-payload : goal.invariant-loop-payload
+invariant-loop-payload g l = record {
+  given : (answer : Table) → g.P.Payloads.stream l.fn.payloads ≡ opened answer → ((g.P.Payloads.stream l.payloads).refused ≡ None) × HasGiven answer l.self.payloads.items (g.P.Payloads.stream l.payloads);
+  fits : FitMessages l.self.payloads.items;
+}
+
+abbrev pub decreases-loop-payload : goal.decreases-loop-payload
+decreases-loop-payload g l = turns (g.P.Payloads.stream l.payloads)

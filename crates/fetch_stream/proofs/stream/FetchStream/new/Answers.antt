@@ -1,9 +1,0 @@
-use Rattle.std.proofs.Common.{refl}
-use Rattle.table_versions.specs.Stored.{tables_of}
-use Rattle.flight_info.specs.Tables.{tables_listed}
-use Rattle.fetch_stream.proofs.stream.FetchStream.new.Goals as goal
-
-pub returns-in_ok-open_tables-in-Tables-clause-opens : goal.returns-in_ok-open_tables-in-Tables-clause-opens
-returns-in_ok-open_tables-in-Tables-clause-opens c =
-    let said = rw c.catalog-catalog.ensures at c.in_ok-open_tables-in-Tables.ensures in
-    rw c.in-Tables.is (tables_listed (tables_of c.args.snapshot.now.catalog), refl, said)

@@ -1,0 +1,91 @@
+//! Who makes the payloads of a stream, and who reads them.
+
+ghost use Rattle.std.specs.Prelude.{Result};
+ghost use Rattle.scan_base.specs.declared.fault.Fault.{Fault as FaultAt};
+ghost use Rattle.fetch_stream.specs.Streams.{StreamAt, Gives};
+
+use crate::payload::Payload;
+use crate::stream::FetchStream;
+use scan_base::Fault;
+use std::alloc::Global;
+
+/// The payloads of an answer, one at a time, whoever makes them.
+pub trait Payloads {
+    // What is still to come of the answer.
+    ghost stream: { Self → StreamAt };
+
+    /// The next payload, as that of a [`FetchStream`], and `None` behind the last one.
+    ///
+    /// # Errors
+    ///
+    /// F20 (`Fault::ResultTooLarge`) where the answer has more than 67,108,864 rows, behind a beginning of it; F21
+    /// (`Fault::OutOfMemory`) where memory is refused. What refuses payloads is answered from then on.
+    fn next(&mut self, alloc: Global) -> Result<Option<Payload>, Fault>
+        ensures { Gives (stream self.old) result (stream self.new) };
+}
+
+impl Payloads for FetchStream {
+    ghost stream = { λ s. s };
+
+    fn next(&mut self, alloc: Global) -> Result<Option<Payload>, Fault> {
+        FetchStream::next(self, alloc)
+    }
+}
+
+/// Who reads the payloads of an answer, each before the next one is asked for.
+pub trait ReadsPayloads {
+    // What has to hold before it reads.
+    ghost takes: { Self → Type 0 };
+
+    // What comes of reading an answer of which this is still to come.
+    ghost reads: { Self → StreamAt → Result (Unit {0}) FaultAt → Self → Type 0 };
+
+    /// Reads payloads, up to the end of their answer or up to where the reader stops.
+    ///
+    /// # Errors
+    ///
+    /// The reader's own.
+    fn read<P: Payloads>(&mut self, alloc: Global, payloads: &mut P) -> Result<(), Fault>
+        requires { takes self.old }
+        ensures { reads self.old (P.stream payloads.old) result self.new };
+}
+
+/// Who makes the payloads of a fetch: the thread that reads them, or others beside it. What is read is the same.
+pub trait Executor {
+    /// Has the payloads of a stream made, as many workers as it asks for helping at most, and read by this reader.
+    ///
+    /// # Errors
+    ///
+    /// Those of the reader.
+    fn execute<S: ReadsPayloads>(
+        &self,
+        alloc: Global,
+        stream: FetchStream,
+        reader: &mut S,
+    ) -> Result<(), Fault>
+        requires { S.takes reader.old }
+        ensures { S.reads reader.old stream result reader.new };
+}
+
+/// The thread that reads makes each payload itself, when it is asked for, however many workers a stream asks for.
+#[derive(Clone, Copy, Debug, Drop)]
+pub struct OneWorker;
+
+impl Executor for OneWorker {
+    fn execute<S: ReadsPayloads>(
+        &self,
+        alloc: Global,
+        stream: FetchStream,
+        reader: &mut S,
+    ) -> Result<(), Fault> {
+        let mut stream = stream;
+        reader.read(alloc, &mut stream)
+    }
+}
+
+/// How a fetch is executed: who makes its payloads, and how many workers may do so at most.
+#[derive(Clone, Copy)]
+pub struct Execution<'a, X> {
+    pub executor: &'a X,
+    pub workers: usize,
+}

@@ -1,0 +1,289 @@
+//! The reader, and the workers beside it.
+
+ghost use Rattle.std.specs.Prelude.{◌≡◌, ◌<◌, ℕ, All, IfOk, OnErr};
+
+use crate::claims::{Claimer, Word, open, split};
+use crate::exchange::Exchange;
+use crate::pull::{InTurn, Pull};
+use crate::window::{Truth, Window};
+use crate::work::{Gate, Reads, Work};
+use std::alloc::{AllocError, Global};
+use std::marker::{Brand, PhantomData};
+use std::sync::Wait;
+use std::thread;
+use std::thread::{Threads, join_mut};
+
+// So many claimers more.
+fn split_all(
+    alloc: Global,
+    word: &Word,
+    me: &mut Claimer,
+    workers: usize,
+) -> Result<Vec<Claimer>, AllocError>
+    requires word { (me.old.table_id ≡ word.now.shared.table_id) × (word.now.shared.table_id.words ≡ 1) }
+    ensures theirs { IfOk result (λ v. All (λ claimer. claimer.table_id ≡ word.now.shared.table_id) v.items) }
+    ensures mine { me.new.table_id ≡ me.old.table_id }
+{
+    let mut claimers = Vec::new(alloc);
+    for _ in 0..workers {
+        claimers.push(split(word, me))?;
+    }
+    Ok(claimers)
+}
+
+// All claimers answer morsels, each in a thread of its own where one can be made.
+fn help_at_once<K, A, W, G, R>(exchange: &Exchange<'_, K, A, W, G, R>, claimers: &mut [Claimer])
+where
+    K: Truth<A> + Send + Sync,
+    A: Drop + Send,
+    W: Work<Answer = A> + Sync,
+    G: Gate + Sync,
+    R: Threads + Wait + Sync,
+    requires ready { W.ready exchange.now.work.now }
+    requires theirs { All (λ claimer. claimer.table_id ≡ exchange.now.word.shared.table_id) claimers.old }
+{
+    let threads = claimers.len().max(1);
+    let each = |_place: usize, claimer: &mut Claimer|
+        requires { W.ready exchange.now.work.now × (claimer.now.table_id ≡ exchange.now.word.shared.table_id) }
+    { exchange.help(claimer) };
+    thread::for_each_mut(exchange.rt, claimers, threads, &each);
+}
+
+// Who works beside others.
+trait Side {
+    type Out;
+
+    ghost begins: { Self → Type 0 };
+
+    ghost does: { Self → Self.Out → Self → Type 0 };
+
+    fn work(&mut self) -> Self::Out
+        requires { begins self.old }
+        ensures { does self.old result self.new };
+}
+
+// Works beside others, who are in a thread of their own where one can be made.
+fn work_beside<R: Threads, F: FnMut() + Send, M: Side>(
+    rt: &R,
+    others: &mut F,
+    mine: &mut M,
+) -> M::Out
+    requires others { F.pre others.old }
+    requires mine { M.begins mine.old }
+    ensures { M.does mine.old result mine.new }
+{
+    let (_, out) = join_mut(rt, others, &mut || mine.work());
+    out
+}
+
+// The answers that are read, and who reads them.
+struct Reading<'a, 'h, 's, K: Truth<A>, A, W: Work<Answer = A>, G, R, S> {
+    pull: Pull<'a, 'h, K, A, W, G, R>,
+    reader: &'s mut S,
+}
+
+impl<'a, 'h, 's, K, A, W, G, R, S> Side for Reading<'a, 'h, 's, K, A, W, G, R, S>
+where
+    K: Truth<A>,
+    A: Drop,
+    W: Work<Answer = A>,
+    G: Gate,
+    R: Wait,
+    S: Reads<A>,
+{
+    type Out = S::Out;
+
+    ghost use Rattle.std.specs.Prelude.{◌≡◌};
+
+    ghost begins = { λ r. (r.pull.given ≡ 0) × W.ready r.pull.exchange.now.work.now × S.takes r.reader.now (λ n a. ∥ K.right n a ∥₁) (W.count r.pull.exchange.now.work.now) };
+
+    ghost does = { λ old out new. (new.reader.ghost_name ≡ old.reader.ghost_name)
+        × S.reads old.reader.now (λ n a. ∥ K.right n a ∥₁) (W.count old.pull.exchange.now.work.now) out new.reader.now };
+
+    fn work(&mut self) -> S::Out {
+        let out = self.reader.read(&mut self.pull);
+        self.pull.exchange.window.close(self.pull.exchange.rt);
+        out
+    }
+}
+
+// Reads the answers, with others at work beside.
+fn read_beside<K, A, W, G, R, S, F>(
+    exchange: &Exchange<'_, K, A, W, G, R>,
+    me: Claimer,
+    others: &mut F,
+    reader: &mut S,
+) -> S::Out
+where
+    K: Truth<A>,
+    A: Drop,
+    W: Work<Answer = A>,
+    G: Gate,
+    R: Threads + Wait,
+    S: Reads<A>,
+    F: FnMut() + Send,
+    requires mine { me.table_id ≡ exchange.now.word.shared.table_id }
+    requires ready { W.ready exchange.now.work.now }
+    requires theirs { F.pre others.old }
+    requires takes { S.takes reader.old (λ n a. ∥ K.right n a ∥₁) (W.count exchange.now.work.now) }
+    ensures { S.reads reader.old (λ n a. ∥ K.right n a ∥₁) (W.count exchange.now.work.now) result reader.new }
+{
+    let pull = Pull {
+        exchange,
+        me,
+        given: 0,
+        drawn: None,
+        stash: None,
+    };
+    let mut reading = Reading { pull, reader };
+    let out = work_beside(exchange.rt, others, &mut reading);
+    let Reading { pull: _, reader } = reading;
+    take_back(reader);
+    out
+}
+
+// Does nothing, but that the reader is used behind the work ties what was read to it.
+fn take_back<T>(x: &mut T)
+    ensures { x.new ≡ x.old }
+{}
+
+// Reads the answers, with these claimers at work beside.
+fn read_with<K, A, W, G, R, S>(
+    exchange: &Exchange<'_, K, A, W, G, R>,
+    me: Claimer,
+    mut claimers: Vec<Claimer>,
+    reader: &mut S,
+) -> S::Out
+where
+    K: Truth<A> + Send + Sync,
+    A: Drop + Send,
+    W: Work<Answer = A> + Sync,
+    G: Gate + Sync,
+    R: Threads + Wait + Sync,
+    S: Reads<A>,
+    requires ready { W.ready exchange.now.work.now }
+    requires mine { me.table_id ≡ exchange.now.word.shared.table_id }
+    requires theirs { All (λ claimer. claimer.table_id ≡ exchange.now.word.shared.table_id) claimers.items }
+    requires takes { S.takes reader.old (λ n a. ∥ K.right n a ∥₁) (W.count exchange.now.work.now) }
+    ensures read { S.reads reader.old (λ n a. ∥ K.right n a ∥₁) (W.count exchange.now.work.now) result reader.new }
+{
+    let mut helpers = move ||
+        requires { W.ready exchange.now.work.now × All (λ claimer. claimer.table_id ≡ exchange.now.word.shared.table_id) claimers.items }
+    { help_at_once(exchange, claimers.as_mut_slice()) };
+    read_beside(exchange, me, &mut helpers, reader)
+}
+
+// Reads the answers, each made when it is read.
+fn read_in_turn<K, A, W, G, S>(alloc: Global, work: &W, gate: &G, reader: &mut S) -> S::Out
+where
+    K: Truth<A>,
+    W: Work<Answer = A>,
+    G: Gate,
+    S: Reads<A>,
+    requires ready { W.ready work.now }
+    requires right { (n : ℕ) (a : A) → W.answers work.now n a → ∥ K.right n a ∥₁ }
+    requires takes { S.takes reader.old (λ n a. ∥ K.right n a ∥₁) (W.count work.now) }
+    ensures read { S.reads reader.old (λ n a. ∥ K.right n a ∥₁) (W.count work.now) result reader.new }
+{
+    let mut answers: InTurn<'_, K, A, W, G> = InTurn {
+        alloc,
+        work,
+        gate,
+        given: 0,
+        of: PhantomData,
+    };
+    reader.read(&mut answers)
+}
+
+// Reads the answers, which at least two workers make.
+fn read_at_once<K, A, W, G, R, S>(
+    rt: &R,
+    alloc: Global,
+    work: &W,
+    workers: usize,
+    gate: &G,
+    reader: &mut S,
+) -> Result<S::Out, AllocError>
+where
+    K: Truth<A> + Send + Sync,
+    A: Drop + Send,
+    W: Work<Answer = A> + Sync,
+    G: Gate + Sync,
+    R: Threads + Wait + Sync,
+    S: Reads<A>,
+    requires ready { W.ready work.now }
+    requires workers { 1 < workers }
+    requires right { (n : ℕ) (a : A) → W.answers work.now n a → ∥ K.right n a ∥₁ }
+    requires takes { S.takes reader.old (λ n a. ∥ K.right n a ∥₁) (W.count work.now) }
+    ensures read { IfOk result (λ out. S.reads reader.old (λ n a. ∥ K.right n a ∥₁) (W.count work.now) out reader.new) }
+    ensures kept { OnErr result (reader.new ≡ reader.old) }
+{
+    let window: Window<K, A> = Window::new(alloc, workers)?;
+    let (word, mut me) = open(alloc)?;
+    let claimers = split_all(alloc, &word, &mut me, workers - 1)?;
+    let exchange = Exchange {
+        rt,
+        alloc,
+        work,
+        gate,
+        window,
+        word,
+    };
+    Ok(read_with(&exchange, me, claimers, reader))
+}
+
+// As `in_order`, where the right answers have a name.
+fn in_order_of<K, A, W, G, R, S>(
+    rt: &R,
+    alloc: Global,
+    work: &W,
+    workers: usize,
+    gate: &G,
+    reader: &mut S,
+) -> Result<S::Out, AllocError>
+where
+    K: Truth<A> + Send + Sync,
+    A: Drop + Send,
+    W: Work<Answer = A> + Sync,
+    G: Gate + Sync,
+    R: Threads + Wait + Sync,
+    S: Reads<A>,
+    requires ready { W.ready work.now }
+    requires right { (n : ℕ) (a : A) → W.answers work.now n a → ∥ K.right n a ∥₁ }
+    requires takes { S.takes reader.old (λ n a. ∥ K.right n a ∥₁) (W.count work.now) }
+    ensures read { IfOk result (λ out. S.reads reader.old (λ n a. ∥ K.right n a ∥₁) (W.count work.now) out reader.new) }
+    ensures kept { OnErr result (reader.new ≡ reader.old) }
+{
+    if workers < 2 {
+        return Ok(read_in_turn::<K, A, W, G, S>(alloc, work, gate, reader));
+    }
+    read_at_once::<K, A, W, G, R, S>(rt, alloc, work, workers, gate, reader)
+}
+
+/// Has the answers read in the order of the morsels, which so many workers make: the reader and others, in threads of their
+/// own. No more answers are held at once than there are workers. With fewer than two workers no thread is started.
+///
+/// # Errors
+///
+/// `AllocError` where memory is refused. Nothing was read then, and no morsel was begun.
+pub fn in_order<A, W, G, R, S>(
+    rt: &R,
+    alloc: Global,
+    work: &W,
+    workers: usize,
+    gate: &G,
+    reader: &mut S,
+) -> Result<S::Out, AllocError>
+where
+    A: Drop + Send,
+    W: Work<Answer = A> + Sync,
+    G: Gate + Sync,
+    R: Threads + Wait + Sync,
+    S: Reads<A>,
+    requires ready { W.ready work.now }
+    requires takes { S.takes reader.old (λ n a. ∥ W.answers work.now n a ∥₁) (W.count work.now) }
+    ensures read { IfOk result (λ out. S.reads reader.old (λ n a. ∥ W.answers work.now n a ∥₁) (W.count work.now) out reader.new) }
+    ensures kept { OnErr result (reader.new ≡ reader.old) }
+{
+    in_order_of::<Brand, A, W, G, R, S>(rt, alloc, work, workers, gate, reader)
+}

@@ -1,0 +1,48 @@
+// What the workers of one call share, and what each of them does.
+
+ghost use Rattle.std.specs.Prelude.{◌≡◌, ◌<◌, ℕ};
+
+use crate::claims::{Claimer, Word, draw};
+use crate::window::{Answered, Truth, Window};
+use crate::work::{Gate, Work};
+use std::alloc::Global;
+use std::sync::Wait;
+
+// What the workers share.
+#[derive(Drop)]
+pub struct Exchange<'a, K: Truth<A>, A, W: Work<Answer = A>, G, R> {
+    pub rt: &'a R,
+    pub alloc: Global,
+    pub work: &'a W,
+    pub gate: &'a G,
+    pub window: Window<K, A>,
+    pub word: Word,
+    pub ghost words: { word.shared.table_id.words ≡ 1 },
+    pub ghost right: { (n : ℕ) (a : A) → W.answers work.now n a → ∥ K.right n a ∥₁ },
+}
+
+impl<'a, K: Truth<A>, A: Drop, W: Work<Answer = A>, G: Gate, R: Wait> Exchange<'a, K, A, W, G, R> {
+    // The answer to a morsel.
+    pub fn answer(&self, number: usize) -> Answered<K, A>
+        requires ready { W.ready self.now.work.now }
+        requires there { number < W.count self.now.work.now }
+        ensures { result.number ≡ number }
+    {
+        self.gate.enter(number);
+        Answered::new(number, self.work.answer(self.alloc, number))
+    }
+
+    // Answers morsels until none is left, or no more answers are read.
+    pub fn help(&self, me: &mut Claimer)
+        requires ready { W.ready self.now.work.now }
+        requires mine { me.old.table_id ≡ self.now.word.shared.table_id }
+    {
+        for _ in self.rt.forever() {
+            let number = draw(&self.word, me) as usize;
+            if number >= self.work.count() || !self.window.wait_for_room(self.rt, number) {
+                return;
+            }
+            self.window.put(self.rt, self.answer(number));
+        }
+    }
+}

@@ -1,0 +1,14 @@
+//! Workers that claim morsels by one word, and whose answers are read in the order of the morsels.
+#![tactic(auto)]
+
+mod beside;
+mod claims;
+mod collect;
+mod exchange;
+mod pull;
+mod window;
+mod work;
+
+pub use crate::beside::in_order;
+pub use crate::collect::run;
+pub use crate::work::{Answers, Gate, NoGate, Reads, Work};

@@ -1,0 +1,176 @@
+// Where answers lie until they are read: as many at once as there are workers.
+
+ghost use Rattle.std.specs.Prelude.{◌≡◌, IfSome};
+
+use std::alloc::{AllocError, Global};
+use std::marker::{Brand, PhantomData};
+use std::sync::{Condvar, Mutex, Wait};
+
+// What answers are right.
+pub trait Truth<A> {
+    ghost use Rattle.std.specs.Prelude.{ℕ};
+
+    ghost right: { ℕ → A → Type 0 };
+}
+
+impl<A> Truth<A> for Brand {
+    ghost right = { λ _ _. Unit {0} };
+}
+
+// A morsel's number, and its answer. No value of it is made of an answer that is not right.
+#[derive(Drop)]
+pub struct Answered<K: Truth<A>, A> {
+    pub number: usize,
+    pub answer: A,
+    of: PhantomData<K>,
+    pub ghost right: { ∥ K.right number answer ∥₁ },
+}
+
+impl<K: Truth<A>, A> Answered<K, A> {
+    pub fn new(number: usize, answer: A) -> Answered<K, A>
+        requires { ∥ K.right number answer ∥₁ }
+        ensures { (result.number ≡ number) × (result.answer ≡ answer) }
+    {
+        Answered {
+            number,
+            answer,
+            of: PhantomData,
+        }
+    }
+}
+
+// The answers of the next morsels to be read, each in the slot of its number modulo the slots.
+#[derive(Drop)]
+struct Slots<K: Truth<A>, A> {
+    answers: Vec<Option<Answered<K, A>>>,
+    // With how many morsels' answers the reader is done.
+    read: usize,
+    // Whether no more are read.
+    closed: bool,
+    // Whether the reader sleeps.
+    sleeps: bool,
+}
+
+impl<K: Truth<A>, A: Drop> Slots<K, A> {
+    // Whether a worker may go on with a morsel: its answer has a slot, or no more are read.
+    fn may_go_on(&self, number: usize) -> bool {
+        self.closed || number.saturating_sub(self.read) < self.answers.len()
+    }
+
+    // Puts an answer into its slot. Whether the reader sleeps for it.
+    fn put(&mut self, answered: Answered<K, A>) -> bool {
+        let (len, number) = (self.answers.len(), answered.number);
+        if len == 0 {
+            return false;
+        }
+        self.answers[number % len] = Some(answered);
+        self.sleeps && number == self.read
+    }
+
+    // The answer of a morsel, if it is there.
+    fn take(&mut self, number: usize) -> Option<Answered<K, A>>
+        ensures { IfSome result (λ answered. answered.number ≡ number) }
+    {
+        let len = self.answers.len();
+        if len == 0 {
+            return None;
+        }
+        let slot = &mut self.answers[number % len];
+        match slot.take() {
+            Some(answered) if answered.number == number => Some(answered),
+            other => {
+                *slot = other;
+                None
+            }
+        }
+    }
+
+    // Whether something lies in the slot of a morsel.
+    fn is_there(&self, number: usize) -> bool {
+        let len = self.answers.len();
+        len == 0 || self.answers[number % len].is_some()
+    }
+}
+
+// The window. Workers put their answers into it, and the reader takes them.
+#[derive(Drop)]
+pub struct Window<K: Truth<A>, A> {
+    slots: Mutex<Slots<K, A>>,
+    filled: Condvar,
+    room: Condvar,
+    // How many slots there are: so many morsels are begun or answered at once, from the one on that the reader is at.
+    pub size: usize,
+}
+
+impl<K: Truth<A>, A: Drop> Window<K, A> {
+    // A window of so many slots.
+    pub fn new(alloc: Global, size: usize) -> Result<Window<K, A>, AllocError> {
+        let mut answers = Vec::with_capacity(alloc, size)?;
+        for _ in 0..size {
+            answers.push(None)?;
+        }
+        Ok(Window {
+            slots: Mutex::new(Slots {
+                answers,
+                read: 0,
+                closed: false,
+                sleeps: false,
+            }),
+            filled: Condvar::new(),
+            room: Condvar::new(),
+            size,
+        })
+    }
+
+    // Waits until the answer of a morsel has a slot. Whether answers are still read.
+    pub fn wait_for_room(&self, rt: &impl Wait, number: usize) -> bool {
+        let mut slots = self.slots.lock(rt);
+        for _ in rt.forever() {
+            if slots.may_go_on(number) {
+                return !slots.closed;
+            }
+            slots = self.room.wait(rt, slots);
+        }
+        unreachable!()
+    }
+
+    // Puts an answer into its slot.
+    pub fn put(&self, rt: &impl Wait, answered: Answered<K, A>) {
+        let wakes = self.slots.lock(rt).put(answered);
+        if wakes {
+            self.filled.notify_one();
+        }
+    }
+
+    // The answer of a morsel, if it is there.
+    pub fn take(&self, rt: &impl Wait, number: usize) -> Option<Answered<K, A>>
+        ensures { IfSome result (λ answered. answered.number ≡ number) }
+    {
+        self.slots.lock(rt).take(number)
+    }
+
+    // Waits until something lies in the slot of a morsel.
+    pub fn wait_for(&self, rt: &impl Wait, number: usize) {
+        let mut slots = self.slots.lock(rt);
+        for _ in rt.forever() {
+            if slots.is_there(number) {
+                slots.sleeps = false;
+                return;
+            }
+            slots.sleeps = true;
+            slots = self.filled.wait(rt, slots);
+        }
+    }
+
+    // The reader is done with so many answers, and asks for the next one.
+    pub fn go_on(&self, rt: &impl Wait, read: usize) {
+        self.slots.lock(rt).read = read;
+        self.room.notify_all();
+    }
+
+    // No more answers are read.
+    pub fn close(&self, rt: &impl Wait) {
+        self.slots.lock(rt).closed = true;
+        self.room.notify_all();
+    }
+}
