@@ -1,5 +1,5 @@
 -- Inside: groups that are made batch by batch, and merged.
-use Rattle.std.specs.Prelude.{◌≡◌, ◌≤◌, ℕ, All, List, length, None, Result, IfOk}
+use Rattle.std.specs.Prelude.{◌≡◌, ◌≤◌, ℕ, All, List, [], length, None, Result, IfOk}
 use Rattle.std.specs.List.{flat_map}
 use Rattle.arrow_schema.specs.declared.data_type.DataType.{DataType}
 use Rattle.arrays.specs.Batch.{BatchAt, rows_of}
@@ -50,3 +50,10 @@ pub record AreGroupsOf (work : GroupWorkAt) (rows : List Row) (groups : GroupsAt
 -- the groups of the batch of a number, unless memory was refused
 abbrev pub GroupsOfBatch : GroupWorkAt → ℕ → Result GroupsAt Fault → Type 0
 GroupsOfBatch work number answer = IfOk answer (AreGroupsOf work (passing work.pick (rows_of (batch_at work.batches number))))
+
+-- groups of no row, and the groups of each batch are what is read
+pub record CanMerge (work : GroupWorkAt) (groups : GroupsAt) (right : ℕ → Result GroupsAt Fault → Type 0) (count : ℕ) : Type 0 where
+  pub can : CanBeGrouped work
+  pub new : AreGroupsOf work [] groups
+  pub count_is : count ≡ length work.batches
+  pub each : (number : ℕ) (answer : Result GroupsAt Fault) → right number answer → GroupsOfBatch work number answer
