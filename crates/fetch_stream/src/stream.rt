@@ -1,6 +1,6 @@
 //! Streams: an answer, one payload at a time.
 
-ghost use Rattle.std.specs.Prelude.{◌≡◌, ◌≢◌, ◌≤◌, ◌<◌, ◌++◌, true, false, None, length, nat_le, Err, IfOk, IfErr};
+ghost use Rattle.std.specs.Prelude.{◌≡◌, ◌≢◌, ◌≤◌, ◌<◌, ◌+◌, ◌++◌, true, false, None, length, nat_le, Err, IfOk, IfErr, IfSome};
 ghost use Rattle.std.specs.List.{list_any};
 ghost use Rattle.scan_base.specs.declared.fault.Fault.TheVariants.{BadTicket, LimitReached, OutOfMemory};
 ghost use Rattle.scan_base.specs.Limits.{most_answer_rows, most_query_bytes};
@@ -14,11 +14,13 @@ ghost use Rattle.flight_info.specs.Meant.{Meant};
 ghost use Rattle.flight_info.specs.Tables.{tables_listed};
 ghost use Rattle.fetch_stream.specs.Fetches.{may_mean};
 ghost use Rattle.fetch_stream.specs.Streams.{Gives, Opens, opened};
+ghost use Rattle.fetch_stream.specs.Morsels.{whole_stream};
 ghost use Rattle.fetch_stream.specs.inside.Ahead.{IsGoing, IsSource, AnsweredAs, schema_behind, left_behind, rows_taken};
 ghost use Rattle.fetch_stream.specs.inside.Steps.{GivesFirst, Refills, GivesRows};
 
 use crate::cutter::Cutter;
 use crate::message::schema_payload;
+use crate::morsels::Morsels;
 use crate::payload::Payload;
 use crate::source::Source;
 use arrays::Batch;
@@ -76,7 +78,7 @@ impl Drop for FetchStream {
 
 impl FetchStream {
     // The stream of the rows of a batch and of those that a source gives behind them.
-    fn of(batch: Batch, source: Source) -> FetchStream
+    pub(crate) fn of(batch: Batch, source: Source) -> FetchStream
         requires source { IsSource source }
         requires columns { 0 < batch.rows → AnsweredAs (schema_behind source) batch.columns }
         requires short { list_any (list_any is_long_text) (rows_of batch) ≡ false }
@@ -120,6 +122,26 @@ impl FetchStream {
         }
     }
 
+    // The same stream, behind the payload of its schema.
+    pub(crate) fn behind_schema(self) -> FetchStream
+        ensures { result ≡ record self { begun = true } }
+    {
+        let FetchStream {
+            begun: _,
+            cutter,
+            source,
+            refused,
+            workers,
+        } = self;
+        FetchStream {
+            begun: true,
+            cutter,
+            source,
+            refused,
+            workers,
+        }
+    }
+
     /// The stream of the answer to a handle at a version of the catalog. A dictionary of texts is answered as texts. The
     /// list of tables has a row for each table of this version, in byte order of the names. So many workers may make its
     /// payloads, if an executor lets them: what it gives is the same for any number.
@@ -145,6 +167,41 @@ impl FetchStream {
     /// How many workers may make its payloads at most.
     pub fn workers(&self) -> usize {
         self.workers
+    }
+
+    /// How many rows were given.
+    pub fn given(&self) -> usize
+        ensures { result ≡ self.now.given }
+    {
+        let rows = self.cutter.batch.rows();
+        let uncut = rows.saturating_sub(self.cutter.at);
+        self.source.taken(rows).saturating_sub(uncut)
+    }
+
+    // How many rows were taken of the source: those that were given, and what is left of the batch that is being cut.
+    pub(crate) fn taken(&self) -> usize
+        ensures given { self.now.given ≤ result }
+        ensures there { result ≤ self.now.given + length self.now.left }
+    {
+        batch_slices_keep_rows();
+        self.source.taken(self.cutter.batch.rows())
+    }
+
+    /// The morsels of a stream of which nothing was given: `None` for the list of tables, for groups, and for a stream that
+    /// has begun or was refused.
+    pub fn morsels(&self) -> Option<Morsels<'_>>
+        ensures { IfSome result (λ morsels. self.now ≡ whole_stream morsels) }
+    {
+        batch_slices_keep_rows();
+        let Source::Scanned(scan) = &self.source else {
+            return None;
+        };
+        let cut = self.cutter.at < self.cutter.batch.rows();
+        if self.begun || cut || self.refused.is_some() {
+            return None;
+        }
+        let count = scan.morsels()?;
+        Some(Morsels::new(scan, count))
     }
 
     /// The next payload, and `None` behind the last one: first the message of the schema, and then record batches of at
