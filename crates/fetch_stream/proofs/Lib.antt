@@ -1,6 +1,7 @@
 pub mod Ahead
 pub mod Answering
 pub mod Going
+pub mod MadeAhead
 pub mod Meaning
 pub mod Padding
 pub mod Parts

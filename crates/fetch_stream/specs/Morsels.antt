@@ -14,22 +14,22 @@ pub record MorselsAt : Type 0 where
   pub rows : List (List Row)
 
 -- all rows are still to come, before the payload of the schema
-abbrev pub unbegun : Schema → List Row → StreamAt
-unbegun schema rows = record { schema = schema; begun = false; left = rows; given = 0; refused = None }
+abbrev pub before_schema : Schema → List Row → StreamAt
+before_schema schema rows = record { schema = schema; begun = false; left = rows; given = 0; refused = None }
 
 -- all rows are still to come, behind it
-abbrev pub begun : Schema → List Row → StreamAt
-begun schema rows = record { schema = schema; begun = true; left = rows; given = 0; refused = None }
+abbrev pub behind_schema : Schema → List Row → StreamAt
+behind_schema schema rows = record { schema = schema; begun = true; left = rows; given = 0; refused = None }
 
 -- what the morsels are in order
 abbrev pub whole_stream : MorselsAt → StreamAt
-whole_stream morsels = unbegun morsels.schema (flat_map (λ (rows : List Row). rows) morsels.rows)
+whole_stream morsels = before_schema morsels.schema (flat_map (λ (rows : List Row). rows) morsels.rows)
 
 -- one of them, counted from 0: it says no schema
 abbrev pub morsel_stream : MorselsAt → ℕ → StreamAt
-morsel_stream morsels number = begun morsels.schema (get_or morsels.rows number [])
+morsel_stream morsels number = behind_schema morsels.schema (get_or morsels.rows number [])
 
 -- the payload of a schema, whatever rows come behind it, unless memory is refused
 abbrev pub GivesSchema : Schema → Result Payload Fault → Type 0
-GivesSchema schema (Ok payload) = (rows : List Row) → GivesPayload (unbegun schema rows) payload (begun schema rows)
+GivesSchema schema (Ok payload) = (rows : List Row) → GivesPayload (before_schema schema rows) payload (behind_schema schema rows)
 GivesSchema schema (Err fault) = fault ≡ OutOfMemory

@@ -4,7 +4,7 @@ ghost use Rattle.std.specs.Prelude.{◌≡◌, ◌≤◌, ◌+◌, ℕ, IfOk, Li
 ghost use Rattle.arrow_schema.specs.declared.schema.Schema.{Schema};
 ghost use Rattle.table_versions.specs.Table.{Row};
 ghost use Rattle.scan_exec.specs.Morsels.{morsel_rows};
-ghost use Rattle.fetch_stream.specs.Morsels.{begun};
+ghost use Rattle.fetch_stream.specs.Morsels.{behind_schema};
 ghost use Rattle.fetch_stream.specs.Streams.{Gives};
 ghost use Rattle.fetch_stream.specs.inside.MadeAhead.{AreAhead, GivesMade, MakesNext};
 
@@ -158,7 +158,7 @@ fn make_next(alloc: Global, stream: &mut FetchStream) -> Result<Option<Made>, Fa
 // Makes payloads of a stream ahead, as many as there is room for.
 fn make_ahead(alloc: Global, made: &mut VecDeque<Made>, rest: &mut FetchStream)
     requires { made.old.items ≡ [] }
-    ensures { (schema : Schema) (rows : List Row) → rest.old ≡ begun schema rows →
+    ensures { (schema : Schema) (rows : List Row) → rest.old ≡ behind_schema schema rows →
         AreAhead schema rows 0 made.new.items (Some rest.new) }
 {
     let mut bytes = 0usize;
@@ -188,8 +188,8 @@ pub(crate) fn made_ahead<'s>(
     number: usize,
     stream: Result<FetchStream, AllocError>,
 ) -> Ahead<'s>
-    requires { IfOk stream (λ stream. stream ≡ begun scan.now.schema (morsel_rows scan.now number)) }
-    ensures { result ≡ begun scan.now.schema (morsel_rows scan.now number) }
+    requires { IfOk stream (λ stream. stream ≡ behind_schema scan.now.schema (morsel_rows scan.now number)) }
+    ensures { result ≡ behind_schema scan.now.schema (morsel_rows scan.now number) }
 {
     let mut made = room_ahead(alloc);
     let mut rest = stream.ok();

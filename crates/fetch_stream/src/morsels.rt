@@ -1,7 +1,7 @@
 //! The morsels of a stream.
 
 ghost use Rattle.std.specs.Prelude.{◌≡◌, ◌<◌, IfOk, length, ℕ};
-ghost use Rattle.fetch_stream.specs.Morsels.{GivesSchema, begun, morsel_stream};
+ghost use Rattle.fetch_stream.specs.Morsels.{GivesSchema, behind_schema, morsel_stream};
 ghost use Rattle.fetch_stream.specs.inside.MadeAhead.{FallsInto, morsels_at};
 ghost use Rattle.scan_exec.specs.Morsels.{morsel_rows};
 
@@ -86,7 +86,7 @@ impl<'s> Morsels<'s> {
 // The stream of a morsel of a scan, before its first row.
 fn morsel_rest(alloc: Global, scan: &Scan, number: usize) -> Result<FetchStream, AllocError>
     requires falls { (count : ℕ) × FallsInto scan.now count × (number < count) }
-    ensures { IfOk result (λ stream. stream ≡ begun scan.now.schema (morsel_rows scan.now number)) }
+    ensures { IfOk result (λ stream. stream ≡ behind_schema scan.now.schema (morsel_rows scan.now number)) }
 {
     let morsel = scan.morsel(alloc, number)?;
     let nothing = Batch::new(Vec::new(alloc), 0);
