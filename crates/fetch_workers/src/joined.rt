@@ -1,5 +1,10 @@
 //! The payloads of all morsels, in their order.
 
+ghost use Rattle.std.specs.Prelude.{◌≡◌, ◌≤◌, ◌+◌};
+ghost use Rattle.scan_base.specs.Limits.{most_answer_rows};
+ghost use Rattle.fetch_stream.specs.Morsels.{MorselsAt};
+ghost use Rattle.fetch_workers.specs.inside.Joined.{AnswersMorsels, GivesFirst, GivesJoined, Goes, given_of};
+
 use fetch_stream::{Ahead, Morsels, Payload, Payloads};
 use scan_base::Fault;
 use scan_workers::Answers;
@@ -22,37 +27,15 @@ pub(crate) struct Joined<'x, P: Answers<Ahead<'x>>> {
 }
 
 impl<'x, P: Answers<Ahead<'x>>> Model for Joined<'x, P> {
-    ghost use Rattle.std.specs.Prelude.{◌≡◌, None};
     ghost use Rattle.fetch_stream.specs.Streams.{StreamAt};
-    ghost use Rattle.fetch_workers.specs.inside.Joined.{AnswersMorsels, GoesOn, joined_stream};
+    ghost use Rattle.fetch_workers.specs.inside.Joined.{AnswersMorsels, IsJoined, joined_stream};
 
     ghost Value = { StreamAt };
 
     ghost view = { λ j. joined_stream j.morsels.now (P.given j.answers.now) j.begun j.present j.done j.refused };
 
     ghost invariant = { λ j. P.ready j.answers.now × AnswersMorsels j.morsels.now P.right (P.count j.answers.now)
-        × (j.refused ≡ None → GoesOn j.morsels.now.schema j.present j.done) };
-}
-
-impl<'x, P: Answers<Ahead<'x>>> Joined<'x, P> {
-    // The payload of the next rows: of the present morsel, or of the next one that has rows.
-    fn next_rows(&mut self, alloc: Global) -> Result<Option<Payload>, Fault> {
-        loop {
-            if let Some(present) = &mut self.present {
-                if let Some(payload) = present.next(alloc)? {
-                    if present.taken() > MAX_ANSWER_ROWS - self.done {
-                        return Err(Fault::ResultTooLarge);
-                    }
-                    return Ok(Some(payload));
-                }
-                self.done += present.given();
-            }
-            self.present = self.answers.next();
-            if self.present.is_none() {
-                return Ok(None);
-            }
-        }
-    }
+        × IsJoined j.morsels.now j.begun j.present j.done j.refused };
 }
 
 impl<'x, P: Answers<Ahead<'x>>> Payloads for Joined<'x, P> {
@@ -63,14 +46,53 @@ impl<'x, P: Answers<Ahead<'x>>> Payloads for Joined<'x, P> {
             return Err(fault);
         }
         let given = if self.begun {
-            self.next_rows(alloc)
+            next_rows(alloc, self.answers, &mut self.present, &mut self.done)
         } else {
-            self.morsels.first_payload(alloc).map(Some)
+            first_payload(alloc, self.morsels)
         };
         match &given {
             Ok(_) => self.begun = true,
             Err(fault) => self.refused = Some(*fault),
         }
         given
+    }
+}
+
+// The payload of the schema, as the first one.
+fn first_payload(alloc: Global, morsels: &Morsels<'_>) -> Result<Option<Payload>, Fault>
+    ensures { GivesFirst morsels.now.schema result }
+{
+    Ok(Some(morsels.first_payload(alloc)?))
+}
+
+// The payload of the next rows: of the present morsel, or of the first one behind it that has rows. `done` rows were those of
+// the morsels before the present one.
+fn next_rows<'x, P: Answers<Ahead<'x>>>(
+    alloc: Global,
+    answers: &mut P,
+    present: &mut Option<Ahead<'x>>,
+    done: &mut usize,
+) -> Result<Option<Payload>, Fault>
+    requires ready { P.ready answers.old }
+    requires few { done.old + given_of present.old ≤ most_answer_rows }
+    ensures ready { P.ready answers.new }
+    ensures count { P.count answers.new ≡ P.count answers.old }
+    ensures gives { (morsels : MorselsAt) → AnswersMorsels morsels P.right (P.count answers.old) → Goes morsels.schema present.old →
+        GivesJoined morsels (P.given answers.old) present.old done.old result (P.given answers.new) present.new done.new }
+{
+    loop {
+        if let Some(ahead) = present {
+            if let Some(payload) = ahead.next(alloc)? {
+                if ahead.taken() > MAX_ANSWER_ROWS - *done {
+                    return Err(Fault::ResultTooLarge);
+                }
+                return Ok(Some(payload));
+            }
+            *done += ahead.given();
+        }
+        *present = answers.next();
+        if present.is_none() {
+            return Ok(None);
+        }
     }
 }

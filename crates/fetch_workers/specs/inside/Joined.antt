@@ -1,12 +1,13 @@
 -- Inside: the stream that its morsels make up, where some of them were answered.
-use Rattle.std.specs.Prelude.{◌≡◌, ◌≤◌, ◌<◌, ℕ, ◌+◌, Bool, true, List, [], ◌++◌, length, drop, Option, Some, None}
+use Rattle.std.specs.Prelude.{◌≡◌, ◌≤◌, ℕ, ◌+◌, Bool, true, false, List, [], ◌++◌, length, drop, Option, Some, None, Result, Ok, Err}
 use Rattle.std.specs.List.{flat_map}
 use Rattle.scan_base.specs.declared.fault.Fault.{Fault}
 use Rattle.scan_base.specs.Limits.{most_answer_rows}
 use Rattle.arrow_schema.specs.declared.schema.Schema.{Schema}
 use Rattle.table_versions.specs.Table.{Row}
-use Rattle.fetch_stream.specs.Streams.{StreamAt}
-use Rattle.fetch_stream.specs.Morsels.{MorselsAt, morsel_stream}
+use Rattle.flight_info.specs.Payloads.{Payload}
+use Rattle.fetch_stream.specs.Streams.{StreamAt, GivesPayload, MayRefuse}
+use Rattle.fetch_stream.specs.Morsels.{MorselsAt, GivesSchema, morsel_stream}
 
 -- what may be answered to each morsel is its stream, and there are as many answers as morsels
 pub record AnswersMorsels (morsels : MorselsAt) (right : ℕ → StreamAt → Type 0) (count : ℕ) : Type 0 where
@@ -32,10 +33,31 @@ joined_stream morsels answered begun present done refused = record {
   refused = refused;
 }
 
--- a morsel goes on, if one is present, and no more rows were given than an answer may have
+-- a morsel that is present was not refused
 abbrev pub Goes : Schema → Option StreamAt → Type 0
 Goes schema None = Unit {0}
 Goes schema (Some present) = (present.schema ≡ schema) × (present.begun ≡ true) × (present.refused ≡ None)
 
-abbrev pub GoesOn : Schema → Option StreamAt → ℕ → Type 0
-GoesOn schema present done = Goes schema present × (done + given_of present ≤ most_answer_rows)
+-- where a stream stands that was not refused; before its first payload no row was given
+pub record IsJoined (morsels : MorselsAt) (begun : Bool) (present : Option StreamAt) (done : ℕ) (refused : Option Fault) : Type 0 where
+  pub goes : refused ≡ None → Goes morsels.schema present
+  pub few : done + given_of present ≤ most_answer_rows
+  pub first : begun ≡ false → done + given_of present ≡ 0
+
+-- the first payload says the schema
+abbrev pub GivesFirst : Schema → Result (Option Payload) Fault → Type 0
+GivesFirst schema (Ok (Some payload)) = GivesSchema schema (Ok payload)
+GivesFirst schema (Ok None) = ⊥
+GivesFirst schema (Err fault) = GivesSchema schema (Err fault)
+
+-- what comes behind it, where a stream stood at one morsel and stands at another
+abbrev pub GivesJoined : MorselsAt → ℕ → Option StreamAt → ℕ → Result (Option Payload) Fault → ℕ → Option StreamAt → ℕ → Type 0
+GivesJoined morsels answered present done (Ok (Some payload)) now next all =
+    GivesPayload (joined_stream morsels answered true present done None) payload (joined_stream morsels now true next all None)
+    × Goes morsels.schema next
+GivesJoined morsels answered present done (Ok None) now next all =
+    ((joined_stream morsels answered true present done None).left ≡ [])
+    × (joined_stream morsels now true next all None ≡ joined_stream morsels answered true present done None)
+    × Goes morsels.schema next
+GivesJoined morsels answered present done (Err fault) now next all =
+    MayRefuse (joined_stream morsels answered true present done None) fault × (all + given_of next ≤ most_answer_rows)
