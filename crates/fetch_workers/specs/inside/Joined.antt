@@ -38,10 +38,10 @@ abbrev pub Goes : Schema → Option StreamAt → Type 0
 Goes schema None = Unit {0}
 Goes schema (Some present) = (present.schema ≡ schema) × (present.begun ≡ true) × (present.refused ≡ None)
 
--- where a stream stands that was not refused; before its first payload no row was given
+-- where a stream stands, if it was not refused; before its first payload no row was given
 pub record IsJoined (morsels : MorselsAt) (begun : Bool) (present : Option StreamAt) (done : ℕ) (refused : Option Fault) : Type 0 where
   pub goes : refused ≡ None → Goes morsels.schema present
-  pub few : done + given_of present ≤ most_answer_rows
+  pub few : refused ≡ None → done + given_of present ≤ most_answer_rows
   pub first : begun ≡ false → done + given_of present ≡ 0
 
 -- the first payload says the schema
@@ -60,4 +60,4 @@ GivesJoined morsels answered present done (Ok None) now next all =
     × (joined_stream morsels now true next all None ≡ joined_stream morsels answered true present done None)
     × Goes morsels.schema next
 GivesJoined morsels answered present done (Err fault) now next all =
-    MayRefuse (joined_stream morsels answered true present done None) fault × (all + given_of next ≤ most_answer_rows)
+    MayRefuse (joined_stream morsels answered true present done None) fault
