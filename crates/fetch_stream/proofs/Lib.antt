@@ -3,6 +3,7 @@ pub mod Answering
 pub mod Going
 pub mod MadeAhead
 pub mod Meaning
+pub mod Morsels
 pub mod Padding
 pub mod Parts
 pub mod Scanned

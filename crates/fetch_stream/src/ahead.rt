@@ -8,7 +8,6 @@ ghost use Rattle.fetch_stream.specs.Morsels.{behind_schema};
 ghost use Rattle.fetch_stream.specs.Streams.{Gives};
 ghost use Rattle.fetch_stream.specs.inside.MadeAhead.{AreAhead, GivesMade, MakesNext};
 
-use crate::executor::Payloads;
 use crate::made::Made;
 use crate::payload::Payload;
 use crate::stream::FetchStream;
@@ -111,14 +110,6 @@ impl<'s> Ahead<'s> {
                 Err(fault)
             }
         }
-    }
-}
-
-impl<'s> Payloads for Ahead<'s> {
-    ghost stream = { λ s. s };
-
-    fn next(&mut self, alloc: Global) -> Result<Option<Payload>, Fault> {
-        Ahead::next(self, alloc)
     }
 }
 
