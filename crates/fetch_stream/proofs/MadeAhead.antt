@@ -39,7 +39,7 @@ module _ (schema : Schema) (rows : List Row) (given : ℕ) (payload : Payload) (
   next_stands =
       let n = length gives.rows in
       let rest : after.left ≡ drop after.given rows =
-          sym (drop_at gives.rows after.left n refl) ∙ ap (λ (l : List Row). drop n l) gives.left ∙ drop-drop n given rows ∙ ap (λ (k : ℕ). drop k rows) (sym gives.counted) in
+      sym (drop_at gives.rows after.left n refl) ∙ ap (λ (l : List Row). drop n l) gives.left ∙ drop-drop n given rows ∙ ap (λ (k : ℕ). drop k rows) (sym gives.counted) in
       parts_are after.schema schema after.begun after.left (drop after.given rows) after.given after.refused gives.schema gives.begun rest gives.refused
 
   -- and what is given and left of them is all of them
@@ -49,8 +49,7 @@ module _ (schema : Schema) (rows : List Row) (given : ℕ) (payload : Payload) (
 pub one_ahead : (schema : Schema) (rows : List Row) (given : ℕ) (next : Made) (after : StreamAt) → MakesNext (behind schema rows given) (Ok (Some next)) after → AreAhead schema rows given (next ∷ []) (Some after)
 one_ahead schema rows given next after makes =
     let gives : GivesPayload (behind schema rows given) next.payload after = makes.0 in
-    let stands : after ≡ behind schema rows next.given = next_stands schema rows given next.payload after gives ∙ ap (λ (k : ℕ). behind schema rows k) (sym makes.1) in
-    (
+    let stands : after ≡ behind schema rows next.given = next_stands schema rows given next.payload after gives ∙ ap (λ (k : ℕ). behind schema rows k) (sym makes.1) in (
       subst (λ (s : StreamAt). GivesPayload (behind schema rows given) next.payload s) stands gives,
       makes.2,
       omega (arith, makes.3, next_whole schema rows given next.payload after gives),

@@ -19,6 +19,7 @@ use std::marker::Model;
 
 // How many payloads are made ahead, and how many bytes they have, before no more are.
 const MOST_MADE: usize = 16;
+
 const MOST_MADE_BYTES: usize = 8_388_608;
 
 /// The payloads of a morsel: those that were made ahead, and behind them the others, each of which is made when it is asked
@@ -51,7 +52,7 @@ impl<'s> Model for Ahead<'s> {
     } };
 
     ghost invariant = { λ a. (a.given ≤ a.taken) × (a.taken ≤ length (morsel_rows a.scan.now a.number))
-      × (a.refused ≡ None → AreAhead a.scan.now.schema (morsel_rows a.scan.now a.number) a.given a.made.items a.rest) };
+        × (a.refused ≡ None → AreAhead a.scan.now.schema (morsel_rows a.scan.now a.number) a.given a.made.items a.rest) };
 }
 
 // Written out, so that dropping it is one call (docs/DECISIONS.md).

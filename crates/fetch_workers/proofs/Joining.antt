@@ -10,7 +10,7 @@ use Rattle.table_versions.specs.Table.{Row}
 use Rattle.flight_info.specs.Payloads.{Payload, PayloadsSay}
 use Rattle.fetch_stream.specs.Streams.{StreamAt, GivesPayload, MayRefuse, SaySoFar}
 use Rattle.fetch_stream.specs.Morsels.{MorselsAt, morsel_stream, whole_stream}
-use Rattle.fetch_workers.specs.inside.Joined.{Goes, joined_stream, left_of, given_of}
+use Rattle.fetch_workers.specs.inside.Joined.{Goes, GivesJoined, joined_stream}
 
 -- the rows of the morsels that come behind
 abbrev rest_of : MorselsAt → ℕ → List Row
@@ -88,6 +88,7 @@ none_present morsels answered done present none =
   where
     stream : List Row → ℕ → StreamAt
     stream left given = record { schema = morsels.schema; begun = true; left = left ++ rest_of morsels answered; given = done + given; refused = None }
+
     by : (left : List Row) (given : ℕ) → left ≡ [] → stream left given ≡ joined_stream morsels answered true None (done + given) None
     by left given none = let sum : done + given + 0 ≡ done + given = omega arith in rw (none, sum) refl
 
@@ -103,3 +104,23 @@ next_present morsels answered done there =
 -- behind the last one nothing is left
 pub none_left : (morsels : MorselsAt) (answered done : ℕ) → length morsels.rows ≤ answered → (joined_stream morsels answered true None done None).left ≡ []
 none_left morsels answered done high = ap (flat_map (λ (rows : List Row). rows)) (drop_all answered morsels.rows high)
+
+-- ---- a call
+
+module _ (morsels : MorselsAt) (answered done now all : ℕ) (first : Option StreamAt) where
+  -- a payload of the present morsel, where the stream is still what it was
+  pub gives_payload : (present after : StreamAt) (payload : Payload) → joined_stream morsels now true (Some present) all None ≡ joined_stream morsels answered true first done None
+      → Goes morsels.schema (Some present) → GivesPayload present payload after → all + after.given ≤ most_answer_rows → GivesJoined morsels answered first done (Ok (Some payload)) now (Some after) all
+  gives_payload present after payload same goes gives within = (
+    subst (λ (s : StreamAt). GivesPayload s payload (joined_stream morsels now true (Some after) all None)) same (gives_present morsels now all present after payload goes gives within),
+    still_goes morsels.schema present after payload goes gives,
+  )
+
+  -- no morsel is left
+  pub gives_end : joined_stream morsels now true None all None ≡ joined_stream morsels answered true first done None → length morsels.rows ≤ now → GivesJoined morsels answered first done (Ok None) now None all
+  gives_end same high = (sym (ap (λ (s : StreamAt). s.left) same) ∙ none_left morsels now all high, same, tt)
+
+  -- or it is refused
+  pub gives_refusal : (present next : Option StreamAt) (fault : Fault) → joined_stream morsels now true present all None ≡ joined_stream morsels answered true first done None
+      → MayRefuse (joined_stream morsels now true present all None) fault → (later more : ℕ) → GivesJoined morsels answered first done (Err fault) later next more
+  gives_refusal present next fault same refuses later more = subst (λ (s : StreamAt). MayRefuse s fault) same refuses

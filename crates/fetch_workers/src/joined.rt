@@ -16,9 +16,9 @@ const MAX_ANSWER_ROWS: usize = 67_108_864;
 
 // The stream that its morsels make up: the payload of the schema, and those of the morsels as they are answered, in their
 // order. It counts the rows of all.
-pub(crate) struct Joined<'x, P: Answers<Ahead<'x>>> {
+pub(crate) struct Joined<'x, 'a, P: Answers<Ahead<'x>>> {
     pub(crate) morsels: &'x Morsels<'x>,
-    pub(crate) answers: &'x mut P,
+    pub(crate) answers: &'a mut P,
     pub(crate) begun: bool,
     // The morsel whose payloads come next, and how many rows those before it had.
     pub(crate) present: Option<Ahead<'x>>,
@@ -26,7 +26,7 @@ pub(crate) struct Joined<'x, P: Answers<Ahead<'x>>> {
     pub(crate) refused: Option<Fault>,
 }
 
-impl<'x, P: Answers<Ahead<'x>>> Model for Joined<'x, P> {
+impl<'x, 'a, P: Answers<Ahead<'x>>> Model for Joined<'x, 'a, P> {
     ghost use Rattle.fetch_stream.specs.Streams.{StreamAt};
     ghost use Rattle.fetch_workers.specs.inside.Joined.{AnswersMorsels, IsJoined, joined_stream};
 
@@ -38,7 +38,7 @@ impl<'x, P: Answers<Ahead<'x>>> Model for Joined<'x, P> {
         × IsJoined j.morsels.now j.begun j.present j.done j.refused };
 }
 
-impl<'x, P: Answers<Ahead<'x>>> Payloads for Joined<'x, P> {
+impl<'x, 'a, P: Answers<Ahead<'x>>> Payloads for Joined<'x, 'a, P> {
     ghost stream = { λ s. s };
 
     fn next(&mut self, alloc: Global) -> Result<Option<Payload>, Fault> {

@@ -68,7 +68,11 @@ fn read_beside<R: Threads + Wait + Sync, S: ReadsPayloads>(
         reader,
     };
     let read = in_order(rt, alloc, &work, workers, &NoGate, &mut reading).ok();
-    let Reading { alloc: _, morsels: _, reader } = reading;
+    let Reading {
+        alloc: _,
+        morsels: _,
+        reader,
+    } = reading;
     take_back(reader);
     read
 }
