@@ -45,7 +45,7 @@ impl Source {
         ensures { (batch : BatchAt) → batch.rows ≡ last → result ≡ rows_taken batch self.now }
     {
         match self {
-            Source::Scanned(_) => 0,
+            Source::Scanned(scan) => scan.given(),
             Source::Listed(_) => last,
         }
     }

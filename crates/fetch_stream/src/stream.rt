@@ -169,6 +169,24 @@ impl FetchStream {
         self.workers
     }
 
+    /// How many rows of the first place are still to be read at most: 0 for groups and for the list of tables. Contracts say
+    /// nothing of it: it tells how much work is ahead.
+    pub fn rows_to_read(&self) -> usize {
+        match &self.source {
+            Source::Scanned(scan) => scan.rows_to_read(),
+            Source::Listed(_) => 0,
+        }
+    }
+
+    /// Whether its payloads are cuts of one table's columns, so that making them costs next to nothing. Contracts say nothing
+    /// of it.
+    pub fn is_only_cut(&self) -> bool {
+        match &self.source {
+            Source::Scanned(scan) => scan.is_only_cut(),
+            Source::Listed(_) => true,
+        }
+    }
+
     /// How many rows were given.
     pub fn given(&self) -> usize
         ensures { result ≡ self.now.given }

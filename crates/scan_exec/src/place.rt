@@ -13,6 +13,7 @@ use crate::opened_table::OpenedTable;
 use crate::picker::Picker;
 use crate::piece::Piece;
 use array_select::Selection;
+use arrow_schema::DataType;
 use std::alloc::{AllocError, Global};
 
 // A table, and where a scan of a range of its rows has come to.
@@ -54,6 +55,20 @@ impl PlaceRows {
             }
         }
         Ok(None)
+    }
+
+    // How many rows of the range are still to be looked at.
+    pub(crate) fn rows_to_read(&self) -> usize {
+        self.cursor.to.saturating_sub(self.cursor.at)
+    }
+
+    // Whether a column that is given is a dictionary.
+    pub(crate) fn has_dictionary(&self, picker: &Picker) -> bool {
+        let fields = self.table.schema().fields.as_slice();
+        picker.shown.iter().any(|column| match fields.get(*column) {
+            Some(field) => matches!(field.data_type, DataType::Dictionary(_)),
+            None => false,
+        })
     }
 
     // The first row of the range in a batch, counted from the batch's first row. The range begins in the first batch.

@@ -105,6 +105,24 @@ impl Rows {
         }
     }
 
+    // How many rows of the first place are still to be read.
+    pub(crate) fn rows_to_read(&self) -> usize {
+        match &self.source {
+            Source::Place(place) => place.rows_to_read(),
+            Source::Joined(left, _) => left.rows_to_read(),
+        }
+    }
+
+    // Whether the rows are slices of the columns of a place, none of which is a dictionary.
+    pub(crate) fn is_only_cut(&self) -> bool {
+        match &self.source {
+            Source::Place(place) => {
+                self.picker.filters.is_empty() && !place.has_dictionary(&self.picker)
+            }
+            Source::Joined(..) => false,
+        }
+    }
+
     // The rows of one batch of the first place, of rows of which no batch was opened. Tables, filters and the right sides of
     // joins are shared.
     pub(crate) fn part(&self, alloc: Global, number: usize) -> Result<Rows, AllocError>

@@ -147,6 +147,31 @@ impl Scan {
         &self.batches.as_slice()[..self.further + self.answer.opened()]
     }
 
+    /// How many rows were given.
+    pub fn given(&self) -> usize
+        ensures { result ≡ self.now.given }
+    {
+        self.given
+    }
+
+    /// How many rows of the first place are still to be read, where the scan gives rows: none that it gives may come of them.
+    /// 0 for one that makes groups. Contracts say nothing of it: it tells how much work is ahead.
+    pub fn rows_to_read(&self) -> usize {
+        match &self.answer {
+            Answer::Rows(rows) => rows.rows_to_read(),
+            Answer::Groups(_) => 0,
+        }
+    }
+
+    /// Whether rows are given as slices of one table's columns, none of which is a dictionary: no row is looked at. Contracts
+    /// say nothing of it: it tells how much work is ahead.
+    pub fn is_only_cut(&self) -> bool {
+        match &self.answer {
+            Answer::Rows(rows) => rows.is_only_cut(),
+            Answer::Groups(_) => false,
+        }
+    }
+
     /// How many morsels the scan has: one for each batch of the first place that is to be opened. Its rows are those of its
     /// morsels, in order. `None` for a scan that makes groups, and for one that has begun: that opened a batch of the first
     /// place, gave rows, or was refused.
