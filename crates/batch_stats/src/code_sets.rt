@@ -1,6 +1,6 @@
 //! Sets of codes: those of a dictionary's values that were looked at.
 
-ghost use Rattle.std.specs.Prelude.{◌≡◌, ◌≤◌, ◌⊎◌, ℕ, false, IfOk};
+ghost use Rattle.std.specs.Prelude.{◌≡◌, ◌≤◌, ◌⊎◌, ℕ, false, length, replicate, IfOk};
 ghost use Rattle.arrays.specs.Number.{byte_width};
 ghost use Rattle.batch_stats.specs.inside.CodeSets.{HasLast, HasMark, HasSorted};
 
@@ -32,7 +32,7 @@ pub(crate) struct LastCodes {
 impl LastCodes {
     /// A set of one code.
     pub(crate) fn new(code: u64) -> LastCodes
-        ensures { (other : ℕ) → HasLast result.codes other → other ≡ code }
+        ensures { result.codes ≡ replicate 2048 code }
     {
         LastCodes {
             codes: [code; MOST_LAST],
@@ -66,7 +66,7 @@ impl MarkedCodes {
     ///
     /// `AllocError` where memory is refused: that of a byte for each mark.
     pub(crate) fn new(alloc: Global, count: usize) -> Result<MarkedCodes, AllocError>
-        ensures { IfOk result (λ set. (code : ℕ) → HasMark set.marks.items code → ⊥) }
+        ensures { IfOk result (λ set. set.marks.items ≡ replicate count false) }
     {
         let marks = vec![in alloc; false; count]?;
         Ok(MarkedCodes { marks })
@@ -111,7 +111,7 @@ impl SortedCodes {
         requires width { C.BYTES ≡ byte_width (cells.now).index }
         requires ordered { from ≤ to }
         requires within { to ≤ (cells.now).len }
-        ensures { IfOk result (λ set. (code : ℕ) → HasSorted set.codes.items set.marked.marks.items code → ⊥) }
+        ensures { IfOk result (λ set. set.marked.marks.items ≡ replicate (length set.codes.items) false) }
     {
         let mut codes = codes_of::<C>(alloc, cells, from, to)?;
         codes.sort_unstable();

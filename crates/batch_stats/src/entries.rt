@@ -16,22 +16,22 @@ use std::alloc::Global;
 
 // The statistics of a column by the codes of its slots, of which the one at `start` is the first valid one. The value of
 // a code that the set has been given is not looked at again, where the set has it still.
-fn stats_with<C: Code, S: CodeSet + Drop>(
+fn stats_with<C: Code, S: CodeSet>(
     column: &Column,
     cells: &Indices<'_>,
     start: usize,
-    mut known: S,
+    known: &mut S,
 ) -> Stats
     requires layout { (column.now).layout ≡ IndicesLayout cells.now }
     requires width { C.BYTES ≡ byte_width (cells.now).index }
     requires start { IsFirstValid (cells.now).validity (column.now).first ((column.now).first + (column.now).len) start }
-    requires known { (code : ℕ) → S.has known code → code ≡ element_at (byte_width (cells.now).index) (cells.now).values start }
+    requires known { (code : ℕ) → S.has known.old code → code ≡ element_at (byte_width (cells.now).index) (cells.now).values start }
     ensures { IsStatsOf column.now result }
 {
     let _count = cells.len();
     let (first, to) = (column.first(), column.first() + column.len());
     let mut stats = Stats::Nulls.with_slot(column, start - first);
-    let _new = known.insert(C::code(cells.values(), start));
+    known.insert(C::code(cells.values(), start));
     for place in start + 1..to {
         if is_valid(cells.validity(), place) && known.insert(C::code(cells.values(), place)) {
             stats = stats.with_slot(column, place - first);
@@ -48,8 +48,8 @@ fn stats_by_last<C: Code>(column: &Column, cells: &Indices<'_>, start: usize) ->
     ensures { IsStatsOf column.now result }
 {
     let _count = cells.len();
-    let last = LastCodes::new(C::code(cells.values(), start));
-    stats_with::<C, LastCodes>(column, cells, start, last)
+    let mut last = LastCodes::new(C::code(cells.values(), start));
+    stats_with::<C, LastCodes>(column, cells, start, &mut last)
 }
 
 // The same, each used value looked at once, unless memory is refused: by marks of the dictionary's values where they are
@@ -71,14 +71,14 @@ fn stats_by_code<C: Code>(
     }
     if (count - MOST_LAST) / 8 <= column.len() {
         return match MarkedCodes::new(alloc, count) {
-            Ok(known) => stats_with::<C, MarkedCodes>(column, cells, start, known),
+            Ok(mut known) => stats_with::<C, MarkedCodes>(column, cells, start, &mut known),
             Err(_) => stats_by_last::<C>(column, cells, start),
         };
     }
     let _count = cells.len();
     let to = column.first() + column.len();
     match SortedCodes::new::<C>(alloc, cells, start, to) {
-        Ok(known) => stats_with::<C, SortedCodes>(column, cells, start, known),
+        Ok(mut known) => stats_with::<C, SortedCodes>(column, cells, start, &mut known),
         Err(_) => stats_by_last::<C>(column, cells, start),
     }
 }
