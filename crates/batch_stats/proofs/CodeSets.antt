@@ -53,7 +53,7 @@ no_marks count code has = elim (cases_lt code count) [
 -- with a mark more at a place of the code
 pub sorted_more : (codes : List ℕ) (marks next : List Bool) (place code other : ℕ) → get_or codes place 0 ≡ code → ((k : ℕ) → HasMark next k → (k ≡ place) ⊎ HasMark marks k) →
     HasSorted codes next other → (other ≡ code) ⊎ HasSorted codes marks other
-sorted_more codes marks next place code other is more has = elim (more has.0 has.1.1) [
-  | inl same ↦ inl (sym has.1.0 ∙ ap (λ (k : ℕ). get_or codes k 0) same ∙ is)
-  | inr mark ↦ inr (has.0, has.1.0, mark)
+sorted_more codes marks next place code other is more has = elim (more has.0 has.2) [
+  | inl same ↦ inl (sym has.1 ∙ ap (λ (k : ℕ). get_or codes k 0) same ∙ is)
+  | inr mark ↦ inr (has.0, has.1, mark)
 ]

@@ -43,6 +43,7 @@ impl LastCodes {
 impl CodeSet for LastCodes {
     ghost has = { λ set code. HasLast set.codes code };
 
+    #[tactic(auto, using(crate::proofs::CodeSets::last_more))]
     fn insert(&mut self, code: u64) -> bool {
         let place = code as usize % MOST_LAST;
         if self.codes[place] == code {
@@ -76,6 +77,7 @@ impl MarkedCodes {
 impl CodeSet for MarkedCodes {
     ghost has = { λ set code. HasMark set.marks.items code };
 
+    #[tactic(auto, using(crate::proofs::CodeSets::mark_more))]
     fn insert(&mut self, code: u64) -> bool {
         let place = code as usize;
         if place >= self.marks.len() {

@@ -47,7 +47,7 @@ fn stats_by_last<C: Code>(column: &Column, cells: &Indices<'_>, start: usize) ->
     requires start { IsFirstValid (cells.now).validity (column.now).first ((column.now).first + (column.now).len) start }
     ensures { IsStatsOf column.now result }
 {
-    let _count = cells.len();
+    let (_count, _len) = (cells.len(), column.len());
     let mut last = LastCodes::new(C::code(cells.values(), start));
     stats_with::<C, LastCodes>(column, cells, start, &mut last)
 }
