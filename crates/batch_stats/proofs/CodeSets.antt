@@ -1,9 +1,9 @@
 -- What sets of codes have.
 use Rattle.std.proofs.Common.{◌≡◌, ◌<◌, ◌%◌, ◌⊎◌, ℕ, Bool, true, false, inl, inr, List, length, get_or, replicate, sym, ap, ◌∙◌, arith}
-use Rattle.std.proofs.lemmas.Bool.{both_ways, cases_lt}
-use Rattle.std.proofs.lemmas.List.{get_or-replicate, get_or-set_other, get_or-set_same, get_or_past, length-replicate, length-set}
+use Rattle.std.proofs.lemmas.Bool.{cases_lt}
+use Rattle.std.proofs.lemmas.List.{get_or-replicate, get_or-set_other, get_or-set_same, get_or_past, length-set}
 use Rattle.std.proofs.Math.ListN.{set}
-use Rattle.batch_stats.specs.inside.CodeSets.{HasLast, HasMark, HasSorted}
+use Rattle.batch_stats.specs.inside.CodeSets.{HasLast, HasMark}
 
 -- at each place there is what was written, or what was there before
 module _ {X : Type 0} (xs : List X) (at other : ℕ) (x d : X) where
@@ -39,21 +39,4 @@ pub mark_more : (marks : List Bool) (code other : ℕ) → HasMark (set marks co
 mark_more marks code other has = elim (written_or_same marks code other true false) [
   | inl here ↦ inl here.0
   | inr same ↦ inr (sym same ∙ has)
-]
-
--- no mark at all
-pub no_marks : (count code : ℕ) → HasMark (replicate count false) code → ⊥
-no_marks count code has = elim (cases_lt code count) [
-  | inl low ↦ both_ways (get_or (replicate count false) code false) (get_or-replicate count code false false low) has
-  | inr past ↦
-      let long : length (replicate count false) ≡ count = length-replicate count false in
-      both_ways (get_or (replicate count false) code false) (get_or_past (replicate count false) code false (omega (arith, long, past))) has
-]
-
--- with a mark more at a place of the code
-pub sorted_more : (codes : List ℕ) (marks next : List Bool) (place code other : ℕ) → get_or codes place 0 ≡ code → ((k : ℕ) → HasMark next k → (k ≡ place) ⊎ HasMark marks k) →
-    HasSorted codes next other → (other ≡ code) ⊎ HasSorted codes marks other
-sorted_more codes marks next place code other is more has = elim (more has.0 has.2) [
-  | inl same ↦ inl (sym has.1 ∙ ap (λ (k : ℕ). get_or codes k 0) same ∙ is)
-  | inr mark ↦ inr (has.0, has.1, mark)
 ]
