@@ -1,8 +1,5 @@
 -- What the codes of a column's indices lead to.
-use Rattle.std.proofs.Common.{◌≡◌, ◌≤◌, ◌<◌, ◌+◌, ◌-◌, ℕ, true, false, inl, inr, List, length, get_or, Option, None, unwrap_or, sym, ap, ◌∙◌, arith}
-use Rattle.std.proofs.lemmas.Bool.{cases_lt}
-use Rattle.std.proofs.lemmas.List.{get_or-set_same, get_or-set_other}
-use Rattle.std.proofs.Math.ListN.{set}
+use Rattle.std.proofs.Common.{◌≡◌, ◌≤◌, ◌<◌, ◌+◌, ◌-◌, ◌⊎◌, ℕ, true, false, inl, inr, Option, None, unwrap_or, sym, ap, subst, ◌∙◌, arith}
 use Rattle.scan_base.specs.declared.value.Value.{Value}
 use Rattle.scan_base.specs.declared.value.Value.TheVariants.{Null}
 use Rattle.arrays.specs.Column.{ColumnAt, slot_of, values_of}
@@ -73,17 +70,19 @@ module _ (column : ColumnAt) (cells : IndicesAt) (is : column.layout ≡ layout.
       let v : slot_of column (place - column.first) ≡ coded cells (element_at (byte_width cells.index) cells.values place) = slot_at place low ∙ valid_slot place valid in
       rw v (stands_new ends (coded cells (element_at (byte_width cells.index) cells.values place)))
 
--- with one code more remembered, whose value changes no end any more
-pub remembered_more : (cells : IndicesAt) (ends : Option (Value × Value)) (v : Value) (codes : List ℕ) (mark code : ℕ) → length codes ≡ 2048 →
-    ((k : ℕ) → k < 2048 → Stands ends (coded cells (get_or codes k 0))) → Stands (with_value ends v) (coded cells code) →
-    (k : ℕ) → k < 2048 → Stands (with_value ends v) (coded cells (get_or (set codes mark code) k 0))
-remembered_more cells ends v codes mark code long all own k low = elim (cases_lt k mark) [
-  | inl below ↦ rw (get_or-set_other codes mark k code 0 (λ e. omega (arith, below, e))) (stands_more ends v (coded cells (get_or codes k 0)) (all k low))
-  | inr above ↦ elim (cases_lt mark k) [
-    | inl past ↦ rw (get_or-set_other codes mark k code 0 (λ e. omega (arith, past, e))) (stands_more ends v (coded cells (get_or codes k 0)) (all k low))
-    | inr upto ↦
-        let same : k ≡ mark = omega (arith, above, upto) in
-        let there : mark < length codes = omega (arith, same, low, long) in
-        rw (same, get_or-set_same codes mark code 0 there) own
+-- codes whose values change no end, and of a set with one code more
+module _ (cells : IndicesAt) (ends : Option (Value × Value)) (code : ℕ) (old new : ℕ → Type 0) (more : (other : ℕ) → new other → (other ≡ code) ⊎ old other)
+    (all : (other : ℕ) → old other → Stands ends (coded cells other)) where
+  -- where its value was looked at
+  pub known_more : (v : Value) → Stands (with_value ends v) (coded cells code) → (other : ℕ) → new other → Stands (with_value ends v) (coded cells other)
+  known_more v own other has = elim (more other has) [
+    | inl same ↦ subst (λ (z : ℕ). Stands (with_value ends v) (coded cells z)) (sym same) own
+    | inr before ↦ stands_more ends v (coded cells other) (all other before)
   ]
-]
+
+  -- where it had changed no end
+  pub known_still : Stands ends (coded cells code) → (other : ℕ) → new other → Stands ends (coded cells other)
+  known_still own other has = elim (more other has) [
+    | inl same ↦ subst (λ (z : ℕ). Stands ends (coded cells z)) (sym same) own
+    | inr before ↦ all other before
+  ]

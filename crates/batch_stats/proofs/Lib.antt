@@ -6,4 +6,5 @@ pub mod FlagEnds
 pub mod TextKeys
 pub mod TextPlaces
 pub mod Coded
+pub mod CodeSets
 pub mod Rows

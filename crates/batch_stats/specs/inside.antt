@@ -1,4 +1,5 @@
 -- What contracts of this crate's private functions alone cite.
+pub mod CodeSets
 pub mod Measured
 pub mod Slots
 pub mod TextKeys

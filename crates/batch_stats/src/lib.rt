@@ -1,6 +1,7 @@
 //! The statistics of a column: the least and the greatest value that is not null, and how many are null.
 #![tactic(auto)]
 
+mod code_sets;
 mod codes;
 mod entries;
 mod flags;

@@ -80,7 +80,7 @@ fn stats_of_each(alloc: Global, columns: &[Column]) -> Result<Vec<Stats>, AllocE
 {
     let mut stats = Vec::with_capacity(alloc, columns.len())?;
     for column in columns {
-        stats.push(Stats::of(column))?;
+        stats.push(Stats::of(alloc, column))?;
     }
     Ok(stats)
 }

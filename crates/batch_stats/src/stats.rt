@@ -15,6 +15,7 @@ use crate::side::{Ends, Side};
 use crate::texts::texts_stats;
 use arrays::{Cells, Column, Layout};
 use scan_base::{Comparison, Truth, ValueRef};
+use std::alloc::Global;
 
 /// The least and the greatest value of a column.
 #[derive(Clone, Copy, Debug, Drop)]
@@ -28,8 +29,9 @@ pub enum Stats {
 }
 
 impl Stats {
-    /// The statistics of a column. It takes no memory.
-    pub fn of(column: &Column) -> Stats
+    /// The statistics of a column. Of one of a dictionary with more than 2,048 values it asks for memory for a while: at most
+    /// nine bytes for each slot and 2,055 more. Where that is refused it takes longer.
+    pub fn of(alloc: Global, column: &Column) -> Stats
         ensures { IsStatsOf column.now result }
     {
         let (first, len) = (column.first(), column.len());
@@ -38,7 +40,7 @@ impl Stats {
             Layout::Decimals(cells) => decimals_stats(&cells, first, len),
             Layout::Bools(cells) => flags_stats(&cells, first, len),
             Layout::Texts(cells) => texts_stats(&cells, first, len),
-            Layout::Indices(cells) => entries_stats(column, &cells),
+            Layout::Indices(cells) => entries_stats(alloc, column, &cells),
         }
     }
 
