@@ -8,6 +8,7 @@ mod flags;
 mod keys;
 pub mod measured;
 mod numbers;
+pub mod owned;
 pub mod side;
 pub mod stats;
 mod texts;
@@ -15,5 +16,6 @@ mod validity;
 mod wide;
 
 pub use crate::measured::MeasuredBatch;
+pub use crate::owned::OwnedStats;
 pub use crate::side::{Ends, Side};
 pub use crate::stats::Stats;

@@ -1,11 +1,12 @@
 //! Batches with the statistics of their columns.
 
-ghost use Rattle.std.specs.Prelude.{◌≡◌, ◌<◌, length, IfOk};
+ghost use Rattle.std.specs.Prelude.{◌≡◌, ◌<◌, length, IfOk, IfSome};
 ghost use Rattle.arrays.specs.Column.{ColumnAt};
 ghost use Rattle.batch_stats.specs.Columns.{stats_in};
 ghost use Rattle.batch_stats.specs.Sides.{side_at};
 ghost use Rattle.batch_stats.specs.inside.Measured.{AreStatsOf};
 
+use crate::owned::OwnedStats;
 use crate::side::Side;
 use crate::stats::Stats;
 use arrays::{Batch, Cells, Column};
@@ -71,6 +72,14 @@ impl MeasuredBatch {
         ensures { side_at result ≡ stats_in self.now.columns column }
     {
         self.stats[column].side(&self.batch.columns()[column])
+    }
+
+    /// The statistics of a column, to be kept without it: those of numbers and truth values, or of a column without a value.
+    pub fn owned_stats(&self, column: usize) -> Option<OwnedStats>
+        requires { column < length self.now.columns }
+        ensures { IfSome result (λ owned. owned ≡ stats_in self.now.columns column) }
+    {
+        self.stats[column].owned(&self.batch.columns()[column])
     }
 }
 

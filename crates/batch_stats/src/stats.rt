@@ -1,6 +1,6 @@
 //! The statistics of a column.
 
-ghost use Rattle.std.specs.Prelude.{◌≡◌, ◌<◌, None, option_map};
+ghost use Rattle.std.specs.Prelude.{◌≡◌, ◌<◌, IfSome, None, option_map};
 ghost use Rattle.scan_base.specs.declared.comparison.Comparison.TheVariants.{Less};
 ghost use Rattle.scan_base.specs.Value.{value_of};
 ghost use Rattle.arrays.specs.Column.{slot_of, values_of, ColumnAt};
@@ -11,6 +11,7 @@ ghost use Rattle.batch_stats.specs.Stats.{stand, stats_of, with_value};
 use crate::entries::entries_stats;
 use crate::flags::flags_stats;
 use crate::numbers::{decimals_stats, integers_stats};
+use crate::owned::{OwnedEnds, OwnedStats};
 use crate::side::{Ends, Side};
 use crate::texts::texts_stats;
 use arrays::{Cells, Column, Layout};
@@ -136,6 +137,23 @@ impl Stats {
             ends: self.ends(column),
             nulls: column.null_count(),
         }
+    }
+
+    /// The same without the column, unless the values are texts.
+    pub fn owned(&self, column: &Column) -> Option<OwnedStats>
+        requires { IsStatsOf column.now self.now }
+        ensures { IfSome result (λ owned. owned ≡ stats_of (values_of column.now)) }
+    {
+        let ends = match *self {
+            Stats::Nulls => OwnedEnds::Nulls,
+            Stats::Flags { least, greatest } => OwnedEnds::Flags { least, greatest },
+            Stats::Numbers { least, greatest } => OwnedEnds::Numbers { least, greatest },
+            Stats::Texts { .. } => return None,
+        };
+        Some(OwnedStats {
+            ends,
+            nulls: column.null_count(),
+        })
     }
 }
 

@@ -114,9 +114,8 @@ fn place_list(
     }
     let mut place = table.batch_of(from);
     while place.start < end {
-        let batch = table.measured(place.index);
-        let rows = batch.rows();
-        if filter.can_hold(batch) {
+        let rows = table.batch_rows(place.index);
+        if filter.can_hold(table, place.index) {
             list.push(place, rows, from, end)?;
         }
         place.start += rows;

@@ -1,18 +1,19 @@
 //! Which batches of a place can hold a row that is kept.
 
-ghost use Rattle.std.specs.Prelude.{◌≡◌, IfOk, IsTrue, length, map};
+ghost use Rattle.std.specs.Prelude.{◌≡◌, ◌<◌, IfOk, IsTrue, length, map};
 ghost use Rattle.std.specs.List.{filter, list_all};
 ghost use Rattle.scan_base.specs.Predicate.{names_only, operand_names};
 ghost use Rattle.scan_base.specs.View.{pred_of};
 ghost use Rattle.rewrite.specs.Conjuncts.{is_between};
 ghost use Rattle.typed_plan.specs.Typed.{has_columns};
 ghost use Rattle.opened_batches.specs.Opened.{given_columns, given_width};
-ghost use Rattle.opened_batches.specs.inside.Judged.{all_can};
+ghost use Rattle.opened_batches.specs.inside.Judged.{all_can, batch_columns};
 
 use batch_skipping::{Measured, may_hold};
-use batch_stats::{MeasuredBatch, Side};
+use batch_stats::Side;
 use scan_base::{Operand, Predicate};
 use std::alloc::{AllocError, Global};
+use table_versions::TableVersion;
 use typed_plan::Columns;
 
 // The columns of a place that its scan gives: how many they are, and the number of the first among those of all places.
@@ -102,16 +103,21 @@ impl<'a> PlaceFilter<'a> {
         Ok(PlaceFilter { parts, place })
     }
 
-    // Whether each conjunct can be true in a batch of the place.
-    pub(crate) fn can_hold(&self, batch: &MeasuredBatch) -> bool
+    // Whether each conjunct can be true in a batch of the place's table.
+    pub(crate) fn can_hold(&self, table: &TableVersion, index: usize) -> bool
+        requires there { index < length table.now.batches }
         requires own { IsTrue (list_all (names_only (is_between self.now.place.first self.now.place.width)) (map (λ part. pred_of part.now) self.now.parts.items)) }
-        requires fit { IsTrue (has_columns (length batch.now.columns) self.now.place.columns.now) }
-        requires wide { self.now.place.width ≡ given_width self.now.place.columns.now (length batch.now.columns) }
+        requires fit { IsTrue (has_columns (length table.now.schema.fields) self.now.place.columns.now) }
+        requires wide { self.now.place.width ≡ given_width self.now.place.columns.now (length table.now.schema.fields) }
         ensures { result ≡ all_can (map (λ part. pred_of part.now) self.now.parts.items) self.now.place.first
-            (given_columns self.now.place.columns.now batch.now.columns) }
+            (given_columns self.now.place.columns.now (batch_columns table.now index)) }
     {
         let place = self.place;
-        let batch = PlaceBatch { batch, place };
+        let batch = PlaceBatch {
+            table,
+            index,
+            place,
+        };
         for part in &self.parts {
             if !may_hold(*part, &batch) {
                 return false;
@@ -121,30 +127,33 @@ impl<'a> PlaceFilter<'a> {
     }
 }
 
-// A batch of a place.
+// A batch of a place, by its number in the place's table.
 #[derive(Clone, Copy, Drop)]
 struct PlaceBatch<'a> {
-    batch: &'a MeasuredBatch,
+    table: &'a TableVersion,
+    index: usize,
     place: PlaceColumns<'a>,
 }
 
 impl Measured<usize> for PlaceBatch<'_> {
-    ghost use Rattle.std.specs.Prelude.{◌-◌, ◌&&◌, length};
+    ghost use Rattle.std.specs.Prelude.{◌-◌, ◌&&◌, length, nat_lt};
     ghost use Rattle.batch_stats.specs.Columns.{stats_in};
     ghost use Rattle.rewrite.specs.Conjuncts.{is_between};
     ghost use Rattle.typed_plan.specs.Typed.{has_columns};
     ghost use Rattle.opened_batches.specs.Opened.{given_columns, given_width};
+    ghost use Rattle.opened_batches.specs.inside.Judged.{batch_columns};
 
-    ghost stats = { λ of column. stats_in (given_columns of.place.columns.now of.batch.now.columns) (column - of.place.first) };
+    ghost stats = { λ of column. stats_in (given_columns of.place.columns.now (batch_columns of.table.now of.index)) (column - of.place.first) };
 
-    ghost has = { λ of column. has_columns (length of.batch.now.columns) of.place.columns.now
-        && is_between of.place.first (given_width of.place.columns.now (length of.batch.now.columns)) column };
+    ghost has = { λ of column. nat_lt of.index (length of.table.now.batches)
+        && (has_columns (length of.table.now.schema.fields) of.place.columns.now
+        && is_between of.place.first (given_width of.place.columns.now (length of.table.now.schema.fields)) column) };
 
     fn side(&self, column: &usize) -> Side<'_> {
         let number = *column - self.place.first;
         match self.place.columns {
-            Columns::All => self.batch.side(number),
-            Columns::These(numbers) => self.batch.side(numbers.as_slice()[number]),
+            Columns::All => self.table.side(self.index, number),
+            Columns::These(numbers) => self.table.side(self.index, numbers.as_slice()[number]),
         }
     }
 }

@@ -1,5 +1,5 @@
 -- Worked rows: the definitions, tried on puts that were worked out by hand.
-use Rattle.std.proofs.Common.{ℕ, ◌≡◌, refl, pos, true, false, List, [], ◌∷◌, codes, Some, Ok, Err, replicate, map, is_ok}
+use Rattle.std.proofs.Common.{ℕ, zero, suc, ◌≡◌, refl, pos, true, false, List, [], ◌∷◌, codes, Some, Ok, Err, replicate, map, is_ok}
 use Rattle.std.specs.List.{range_with_len}
 use Rattle.scan_base.specs.declared.value.Value.TheVariants.{Int, Null, Text}
 use Rattle.scan_base.specs.declared.fault.Fault.TheVariants.{TableMissing, TableExists, LimitReached, BadBatch, SchemaMismatch}
@@ -15,6 +15,7 @@ use Rattle.scan_base.specs.declared.put_options.IfNotExist.TheVariants as absent
 use Rattle.table_versions.specs.Table.{Name, Row, Table}
 use Rattle.table_versions.specs.Database.{Database, Put, after, database_of, version, AreAccepted, logged}
 use Rattle.table_versions.specs.Stored.{stored_after}
+use Rattle.table_versions.specs.StatsPages.{AreRowsFrom}
 
 abbrev field : Name → DataType → Field
 field name data_type = record { name = name; nullable = false; data_type = data_type }
@@ -190,3 +191,14 @@ stored : stored_after Append (Some (record { schema = record { fields = [] }; ba
     })
     ≡ record { schema = record { fields = [] }; batches = batch 2 ∷ batch 1 ∷ batch 3 ∷ [] }
 stored = refl
+
+-- ---- pages
+
+abbrev of_rows : ℕ → BatchAt
+of_rows rows = record { columns = []; rows = rows }
+
+-- batches of 2, 3 and 5 rows: those from the second on have 3 and 5
+rows_from_second : AreRowsFrom (of_rows 2 ∷ of_rows 3 ∷ of_rows 5 ∷ []) 1 (3 ∷ 5 ∷ [])
+rows_from_second zero n at = at
+rows_from_second (suc zero) n at = at
+rows_from_second (suc (suc i)) n at = cc

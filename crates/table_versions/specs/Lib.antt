@@ -1,4 +1,5 @@
 pub mod Batches
+pub mod StatsPages
 pub mod Table
 pub mod Columns
 pub mod Database

@@ -12,6 +12,7 @@ pub mod limits;
 mod placed_batch;
 pub mod put;
 pub mod snapshot;
+mod stats_page;
 pub mod table;
 
 pub use crate::catalog::CatalogVersion;

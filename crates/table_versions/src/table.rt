@@ -1,20 +1,24 @@
 //! A table as a version of the catalog has it.
 
-ghost use Rattle.std.specs.Prelude.{◌≡◌, ◌<◌, ◌≤◌, Some, length, slice_get, IfOk};
+ghost use Rattle.std.specs.Prelude.{◌≡◌, ◌<◌, ◌≤◌, ◌*◌, ◌/◌, Some, length, option_map, slice_get, IfOk, IfSome};
 ghost use Rattle.std.specs.Arc.{arc_value};
 ghost use Rattle.arrow_schema.specs.Schema.{IsSchema};
-ghost use Rattle.arrays.specs.Batch.{rows_of};
+ghost use Rattle.arrays.specs.Batch.{BatchAt, rows_of};
 ghost use Rattle.arrays.specs.Typed.{AreOfTypes};
+ghost use Rattle.batch_stats.specs.Columns.{stats_in};
+ghost use Rattle.batch_stats.specs.Sides.{side_at};
 ghost use Rattle.scan_base.specs.Limits.{most_columns, most_rows};
 ghost use Rattle.table_versions.specs.Kept.{AreSound, IsKept};
 ghost use Rattle.table_versions.specs.Standing.{StandsIn};
+ghost use Rattle.table_versions.specs.StatsPages.{IsPageFrom};
 ghost use Rattle.table_versions.specs.Stored.{table_of};
 
 use crate::growing::GrowingTable;
 use crate::placed_batch::PlacedBatch;
+use crate::stats_page::{PAGE_BATCHES, StatsPage};
 use arrays::Batch;
 use arrow_schema::Schema;
-use batch_stats::MeasuredBatch;
+use batch_stats::{MeasuredBatch, OwnedStats, Side};
 use shared_pages::Pages;
 use std::alloc::{AllocError, Global};
 use std::marker::Model;
@@ -26,6 +30,7 @@ use std::sync::Arc;
 pub struct TableVersion {
     schema: Arc<Schema>,
     batches: Arc<Pages<PlacedBatch>>,
+    stats: Arc<Pages<StatsPage>>,
     rows: usize,
 }
 
@@ -35,6 +40,7 @@ impl Drop for TableVersion {
         let TableVersion {
             schema: _,
             batches: _,
+            stats: _,
             rows: _,
         } = self;
     }
@@ -50,13 +56,14 @@ pub struct BatchPlace {
 impl Model for TableVersion {
     ghost use Rattle.std.specs.Arc.{arc_value};
     ghost use Rattle.table_versions.specs.Stored.{TableAt};
-    ghost use Rattle.table_versions.specs.Batches.{ArePlaced, placed_table};
+    ghost use Rattle.table_versions.specs.Batches.{placed_table};
+    ghost use Rattle.table_versions.specs.StatsPages.{AreStored};
 
     ghost Value = { TableAt };
 
     ghost view = { λ t. placed_table (arc_value t.schema) (arc_value t.batches) };
 
-    ghost invariant = { λ t. ArePlaced (arc_value t.schema) (arc_value t.batches) t.rows };
+    ghost invariant = { λ t. AreStored (arc_value t.schema) (arc_value t.batches) (arc_value t.stats) t.rows };
 }
 
 impl TableVersion {
@@ -112,6 +119,64 @@ impl TableVersion {
         &self.batches.get(index).batch
     }
 
+    /// How many rows the batch of a number has, at least 1.
+    pub fn batch_rows(&self, index: usize) -> usize
+        requires { index < length self.now.batches }
+        ensures rows { option_map (λ (batch : BatchAt). batch.rows) (slice_get self.now.batches index) ≡ Some result }
+        ensures filled { 0 < result }
+    {
+        match self.paged_rows(index) {
+            Some(rows) => rows,
+            None => self.measured(index).rows(),
+        }
+    }
+
+    /// What the values of a column of a batch are between, and how many are null. Of numbers and truth values in the full
+    /// pages of 256 batches it is read without the batch.
+    pub fn side(&self, index: usize, column: usize) -> Side<'_>
+        requires batch { index < length self.now.batches }
+        requires column { column < length self.now.schema.fields }
+        ensures stats { option_map (λ (batch : BatchAt). stats_in batch.columns column) (slice_get self.now.batches index) ≡ Some (side_at result) }
+        ensures wide { IfSome (slice_get self.now.batches index) (λ batch. length batch.columns ≡ length self.now.schema.fields) }
+    {
+        match self.paged_stats(index, column) {
+            Some(stats) => stats.side(),
+            None => self.measured(index).side(column),
+        }
+    }
+
+    // The rows of a batch that has a page.
+    fn paged_rows(&self, index: usize) -> Option<usize>
+        ensures filled { IfSome result (λ rows. 0 < rows) }
+        ensures rows { IfSome result (λ rows. option_map (λ (batch : BatchAt). batch.rows) (slice_get self.now.batches index) ≡ Some rows) }
+    {
+        self.page_of(index)?.rows.get(index % PAGE_BATCHES).copied()
+    }
+
+    // The statistics of a column of a batch that has a page, where that has them.
+    fn paged_stats(&self, index: usize, column: usize) -> Option<&OwnedStats>
+        ensures wide { IfSome result (λ _. IfSome (slice_get self.now.batches index) (λ batch. length batch.columns ≡ length self.now.schema.fields)) }
+        ensures stats { IfSome result (λ stats. option_map (λ (batch : BatchAt). stats_in batch.columns column) (slice_get self.now.batches index) ≡ Some stats.now) }
+    {
+        self.page_of(index)?
+            .columns
+            .get(column)?
+            .get(index % PAGE_BATCHES)
+    }
+
+    // The page of a batch.
+    fn page_of(&self, index: usize) -> Option<&StatsPage>
+        ensures page { IfSome result (λ page. IsPageFrom self.now.batches (index / 256 * 256) page.now) }
+        ensures kept { IsKept self.now (length (table_of self.now).rows) }
+    {
+        let page = index / PAGE_BATCHES;
+        if page < self.stats.len() {
+            Some(self.stats.get(page))
+        } else {
+            None
+        }
+    }
+
     /// The batch that a row stands in, looked for by halves.
     pub fn batch_of(&self, row: usize) -> BatchPlace
         requires { row < length (table_of self.now).rows }
@@ -142,6 +207,7 @@ impl TableVersion {
         Ok(TableVersion {
             schema: Arc::try_clone(&self.schema)?,
             batches: Arc::try_clone(&self.batches)?,
+            stats: Arc::try_clone(&self.stats)?,
             rows: self.rows,
         })
     }
@@ -153,6 +219,7 @@ impl TableVersion {
         Ok(GrowingTable {
             schema: Arc::try_clone(&self.schema)?,
             batches: self.batches.share(alloc)?,
+            stats: Arc::try_clone(&self.stats)?,
             rows: self.rows,
         })
     }
@@ -164,11 +231,13 @@ impl TableVersion {
         let GrowingTable {
             schema,
             batches,
+            stats,
             rows,
         } = table;
         Ok(TableVersion {
             schema,
             batches: Arc::new(alloc, batches).map_err(|_| AllocError)?,
+            stats,
             rows,
         })
     }

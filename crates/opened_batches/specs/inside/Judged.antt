@@ -1,5 +1,5 @@
 -- Batches that are judged by some conjuncts.
-use Rattle.std.specs.Prelude.{ℕ, ◌-◌, Bool, ◌&&◌, List, slice_get}
+use Rattle.std.specs.Prelude.{ℕ, ◌-◌, Bool, ◌&&◌, List, [], Option, Some, None, slice_get}
 use Rattle.std.specs.List.{filter, list_all, range_with_len}
 use Rattle.std.specs.Option.{option_to_list}
 use Rattle.arrays.specs.Batch.{BatchAt}
@@ -10,6 +10,15 @@ use Rattle.scan_base.specs.Predicate.{Pred}
 use Rattle.table_versions.specs.Stored.{TableAt}
 use Rattle.typed_plan.specs.declared.plan.Columns.{Columns}
 use Rattle.opened_batches.specs.Opened.{given_columns, has_row_in}
+
+-- the columns of a batch; of one that is not there none
+abbrev pub columns_of : Option BatchAt → List ColumnAt
+columns_of (Some batch) = batch.columns
+columns_of None = []
+
+-- the columns of batch i of a table
+abbrev pub batch_columns : TableAt → ℕ → List ColumnAt
+batch_columns table i = columns_of (slice_get table.batches i)
 
 -- whether each of these can be true in a batch of these columns, of which the first has this number
 abbrev pub all_can : List (Pred ℕ) → ℕ → List ColumnAt → Bool

@@ -1,8 +1,12 @@
-use Rattle.std.proofs.Common.{◌≡◌, ◌<◌, ◌+◌, ◌-◌, ℕ, Bor, length, map, min, ap, sym, ◌∙◌, subst, refl, arith}
+use Rattle.std.proofs.Common.{◌≡◌, ◌<◌, ◌+◌, ◌-◌, ℕ, Bor, length, map, min, ap, sym, ◌∙◌, subst, refl, arith, slice_get, Option}
+use Rattle.arrays.specs.Batch.{BatchAt}
 use Rattle.scan_base.specs.declared.predicate.Predicate.{Predicate}
 use Rattle.scan_base.specs.View.{pred_of}
 use Rattle.table_versions.specs.Stored.{table_of}
 use Rattle.opened_batches.specs.declared.opened.OpenedList.{OpenedList}
+use Rattle.opened_batches.specs.Opened.{given_columns}
+use Rattle.opened_batches.specs.inside.Judged.{all_can, columns_of}
+use Rattle.opened_batches.proofs.Found.{found_batch}
 use Rattle.opened_batches.proofs.SoFar.{IsSoFar, begun, nothing, fits, passed, listed, all_listed}
 use Rattle.opened_batches.proofs.opened.place_list.Goals.{then-can_hold+in_ok-push, else-can_hold}
 use Rattle.opened_batches.proofs.opened.place_list.Goals as goal
@@ -25,23 +29,25 @@ pub push-requires-clause-rows : goal.push-requires-clause-rows
 push-requires-clause-rows c =
     let place = c.args.filter.now.place in
     let at = c.loop-place.place in
-    let batch = c.measured-batch in
+    let one = found_batch (slice_get c.args.table.now.batches at.index) c.batch_rows-rows.result c.batch_rows-rows.ensures.rows in
+    let filled : 0 < one.0.rows = omega (arith, one.2, c.batch_rows-rows.ensures.filled) in
     let most = fits (map (λ (part : Bor (Predicate ℕ)). pred_of part.now) c.args.filter.now.parts.items) place.first place.columns.now c.args.from c.args.to c.args.table.now
     c.batches_are_rows.ensures at.index at.start c.min-end.result c.loop-place.list c.loop-place.invariant
-    (c.min-end.ensures ∙ ap (λ (n : ℕ). min c.args.to n) c.rows.ensures.rows) batch.result.now batch.ensures.batch batch.ensures.filled
+    (c.min-end.ensures ∙ ap (λ (n : ℕ). min c.args.to n) c.rows.ensures.rows) one.0 one.1 filled
     (omega (arith, c.if-from-end.false)) c.loop-place-test.true in
-    omega (arith, most, c.rows-rows.ensures, c.loop-place.invariant.few, c.rows.ensures.rows, c.rows.ensures.few)
+    omega (arith, most, one.2, c.loop-place.invariant.few, c.rows.ensures.rows, c.rows.ensures.few)
 
 pub overflow_add-place : goal.overflow_add-place
 overflow_add-place c =
     let place = c.args.filter.now.place in
     let at = c.loop-place.place in
-    let batch = c.measured-batch in
+    let one = found_batch (slice_get c.args.table.now.batches at.index) c.batch_rows-rows.result c.batch_rows-rows.ensures.rows in
+    let filled : 0 < one.0.rows = omega (arith, one.2, c.batch_rows-rows.ensures.filled) in
     let most = fits (map (λ (part : Bor (Predicate ℕ)). pred_of part.now) c.args.filter.now.parts.items) place.first place.columns.now c.args.from c.args.to c.args.table.now
     c.batches_are_rows.ensures at.index at.start c.min-end.result c.loop-place.list c.loop-place.invariant
-    (c.min-end.ensures ∙ ap (λ (n : ℕ). min c.args.to n) c.rows.ensures.rows) batch.result.now batch.ensures.batch batch.ensures.filled
+    (c.min-end.ensures ∙ ap (λ (n : ℕ). min c.args.to n) c.rows.ensures.rows) one.0 one.1 filled
     (omega (arith, c.if-from-end.false)) c.loop-place-test.true in
-    omega (arith, most, c.rows-rows.ensures, c.rows.ensures.rows, c.rows.ensures.few)
+    omega (arith, most, one.2, c.rows.ensures.rows, c.rows.ensures.few)
 
 pub loop-place-preserved : goal.loop-place-preserved
 loop-place-preserved c =
@@ -49,22 +55,24 @@ loop-place-preserved c =
     let parts = map (λ (part : Bor (Predicate ℕ)). pred_of part.now) c.args.filter.now.parts.items in
     let table = c.args.table.now in
     let at = c.loop-place.place in
-    let batch = c.measured-batch in
+    let one = found_batch (slice_get c.args.table.now.batches at.index) c.batch_rows-rows.result c.batch_rows-rows.ensures.rows in
+    let filled : 0 < one.0.rows = omega (arith, one.2, c.batch_rows-rows.ensures.filled) in
+    let can = c.can_hold.ensures ∙ ap (λ (found : Option BatchAt). all_can parts place.first (given_columns place.columns.now (columns_of found))) one.1 in
     let last : c.min-end.result ≡ min c.args.to (length (table_of table).rows) = c.min-end.ensures ∙ ap (λ (n : ℕ). min c.args.to n) c.rows.ensures.rows in
     let before : c.args.from < c.min-end.result = omega (arith, c.if-from-end.false) in
-    subst (λ (n : ℕ). IsSoFar parts place.first place.columns.now c.args.from c.args.to table (at.index + 1) (at.start + n) c.if-can_hold.list) (sym c.rows-rows.ensures)
+    subst (λ (n : ℕ). IsSoFar parts place.first place.columns.now c.args.from c.args.to table (at.index + 1) (at.start + n) c.if-can_hold.list) one.2
     (elim c.if-can_hold.branch [
       | then-can_hold+in_ok-push w ↦
-          subst (λ (list : OpenedList). IsSoFar parts place.first place.columns.now c.args.from c.args.to table (at.index + 1) (at.start + batch.result.now.rows) list) (sym w.list-is)
+          subst (λ (list : OpenedList). IsSoFar parts place.first place.columns.now c.args.from c.args.to table (at.index + 1) (at.start + one.0.rows) list) (sym w.list-is)
           (listed parts place.first place.columns.now c.args.from c.args.to table c.batches_are_rows.ensures at.index at.start c.min-end.result c.loop-place.list
-          c.loop-place.invariant last batch.result.now batch.ensures.batch batch.ensures.filled before c.loop-place-test.true c.can_hold.result c.can_hold.ensures
+          c.loop-place.invariant last one.0 one.1 filled before c.loop-place-test.true c.can_hold.result can
           w.if-can_hold.true w.push.new.self w.in_ok-push.ensures.numbers
-          (w.in_ok-push.ensures.rows ∙ ap (λ (n : ℕ). c.loop-place.list.rows + n) c.rows-rows.ensures) w.in_ok-push.ensures.from
-          (w.in_ok-push.ensures.to ∙ ap (λ (n : ℕ). c.loop-place.list.to + min n (c.min-end.result - at.start)) c.rows-rows.ensures))
+          (w.in_ok-push.ensures.rows ∙ ap (λ (n : ℕ). c.loop-place.list.rows + n) (sym one.2)) w.in_ok-push.ensures.from
+          (w.in_ok-push.ensures.to ∙ ap (λ (n : ℕ). c.loop-place.list.to + min n (c.min-end.result - at.start)) (sym one.2)))
       | else-can_hold w ↦
-          subst (λ (list : OpenedList). IsSoFar parts place.first place.columns.now c.args.from c.args.to table (at.index + 1) (at.start + batch.result.now.rows) list) (sym w.list-is)
+          subst (λ (list : OpenedList). IsSoFar parts place.first place.columns.now c.args.from c.args.to table (at.index + 1) (at.start + one.0.rows) list) (sym w.list-is)
           (passed parts place.first place.columns.now c.args.from c.args.to table c.batches_are_rows.ensures at.index at.start c.min-end.result c.loop-place.list
-          c.loop-place.invariant last batch.result.now batch.ensures.batch batch.ensures.filled before c.loop-place-test.true c.can_hold.result c.can_hold.ensures
+          c.loop-place.invariant last one.0 one.1 filled before c.loop-place-test.true c.can_hold.result can
           w.if-can_hold.false)
     ])
 

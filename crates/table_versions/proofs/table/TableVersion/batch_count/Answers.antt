@@ -5,4 +5,4 @@ use Rattle.table_versions.proofs.table.TableVersion.batch_count.Goals as goal
 
 pub len-requires : goal.len-requires
 len-requires c = rw c.deref.ensures
-    (omega (arith, few_batches (arc_value c.self.inside.schema) (arc_value c.self.inside.batches) c.self.inside.rows c.self.invariant))
+    (omega (arith, few_batches (arc_value c.self.inside.schema) (arc_value c.self.inside.batches) c.self.inside.rows c.self.invariant.placed))

@@ -10,7 +10,7 @@ there c = batch_there (arc_value c.self.inside.batches) c.args.index c.deref-2.r
 
 here : (c : goal.After-deref-2) → IsBatch (arc_value c.self.inside.schema) c.deref-2.result.now.batch
 here c = batch_at (placed_table (arc_value c.self.inside.schema) (arc_value c.self.inside.batches)) c.self.inside.rows c.args.index
-    c.deref-2.result.now.batch c.self.invariant.kept (there c)
+    c.deref-2.result.now.batch c.self.invariant.placed.kept (there c)
 
 pub returns-clause-batch : goal.returns-clause-batch
 returns-clause-batch c = rw (← c.self.view_is) (there c)

@@ -1,0 +1,37 @@
+-- The batch of a number.
+use Rattle.std.specs.Prelude.{IsTrue, IfSome}
+use Rattle.std.proofs.Common.{◌≡◌, ℕ, ◌-◌, ◌&&◌, List, length, get_or, Option, Some, None, refl, sym, ap, ◌∙◌, subst, option_map}
+use Rattle.arrays.specs.Batch.{BatchAt}
+use Rattle.batch_stats.specs.Columns.{stats_if_there, stats_in}
+use Rattle.batch_stats.specs.Stats.{StatsAt}
+use Rattle.rewrite.specs.Conjuncts.{is_between}
+use Rattle.typed_plan.specs.declared.plan.Columns.TheVariants.{These}
+use Rattle.typed_plan.specs.Typed.{has_columns}
+use Rattle.opened_batches.specs.Chosen.{columns_at}
+use Rattle.opened_batches.specs.Opened.{given_width}
+use Rattle.opened_batches.specs.inside.Judged.{columns_of}
+use Rattle.opened_batches.proofs.GivenColumns.{these_at}
+
+-- one whose rows are known is there
+pub found_batch : (found : Option BatchAt) (rows : ℕ) → option_map (λ (batch : BatchAt). batch.rows) found ≡ Some rows →
+    (batch : BatchAt) × (found ≡ Some batch) × (batch.rows ≡ rows)
+found_batch None rows is = absurd (let no : ⊥ = cc in no)
+found_batch (Some batch) rows is = let same : batch.rows ≡ rows = cc in (batch, refl, same)
+
+-- known statistics are those of its column
+pub found_stats : (found : Option BatchAt) (column : ℕ) (stats : StatsAt) → option_map (λ (batch : BatchAt). stats_in batch.columns column) found ≡ Some stats →
+    stats ≡ stats_in (columns_of found) column
+found_stats None column stats is = absurd (let no : ⊥ = cc in no)
+found_stats (Some batch) column stats is = cc
+
+-- also where a scan gives columns by their numbers
+pub found_these : (found : Option BatchAt) (numbers : List ℕ) (width first column : ℕ) (stats : StatsAt) → IfSome found (λ batch. length batch.columns ≡ width) →
+    IsTrue (has_columns width (These numbers) && is_between first (given_width (These numbers) width) column) →
+    option_map (λ (batch : BatchAt). stats_in batch.columns (get_or numbers (column - first) 0)) found ≡ Some stats →
+    stats ≡ stats_in (columns_at numbers (columns_of found)) (column - first)
+found_these None numbers width first column stats wide has is = absurd (let no : ⊥ = cc in no)
+found_these (Some batch) numbers width first column stats wide has is =
+    let same : stats_in batch.columns (get_or numbers (column - first) 0) ≡ stats = cc in
+    sym same
+    ∙ ap stats_if_there (sym (these_at numbers batch.columns first column
+    (subst (λ (n : ℕ). IsTrue (has_columns n (These numbers) && is_between first (given_width (These numbers) n) column)) (sym wide) has)))
