@@ -1,10 +1,23 @@
 //! The keys of texts, which mostly tell their order.
 
-ghost use Rattle.std.specs.Prelude.{◌≡◌, ◌≤◌, ◌+◌, ◌-◌, ◌*◌, ◌/◌, ◌%◌, ◌^◌, ◌&&◌, nat_le, length, slice_range, slice_index};
+ghost use Rattle.std.specs.Prelude.{◌≡◌, ◌≤◌, ◌+◌, ◌-◌, ◌*◌, ◌/◌, ◌%◌, ◌^◌, ◌&&◌, min, nat_le, length, slice_range, slice_index};
 ghost use Rattle.byteorder.specs.Endian.{big_from};
 ghost use Rattle.batch_stats.specs.inside.TextKeys.{key_of};
 
 use byteorder::{BigEndian, ByteOrder};
+
+// The bits of the first bytes of a word, at most seven, by how many they are.
+static FIRST_BYTES: [u64; 9] = [
+    0,
+    0xff00_0000_0000_0000,
+    0xffff_0000_0000_0000,
+    0xffff_ff00_0000_0000,
+    0xffff_ffff_0000_0000,
+    0xffff_ffff_ff00_0000,
+    0xffff_ffff_ffff_0000,
+    0xffff_ffff_ffff_ff00,
+    0xffff_ffff_ffff_ff00,
+];
 
 /// The keys from one up to, and with, another.
 #[derive(Clone, Copy, Drop)]
@@ -40,18 +53,16 @@ pub(crate) fn key_at(bytes: &[u8], begin: usize, end: usize) -> u64
     requires within { end ≤ length bytes.now }
     ensures { result ≡ key_of (slice_range bytes.now begin end) }
 {
-    let len = end - begin;
-    let taken = len.min(7);
-    256 * first_bytes(word_at(bytes, begin), taken) + (taken as u64 + (len > 7) as u64)
+    let count = (end - begin).min(8);
+    first_bytes(word_at(bytes, begin), count) + count as u64
 }
 
-// The first of the eight bytes of a word, at most seven, with zeros behind them up to seven.
+// The first of the eight bytes of a word, at most seven, with zeros behind them up to eight.
 fn first_bytes(word: u64, count: usize) -> u64
-    requires { count ≤ 7 }
-    ensures { result ≡ word / 256 ^ (8 - count) * 256 ^ (7 - count) }
+    requires { count ≤ 8 }
+    ensures { result ≡ 256 * (word / 256 ^ (8 - min count 7) * 256 ^ (7 - min count 7)) }
 {
-    let rest = 56 - 8 * count;
-    word >> 8 >> rest << rest
+    word & FIRST_BYTES[count]
 }
 
 // The eight bytes from a place on as a number, the first of them highest. Past the end stand zeros.
