@@ -1,5 +1,5 @@
 -- The keys of texts: of cut ones, and their order.
-use Rattle.std.proofs.Common.{◌≡◌, ◌≤◌, ◌<◌, ℕ, zero, suc, ◌+◌, ◌-◌, ◌*◌, ◌/◌, ◌%◌, ◌^◌, min, bit_and, nat_cmp, true, false, Some, inl, inr, List, [], ◌∷◌, length, take, drop, refl, sym, ap, subst, ◌∙◌, arith}
+use Rattle.std.proofs.Common.{◌≡◌, ◌≤◌, ◌<◌, ℕ, zero, suc, ◌+◌, ◌-◌, ◌*◌, ◌/◌, ◌%◌, ◌^◌, ◌&&◌, nat_le, nat_lt, min, bit_and, nat_cmp, true, false, Some, inl, inr, List, [], ◌∷◌, length, take, drop, refl, sym, ap, subst, ◌∙◌, arith}
 use Rattle.std.specs.Prelude.{⊤, slice_index}
 use Rattle.std.specs.Ordering.{is_lt, ordering_then}
 use Rattle.std.specs.declared.cmp.Ordering.{Ordering}
@@ -8,7 +8,7 @@ use Rattle.std.specs.Cmp.Lexicographic.{slice_cmp}
 use Rattle.std.proofs.Math.Nat.{add-mul, add_assoc, div-div-eq-div-mul, div-mul-le_self, mod-eq_of_lt, mul_assoc, mul_left_comm, mul-le-mul_right, pow-le-pow_right, pow-succ'}
 use Rattle.std.proofs.lemmas.Nat.{pow-add, div-mul-add}
 use Rattle.std.proofs.lemmas.Nat.Bits.{and_high_mask}
-use Rattle.std.proofs.lemmas.Bool.{both_ways, cases_lt, cases_order, false_from_ne_true, lt-ltb}
+use Rattle.std.proofs.lemmas.Bool.{both_ways, cases_lt, cases_order, false_from_ne_true, le-leb, le-ltb, lt-leb, lt-ltb}
 use Rattle.std.proofs.lemmas.Cmp.{tied_itself}
 use Rattle.std.specs.Cmp.{nat_cmp_total}
 use Rattle.std.proofs.lemmas.List.{get_or-drop, get_or-take, length-drop, length-take}
@@ -301,6 +301,27 @@ pub key_keeps : (least greatest text : List ℕ) → Bytes least → Bytes great
     with_value (Some (Text least, Text greatest)) (Text text) ≡ Some (Text least, Text greatest)
 key_keeps least greatest text least_bytes greatest_bytes bytes low high =
     stands_kept (Some (Text least, Text greatest)) (Text text) (not_below_low text least bytes least_bytes low, not_above_high text greatest bytes greatest_bytes high)
+
+-- whether a key is one from `low` up to `high`, by how far it is behind `low` and how many there are
+pub told_by_count : (low high key count : ℕ) → key < 2 ^ 64 → high < 2 ^ 64 → count ≡ high + 1 - low →
+    nat_lt ((key + (2 ^ 64 - low)) % 2 ^ 64) count ≡ (nat_le low key && nat_le key high)
+told_by_count low high key count fits high_fits is = elim (cases_lt key low) [
+  | inl below ↦
+      let far = (key + (2 ^ 64 - low)) % 2 ^ 64 in
+      let few : count ≤ far = elim (cases_lt (2 ^ 64) low) [
+        | inl huge ↦ omega (arith, is, high_fits, huge)
+        | inr small ↦
+            let same : (key + (2 ^ 64 - low)) % 2 ^ 64 ≡ key + (2 ^ 64 - low) = mod-eq_of_lt (omega (arith, below, small)) in
+            omega (arith, is, high_fits, small, same)
+      ] in
+      rw (le-ltb far count few, lt-leb low key below) refl
+  | inr from ↦
+      let near : (key + (2 ^ 64 - low)) % 2 ^ 64 ≡ key - low = omega (arith, from, fits) in
+      elim (cases_lt high key) [
+        | inl above ↦ rw (near, le-ltb (key - low) count (omega (arith, is, above, from)), le-leb low key from, lt-leb key high above) refl
+        | inr upto ↦ rw (near, lt-ltb (key - low) count (omega (arith, is, upto, from)), le-leb low key from, le-leb key high upto) refl
+      ]
+]
 
 -- the bytes of a cut text
 pub cut_bytes : (begin n : ℕ) (xs : List ℕ) → Bytes xs → Bytes (take n (drop begin xs))

@@ -19,31 +19,38 @@ static FIRST_BYTES: [u64; 9] = [
     0xffff_ffff_ffff_ff00,
 ];
 
-/// The keys from one up to, and with, another.
+/// The keys from one up to, and with, another. Their count tells by one comparison whether a key is one of them.
 #[derive(Clone, Copy, Drop)]
 pub(crate) struct KeyRange {
     pub(crate) low: u64,
     pub(crate) high: u64,
+    pub(crate) count: u64,
 }
 
 impl KeyRange {
     /// The keys between those of two texts: those themselves only where they tell the whole text.
     pub(crate) fn new(least: u64, greatest: u64) -> KeyRange
-        requires { least ≤ 2 ^ 64 - 32 }
+        requires least { least ≤ 2 ^ 64 - 32 }
+        requires greatest { greatest ≤ 2 ^ 64 - 32 }
         ensures low { result.low ≡ least + least % 256 / 8 }
         ensures high { result.high ≡ greatest - greatest % 256 / 8 }
+        ensures count { result.count ≡ result.high + 1 - result.low }
     {
+        let low = least + least % 256 / 8;
+        let high = greatest - greatest % 256 / 8;
         KeyRange {
-            low: least + least % 256 / 8,
-            high: greatest - greatest % 256 / 8,
+            low,
+            high,
+            count: (high + 1).saturating_sub(low),
         }
     }
 
     /// Whether a key is one of them.
     pub(crate) fn has(self, key: u64) -> bool
+        requires { self.count ≡ self.high + 1 - self.low }
         ensures { result ≡ (nat_le self.low key && nat_le key self.high) }
     {
-        self.low <= key && key <= self.high
+        key.wrapping_sub(self.low) < self.count
     }
 }
 
