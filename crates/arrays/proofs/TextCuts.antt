@@ -1,7 +1,7 @@
 -- Texts that are cut out of one text between its characters.
-use Rattle.std.proofs.Common.{◌≡◌, ◌≤◌, ◌<◌, ◌^◌, ℕ, zero, suc, ◌+◌, ◌-◌, Bool, true, false, ◌||◌, List, length, take, drop, slice_range, nat_le, nat_lt, refl, sym, ap, subst, arith, IsUtf8, IsCharBoundary}
-use Rattle.std.proofs.lemmas.Bool.{le-leb, lt-ltb}
-use Rattle.std.proofs.lemmas.List.{length-take, length-drop}
+use Rattle.std.proofs.Common.{◌≡◌, ◌≤◌, ◌<◌, ◌^◌, ℕ, zero, suc, ◌+◌, ◌-◌, Bool, true, false, ◌||◌, List, length, take, drop, slice_range, slice_index, nat_le, nat_lt, inl, inr, refl, sym, ap, subst, arith, IsAscii, IsUtf8, IsCharBoundary}
+use Rattle.std.proofs.lemmas.Bool.{cases_lt, le-leb, lt-ltb}
+use Rattle.std.proofs.lemmas.List.{get_or_past, length-take, length-drop}
 use Rattle.std.proofs.lemmas.Str.{IsUtf8-between, is_utf8-from_IsUtf8}
 use Rattle.bytes.proofs.Ranges.{slice_range_within}
 use Rattle.arrays.specs.Number.{element_at}
@@ -54,6 +54,17 @@ all_cut offsets bytes len long short rise whole cuts place low =
       text = is_utf8-from_IsUtf8 _
           (cut_is_utf8 bytes _ _ (element_at 4 offsets place) (element_at 4 offsets (place + 1)) here.0 (rise place low) next.1 long whole (cuts place (omega arith)) (cuts (place + 1) (omega arith)));
     }
+
+-- bytes are of ASCII where each one below their length is: past it stand zeros
+pub all_ascii : (bytes : List ℕ) → ((place : ℕ) → place < length bytes → slice_index bytes place < 128) → IsAscii bytes
+all_ascii bytes low place = elim (cases_lt place (length bytes)) [
+  | inl within ↦ low place within
+  | inr past ↦ rw (get_or_past bytes place 0 past) (omega arith)
+]
+
+-- bytes of ASCII are cut between characters anywhere
+pub ascii_cut : (bytes : List ℕ) (place : ℕ) → IsAscii bytes → place ≤ length bytes → IsCharBoundary bytes place
+ascii_cut bytes place ascii within = (within, λ _ high. absurd (omega (arith, ascii place, high)))
 
 or_passes : (a b : Bool) → b ≡ true → (a || b) ≡ true
 or_passes true b e = refl

@@ -1,6 +1,6 @@
 //! Texts looked at by the buffer: all offsets, and all data as one text.
 
-ghost use Rattle.std.specs.Prelude.{◌≡◌, ◌≤◌, ◌<◌, ◌+◌, ◌*◌, ℕ, true, length};
+ghost use Rattle.std.specs.Prelude.{◌≡◌, ◌≤◌, ◌<◌, ◌+◌, ◌*◌, ℕ, true, length, slice_index};
 ghost use Rattle.std.specs.List.{slice_range};
 ghost use Rattle.std.specs.Fmt.{is_char_start};
 ghost use Rattle.std.specs.Str.{is_utf8};
@@ -21,7 +21,18 @@ pub(crate) fn are_cut_from_text(offsets: &[u8], bytes: &[u8], len: usize) -> boo
         return false;
     }
     let whole = between(offsets, bytes, 0, len);
-    is_utf8(whole) && cut_between_characters(offsets, len, whole)
+    is_ascii(whole) || is_utf8(whole) && cut_between_characters(offsets, len, whole)
+}
+
+// Whether each byte is one of ASCII, so that every offset cuts between characters. It reads each.
+fn is_ascii(bytes: &[u8]) -> bool
+    ensures { result ≡ true → (place : ℕ) → place < length bytes.now → slice_index bytes.now place < 128 }
+{
+    let mut ascii = true;
+    for byte in bytes {
+        ascii = ascii & (*byte < 0x80);
+    }
+    ascii
 }
 
 // Whether no offset is below the one before it. It reads each.

@@ -1,5 +1,6 @@
 -- Ends over slots, one slot after another.
-use Rattle.std.proofs.Common.{◌≡◌, ◌<◌, ◌≤◌, ◌+◌, ◌-◌, ℕ, zero, suc, Bool, true, false, List, ◌∷◌, fold, map, Option, None, refl, sym, ap, subst, ◌∙◌, arith}
+use Rattle.std.proofs.Common.{◌≡◌, ◌<◌, ◌≤◌, ◌+◌, ◌-◌, ℕ, zero, suc, Bool, true, false, List, ◌∷◌, fold, map, Option, None, inl, inr, refl, sym, ap, subst, ◌∙◌, arith}
+use Rattle.std.proofs.lemmas.Bool.{cases_Bool}
 use Rattle.std.specs.List.{range_with_len}
 use Rattle.scan_base.specs.declared.value.Value.{Value}
 use Rattle.scan_base.specs.declared.value.Value.TheVariants.{Null}
@@ -45,6 +46,26 @@ pass_stand ends slot from (suc n) all =
     ap (λ e. fold with_value e (map slot (range_with_len (from + 1) n))) (stands_kept ends (slot from) (all from (omega arith) (omega arith)))
     ∙ pass_stand ends slot (from + 1) n (λ place low high. all place (omega arith) (omega arith))
 
+-- the same of values of which each changes no end by itself
+kept_all : (ends : Option (Value × Value)) (slot : ℕ → Value) (from n : ℕ) → ((place : ℕ) → from ≤ place → place < from + n → with_value ends (slot place) ≡ ends) →
+    fold with_value ends (map slot (range_with_len from n)) ≡ ends
+kept_all ends slot from zero all = refl
+kept_all ends slot from (suc n) all =
+    ap (λ e. fold with_value e (map slot (range_with_len (from + 1) n))) (all from (omega arith) (omega arith))
+    ∙ kept_all ends slot (from + 1) n (λ place low high. all place (omega arith) (omega arith))
+
+-- of two parts
+pub pass_parts : (ends : Option (Value × Value)) (slot : ℕ → Value) (from n to : ℕ) → from + n ≤ to →
+    ends_with ends slot from to ≡ ends_with (ends_with ends slot from (from + n)) slot (from + n) to
+pass_parts ends slot from zero to within =
+    let e : from + 0 ≡ from = omega arith in
+    rw e (ap (λ x. ends_with x slot from to) (sym (pass_end ends slot from from (omega arith))))
+pass_parts ends slot from (suc n) to within =
+    let e : from + suc n ≡ from + 1 + n = omega arith in
+    rw e (pass_more ends slot from to (omega arith)
+    ∙ pass_parts (with_value ends (slot from)) slot (from + 1) n to (omega arith)
+    ∙ ap (λ x. ends_with x slot (from + 1 + n) to) (sym (pass_more ends slot from (from + 1 + n) (omega arith))))
+
 -- ---- nulls by bits
 
 pub where_null : (validity : Option (List Bool)) (value : ℕ → Value) (place : ℕ) → is_valid validity place ≡ false → where_valid validity value place ≡ Null
@@ -61,6 +82,15 @@ pub pass_valid : (ends : Option (Value × Value)) (validity : Option (List Bool)
     ends_with ends (where_valid validity value) from to ≡ ends_with (with_value ends (value from)) (where_valid validity value) (from + 1) to
 pass_valid ends validity value from to low valid =
     pass_more ends (where_valid validity value) from to low ∙ ap (λ v. ends_with (with_value ends v) (where_valid validity value) (from + 1) to) (where_some validity value from valid)
+
+-- slots whose values change no end, whichever of them are null
+pub pass_inside : (ends : Option (Value × Value)) (validity : Option (List Bool)) (value : ℕ → Value) (from to : ℕ) →
+    ((place : ℕ) → from ≤ place → place < to → with_value ends (value place) ≡ ends) → ends_with ends (where_valid validity value) from to ≡ ends
+pass_inside ends validity value from to all =
+    kept_all ends (where_valid validity value) from (to - from) (λ place low high. elim (cases_Bool (is_valid validity place)) [
+      | inl valid ↦ ap (with_value ends) (where_some validity value place valid) ∙ all place low (omega arith)
+      | inr null ↦ ap (with_value ends) (where_null validity value place null)
+    ])
 
 -- ---- all slots of a column
 

@@ -1,14 +1,14 @@
 -- The keys of texts: of cut ones, and their order.
-use Rattle.std.proofs.Common.{◌≡◌, ◌≤◌, ◌<◌, ℕ, zero, suc, ◌+◌, ◌-◌, ◌*◌, ◌/◌, ◌%◌, ◌^◌, min, nat_cmp, true, false, Some, inl, inr, List, [], ◌∷◌, length, take, drop, refl, sym, ap, ◌∙◌, arith}
-use Rattle.std.specs.Prelude.{nat_lt, slice_index}
-use mir.Val.{bool_byte}
+use Rattle.std.proofs.Common.{◌≡◌, ◌≤◌, ◌<◌, ℕ, zero, suc, ◌+◌, ◌-◌, ◌*◌, ◌/◌, ◌%◌, ◌^◌, ◌&&◌, nat_le, nat_lt, min, bit_and, nat_cmp, true, false, Some, inl, inr, List, [], ◌∷◌, length, take, drop, refl, sym, ap, subst, ◌∙◌, arith}
+use Rattle.std.specs.Prelude.{⊤, slice_index}
 use Rattle.std.specs.Ordering.{is_lt, ordering_then}
 use Rattle.std.specs.declared.cmp.Ordering.{Ordering}
 use Rattle.std.specs.declared.cmp.Ordering.TheVariants.{Less, Equal}
 use Rattle.std.specs.Cmp.Lexicographic.{slice_cmp}
-use Rattle.std.proofs.Math.Nat.{add-mul, add_assoc, div-div-eq-div-mul, div-mul-le_self, mod-eq_of_lt, mul_assoc, mul-le-mul_right, pow-le-pow_right, pow-succ'}
+use Rattle.std.proofs.Math.Nat.{add-mul, add_assoc, div-div-eq-div-mul, div-mul-le_self, mod-eq_of_lt, mul_assoc, mul_left_comm, mul-le-mul_right, pow-le-pow_right, pow-succ'}
 use Rattle.std.proofs.lemmas.Nat.{pow-add, div-mul-add}
-use Rattle.std.proofs.lemmas.Bool.{both_ways, cases_lt, cases_order, false_from_ne_true, le-ltb, lt-ltb}
+use Rattle.std.proofs.lemmas.Nat.Bits.{and_high_mask}
+use Rattle.std.proofs.lemmas.Bool.{both_ways, cases_lt, cases_order, false_from_ne_true, le-leb, le-ltb, lt-leb, lt-ltb}
 use Rattle.std.proofs.lemmas.Cmp.{tied_itself}
 use Rattle.std.specs.Cmp.{nat_cmp_total}
 use Rattle.std.proofs.lemmas.List.{get_or-drop, get_or-take, length-drop, length-take}
@@ -18,6 +18,7 @@ use Rattle.scan_base.specs.declared.comparison.Comparison.TheVariants.{Less as S
 use Rattle.scan_base.specs.declared.value.Value.TheVariants.{Text}
 use Rattle.scan_base.specs.Truth.{keeps, truth_from}
 use Rattle.batch_stats.specs.Stats.{stand, with_value}
+use Rattle.batch_stats.specs.declared.keys.TheConstants.{FIRST_BYTES}
 use Rattle.batch_stats.specs.inside.TextKeys.{key_of}
 use Rattle.batch_stats.proofs.Standing.{less_through, not_below_itself, stands_kept}
 
@@ -115,6 +116,20 @@ pow_bytes (suc k) =
     let e : 8 * suc k ≡ 8 + 8 * k = omega arith in
     ap (λ (n : ℕ). 2 ^ n) e ∙ pow-add 2 8 (8 * k) ∙ ap (λ (n : ℕ). 256 * n) (pow_bytes k) ∙ sym (pow-succ' 256 k)
 
+abbrev Each : (ℕ → Type 0) → ℕ → Type 0
+Each P zero = ⊤
+Each P (suc n) = P n × Each P n
+
+each : (P : ℕ → Type 0) (n k : ℕ) → Each P n → k < n → P k
+each P zero k h l = absurd (omega arith)
+each P (suc n) k h l = elim (cases_lt k n) [ inl a ↦ each P n k h.1 a | inr a ↦ let e : n ≡ k = omega arith in subst P e h.0 ]
+
+-- the bits of the first bytes of a word, at most seven
+first_bits : (count : ℕ) → count ≤ 8 → slice_index FIRST_BYTES count ≡ 2 ^ 64 - 2 ^ (64 - 8 * min count 7)
+first_bits count few =
+    each (λ n. slice_index FIRST_BYTES n ≡ 2 ^ 64 - 2 ^ (64 - 8 * min n 7)) 9 count
+    (refl, (refl, (refl, (refl, (refl, (refl, (refl, (refl, (refl, tt))))))))) (omega arith)
+
 -- a word without the bytes behind the first ones, and without its last
 pub word_front : (word count : ℕ) → word < 2 ^ 64 → count ≤ 7 →
     word / 256 / 2 ^ (56 - 8 * count) * 2 ^ (56 - 8 * count) % 2 ^ 64 ≡ word / 256 ^ (8 - count) * 256 ^ (7 - count)
@@ -126,6 +141,21 @@ word_front word count fits few =
     ∙ ap (λ (n : ℕ). word / 256 / n * n % 2 ^ 64) (pow_bytes (7 - count))
     ∙ mod-eq_of_lt (omega (arith, most, fits))
     ∙ ap (λ (n : ℕ). n * 256 ^ (7 - count)) (div-div-eq-div-mul word 256 (256 ^ (7 - count)) ∙ ap (λ (n : ℕ). word / n) (sym (ap (λ (n : ℕ). 256 ^ n) more ∙ pow-succ' 256 (7 - count))))
+
+-- a word with zeros in place of the bytes behind the first ones
+pub word_masked : (word count : ℕ) → word < 2 ^ 64 → count ≤ 8 →
+    bit_and word (slice_index FIRST_BYTES count) ≡ 256 * (word / 256 ^ (8 - min count 7) * 256 ^ (7 - min count 7))
+word_masked word count fits few =
+    let kept = 8 - min count 7 in
+    let same : 64 - 8 * min count 7 ≡ 8 * kept = omega arith in
+    let more : kept ≡ suc (7 - min count 7) = omega arith in
+    let whole : 256 ^ kept ≡ 256 * 256 ^ (7 - min count 7) = ap (λ (n : ℕ). 256 ^ n) more ∙ pow-succ' 256 (7 - min count 7) in
+    ap (λ (m : ℕ). bit_and word m) (first_bits count few)
+    ∙ and_high_mask 64 (64 - 8 * min count 7) (omega arith) word fits
+    ∙ ap (λ (n : ℕ). word / 2 ^ n * 2 ^ n) same
+    ∙ ap (λ (n : ℕ). word / n * n) (pow_bytes kept)
+    ∙ ap (λ (n : ℕ). word / 256 ^ kept * n) whole
+    ∙ mul_left_comm (word / 256 ^ kept) 256 (256 ^ (7 - min count 7))
 
 same_first : (x y p q base : ℕ) → p < base → q < base → x * base + p ≡ y * base + q → (x ≡ y) × (p ≡ q)
 same_first x y p q base low high is =
@@ -225,20 +255,14 @@ front_room word count fits few =
     let same : word / 256 / 2 ^ (56 - 8 * count) * 2 ^ (56 - 8 * count) % 2 ^ 64 ≡ word / 256 / 2 ^ (56 - 8 * count) * 2 ^ (56 - 8 * count) = mod-eq_of_lt (omega (arith, most, fits)) in
     omega (arith, most, fits, front, same)
 
--- how many of eight bytes there are
-pub of_eight : (len : ℕ) → min len 7 + bool_byte (nat_lt 7 len) ≡ min len 8
-of_eight len = elim (cases_lt 7 len) [
-  | inl long ↦ rw (lt-ltb 7 len long) (omega (arith, long))
-  | inr short ↦ rw (le-ltb 7 len short) (omega (arith, short))
-]
-
-pub key_is : (begin end front taken byte : ℕ) (xs : List ℕ) → Bytes xs → begin ≤ end → end ≤ length xs → taken ≡ min (end - begin) 7 → byte ≡ bool_byte (nat_lt 7 (end - begin)) →
-    front ≡ big_from begin 8 xs / 256 ^ (8 - taken) * 256 ^ (7 - taken) → 256 * front + (taken + byte) ≡ key_of (take (end - begin) (drop begin xs))
-key_is begin end front taken byte xs bytes ordered within few flag is =
+pub key_is : (begin end first count : ℕ) (xs : List ℕ) → Bytes xs → begin ≤ end → end ≤ length xs → count ≡ min (end - begin) 8 →
+    first ≡ 256 * (big_from begin 8 xs / 256 ^ (8 - min count 7) * 256 ^ (7 - min count 7)) → first + count ≡ key_of (take (end - begin) (drop begin xs))
+key_is begin end first count xs bytes ordered within few is =
     let text = take (end - begin) (drop begin xs) in
     let long : length text ≡ end - begin = length-take (end - begin) (drop begin xs) ∙ ap (λ (n : ℕ). min (end - begin) n) (length-drop begin xs) ∙ omega (arith, ordered, within) in
-    let count : taken + byte ≡ min (length text) 8 = omega (arith, few, flag, of_eight (end - begin), long) in
-    ap (λ (f : ℕ). 256 * f + (taken + byte)) (is ∙ big_cut begin (end - begin) taken xs bytes few) ∙ ap (λ (c : ℕ). 256 * big_from 0 7 text + c) count
+    let taken : min count 7 ≡ min (end - begin) 7 = omega (arith, few) in
+    let all : count ≡ min (length text) 8 = omega (arith, few, long) in
+    ap (λ (f : ℕ). f + count) (is ∙ ap (λ (f : ℕ). 256 * f) (big_cut begin (end - begin) (min count 7) xs bytes taken)) ∙ ap (λ (c : ℕ). 256 * big_from 0 7 text + c) all
 
 -- ---- whether a text changes an end
 
@@ -277,6 +301,27 @@ pub key_keeps : (least greatest text : List ℕ) → Bytes least → Bytes great
     with_value (Some (Text least, Text greatest)) (Text text) ≡ Some (Text least, Text greatest)
 key_keeps least greatest text least_bytes greatest_bytes bytes low high =
     stands_kept (Some (Text least, Text greatest)) (Text text) (not_below_low text least bytes least_bytes low, not_above_high text greatest bytes greatest_bytes high)
+
+-- whether a key is one from `low` up to `high`, by how far it is behind `low` and how many there are
+pub told_by_count : (low high key count : ℕ) → key < 2 ^ 64 → high < 2 ^ 64 → count ≡ high + 1 - low →
+    nat_lt ((key + (2 ^ 64 - low)) % 2 ^ 64) count ≡ (nat_le low key && nat_le key high)
+told_by_count low high key count fits high_fits is = elim (cases_lt key low) [
+  | inl below ↦
+      let far = (key + (2 ^ 64 - low)) % 2 ^ 64 in
+      let few : count ≤ far = elim (cases_lt (2 ^ 64) low) [
+        | inl huge ↦ omega (arith, is, high_fits, huge)
+        | inr small ↦
+            let same : (key + (2 ^ 64 - low)) % 2 ^ 64 ≡ key + (2 ^ 64 - low) = mod-eq_of_lt (omega (arith, below, small)) in
+            omega (arith, is, high_fits, small, same)
+      ] in
+      rw (le-ltb far count few, lt-leb low key below) refl
+  | inr from ↦
+      let near : (key + (2 ^ 64 - low)) % 2 ^ 64 ≡ key - low = omega (arith, from, fits) in
+      elim (cases_lt high key) [
+        | inl above ↦ rw (near, le-ltb (key - low) count (omega (arith, is, above, from)), le-leb low key from, lt-leb key high above) refl
+        | inr upto ↦ rw (near, lt-ltb (key - low) count (omega (arith, is, upto, from)), le-leb low key from, le-leb key high upto) refl
+      ]
+]
 
 -- the bytes of a cut text
 pub cut_bytes : (begin n : ℕ) (xs : List ℕ) → Bytes xs → Bytes (take n (drop begin xs))

@@ -1,36 +1,56 @@
 //! The keys of texts, which mostly tell their order.
 
-ghost use Rattle.std.specs.Prelude.{◌≡◌, ◌≤◌, ◌+◌, ◌-◌, ◌*◌, ◌/◌, ◌%◌, ◌^◌, ◌&&◌, nat_le, length, slice_range, slice_index};
+ghost use Rattle.std.specs.Prelude.{◌≡◌, ◌≤◌, ◌+◌, ◌-◌, ◌*◌, ◌/◌, ◌%◌, ◌^◌, ◌&&◌, min, nat_le, length, slice_range, slice_index};
 ghost use Rattle.byteorder.specs.Endian.{big_from};
 ghost use Rattle.batch_stats.specs.inside.TextKeys.{key_of};
 
 use byteorder::{BigEndian, ByteOrder};
 
-/// The keys from one up to, and with, another.
+// The bits of the first bytes of a word, at most seven, by how many they are.
+static FIRST_BYTES: [u64; 9] = [
+    0,
+    0xff00_0000_0000_0000,
+    0xffff_0000_0000_0000,
+    0xffff_ff00_0000_0000,
+    0xffff_ffff_0000_0000,
+    0xffff_ffff_ff00_0000,
+    0xffff_ffff_ffff_0000,
+    0xffff_ffff_ffff_ff00,
+    0xffff_ffff_ffff_ff00,
+];
+
+/// The keys from one up to, and with, another. Their count tells by one comparison whether a key is one of them.
 #[derive(Clone, Copy, Drop)]
 pub(crate) struct KeyRange {
     pub(crate) low: u64,
     pub(crate) high: u64,
+    pub(crate) count: u64,
 }
 
 impl KeyRange {
     /// The keys between those of two texts: those themselves only where they tell the whole text.
     pub(crate) fn new(least: u64, greatest: u64) -> KeyRange
-        requires { least ≤ 2 ^ 64 - 32 }
+        requires least { least ≤ 2 ^ 64 - 32 }
+        requires greatest { greatest ≤ 2 ^ 64 - 32 }
         ensures low { result.low ≡ least + least % 256 / 8 }
         ensures high { result.high ≡ greatest - greatest % 256 / 8 }
+        ensures count { result.count ≡ result.high + 1 - result.low }
     {
+        let low = least + least % 256 / 8;
+        let high = greatest - greatest % 256 / 8;
         KeyRange {
-            low: least + least % 256 / 8,
-            high: greatest - greatest % 256 / 8,
+            low,
+            high,
+            count: (high + 1).saturating_sub(low),
         }
     }
 
     /// Whether a key is one of them.
     pub(crate) fn has(self, key: u64) -> bool
+        requires { self.count ≡ self.high + 1 - self.low }
         ensures { result ≡ (nat_le self.low key && nat_le key self.high) }
     {
-        self.low <= key && key <= self.high
+        key.wrapping_sub(self.low) < self.count
     }
 }
 
@@ -40,18 +60,16 @@ pub(crate) fn key_at(bytes: &[u8], begin: usize, end: usize) -> u64
     requires within { end ≤ length bytes.now }
     ensures { result ≡ key_of (slice_range bytes.now begin end) }
 {
-    let len = end - begin;
-    let taken = len.min(7);
-    256 * first_bytes(word_at(bytes, begin), taken) + (taken as u64 + (len > 7) as u64)
+    let count = (end - begin).min(8);
+    first_bytes(word_at(bytes, begin), count) + count as u64
 }
 
-// The first of the eight bytes of a word, at most seven, with zeros behind them up to seven.
+// The first of the eight bytes of a word, at most seven, with zeros behind them up to eight.
 fn first_bytes(word: u64, count: usize) -> u64
-    requires { count ≤ 7 }
-    ensures { result ≡ word / 256 ^ (8 - count) * 256 ^ (7 - count) }
+    requires { count ≤ 8 }
+    ensures { result ≡ 256 * (word / 256 ^ (8 - min count 7) * 256 ^ (7 - min count 7)) }
 {
-    let rest = 56 - 8 * count;
-    word >> 8 >> rest << rest
+    word & FIRST_BYTES[count]
 }
 
 // The eight bytes from a place on as a number, the first of them highest. Past the end stand zeros.

@@ -1,6 +1,6 @@
 //! The statistics of columns of numbers.
 
-ghost use Rattle.std.specs.Prelude.{◌≡◌, ◌≤◌, ◌+◌, ◌*◌, length, true, None, Some};
+ghost use Rattle.std.specs.Prelude.{◌≡◌, ◌≤◌, ◌<◌, ◌+◌, ◌*◌, ℕ, length, true, None, Some};
 ghost use Rattle.scan_base.specs.declared.value.Value.TheVariants.{Int};
 ghost use Rattle.arrays.specs.Column.{ColumnAt};
 ghost use Rattle.arrays.specs.Number.{element_at};
@@ -16,6 +16,9 @@ use crate::wide::Wide;
 use arrays::{Decimals, Integers};
 use arrow_schema::IntegerType;
 use bitmap::Bits;
+
+// How many slots are looked at together, where there are bits.
+const BLOCK_LEN: usize = 64;
 
 /// Packed numbers in slots, and where there may be nulls the bits that say which slots are valid.
 #[derive(Clone, Copy, Drop)]
@@ -73,8 +76,21 @@ impl<E: Wide> NumberRange<E> {
         range
     }
 
-    // The same with those that are valid. Only of a number that changes an end, its bit is looked at.
-    fn with_valid(self, packed: &Packed<'_>, from: usize, to: usize) -> NumberRange<E>
+    // How many of the numbers `from` up to, not with, `to` do not lie between. It reads each.
+    fn count_outside(self, values: &[u8], from: usize, to: usize) -> usize
+        requires { E.WIDTH * to ≤ length values.now }
+        ensures { result ≡ 0 → (place : ℕ) → from ≤ place → place < to → with_value (Some (Int (E.value self.least), Int (E.value self.greatest)))
+            (Int (E.value (E.of_bits (element_at E.WIDTH values.now place)))) ≡ Some (Int (E.value self.least), Int (E.value self.greatest)) }
+    {
+        let mut outside = 0;
+        for place in from..to {
+            outside += !self.has(E::read(values, place)) as usize;
+        }
+        outside
+    }
+
+    // The same with those that are valid, one after another. Only of a number that changes an end, its bit is looked at.
+    fn with_each_valid(self, packed: &Packed<'_>, from: usize, to: usize) -> NumberRange<E>
         requires room { E.WIDTH * to ≤ length packed.now.values.now }
         requires bits { HasBits packed.now.validity.now to }
         ensures { Some (Int (E.value result.least), Int (E.value result.greatest))
@@ -89,6 +105,37 @@ impl<E: Wide> NumberRange<E> {
             }
         }
         range
+    }
+
+    // The same of a block of slots. In most blocks no number changes an end, and so no bit is looked at.
+    fn with_block(self, packed: &Packed<'_>, from: usize, to: usize) -> NumberRange<E>
+        requires room { E.WIDTH * to ≤ length packed.now.values.now }
+        requires bits { HasBits packed.now.validity.now to }
+        ensures { Some (Int (E.value result.least), Int (E.value result.greatest))
+            ≡ ends_with (Some (Int (E.value self.least), Int (E.value self.greatest)))
+            (where_valid packed.now.validity.now (λ place. Int (E.value (E.of_bits (element_at E.WIDTH packed.now.values.now place))))) from to }
+    {
+        if self.count_outside(packed.values, from, to) == 0 {
+            return self;
+        }
+        self.with_each_valid(packed, from, to)
+    }
+
+    // The same of all blocks.
+    fn with_valid(self, packed: &Packed<'_>, from: usize, to: usize) -> NumberRange<E>
+        requires room { E.WIDTH * to ≤ length packed.now.values.now }
+        requires bits { HasBits packed.now.validity.now to }
+        ensures { Some (Int (E.value result.least), Int (E.value result.greatest))
+            ≡ ends_with (Some (Int (E.value self.least), Int (E.value self.greatest)))
+            (where_valid packed.now.validity.now (λ place. Int (E.value (E.of_bits (element_at E.WIDTH packed.now.values.now place))))) from to }
+    {
+        let blocks = to.saturating_sub(from) / BLOCK_LEN;
+        let mut range = self;
+        for block in 0..blocks {
+            let start = from + BLOCK_LEN * block;
+            range = range.with_block(packed, start, start + BLOCK_LEN);
+        }
+        range.with_each_valid(packed, from + BLOCK_LEN * blocks, to)
     }
 
     // The same: without a test of each slot, where there are no bits.

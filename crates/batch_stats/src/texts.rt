@@ -1,6 +1,6 @@
 //! The statistics of columns of texts.
 
-ghost use Rattle.std.specs.Prelude.{◌≡◌, ◌≤◌, ◌+◌, ◌*◌, ℕ, length, slice_range, Some};
+ghost use Rattle.std.specs.Prelude.{◌≡◌, ◌≤◌, ◌+◌, ◌-◌, ◌*◌, ℕ, length, slice_range, Some};
 ghost use Rattle.scan_base.specs.declared.comparison.Comparison.TheVariants.{Less};
 ghost use Rattle.scan_base.specs.declared.value.Value.{Value};
 ghost use Rattle.scan_base.specs.declared.value.Value.TheVariants.{Text};
@@ -62,7 +62,8 @@ impl<'a> TextRange<'a> {
     // The keys of texts that change no end.
     fn kept_keys(self) -> KeyRange
         requires { AreKeyed self }
-        ensures { KeepsEnds (Some (Text self.entry.least.text.now, Text self.entry.greatest.text.now)) result.low result.high }
+        ensures kept { KeepsEnds (Some (Text self.entry.least.text.now, Text self.entry.greatest.text.now)) result.low result.high }
+        ensures count { result.count ≡ result.high + 1 - result.low }
     {
         KeyRange::new(self.least.key, self.greatest.key)
     }

@@ -49,12 +49,12 @@ loop-place-preserved c =
             high = c.loop-place-test.true;
             is = where_some cells.validity value place known ∙ ap Text (sym w.get.ensures);
           }) in
-          rw (w.range-is, w.kept-is) (record { keys = w.with-range.ensures.keys; kept = w.kept_keys-kept-then-is_valid.ensures; low = next_low; ends = step; places = moved })
+          rw (w.range-is, w.kept-is) (record { keys = w.with-range.ensures.keys; kept = w.kept_keys-kept-then-is_valid.ensures.kept; count = w.kept_keys-kept-then-is_valid.ensures.count; low = next_low; ends = step; places = moved })
       | else-not-has w ↦ elim w.else-not-has.branch [
         | else-not-has-via-then-not-has+else-is_valid v ↦
             let null : is_valid cells.validity place ≡ false = sym (v.is_valid.ensures ∙ ap (λ (b : Option (List Bool)). is_valid b place) v.validity.ensures) ∙ v.if-is_valid.false in
             let step : ends_with before slot (place + 1) to ≡ all = sym (pass_null before cells.validity value place to c.loop-place-test.true null) ∙ so_far in
-            rw (w.range-is, w.kept-is) (record { keys = c.loop-place.invariant.keys; kept = c.loop-place.invariant.kept; low = next_low; ends = step; places = places })
+            rw (w.range-is, w.kept-is) (record { keys = c.loop-place.invariant.keys; kept = c.loop-place.invariant.kept; count = c.loop-place.invariant.count; low = next_low; ends = step; places = places })
         | else-not-has-via-else-not-has v ↦
             let has : nat_le c.loop-place.kept.low c.slot_key-key.result && nat_le c.slot_key-key.result c.loop-place.kept.high ≡ true = grind (arith, c.has.ensures, v.if-not-has.false) in
             let both = and_parts (nat_le c.loop-place.kept.low c.slot_key-key.result) (nat_le c.slot_key-key.result c.loop-place.kept.high) has in
@@ -66,7 +66,7 @@ loop-place-preserved c =
               | inr null ↦ ap (with_value before) (where_null cells.validity value place null)
             ] in
             let step : ends_with before slot (place + 1) to ≡ all = sym (pass_kept before slot place to c.loop-place-test.true same) ∙ so_far in
-            rw (w.range-is, w.kept-is) (record { keys = c.loop-place.invariant.keys; kept = c.loop-place.invariant.kept; low = next_low; ends = step; places = places })
+            rw (w.range-is, w.kept-is) (record { keys = c.loop-place.invariant.keys; kept = c.loop-place.invariant.kept; count = c.loop-place.invariant.count; low = next_low; ends = step; places = places })
       ]
     ]
 
