@@ -22,6 +22,7 @@ import sys
 import time
 from collections.abc import Callable, Iterable
 from contextlib import contextmanager
+from dataclasses import dataclass
 
 sys.dont_write_bytecode = True
 ROOT = pathlib.Path(__file__).resolve().parent.parent
@@ -42,6 +43,7 @@ from trees import batch, field, integer, schema  # noqa: E402
 
 BATCH_ROWS, COLUMNS, WIDTH = 65_536, "abc", 8
 MEGABYTE = 1_000_000
+ALONE = "answer-alone"  # the word by which this script is the server that does nothing
 TICKS = os.sysconf("SC_CLK_TCK")
 
 
@@ -68,18 +70,14 @@ def by_records(connection: Connection) -> Callable[[str, Iterable[bytes]], int]:
     def call(method: str, messages: Iterable[bytes]) -> int:
         connection.send(wire.record_open(method.encode()))
         for message in messages:
-            connection.send(wire.record_message(message) if len(message) < 65_536 else wire.record_message(b"")[:2]
-                            + len(message).to_bytes(4, "big"))
-            if len(message) >= 65_536:
-                connection.send(message)
+            connection.send(wire.record_message(message))
         connection.send(wire.END)
         size = 0
         while (kind := connection.number(1)) == 2:
             connection.take(1)
             size += len(connection.take(connection.number(4)))
-        code = connection.number(1)
-        wire.demand((kind, code) == (4, 0), f"code {code}: {connection.take(connection.number(2))}")
-        connection.take(2)
+        code, text = connection.number(1), connection.take(connection.number(2))
+        wire.demand((kind, code) == (4, 0), f"a record of kind {kind}, code {code}: {text}")
         return size
 
     return call
@@ -91,9 +89,6 @@ def by_grpc(client: Client) -> Callable[[str, Iterable[bytes]], int]:
 
 
 # ---- a server of gRPC that does nothing
-
-
-ECHO = "echo"
 
 
 def answer_alone(messages: list[bytes]) -> None:
@@ -122,7 +117,7 @@ def answer_alone(messages: list[bytes]) -> None:
 @contextmanager
 def answering_alone(messages: list[bytes]):
     """The port of such a server."""
-    words = [sys.executable, __file__, ECHO, *(message.hex() for message in messages)]
+    words = [sys.executable, __file__, ALONE, *(message.hex() for message in messages)]
     with subprocess.Popen(words, stdout=subprocess.PIPE) as child:
         try:
             yield int(child.stdout.readline())
@@ -159,40 +154,44 @@ def print_small(server: Server, gateway: Gateway, count: int) -> None:
     print(f"\nThrough the gateway it takes {(through - straight) * 1e6:,.0f} microseconds more.\n")
 
 
-def least(call: Callable, method: str, messages: Iterable[bytes], runs: int, watched: Gateway | None) -> tuple[float, float]:
-    """The least seconds of a call, and the processor seconds that the gateway used for it."""
-    found = []
-    for _ in range(runs):
-        ticks, began = watched.ticks() if watched else 0, time.perf_counter()
-        call(method, messages)
-        found.append((time.perf_counter() - began, ((watched.ticks() if watched else 0) - ticks) / TICKS))
-    return min(found)
+@dataclass
+class Long:
+    """A long stream that was sent: the seconds, and the processor seconds of the gateway."""
+
+    seconds: float
+    used: float
+
+
+def timed(call: Callable, method: str, messages: Iterable[bytes], gateway: Gateway) -> Long:
+    ticks, began = gateway.ticks(), time.perf_counter()
+    call(method, messages)
+    return Long(time.perf_counter() - began, (gateway.ticks() - ticks) / TICKS)
+
+
+def run_long(path: str, through: bool, batches: int) -> tuple[Long, Long, float]:
+    """A put and a fetch of so many batches, straight or through the gateway, and what the gateway held at most."""
+    fetch = fetch_message(1, batches * BATCH_ROWS, b"t")
+    with Server(path) as server, Gateway(server.port) as gateway:
+        with Connection(server.port) as connection, Client(gateway.port) as client:
+            call = by_grpc(client) if through else by_records(connection)
+            put = timed(call, "DoPut", put_messages(b"t", batches), gateway)
+            return put, timed(call, "DoGet", [fetch], gateway), gateway.most_held() / MEGABYTE
 
 
 def print_long(path: str, runs: int, megabytes: int) -> None:
     batches = max(1, round(megabytes * MEGABYTE / (BATCH_ROWS * WIDTH * len(COLUMNS))))
-    rows, found, size = batches * BATCH_ROWS, {}, batches * BATCH_ROWS * WIDTH * len(COLUMNS) / MEGABYTE
-    for way in ("by records, the server alone", "by gRPC, through the gateway"):
-        puts = []
-        for run in range(runs):
-            with Server(path) as server, Gateway(server.port) as gateway, Connection(server.port) as connection:
-                with Client(gateway.port) as client:
-                    straight = "records" in way
-                    call, watched = (by_records(connection), None) if straight else (by_grpc(client), gateway)
-                    puts.append(least(call, "DoPut", put_messages(b"t", batches), 1, watched))
-                    if run == runs - 1:
-                        fetch = least(call, "DoGet", [fetch_message(1, rows, b"t")], runs, watched)
-                        found[way] = min(puts), fetch, gateway.most_held() / MEGABYTE
-    print(f"| {size:.0f} MB | put, MB/s | fetch, MB/s | the gateway's processor seconds a GB, put and fetch | it held at most |")
+    size = batches * BATCH_ROWS * WIDTH * len(COLUMNS) / MEGABYTE
+    print(f"| {size:.0f} MB | put, MB/s | fetch, MB/s | processor seconds of the gateway for a GB | it held at most |")
     print("|---|---:|---:|---:|---:|")
-    for way, (put, fetch, held) in found.items():
-        used = [f"{one[1] / size * 1000:.2f}" for one in (put, fetch)]
-        tail = f"{', '.join(used)} | {held:.0f} MB" if "gRPC" in way else " | "
-        print(f"| {way} | {size / put[0]:,.0f} | {size / fetch[0]:,.0f} | {tail} |")
+    for name, through in (("by records, the server alone", False), ("by gRPC, through the gateway", True)):
+        puts, fetches, held = zip(*(run_long(path, through, batches) for _ in range(runs)))
+        put, fetch = (min(found, key=lambda one: one.seconds) for found in (puts, fetches))
+        used = f"{put.used / size * 1000:.2f} put, {fetch.used / size * 1000:.2f} fetch | {max(held):.0f} MB" if through else " | "
+        print(f"| {name} | {size / put.seconds:,.0f} | {size / fetch.seconds:,.0f} | {used} |")
 
 
 def main() -> int:
-    if sys.argv[1:2] == [ECHO]:
+    if sys.argv[1:2] == [ALONE]:
         answer_alone([bytes.fromhex(word) for word in sys.argv[2:]])
     parser = argparse.ArgumentParser(description=__doc__, formatter_class=argparse.RawDescriptionHelpFormatter)
     parser.add_argument("--program", help="the built program (that of the repository)")

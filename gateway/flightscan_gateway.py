@@ -40,11 +40,12 @@ except ImportError:
 HOST = "127.0.0.1"
 SERVICE = "/arrow.flight.protocol.FlightService/"
 METHODS = ("GetFlightInfo", "GetSchema", "DoGet", "DoPut", "DoAction")
+PATHS = tuple(SERVICE + method for method in METHODS)
 OPEN, MESSAGE, END, STATUS = 1, 2, 3, 4  # the kinds of records
 MOST_SEATS = 32  # that a server has
 LONGEST_MESSAGE = 16_777_216
 LONGEST_JOINED = 65_536  # a message of more bytes is sent as it lies, and not joined with what stands before it
-MOST_CALLS = 1_024  # with those that wait; gRPC refuses further ones
+MOST_WAITING = 1_000  # calls that wait for a seat; a further one is refused at once
 CODES = {code.value[0]: code for code in grpc.StatusCode}
 OPTIONS = [
     ("grpc.max_receive_message_length", LONGEST_MESSAGE),
@@ -188,7 +189,7 @@ class Seats:
 
     def __init__(self, words: argparse.Namespace):
         self.port, self.wait, self.idle = words.port, words.wait, words.idle
-        self.free, self.unused = asyncio.Semaphore(words.seats), []
+        self.free, self.unused, self.waiting = asyncio.Semaphore(words.seats), [], 0
 
     @contextlib.asynccontextmanager
     async def connection(self) -> AsyncIterator[Connection]:
@@ -206,6 +207,9 @@ class Seats:
 
     async def take(self) -> Connection:
         """A connection that has a seat, once there is one."""
+        if self.waiting >= MOST_WAITING:
+            raise Refused(grpc.StatusCode.RESOURCE_EXHAUSTED, f"{MOST_WAITING} calls wait for a seat of the server")
+        self.waiting += 1
         try:
             async with asyncio.timeout(self.wait):
                 await self.free.acquire()
@@ -217,6 +221,8 @@ class Seats:
         except TimeoutError:
             said = f"no seat of the server came free in {self.wait:g} seconds"
             raise Refused(grpc.StatusCode.RESOURCE_EXHAUSTED, said) from None
+        finally:
+            self.waiting -= 1
 
     def keep(self, connection: Connection) -> None:
         """Keeps a connection for the next call, but not for long."""
@@ -263,7 +269,7 @@ class Gateway(grpc.GenericRpcHandler):
 
     async def answer(self, path: str, requests: AsyncIterator[bytes], context: grpc.aio.ServicerContext) -> None:
         """Passes a call on, and its answer back."""
-        if path not in [SERVICE + method for method in METHODS]:
+        if path not in PATHS:
             said = f"{path.removeprefix(SERVICE)[:64]} is not supported; this server has {', '.join(METHODS)}"
             raise Refused(grpc.StatusCode.UNIMPLEMENTED, said)
         async with self.seats.connection() as connection:
@@ -288,7 +294,7 @@ async def serve(words: argparse.Namespace) -> int:
     loop, ended = asyncio.get_running_loop(), asyncio.Event()
     for number in (signal.SIGINT, signal.SIGTERM):
         loop.add_signal_handler(number, ended.set)
-    server = grpc.aio.server(options=OPTIONS, maximum_concurrent_rpcs=MOST_CALLS)
+    server = grpc.aio.server(options=OPTIONS)
     server.add_generic_rpc_handlers((Gateway(Seats(words)),))
     try:
         port = server.add_insecure_port(f"{HOST}:{words.grpc_port}")
@@ -319,7 +325,7 @@ def main() -> int:
     parser.add_argument("--port", type=number(1, 65_535), required=True, help="where the server listens")
     parser.add_argument("--grpc-port", type=number(0, 65_535), required=True, help="where gRPC is served; 0: the system chooses")
     parser.add_argument("--seats", type=number(1, MOST_SEATS), default=4, help="how many connections it may take (4)")
-    parser.add_argument("--wait", type=number(0, 3_600, float), default=10, help="seconds that a call waits for a seat (10)")
+    parser.add_argument("--wait", type=number(0.1, 3_600, float), default=10, help="seconds that a call waits for a seat (10)")
     parser.add_argument("--idle", type=number(0, 3_600, float), default=2, help="seconds that an unused connection stays (2)")
     return asyncio.run(serve(parser.parse_args()))
 

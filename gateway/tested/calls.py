@@ -224,7 +224,7 @@ STOCK_ACTIONS = {"CreatePreparedStatement": "ActionCreatePreparedStatementReques
                  "BeginTransaction": "ActionBeginTransactionRequest"}
 
 
-@case("what stock drivers ask for first, and the server lacks: UNIMPLEMENTED, F5, each within a second")
+@case("what stock drivers ask for first, and the server lacks: UNIMPLEMENTED, F5, and no wait")
 def stock_drivers(run: Run) -> None:
     unknown = (grpc.StatusCode.UNIMPLEMENTED, "F5 UnknownCommand")
     with run.serving() as (_, gateway), Client(gateway.port) as client:
@@ -241,13 +241,15 @@ def stock_drivers(run: Run) -> None:
             except grpc.RpcError as failed:
                 said = failed.code(), failed.details()
             same(f"the status of {argument}", unknown, said)
-            same("it took less than a second", True, time.monotonic() - began < 1)
+            same("it took less than five seconds", True, time.monotonic() - began < 5)
 
 
 def names_of_the_page() -> dict:
-    """What the first Python of docs/CLIENTS.md defines, where a descriptor is the bytes of its command."""
+    """What the first Python of docs/CLIENTS.md defines, where a descriptor is the bytes of its command. All of it compiles."""
     page = (TOP.parent / "docs/CLIENTS.md").read_text()
-    code = next(block for block in re.findall(r"^```python\n(.*?)^```$", page, re.DOTALL | re.MULTILINE))
+    code, *more = re.findall(r"^```python\n(.*?)^```$", page, re.DOTALL | re.MULTILINE)
+    for block in more:
+        compile(block, "docs/CLIENTS.md", "exec")
     module, names = types.ModuleType("pyarrow"), {}
     module.flight = types.SimpleNamespace(FlightDescriptor=types.SimpleNamespace(for_command=bytes))
     with unittest.mock.patch.dict(sys.modules, {"pyarrow": module, "pyarrow.flight": module.flight}):

@@ -114,6 +114,26 @@ def beyond_the_seats(run: Run) -> str:
     return f"it waited {waited:.1f} s"
 
 
+@case("1,040 calls on one seat that is taken: 1,000 wait, the others are refused at once, and those that waited are answered")
+def many_that_wait(run: Run) -> None:
+    go, said = threading.Event(), "1000 calls wait for a seat of the server"
+
+    def answer(path: bytes, messages: list[bytes]) -> bytes:
+        go.wait(60)
+        return b"\x04\0\0\0"
+
+    with StubServer(answer) as stub, run.behind(stub.port, "--seats", "1", "--wait", "300") as gateway:
+        with Client(gateway.port) as client:
+            calls = [client.call("DoGet", [b"x"], 300) for _ in range(1_040)]
+            while sum(call.done() for call in calls) < 39:
+                time.sleep(0.1)
+            go.set()
+            found = [wire.Answer([], call.code().value[0], call.details()) for call in calls]
+            same("the calls that are refused", 39, found.count(wire.Answer([], EXHAUSTED, said)))
+            same("the others", 1_001, found.count(wire.Answer([], 0, "")))
+            same("less than 100 MB held", True, gateway.most_held() < 100_000_000)
+
+
 @case("a server whose seats its own clients have: RESOURCE_EXHAUSTED after --wait, and answered once one goes")
 def seats_of_others(run: Run) -> None:
     with run.serving(seats=1, wait=1) as (server, gateway), Client(gateway.port) as client:
