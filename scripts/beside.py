@@ -4,8 +4,8 @@
     python3 scripts/beside.py [--program PATH] [STEP..]
 
 It needs the proved program (`rt run` or the gate leaves it in crates/flightscan/out), a C compiler and `sqlite3`. Some
-vectors are made by flatc and protoc; where these are absent, their scripts are passed over, and the step says so. All
-steps take about five minutes. With names, the steps whose names begin so are run. The last line counts the steps that
+vectors are made by flatc and protoc, and the gateway's test needs protoc and a Python that has gRPC; where these are absent,
+that is passed over, and the step says so. All steps take about six minutes. With names, the steps whose names begin so are run. The last line counts the steps that
 passed, and it ends with 1 where one did not.
 """
 
@@ -25,15 +25,16 @@ OF_TOOLS = {"vectors/arrow/make.py": ["flatc"], "vectors/flight/make.py": ["prot
 MADE_ANEW = ["vectors/arrow/to_cases.py", "vectors/calls/make.py", "vectors/client/make.py", "vectors/flight/to_cases.py",
              "vectors/queries/make.py", "vectors/streams/make.py"]
 TOLD_LINES = 40  # of what a step that failed printed
+PYTHONS = [sys.executable, "/usr/bin/python3"]  # the second one has Debian's packages
 
 
 class Failed(Exception):
     """A step that did not pass, and why."""
 
 
-def done(*words, **more):
+def done(*words, python=sys.executable, **more):
     """Runs a script to its end. What it printed is given."""
-    ran = subprocess.run([sys.executable, "-B", *words], cwd=ROOT, stdout=subprocess.PIPE, stderr=subprocess.STDOUT, **more)
+    ran = subprocess.run([python, "-B", *words], cwd=ROOT, stdout=subprocess.PIPE, stderr=subprocess.STDOUT, **more)
     if ran.returncode != 0:
         lines = ran.stdout.decode(errors="replace").splitlines()[-TOLD_LINES:]
         raise Failed("\n".join([f"{words[0]} ended with {ran.returncode}", *lines]))
@@ -79,6 +80,26 @@ class ColumnAnswers:
                 raise Failed("the answers are not those of crates/column_cases/stdout")
 
 
+class Gateway:
+    """The gateway's test, by a Python that has gRPC and Protocol Buffers."""
+
+    name = "gateway"
+
+    def run(self, path):
+        python = next((python for python in PYTHONS if self.can(python)), None)
+        lacking = [] if python else ["a Python with grpcio and protobuf"]
+        lacking += [] if shutil.which("protoc") else ["protoc"]
+        if lacking:
+            return f"passed over: gateway/test_gateway.py wants {' and '.join(lacking)}"
+        said = done("gateway/test_gateway.py", "--program", path, "--seconds", "10", python=python)
+        return said.decode().splitlines()[-1]
+
+    @staticmethod
+    def can(python):
+        words = [python, "-c", "import google.protobuf, grpc.aio"]
+        return shutil.which(python) is not None and subprocess.run(words, capture_output=True).returncode == 0
+
+
 class FirstRun:
     name = "first_run"
 
@@ -109,7 +130,7 @@ class Vectors:
 
 STEPS = [Script("pages", ["--check"], of_program=False), Script("session"), Script("serving"), Script("each_allocation"),
          Script("interleavings", ["--count", "200"]), Script("sqlite_answers", ["--count", "100", "--wide", "1", "--batched", "5"]),
-         Script("drive", ["--seconds", "20", "--connections", "16"]), ColumnAnswers(), FirstRun(), Vectors()]
+         Script("drive", ["--seconds", "20", "--connections", "16"]), Gateway(), ColumnAnswers(), FirstRun(), Vectors()]
 
 
 def passes(step, path):
