@@ -44,23 +44,23 @@ def drawn(name, row, below):
 
 class Column:
     """A column: its type, what stands in each row, and where nulls hide it. A column that is told where is nullable, also
-    where none does, and so is one whose dictionary has a null. A dictionary has entries, and slots."""
+    where none does, and so is one whose dictionary has a null. A dictionary has entries, and slots of a width in bits."""
 
-    def __init__(self, name, of, stored, nulls=(), entries=None):
-        self.name, self.of, self.stored, self.entries = name, of, stored, entries
+    def __init__(self, name, of, stored, nulls=(), entries=None, width=8):
+        self.name, self.of, self.stored, self.entries, self.width = name, of, stored, entries, width
         self.nullable = bool(nulls) or None in (entries or [])
         self.nulls = list(nulls) or [False] * len(stored)
         self.values = [None if null else entries[one] if entries else one for null, one in zip(self.nulls, stored)]
 
     def field(self, number):
-        """A dictionary has its number as its id, and indices of 8 bits."""
-        more = {"dictionary": encoding(number, integer(8, False))} if self.entries else {}
+        """A dictionary has its number as its id."""
+        more = {"dictionary": encoding(number, integer(self.width, False))} if self.entries else {}
         return field(self.name, self.of, self.nullable, **more)
 
     def buffers(self):
         validity = bits([not null for null in self.nulls]) if any(self.nulls) else b""
         if self.entries:
-            data = [numbers(1, self.stored)]
+            data = [numbers(self.width // 8, self.stored)]
         elif self.of is UTF8:
             data = texts([one.encode() for one in self.stored])
         elif self.of is BOOL:

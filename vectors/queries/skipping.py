@@ -9,6 +9,10 @@ one      one value in each batch; same  one value in all of them
 Every type comes in every manner. Under a null stands any number or text, so a null that counts as a value is seen. Some
 puts have no rows: no batch of theirs is stored. The ranges are the whole table, a part of it, or empty.
 
+Three further tables have dictionaries of 2,560 values, with indices of 16, 32 and 64 bits. Their batches have many rows for so
+many values, or few. The values that are used have codes of which two are neighbors, or leave one remainder by 2,048: where such
+codes are taken for one, the statistics are others. Each column is also asked at the ends of its values in each batch.
+
 Which batches are opened is written here from docs/SQL.md, section 7, over `may_hold` in truths.py. Each case is looked at in
 two more ways, which use no statistics or no rule about them: each row that is kept lies in a batch that is opened; and the
 possible truths of a conjunct are those that it has over the cells which the statistics allow, by allowed.py.
@@ -30,12 +34,16 @@ COLUMNS = 5  # of a table
 TABLES = 16  # so each name has each manner: 80 columns, of which 78 are different ones
 COUNTS = [6, 10, 14, 18]  # of a table's batches
 ROWS = [0, 1, 1, 2, 2, 3, 4, 6]  # of a batch
+VALUES = 2_560  # of a dictionary of many values
+SHARED = [0, 1, 2_048, 2_049]  # of four values with codes that are alike, how far behind the first one's they are
+SIZES = [120, 2, 63, 24, 64, 1, 3]  # the rows of the batches with such a dictionary: from 64 on each of its values has a mark
 PARTS = [1, 1, 1, 2, 2, 3]  # of a WHERE
 DEPTHS = [0, 0, 1, 1, 2]  # of a part
 TEXTS = [[f"abcdefgh{number:02}" for number in range(40)],
          [first + second for first in "aAbéz" for second in ["", " ", "a", "b", "é", "\U00010000"]],
          ["", "a", "a\0", "aa", "abcdefgh", "abcdefgh\0", "abcdefghi", "abcdefghij", "b"]]
-CLASSES = {"f": bool, "g": bool, "s": str, "c": str}
+CLASSES = {"f": bool, "g": bool, "s": str, "c": str, "c16": str, "c32": str, "c64": str}
+WIDTHS = {"c": 8, "c16": 16, "c32": 32, "c64": 64}  # of the indices of dictionaries
 
 
 class Draws:
@@ -101,7 +109,16 @@ class Kind:
     nulls: str
 
     def of(self):
-        return {"d": DECIMAL, "f": BOOL, "g": BOOL, "s": UTF8, "c": UTF8}.get(self.name) or integer(*TYPES[self.name])
+        return {bool: BOOL, str: UTF8}.get(class_of(self.name)) or (DECIMAL if self.name == "d" else integer(*TYPES[self.name]))
+
+    def entries(self):
+        """The values of a dictionary. A null is the second of them, and a value of the domain stands behind it."""
+        if self.name == "c":
+            return ["", None, *self.domain, "zz", *self.domain[:3]]
+        found = ["", None, *[""] * (VALUES - 3), "zz"]
+        for number, value in enumerate(self.domain):
+            found[2 + number // 4 * 38 + SHARED[number % 4]] = value
+        return found
 
     def batch(self, draws, number, count, rows):
         """The column in one batch."""
@@ -111,28 +128,23 @@ class Kind:
         of_ten = {"none": 0, "some": 2, "batches": 10 * draws.chance(4)}[how]
         nulls = [draws.chance(of_ten) for _ in values]
         stored = [draws.choice(self.domain) if null else value for null, value in zip(nulls, values)]
-        entries = None
-        if self.name == "c":
-            entries = ["", None, *self.domain, "zz", *self.domain[:3]]
-            stored = [draws.choice([1, 255]) if null else entries.index(value, 2) for null, value in zip(nulls, stored)]
-            nulls = [null and slot == 255 for null, slot in zip(nulls, stored)]
-        column = Column(self.name, self.of(), stored, nulls, entries)
+        entries, width = None, WIDTHS.get(self.name, 8)
+        if self.name in WIDTHS:
+            entries, nowhere = self.entries(), 2**width - 1
+            stored = [draws.choice([1, nowhere]) if null else entries.index(value, 2) for null, value in zip(nulls, stored)]
+            nulls = [null and slot == nowhere for null, slot in zip(nulls, stored)]
+        column = Column(self.name, self.of(), stored, nulls, entries, width)
         column.nullable = self.nulls != "none" or entries is not None
         return column
 
 
 class Batched:
-    """A table of many small batches. Those without rows are put, and not stored."""
+    """A table of so many batches, with the rows of each. Those without rows are put, and not stored."""
 
-    def __init__(self, number):
-        draws, self.name = Draws(f"batches {number}"), f"b{number}"
-        places = range(COLUMNS * number, COLUMNS * number + COLUMNS)
-        self.kinds = [Kind(name, domain_of(draws, name), MANNERS[place // len(NAMES) % len(MANNERS)], draws.choice(NULLS))
-                      for place in places for name in [NAMES[place % len(NAMES)]]]
-        count, self.sent = draws.choice(COUNTS), []
-        while len(self.sent) < count:
-            rows = draws.choice(ROWS)
-            self.sent.append([kind.batch(draws, len(self.sent), count, rows) for kind in self.kinds])
+    def __init__(self, draws, name, kinds, count, sizes):
+        self.name, self.kinds, self.sent = name, kinds, []
+        for number, rows in enumerate(sizes):
+            self.sent.append([kind.batch(draws, number, count, rows) for kind in kinds])
         stored = [columns for columns in self.sent if columns[0].values]
         names = [kind.name for kind in self.kinds]
         self.batches = [[dict(zip(names, row)) for row in zip(*(column.values for column in columns))] for columns in stored]
@@ -141,6 +153,23 @@ class Batched:
     def puts(self):
         """A put of each batch."""
         yield from Table(self.name, *self.sent).puts()
+
+
+def small_batches(number):
+    """A table of many small batches, with columns of several types."""
+    draws, places = Draws(f"batches {number}"), range(COLUMNS * number, COLUMNS * number + COLUMNS)
+    kinds = [Kind(name, domain_of(draws, name), MANNERS[place // len(NAMES) % len(MANNERS)], draws.choice(NULLS))
+             for place in places for name in [NAMES[place % len(NAMES)]]]
+    count = draws.choice(COUNTS)
+    return Batched(draws, f"b{number}", kinds, count, (draws.choice(ROWS) for _ in range(count)))
+
+
+def many_values(number):
+    """A table whose dictionaries have 2,560 values, with indices of three widths. Each of them has each of three manners."""
+    draws, manners = Draws(f"values {number}"), ["random", "rising", "falling"]
+    kinds = [Kind(name, domain_of(draws, name), manners[(place + number) % 3], draws.choice(NULLS))
+             for place, name in enumerate(["c16", "c32", "c64"])]
+    return Batched(draws, f"v{number}", kinds, len(SIZES), SIZES)
 
 
 # ---- the model
@@ -294,9 +323,9 @@ def range_of(draws, size):
     return first, max(0, first + draws.choice([-1, 0, 1, 2, 5, 12, size]))
 
 
-def case_of(draws, query, places, ons, where, grouped=False):
+def case_of(draws, query, places, ons, where, grouped=False, part=None):
     """A case: how many rows are kept, and which batches are opened. It is looked at in two more ways."""
-    first, end = range_of(draws, places[0].table.size)
+    first, end = part or range_of(draws, places[0].table.size)
     parts = conjuncts(where) if where else []
     rows = joined_rows(places, ons, first, end)
     rows = kept(rows, where) if where else rows
@@ -313,9 +342,9 @@ def case_of(draws, query, places, ons, where, grouped=False):
     return f"opened {first} {end} {text}", f"{1 if grouped else len(rows)} of{said}"
 
 
-def of_one_place(number, one):
+def of_one_place(number, one, turns):
     """Cases of a table alone."""
-    for turn in range(110):
+    for turn in range(turns):
         draws, place = Draws(f"one {number} {turn}"), Place(one)
         asker, scope = Asker(draws, [place]), [kind.name for kind in one.kinds]
         parts = [asker.predicate(scope, draws.choice(DEPTHS)) for _ in range(draws.choice(PARTS))]
@@ -323,6 +352,18 @@ def of_one_place(number, one):
         grouped = draws.below(9) == 0
         wanted = "COUNT(*)" if grouped else draws.choice(scope)
         yield case_of(draws, f"SELECT {wanted} FROM {one.name}", [place], [], where, grouped)
+
+
+def at_the_ends(one):
+    """Cases of each column of a table in one batch after another: at its least and its greatest value there, and outside."""
+    place, first = Place(one), 0
+    for rows, statistics in zip(one.batches, place.statistics()):
+        part, first = (first, first + len(rows)), first + len(rows)
+        for name, (least, greatest) in ((name, of.ends) for name, of in statistics.items() if of.ends):
+            column, draws = Name(name), Draws(f"ends {one.name} {name} {part}")
+            outside = any_of(compare(column, "<", least), compare(column, ">", greatest))
+            for where in [compare(column, "<=", least), compare(column, ">=", greatest), outside]:
+                yield case_of(draws, f"SELECT {name} FROM {one.name}", [place], [], where, part=part)
 
 
 def values_of(place, name):
@@ -372,13 +413,14 @@ def over_wide():
     yield f"{join} AND y.a > 99", "0 of 0.0"
 
 
-BATCHED = [Batched(number) for number in range(TABLES)]
+BATCHED = [small_batches(number) for number in range(TABLES)]
+CODED = [many_values(number) for number in range(3)]
 SMALL = sorted(BATCHED, key=lambda one: one.size)[: TABLES // 2]
 OF_PLACES = 400
 
 
 def puts():
-    for one in BATCHED:
+    for one in BATCHED + CODED:
         yield from one.puts()
 
 
@@ -386,6 +428,9 @@ def cases():
     allowed.look_at_small_domains()
     yield from over_wide()
     for number, one in enumerate(BATCHED):
-        yield from of_one_place(number, one)
+        yield from of_one_place(number, one, 110)
     for turn in range(OF_PLACES):
         yield of_places(turn)
+    for number, one in enumerate(CODED, TABLES):
+        yield from of_one_place(number, one, 40)
+        yield from at_the_ends(one)

@@ -1,6 +1,7 @@
 //! The possible truths of a comparison of two sides, and of IS NULL.
 
-ghost use Rattle.std.specs.Prelude.{◌≡◌};
+ghost use Rattle.std.specs.Prelude.{◌≡◌, is_some};
+ghost use Rattle.scan_base.specs.Comparison.{order_of};
 ghost use Rattle.scan_base.specs.Value.{value_of};
 ghost use Rattle.batch_skipping.specs.Can.{can_be_null, can_compare, equal_between, less_between, of_sides};
 ghost use Rattle.batch_stats.specs.Sides.{ends_at, side_at};
@@ -9,6 +10,18 @@ ghost use Rattle.batch_stats.specs.Stats.{stand};
 use crate::possible::Possible;
 use batch_stats::{Ends, Side};
 use scan_base::{Comparison, Truth, ValueRef};
+
+// Whether two values have an order: those of one class have one. No text is looked at.
+fn have_order(left: ValueRef<'_>, right: ValueRef<'_>) -> bool
+    ensures { result ≡ is_some (order_of (value_of left.entry) (value_of right.entry)) }
+{
+    match (left, right) {
+        (ValueRef::Bool(_), ValueRef::Bool(_)) => true,
+        (ValueRef::Int(_), ValueRef::Int(_)) => true,
+        (ValueRef::Text(_), ValueRef::Text(_)) => true,
+        (_, _) => false,
+    }
+}
 
 // Whether a comparison of two values is true.
 fn stand(comparison: Comparison, left: ValueRef<'_>, right: ValueRef<'_>) -> bool
@@ -45,7 +58,7 @@ fn can_be_equal(left: Side<'_>, right: Side<'_>) -> Possible
 {
     let can_unknown = left.nulls > 0 || right.nulls > 0;
     match (left.ends, right.ends) {
-        (Some(a), Some(b)) if a.least.order(b.least).is_some() => {
+        (Some(a), Some(b)) if have_order(a.least, b.least) => {
             let (can_true, can_false) = equal_between(a, b);
             Possible {
                 can_true,
@@ -63,7 +76,7 @@ fn can_be_less(left: Side<'_>, right: Side<'_>) -> Possible
 {
     let can_unknown = left.nulls > 0 || right.nulls > 0;
     match (left.ends, right.ends) {
-        (Some(a), Some(b)) if a.least.order(b.least).is_some() => {
+        (Some(a), Some(b)) if have_order(a.least, b.least) => {
             let (can_true, can_false) = less_between(a, b);
             Possible {
                 can_true,

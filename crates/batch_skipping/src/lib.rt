@@ -1,12 +1,10 @@
 //! What a batch may hold: the possible truths of a predicate, from the least and the greatest value and the nulls of each column.
 #![tactic(auto)]
 
-pub mod batch_sides;
 pub mod can;
 mod compare;
 pub mod laws;
 pub mod possible;
 
-pub use crate::batch_sides::BatchSides;
 pub use crate::can::{Measured, may_hold};
 pub use crate::possible::Possible;
