@@ -29,8 +29,7 @@ pub fn read_words<'a, E: Output>(
     requires { E.failures faults.old < 18446744073709551615 }
     ensures reads { (modes : ValueParser) × TakesNames mode_names modes
         × ReadsWords modes (map string_bytes words.now) result
-        (said_of (E.contents faults.old) (E.failures faults.old))
-        (said_of (E.contents faults.new) (E.failures faults.new)) }
+        (said_of E.Output faults.old) (said_of E.Output faults.new) }
     ensures seats { IfOk result HasSeats }
 {
     match options(alloc, words) {
@@ -46,8 +45,7 @@ const NO_TEXT: &[u8] = b"error: out of memory\n";
 fn refuse<E: Output>(alloc: Global, faults: &mut E, error: &Error) -> ExitStatus
     requires { E.failures faults.old < 18446744073709551615 }
     ensures { RefusesFor (kind_of error.now) result
-        (said_of (E.contents faults.old) (E.failures faults.old))
-        (said_of (E.contents faults.new) (E.failures faults.new)) }
+        (said_of E.Output faults.old) (said_of E.Output faults.new) }
 {
     match error.kind() {
         ErrorKind::OutOfMemory => end_by_fault(faults, Fault::OutOfMemory),
@@ -62,8 +60,7 @@ fn refuse<E: Output>(alloc: Global, faults: &mut E, error: &Error) -> ExitStatus
 fn print_text<E: Output>(alloc: Global, faults: &mut E, error: &Error)
     requires { E.failures faults.old < 18446744073709551615 }
     ensures { (text : List ℕ) × Prints text
-        (said_of (E.contents faults.old) (E.failures faults.old))
-        (said_of (E.contents faults.new) (E.failures faults.new)) }
+        (said_of E.Output faults.old) (said_of E.Output faults.new) }
 {
     let _ = match error.to_string(alloc) {
         Ok(text) => faults.write(text.as_bytes()),
