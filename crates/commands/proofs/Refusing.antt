@@ -13,6 +13,6 @@ use Rattle.commands.specs.Words.{AnswersKind, ReadsWords}
 pub answered : (modes : ValueParser) (words : List Text) (found : ErrorKind) (status : ExitStatus) (out out' said said' : Said)
     → (found ≡ OutOfMemory) ⊎ IsAmong found (fault_of (program modes) words) → AnswersKind found status out out' said said'
     → ReadsWords modes words (Err status) out out' said said'
-answered modes words found status out out' said said' cause (inl lacks) = inl lacks.1
+answered modes words found status out out' said said' cause (inl lacks) = inl (lacks.1, lacks.2)
 answered modes words found status out out' said said' (inl memory) (inr ends) = absurd (ends.0 memory)
 answered modes words found status out out' said said' (inr among) (inr ends) = inr (found, among, ends.1)
