@@ -168,11 +168,12 @@ LINES = [[], ["another"], ["--help"], ["put", "--help"], ["pipe", "--parts", "0"
          ["tables", "--port", "x"]]
 
 
-@case("command lines that don't parse or ask for help: a text on standard error, and status 2")
+@case("command lines that don't parse or ask for help: a text on standard error, and status 2; and the version, with status 0")
 def command_lines(run: Run) -> None:
     for words in LINES:
         status, out, said = typed(run, *words)
         same(f"{words}: status, output, and whether a text is said", (2, b"", True), (status, out, len(said) > 0))
+    same("the version", (0, b"flightscan 0.1.0\n", b""), typed(run, "--version"))
 
 
 def look_at_transport(what: str, given: tuple[int, bytes, bytes], port: str) -> None:

@@ -105,7 +105,8 @@ impl Cases {
         let mut reader = MemoryInput::new(&input).in_pieces_of(most);
         let mut writer = MemoryOutput::new(alloc);
         let mut faults = MemoryOutput::new(alloc);
-        let Ok(Request::Pipe { parts, workers }) = read_words(alloc, &words, &mut faults) else {
+        let request = read_words(alloc, &words, &mut writer, &mut faults);
+        let Ok(Request::Pipe { parts, workers }) = request else {
             return Err(Fault::BadFrame);
         };
         let workers = workers as usize;

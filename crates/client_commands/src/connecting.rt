@@ -68,8 +68,7 @@ pub(crate) fn end_unconnected<E: Output>(
     requires { E.failures faults.old < 18446744073709551615 }
     ensures status { result ≡ FaultAtThisEnd }
     ensures lines { (cause : List ℕ) × Prints (cause_lines cause)
-        (said_of (E.contents faults.old) (E.failures faults.old))
-        (said_of (E.contents faults.new) (E.failures faults.new)) }
+        (said_of E.Output faults.old) (said_of E.Output faults.new) }
 {
     match format!(in alloc; "cannot connect to 127.0.0.1:{port}: {error}") {
         Ok(cause) => end_by_cause(faults, cause.as_str()),

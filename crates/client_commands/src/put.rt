@@ -28,9 +28,9 @@ pub struct Putting<'a> {
     pub target: Target<'a>,
 }
 
-/// Puts the Arrow IPC stream that the whole input is into a table, and prints how many rows were put. The input is read and
-/// cut before a connection is made. A fault is printed on `faults` in a line, as far as that takes it; where the input or the
-/// network failed, a second line says so.
+/// Puts the Arrow IPC stream that the whole input is into a table, and prints how many rows were put. The input is read
+/// and cut before a connection is made. A fault is printed on `faults` in a line, as far as that takes it; where the
+/// input or the network failed, a second line says so.
 pub fn put<C: Connect, I: Input, W: Output, E: Output>(
     alloc: Global,
     network: &mut C,
@@ -39,18 +39,16 @@ pub fn put<C: Connect, I: Input, W: Output, E: Output>(
     faults: &mut E,
     putting: Putting<'_>,
 ) -> ExitStatus
+    // Each end can count one failure more.
     requires reads { I.failures input.old < 18446744073709551615 }
     requires writes { W.failures output.old < 18446744073709551615 }
     requires prints { E.failures faults.old < 18446744073709551615 }
-    ensures { Puts
-        (source_of (I.remaining input.old) (I.failures input.old))
-        (source_of (I.remaining input.new) (I.failures input.new)) (network.new ≡ network.old)
-        (λ ends. C.connects network.old putting.entry.port ends network.new)
-        putting.entry.target result
-        (desk_of (said_of (W.contents output.old) (W.failures output.old))
-        (said_of (E.contents faults.old) (E.failures faults.old)))
-        (desk_of (said_of (W.contents output.new) (W.failures output.new))
-        (said_of (E.contents faults.new) (E.failures faults.new))) }
+
+    // The input is no stream or was not read, and why is printed; or its messages were put, and what came of it is.
+    ensures { Puts (source_of I.Input input.old) (source_of I.Input input.new) (network.new ≡ network.old)
+        (λ ends. C.connects network.old putting.entry.port ends network.new) putting.entry.target result
+        (desk_of (said_of W.Output output.old) (said_of E.Output faults.old))
+        (desk_of (said_of W.Output output.new) (said_of E.Output faults.new)) }
 {
     match read_messages(alloc, input) {
         Ok(messages) => put_messages(alloc, network, output, faults, putting, &messages),
@@ -73,10 +71,8 @@ fn put_messages<C: Connect, W: Output, E: Output>(
     ensures { Connects (λ ends. C.connects network.old putting.entry.port ends network.new)
         (Calls DoPut (put_payloads putting.entry.target messages.now) (AnswersOne ReadsCount))
         count_line result
-        (desk_of (said_of (W.contents output.old) (W.failures output.old))
-        (said_of (E.contents faults.old) (E.failures faults.old)))
-        (desk_of (said_of (W.contents output.new) (W.failures output.new))
-        (said_of (E.contents faults.new) (E.failures faults.new))) }
+        (desk_of (said_of W.Output output.old) (said_of E.Output faults.old))
+        (desk_of (said_of W.Output output.new) (said_of E.Output faults.new)) }
 {
     let mut connection = match open(alloc, network, putting.port) {
         Ok(connection) => connection,
@@ -96,10 +92,8 @@ fn tell_count<W: Output, E: Output>(
     requires writes { W.failures output.old < 18446744073709551615 }
     requires prints { E.failures faults.old < 18446744073709551615 }
     ensures { Tells count_line counted result
-        (said_of (W.contents output.old) (W.failures output.old))
-        (said_of (W.contents output.new) (W.failures output.new))
-        (said_of (E.contents faults.old) (E.failures faults.old))
-        (said_of (E.contents faults.new) (E.failures faults.new)) }
+        (said_of W.Output output.old) (said_of W.Output output.new)
+        (said_of E.Output faults.old) (said_of E.Output faults.new) }
 {
     match counted {
         Ok(rows) => {

@@ -28,9 +28,9 @@ pub struct Querying<'a> {
 }
 
 /// Prints the rows that a query answers: a line of the columns' names, and a line for each row, in the order of the
-/// endpoints. These are fetched over up to `streams` connections at a time, each but the first in a thread of its own, or
-/// over as many as the network gives. Nothing is printed before all came. A fault is printed on `faults` in a line, as far
-/// as that takes it; where no connection was made, a second line says so.
+/// endpoints. These are fetched over up to `streams` connections at a time, each but the first in a thread of its own,
+/// or over as many as the network gives. Nothing is printed before all came. A fault is printed on `faults` in a line,
+/// as far as that takes it; where no connection was made, a second line says so.
 pub fn query<T: Threads, C: Connect, W: Output, E: Output>(
     rt: &T,
     alloc: Global,
@@ -42,14 +42,15 @@ pub fn query<T: Threads, C: Connect, W: Output, E: Output>(
 where
     C::Reader: Send,
     C::Writer: Send,
+    // Each output can count one failure more.
     requires writes { W.failures output.old < 18446744073709551615 }
     requires prints { E.failures faults.old < 18446744073709551615 }
+
+    // The rows that the query answers are printed; or what failed is, and where no connection was made, why.
     ensures { Queries (λ old ends new. C.connects old query.entry.port ends new) query.entry.streams
         query.entry.sql.now network.old network.new result
-        (desk_of (said_of (W.contents output.old) (W.failures output.old))
-        (said_of (E.contents faults.old) (E.failures faults.old)))
-        (desk_of (said_of (W.contents output.new) (W.failures output.new))
-        (said_of (E.contents faults.new) (E.failures faults.new))) }
+        (desk_of (said_of W.Output output.old) (said_of E.Output faults.old))
+        (desk_of (said_of W.Output output.new) (said_of E.Output faults.new)) }
 {
     let connection = match open(alloc, network, query.port) {
         Ok(connection) => connection,
@@ -69,10 +70,8 @@ fn tell_rows<W: Output, E: Output>(
     requires writes { W.failures output.old < 18446744073709551615 }
     requires prints { E.failures faults.old < 18446744073709551615 }
     ensures { Tells table_lines fetched result
-        (said_of (W.contents output.old) (W.failures output.old))
-        (said_of (W.contents output.new) (W.failures output.new))
-        (said_of (E.contents faults.old) (E.failures faults.old))
-        (said_of (E.contents faults.new) (E.failures faults.new)) }
+        (said_of W.Output output.old) (said_of W.Output output.new)
+        (said_of E.Output faults.old) (said_of E.Output faults.new) }
 {
     match fetched {
         Ok(rows) => {

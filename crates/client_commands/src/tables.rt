@@ -19,8 +19,8 @@ use row_lines::write_names;
 use scan_base::Text;
 use std::alloc::Global;
 
-/// Prints the names of the tables, a line each, in the order in which the server lists them. A fault is printed on `faults`
-/// in a line, as far as that takes it; where no connection was made, a second line says so.
+/// Prints the names of the tables, a line each, in the order in which the server lists them. A fault is printed on
+/// `faults` in a line, as far as that takes it; where no connection was made, a second line says so.
 pub fn tables<C: Connect, W: Output, E: Output>(
     alloc: Global,
     network: &mut C,
@@ -28,14 +28,14 @@ pub fn tables<C: Connect, W: Output, E: Output>(
     faults: &mut E,
     port: u16,
 ) -> ExitStatus
+    // Each output can count one failure more.
     requires writes { W.failures output.old < 18446744073709551615 }
     requires prints { E.failures faults.old < 18446744073709551615 }
-    ensures { ListsTables (λ ends. C.connects network.old port ends network.new)
-        result
-        (desk_of (said_of (W.contents output.old) (W.failures output.old))
-        (said_of (E.contents faults.old) (E.failures faults.old)))
-        (desk_of (said_of (W.contents output.new) (W.failures output.new))
-        (said_of (E.contents faults.new) (E.failures faults.new))) }
+
+    // The names of the tables are printed; or what failed is, and where no connection was made, why.
+    ensures { ListsTables (λ ends. C.connects network.old port ends network.new) result
+        (desk_of (said_of W.Output output.old) (said_of E.Output faults.old))
+        (desk_of (said_of W.Output output.new) (said_of E.Output faults.new)) }
 {
     let mut connection = match open(alloc, network, port) {
         Ok(connection) => connection,
@@ -55,10 +55,8 @@ fn tell_names<W: Output, E: Output>(
     requires writes { W.failures output.old < 18446744073709551615 }
     requires prints { E.failures faults.old < 18446744073709551615 }
     ensures { Tells (λ names. flat_map name_line names.items) fetched result
-        (said_of (W.contents output.old) (W.failures output.old))
-        (said_of (W.contents output.new) (W.failures output.new))
-        (said_of (E.contents faults.old) (E.failures faults.old))
-        (said_of (E.contents faults.new) (E.failures faults.new)) }
+        (said_of W.Output output.old) (said_of W.Output output.new)
+        (said_of E.Output faults.old) (said_of E.Output faults.new) }
 {
     match fetched {
         Ok(names) => {

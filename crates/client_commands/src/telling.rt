@@ -14,8 +14,7 @@ use scan_base::Fault;
 pub(crate) fn end_by_failure<E: Output>(faults: &mut E, failure: Failure) -> ExitStatus
     requires { E.failures faults.old < 18446744073709551615 }
     ensures { TellsFailure failure result
-        (said_of (E.contents faults.old) (E.failures faults.old))
-        (said_of (E.contents faults.new) (E.failures faults.new)) }
+        (said_of E.Output faults.old) (said_of E.Output faults.new) }
 {
     match failure {
         Failure::Answered(fault) => end_by_answer(faults, fault),
@@ -28,8 +27,7 @@ pub(crate) fn end_by_printing<E: Output>(faults: &mut E, printed: Result<(), Fau
     requires failures { E.failures faults.old < 18446744073709551615 }
     requires kind { FailsByTransport printed }
     ensures { TellsPrinted printed result
-        (said_of (E.contents faults.old) (E.failures faults.old))
-        (said_of (E.contents faults.new) (E.failures faults.new)) }
+        (said_of E.Output faults.old) (said_of E.Output faults.new) }
 {
     match printed {
         Ok(()) => ExitStatus::Done,

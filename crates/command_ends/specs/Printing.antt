@@ -6,6 +6,7 @@ use Rattle.scan_base.specs.declared.fault.Fault.{Fault}
 use Rattle.scan_base.specs.declared.fault.Fault.TheVariants.{Transport}
 use Rattle.scan_base.specs.Fault.{text_of}
 use Rattle.grpc_frame.specs.Ends.{AppendsBeginning}
+use Rattle.grpc_frame.specs.declared.ends.Output.{Ghosts as OutputMembers}
 
 -- the line that says a fault
 abbrev pub fault_line : Fault → List ℕ
@@ -28,8 +29,9 @@ pub record Said : Type 0 where
   pub bytes : Option (List ℕ)
   pub failures : ℕ
 
-abbrev pub said_of : Option (List ℕ) → ℕ → Said
-said_of bytes failures = record { bytes = bytes; failures = failures }
+-- both of an output, whose trait's ghost members these are
+abbrev pub said_of : {W : Type 0} → OutputMembers W → W → Said
+said_of members output = record { bytes = members.contents output; failures = members.failures output }
 
 -- a text was printed; or a write of it failed, which is counted, and a beginning of it was printed
 abbrev pub Prints : List ℕ → Said → Said → Type 0

@@ -3,6 +3,7 @@ use Rattle.std.specs.Prelude.{◌≡◌, ◌⊎◌, ℕ, ◌+◌, List, Option, 
 use Rattle.std.specs.Io.KnownBytes.{Consumes, IsAtEnd}
 use Rattle.scan_base.specs.declared.fault.Fault.{Fault}
 use Rattle.scan_base.specs.declared.fault.Fault.TheVariants.{BadFlatbuffer, OutOfMemory, Transport}
+use Rattle.grpc_frame.specs.declared.ends.Input.{Ghosts as InputMembers}
 use Rattle.ipc_stream.specs.declared.message.IpcMessage.{IpcMessage}
 use Rattle.ipc_stream.specs.Stream.{Framed, IsStream}
 
@@ -11,8 +12,9 @@ pub record Source : Type 0 where
   pub left : Option (List ℕ)
   pub failed : ℕ
 
-abbrev pub source_of : Option (List ℕ) → ℕ → Source
-source_of left failed = record { left = left; failed = failed }
+-- both of an input, whose trait's ghost members these are
+abbrev pub source_of : {R : Type 0} → InputMembers R → R → Source
+source_of members input = record { left = members.remaining input; failed = members.failures input }
 
 -- all that was left came, which is these bytes, and no read failed
 pub record Gives (bytes : List ℕ) (old new : Source) : Type 0 where

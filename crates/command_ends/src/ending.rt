@@ -14,8 +14,7 @@ pub fn end_by_fault<E: Output>(faults: &mut E, fault: Fault) -> ExitStatus
     requires { E.failures faults.old < 18446744073709551615 }
     ensures status { result ≡ FaultAtThisEnd }
     ensures line { Prints (fault_line fault)
-        (said_of (E.contents faults.old) (E.failures faults.old))
-        (said_of (E.contents faults.new) (E.failures faults.new)) }
+        (said_of E.Output faults.old) (said_of E.Output faults.new) }
 {
     let _ = write_fault(faults, fault);
     ExitStatus::FaultAtThisEnd
@@ -26,8 +25,7 @@ pub fn end_by_answer<E: Output>(faults: &mut E, fault: Fault) -> ExitStatus
     requires { E.failures faults.old < 18446744073709551615 }
     ensures status { result ≡ FaultAnswered }
     ensures line { Prints (fault_line fault)
-        (said_of (E.contents faults.old) (E.failures faults.old))
-        (said_of (E.contents faults.new) (E.failures faults.new)) }
+        (said_of E.Output faults.old) (said_of E.Output faults.new) }
 {
     let _ = write_fault(faults, fault);
     ExitStatus::FaultAnswered
@@ -38,8 +36,7 @@ pub fn end_by_cause<E: Output>(faults: &mut E, cause: &str) -> ExitStatus
     requires { E.failures faults.old < 18446744073709551615 }
     ensures status { result ≡ FaultAtThisEnd }
     ensures lines { Prints (cause_lines cause.now)
-        (said_of (E.contents faults.old) (E.failures faults.old))
-        (said_of (E.contents faults.new) (E.failures faults.new)) }
+        (said_of E.Output faults.old) (said_of E.Output faults.new) }
 {
     let _ = write_cause(faults, cause);
     ExitStatus::FaultAtThisEnd

@@ -18,9 +18,7 @@ use std::alloc::Global;
 /// - `Fault::OutOfMemory` (F21) where memory is refused.
 pub fn read_whole<R: Input>(alloc: Global, input: &mut R) -> Result<Bytes, Fault>
     requires { R.failures input.old < 18446744073709551615 }
-    ensures { ReadsWhole result
-        (source_of (R.remaining input.old) (R.failures input.old))
-        (source_of (R.remaining input.new) (R.failures input.new)) }
+    ensures { ReadsWhole result (source_of R.Input input.old) (source_of R.Input input.new) }
 {
     let mut held = Held::new(alloc);
     loop {
@@ -44,8 +42,7 @@ pub fn read_whole<R: Input>(alloc: Global, input: &mut R) -> Result<Bytes, Fault
 pub fn read_messages<R: Input>(alloc: Global, input: &mut R) -> Result<Vec<IpcMessage>, Fault>
     requires { R.failures input.old < 18446744073709551615 }
     ensures { ReadsMessages (λ messages. messages.items) result
-        (source_of (R.remaining input.old) (R.failures input.old))
-        (source_of (R.remaining input.new) (R.failures input.new)) }
+        (source_of R.Input input.old) (source_of R.Input input.new) }
 {
     let stream = read_whole(alloc, input)?;
     ipc_messages(alloc, &stream)

@@ -64,11 +64,11 @@ query =
 abbrev pub tables : App
 tables = with_rule (new_app (codes "tables")) port_rule
 
--- the program and its commands, one of which has to be given
+-- the program, which has a version, and its commands, one of which has to be given
 abbrev pub program : ValueParser → App
 program modes =
     let named = new_app (codes "flightscan") in
-    let bare = record named { top = record named.top { subcommand_required = true } } in
+    let bare = record named { top = record named.top { has_version = true; subcommand_required = true } } in
     let served = with_subcommand (with_subcommand bare pipe.top) serve.top in
     let putting = with_subcommand served (put modes).top in
     with_subcommand (with_subcommand putting query.top) tables.top

@@ -11,6 +11,9 @@ use clap::builder::ValueParser;
 use clap::{Arg, ArgAction, Command};
 use std::alloc::{AllocError, Global};
 
+// The version that CHANGELOG.md names.
+const VERSION: &str = "0.1.0";
+
 // The option `--parts`.
 fn parts<'a>(alloc: Global) -> Arg<'a>
     ensures rule { rule_of result ≡ line.parts_rule }
@@ -188,7 +191,7 @@ fn with_below<'a>(
     command.subcommand(made?)
 }
 
-/// The program and its commands, one of which has to be given. The modes of `put` have these names.
+/// The program and its commands, one of which has to be given. It has a version. The modes of `put` have these names.
 ///
 /// # Errors
 ///
@@ -199,7 +202,9 @@ pub(crate) fn program<'a>(alloc: Global, modes: &'a [&'a str]) -> Result<Command
 {
     let about = "Holds Arrow tables in memory, and scans them by SQL";
     let help = "`flightscan COMMAND --help` shows the options of a command, and an example.";
-    let bare = command(alloc, "flightscan", about, help).subcommand_required(true);
+    let bare = command(alloc, "flightscan", about, help)
+        .version(VERSION)
+        .subcommand_required(true);
     let piping = with_below(bare, pipe(alloc))?;
     let serving = with_below(piping, serve(alloc))?;
     let putting = with_below(serving, put(alloc, modes))?;

@@ -26,7 +26,8 @@ static MODES: [&str; 3] = ["create", "append", "replace"];
 ///
 /// # Errors
 ///
-/// clap's fault, with its text, where the line does not parse or asks for help, and where memory is refused.
+/// clap's fault, with its text, where the line does not parse, or asks for help or the version; and where memory is
+/// refused.
 pub fn options<'a>(alloc: Global, words: &'a [String]) -> Result<Request<'a>, Error>
     ensures { (modes : ValueParser) × TakesNames mode_names modes
         × FailsBy (fault_of (program modes) (map string_bytes words.now)) result

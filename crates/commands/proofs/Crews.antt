@@ -18,7 +18,8 @@ use Rattle.connection_turns.specs.Drawers.{DrawerAt, drawer_at}
 use Rattle.command_line.specs.declared.request.Serving.{Serving}
 use Rattle.command_ends.specs.Network.{Ends}
 use Rattle.command_ends.specs.Printing.{Said, listening_line}
-use Rattle.commands.specs.Serve.{DrawsAll, Worker, Work, IsPartOf, IsFresh, IsServed, ServesPort, ServesSideBySide, ServesUpTo, both, drawn_by, first_fault, made_by, most_of, options_of, worker_of}
+use Rattle.commands.specs.Port.{IsFresh, IsServed, ServesPort, most_of, options_of}
+use Rattle.commands.specs.Serve.{DrawsAll, Worker, Work, IsPartOf, ServesSideBySide, ServesUpTo, both, drawn_by, first_fault, made_by, worker_of}
 use Rattle.commands.specs.inside.Gathering.{Begun, Gathered, HasDrawn, HasWorked, HiredWorker, IsNew, IsWithin, seat_in, state_of, work_of}
 
 -- all that is of a history is of one that goes on from it

@@ -1,4 +1,5 @@
 pub mod Pipe
+pub mod Port
 pub mod Serve
 pub mod Together
 pub mod Words

@@ -12,5 +12,6 @@ use Rattle.command_ends.specs.declared.exit_status.ExitStatus.TheVariants.{Done,
 -- this end, which is printed in a line.
 abbrev pub Pipes : Options → ExitStatus → Connection → Connection → Said → Said → Type 0
 Pipes options Done old new said said' = Serves alone options (Ok tt) old new × (said' ≡ said)
-Pipes options FaultAtThisEnd old new said said' = (fault : Fault) × Serves alone options (Err fault) old new × Prints (fault_line fault) said said'
+Pipes options FaultAtThisEnd old new said said' =
+    (fault : Fault) × Serves alone options (Err fault) old new × Prints (fault_line fault) said said'
 Pipes options _ old new said said' = ⊥

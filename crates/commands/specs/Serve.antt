@@ -1,20 +1,14 @@
--- What `serve` does.
+-- What the workers of `serve` do.
 use Rattle.std.specs.Prelude.{◌≡◌, ◌⊎◌, ◌≤◌, ℕ, zero, suc, ◌+◌, length, All, IsErr, List, [], ◌∷◌, Option, Some, None, Result, Ok, Err}
-use Rattle.std.specs.Io.KnownBytes.{Appends}
 use Rattle.scan_base.specs.declared.fault.Fault.{Fault}
-use Rattle.scan_base.specs.declared.fault.Fault.TheVariants.{OutOfMemory, Transport}
-use Rattle.grpc_frame.specs.Ends.{AppendsBeginning}
+use Rattle.scan_base.specs.declared.fault.Fault.TheVariants.{Transport}
 use Rattle.flight_core.specs.Headline.{Pairwise}
 use Rattle.table_versions.specs.Log.{Log, IsLog, Begins}
 use Rattle.flight_calls.specs.declared.setting.Options.{Options}
-use Rattle.flight_calls.specs.Seats.{Moves, Seat, seat_of}
+use Rattle.flight_calls.specs.Seats.{Moves, Seat}
 use Rattle.flight_calls.specs.Owed.{Connection, Serves, connection_of}
 use Rattle.shared_calls.specs.Sharing.{onward}
-use Rattle.command_line.specs.declared.request.Serving.{Serving}
 use Rattle.command_ends.specs.Network.{Ends}
-use Rattle.command_ends.specs.Printing.{Said, Prints, cause_lines, fault_line, listening_line}
-use Rattle.command_ends.specs.declared.exit_status.ExitStatus.{ExitStatus}
-use Rattle.command_ends.specs.declared.exit_status.ExitStatus.TheVariants.{Done, FaultAtThisEnd}
 
 -- ---- a worker
 
@@ -23,6 +17,7 @@ pub record Worker (L : Type 0) : Type 0 where
   pub listener : L
   pub seat : Seat
 
+-- a worker of this listener and this seat
 abbrev pub worker_of : {L : Type 0} → L → Seat → Worker L
 worker_of listener seat = record { listener = listener; seat = seat }
 
@@ -31,14 +26,17 @@ pub data Accept (L : Type 0) : Type 0 where
   Failed : L → Accept L
   Took : L → Ends → Result (Unit {0}) Fault → Connection → Accept L
 
--- These are all accepts, in order, where so many more connections are to be served, and so many more accepts may fail before one
--- takes a connection. Each connection begins from the seat that the one before it left, whatever became of that. It ends where no
--- more are to be served, or where a hundred accepts failed one behind the other (F22): one alone is then not served.
-abbrev pub ServesInTurn : {L : Type 0} → (L → Option Ends → L → Type 0) → Moves → Options → List (Accept L) → ℕ → ℕ → Result (Unit {0}) Fault → Worker L → Worker L → Type 0
+-- These are all accepts, in order, where so many more connections are to be served, and so many more accepts may fail
+-- before one takes a connection. Each connection begins from the seat that the one before it left, whatever became of
+-- that. It ends where no more are to be served, or where a hundred accepts failed one behind the other (F22): one alone
+-- is then not served.
+abbrev pub ServesInTurn : {L : Type 0} → (L → Option Ends → L → Type 0) → Moves → Options → List (Accept L) → ℕ → ℕ
+    → Result (Unit {0}) Fault → Worker L → Worker L → Type 0
 ServesInTurn accepts moves options [] zero patience result old new = (result ≡ Ok tt) × (new ≡ old)
 ServesInTurn accepts moves options [] (suc zero) zero result old new = (result ≡ Err Transport) × (new ≡ old)
 ServesInTurn accepts moves options (Failed listener ∷ others) (suc more) (suc patience) result old new =
-    accepts old.listener None listener × ServesInTurn accepts moves options others (suc more) patience result (worker_of listener old.seat) new
+    accepts old.listener None listener
+    × ServesInTurn accepts moves options others (suc more) patience result (worker_of listener old.seat) new
 ServesInTurn accepts moves options (Took listener ends served last ∷ others) (suc more) (suc patience) result old new =
     accepts old.listener (Some ends) listener
     × Serves moves options served (connection_of ends.input ends.output 0 0 old.seat) last
@@ -46,8 +44,10 @@ ServesInTurn accepts moves options (Took listener ends served last ∷ others) (
 ServesInTurn accepts moves options others more patience result old new = ⊥
 
 -- so many were served, one behind the other; or all but one of them, where none could be taken any more
-abbrev pub ServesUpTo : {L : Type 0} → (L → Option Ends → L → Type 0) → Moves → Options → ℕ → Result (Unit {0}) Fault → Worker L → Worker L → Type 0
-ServesUpTo {L} accepts moves options drawn result old new = (all : List (Accept L)) × ServesInTurn accepts moves options all drawn 100 result old new
+abbrev pub ServesUpTo : {L : Type 0} → (L → Option Ends → L → Type 0) → Moves → Options → ℕ
+    → Result (Unit {0}) Fault → Worker L → Worker L → Type 0
+ServesUpTo {L} accepts moves options drawn result old new =
+    (all : List (Accept L)) × ServesInTurn accepts moves options all drawn 100 result old new
 
 -- ---- workers side by side
 
@@ -57,11 +57,12 @@ pub record Work (L : Type 0) : Type 0 where
   pub drawn : ℕ
   pub result : Result (Unit {0}) Fault
 
--- the first fault of the works, if one has a fault
+-- the first result, or the second where the first is no fault
 abbrev pub both : Result (Unit {0}) Fault → Result (Unit {0}) Fault → Result (Unit {0}) Fault
 both (Ok done) second = second
 both (Err fault) second = Err fault
 
+-- the first fault of the works, if one has a fault
 abbrev pub first_fault : {L : Type 0} → List (Work L) → Result (Unit {0}) Fault
 first_fault [] = Ok tt
 first_fault (work ∷ others) = both work.result (first_fault others)
@@ -81,13 +82,16 @@ abbrev pub DrawsAll : {L : Type 0} → ℕ → List (Work L) → Type 0
 DrawsAll most works = (drawn_by works ≡ most) ⊎ ((drawn_by works ≤ most) × All (λ work. IsErr work.result) works)
 
 -- a worker served the connections that it drew, and all that its seat has then seen is of this history
-pub record IsPartOf {L : Type 0} (accepts : L → Option Ends → L → Type 0) (options : Options) (history : Log) (old : Worker L) (new : Work L) : Type 0 where
+pub record IsPartOf {L : Type 0} (accepts : L → Option Ends → L → Type 0) (options : Options) (history : Log)
+    (old : Worker L) (new : Work L) : Type 0 where
   pub serves : ServesUpTo accepts onward options new.drawn new.result old new.worker
   pub within : Begins new.worker.seat.log history
 
--- These workers served side by side, each the connections that it drew, so many in all. All that their seats have seen is of one
--- history of accepted puts, with as many entries as their connections made. The result is the first fault of a worker, if any.
-pub record ServesSideBySide {L : Type 0} (accepts : L → Option Ends → L → Type 0) (options : Options) (most : ℕ) (workers : List (Worker L)) (result : Result (Unit {0}) Fault) : Type 0 where
+-- These workers served side by side, each the connections that it drew, so many in all. All that their seats have seen
+-- is of one history of accepted puts, with as many entries as their connections made. The result is the first fault of
+-- a worker, if any.
+pub record ServesSideBySide {L : Type 0} (accepts : L → Option Ends → L → Type 0) (options : Options) (most : ℕ)
+    (workers : List (Worker L)) (result : Result (Unit {0}) Fault) : Type 0 where
   pub history : Log
   pub log : IsLog history
   pub ends : List (Work L)
@@ -95,56 +99,3 @@ pub record ServesSideBySide {L : Type 0} (accepts : L → Option Ends → L → 
   pub made : length history ≡ made_by ends
   pub drawn : DrawsAll most ends
   pub ended : result ≡ first_fault ends
-
--- ---- a port
-
--- how many connections are drawn, where so many are to be accepted: 0 stands for no end
-abbrev pub most_of : ℕ → ℕ
-most_of zero = 18446744073709551615
-most_of accept = accept
-
-abbrev pub options_of : Serving → Options
-options_of serving = record { parts = serving.parts; workers = serving.workers }
-
-abbrev pub at_port : ℕ → Serving → Serving
-at_port port serving = record { port = port; seats = serving.seats; accept = serving.accept; parts = serving.parts; workers = serving.workers }
-
--- it listens to the same port, and its seat has seen nothing
-abbrev pub IsFresh : {L : Type 0} → (L → Option L → Type 0) → L → Worker L → Type 0
-IsFresh shares heard worker = shares heard (Some worker.listener) × (worker.seat ≡ seat_of [] 0)
-
--- the line of the port was printed, and as many workers as there are seats served connections to it, of one history
-pub record IsServed {L : Type 0} (accepts : L → Option Ends → L → Type 0) (shares : L → Option L → Type 0) (serving : Serving) (result : Result (Unit {0}) Fault) (heard : L) (out out' : Said) : Type 0 where
-  pub printed : Appends out.bytes out'.bytes (listening_line serving.port)
-  pub quiet : out'.failures ≡ out.failures
-  pub workers : List (Worker L)
-  pub many : length workers ≡ serving.seats
-  pub start : All (IsFresh shares heard) workers
-  pub served : ServesSideBySide accepts (options_of serving) (most_of serving.accept) workers result
-
--- the line of the port was not printed
-pub record IsNotPrinted (port : ℕ) (out out' : Said) : Type 0 where
-  pub begun : AppendsBeginning out.bytes out'.bytes (listening_line port)
-  pub counted : out'.failures ≡ out.failures + 1
-
--- connections were served; or no memory or no listener was there for it, and nothing is printed; or the port was not printed
-abbrev pub ServesPort : {L : Type 0} → (L → Option Ends → L → Type 0) → (L → Option L → Type 0) → Serving → Result (Unit {0}) Fault → L → Said → Said → Type 0
-ServesPort accepts shares serving (Ok done) heard out out' = IsServed accepts shares serving (Ok done) heard out out'
-ServesPort accepts shares serving (Err fault) heard out out' =
-    IsServed accepts shares serving (Err fault) heard out out'
-    ⊎ (((fault ≡ OutOfMemory) × (out' ≡ out))
-    ⊎ (((fault ≡ Transport) × shares heard None × (out' ≡ out))
-    ⊎ ((fault ≡ Transport) × IsNotPrinted serving.port out out')))
-
--- nothing is said of faults where all was done, and else the fault, in a line
-abbrev pub TellsFault : Result (Unit {0}) Fault → ExitStatus → Said → Said → Type 0
-TellsFault (Ok done) status said said' = (status ≡ Done) × (said' ≡ said)
-TellsFault (Err fault) status said said' = (status ≡ FaultAtThisEnd) × Prints (fault_line fault) said said'
-
--- the network gave a port, which is served; or it gave none, nothing is printed, and why is said
-abbrev pub Listens : {L : Type 0} → (L → Option Ends → L → Type 0) → (L → Option L → Type 0) → (Option ℕ → L → Type 0) → Serving → ExitStatus → L → Said → Said → Said → Said → Type 0
-Listens accepts shares Hears serving status new out out' said said' =
-    ((port : ℕ) × Hears (Some port) new × ((result : Result (Unit {0}) Fault)
-    × ServesPort accepts shares (at_port port serving) result new out out' × TellsFault result status said said'))
-    ⊎ (Hears None new × ((cause : List ℕ)
-    × (out' ≡ out) × (status ≡ FaultAtThisEnd) × Prints (cause_lines cause) said said'))

@@ -17,11 +17,9 @@ const NO_TEXT: &[u8] = b"error: a word of the command line is not UTF-8\n";
 pub fn refuse_arguments<E: Output>(why: ErrorKind, faults: &mut E) -> ExitStatus
     requires { E.failures faults.old < 18446744073709551615 }
     ensures memory { why ≡ cause.OutOfMemory → LacksMemory result
-        (said_of (E.contents faults.old) (E.failures faults.old))
-        (said_of (E.contents faults.new) (E.failures faults.new)) }
+        (said_of E.Output faults.old) (said_of E.Output faults.new) }
     ensures text { why ≢ cause.OutOfMemory → HasNoText result
-        (said_of (E.contents faults.old) (E.failures faults.old))
-        (said_of (E.contents faults.new) (E.failures faults.new)) }
+        (said_of E.Output faults.old) (said_of E.Output faults.new) }
 {
     if why == ErrorKind::OutOfMemory {
         return end_by_fault(faults, Fault::OutOfMemory);

@@ -4,7 +4,8 @@ ghost use Rattle.std.specs.Prelude.{◌≡◌, ◌⊎◌, ◌<◌, ◌+◌, [], 
 ghost use Rattle.scan_base.specs.declared.fault.Fault.TheVariants.{OutOfMemory, Transport};
 ghost use Rattle.version_cell.specs.Seats.{seat};
 ghost use Rattle.connection_turns.specs.Drawers as drawers;
-ghost use Rattle.commands.specs.Serve.{DrawsAll, IsFresh, ServesSideBySide, first_fault, made_by};
+ghost use Rattle.commands.specs.Port.{IsFresh};
+ghost use Rattle.commands.specs.Serve.{DrawsAll, ServesSideBySide, first_fault, made_by};
 ghost use Rattle.commands.specs.inside.Gathering.{HasDrawn, HasWorked, IsNew, IsWithin, state_of, work_of};
 
 use crate::turns::{Service, serve_in_turn};

@@ -11,8 +11,9 @@ use flight_calls::{Executor, Setting, serve_alone};
 use grpc_frame::{Input, Output};
 use hash_seed::HashSeed;
 
-/// Serves one connection, from the reader to the writer, on a catalog that is empty at first, of whose values hashes begin
-/// with the seed. It is done at the input's end. A fault of this end is printed on `faults` in a line, as far as that takes it.
+/// Serves one connection, from the reader to the writer, on a catalog that is empty at first, of whose values hashes
+/// begin with the seed. It is done at the input's end. A fault of this end is printed on `faults` in a line, as far as
+/// that takes it.
 pub fn pipe<R: Input, W: Output, E: Output, X: Executor>(
     setting: &Setting<'_, X>,
     seed: HashSeed,
@@ -20,16 +21,18 @@ pub fn pipe<R: Input, W: Output, E: Output, X: Executor>(
     writer: &mut W,
     faults: &mut E,
 ) -> ExitStatus
+    // Each end can count one failure more.
     requires reads { R.failures reader.old < 18446744073709551615 }
     requires writes { W.failures writer.old < 18446744073709551615 }
     requires prints { E.failures faults.old < 18446744073709551615 }
+
+    // The whole input is served, from the empty log, and nothing is printed; or a fault of this end is, in a line.
     ensures { (seat : Seat) × Pipes setting.now.options result
         (connection_of (R.remaining reader.old) (W.contents writer.old)
         (R.failures reader.old) (W.failures writer.old) (seat_of [] 0))
         (connection_of (R.remaining reader.new) (W.contents writer.new)
         (R.failures reader.new) (W.failures writer.new) seat)
-        (said_of (E.contents faults.old) (E.failures faults.old))
-        (said_of (E.contents faults.new) (E.failures faults.new)) }
+        (said_of E.Output faults.old) (said_of E.Output faults.new) }
 {
     match serve_alone(setting, seed, reader, writer) {
         Ok(()) => ExitStatus::Done,

@@ -4,8 +4,8 @@ ghost use Rattle.std.specs.Prelude.{◌≡◌, ◌≤◌, ◌<◌, ℕ, List};
 ghost use Rattle.version_cell.specs.Blanks.{IsNamed, most_seats};
 ghost use Rattle.command_ends.specs.Printing.{Prints, cause_lines, said_of};
 ghost use Rattle.command_ends.specs.declared.exit_status.ExitStatus.TheVariants.{FaultAtThisEnd};
-ghost use Rattle.commands.specs.Serve as serves;
-ghost use Rattle.commands.specs.Serve.{Listens, ServesPort};
+ghost use Rattle.commands.specs.Port as serves;
+ghost use Rattle.commands.specs.Port.{Listens, ServesPort};
 
 use crate::crew::{Crew, serve_side_by_side, workers_of};
 use crate::turns::Service;
@@ -49,14 +49,17 @@ where
     L: Listen + Drop + Send,
     L::Reader: Send,
     L::Writer: Send,
+    // A cell takes so many seats.
     requires seats { (0 < serving.seats) × (serving.seats ≤ most_seats) }
+
+    // Each output can count one failure more.
     requires writes { W.failures output.old < 18446744073709551615 }
     requires prints { E.failures faults.old < 18446744073709551615 }
+
+    // The network gave a port, which is served, and a fault of this end is printed; or it gave none, and why is.
     ensures { Listens L.accepts L.shares (L.listens network.old serving.port) serving result network.new
-        (said_of (W.contents output.old) (W.failures output.old))
-        (said_of (W.contents output.new) (W.failures output.new))
-        (said_of (E.contents faults.old) (E.failures faults.old))
-        (said_of (E.contents faults.new) (E.failures faults.new)) }
+        (said_of W.Output output.old) (said_of W.Output output.new)
+        (said_of E.Output faults.old) (said_of E.Output faults.new) }
 {
     let serving = match network.listen(serving.port) {
         Ok(port) => Serving { port, ..serving },
@@ -73,8 +76,7 @@ fn end_unheard<E: Output>(alloc: Global, faults: &mut E, port: u16, error: &Erro
     requires { E.failures faults.old < 18446744073709551615 }
     ensures status { result ≡ FaultAtThisEnd }
     ensures lines { (cause : List ℕ) × Prints (cause_lines cause)
-        (said_of (E.contents faults.old) (E.failures faults.old))
-        (said_of (E.contents faults.new) (E.failures faults.new)) }
+        (said_of E.Output faults.old) (said_of E.Output faults.new) }
 {
     match format!(in alloc; "cannot listen on 127.0.0.1:{port}: {error}") {
         Ok(cause) => end_by_cause(faults, cause.as_str()),
@@ -97,8 +99,7 @@ where
     requires seats { (0 < serving.seats) × (serving.seats ≤ most_seats) }
     requires writes { W.failures output.old < 18446744073709551615 }
     ensures { ServesPort L.accepts L.shares serving result network.now
-        (said_of (W.contents output.old) (W.failures output.old))
-        (said_of (W.contents output.new) (W.failures output.new)) }
+        (said_of W.Output output.old) (said_of W.Output output.new) }
 {
     let blank = open(host.alloc, host.seed, serving.seats as usize)?;
     serve_cell::<Brand, T, L, W>(host, blank, network, output, serving)
@@ -121,8 +122,7 @@ where
     requires seats { blank.seats ≡ serving.seats }
     requires writes { W.failures output.old < 18446744073709551615 }
     ensures { ServesPort L.accepts L.shares serving result network.now
-        (said_of (W.contents output.old) (W.failures output.old))
-        (said_of (W.contents output.new) (W.failures output.new)) }
+        (said_of W.Output output.old) (said_of W.Output output.new) }
 {
     let (turns, mut drawer) = open_turns(
         host.alloc,

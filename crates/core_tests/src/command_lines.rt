@@ -20,7 +20,7 @@ fn words(alloc: Global, line: &str) -> Result<Vec<String>, AllocError> {
 }
 
 // Command lines that are refused, and the first words that are printed.
-static REFUSED: [(&'static str, &'static [u8]); 25] = [
+static REFUSED: [(&'static str, &'static [u8]); 26] = [
     ("", b"error: "),
     ("pipes", b"error: unrecognized subcommand 'pipes'"),
     ("pipe more", b"error: unexpected argument 'more' found"),
@@ -91,20 +91,61 @@ static REFUSED: [(&'static str, &'static [u8]); 25] = [
     ("pipe -h", b"Serves one connection"),
     ("put --help", b"Puts an Arrow IPC stream"),
     ("query --help", b"Prints the rows"),
+    (
+        "pipe --version",
+        b"error: unexpected argument '--version' found",
+    ),
 ];
 
 #[test]
 fn refused_lines(rt: HostRuntime) -> Result<(), Fail> {
     for (line, text) in &REFUSED {
         let words = words(rt.alloc(), line)?;
+        let mut output = MemoryOutput::new(rt.alloc());
         let mut faults = MemoryOutput::new(rt.alloc());
-        let status = match read_words(rt.alloc(), &words, &mut faults) {
+        let status = match read_words(rt.alloc(), &words, &mut output, &mut faults) {
             Ok(_) => 0,
             Err(status) => status.number(),
         };
         assert!(rt; status == 2);
+        assert!(rt; output.as_slice().is_empty());
         assert!(rt; faults.as_slice().starts_with(text));
     }
+    Ok(())
+}
+
+// Lines that ask for the version.
+static VERSIONS: [&'static str; 2] = ["--version", "-V"];
+
+#[test]
+fn version_lines(rt: HostRuntime) -> Result<(), Fail> {
+    for line in &VERSIONS {
+        let words = words(rt.alloc(), line)?;
+        let mut output = MemoryOutput::new(rt.alloc());
+        let mut faults = MemoryOutput::new(rt.alloc());
+        let status = match read_words(rt.alloc(), &words, &mut output, &mut faults) {
+            Ok(_) => u8::MAX,
+            Err(status) => status.number(),
+        };
+        assert!(rt; status == 0);
+        assert!(rt; output.as_slice() == b"flightscan 0.1.0\n".as_slice());
+        assert!(rt; faults.as_slice().is_empty());
+    }
+    Ok(())
+}
+
+#[test]
+fn a_version_that_is_not_printed(rt: HostRuntime) -> Result<(), Fail> {
+    let words = words(rt.alloc(), "--version")?;
+    let mut output = MemoryOutput::new(rt.alloc()).failing_after(0);
+    let mut faults = MemoryOutput::new(rt.alloc());
+    let status = match read_words(rt.alloc(), &words, &mut output, &mut faults) {
+        Ok(_) => u8::MAX,
+        Err(status) => status.number(),
+    };
+    assert!(rt; status == 3);
+    assert!(rt; output.as_slice() == b"flightsc".as_slice());
+    assert!(rt; faults.as_slice().starts_with(b"fault: "));
     Ok(())
 }
 
@@ -155,8 +196,9 @@ static TAKEN: [(&'static str, &'static str); 11] = [
 fn taken_lines(rt: HostRuntime) -> Result<(), Fail> {
     for (line, want) in &TAKEN {
         let words = words(rt.alloc(), line)?;
+        let mut output = MemoryOutput::new(rt.alloc());
         let mut faults = MemoryOutput::new(rt.alloc());
-        let told = match read_words(rt.alloc(), &words, &mut faults) {
+        let told = match read_words(rt.alloc(), &words, &mut output, &mut faults) {
             Ok(request) => told(rt.alloc(), request)?,
             Err(_) => String::from_str(rt.alloc(), "refused")?,
         };

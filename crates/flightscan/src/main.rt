@@ -101,6 +101,7 @@ where
 
 fn main(rt: HostRuntime) -> ExitCode {
     let alloc = rt.alloc();
+    let mut output = Counted::new(rt.stdout());
     let mut faults = Counted::new(rt.stderr());
     let words = match std::env::args(&rt) {
         Ok(words) => words.collect::<Vec<String>>(alloc),
@@ -109,11 +110,10 @@ fn main(rt: HostRuntime) -> ExitCode {
     let Ok(words) = words else {
         return ExitCode::from(refuse_arguments(ErrorKind::OutOfMemory, &mut faults).number());
     };
-    let request = match read_words(alloc, &words, &mut faults) {
+    let request = match read_words(alloc, &words, &mut output, &mut faults) {
         Ok(request) => request,
         Err(status) => return ExitCode::from(status.number()),
     };
     let mut input = Counted::new(rt.stdin());
-    let mut output = Counted::new(rt.stdout());
     ExitCode::from(run(&rt, request, &mut input, &mut output, &mut faults).number())
 }

@@ -10,7 +10,8 @@ use Rattle.shared_calls.specs.Sharing.{onward, seat_at}
 use Rattle.connection_turns.specs.Drawers.{DrawerAt, drawer_at}
 use Rattle.command_ends.specs.Network.{Ends}
 use Rattle.commands.specs.declared.crew.Hired as declared
-use Rattle.commands.specs.Serve.{Work, Worker, IsFresh, ServesUpTo, drawn_by, first_fault, made_by, worker_of}
+use Rattle.commands.specs.Port.{IsFresh}
+use Rattle.commands.specs.Serve.{Work, Worker, ServesUpTo, drawn_by, first_fault, made_by, worker_of}
 
 -- a worker's seat of the cell, which is always there between two connections
 abbrev pub seat_in : Option cell.Seat → Seat
@@ -33,10 +34,12 @@ IsNew name hired = IsSome hired.scanner × (hired.drawer ≡ drawer_at name 1 0 
 
 -- where it ended well, it was told that no turn is left
 abbrev pub HasDrawn : {L : Type 0} → TableId → HiredWorker L → Type 0
-HasDrawn name hired = IsSome hired.scanner × (hired.drawer.name ≡ name) × (hired.drawer.parts ≡ 1) × IfOk hired.served (λ _. 0 < hired.drawer.ended)
+HasDrawn name hired =
+    IsSome hired.scanner × (hired.drawer.name ≡ name) × (hired.drawer.parts ≡ 1) × IfOk hired.served (λ _. 0 < hired.drawer.ended)
 
 -- a worker served the connections that it drew
-pub record HasWorked {L : Type 0} (accepts : L → Option Ends → L → Type 0) (options : Options) (name : TableId) (old new : HiredWorker L) : Type 0 where
+pub record HasWorked {L : Type 0} (accepts : L → Option Ends → L → Type 0) (options : Options) (name : TableId)
+    (old new : HiredWorker L) : Type 0 where
   pub serves : ServesUpTo accepts onward options new.drawer.drawn new.served (state_of old) (state_of new)
   pub drawn : HasDrawn name new
 
@@ -45,7 +48,8 @@ abbrev pub IsWithin : {L : Type 0} → Log → HiredWorker L → Type 0
 IsWithin history hired = Begins (seat_in hired.scanner).log history
 
 -- those behind the ones that are left are done with: their seats are taken in, and the hub has all that they drew
-pub record Gathered {L : Type 0} (all left : List (HiredWorker L)) (seats : cell.GatheredAt) (result : Result (Unit {0}) Fault) (name : TableId) (hub : DrawerAt) : Type 0 where
+pub record Gathered {L : Type 0} (all left : List (HiredWorker L)) (seats : cell.GatheredAt)
+    (result : Result (Unit {0}) Fault) (name : TableId) (hub : DrawerAt) : Type 0 where
   pub done : List (HiredWorker L)
   pub whole : all ≡ left ++ done
   pub others : All (HasDrawn name) left
@@ -59,7 +63,8 @@ pub record Gathered {L : Type 0} (all left : List (HiredWorker L)) (seats : cell
   pub ended : (0 < hub.ended) ⊎ All (λ work. IsErr work.result) (map work_of done)
 
 -- workers were made for the seats that were taken, and the first drawer has a part for each that is left
-pub record Begun {L : Type 0} (shares : L → Option L → Type 0) (heard : L) (name : TableId) (hub : DrawerAt) (workers : List (HiredWorker L)) (left : List cell.Seat) (count : ℕ) : Type 0 where
+pub record Begun {L : Type 0} (shares : L → Option L → Type 0) (heard : L) (name : TableId)
+    (hub : DrawerAt) (workers : List (HiredWorker L)) (left : List cell.Seat) (count : ℕ) : Type 0 where
   pub counted : length workers + length left ≡ count
   pub fresh : All (λ hired. IsFresh shares heard (state_of hired)) workers
   pub new : All (IsNew name) workers

@@ -6,7 +6,8 @@ use Rattle.command_line.proofs.commands.program.Goals as goal
 
 pub returns-clause-shape : goal.returns-clause-shape
 returns-clause-shape c =
-    let bare = ap app_of_fields c.subcommand_required-bare.ensures ∙ ap (λ (x : App). record x { top = record x.top { subcommand_required = true } }) c.command.ensures.shape in
+    let named = ap app_of_fields c.version.ensures ∙ ap (λ (x : App). record x { top = record x.top { has_version = true } }) c.command.ensures.shape in
+    let bare = ap app_of_fields c.subcommand_required-bare.ensures ∙ ap (λ (x : App). record x { top = record x.top { subcommand_required = true } }) named in
     let one = shape_with_below _ _ _ _ _ bare c.pipe.ensures.shape c.pipe.ensures.local c.in_ok-piping.ensures in
     let two = shape_with_below _ _ _ _ _ one c.serve.ensures.shape c.serve.ensures.local c.in_ok-serving.ensures in
     let three = shape_with_below _ _ _ _ _ two c.put.ensures.shape c.put.ensures.local c.in_ok-putting.ensures in
@@ -15,7 +16,8 @@ returns-clause-shape c =
 
 pub returns-clause-local : goal.returns-clause-local
 returns-clause-local c =
-    let bare = ap (λ fields. fields.has_globals) c.subcommand_required-bare.ensures ∙ c.command.ensures.local in
+    let named = ap (λ fields. fields.has_globals) c.version.ensures ∙ c.command.ensures.local in
+    let bare = ap (λ fields. fields.has_globals) c.subcommand_required-bare.ensures ∙ named in
     let one = local_with_below _ _ _ bare c.pipe.ensures.local c.in_ok-piping.ensures in
     let two = local_with_below _ _ _ one c.serve.ensures.local c.in_ok-serving.ensures in
     let three = local_with_below _ _ _ two c.put.ensures.local c.in_ok-putting.ensures in

@@ -1,0 +1,77 @@
+-- What `serve` does with the port that it is given.
+use Rattle.std.specs.Prelude.{◌≡◌, ◌⊎◌, ℕ, zero, ◌+◌, length, All, List, [], Option, Some, None, Result, Ok, Err}
+use Rattle.std.specs.Io.KnownBytes.{Appends}
+use Rattle.scan_base.specs.declared.fault.Fault.{Fault}
+use Rattle.scan_base.specs.declared.fault.Fault.TheVariants.{OutOfMemory, Transport}
+use Rattle.grpc_frame.specs.Ends.{AppendsBeginning}
+use Rattle.flight_calls.specs.declared.setting.Options.{Options}
+use Rattle.flight_calls.specs.Seats.{seat_of}
+use Rattle.command_line.specs.declared.request.Serving.{Serving}
+use Rattle.command_ends.specs.Network.{Ends}
+use Rattle.command_ends.specs.Printing.{Said, Prints, cause_lines, fault_line, listening_line}
+use Rattle.command_ends.specs.declared.exit_status.ExitStatus.{ExitStatus}
+use Rattle.command_ends.specs.declared.exit_status.ExitStatus.TheVariants.{Done, FaultAtThisEnd}
+use Rattle.commands.specs.Serve.{Worker, ServesSideBySide}
+
+-- how many connections are drawn, where so many are to be accepted: 0 stands for no end
+abbrev pub most_of : ℕ → ℕ
+most_of zero = 18446744073709551615
+most_of accept = accept
+
+-- how calls are answered
+abbrev pub options_of : Serving → Options
+options_of serving = record { parts = serving.parts; workers = serving.workers }
+
+-- what is asked for, at the port that the network gave
+abbrev pub at_port : ℕ → Serving → Serving
+at_port port serving = record {
+  port = port;
+  seats = serving.seats;
+  accept = serving.accept;
+  parts = serving.parts;
+  workers = serving.workers;
+}
+
+-- it listens to the same port, and its seat has seen nothing
+abbrev pub IsFresh : {L : Type 0} → (L → Option L → Type 0) → L → Worker L → Type 0
+IsFresh shares heard worker = shares heard (Some worker.listener) × (worker.seat ≡ seat_of [] 0)
+
+-- the line of the port was printed, and as many workers as there are seats served connections to it, of one history
+pub record IsServed {L : Type 0} (accepts : L → Option Ends → L → Type 0) (shares : L → Option L → Type 0)
+    (serving : Serving) (result : Result (Unit {0}) Fault) (heard : L) (out out' : Said) : Type 0 where
+  pub printed : Appends out.bytes out'.bytes (listening_line serving.port)
+  pub quiet : out'.failures ≡ out.failures
+  pub workers : List (Worker L)
+  pub many : length workers ≡ serving.seats
+  pub start : All (IsFresh shares heard) workers
+  pub served : ServesSideBySide accepts (options_of serving) (most_of serving.accept) workers result
+
+-- the line of the port was not printed
+pub record IsNotPrinted (port : ℕ) (out out' : Said) : Type 0 where
+  pub begun : AppendsBeginning out.bytes out'.bytes (listening_line port)
+  pub counted : out'.failures ≡ out.failures + 1
+
+-- Connections were served; or no memory or no listener was there for it, and nothing is printed; or the port was not
+-- printed.
+abbrev pub ServesPort : {L : Type 0} → (L → Option Ends → L → Type 0) → (L → Option L → Type 0) → Serving
+    → Result (Unit {0}) Fault → L → Said → Said → Type 0
+ServesPort accepts shares serving (Ok done) heard out out' = IsServed accepts shares serving (Ok done) heard out out'
+ServesPort accepts shares serving (Err fault) heard out out' =
+    IsServed accepts shares serving (Err fault) heard out out'
+    ⊎ (((fault ≡ OutOfMemory) × (out' ≡ out))
+    ⊎ (((fault ≡ Transport) × shares heard None × (out' ≡ out))
+    ⊎ ((fault ≡ Transport) × IsNotPrinted serving.port out out')))
+
+-- nothing is said of faults where all was done, and else the fault, in a line
+abbrev pub TellsFault : Result (Unit {0}) Fault → ExitStatus → Said → Said → Type 0
+TellsFault (Ok done) status said said' = (status ≡ Done) × (said' ≡ said)
+TellsFault (Err fault) status said said' = (status ≡ FaultAtThisEnd) × Prints (fault_line fault) said said'
+
+-- the network gave a port, which is served; or it gave none, nothing is printed, and why is said
+abbrev pub Listens : {L : Type 0} → (L → Option Ends → L → Type 0) → (L → Option L → Type 0) → (Option ℕ → L → Type 0)
+    → Serving → ExitStatus → L → Said → Said → Said → Said → Type 0
+Listens accepts shares Hears serving status new out out' said said' =
+    ((port : ℕ) × Hears (Some port) new × ((result : Result (Unit {0}) Fault)
+    × ServesPort accepts shares (at_port port serving) result new out out' × TellsFault result status said said'))
+    ⊎ (Hears None new × ((cause : List ℕ)
+    × (out' ≡ out) × (status ≡ FaultAtThisEnd) × Prints (cause_lines cause) said said'))
