@@ -1,6 +1,6 @@
 -- Workers side by side.
 use native.Mathlib.Omega.{arith}
-use Rattle.std.proofs.Common.{◌≡◌, ◌≢◌, ◌≤◌, ◌<◌, ◌⊎◌, inl, inr, ℕ, zero, suc, List, [], ◌∷◌, ◌++◌, ◌+◌, ◌-◌, All, IfOk, IsErr, Option, Some, Result, Ok, Err, length, map, take, drop, refl, sym, subst, ap, ◌∙◌, append_assoc, append-nil}
+use Rattle.std.proofs.Common.{◌≡◌, ◌≤◌, ◌<◌, ◌⊎◌, inl, inr, ℕ, zero, suc, List, [], ◌∷◌, ◌++◌, ◌+◌, ◌-◌, All, IfOk, IsErr, Option, Some, Result, Ok, Err, length, map, take, drop, refl, sym, subst, ap, ◌∙◌, append_assoc, append-nil}
 use Rattle.std.specs.Prelude.{slice_index_or}
 use Rattle.std.proofs.lemmas.List.Elements.{All-nil, All-cons, All-head, All-tail, All-pop, All-push}
 use Rattle.std.proofs.lemmas.List.{length-append, length-map}
@@ -11,15 +11,14 @@ use Rattle.flight_core.proofs.Running.{begins_on}
 use Rattle.flight_core.specs.Headline.{Pairwise}
 use Rattle.table_versions.specs.Log.{Log, IsLog, Begins}
 use Rattle.flight_calls.specs.declared.setting.Options.{Options}
-use Rattle.flight_calls.specs.Seats.{Seat}
 use Rattle.version_cell.specs.Seats as cell
-use Rattle.shared_calls.specs.Sharing.{onward, seat_at}
+use Rattle.shared_calls.specs.Sharing.{seat_at}
 use Rattle.connection_turns.specs.Drawers.{DrawerAt, drawer_at}
 use Rattle.command_line.specs.declared.request.Serving.{Serving}
 use Rattle.command_ends.specs.Network.{Ends}
 use Rattle.command_ends.specs.Printing.{Said, listening_line}
 use Rattle.commands.specs.Port.{IsFresh, IsServed, ServesPort, most_of, options_of}
-use Rattle.commands.specs.Serve.{DrawsAll, Worker, Work, IsPartOf, ServesSideBySide, ServesUpTo, both, drawn_by, first_fault, made_by, worker_of}
+use Rattle.commands.specs.Serve.{DrawsAll, Work, IsPartOf, ServesSideBySide, both, first_fault, made_by}
 use Rattle.commands.specs.inside.Gathering.{Begun, Gathered, HasDrawn, HasWorked, HiredWorker, IsNew, IsWithin, seat_in, state_of, work_of}
 
 -- all that is of a history is of one that goes on from it

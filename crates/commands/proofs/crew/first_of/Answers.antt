@@ -1,7 +1,5 @@
 use Rattle.std.proofs.Common.{◌≡◌, [], rules}
-use Rattle.commands.specs.inside.Gathering.{Gathered}
 use Rattle.commands.proofs.Crews.{all_drawn, all_gathered, last_drawn, none_gathered, one_gathered, takes_so}
-use Rattle.commands.proofs.crew.first_of.Given as given
 use Rattle.commands.proofs.crew.first_of.Goals as goal
 
 pub loop-worker-init : goal.loop-worker-init
