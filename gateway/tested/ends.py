@@ -125,8 +125,9 @@ def many_that_wait(run: Run) -> None:
     with StubServer(answer) as stub, run.behind(stub.port, "--seats", "1", "--wait", "300") as gateway:
         with Client(gateway.port) as client:
             calls = [client.call("DoGet", [b"x"], 300) for _ in range(1_040)]
-            while sum(call.done() for call in calls) < 39:
-                time.sleep(0.1)
+            for _ in range(300):
+                if sum(call.done() for call in calls) < 39:
+                    time.sleep(0.1)
             go.set()
             found = [wire.Answer([], call.code().value[0], call.details()) for call in calls]
             same("the calls that are refused", 39, found.count(wire.Answer([], EXHAUSTED, said)))
