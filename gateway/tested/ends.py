@@ -176,7 +176,7 @@ def gone_in_a_put(run: Run) -> None:
 
         def messages() -> Iterator[bytes]:
             for number, data in enumerate(large_put()):
-                if number == 40:
+                if number == 6:
                     server.process.kill()
                 yield data.SerializeToString()
 
