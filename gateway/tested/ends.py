@@ -151,7 +151,7 @@ def seats_of_others(run: Run) -> None:
 # ---- servers that go away
 
 
-@case("no server, one that goes in the middle of a fetch, and one in the middle of a put: UNAVAILABLE; a new one is used")
+@case("no server, and one that goes in the middle of a fetch: UNAVAILABLE; a new one on its port is used")
 def gone_servers(run: Run) -> None:
     with Server(run.path) as server, run.behind(server.port) as gateway, Client(gateway.port) as client:
         same("the number of rows put", 4_096, client.put(wide_rows()))
