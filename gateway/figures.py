@@ -19,9 +19,9 @@ import pathlib
 import statistics
 import subprocess
 import sys
+import tempfile
 import time
 from collections.abc import Callable, Iterable
-from contextlib import contextmanager
 from dataclasses import dataclass
 
 sys.dont_write_bytecode = True
@@ -114,44 +114,54 @@ def answer_alone(messages: list[bytes]) -> None:
     asyncio.run(serve())
 
 
-@contextmanager
-def answering_alone(messages: list[bytes]):
-    """The port of such a server."""
-    words = [sys.executable, __file__, ALONE, *(message.hex() for message in messages)]
-    with subprocess.Popen(words, stdout=subprocess.PIPE) as child:
-        try:
-            yield int(child.stdout.readline())
-        finally:
-            child.kill()
+class Alone(Gateway):
+    """Such a server, that runs as long as the block. It is looked at as a gateway is."""
+
+    def __init__(self, messages: list[bytes]):
+        self.faults = tempfile.TemporaryFile()
+        words = [sys.executable, __file__, ALONE, *(message.hex() for message in messages)]
+        self.process = subprocess.Popen(words, stdout=subprocess.PIPE, stderr=self.faults)
+        self.port = int(self.process.stdout.readline())
 
 
 # ---- measuring
 
 
-def median(call: Callable, messages: list[bytes], count: int) -> float:
-    """The median seconds of a small fetch."""
-    found = []
-    for number in range(count + count // 10):
+@dataclass
+class Small:
+    """A small call: the median seconds, and the processor seconds of who answers the client, a call."""
+
+    seconds: float
+    used: float
+
+
+def median(call: Callable, messages: list[bytes], count: int, answering: Server) -> Small:
+    """Makes a small call many times; the first of them are not counted."""
+    for _ in range(count // 10):
+        call("DoGet", messages)
+    ticks, found = answering.ticks(), []
+    for _ in range(count):
         began = time.perf_counter()
         call("DoGet", messages)
         found.append(time.perf_counter() - began)
-    return statistics.median(found[count // 10 :])
+    return Small(statistics.median(found), (answering.ticks() - ticks) / TICKS / count)
 
 
-def print_small(server: Server, gateway: Gateway, count: int) -> None:
-    with Connection(server.port) as connection, Client(gateway.port) as client:
-        connection.send(put_of("u", A, [(1,), (2,)]))
-        wire.demand(connection.answer().code == 0, "a put")
-        asked = [fetch_message(1, 2, b"u")]
-        answer = client.answer(*call_of(wire.call(b"DoGet", asked)))
-        straight, through = median(by_records(connection), asked, count), median(by_grpc(client), asked, count)
-        with answering_alone(answer.messages) as port, Client(port) as other:
-            alone = median(by_grpc(other), asked, count)
-    print("| A fetch of two rows | microseconds |\n|---|---:|")
-    for name, seconds in (("by records, the server alone", straight), ("by gRPC, a server that does nothing", alone),
-                          ("by gRPC, through the gateway", through)):
-        print(f"| {name} | {seconds * 1e6:,.0f} |")
-    print(f"\nThrough the gateway it takes {(through - straight) * 1e6:,.0f} microseconds more.\n")
+def print_small(path: str, count: int) -> None:
+    asked, found = [fetch_message(1, 2, b"u")], {}
+    with Server(path) as server, Gateway(server.port) as gateway:
+        with Connection(server.port) as connection, Client(gateway.port) as client:
+            connection.send(put_of("u", A, [(1,), (2,)]))
+            wire.demand(connection.answer().code == 0, "a put")
+            found["by records, the server alone"] = median(by_records(connection), asked, count, server)
+            answer = client.answer(*call_of(wire.call(b"DoGet", asked)))
+            found["by gRPC, through the gateway"] = median(by_grpc(client), asked, count, gateway)
+        with Alone(answer.messages) as alone, Client(alone.port) as client:
+            found["by gRPC, a server that does nothing"] = median(by_grpc(client), asked, count, alone)
+    print("| A fetch of two rows | microseconds | of the processor of who answers |\n|---|---:|---:|")
+    for name, one in found.items():
+        print(f"| {name} | {one.seconds * 1e6:,.0f} | {one.used * 1e6:,.0f} |")
+    print()
 
 
 @dataclass
@@ -200,8 +210,7 @@ def main() -> int:
     parser.add_argument("--megabytes", type=int, default=300, help="of a long stream (300)")
     words = parser.parse_args()
     measured, path = Measured(words.program), program(words.program)
-    with Server(path) as server, Gateway(server.port) as gateway:
-        print_small(server, gateway, words.calls)
+    print_small(path, words.calls)
     print_long(path, words.runs, words.megabytes)
     print(f"\n{measured.line()}")
     return 0

@@ -65,16 +65,19 @@ class Refused(Exception):
         self.code, self.text = code, text
 
 
+class ServerGone(Refused):
+    """The connection ended before the answer did."""
+
+    def __init__(self):
+        super().__init__(grpc.StatusCode.UNAVAILABLE, "the server ended the connection in the middle of a call")
+
+
 @dataclass
 class Status:
     """A Status record."""
 
     code: int
     text: str
-
-
-def server_gone() -> Refused:
-    return Refused(grpc.StatusCode.UNAVAILABLE, "the server ended the connection in the middle of a call")
 
 
 def other_server() -> Refused:
@@ -102,7 +105,7 @@ class Connection:
                 raise other_server()
         except BaseException as failed:
             connection.close()
-            if isinstance(failed, OSError):
+            if isinstance(failed, (OSError, ServerGone)):
                 raise Refused(grpc.StatusCode.UNAVAILABLE, f"no server on {HOST}:{port}") from None
             raise
         return connection
@@ -155,7 +158,7 @@ class Connection:
             except OSError:
                 more = 0
             if more == 0:
-                raise server_gone()
+                raise ServerGone
             place += more
         return bytes(data)
 

@@ -14,6 +14,7 @@ from __future__ import annotations
 
 import argparse
 import pathlib
+import subprocess
 import sys
 import time
 
@@ -43,7 +44,7 @@ def looked_at(one: Case, run: Run) -> bool:
     except (Difference, wire.Unreadable) as found:
         print(f"DIFFERENCE in {one.name} ({one.said}):\n{found}", flush=True)
         return False
-    except (grpc.RpcError, Fault, OSError, ValueError, IndexError) as found:
+    except (grpc.RpcError, Fault, OSError, ValueError, IndexError, subprocess.SubprocessError) as found:
         print(f"DIFFERENCE in {one.name} ({one.said}): {found!r}", flush=True)
         return False
     print(f"{one.name}: {one.said}{f' ({more})' if more else ''}, {time.perf_counter() - began:.1f} s", flush=True)

@@ -9,7 +9,7 @@ import sys
 import tempfile
 import threading
 from collections.abc import Callable, Iterator
-from contextlib import contextmanager
+from contextlib import contextmanager, suppress
 from dataclasses import dataclass
 
 import wire
@@ -73,14 +73,17 @@ class StubServer:
 
     def __init__(self, answer: Answer, port: int = 0):
         self.answer, self.listener = answer, socket.create_server(("127.0.0.1", port))
-        self.port = self.listener.getsockname()[1]
+        self.port, self.streams = self.listener.getsockname()[1], []
         threading.Thread(target=self.accept, daemon=True).start()
 
     def __enter__(self) -> StubServer:
         return self
 
     def __exit__(self, *_: object) -> None:
-        self.listener.shutdown(socket.SHUT_RDWR)
+        """Ends all connections too."""
+        for stream in (self.listener, *self.streams):
+            with suppress(OSError):  # those that the other end has closed
+                stream.shutdown(socket.SHUT_RDWR)
         self.listener.close()
 
     def accept(self) -> None:
@@ -89,6 +92,7 @@ class StubServer:
                 stream, _ = self.listener.accept()
             except OSError:
                 return
+            self.streams.append(stream)
             threading.Thread(target=self.serve, args=(stream,), daemon=True).start()
 
     def serve(self, stream: socket.socket) -> None:
