@@ -1,5 +1,5 @@
 -- A stream of a scan that falls into morsels.
-use Rattle.std.proofs.Common.{◌≡◌, ◌<◌, ◌+◌, ◌-◌, ℕ, Bool, false, List, [], ◌++◌, length, map, get_or, None, Option, refl, sym, ap, subst, ◌∙◌, arith}
+use Rattle.std.proofs.Common.{◌≡◌, ◌<◌, ◌+◌, ◌-◌, ℕ, Bool, true, false, List, [], ◌++◌, length, map, get_or, None, Option, refl, sym, ap, subst, ◌∙◌, arith}
 use Rattle.std.specs.List.{list_any, flat_map, range_with_len}
 use Rattle.std.proofs.lemmas.List.{length-map}
 use Rattle.std.proofs.lemmas.List.Folds.{flat_map-map}

@@ -71,11 +71,7 @@ fn first_payload(alloc: Global, morsels: &Morsels<'_>) -> Result<Option<Payload>
 
 // The next payload of a morsel, where those before it had so many rows. The rows of all are counted as they are taken of the
 // scan, so that an answer of too many rows is refused before the first payload of the batch that has them.
-fn next_counted<A: Part>(
-    alloc: Global,
-    part: &mut A,
-    done: usize,
-) -> Result<Option<Payload>, Fault>
+fn next_counted<A: Part>(alloc: Global, part: &mut A, done: usize) -> Result<Option<Payload>, Fault>
     requires begun { (A.stream part.old).begun ≡ true }
     requires going { (A.stream part.old).refused ≡ None }
     requires few { done + (A.stream part.old).given ≤ most_answer_rows }

@@ -1,5 +1,4 @@
 use Rattle.std.proofs.Common.{◌≡◌, ◌-◌, List, Some, deque_len, deque_capacity}
-
 use Rattle.arrow_schema.specs.declared.schema.Schema.{Schema}
 use Rattle.table_versions.specs.Table.{Row}
 use Rattle.fetch_stream.specs.Morsels.{behind_schema}

@@ -9,8 +9,8 @@ morsel-requires-clause-unopened c = c.requires.falls.1.morsels.unopened
 pub morsel-requires-clause-there : goal.morsel-requires-clause-there
 morsel-requires-clause-there c = omega (arith, c.requires.falls.2, c.requires.falls.1.morsels.each)
 
-pub of-requires-clause-source : goal.of-requires-clause-source
-of-requires-clause-source c = rw c.in_ok-morsel.ensures (is_part c.args.scan.now c.requires.falls.0 c.args.number c.requires.falls.1)
+pub of-stream-requires-clause-source : goal.of-stream-requires-clause-source
+of-stream-requires-clause-source c = rw c.in_ok-morsel.ensures (is_part c.args.scan.now c.requires.falls.0 c.args.number c.requires.falls.1)
 
 pub returns : goal.returns
 returns c =
