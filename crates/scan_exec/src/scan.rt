@@ -147,6 +147,13 @@ impl Scan {
         &self.batches.as_slice()[..self.further + self.answer.opened()]
     }
 
+    /// How many rows were given.
+    pub fn given(&self) -> usize
+        ensures { result ≡ self.now.given }
+    {
+        self.given
+    }
+
     /// How many morsels the scan has: one for each batch of the first place that is to be opened. Its rows are those of its
     /// morsels, in order. `None` for a scan that makes groups, and for one that has begun: that opened a batch of the first
     /// place, gave rows, or was refused.
