@@ -98,7 +98,10 @@ impl Inbox {
     ///
     /// Nothing has changed then, so the first two are answered from then on, whatever is fed.
     pub fn next(&mut self) -> Result<Option<Record>, Fault>
+        // By the function that reads a connection: the record in front is taken, or nothing changes.
         ensures front { TakesFront result self.old self.new }
+
+        // The same in the words of the profile, in which no order of reading is.
         ensures profile { KeepsProfile result self.old self.new }
     {
         self.take_front()
