@@ -2,6 +2,7 @@
 
 ghost use Rattle.std.specs.Prelude.{◌≡◌, ◌++◌, ◌↔◌, ◌<◌, [], ℕ, List, Ok, OnOk, OnErr, IfOk, IfErr, IsTrue, MatchOption, length};
 ghost use Rattle.std.specs.Io.KnownBytes.{Consumes, IsAtEnd};
+ghost use Rattle.grpc_frame.specs.Ends.{CanFail};
 ghost use Rattle.scan_base.specs.declared.fault.Fault.TheVariants.{OutOfMemory};
 ghost use Rattle.grpc_frame.specs.declared.place.Place.TheVariants.{BetweenCalls, InAnswer};
 ghost use Rattle.grpc_frame.specs.Head.{AreBytes};
@@ -139,7 +140,7 @@ impl Inbox {
     /// `Fault::Transport` where the read failed. It is counted. `Fault::OutOfMemory` where memory for the piece is
     /// refused: nothing is read then.
     pub(crate) fn take_in<R: Input>(&mut self, input: &mut R) -> Result<usize, Fault>
-        requires { R.failures input.old < 18446744073709551615 }
+        requires { CanFail (R.failures input.old) }
         ensures came { (came : List ℕ)
             × Consumes (R.remaining input.old) (R.remaining input.new) came
             × TakesIn result self.old self.new came }
