@@ -194,7 +194,7 @@ def no_memory(run: Run) -> str:
         tree, body = batch(65_536, (0, b"", bytes(8 * 65_536)))
         data = wire.chunk(2, written("Message", tree, "spread")) + wire.chunk(1000, body)
         front = call_of(replaced("t", A, []))[1]
-        answer = client.answer("DoPut", [*front, *[data] * 300])
+        answer = client.answer("DoPut", [*front, *[data] * 300], LONG)
         look_at_status("the put", 8, "F21 OutOfMemory", answer)
         resource.prlimit(server.process.pid, resource.RLIMIT_AS, (resource.RLIM_INFINITY, resource.RLIM_INFINITY))
         ask(client, fetch_of(1, 0, 2, "SELECT * FROM t"), rows_of(A, (1,), (2,)))
