@@ -11,8 +11,8 @@ It takes at most S connections, so it has at most S calls at once. A call beyond
 the seconds of --wait. A connection that no call used for the seconds of --idle is closed, so that its seat is free for others.
 The call of a client that goes away is dropped, and its connection closed: a put that was not sent to its end is not made.
 
-It needs gRPC for Python, of Debian: `apt-get install python3-grpcio`. It ends with 0 by SIGINT and SIGTERM, with 2 where the
-command line does not parse, and with 3 where it cannot listen. gateway/README.md tells more.
+It needs gRPC for Python, of Debian: `apt-get install python3-grpcio`. It goes on until SIGINT or SIGTERM ends it. It ends with 2
+where the command line does not parse, and with 3 where it cannot listen. gateway/README.md tells more.
 """
 
 from __future__ import annotations
@@ -293,10 +293,7 @@ class Gateway(grpc.GenericRpcHandler):
 
 
 async def serve(words: argparse.Namespace) -> int:
-    """Serves until it is told to end."""
-    loop, ended = asyncio.get_running_loop(), asyncio.Event()
-    for number in (signal.SIGINT, signal.SIGTERM):
-        loop.add_signal_handler(number, ended.set)
+    """Serves until a signal ends the process."""
     server = grpc.aio.server(options=OPTIONS)
     server.add_generic_rpc_handlers((Gateway(Seats(words)),))
     try:
@@ -306,8 +303,7 @@ async def serve(words: argparse.Namespace) -> int:
         return 3
     await server.start()
     print(f"listening grpc://{HOST}:{port}", flush=True)
-    await ended.wait()
-    await server.stop(None)
+    await server.wait_for_termination()
     return 0
 
 
@@ -330,6 +326,7 @@ def main() -> int:
     parser.add_argument("--seats", type=number(1, MOST_SEATS), default=4, help="how many connections it may take (4)")
     parser.add_argument("--wait", type=number(0.1, 3_600, float), default=10, help="seconds that a call waits for a seat (10)")
     parser.add_argument("--idle", type=number(0, 3_600, float), default=2, help="seconds that an unused connection stays (2)")
+    signal.signal(signal.SIGINT, signal.SIG_DFL)  # as SIGTERM does, it ends all at once: gRPC's own end can wait without end
     return asyncio.run(serve(parser.parse_args()))
 
 

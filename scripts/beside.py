@@ -21,7 +21,9 @@ sys.dont_write_bytecode = True
 
 from built import ROOT, program  # noqa: E402
 
-OF_TOOLS = {"vectors/arrow/make.py": ["flatc"], "vectors/flight/make.py": ["protoc"], "vectors/puts/make.py": ["flatc", "protoc"]}
+ANY = "/usr/include/google/protobuf/any.proto"  # Debian has it apart from protoc
+OF_TOOLS = {"vectors/arrow/make.py": ["flatc"], "vectors/flight/make.py": ["protoc", ANY],
+            "vectors/puts/make.py": ["flatc", "protoc", ANY]}
 MADE_ANEW = ["vectors/arrow/to_cases.py", "vectors/calls/make.py", "vectors/client/make.py", "vectors/flight/to_cases.py",
              "vectors/queries/make.py", "vectors/streams/make.py"]
 TOLD_LINES = 40  # of what a step that failed printed
@@ -30,6 +32,11 @@ PYTHONS = [sys.executable, "/usr/bin/python3"]  # the second one has Debian's pa
 
 class Failed(Exception):
     """A step that did not pass, and why."""
+
+
+def is_there(tool):
+    """Whether there is a program of this name, or a file at this path."""
+    return shutil.which(tool) is not None or pathlib.Path(tool).exists()
 
 
 def done(*words, python=sys.executable, **more):
@@ -115,7 +122,7 @@ class Vectors:
 
     def make(self):
         """Those that write what the others read come first, and the others side by side."""
-        absent = {script: [tool for tool in tools if not shutil.which(tool)] for script, tools in OF_TOOLS.items()}
+        absent = {script: [tool for tool in tools if not is_there(tool)] for script, tools in OF_TOOLS.items()}
         for script in [script for script, tools in absent.items() if not tools]:
             done(script)
         running = [subprocess.Popen([sys.executable, "-B", script], cwd=ROOT, stdout=subprocess.DEVNULL, stderr=subprocess.PIPE)

@@ -186,17 +186,18 @@ def too_many_rows(run: Run) -> str:
 
 
 @case("a put for which the server has no memory: RESOURCE_EXHAUSTED, F21, and no row of it is there")
-def no_memory(run: Run) -> str:
+def no_memory(run: Run) -> None:
     with run.serving() as (server, gateway), Client(gateway.port) as client:
         ask(client, put_of("t", A, [(1,), (2,)]), PutCount(2))
         most = server.held("VmSize:") + 40 * MEGABYTE
-        resource.prlimit(server.process.pid, resource.RLIMIT_AS, (most, most))
+        _, hard = resource.prlimit(server.process.pid, resource.RLIMIT_AS)
+        resource.prlimit(server.process.pid, resource.RLIMIT_AS, (most, hard))
         tree, body = batch(65_536, (0, b"", bytes(8 * 65_536)))
         data = wire.chunk(2, written("Message", tree, "spread")) + wire.chunk(1000, body)
         front = call_of(replaced("t", A, []))[1]
-        answer = client.answer("DoPut", [*front, *[data] * 300])
+        answer = client.answer("DoPut", [*front, *[data] * 300], LONG)
         look_at_status("the put", 8, "F21 OutOfMemory", answer)
-        resource.prlimit(server.process.pid, resource.RLIMIT_AS, (resource.RLIM_INFINITY, resource.RLIM_INFINITY))
+        resource.prlimit(server.process.pid, resource.RLIMIT_AS, (hard, hard))
         ask(client, fetch_of(1, 0, 2, "SELECT * FROM t"), rows_of(A, (1,), (2,)))
         ask(client, fetch_of(2, 0, 2, "SELECT * FROM t"), Refusal("F18"))
 

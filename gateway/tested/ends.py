@@ -264,18 +264,19 @@ def command_lines(run: Run) -> None:
         same(f"{words}: status and output", (2, b""), (status, out))
 
 
-@case("a gateway that is told to end while calls run: they end, and so does it, with 0")
+@case("a gateway that is told to end while calls run: it ends at once, and they end with a fault")
 def told_to_end(run: Run) -> None:
-    with Server(run.path) as server, Gateway(server.port) as gateway, Client(gateway.port) as client:
-        same("the number of rows put", 4_096, client.put(wide_rows()))
-        fetch = wide_fetch(client)
-        gateway.process.send_signal(signal.SIGTERM)
-        same("the exit status, and what it printed", (0, b""), (gateway.process.wait(20), gateway.said()))
-        try:
-            size = sum(map(len, fetch))
-            same(f"the fetch ended well, with {size} bytes", True, False)
-        except grpc.RpcError:
-            pass
-        with Connection(server.port) as own:
-            own.send(appended("none", A, [(1,)]))
-            Refusal("F9").look(own.answer())
+    for number in (signal.SIGTERM, signal.SIGINT):
+        with Server(run.path) as server, Gateway(server.port) as gateway, Client(gateway.port) as client:
+            same("the number of rows put", 4_096, client.put(wide_rows()))
+            fetch = wide_fetch(client)
+            gateway.process.send_signal(number)
+            same("the exit status, and what it printed", (-number, b""), (gateway.process.wait(20), gateway.said()))
+            try:
+                size = sum(map(len, fetch))
+                same(f"the fetch ended well, with {size} bytes", True, False)
+            except grpc.RpcError:
+                same("the code", UNAVAILABLE, fetch.code().value[0])
+            with Connection(server.port) as own:
+                own.send(appended("none", A, [(1,)]))
+                Refusal("F9").look(own.answer())
