@@ -12,7 +12,7 @@ use crate::turns::Service;
 use command_ends::{ExitStatus, Listen, end_by_cause, end_by_fault, print_listening};
 use command_line::Serving;
 use connection_turns::open as open_turns;
-use flight_calls::Options;
+use flight_calls::{Executor, Options};
 use grpc_frame::Output;
 use hash_seed::HashSeed;
 use scan_base::Fault;
@@ -23,11 +23,13 @@ use std::thread::Threads;
 use std::time::Clock;
 use version_cell::{Blank, Brand, CellName, SharedPutter, open};
 
-/// What a server has of its machine: threads, a clock, memory, and the seed with which hashes of clients' values begin.
+/// What a server has of its machine: threads, a clock, memory, who makes the payloads of a fetch, and the seed with which
+/// hashes of clients' values begin.
 #[derive(Clone, Copy)]
-pub struct Host<'a, T> {
+pub struct Host<'a, T, X> {
     pub rt: &'a T,
     pub alloc: Global,
+    pub executor: &'a X,
     pub seed: HashSeed,
 }
 
@@ -37,8 +39,8 @@ pub struct Host<'a, T> {
 /// printed on `faults` in a line, as far as that takes it: F21 where memory for the catalog or the workers is refused,
 /// F22 where a further listener is, the line of the port is not printed, or a hundred accepts of a worker failed one
 /// behind the other; where it does not listen, a second line says so.
-pub fn serve<T, L, W: Output, E: Output>(
-    host: Host<'_, T>,
+pub fn serve<T, X, L, W: Output, E: Output>(
+    host: Host<'_, T, X>,
     network: &mut L,
     output: &mut W,
     faults: &mut E,
@@ -46,6 +48,7 @@ pub fn serve<T, L, W: Output, E: Output>(
 ) -> ExitStatus
 where
     T: Threads + Wait + Clock + Sync,
+    X: Executor + Sync,
     L: Listen + Drop + Send,
     L::Reader: Send,
     L::Writer: Send,
@@ -85,14 +88,15 @@ fn end_unheard<E: Output>(alloc: Global, faults: &mut E, port: u16, error: &Erro
 }
 
 // Makes a cell, says which port is listened to, and serves connections.
-fn serve_port<T, L, W: Output>(
-    host: Host<'_, T>,
+fn serve_port<T, X, L, W: Output>(
+    host: Host<'_, T, X>,
     network: &L,
     output: &mut W,
     serving: Serving,
 ) -> Result<(), Fault>
 where
     T: Threads + Wait + Clock + Sync,
+    X: Executor + Sync,
     L: Listen + Drop + Send,
     L::Reader: Send,
     L::Writer: Send,
@@ -102,12 +106,12 @@ where
         (said_of W.Output output.old) (said_of W.Output output.new) }
 {
     let blank = open(host.alloc, host.seed, serving.seats as usize)?;
-    serve_cell::<Brand, T, L, W>(host, blank, network, output, serving)
+    serve_cell::<Brand, T, X, L, W>(host, blank, network, output, serving)
 }
 
 // Says which port is listened to, and serves connections over the seats of a cell.
-fn serve_cell<C: CellName + Send + Sync, T, L, W: Output>(
-    host: Host<'_, T>,
+fn serve_cell<C: CellName + Send + Sync, T, X, L, W: Output>(
+    host: Host<'_, T, X>,
     blank: Blank,
     network: &L,
     output: &mut W,
@@ -115,6 +119,7 @@ fn serve_cell<C: CellName + Send + Sync, T, L, W: Output>(
 ) -> Result<(), Fault>
 where
     T: Threads + Wait + Clock + Sync,
+    X: Executor + Sync,
     L: Listen + Drop + Send,
     L::Reader: Send,
     L::Writer: Send,
@@ -134,6 +139,7 @@ where
     let service = Service {
         rt: host.rt,
         alloc: host.alloc,
+        executor: host.executor,
         options: options_of(&serving),
         turns: &turns,
     };

@@ -51,7 +51,13 @@ where
     match request {
         Request::Serve(serving) => {
             let alloc = rt.alloc();
-            let host = Host { rt, alloc, seed };
+            let executor = &OneWorker;
+            let host = Host {
+                rt,
+                alloc,
+                executor,
+                seed,
+            };
             serve(host, &mut Port::new(rt), output, faults, serving)
         }
         Request::Pipe { parts, workers } => {

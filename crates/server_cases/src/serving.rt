@@ -8,6 +8,7 @@ use client_calls::Failure;
 use command_ends::Listen;
 use command_line::Serving;
 use commands::serve::{Host, serve};
+use flight_calls::OneWorker;
 use grpc_frame::{Counted, MemoryOutput};
 use hash_seed::HashSeed;
 use loopback::Port;
@@ -147,7 +148,13 @@ where
     R: Threads + Wait + Clock + Sync,
 {
     let (alloc, seed) = (rt.alloc(), HashSeed::new(rt)?);
-    let host = Host { rt, alloc, seed };
+    let executor = &OneWorker;
+    let host = Host {
+        rt,
+        alloc,
+        executor,
+        seed,
+    };
     let mut port = Port::new(rt);
     let number = port.listen(0)?;
     let bound = Bound { port, number };
