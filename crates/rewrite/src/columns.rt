@@ -75,33 +75,20 @@ pub(crate) fn names_only<T: ColumnTest>(predicate: &Predicate<usize>, test: &T) 
         Predicate::And(left, right) => names_only(left, test) && names_only(right, test),
         Predicate::Or(left, right) => names_only(left, test) && names_only(right, test),
         Predicate::Not(inner) => names_only(inner, test),
-        Predicate::Is {
-            negated: _,
-            tested: _,
-            predicate: inner,
-        } => names_only(inner, test),
-        Predicate::Compare {
-            comparison: _,
-            left,
-            right,
-        } => operand_names(left, test) && operand_names(right, test),
+        Predicate::Is { predicate, .. } => names_only(predicate, test),
+        Predicate::Compare { left, right, .. } => operand_names(left, test)
+            && operand_names(right, test),
         Predicate::Between {
-            negated: _,
             operand,
             low,
             high,
+            ..
         } => {
             operand_names(operand, test) && (operand_names(low, test) && operand_names(high, test))
         }
-        Predicate::In {
-            negated: _,
-            operand,
-            items,
-        } => operand_names(operand, test) && operands_name(items.as_slice(), test),
-        Predicate::IsNull {
-            negated: _,
-            operand,
-        } => operand_names(operand, test),
+        Predicate::In { operand, items, .. } => operand_names(operand, test)
+            && operands_name(items.as_slice(), test),
+        Predicate::IsNull { operand, .. } => operand_names(operand, test),
         Predicate::Constant(_) => true,
     }
 }

@@ -68,41 +68,26 @@ pub(crate) fn renumber<N: NewNumbers>(alloc: Global, predicate: &mut Predicate<u
             renumber(alloc, right, numbers);
         }
         Predicate::Not(inner) => renumber(alloc, inner, numbers),
-        Predicate::Is {
-            negated: _,
-            tested: _,
-            predicate: inner,
-        } => renumber(alloc, inner, numbers),
-        Predicate::Compare {
-            comparison: _,
-            left,
-            right,
-        } => {
+        Predicate::Is { predicate, .. } => renumber(alloc, predicate, numbers),
+        Predicate::Compare { left, right, .. } => {
             renumber_operand(left, numbers);
             renumber_operand(right, numbers);
         }
         Predicate::Between {
-            negated: _,
             operand,
             low,
             high,
+            ..
         } => {
             renumber_operand(operand, numbers);
             renumber_operand(low, numbers);
             renumber_operand(high, numbers);
         }
-        Predicate::In {
-            negated: _,
-            operand,
-            items,
-        } => {
+        Predicate::In { operand, items, .. } => {
             renumber_operand(operand, numbers);
             renumber_items(alloc, items, numbers);
         }
-        Predicate::IsNull {
-            negated: _,
-            operand,
-        } => renumber_operand(operand, numbers),
+        Predicate::IsNull { operand, .. } => renumber_operand(operand, numbers),
         Predicate::Constant(_) => {}
     }
 }

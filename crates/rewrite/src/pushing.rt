@@ -128,7 +128,7 @@ fn push(alloc: Global, parts: Vec<Predicate<usize>>, plan: Plan) -> Result<Plan,
 }
 
 /// The plan with each filter as low as it may stand: of the parts that its outermost ANDs join, each that names columns of
-/// one place alone stands at that place, and none that is always true is left. It gives the same rows.
+/// one place alone stands at that place, and none is the constant TRUE. It gives the same rows.
 ///
 /// # Errors
 ///

@@ -60,41 +60,26 @@ fn mark_predicate(uses: &mut [bool], predicate: &Predicate<usize>)
             mark_predicate(uses, right);
         }
         Predicate::Not(inner) => mark_predicate(uses, inner),
-        Predicate::Is {
-            negated: _,
-            tested: _,
-            predicate: inner,
-        } => mark_predicate(uses, inner),
-        Predicate::Compare {
-            comparison: _,
-            left,
-            right,
-        } => {
+        Predicate::Is { predicate, .. } => mark_predicate(uses, predicate),
+        Predicate::Compare { left, right, .. } => {
             mark_operand(uses, left);
             mark_operand(uses, right);
         }
         Predicate::Between {
-            negated: _,
             operand,
             low,
             high,
+            ..
         } => {
             mark_operand(uses, operand);
             mark_operand(uses, low);
             mark_operand(uses, high);
         }
-        Predicate::In {
-            negated: _,
-            operand,
-            items,
-        } => {
+        Predicate::In { operand, items, .. } => {
             mark_operand(uses, operand);
             mark_operands(uses, items.as_slice());
         }
-        Predicate::IsNull {
-            negated: _,
-            operand,
-        } => mark_operand(uses, operand),
+        Predicate::IsNull { operand, .. } => mark_operand(uses, operand),
         Predicate::Constant(_) => {}
     }
 }
