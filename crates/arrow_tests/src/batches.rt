@@ -1,4 +1,4 @@
-//! Messages: what a reader learns, and a batch that is measured once. What is read of other writers' messages, and
+//! Messages: what a reader learns, and a batch that is sized once. What is read of other writers' messages, and
 //! what is written and read again, is shown by `arrow_cases`.
 
 ghost use Rattle.std.specs.Prelude.{◌≡◌, IfOk, length};
@@ -6,7 +6,7 @@ ghost use Rattle.std.specs.Prelude.{◌≡◌, IfOk, length};
 use arrays::{Batch, Cells, Column, Slots};
 use arrow_schema::{HeaderKind, IntegerType, Schema, read_message};
 use bytes::Bytes;
-use ipc_batch::{MeasuredBatch, Reader};
+use ipc_batch::{Reader, SizedBatch};
 use scan_base::Fault;
 use std::alloc::Global;
 use std::test::Fail;
@@ -96,7 +96,7 @@ fn batch(alloc: Global) -> Result<Batch, Fail>
     Ok(Batch::new(columns, rows))
 }
 
-// What is written of a batch that is measured once.
+// What is written of a batch that is sized once.
 #[derive(Drop)]
 struct Written {
     body_length: usize,
@@ -108,13 +108,13 @@ struct Written {
 fn write(alloc: Global, batch: &Batch) -> Result<Written, Fail>
     requires { length batch.now.columns ≡ 1 }
 {
-    let measured = MeasuredBatch::new(alloc, batch)?.ok_or("too long")?;
+    let sized = SizedBatch::new(alloc, batch)?.ok_or("too long")?;
     let mut body = vec![in alloc; 9]?;
-    measured.append_body(&mut body)?;
+    sized.append_body(&mut body)?;
     Ok(Written {
-        body_length: measured.body_length(),
+        body_length: sized.body_length(),
         body,
-        header: measured.write_header(alloc)?,
+        header: sized.write_header(alloc)?,
     })
 }
 

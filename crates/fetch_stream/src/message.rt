@@ -13,7 +13,7 @@ use crate::payload::{Payload, body_parts};
 use arrays::Batch;
 use arrow_schema::{Schema, write_schema};
 use flight_proto::{put_flight_data, put_flight_data_head};
-use ipc_batch::MeasuredBatch;
+use ipc_batch::SizedBatch;
 use std::alloc::{AllocError, Global};
 
 // The most bytes of a message's body. One row has fewer: at most 64 texts of at most 65,536 bytes.
@@ -33,7 +33,7 @@ pub(crate) fn schema_payload(alloc: Global, schema: &Schema) -> Result<Payload, 
 }
 
 // The payload of a batch: its header, and the buffers of its body.
-fn batch_payload(alloc: Global, batch: &MeasuredBatch<'_>) -> Result<Payload, AllocError>
+fn batch_payload(alloc: Global, batch: &SizedBatch<'_>) -> Result<Payload, AllocError>
     requires few { length batch.now.columns ≤ most_columns }
     requires short { body_length batch.now ≤ most_body_bytes }
     ensures said { IfOk result (λ payload. SaysBatchBehind payload batch.now) }
@@ -65,9 +65,9 @@ pub(crate) fn slice_payload(
     ensures long { IfOk result (λ found. found ≡ None → most_body_bytes < body_length (cut_batch batch.now from to)) }
 {
     let slice = batch.slice(alloc, from, to)?;
-    match MeasuredBatch::new(alloc, &slice)? {
-        Some(measured) if measured.body_length() <= MOST_BODY_BYTES => {
-            Ok(Some(batch_payload(alloc, &measured)?))
+    match SizedBatch::new(alloc, &slice)? {
+        Some(sized) if sized.body_length() <= MOST_BODY_BYTES => {
+            Ok(Some(batch_payload(alloc, &sized)?))
         }
         _ => Ok(None),
     }

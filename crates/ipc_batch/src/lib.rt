@@ -5,11 +5,11 @@ mod buffers;
 pub mod columns;
 mod dictionaries;
 pub mod laws;
-pub mod measured;
 pub mod parts;
 pub mod reader;
+pub mod sized;
 pub mod writer;
 
-pub use crate::measured::MeasuredBatch;
 pub use crate::reader::Reader;
+pub use crate::sized::SizedBatch;
 pub use crate::writer::{WrittenMessage, write_batch, write_dictionary};

@@ -12,7 +12,7 @@ ghost use Rattle.ipc_batch.specs.Written.{dictionary_part, values_batch, FitsBat
 ghost use Rattle.ipc_batch.specs.Written.{SaysParts, SaysBatch, SaysDictionaryParts, SaysValues};
 ghost use Rattle.ipc_batch.specs.Seen.{written_seen};
 
-use crate::measured::MeasuredBatch;
+use crate::sized::SizedBatch;
 use arrays::{Batch, Cells, Column, Slots, Texts};
 use arrow_schema::{HeaderKind, write_message};
 use flatbuf::{Block, Builder, Slot};
@@ -44,12 +44,12 @@ pub fn write_batch(alloc: Global, batch: &Batch) -> Result<Option<WrittenMessage
     ensures zeros { IfOk result (λ found. IfSome found (λ message. message.body.items
         ≡ body_of (buffers_written batch.now.columns))) }
 {
-    let Some(measured) = MeasuredBatch::new(alloc, batch)? else {
+    let Some(sized) = SizedBatch::new(alloc, batch)? else {
         return Ok(None);
     };
-    let header = measured.write_header(alloc)?;
+    let header = sized.write_header(alloc)?;
     let mut body = Vec::new(alloc);
-    measured.append_body(&mut body)?;
+    sized.append_body(&mut body)?;
     Ok(Some(WrittenMessage { header, body }))
 }
 
@@ -87,7 +87,7 @@ fn dictionary_block(
 fn dictionary_header(
     alloc: Global,
     id: u64,
-    values: &MeasuredBatch<'_>,
+    values: &SizedBatch<'_>,
     is_delta: bool,
 ) -> Result<Vec<u8>, AllocError>
     requires { length values.now.columns ≤ most_columns }
@@ -132,11 +132,11 @@ pub fn write_dictionary(
         ≡ body_of (buffers_written (values_batch values.now).columns))) }
 {
     let batch = values_batch(alloc, values)?;
-    let Some(measured) = MeasuredBatch::new(alloc, &batch)? else {
+    let Some(sized) = SizedBatch::new(alloc, &batch)? else {
         return Ok(None);
     };
-    let header = dictionary_header(alloc, id, &measured, is_delta)?;
+    let header = dictionary_header(alloc, id, &sized, is_delta)?;
     let mut body = Vec::new(alloc);
-    measured.append_body(&mut body)?;
+    sized.append_body(&mut body)?;
     Ok(Some(WrittenMessage { header, body }))
 }

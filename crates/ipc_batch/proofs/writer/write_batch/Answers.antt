@@ -4,5 +4,5 @@ use Rattle.ipc_batch.proofs.writer.write_batch.Goals as goal
 
 pub returns-clause-body : goal.returns-clause-body
 returns-clause-body c =
-    let measured = rw c.in-Some.is at c.in_ok-measured.ensures in
-    rw (c.in_ok-append_body.ensures.ok, c.new-body.ensures.items, measured.1) (whole_body (buffers_written c.args.batch.now.columns))
+    let sized = rw c.in-Some.is at c.in_ok-sized.ensures in
+    rw (c.in_ok-append_body.ensures.ok, c.new-body.ensures.items, sized.1) (whole_body (buffers_written c.args.batch.now.columns))

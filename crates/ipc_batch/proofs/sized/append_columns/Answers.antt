@@ -1,6 +1,6 @@
 use Rattle.std.proofs.Common.{◌+◌, drop, arith}
 use Rattle.ipc_batch.proofs.WriterLoops.{dropped, length_more, length_front}
-use Rattle.ipc_batch.proofs.measured.append_columns.Goals as goal
+use Rattle.ipc_batch.proofs.sized.append_columns.Goals as goal
 
 pub append_column-requires : goal.append_column-requires
 append_column-requires c =

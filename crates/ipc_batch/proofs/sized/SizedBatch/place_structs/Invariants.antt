@@ -1,7 +1,7 @@
 use Rattle.std.proofs.Common.{◌≡◌, ◌+◌, ◌++◌, length, drop}
 use Rattle.std.specs.List.{flat_map}
 use Rattle.ipc_batch.specs.Written.{body_of, buffers_written, places_from, place_bytes}
-use Rattle.ipc_batch.proofs.measured.MeasuredBatch.place_structs.Given as goal
+use Rattle.ipc_batch.proofs.sized.SizedBatch.place_structs.Given as goal
 
 abbrev pub invariant-loop-length : goal.invariant-loop-length
 invariant-loop-length l = record {

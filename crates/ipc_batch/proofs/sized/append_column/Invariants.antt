@@ -1,7 +1,7 @@
 use Rattle.std.proofs.Common.{◌≡◌, ◌++◌, length, take, drop}
 use Rattle.array_buffers.specs.Written.{buffers_written as column_written}
 use Rattle.ipc_batch.specs.Written.{body_of}
-use Rattle.ipc_batch.proofs.measured.append_column.Given as goal
+use Rattle.ipc_batch.proofs.sized.append_column.Given as goal
 
 abbrev pub invariant-loop-index : goal.invariant-loop-index
 invariant-loop-index l = record {

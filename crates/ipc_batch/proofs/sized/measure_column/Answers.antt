@@ -1,7 +1,7 @@
 use Rattle.std.proofs.Common.{arith}
 use Rattle.array_buffers.specs.Written.{buffers_written as column_written}
 use Rattle.ipc_batch.proofs.WriterLoops.{buffer_more, length_added}
-use Rattle.ipc_batch.proofs.measured.measure_column.Goals as goal
+use Rattle.ipc_batch.proofs.sized.measure_column.Goals as goal
 
 pub returns-in_default-buffer_end-clause-end : goal.returns-in_default-buffer_end-clause-end
 returns-in_default-buffer_end-clause-end c =

@@ -4,7 +4,7 @@ use Rattle.std.proofs.lemmas.List.Elements.{All-cons}
 use Rattle.arrays.specs.Column.{ColumnAt, IsColumn}
 use Rattle.ipc_batch.specs.Written.{node_bytes, node_written}
 use Rattle.ipc_batch.proofs.WriterLoops.{dropped}
-use Rattle.ipc_batch.proofs.measured.node_structs.Goals as goal
+use Rattle.ipc_batch.proofs.sized.node_structs.Goals as goal
 
 pub loop-column-preserved : goal.loop-column-preserved
 loop-column-preserved c =

@@ -1,5 +1,5 @@
 use Rattle.ipc_batch.proofs.PartsAgain.{fits_batch}
-use Rattle.ipc_batch.proofs.measured.batch_block.Goals as goal
+use Rattle.ipc_batch.proofs.sized.batch_block.Goals as goal
 
 pub table-requires : goal.table-requires
 table-requires c =

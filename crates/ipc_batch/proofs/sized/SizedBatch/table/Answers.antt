@@ -1,7 +1,7 @@
 use Rattle.std.proofs.Common.{refl}
 use Rattle.ipc_batch.proofs.Lengths.{on_ok}
 use Rattle.ipc_batch.proofs.BatchAgain.{nodes_small, places_small, made_table}
-use Rattle.ipc_batch.proofs.measured.MeasuredBatch.table.Goals as goal
+use Rattle.ipc_batch.proofs.sized.SizedBatch.table.Goals as goal
 
 pub batch_block-requires-clause-nodes : goal.batch_block-requires-clause-nodes
 batch_block-requires-clause-nodes c =

@@ -1,4 +1,4 @@
-//! Batches that are measured once: their headers and their bodies.
+//! Batches whose buffers are measured once: their headers and their bodies.
 
 ghost use Rattle.std.specs.Prelude.{◌≡◌, ◌≤◌, ◌<◌, ◌+◌, ◌-◌, ◌%◌, ◌^◌, [], ◌∷◌, ◌++◌, All, length, map, take};
 ghost use Rattle.std.specs.Prelude.{IfOk, IsSome, OnOk, OnErr, SomeIff};
@@ -28,30 +28,30 @@ const BODY_LIMIT: usize = 1 << 31;
 /// A batch, and how many bytes each of its buffers has where it is written. With the zeros between them they
 /// have fewer than 2 to the 31. A contract sees the batch.
 #[derive(Drop)]
-pub struct MeasuredBatch<'a> {
+pub struct SizedBatch<'a> {
     batch: &'a Batch,
     lengths: Vec<usize>,
     body_length: usize,
 }
 
-impl<'a> Model for MeasuredBatch<'a> {
+impl<'a> Model for SizedBatch<'a> {
     ghost use Rattle.arrays.specs.Batch.{BatchAt};
-    ghost use Rattle.ipc_batch.specs.inside.Measured.{IsMeasured};
+    ghost use Rattle.ipc_batch.specs.inside.Sized.{IsSized};
 
     ghost Value = { BatchAt };
 
     ghost view = { λ m. m.batch.now };
 
-    ghost invariant = { λ m. IsMeasured m.batch.now m.lengths.items m.body_length };
+    ghost invariant = { λ m. IsSized m.batch.now m.lengths.items m.body_length };
 }
 
-impl<'a> MeasuredBatch<'a> {
+impl<'a> SizedBatch<'a> {
     /// Measures each buffer of a batch. `None` where the body would have 2 to the 31 bytes or more.
     ///
     /// # Errors
     ///
     /// `AllocError` where memory for the lengths is refused.
-    pub fn new(alloc: Global, batch: &'a Batch) -> Result<Option<MeasuredBatch<'a>>, AllocError>
+    pub fn new(alloc: Global, batch: &'a Batch) -> Result<Option<SizedBatch<'a>>, AllocError>
         ensures { IfOk result (λ found. SomeIff found (body_length batch.now < 2 ^ 31) batch.now) }
     {
         let columns = batch.columns();
@@ -63,7 +63,7 @@ impl<'a> MeasuredBatch<'a> {
             };
             end = next;
         }
-        Ok(Some(MeasuredBatch {
+        Ok(Some(SizedBatch {
             batch,
             lengths,
             body_length: end,
@@ -78,7 +78,7 @@ impl<'a> MeasuredBatch<'a> {
         self.body_length
     }
 
-    /// The header of the message, whose body [`MeasuredBatch::append_body`] writes, and which claims all of
+    /// The header of the message, whose body [`SizedBatch::append_body`] writes, and which claims all of
     /// that body. The header and the body have a multiple of 8 bytes, the header at most 8,192. It fails with
     /// [`AllocError`] where memory is refused, and with no other error.
     pub fn write_header(&self, alloc: Global) -> Result<Vec<u8>, AllocError>

@@ -5,7 +5,7 @@ use Rattle.flatbuf.specs.Block.{padded}
 use Rattle.std.proofs.Common.{append_assoc}
 use Rattle.array_buffers.proofs.Appended.{begins_more}
 use Rattle.ipc_batch.proofs.WriterLoops.{dropped_buffer}
-use Rattle.ipc_batch.proofs.measured.append_column.Goals as goal
+use Rattle.ipc_batch.proofs.sized.append_column.Goals as goal
 
 pub loop-index-preserved : goal.loop-index-preserved
 loop-index-preserved c =

@@ -4,7 +4,7 @@ use Rattle.std.proofs.lemmas.List.{length-append}
 use Rattle.flatbuf.specs.Block.{padding}
 use Rattle.array_buffers.specs.Written.{buffer_of}
 use Rattle.ipc_batch.proofs.WriterLoops.{short_texts}
-use Rattle.ipc_batch.proofs.measured.append_buffer.Goals as goal
+use Rattle.ipc_batch.proofs.sized.append_buffer.Goals as goal
 
 pub append_buffer-requires-clause-texts : goal.append_buffer-requires-clause-texts
 append_buffer-requires-clause-texts c = short_texts c.args.column.now c.requires.short

@@ -1,6 +1,6 @@
 use Rattle.std.proofs.Common.{◌≡◌, ◌++◌, length, drop, take}
 use Rattle.ipc_batch.specs.Written.{body_of, buffers_written}
-use Rattle.ipc_batch.proofs.measured.append_columns.Given as goal
+use Rattle.ipc_batch.proofs.sized.append_columns.Given as goal
 
 abbrev pub invariant-loop-column : goal.invariant-loop-column
 invariant-loop-column l = record {

@@ -1,10 +1,10 @@
--- Inside: what a batch that was measured for writing keeps.
+-- Inside: the sizes that a batch keeps for writing.
 use Rattle.std.specs.Prelude.{◌≡◌, ℕ, ◌^◌, ◌<◌, List, length, map}
 use Rattle.arrays.specs.Batch.{BatchAt}
 use Rattle.ipc_batch.specs.Written.{buffers_written, body_length}
 
--- what is measured of a batch: how many bytes each buffer has, and how many the body, which are few enough
-pub record IsMeasured (batch : BatchAt) (lengths : List ℕ) (bytes : ℕ) : Type 0 where
+-- the sizes of a batch: how many bytes each buffer has, and how many the body, which are few enough
+pub record IsSized (batch : BatchAt) (lengths : List ℕ) (bytes : ℕ) : Type 0 where
   pub each_is : lengths ≡ map length (buffers_written batch.columns)
   pub all_are : bytes ≡ body_length batch
   pub small : bytes < 2 ^ 31

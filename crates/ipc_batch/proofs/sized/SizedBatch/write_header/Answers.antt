@@ -3,7 +3,7 @@ use Rattle.ipc_batch.specs.Written.{body_length, parts_written}
 use Rattle.ipc_batch.proofs.Lengths.{on_ok}
 use Rattle.ipc_batch.proofs.PartsAgain.{short_parts}
 use Rattle.ipc_batch.proofs.BatchAgain.{fit_parts, said, header_short}
-use Rattle.ipc_batch.proofs.measured.MeasuredBatch.write_header.Goals as goal
+use Rattle.ipc_batch.proofs.sized.SizedBatch.write_header.Goals as goal
 
 pub write_message-requires : goal.write_message-requires
 write_message-requires c =

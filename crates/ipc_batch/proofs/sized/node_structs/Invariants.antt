@@ -2,7 +2,7 @@ use Rattle.std.proofs.Common.{◌≡◌, ◌++◌, All, map, drop}
 use Rattle.std.specs.List.{flat_map}
 use Rattle.arrays.specs.Column.{IsColumn}
 use Rattle.ipc_batch.specs.Written.{node_bytes, node_written}
-use Rattle.ipc_batch.proofs.measured.node_structs.Given as goal
+use Rattle.ipc_batch.proofs.sized.node_structs.Given as goal
 
 abbrev pub invariant-loop-column : goal.invariant-loop-column
 invariant-loop-column l = record {

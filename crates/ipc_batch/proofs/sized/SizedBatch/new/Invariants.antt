@@ -1,6 +1,6 @@
 use Rattle.std.proofs.Common.{◌≡◌, ◌+◌, ◌++◌, ◌<◌, ◌^◌, length, drop, map}
 use Rattle.ipc_batch.specs.Written.{body_of, buffers_written, body_length}
-use Rattle.ipc_batch.proofs.measured.MeasuredBatch.new.Given as goal
+use Rattle.ipc_batch.proofs.sized.SizedBatch.new.Given as goal
 
 abbrev pub invariant-loop-column : goal.invariant-loop-column
 invariant-loop-column l = record {

@@ -1,7 +1,7 @@
 use Rattle.std.proofs.Common.{◌≡◌, ◌<◌, ◌+◌, ◌^◌, ◌∙◌, [], length, get_or, arith}
 use Rattle.ipc_batch.specs.Written.{body_length, buffers_written}
 use Rattle.ipc_batch.proofs.WriterLoops.{buffer_more, place_added, length_at}
-use Rattle.ipc_batch.proofs.measured.MeasuredBatch.place_structs.Goals as goal
+use Rattle.ipc_batch.proofs.sized.SizedBatch.place_structs.Goals as goal
 
 -- the length that is placed is that of a buffer
 length_is : (c : goal.After-zeros_behind) → (c.loop-length.length-index < length (buffers_written c.args.self.now.columns))
