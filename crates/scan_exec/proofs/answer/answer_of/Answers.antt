@@ -8,13 +8,13 @@ use Rattle.scan_exec.proofs.answer.answer_of.Goals as goal
 
 pub invariant_of-result : goal.invariant_of-result
 invariant_of-result c =
-    begins c.args.source c.in_ok-without_filters-in-Groups.field-0 c.in_ok-without_filters-in-Groups.ensures c.in-Groups.keys c.in-Groups.items _
+    begins c.args.source c.in_ok-rows-in-Groups.field-0 c.in_ok-rows-in-Groups.ensures c.in-Groups.keys c.in-Groups.items _
     refl refl c.into_vec.ensures c.into_vec-in-Groups.ensures (rw c.in-Groups.is at c.requires.output) c.requires.front
     (c.requires.few (ap is_grouping c.in-Groups.is))
 
-pub returns-in_ok-without_filters-in-Groups-clause-answer : goal.returns-in_ok-without_filters-in-Groups-clause-answer
-returns-in_ok-without_filters-in-Groups-clause-answer c =
-    let made = c.in_ok-without_filters-in-Groups.field-0 in
+pub returns-in_ok-rows-in-Groups-clause-answer : goal.returns-in_ok-rows-in-Groups-clause-answer
+returns-in_ok-rows-in-Groups-clause-answer c =
+    let made = c.in_ok-rows-in-Groups.field-0 in
     let wanted : Wanted = record {
       picker = made.picker;
       seed = c.args.seed;
@@ -22,6 +22,6 @@ returns-in_ok-without_filters-in-Groups-clause-answer c =
       keys = c.into_vec.result;
       items = c.into_vec-in-Groups.result;
     } in
-    gives_groups c.args.source made c.in_ok-without_filters-in-Groups.ensures c.in-Groups.keys c.in-Groups.items wanted
+    gives_groups c.args.source made c.in_ok-rows-in-Groups.ensures c.in-Groups.keys c.in-Groups.items wanted
     refl refl c.into_vec.ensures c.into_vec-in-Groups.ensures
     ∙ ap (λ (output : Output). answer_for output c.args.source.rows) (sym c.in-Groups.is)
