@@ -2,6 +2,7 @@
 
 ghost use Rattle.std.specs.Prelude.{◌≡◌, ◌<◌, ℕ, List, Ok, IfOk};
 ghost use Rattle.std.specs.Io.KnownBytes.{Consumes};
+ghost use Rattle.grpc_frame.specs.Ends.{CanFail};
 ghost use Rattle.grpc_frame.specs.declared.place.Place.TheVariants.{InAnswer};
 ghost use Rattle.grpc_frame.specs.Records.{with_more};
 ghost use Rattle.grpc_frame.specs.Arrivals.{work_left};
@@ -38,7 +39,7 @@ fn status_end(code: u8, text: &str) -> Result<(), Fault>
 
 // Takes what comes next of an answer.
 fn next_arrival<R: Input>(inbox: &mut Inbox, reader: &mut R) -> Result<Arrival, Fault>
-    requires failures { R.failures reader.old < 18446744073709551615 }
+    requires failures { CanFail (R.failures reader.old) }
     requires place { inbox.old.place ≡ InAnswer }
     ensures arrives { (came : List ℕ)
         × Consumes (R.remaining reader.old) (R.remaining reader.new) came
@@ -72,7 +73,7 @@ pub(crate) fn read_one<R: Input>(
     inbox: &mut Inbox,
     reader: &mut R,
 ) -> Result<Result<Bytes, Failure>, Fault>
-    requires failures { R.failures reader.old < 18446744073709551615 }
+    requires failures { CanFail (R.failures reader.old) }
     requires place { inbox.old.place ≡ InAnswer }
     ensures answer { (came : List ℕ)
         × Consumes (R.remaining reader.old) (R.remaining reader.new) came
@@ -117,7 +118,7 @@ pub(crate) fn read_stream<R: Input>(
     inbox: &mut Inbox,
     reader: &mut R,
 ) -> Result<Result<Stream, Failure>, Fault>
-    requires failures { R.failures reader.old < 18446744073709551615 }
+    requires failures { CanFail (R.failures reader.old) }
     requires place { inbox.old.place ≡ InAnswer }
     ensures answer { (came : List ℕ)
         × Consumes (R.remaining reader.old) (R.remaining reader.new) came

@@ -1,6 +1,7 @@
 //! Asking where rows are fetched.
 
-ghost use Rattle.std.specs.Prelude.{◌≡◌, ◌∷◌, [], ◌<◌, map, IfOk};
+ghost use Rattle.std.specs.Prelude.{◌≡◌, ◌∷◌, [], map, IfOk};
+ghost use Rattle.grpc_frame.specs.Ends.{CanFail};
 ghost use Rattle.flight_proto.specs.FlightInfo.{endpoint_said};
 ghost use Rattle.flight_proto.specs.Wanted.{wanted_bytes, wanted_said};
 ghost use Rattle.client_calls.specs.declared.call.Method.TheVariants.{GetFlightInfo};
@@ -56,8 +57,8 @@ pub fn info<R: Input, W: Output>(
     connection: &mut Connection<R, W>,
     wanted: Wanted<'_>,
 ) -> Result<Vec<FlightEndpoint>, Failure>
-    requires reads { connection.old.incoming.failed < 18446744073709551615 }
-    requires writes { connection.old.outgoing.failed < 18446744073709551615 }
+    requires reads { CanFail (connection.old.incoming.failed) }
+    requires writes { CanFail (connection.old.outgoing.failed) }
     ensures { Calls GetFlightInfo (wanted_bytes (wanted_said wanted.entry) ∷ [])
         (AnswersOne (ReadsEndpoints (λ endpoints. map endpoint_said endpoints.items))) result
         connection.old connection.new }

@@ -4,7 +4,7 @@ ghost use Rattle.std.specs.Prelude.{◌≡◌, ◌<◌, ◌≤◌, length, true,
 ghost use Rattle.scan_base.specs.Limits.{most_path_bytes};
 ghost use Rattle.grpc_frame.specs.declared.record.Record.TheVariants.{Open, Message};
 ghost use Rattle.grpc_frame.specs.Records.{spelling};
-ghost use Rattle.grpc_frame.specs.Ends.{CountsFailure, FailsByTransport};
+ghost use Rattle.grpc_frame.specs.Ends.{CanFail, CountsFailure, FailsByTransport};
 ghost use Rattle.grpc_frame.specs.Sending.{Sends};
 ghost use Rattle.client_calls.specs.Calls.{path_of, call_bytes, Fit};
 ghost use Rattle.client_calls.specs.inside.Parts.{WritesCall, outgoing_of};
@@ -100,7 +100,7 @@ fn all_fit(messages: &[Payload]) -> bool
 
 // Sends an Open.
 fn send_open<W: Output>(outbox: &mut Outbox, writer: &mut W, method: Method) -> Result<(), Fault>
-    requires { W.failures writer.old < 18446744073709551615 }
+    requires { CanFail (W.failures writer.old) }
     ensures bytes { Sends result (W.contents writer.old) (W.contents writer.new)
         outbox.old outbox.new (spelling (Open (path_of method))) }
     ensures counted { CountsFailure result (W.failures writer.old) (W.failures writer.new) }
@@ -117,7 +117,7 @@ fn send_payload<W: Output>(
     writer: &mut W,
     message: &Payload,
 ) -> Result<(), Fault>
-    requires failures { W.failures writer.old < 18446744073709551615 }
+    requires failures { CanFail (W.failures writer.old) }
     requires short { length message.now ≤ 16777216 }
     ensures bytes { Sends result (W.contents writer.old) (W.contents writer.new)
         outbox.old outbox.new (spelling (Message message.now)) }
@@ -135,7 +135,7 @@ fn send_call<W: Output>(
     method: Method,
     messages: &[Payload],
 ) -> Result<(), Fault>
-    requires failures { W.failures writer.old < 18446744073709551615 }
+    requires failures { CanFail (W.failures writer.old) }
     requires fit { Fit messages.now }
     ensures bytes { Sends result (W.contents writer.old) (W.contents writer.new)
         outbox.old outbox.new (call_bytes method messages.now) }
@@ -161,7 +161,7 @@ pub(crate) fn write_call<W: Output>(
     method: Method,
     messages: &[Payload],
 ) -> Result<(), Fault>
-    requires { W.failures writer.old < 18446744073709551615 }
+    requires { CanFail (W.failures writer.old) }
     ensures { WritesCall result method messages.now
         (outgoing_of (W.contents writer.old) (W.failures writer.old))
         (outgoing_of (W.contents writer.new) (W.failures writer.new)) }

@@ -1,6 +1,7 @@
 //! A client's connection.
 
-ghost use Rattle.std.specs.Prelude.{◌≡◌, ◌≢◌, ◌<◌, [], Some, None, Ok, MatchResult};
+ghost use Rattle.std.specs.Prelude.{◌≡◌, ◌≢◌, [], Some, None, Ok, MatchResult};
+ghost use Rattle.grpc_frame.specs.Ends.{CanFail};
 ghost use Rattle.scan_base.specs.declared.fault.Fault.TheVariants.{Transport};
 ghost use Rattle.grpc_frame.specs.declared.place.Place.TheVariants.{InAnswer};
 ghost use Rattle.client_calls.specs.declared.call.Method.TheVariants.{DoGet};
@@ -120,7 +121,7 @@ impl<R: Input, W: Output> Connection<R, W> {
 
     // Writes a call.
     fn send(&mut self, alloc: Global, method: Method, messages: &[Payload]) -> Result<(), Fault>
-        requires writes { self.old.outgoing.failed < 18446744073709551615 }
+        requires writes { CanFail (self.old.outgoing.failed) }
         requires is_open { IsOpen self.old }
         ensures { SendsCall result method messages.now self.old self.new }
     {
@@ -135,7 +136,7 @@ impl<R: Input, W: Output> Connection<R, W> {
 
     // Reads an answer of one message.
     fn receive_one(&mut self) -> Result<Bytes, Failure>
-        requires reads { self.old.incoming.failed < 18446744073709551615 }
+        requires reads { CanFail (self.old.incoming.failed) }
         requires is_open { IsOpen self.old }
         ensures { Receives (AnswersOne (λ given message. given ≡ Ok message) result) self.old self.new }
     {
@@ -150,7 +151,7 @@ impl<R: Input, W: Output> Connection<R, W> {
 
     // Reads an answer of payloads.
     fn receive_stream(&mut self, alloc: Global) -> Result<Stream, Failure>
-        requires reads { self.old.incoming.failed < 18446744073709551615 }
+        requires reads { CanFail (self.old.incoming.failed) }
         requires is_open { IsOpen self.old }
         ensures { Receives (AnswersStream result) self.old self.new }
     {
@@ -170,8 +171,8 @@ impl<R: Input, W: Output> Connection<R, W> {
         method: Method,
         messages: &[Payload],
     ) -> Result<Bytes, Failure>
-        requires reads { self.old.incoming.failed < 18446744073709551615 }
-        requires writes { self.old.outgoing.failed < 18446744073709551615 }
+        requires reads { CanFail (self.old.incoming.failed) }
+        requires writes { CanFail (self.old.outgoing.failed) }
         requires is_open { IsOpen self.old }
         ensures { Calls method messages.now (AnswersOne (λ given message. given ≡ Ok message))
             result self.old self.new }
@@ -186,8 +187,8 @@ impl<R: Input, W: Output> Connection<R, W> {
         alloc: Global,
         messages: &[Payload],
     ) -> Result<Stream, Failure>
-        requires reads { self.old.incoming.failed < 18446744073709551615 }
-        requires writes { self.old.outgoing.failed < 18446744073709551615 }
+        requires reads { CanFail (self.old.incoming.failed) }
+        requires writes { CanFail (self.old.outgoing.failed) }
         requires is_open { IsOpen self.old }
         ensures { Calls DoGet messages.now AnswersStream result self.old self.new }
     {

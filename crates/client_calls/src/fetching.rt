@@ -1,6 +1,7 @@
 //! Fetching rows.
 
-ghost use Rattle.std.specs.Prelude.{◌≡◌, ◌∷◌, [], ◌<◌, IfOk};
+ghost use Rattle.std.specs.Prelude.{◌≡◌, ◌∷◌, [], IfOk};
+ghost use Rattle.grpc_frame.specs.Ends.{CanFail};
 ghost use Rattle.client_calls.specs.declared.call.Method.TheVariants.{DoGet};
 ghost use Rattle.client_calls.specs.Answers.{AnswersStream};
 ghost use Rattle.client_calls.specs.Outcome.{Calls};
@@ -43,8 +44,8 @@ pub fn fetch<R: Input, W: Output>(
     connection: &mut Connection<R, W>,
     ticket: &[u8],
 ) -> Result<Stream, Failure>
-    requires reads { connection.old.incoming.failed < 18446744073709551615 }
-    requires writes { connection.old.outgoing.failed < 18446744073709551615 }
+    requires reads { CanFail (connection.old.incoming.failed) }
+    requires writes { CanFail (connection.old.outgoing.failed) }
     ensures { Calls DoGet (ticket.now ∷ []) AnswersStream result connection.old connection.new }
 {
     connection.check()?;

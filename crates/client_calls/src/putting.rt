@@ -1,6 +1,7 @@
 //! Putting a stream into a table.
 
-ghost use Rattle.std.specs.Prelude.{◌≡◌, ◌++◌, ◌<◌, map, None, IfOk, OnOk};
+ghost use Rattle.std.specs.Prelude.{◌≡◌, ◌++◌, map, None, IfOk, OnOk};
+ghost use Rattle.grpc_frame.specs.Ends.{CanFail};
 ghost use Rattle.flight_proto.specs.FlightData.{data_bytes};
 ghost use Rattle.flight_proto.specs.StatementIngest.{options_said};
 ghost use Rattle.client_calls.specs.declared.call.Method.TheVariants.{DoPut};
@@ -170,8 +171,8 @@ pub fn put<R: Input, W: Output>(
     target: Target<'_>,
     messages: &[IpcMessage],
 ) -> Result<u64, Failure>
-    requires reads { connection.old.incoming.failed < 18446744073709551615 }
-    requires writes { connection.old.outgoing.failed < 18446744073709551615 }
+    requires reads { CanFail (connection.old.incoming.failed) }
+    requires writes { CanFail (connection.old.outgoing.failed) }
     ensures { Calls DoPut (put_payloads target.entry messages.now)
         (AnswersOne ReadsCount) result connection.old connection.new }
 {

@@ -1,5 +1,6 @@
 -- A connection as it is opened.
-use Rattle.std.specs.Prelude.{◌<◌, [], Ok}
+use Rattle.std.specs.Prelude.{[], Ok}
+use Rattle.grpc_frame.specs.Ends.{CanFail}
 use Rattle.grpc_frame.specs.declared.place.Place.TheVariants.{InAnswer}
 use Rattle.client_calls.specs.Outcome.{Line}
 use Rattle.command_ends.specs.Network.{Ends}
@@ -13,4 +14,4 @@ opened_line ends = record {
 
 -- a failure more of each end can be counted
 abbrev pub CanCount : Line → Type 0
-CanCount line = (line.incoming.failed < 18446744073709551615) × (line.outgoing.failed < 18446744073709551615)
+CanCount line = CanFail line.incoming.failed × CanFail line.outgoing.failed

@@ -1,6 +1,7 @@
 //! Connecting to the server.
 
-ghost use Rattle.std.specs.Prelude.{◌≡◌, ◌<◌, ℕ, List, Some, None, map, MatchResult};
+ghost use Rattle.std.specs.Prelude.{◌≡◌, ℕ, List, Some, None, map, MatchResult};
+ghost use Rattle.grpc_frame.specs.Ends.{CanFail};
 ghost use Rattle.command_ends.specs.Network.{Ends};
 ghost use Rattle.command_ends.specs.Printing.{Prints, cause_lines, said_of};
 ghost use Rattle.client_commands.specs.Lines.{opened_line};
@@ -65,7 +66,7 @@ pub(crate) fn end_unconnected<E: Output>(
     port: u16,
     error: &Error,
 ) -> ExitStatus
-    requires { E.failures faults.old < 18446744073709551615 }
+    requires { CanFail (E.failures faults.old) }
     ensures status { result ≡ FaultAtThisEnd }
     ensures lines { (cause : List ℕ) × Prints (cause_lines cause)
         (said_of E.Output faults.old) (said_of E.Output faults.new) }

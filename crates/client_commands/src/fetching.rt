@@ -1,6 +1,7 @@
 //! Fetching rows over a connection.
 
-ghost use Rattle.std.specs.Prelude.{◌<◌, map, MatchResult};
+ghost use Rattle.std.specs.Prelude.{map, MatchResult};
+ghost use Rattle.grpc_frame.specs.Ends.{CanFail};
 ghost use Rattle.flight_proto.specs.FlightInfo.{endpoint_said};
 ghost use Rattle.flight_proto.specs.Wanted.{wanted_said};
 ghost use Rattle.client_commands.specs.Fetching.{FetchStops, Fetches, FetchesEach};
@@ -26,8 +27,8 @@ pub(crate) fn fetch_rows<R: Input, W: Output>(
     connection: &mut Connection<R, W>,
     wanted: Wanted<'_>,
 ) -> Result<Rows, Failure>
-    requires reads { connection.old.incoming.failed < 18446744073709551615 }
-    requires writes { connection.old.outgoing.failed < 18446744073709551615 }
+    requires reads { CanFail (connection.old.incoming.failed) }
+    requires writes { CanFail (connection.old.outgoing.failed) }
     ensures { Fetches (wanted_said wanted.entry) result connection.old connection.new }
 {
     let endpoints = info(alloc, connection, wanted)?;
@@ -41,8 +42,8 @@ pub(crate) fn fetch_each<R: Input, W: Output>(
     connection: &mut Connection<R, W>,
     endpoints: &[FlightEndpoint],
 ) -> Result<Vec<Stream>, Failure>
-    requires reads { connection.old.incoming.failed < 18446744073709551615 }
-    requires writes { connection.old.outgoing.failed < 18446744073709551615 }
+    requires reads { CanFail (connection.old.incoming.failed) }
+    requires writes { CanFail (connection.old.outgoing.failed) }
     ensures { MatchResult result
         (λ streams. FetchesEach (map endpoint_said endpoints.now) streams.items connection.old connection.new)
         (λ failure. FetchStops (map endpoint_said endpoints.now) failure connection.old connection.new) }

@@ -1,6 +1,7 @@
 //! `flightscan put`: an Arrow IPC stream into a table.
 
-ghost use Rattle.std.specs.Prelude.{◌≡◌, ◌<◌};
+ghost use Rattle.std.specs.Prelude.{◌≡◌};
+ghost use Rattle.grpc_frame.specs.Ends.{CanFail};
 ghost use Rattle.client_calls.specs.declared.call.Method.TheVariants.{DoPut};
 ghost use Rattle.client_calls.specs.Answers.{AnswersOne};
 ghost use Rattle.client_calls.specs.Commands.{ReadsCount, put_payloads};
@@ -40,9 +41,9 @@ pub fn put<C: Connect, I: Input, W: Output, E: Output>(
     putting: Putting<'_>,
 ) -> ExitStatus
     // Each end can count one failure more.
-    requires reads { I.failures input.old < 18446744073709551615 }
-    requires writes { W.failures output.old < 18446744073709551615 }
-    requires prints { E.failures faults.old < 18446744073709551615 }
+    requires reads { CanFail (I.failures input.old) }
+    requires writes { CanFail (W.failures output.old) }
+    requires prints { CanFail (E.failures faults.old) }
 
     // The input is no stream or was not read, and why is printed; or its messages were put, and what came of it is.
     ensures { Puts (source_of I.Input input.old) (source_of I.Input input.new) (network.new ≡ network.old)
@@ -66,8 +67,8 @@ fn put_messages<C: Connect, W: Output, E: Output>(
     putting: Putting<'_>,
     messages: &[IpcMessage],
 ) -> ExitStatus
-    requires writes { W.failures output.old < 18446744073709551615 }
-    requires prints { E.failures faults.old < 18446744073709551615 }
+    requires writes { CanFail (W.failures output.old) }
+    requires prints { CanFail (E.failures faults.old) }
     ensures { Connects (λ ends. C.connects network.old putting.entry.port ends network.new)
         (Calls DoPut (put_payloads putting.entry.target messages.now) (AnswersOne ReadsCount))
         count_line result
@@ -89,8 +90,8 @@ fn tell_count<W: Output, E: Output>(
     faults: &mut E,
     counted: Result<u64, Failure>,
 ) -> ExitStatus
-    requires writes { W.failures output.old < 18446744073709551615 }
-    requires prints { E.failures faults.old < 18446744073709551615 }
+    requires writes { CanFail (W.failures output.old) }
+    requires prints { CanFail (E.failures faults.old) }
     ensures { Tells count_line counted result
         (said_of W.Output output.old) (said_of W.Output output.new)
         (said_of E.Output faults.old) (said_of E.Output faults.new) }

@@ -1,6 +1,6 @@
 //! `flightscan query`: the rows that a query answers.
 
-ghost use Rattle.std.specs.Prelude.{◌<◌};
+ghost use Rattle.grpc_frame.specs.Ends.{CanFail};
 ghost use Rattle.command_ends.specs.Printing.{said_of};
 ghost use Rattle.client_commands.specs.Told.{Tells};
 ghost use Rattle.client_commands.specs.Commands.{table_lines, Queries, desk_of};
@@ -43,8 +43,8 @@ where
     C::Reader: Send,
     C::Writer: Send,
     // Each output can count one failure more.
-    requires writes { W.failures output.old < 18446744073709551615 }
-    requires prints { E.failures faults.old < 18446744073709551615 }
+    requires writes { CanFail (W.failures output.old) }
+    requires prints { CanFail (E.failures faults.old) }
 
     // The rows that the query answers are printed; or what failed is, and where no connection was made, why.
     ensures { Queries (λ old ends new. C.connects old query.entry.port ends new) query.entry.streams
@@ -67,8 +67,8 @@ fn tell_rows<W: Output, E: Output>(
     faults: &mut E,
     fetched: Result<Rows, Failure>,
 ) -> ExitStatus
-    requires writes { W.failures output.old < 18446744073709551615 }
-    requires prints { E.failures faults.old < 18446744073709551615 }
+    requires writes { CanFail (W.failures output.old) }
+    requires prints { CanFail (E.failures faults.old) }
     ensures { Tells table_lines fetched result
         (said_of W.Output output.old) (said_of W.Output output.new)
         (said_of E.Output faults.old) (said_of E.Output faults.new) }

@@ -1,8 +1,8 @@
 //! `flightscan tables`: the names of the tables.
 
-ghost use Rattle.std.specs.Prelude.{◌<◌};
 ghost use Rattle.command_ends.specs.Printing.{said_of};
 ghost use Rattle.std.specs.List.{flat_map};
+ghost use Rattle.grpc_frame.specs.Ends.{CanFail};
 ghost use Rattle.row_lines.specs.Lines.{name_line};
 ghost use Rattle.client_commands.specs.Told.{Tells};
 ghost use Rattle.client_commands.specs.Commands.{FetchesNames, ListsTables, desk_of};
@@ -29,8 +29,8 @@ pub fn tables<C: Connect, W: Output, E: Output>(
     port: u16,
 ) -> ExitStatus
     // Each output can count one failure more.
-    requires writes { W.failures output.old < 18446744073709551615 }
-    requires prints { E.failures faults.old < 18446744073709551615 }
+    requires writes { CanFail (W.failures output.old) }
+    requires prints { CanFail (E.failures faults.old) }
 
     // The names of the tables are printed; or what failed is, and where no connection was made, why.
     ensures { ListsTables (λ ends. C.connects network.old port ends network.new) result
@@ -52,8 +52,8 @@ fn tell_names<W: Output, E: Output>(
     faults: &mut E,
     fetched: Result<Vec<Text>, Failure>,
 ) -> ExitStatus
-    requires writes { W.failures output.old < 18446744073709551615 }
-    requires prints { E.failures faults.old < 18446744073709551615 }
+    requires writes { CanFail (W.failures output.old) }
+    requires prints { CanFail (E.failures faults.old) }
     ensures { Tells (λ names. flat_map name_line names.items) fetched result
         (said_of W.Output output.old) (said_of W.Output output.new)
         (said_of E.Output faults.old) (said_of E.Output faults.new) }
@@ -72,8 +72,8 @@ fn fetch_names<R: Input, W: Output>(
     alloc: Global,
     connection: &mut Connection<R, W>,
 ) -> Result<Vec<Text>, Failure>
-    requires reads { connection.old.incoming.failed < 18446744073709551615 }
-    requires writes { connection.old.outgoing.failed < 18446744073709551615 }
+    requires reads { CanFail (connection.old.incoming.failed) }
+    requires writes { CanFail (connection.old.outgoing.failed) }
     ensures { FetchesNames (λ names. names.items) result connection.old connection.new }
 {
     let rows = fetch_rows(alloc, connection, Wanted::Tables)?;

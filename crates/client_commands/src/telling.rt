@@ -1,7 +1,6 @@
 //! Telling what came of calls.
 
-ghost use Rattle.std.specs.Prelude.{◌<◌};
-ghost use Rattle.grpc_frame.specs.Ends.{FailsByTransport};
+ghost use Rattle.grpc_frame.specs.Ends.{CanFail, FailsByTransport};
 ghost use Rattle.command_ends.specs.Printing.{said_of};
 ghost use Rattle.client_commands.specs.Told.{TellsFailure, TellsPrinted};
 
@@ -12,7 +11,7 @@ use scan_base::Fault;
 
 /// Prints a fault in a line, and tells who found it.
 pub(crate) fn end_by_failure<E: Output>(faults: &mut E, failure: Failure) -> ExitStatus
-    requires { E.failures faults.old < 18446744073709551615 }
+    requires { CanFail (E.failures faults.old) }
     ensures { TellsFailure failure result
         (said_of E.Output faults.old) (said_of E.Output faults.new) }
 {
@@ -24,7 +23,7 @@ pub(crate) fn end_by_failure<E: Output>(faults: &mut E, failure: Failure) -> Exi
 
 /// Tells whether what was to be printed is: a fault of that is printed in a line.
 pub(crate) fn end_by_printing<E: Output>(faults: &mut E, printed: Result<(), Fault>) -> ExitStatus
-    requires failures { E.failures faults.old < 18446744073709551615 }
+    requires failures { CanFail (E.failures faults.old) }
     requires kind { FailsByTransport printed }
     ensures { TellsPrinted printed result
         (said_of E.Output faults.old) (said_of E.Output faults.new) }

@@ -1,7 +1,7 @@
 //! Ending by a fault.
 
-ghost use Rattle.std.specs.Prelude.{◌≡◌, ◌++◌, ◌∷◌, [], ◌<◌};
-ghost use Rattle.grpc_frame.specs.Ends.{CountsFailure, FailsByTransport, Writes};
+ghost use Rattle.std.specs.Prelude.{◌≡◌, ◌++◌, ◌∷◌, []};
+ghost use Rattle.grpc_frame.specs.Ends.{CanFail, CountsFailure, FailsByTransport, Writes};
 ghost use Rattle.command_ends.specs.Printing.{Prints, cause_lines, fault_line, said_of};
 ghost use Rattle.command_ends.specs.declared.exit_status.ExitStatus.TheVariants.{FaultAnswered, FaultAtThisEnd};
 
@@ -11,7 +11,7 @@ use scan_base::Fault;
 
 /// Prints a fault of this end in a line, as far as `faults` takes it.
 pub fn end_by_fault<E: Output>(faults: &mut E, fault: Fault) -> ExitStatus
-    requires { E.failures faults.old < 18446744073709551615 }
+    requires { CanFail (E.failures faults.old) }
     ensures status { result ≡ FaultAtThisEnd }
     ensures line { Prints (fault_line fault)
         (said_of E.Output faults.old) (said_of E.Output faults.new) }
@@ -22,7 +22,7 @@ pub fn end_by_fault<E: Output>(faults: &mut E, fault: Fault) -> ExitStatus
 
 /// Prints a fault that the server answered in a line, as far as `faults` takes it.
 pub fn end_by_answer<E: Output>(faults: &mut E, fault: Fault) -> ExitStatus
-    requires { E.failures faults.old < 18446744073709551615 }
+    requires { CanFail (E.failures faults.old) }
     ensures status { result ≡ FaultAnswered }
     ensures line { Prints (fault_line fault)
         (said_of E.Output faults.old) (said_of E.Output faults.new) }
@@ -33,7 +33,7 @@ pub fn end_by_answer<E: Output>(faults: &mut E, fault: Fault) -> ExitStatus
 
 /// Prints the line of F22, and behind it a line that says what failed, as far as `faults` takes them.
 pub fn end_by_cause<E: Output>(faults: &mut E, cause: &str) -> ExitStatus
-    requires { E.failures faults.old < 18446744073709551615 }
+    requires { CanFail (E.failures faults.old) }
     ensures status { result ≡ FaultAtThisEnd }
     ensures lines { Prints (cause_lines cause.now)
         (said_of E.Output faults.old) (said_of E.Output faults.new) }
@@ -44,7 +44,7 @@ pub fn end_by_cause<E: Output>(faults: &mut E, cause: &str) -> ExitStatus
 
 // Writes a fault in a line.
 fn write_fault<E: Output>(faults: &mut E, fault: Fault) -> Result<(), Fault>
-    requires { E.failures faults.old < 18446744073709551615 }
+    requires { CanFail (E.failures faults.old) }
     ensures bytes { Writes result (E.contents faults.old) (E.contents faults.new) (fault_line fault) }
     ensures counted { CountsFailure result (E.failures faults.old) (E.failures faults.new) }
     ensures kind { FailsByTransport result }
@@ -56,7 +56,7 @@ fn write_fault<E: Output>(faults: &mut E, fault: Fault) -> Result<(), Fault>
 
 // Writes a text in a line.
 fn write_line<E: Output>(faults: &mut E, text: &str) -> Result<(), Fault>
-    requires { E.failures faults.old < 18446744073709551615 }
+    requires { CanFail (E.failures faults.old) }
     ensures bytes { Writes result (E.contents faults.old) (E.contents faults.new) (text.now ++ 10 ∷ []) }
     ensures counted { CountsFailure result (E.failures faults.old) (E.failures faults.new) }
     ensures kind { FailsByTransport result }
@@ -67,7 +67,7 @@ fn write_line<E: Output>(faults: &mut E, text: &str) -> Result<(), Fault>
 
 // Writes the line of F22, and a line that says what failed.
 fn write_cause<E: Output>(faults: &mut E, cause: &str) -> Result<(), Fault>
-    requires { E.failures faults.old < 18446744073709551615 }
+    requires { CanFail (E.failures faults.old) }
     ensures bytes { Writes result (E.contents faults.old) (E.contents faults.new) (cause_lines cause.now) }
     ensures counted { CountsFailure result (E.failures faults.old) (E.failures faults.new) }
     ensures kind { FailsByTransport result }

@@ -1,8 +1,8 @@
 //! Lines that commands print.
 
-ghost use Rattle.std.specs.Prelude.{◌++◌, ◌<◌};
+ghost use Rattle.std.specs.Prelude.{◌++◌};
 ghost use Rattle.std.specs.Fmt.{decimal};
-ghost use Rattle.grpc_frame.specs.Ends.{CountsFailure, FailsByTransport, Writes};
+ghost use Rattle.grpc_frame.specs.Ends.{CanFail, CountsFailure, FailsByTransport, Writes};
 ghost use Rattle.grpc_frame.specs.Sending.{Sends};
 ghost use Rattle.command_ends.specs.Printing.{count_line, listening_line};
 
@@ -17,7 +17,7 @@ use std::alloc::Global;
 ///
 /// `Fault::Transport` where a write failed. It is counted, and a beginning of the line is written.
 pub fn print_count<W: Output>(alloc: Global, output: &mut W, rows: u64) -> Result<(), Fault>
-    requires { W.failures output.old < 18446744073709551615 }
+    requires { CanFail (W.failures output.old) }
     ensures bytes { Writes result (W.contents output.old) (W.contents output.new) (count_line rows) }
     ensures counted { CountsFailure result (W.failures output.old) (W.failures output.new) }
     ensures kind { FailsByTransport result }
@@ -33,7 +33,7 @@ pub fn print_count<W: Output>(alloc: Global, output: &mut W, rows: u64) -> Resul
 ///
 /// `Fault::Transport` where a write failed. It is counted, and a beginning of the line is written.
 pub fn print_listening<W: Output>(alloc: Global, output: &mut W, port: u16) -> Result<(), Fault>
-    requires { W.failures output.old < 18446744073709551615 }
+    requires { CanFail (W.failures output.old) }
     ensures bytes { Writes result (W.contents output.old) (W.contents output.new) (listening_line port) }
     ensures counted { CountsFailure result (W.failures output.old) (W.failures output.new) }
     ensures kind { FailsByTransport result }
@@ -46,7 +46,7 @@ pub fn print_listening<W: Output>(alloc: Global, output: &mut W, port: u16) -> R
 // Sends the line of the port.
 #[tactic(auto, using(grpc_frame::proofs::Sending::sending))]
 fn send_listening<W: Output>(outbox: &mut Outbox, output: &mut W, port: u16) -> Result<(), Fault>
-    requires { W.failures output.old < 18446744073709551615 }
+    requires { CanFail (W.failures output.old) }
     ensures bytes { Sends result (W.contents output.old) (W.contents output.new)
         outbox.old outbox.new (listening_line port) }
     ensures counted { CountsFailure result (W.failures output.old) (W.failures output.new) }
@@ -64,7 +64,7 @@ fn send_number<W: Output>(
     number: u64,
     behind: &[u8],
 ) -> Result<(), Fault>
-    requires { W.failures output.old < 18446744073709551615 }
+    requires { CanFail (W.failures output.old) }
     ensures bytes { Sends result (W.contents output.old) (W.contents output.new)
         outbox.old outbox.new (decimal number ++ behind.now) }
     ensures counted { CountsFailure result (W.failures output.old) (W.failures output.new) }

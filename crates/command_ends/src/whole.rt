@@ -1,6 +1,6 @@
 //! Reading an input to its end.
 
-ghost use Rattle.std.specs.Prelude.{◌<◌};
+ghost use Rattle.grpc_frame.specs.Ends.{CanFail};
 ghost use Rattle.command_ends.specs.Whole.{ReadsWhole, ReadsMessages, source_of};
 
 use crate::held::Held;
@@ -17,7 +17,7 @@ use std::alloc::Global;
 /// - `Fault::Transport` (F22) where a read failed. It is counted.
 /// - `Fault::OutOfMemory` (F21) where memory is refused.
 pub fn read_whole<R: Input>(alloc: Global, input: &mut R) -> Result<Bytes, Fault>
-    requires { R.failures input.old < 18446744073709551615 }
+    requires { CanFail (R.failures input.old) }
     ensures { ReadsWhole result (source_of R.Input input.old) (source_of R.Input input.new) }
 {
     let mut held = Held::new(alloc);
@@ -40,7 +40,7 @@ pub fn read_whole<R: Input>(alloc: Global, input: &mut R) -> Result<Bytes, Fault
 /// - `Fault::Transport` (F22) where a read failed. It is counted.
 /// - `Fault::OutOfMemory` (F21) where memory is refused.
 pub fn read_messages<R: Input>(alloc: Global, input: &mut R) -> Result<Vec<IpcMessage>, Fault>
-    requires { R.failures input.old < 18446744073709551615 }
+    requires { CanFail (R.failures input.old) }
     ensures { ReadsMessages (λ messages. messages.items) result
         (source_of R.Input input.old) (source_of R.Input input.new) }
 {

@@ -1,6 +1,7 @@
 //! `flightscan pipe`: one connection, from a reader to a writer.
 
-ghost use Rattle.std.specs.Prelude.{◌<◌, []};
+ghost use Rattle.std.specs.Prelude.{[]};
+ghost use Rattle.grpc_frame.specs.Ends.{CanFail};
 ghost use Rattle.flight_calls.specs.Seats.{Seat, seat_of};
 ghost use Rattle.flight_calls.specs.Owed.{connection_of};
 ghost use Rattle.command_ends.specs.Printing.{said_of};
@@ -22,9 +23,9 @@ pub fn pipe<R: Input, W: Output, E: Output, X: Executor>(
     faults: &mut E,
 ) -> ExitStatus
     // Each end can count one failure more.
-    requires reads { R.failures reader.old < 18446744073709551615 }
-    requires writes { W.failures writer.old < 18446744073709551615 }
-    requires prints { E.failures faults.old < 18446744073709551615 }
+    requires reads { CanFail (R.failures reader.old) }
+    requires writes { CanFail (W.failures writer.old) }
+    requires prints { CanFail (E.failures faults.old) }
 
     // The whole input is served, from the empty log, and nothing is printed; or a fault of this end is, in a line.
     ensures { (seat : Seat) × Pipes setting.now.options result

@@ -1,6 +1,7 @@
 //! `flightscan serve`: connections to a port, several at once.
 
 ghost use Rattle.std.specs.Prelude.{◌≡◌, ◌≤◌, ◌<◌, ℕ, List};
+ghost use Rattle.grpc_frame.specs.Ends.{CanFail};
 ghost use Rattle.version_cell.specs.Blanks.{IsNamed, most_seats};
 ghost use Rattle.command_ends.specs.Printing.{Prints, cause_lines, said_of};
 ghost use Rattle.command_ends.specs.declared.exit_status.ExitStatus.TheVariants.{FaultAtThisEnd};
@@ -53,8 +54,8 @@ where
     requires seats { (0 < serving.seats) × (serving.seats ≤ most_seats) }
 
     // Each output can count one failure more.
-    requires writes { W.failures output.old < 18446744073709551615 }
-    requires prints { E.failures faults.old < 18446744073709551615 }
+    requires writes { CanFail (W.failures output.old) }
+    requires prints { CanFail (E.failures faults.old) }
 
     // The network gave a port, which is served, and a fault of this end is printed; or it gave none, and why is.
     ensures { Listens L.accepts L.shares (L.listens network.old serving.port) serving result network.new
@@ -73,7 +74,7 @@ where
 
 // Prints F22, and in a second line that this port is not listened to, and why.
 fn end_unheard<E: Output>(alloc: Global, faults: &mut E, port: u16, error: &Error) -> ExitStatus
-    requires { E.failures faults.old < 18446744073709551615 }
+    requires { CanFail (E.failures faults.old) }
     ensures status { result ≡ FaultAtThisEnd }
     ensures lines { (cause : List ℕ) × Prints (cause_lines cause)
         (said_of E.Output faults.old) (said_of E.Output faults.new) }
@@ -97,7 +98,7 @@ where
     L::Reader: Send,
     L::Writer: Send,
     requires seats { (0 < serving.seats) × (serving.seats ≤ most_seats) }
-    requires writes { W.failures output.old < 18446744073709551615 }
+    requires writes { CanFail (W.failures output.old) }
     ensures { ServesPort L.accepts L.shares serving result network.now
         (said_of W.Output output.old) (said_of W.Output output.new) }
 {
@@ -120,7 +121,7 @@ where
     L::Writer: Send,
     requires cell { IsNamed blank C.book C.name C.parts }
     requires seats { blank.seats ≡ serving.seats }
-    requires writes { W.failures output.old < 18446744073709551615 }
+    requires writes { CanFail (W.failures output.old) }
     ensures { ServesPort L.accepts L.shares serving result network.now
         (said_of W.Output output.old) (said_of W.Output output.new) }
 {

@@ -1,6 +1,7 @@
 //! The program's words.
 
-ghost use Rattle.std.specs.Prelude.{◌<◌, ℕ, List, IfOk, map, string_bytes};
+ghost use Rattle.std.specs.Prelude.{ℕ, List, IfOk, map, string_bytes};
+ghost use Rattle.grpc_frame.specs.Ends.{CanFail};
 ghost use Rattle.clap.specs.Words.{kind_of};
 ghost use Rattle.clap.specs.declared.builder.value_parser.ValueParser.{ValueParser};
 ghost use Rattle.command_line.specs.Line.{TakesNames, mode_names};
@@ -39,8 +40,8 @@ pub fn read_words<'a, W: Output, E: Output>(
     faults: &mut E,
 ) -> Result<Request<'a>, ExitStatus>
     // Each output can count one failure more.
-    requires writes { W.failures output.old < 18446744073709551615 }
-    requires prints { E.failures faults.old < 18446744073709551615 }
+    requires writes { CanFail (W.failures output.old) }
+    requires prints { CanFail (E.failures faults.old) }
 
     // The words are a request, and nothing is printed; or they are none, and what ends the program is.
     ensures reads { (modes : ValueParser) × TakesNames mode_names modes
@@ -64,8 +65,8 @@ fn end_by_error<W: Output, E: Output>(
     faults: &mut E,
     error: &Error,
 ) -> ExitStatus
-    requires writes { W.failures output.old < 18446744073709551615 }
-    requires prints { E.failures faults.old < 18446744073709551615 }
+    requires writes { CanFail (W.failures output.old) }
+    requires prints { CanFail (E.failures faults.old) }
     ensures { AnswersKind (kind_of error.now) result
         (said_of W.Output output.old) (said_of W.Output output.new)
         (said_of E.Output faults.old) (said_of E.Output faults.new) }
@@ -82,8 +83,8 @@ fn end_by_error<W: Output, E: Output>(
 
 // Prints the version, or the fault F22 where that failed.
 fn print_version<W: Output, E: Output>(output: &mut W, faults: &mut E) -> ExitStatus
-    requires writes { W.failures output.old < 18446744073709551615 }
-    requires prints { E.failures faults.old < 18446744073709551615 }
+    requires writes { CanFail (W.failures output.old) }
+    requires prints { CanFail (E.failures faults.old) }
     ensures { PrintsVersion result
         (said_of W.Output output.old) (said_of W.Output output.new)
         (said_of E.Output faults.old) (said_of E.Output faults.new) }
@@ -96,7 +97,7 @@ fn print_version<W: Output, E: Output>(output: &mut W, faults: &mut E) -> ExitSt
 
 // Prints the text of an error.
 fn print_text<E: Output>(alloc: Global, faults: &mut E, error: &Error)
-    requires { E.failures faults.old < 18446744073709551615 }
+    requires { CanFail (E.failures faults.old) }
     ensures { (text : List ℕ) × Prints text
         (said_of E.Output faults.old) (said_of E.Output faults.new) }
 {

@@ -2,6 +2,7 @@
 //! failing end.
 
 ghost use Rattle.std.specs.Prelude.{◌<◌};
+ghost use Rattle.grpc_frame.specs.Ends.{CanFail};
 
 use crate::first_run::{
     AFTER_MODE, BATCH_AT, FETCH, FETCH_END_AT, HANDLE_AT, MODE_AT, PUT, PUT_ANSWER, PUT_END_AT,
@@ -40,9 +41,9 @@ fn pipe_status<R: Input, W: Output, E: Output>(
     writer: &mut W,
     faults: &mut E,
 ) -> u8
-    requires reads { R.failures reader.old < 18446744073709551615 }
-    requires writes { W.failures writer.old < 18446744073709551615 }
-    requires prints { E.failures faults.old < 18446744073709551615 }
+    requires reads { CanFail (R.failures reader.old) }
+    requires writes { CanFail (W.failures writer.old) }
+    requires prints { CanFail (E.failures faults.old) }
 {
     let setting = Setting {
         alloc,

@@ -1,3 +1,4 @@
 pub mod Fetches
+pub mod Morsels
 pub mod Streams
 pub mod inside

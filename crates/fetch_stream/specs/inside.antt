@@ -3,5 +3,6 @@ pub mod Ahead
 pub mod Collected
 pub mod Cut
 pub mod Given
+pub mod MadeAhead
 pub mod Steps
 pub mod Written

@@ -4,16 +4,21 @@
 //! an answer, one payload at a time.
 #![tactic(auto)]
 
+pub mod ahead;
 mod cutter;
 pub mod executor;
 pub mod fetch;
 pub mod laws;
+mod made;
 mod message;
+pub mod morsels;
 pub mod payload;
 mod source;
 pub mod stream;
 
+pub use crate::ahead::Ahead;
 pub use crate::executor::{Execution, Executor, OneWorker, Payloads, ReadsPayloads};
 pub use crate::fetch::{answer_fetch, read_ticket, version_of};
+pub use crate::morsels::Morsels;
 pub use crate::payload::Payload;
 pub use crate::stream::FetchStream;

@@ -1,7 +1,8 @@
 //! What the rows of an answer come from.
 
 ghost use Rattle.std.specs.Prelude.{◌≡◌};
-ghost use Rattle.fetch_stream.specs.inside.Ahead.{schema_behind, IsSource};
+ghost use Rattle.arrays.specs.Batch.{BatchAt};
+ghost use Rattle.fetch_stream.specs.inside.Ahead.{schema_behind, rows_taken, IsSource};
 ghost use Rattle.fetch_stream.specs.inside.Given.{GivesBatch};
 
 use arrays::Batch;
@@ -36,6 +37,16 @@ impl Source {
         match self {
             Source::Scanned(scan) => scan.schema(),
             Source::Listed(schema) => schema,
+        }
+    }
+
+    /// How many rows were taken, where the last batch has so many: the list of tables is one batch.
+    pub(crate) fn taken(&self, last: usize) -> usize
+        ensures { (batch : BatchAt) → batch.rows ≡ last → result ≡ rows_taken batch self.now }
+    {
+        match self {
+            Source::Scanned(scan) => scan.given(),
+            Source::Listed(_) => last,
         }
     }
 

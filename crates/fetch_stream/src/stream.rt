@@ -1,6 +1,6 @@
 //! Streams: an answer, one payload at a time.
 
-ghost use Rattle.std.specs.Prelude.{◌≡◌, ◌≢◌, ◌≤◌, ◌<◌, ◌++◌, true, false, None, length, nat_le, Err, IfOk, IfErr};
+ghost use Rattle.std.specs.Prelude.{◌≡◌, ◌≢◌, ◌≤◌, ◌<◌, ◌+◌, ◌++◌, true, false, None, length, nat_le, Err, IfOk, IfErr, IfSome};
 ghost use Rattle.std.specs.List.{list_any};
 ghost use Rattle.scan_base.specs.declared.fault.Fault.TheVariants.{BadTicket, LimitReached, OutOfMemory};
 ghost use Rattle.scan_base.specs.Limits.{most_answer_rows, most_query_bytes};
@@ -14,11 +14,13 @@ ghost use Rattle.flight_info.specs.Meant.{Meant};
 ghost use Rattle.flight_info.specs.Tables.{tables_listed};
 ghost use Rattle.fetch_stream.specs.Fetches.{may_mean};
 ghost use Rattle.fetch_stream.specs.Streams.{Gives, Opens, opened};
+ghost use Rattle.fetch_stream.specs.Morsels.{whole_stream};
 ghost use Rattle.fetch_stream.specs.inside.Ahead.{IsGoing, IsSource, AnsweredAs, schema_behind, left_behind, rows_taken};
 ghost use Rattle.fetch_stream.specs.inside.Steps.{GivesFirst, Refills, GivesRows};
 
 use crate::cutter::Cutter;
 use crate::message::schema_payload;
+use crate::morsels::Morsels;
 use crate::payload::Payload;
 use crate::source::Source;
 use arrays::Batch;
@@ -39,8 +41,10 @@ pub struct FetchStream {
     cutter: Cutter,
     source: Source,
     refused: Option<Fault>,
-    // How many workers may make payloads, of which contracts see nothing: the answer is the same for any number.
+    // How many workers may make payloads, and how many rows the range has. Contracts see nothing of them: the answer is the
+    // same for any numbers.
     workers: usize,
+    rows: usize,
 }
 
 impl Model for FetchStream {
@@ -70,13 +74,14 @@ impl Drop for FetchStream {
             source: _,
             refused: _,
             workers: _,
+            rows: _,
         } = self;
     }
 }
 
 impl FetchStream {
     // The stream of the rows of a batch and of those that a source gives behind them.
-    fn of(batch: Batch, source: Source) -> FetchStream
+    pub(crate) fn of(batch: Batch, source: Source) -> FetchStream
         requires source { IsSource source }
         requires columns { 0 < batch.rows → AnsweredAs (schema_behind source) batch.columns }
         requires short { list_any (list_any is_long_text) (rows_of batch) ≡ false }
@@ -97,11 +102,12 @@ impl FetchStream {
             source,
             refused: None,
             workers: 1,
+            rows: 0,
         }
     }
 
-    // The same stream, with so many workers.
-    fn with_workers(self, workers: usize) -> FetchStream
+    // The same stream, with so many workers, of a range of so many rows.
+    fn with_work(self, workers: usize, rows: usize) -> FetchStream
         ensures { result ≡ self }
     {
         let FetchStream {
@@ -110,6 +116,7 @@ impl FetchStream {
             source,
             refused,
             workers: _,
+            rows: _,
         } = self;
         FetchStream {
             begun,
@@ -117,6 +124,29 @@ impl FetchStream {
             source,
             refused,
             workers,
+            rows,
+        }
+    }
+
+    // The same stream, behind the payload of its schema.
+    pub(crate) fn behind_schema(self) -> FetchStream
+        ensures { result ≡ record self { begun = true } }
+    {
+        let FetchStream {
+            begun: _,
+            cutter,
+            source,
+            refused,
+            workers,
+            rows,
+        } = self;
+        FetchStream {
+            begun: true,
+            cutter,
+            source,
+            refused,
+            workers,
+            rows,
         }
     }
 
@@ -139,12 +169,56 @@ impl FetchStream {
         ensures opens { Opens (tables_of snapshot.now.catalog) (handle_seen handle.now) result }
         ensures first { may_mean (handle_seen handle.now) ≡ false → result ≡ Err BadTicket }
     {
-        Ok(open(alloc, snapshot.catalog(), handle)?.with_workers(workers))
+        let stream = open(alloc, snapshot.catalog(), handle)?;
+        Ok(stream.with_work(workers, rows_asked(handle)))
     }
 
     /// How many workers may make its payloads at most.
     pub fn workers(&self) -> usize {
         self.workers
+    }
+
+    /// How many rows of its first place the answer comes of at most: 0 for the list of tables. Contracts say nothing of it: it
+    /// tells how much work there is.
+    pub fn rows(&self) -> usize {
+        self.rows
+    }
+
+    /// How many rows were given.
+    pub fn given(&self) -> usize
+        ensures { result ≡ self.now.given }
+    {
+        let rows = self.cutter.batch.rows();
+        let uncut = rows.saturating_sub(self.cutter.at);
+        self.source.taken(rows).saturating_sub(uncut)
+    }
+
+    // How many rows were taken of the source: those that were given, and what is left of the batch that is being cut.
+    pub(crate) fn taken(&self) -> usize
+        ensures given { self.now.given ≤ result }
+        ensures there { result ≤ self.now.given + length self.now.left }
+    {
+        batch_slices_keep_rows();
+        self.source.taken(self.cutter.batch.rows())
+    }
+
+    /// The morsels of a stream of which nothing was given: `None` for the list of tables, for groups, and for a stream that
+    /// has begun or was refused.
+    pub fn morsels(&self) -> Option<Morsels<'_>>
+        ensures { IfSome result (λ morsels. self.now ≡ whole_stream morsels) }
+    {
+        batch_slices_keep_rows();
+        let Source::Scanned(scan) = &self.source else {
+            return None;
+        };
+        let None = self.refused else {
+            return None;
+        };
+        if self.begun || self.cutter.at < self.cutter.batch.rows() {
+            return None;
+        }
+        let count = scan.morsels()?;
+        Some(Morsels::new(scan, count))
     }
 
     /// The next payload, and `None` behind the last one: first the message of the schema, and then record batches of at
@@ -211,6 +285,14 @@ fn next_rows(
         return Ok(None);
     }
     Ok(Some(cutter.next(alloc)?))
+}
+
+// How many rows the range of a handle has.
+fn rows_asked(handle: &Handle<'_>) -> usize {
+    match handle {
+        Handle::Query { range, .. } => range.to.saturating_sub(range.from) as usize,
+        Handle::Tables { .. } => 0,
+    }
 }
 
 // How many rows a range of a query has at least: all of the first place, where the query makes groups.

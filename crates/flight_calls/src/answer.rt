@@ -1,10 +1,10 @@
 //! Writing the answer of a call.
 
-ghost use Rattle.std.specs.Prelude.{◌≡◌, ◌<◌, [], Result, Ok, OnErr};
+ghost use Rattle.std.specs.Prelude.{◌≡◌, [], Result, Ok, OnErr};
 ghost use Rattle.scan_base.specs.declared.fault.Fault.{Fault as FaultAt};
 ghost use Rattle.grpc_frame.specs.declared.record.Record.TheVariants.{Message};
 ghost use Rattle.grpc_frame.specs.Records.{spelling};
-ghost use Rattle.grpc_frame.specs.Ends.{CountsFailure, FailsByTransport, Writes};
+ghost use Rattle.grpc_frame.specs.Ends.{CanFail, CountsFailure, FailsByTransport, Writes};
 ghost use Rattle.grpc_frame.specs.Sending.{Sends};
 ghost use Rattle.endpoint_split.specs.Handle.{HandleAt};
 ghost use Rattle.table_versions.specs.Database.{Database};
@@ -47,7 +47,7 @@ pub fn write_answer<W: Output, X: Executor>(
     outbox: &mut Outbox,
     answer: Answer,
 ) -> Result<(), Fault>
-    requires failures { W.failures writer.old < 18446744073709551615 }
+    requires failures { CanFail (W.failures writer.old) }
     requires empty { outbox.old ≡ [] }
     requires short { FitsMessages answer }
     ensures bytes { (asked : Result Asked FaultAt) (log new : Log) → AnsweredBy asked log answer new →
@@ -68,7 +68,7 @@ fn send_answer<W: Output, X: Executor>(
     outbox: &mut Outbox,
     answer: Answer,
 ) -> Result<(), Fault>
-    requires failures { W.failures writer.old < 18446744073709551615 }
+    requires failures { CanFail (W.failures writer.old) }
     requires short { FitsMessages answer }
     ensures bytes { (asked : Result Asked FaultAt) (log new : Log) → AnsweredBy asked log answer new →
         SendsReply (λ reply. ReplyTo asked log reply new × IsReplyOf answer reply) result
@@ -85,7 +85,7 @@ fn send_answer<W: Output, X: Executor>(
 
 // Sends a reply.
 fn send_reply<W: Output>(writer: &mut W, outbox: &mut Outbox, reply: &Reply) -> Result<(), Fault>
-    requires failures { W.failures writer.old < 18446744073709551615 }
+    requires failures { CanFail (W.failures writer.old) }
     requires short { FitMessages reply.now.payloads }
     ensures bytes { Sends result (W.contents writer.old) (W.contents writer.new)
         outbox.old outbox.new (answer_bytes reply.now) }
@@ -104,7 +104,7 @@ fn send_payload<W: Output>(
     outbox: &mut Outbox,
     payload: &Payload,
 ) -> Result<(), Fault>
-    requires failures { W.failures writer.old < 18446744073709551615 }
+    requires failures { CanFail (W.failures writer.old) }
     ensures bytes { Sends result (W.contents writer.old) (W.contents writer.new)
         outbox.old outbox.new (spelling (Message payload.now)) }
     ensures counted { CountsFailure result (W.failures writer.old) (W.failures writer.new) }
@@ -126,7 +126,7 @@ fn send_fetch<W: Output, X: Executor>(
     outbox: &mut Outbox,
     stream: FetchStream,
 ) -> Result<(), Fault>
-    requires failures { W.failures writer.old < 18446744073709551615 }
+    requires failures { CanFail (W.failures writer.old) }
     ensures bytes { (database : Database) (handle : HandleAt) → Opens database handle (Ok stream) →
         SendsReply (λ reply. FetchAt database handle reply.payloads reply.fault) result
         (W.contents writer.old) (W.contents writer.new) outbox.old outbox.new }
@@ -160,7 +160,7 @@ impl<'w, 'o, W: Output> ReadsPayloads for Sending<'w, 'o, W> {
     ghost use Rattle.std.specs.Prelude.{◌≡◌, ◌<◌};
     ghost use Rattle.flight_calls.specs.Answered.{SendsStream};
 
-    ghost takes = { λ s. W.failures s.writer.now < 18446744073709551615 };
+    ghost takes = { λ s. CanFail (W.failures s.writer.now) };
 
     ghost reads = { λ old stream result new.
         (new.writer.ghost_name ≡ old.writer.ghost_name) × (new.outbox.ghost_name ≡ old.outbox.ghost_name)
@@ -180,7 +180,7 @@ fn send_stream<W: Output, P: Payloads>(
     outbox: &mut Outbox,
     payloads: &mut P,
 ) -> Result<(), Fault>
-    requires failures { W.failures writer.old < 18446744073709551615 }
+    requires failures { CanFail (W.failures writer.old) }
     ensures bytes { (database : Database) (handle : HandleAt) → Opens database handle (Ok (P.stream payloads.old)) →
         SendsReply (λ reply. FetchAt database handle reply.payloads reply.fault) result
         (W.contents writer.old) (W.contents writer.new) outbox.old outbox.new }
@@ -208,7 +208,7 @@ pub fn write_last_status<W: Output>(
     outbox: &mut Outbox,
     fault: Fault,
 ) -> Result<(), Fault>
-    requires failures { W.failures writer.old < 18446744073709551615 }
+    requires failures { CanFail (W.failures writer.old) }
     requires empty { outbox.old ≡ [] }
     ensures bytes { Writes result (W.contents writer.old) (W.contents writer.new) (last_status fault) }
     ensures counted { CountsFailure result (W.failures writer.old) (W.failures writer.new) }

@@ -2,6 +2,7 @@
 
 ghost use Rattle.std.specs.Prelude.{◌≡◌, ◌≢◌, ◌<◌, ℕ, List, Ok, None, IfOk, OnSome, MatchOption};
 ghost use Rattle.std.specs.Io.KnownBytes.{Consumes, IsAtEnd};
+ghost use Rattle.grpc_frame.specs.Ends.{CanFail};
 ghost use Rattle.grpc_frame.specs.declared.place.Place.TheVariants.{BetweenCalls, InsideCall};
 ghost use Rattle.grpc_frame.specs.declared.record.Record.TheVariants.{Open, Message};
 ghost use Rattle.grpc_frame.specs.Arrivals.{CountsTransport, work_left};
@@ -36,7 +37,7 @@ pub fn read_call<R: Input>(
     inbox: &mut Inbox,
     input: &mut R,
 ) -> Result<Arrival, Fault>
-    requires failures { R.failures input.old < 18446744073709551615 }
+    requires failures { CanFail (R.failures input.old) }
     requires between { inbox.old.place ≡ BetweenCalls }
     ensures arrives { (came : List ℕ)
         × Consumes (R.remaining input.old) (R.remaining input.new) came
@@ -69,7 +70,7 @@ fn read_request<R: Input>(
     inbox: &mut Inbox,
     input: &mut R,
 ) -> Result<Option<Request>, Fault>
-    requires failures { R.failures input.old < 18446744073709551615 }
+    requires failures { CanFail (R.failures input.old) }
     requires inside { inbox.old.place ≡ InsideCall }
     ensures arrives { (came : List ℕ)
         × Consumes (R.remaining input.old) (R.remaining input.new) came

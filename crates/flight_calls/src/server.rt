@@ -1,6 +1,7 @@
 //! Serving a connection.
 
-ghost use Rattle.std.specs.Prelude.{◌≡◌, ◌<◌, []};
+ghost use Rattle.std.specs.Prelude.{◌≡◌, []};
+ghost use Rattle.grpc_frame.specs.Ends.{CanFail};
 ghost use Rattle.flight_calls.specs.Seats.{Seat, seat_of, alone};
 ghost use Rattle.flight_calls.specs.Owed.{Serves, connection_of};
 ghost use Rattle.flight_calls.specs.Ending.{RefusesBy};
@@ -35,8 +36,8 @@ pub fn serve<R: Input, W: Output, B: Backend, X: Executor>(
     writer: &mut W,
     backend: &mut B,
 ) -> Result<(), Fault>
-    requires reads { R.failures reader.old < 18446744073709551615 }
-    requires writes { W.failures writer.old < 18446744073709551615 }
+    requires reads { CanFail (R.failures reader.old) }
+    requires writes { CanFail (W.failures writer.old) }
     ensures { Serves B.moves setting.now.options result
         (connection_of (R.remaining reader.old) (W.contents writer.old)
         (R.failures reader.old) (W.failures writer.old) (B.seat backend.old))
@@ -71,8 +72,8 @@ pub fn serve_alone<R: Input, W: Output, X: Executor>(
     reader: &mut R,
     writer: &mut W,
 ) -> Result<(), Fault>
-    requires reads { R.failures reader.old < 18446744073709551615 }
-    requires writes { W.failures writer.old < 18446744073709551615 }
+    requires reads { CanFail (R.failures reader.old) }
+    requires writes { CanFail (W.failures writer.old) }
     ensures { (seat : Seat) × Serves alone setting.now.options result
         (connection_of (R.remaining reader.old) (W.contents writer.old)
         (R.failures reader.old) (W.failures writer.old) (seat_of [] 0))
@@ -87,7 +88,7 @@ pub fn serve_alone<R: Input, W: Output, X: Executor>(
 
 // Says why the connection ends, where its transport has not failed.
 fn refuse<W: Output>(writer: &mut W, outbox: &mut Outbox, fault: Fault) -> Result<(), Fault>
-    requires failures { W.failures writer.old < 18446744073709551615 }
+    requires failures { CanFail (W.failures writer.old) }
     requires empty { outbox.old ≡ [] }
     ensures { RefusesBy fault result (W.contents writer.old) (W.contents writer.new)
         (W.failures writer.old) (W.failures writer.new) }

@@ -99,8 +99,13 @@ fn step_fetch<X: Executor>(
 /// fetch shows before any memory is taken is never answered by want of it. Each payload has at most 16,777,216 bytes.
 /// The payloads of a fetch are made by the executor.
 pub fn step<X: Executor>(alloc: Global, executor: &X, plain: &mut Plain, event: &Event) -> Reply
+    // The reply is one that the event may get at the log, and the log goes on as the event says.
     ensures step { StepOn plain.old (asked_in event.now) result plain.new }
+
+    // Where a fetch shows a fault before any memory is taken, it is the reply's.
     ensures shown { AsShown plain.old (asked_in event.now) result.fault }
+
+    // A log of accepted puts stays one, and each payload fits a Message.
     ensures puts { ArePuts plain.old → ArePuts plain.new }
     ensures fits { FitMessages result.payloads }
 {
@@ -128,10 +133,10 @@ pub fn step<X: Executor>(alloc: Global, executor: &X, plain: &mut Plain, event: 
 }
 
 /// The replies to a list of events, from the empty log on: one for each. The log that they leave holds accepted puts
-/// alone, and every version of it has tables alone. What is refused changes nothing. If every endpoint of an info was fetched to its end, the rows
-/// that the fetches say, joined in the order of the endpoints, are those that the query means on the tables as they
-/// stood when the info was given. They are these whatever the seed is, with which hashes of values begin, and whoever
-/// makes the payloads of a fetch.
+/// alone, and every version of it has tables alone. What is refused changes nothing. If every endpoint of an info was
+/// fetched to its end, the rows that the fetches say, joined in the order of the endpoints, are those that the query
+/// means on the tables as they stood when the info was given. They are these whatever the seed is, with which hashes of
+/// values begin, and whoever makes the payloads of a fetch.
 ///
 /// # Errors
 ///
@@ -142,9 +147,14 @@ pub fn run<X: Executor>(
     seed: HashSeed,
     events: &[Event],
 ) -> Result<Vec<Reply>, Fault>
+    // Each event got one reply, and the log that they leave holds accepted puts alone. What was refused left nothing.
     ensures ok { IfOk result (λ replies. (log : Log) × Run [] (map asked_in events.now) replies.items log
         × IsLog log × HasDatabases (puts_of log) × RefusedLeaveNothing (map asked_in events.now) replies.items log) }
+
+    // Streams of all endpoints of an info, joined, are the rows that were wanted.
     ensures headline { IfOk result (λ replies. Headline (map asked_in events.now) replies.items) }
+
+    // There are no replies only for want of memory.
     ensures err { IfErr result (λ fault. fault ≡ OutOfMemory) }
 {
     let mut plain = Plain::new(alloc, seed)?;

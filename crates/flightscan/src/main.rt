@@ -2,7 +2,7 @@
 //! sockets and the random bytes of the system.
 #![tactic(auto)]
 
-ghost use Rattle.std.specs.Prelude.{◌<◌};
+ghost use Rattle.grpc_frame.specs.Ends.{CanFail};
 ghost use Rattle.commands.specs.Words.{HasSeats};
 
 use client_calls::Target;
@@ -41,9 +41,9 @@ where
     R: Net<Listener = TcpListener, Stream = TcpStream>,
     R: RandomSource + AllocGlobal + Threads + Wait + Clock + Sync,
     requires seats { HasSeats request }
-    requires reads { I.failures input.old < 18446744073709551615 }
-    requires writes { W.failures output.old < 18446744073709551615 }
-    requires prints { E.failures faults.old < 18446744073709551615 }
+    requires reads { CanFail (I.failures input.old) }
+    requires writes { CanFail (W.failures output.old) }
+    requires prints { CanFail (E.failures faults.old) }
 {
     let Ok(seed) = HashSeed::new(rt) else {
         return end_by_fault(faults, Fault::Transport);
@@ -79,9 +79,9 @@ where
     R: Net<Listener = TcpListener, Stream = TcpStream>,
     R: RandomSource + AllocGlobal + Threads + Wait + Clock + Sync,
     requires seats { HasSeats request }
-    requires reads { I.failures input.old < 18446744073709551615 }
-    requires writes { W.failures output.old < 18446744073709551615 }
-    requires prints { E.failures faults.old < 18446744073709551615 }
+    requires reads { CanFail (I.failures input.old) }
+    requires writes { CanFail (W.failures output.old) }
+    requires prints { CanFail (E.failures faults.old) }
 {
     let mut network = Loopback::new(rt);
     match request {

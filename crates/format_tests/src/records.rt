@@ -1,6 +1,7 @@
 //! Ends that fail: system calls that are interrupted or refused, writes that fail, and the longest records.
 
-ghost use Rattle.std.specs.Prelude.{◌≡◌, ◌<◌, ◌≤◌, IfOk, length};
+ghost use Rattle.std.specs.Prelude.{◌≡◌, ◌≤◌, IfOk, length};
+ghost use Rattle.grpc_frame.specs.Ends.{CanFail};
 
 use grpc_frame::{
     Counted, Inbox, Input, MAX_MESSAGE_LEN, MAX_PATH_LEN, MemoryInput, MemoryOutput, Outbox,
@@ -79,7 +80,7 @@ static READS: [Case; 4] = [
 
 // Three reads of one byte each, up to one that fails.
 fn read_three<R: Input>(input: &mut R) -> Result<(), Fault>
-    requires { R.failures input.old < 18446744073709551615 }
+    requires { CanFail (R.failures input.old) }
 {
     for _ in 0..3 {
         input.read(&mut [0u8; 8])?;
@@ -120,7 +121,7 @@ fn writes(rt: HostRuntime) {
 
 // A call of one message, of which each record is a write.
 fn write_call<W: Output>(alloc: Global, out: &mut W) -> Result<(), Fault>
-    requires { W.failures out.old < 18446744073709551615 }
+    requires { CanFail (W.failures out.old) }
 {
     let mut outbox = Outbox::new(alloc);
     outbox.send_parts(out, b"\x01\x00\x02", b"/x")?;

@@ -11,10 +11,11 @@ use Rattle.grpc_frame.specs.declared.place.Place.TheVariants.{BetweenCalls, Insi
 use Rattle.grpc_frame.specs.declared.record.Record.{Record}
 use Rattle.grpc_frame.specs.declared.record.Record.TheVariants.{Open, Message, End, Status}
 
--- what stands before the content of a Message and of a Status of so many bytes
+-- what stands before the content of a Message of so many bytes
 abbrev pub message_head : ℕ → List ℕ
 message_head len = 2 ∷ 0 ∷ to_be_bytes w32 len
 
+-- what stands before the text of a Status of this code and so many bytes
 abbrev pub status_head : ℕ → ℕ → List ℕ
 status_head code len = 4 ∷ code ∷ to_be_bytes w16 len
 

@@ -2,6 +2,7 @@
 
 ghost use Rattle.std.specs.Prelude.{◌≡◌, ◌<◌, ℕ, List, Ok, None, IfOk, OnSome};
 ghost use Rattle.std.specs.Io.KnownBytes.{Consumes, IsAtEnd};
+ghost use Rattle.grpc_frame.specs.Ends.{CanFail};
 ghost use Rattle.grpc_frame.specs.Arrivals.{Arrives, CountsTransport, work_left};
 
 use crate::ends::Input;
@@ -19,7 +20,7 @@ impl Inbox {
     /// - `Fault::Transport` where a read failed. It is counted.
     /// - `Fault::OutOfMemory` where memory is refused.
     pub fn next_from<R: Input>(&mut self, input: &mut R) -> Result<Option<Record>, Fault>
-        requires { R.failures input.old < 18446744073709551615 }
+        requires { CanFail (R.failures input.old) }
         ensures arrives { (came : List ℕ)
             × Consumes (R.remaining input.old) (R.remaining input.new) came
             × Arrives result self.old self.new came }

@@ -2,7 +2,7 @@
 
 ghost use Rattle.std.specs.Prelude.{◌≡◌, ◌<◌, ◌≤◌, ◌++◌, [], ℕ, List, Ok, drop, take, length, IfOk, OnOk, OnErr};
 ghost use Rattle.std.specs.Io.KnownBytes.{Consumes, IsAtEnd};
-ghost use Rattle.grpc_frame.specs.Ends.{CountsFailure, FailsByTransport, TakesTurn};
+ghost use Rattle.grpc_frame.specs.Ends.{CanFail, CountsFailure, FailsByTransport, TakesTurn};
 ghost use Rattle.grpc_frame.specs.inside.Reads.{ReadsIn};
 
 use crate::ends::Input;
@@ -169,7 +169,7 @@ impl Block {
     ///
     /// `Fault::Transport` where the read failed. It is counted, and the bytes stay.
     pub fn read_from<R: Input>(&mut self, input: &mut R, most: usize) -> Result<usize, Fault>
-        requires { R.failures input.old < 18446744073709551615 }
+        requires { CanFail (R.failures input.old) }
         ensures came { (came : List ℕ)
             × Consumes (R.remaining input.old) (R.remaining input.new) came
             × ReadsIn result self.old.items self.new.items came }

@@ -1,9 +1,9 @@
 //! The ends of a connection: what a server or a client reads from and writes to.
 
-ghost use Rattle.std.specs.Prelude.{◌≡◌, ◌<◌, ℕ, List, None, Option};
+ghost use Rattle.std.specs.Prelude.{◌≡◌, ℕ, List, None, Option};
 ghost use Rattle.std.specs.Io.{ReadsAtMost};
 ghost use Rattle.std.specs.Io.KnownBytes.{ReadConsumes};
-ghost use Rattle.grpc_frame.specs.Ends.{CountsFailure, FailsByTransport, TakesTurn, Writes};
+ghost use Rattle.grpc_frame.specs.Ends.{CanFail, CountsFailure, FailsByTransport, TakesTurn, Writes};
 
 use scan_base::Fault;
 
@@ -24,7 +24,7 @@ pub trait Input {
     ///
     /// `Fault::Transport` where the read failed. It is counted, and no byte is lost.
     fn read(&mut self, piece: &mut [u8]) -> Result<usize, Fault>
-        requires { failures self.old < 18446744073709551615 }
+        requires { CanFail (failures self.old) }
         ensures bound { ReadsAtMost result piece.new }
         ensures bytes { ReadConsumes (remaining self.old) (remaining self.new) result piece.new }
         ensures counted { CountsFailure result (failures self.old) (failures self.new) }
@@ -51,7 +51,7 @@ pub trait Output {
     /// `Fault::Transport` where the write failed. It is counted, and a beginning of `piece` is
     /// written.
     fn write(&mut self, piece: &[u8]) -> Result<(), Fault>
-        requires { failures self.old < 18446744073709551615 }
+        requires { CanFail (failures self.old) }
         ensures bytes { Writes result (contents self.old) (contents self.new) piece.now }
         ensures counted { CountsFailure result (failures self.old) (failures self.new) }
         ensures kind { FailsByTransport result };

@@ -2,6 +2,7 @@
 
 ghost use Rattle.std.specs.Prelude.{◌≡◌, ◌++◌, ◌↔◌, ◌<◌, [], ℕ, List, Ok, OnOk, OnErr, IfOk, IfErr, IsTrue, MatchOption, length};
 ghost use Rattle.std.specs.Io.KnownBytes.{Consumes, IsAtEnd};
+ghost use Rattle.grpc_frame.specs.Ends.{CanFail};
 ghost use Rattle.scan_base.specs.declared.fault.Fault.TheVariants.{OutOfMemory};
 ghost use Rattle.grpc_frame.specs.declared.place.Place.TheVariants.{BetweenCalls, InAnswer};
 ghost use Rattle.grpc_frame.specs.Head.{AreBytes};
@@ -98,7 +99,10 @@ impl Inbox {
     ///
     /// Nothing has changed then, so the first two are answered from then on, whatever is fed.
     pub fn next(&mut self) -> Result<Option<Record>, Fault>
+        // By the function that reads a connection: the record in front is taken, or nothing changes.
         ensures front { TakesFront result self.old self.new }
+
+        // The same in the words of the profile, in which no order of reading is.
         ensures profile { KeepsProfile result self.old self.new }
     {
         self.take_front()
@@ -136,7 +140,7 @@ impl Inbox {
     /// `Fault::Transport` where the read failed. It is counted. `Fault::OutOfMemory` where memory for the piece is
     /// refused: nothing is read then.
     pub(crate) fn take_in<R: Input>(&mut self, input: &mut R) -> Result<usize, Fault>
-        requires { R.failures input.old < 18446744073709551615 }
+        requires { CanFail (R.failures input.old) }
         ensures came { (came : List ℕ)
             × Consumes (R.remaining input.old) (R.remaining input.new) came
             × TakesIn result self.old self.new came }

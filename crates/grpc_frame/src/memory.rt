@@ -3,7 +3,7 @@
 ghost use Rattle.std.specs.Prelude.{◌≡◌, ◌<◌, ◌≤◌, [], None, Some, true, false, OnOk, IfOk, OnErr};
 ghost use Rattle.std.specs.Io.{ReadsAtMost};
 ghost use Rattle.std.specs.Io.KnownBytes.{ReadConsumes};
-ghost use Rattle.grpc_frame.specs.Ends.{CountsFailure, FailsByTransport, TakesTurn};
+ghost use Rattle.grpc_frame.specs.Ends.{CanFail, CountsFailure, FailsByTransport, TakesTurn};
 ghost use Rattle.grpc_frame.specs.Ends.{AppendsBeginning, Writes};
 ghost use Rattle.grpc_frame.specs.Memory.{fails_now, plan_after};
 
@@ -93,7 +93,7 @@ impl Input for MemoryInput<'_> {
     ghost turns = { λ s. length s.bytes };
 
     fn read(&mut self, piece: &mut [u8]) -> Result<usize, Fault>
-        requires { self.old.failures < 18446744073709551615 }
+        requires { CanFail (self.old.failures) }
         ensures bound { ReadsAtMost result piece.new }
         ensures bytes { ReadConsumes (Some self.old.bytes) (Some self.new.bytes) result piece.new }
         ensures counted { CountsFailure result self.old.failures self.new.failures }
@@ -174,7 +174,7 @@ impl Output for MemoryOutput {
     ghost failures = { λ s. s.failures };
 
     fn write(&mut self, piece: &[u8]) -> Result<(), Fault>
-        requires { self.old.failures < 18446744073709551615 }
+        requires { CanFail (self.old.failures) }
         ensures bytes { Writes result (Some self.old.bytes) (Some self.new.bytes) piece.now }
         ensures counted { CountsFailure result self.old.failures self.new.failures }
         ensures kind { FailsByTransport result }

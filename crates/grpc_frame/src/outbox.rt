@@ -1,11 +1,11 @@
 //! Records on their way to an output.
 
-ghost use Rattle.std.specs.Prelude.{◌≡◌, ◌++◌, ◌<◌, ◌≤◌, [], length, true, false};
+ghost use Rattle.std.specs.Prelude.{◌≡◌, ◌++◌, ◌≤◌, [], length, true, false};
 ghost use Rattle.scan_base.specs.Limits.{most_message_bytes};
 ghost use Rattle.grpc_frame.specs.declared.record.Record.TheVariants.{Message};
 ghost use Rattle.grpc_frame.specs.Records.{spelling, message_head, IsRecord};
 ghost use Rattle.grpc_frame.specs.Calls.{status_of};
-ghost use Rattle.grpc_frame.specs.Ends.{CountsFailure, FailsByTransport, Writes};
+ghost use Rattle.grpc_frame.specs.Ends.{CanFail, CountsFailure, FailsByTransport, Writes};
 ghost use Rattle.grpc_frame.specs.Sending.{Sends};
 
 use crate::ends::Output;
@@ -59,7 +59,7 @@ impl Outbox {
     ///
     /// `Fault::Transport` where a write failed. It is counted.
     pub fn send_message<W: Output>(&mut self, writer: &mut W, message: &[u8]) -> Result<(), Fault>
-        requires failures { W.failures writer.old < 18446744073709551615 }
+        requires failures { CanFail (W.failures writer.old) }
         requires short { length message.now ≤ most_message_bytes }
         ensures bytes { Sends result (W.contents writer.old) (W.contents writer.new)
             self.old self.new (spelling (Message message.now)) }
@@ -75,7 +75,7 @@ impl Outbox {
     ///
     /// `Fault::Transport` where a write failed. It is counted.
     pub fn send_message_head<W: Output>(&mut self, writer: &mut W, len: usize) -> Result<(), Fault>
-        requires failures { W.failures writer.old < 18446744073709551615 }
+        requires failures { CanFail (W.failures writer.old) }
         requires short { len ≤ most_message_bytes }
         ensures bytes { Sends result (W.contents writer.old) (W.contents writer.new)
             self.old self.new (message_head len) }
@@ -95,7 +95,7 @@ impl Outbox {
         writer: &mut W,
         fault: Option<Fault>,
     ) -> Result<(), Fault>
-        requires { W.failures writer.old < 18446744073709551615 }
+        requires { CanFail (W.failures writer.old) }
         ensures bytes { Sends result (W.contents writer.old) (W.contents writer.new)
             self.old self.new (spelling (status_of fault)) }
         ensures record { IsRecord (status_of fault) }
@@ -122,7 +122,7 @@ impl Outbox {
         first: &[u8],
         second: &[u8],
     ) -> Result<(), Fault>
-        requires { W.failures writer.old < 18446744073709551615 }
+        requires { CanFail (W.failures writer.old) }
         ensures bytes { Sends result (W.contents writer.old) (W.contents writer.new)
             self.old self.new (first.now ++ second.now) }
         ensures counted { CountsFailure result (W.failures writer.old) (W.failures writer.new) }
@@ -140,7 +140,7 @@ impl Outbox {
     /// `Fault::Transport` where a write failed. It is counted.
     #[tactic(auto, using(crate::proofs::Sending::sending))]
     pub fn send_part<W: Output>(&mut self, writer: &mut W, part: &[u8]) -> Result<(), Fault>
-        requires { W.failures writer.old < 18446744073709551615 }
+        requires { CanFail (W.failures writer.old) }
         ensures bytes { Sends result (W.contents writer.old) (W.contents writer.new)
             self.old self.new part.now }
         ensures counted { CountsFailure result (W.failures writer.old) (W.failures writer.new) }
@@ -162,7 +162,7 @@ impl Outbox {
     ///
     /// `Fault::Transport` where the write failed. It is counted.
     pub fn flush<W: Output>(&mut self, writer: &mut W) -> Result<(), Fault>
-        requires { W.failures writer.old < 18446744073709551615 }
+        requires { CanFail (W.failures writer.old) }
         ensures bytes { Writes result (W.contents writer.old) (W.contents writer.new) self.old }
         ensures empty { self.new ≡ [] }
         ensures counted { CountsFailure result (W.failures writer.old) (W.failures writer.new) }

@@ -4,12 +4,11 @@ use Rattle.std.specs.List.{filter, flat_map, range_with_len}
 use Rattle.std.proofs.Math.ListN.{drop_of_length-le}
 use Rattle.std.proofs.lemmas.Bool.{eq-eqb}
 use Rattle.std.proofs.lemmas.Bool.Decides.{eqb_tells}
-use Rattle.hash_join.specs.declared.build.Probe.{Probe}
 use Rattle.hash_join.specs.declared.pair.Pair.{Pair}
 use Rattle.hash_join.specs.declared.search.Search.{Search}
 use Rattle.hash_join.specs.Pairs.{pairs_of}
 use Rattle.hash_join.specs.Walks.{joins_at, pair_at, pairs_past, IsWalk}
-use Rattle.hash_join.specs.Searches.{build_of, ahead_of, walk_at, IsSearch, Passes, Searches}
+use Rattle.hash_join.specs.Searches.{build_of, ahead_of, probe_at, walk_at, IsSearch, Searches}
 
 module _ (pairs : ℕ → ℕ → List Pair) where
   -- rows after the left one look from the first right row on
@@ -39,10 +38,6 @@ module _ (pairs : ℕ → ℕ → List Pair) where
       rw (e, here) (ap (λ rest. pairs left from ++ rest)
       (later (rows - (left + 1)) (left + 1) left from (omega arith) ∙ sym (anew (rows - (left + 1)) (left + 1) (left + 1))))
 
--- a place that is looked from
-abbrev pub probe_at : ℕ → ℕ → Probe
-probe_at left from = record { left = left; from = from }
-
 module _ (search : Search) (is : IsSearch search) where
   -- a left row can walk
   pub can_walk : (row : ℕ) → row < search.left.batch.now.rows → IsWalk (walk_at search row)
@@ -69,15 +64,22 @@ module _ (search : Search) (is : IsSearch search) where
   none_ahead row from h = let e : search.left.batch.now.rows - row ≡ 0 = omega arith in rw e refl
 
   -- rows that join nothing leave what is ahead as it is
-  pub passed_over : (passes : ℕ → Bool) → Passes search passes → (n row : ℕ) → row + n ≤ search.left.batch.now.rows →
-      ((other : ℕ) → row ≤ other → other < row + n → passes other ≡ false) → ahead_of search (probe_at row 0) ≡ ahead_of search (probe_at (row + n) 0)
-  passed_over passes sound zero row le none = let e : row + zero ≡ row = omega arith in rw e refl
-  passed_over passes sound (suc n) row le none =
-      let nothing : pairs_past (walk_at search row) 0 ≡ [] = sound row 0 (omega (arith, le)) (none row (omega arith) (omega arith)) in
+  passed_over : (n row : ℕ) → row + n ≤ search.left.batch.now.rows → ((other : ℕ) → row ≤ other → other < row + n → pairs_past (walk_at search other) 0 ≡ []) →
+      ahead_of search (probe_at row 0) ≡ ahead_of search (probe_at (row + n) 0)
+  passed_over zero row le none = let e : row + zero ≡ row = omega arith in rw e refl
+  passed_over (suc n) row le none =
+      let nothing : pairs_past (walk_at search row) 0 ≡ [] = none row (omega arith) (omega arith) in
       let e : row + 1 + n ≡ row + suc n = omega arith in
       ahead_first row 0 (omega (arith, le)) ∙ ap (λ first. first ++ ahead_of search (probe_at (row + 1) 0)) nothing
-      ∙ passed_over passes sound n (row + 1) (omega (arith, le)) (λ other h l. none other (omega (arith, h)) (omega (arith, l)))
+      ∙ passed_over n (row + 1) (omega (arith, le)) (λ other h l. none other (omega (arith, h)) (omega (arith, l)))
       ∙ ap (λ next. ahead_of search (probe_at next 0)) e
+
+  pub skipped : (row next : ℕ) → row ≤ next → next ≤ search.left.batch.now.rows → ((other : ℕ) → row ≤ other → other < next → pairs_past (walk_at search other) 0 ≡ []) →
+      ahead_of search (probe_at row 0) ≡ ahead_of search (probe_at next 0)
+  skipped row next le within none =
+      let e : row + (next - row) ≡ next = omega (arith, le) in
+      passed_over (next - row) row (omega (arith, e, within)) (λ other h l. none other h (omega (arith, l, e)))
+      ∙ ap (λ at. ahead_of search (probe_at at 0)) e
 
   module _ (row from stop most : ℕ) (made more whole : List Pair) (h : row < search.left.batch.now.rows)
       (had : Searches search (probe_at row from) made whole most)

@@ -1,7 +1,8 @@
 -- Left rows whose number is no right key join nothing; the others join each row of their chain.
-use Rattle.std.proofs.Common.{◌≡◌, ◌≤◌, ◌<◌, ◌+◌, ◌-ℤ◌, ◌^◌, ◌&&◌, ℕ, ℤ, pos, negsuc, FitsSigned, Bool, true, false, if◌then◌else◌, List, [], ◌∷◌, length, get_or, unwrap_or, Option, Some, None, refl, sym, ap, ◌∙◌, arith, inl, inr, subst, nat_lt, ◌*◌, ◌/◌, ◌%◌}
+use Rattle.std.proofs.Common.{◌≡◌, ◌≤◌, ◌<◌, ◌+◌, ◌-ℤ◌, ◌^◌, ◌&&◌, ℕ, ℤ, pos, negsuc, FitsSigned, Bool, true, false, if◌then◌else◌, List, [], ◌∷◌, length, get_or, unwrap_or, Option, Some, None, refl, sym, ap, ◌∙◌, arith, inl, inr, subst, nat_lt, bit_and, ◌/◌}
 use Rattle.std.specs.Int.{w64, w128, cast_unsigned, FitsUnsigned}
 use Rattle.std.specs.List.{list_any}
+use Rattle.std.specs.Option.{option_map}
 use Rattle.std.specs.Ordering.{is_eq}
 use Rattle.std.specs.Cmp.{int_cmp_is}
 use Rattle.std.specs.declared.cmp.Ordering.TheVariants.{Equal as Same}
@@ -33,16 +34,17 @@ use Rattle.hash_join.specs.declared.product.Product.{Product}
 use Rattle.hash_join.specs.Looks.{ranks_told}
 use Rattle.hash_join.specs.Pairs.{keys_join}
 use Rattle.hash_join.specs.Ranks.{rank_at}
-use Rattle.hash_join.specs.Hashes.{number_of, place_among, is_key, own_bucket, bucket_among, ranked_bucket, bucket_of, last_of, index_among, product_at, product_bucket, product_sum}
+use Rattle.hash_join.specs.Hashes.{hash_of, number_of, place_among, is_key, own_bucket, bucket_among, ranked_bucket, bucket_of, last_of, index_among, product_at, product_of, product_bucket, product_sum}
 use Rattle.hash_join.specs.KeyRows.{key_of}
-use Rattle.hash_join.specs.Walks.{pairs_past, bucket_left}
+use Rattle.hash_join.specs.Chains.{stands, Leads}
+use Rattle.hash_join.specs.Walks.{in_chain, pairs_past, bucket_left}
 use Rattle.hash_join.specs.Rights.{key_at, bucket_at}
 use Rattle.hash_join.proofs.EqualKeys.{standing}
-use Rattle.hash_join.specs.Searches.{walk_at, AreKeysOf, HasBucket, IsSearch, IsTold, TellsNumbers}
+use Rattle.hash_join.specs.Searches.{first_right, head_of, walk_at, AreKeysOf, HasBucket, IsHead, IsSearch, IsTold, TellsNumbers}
 use Rattle.hash_join.proofs.Cells.{part_at}
 use Rattle.hash_join.proofs.Searching.{can_walk}
 use Rattle.hash_join.proofs.Ranking.{bit_there, rank_tells, rank_within}
-use Rattle.hash_join.proofs.Walking.{none_joins, none_led, past_all}
+use Rattle.hash_join.proofs.Walking.{head_leads, none_joins, none_led, past_all}
 
 -- a number that is no place of the machine's is none of so few
 pub no_index : (index : ℤ) (count : ℕ) → count < 2 ^ 64 → (FitsUnsigned w64 index → ⊥) → count ≡ index_among index count
@@ -149,7 +151,50 @@ null_bucket (parted.Hashed hashing) = refl
 null_bucket (parted.Multiplied product) = refl
 null_bucket (parted.Ranked ranks) = refl
 
+-- each bucket is there
+bucket_within : (buckets : Buckets) (key : List Value) (bucket : ℕ) → bucket_of buckets key ≡ Some bucket → bucket ≤ last_of buckets
+bucket_within (parted.Hashed hashing) key bucket e = by (hash_of hashing.begun key) e
+  where
+    by : (found : Option ℕ) → option_map (λ hash. bit_and hash hashing.mask) found ≡ Some bucket → bucket ≤ hashing.mask
+    by None e = cc
+    by (Some hash) e = let same : bit_and hash hashing.mask ≡ bucket = some_is e in omega (arith, same, and_le_r hash hashing.mask)
+bucket_within (parted.Multiplied product) key bucket e = by (list_any is_null key) (number_of key) e
+  where
+    by : (null : Bool) (found : Option ℤ) → (if null then None else Some (product_of product found)) ≡ Some bucket → bucket ≤ product.mask
+    by true found e = cc
+    by false None e = let same : 0 ≡ bucket = some_is e in omega (arith, same)
+    by false (Some number) e =
+        let same : product_at product number ≡ bucket = some_is e in
+        omega (arith, same, and_le_r (product_sum product (cast_unsigned w128 number) / 2 ^ product.shift) product.mask)
+bucket_within (parted.Ranked ranks) key bucket e = by (list_any is_null key) (number_of key) e
+  where
+    own : (number : ℤ) (found : Option ℕ) → own_bucket ranks number ≡ found → unwrap_or found ranks.last ≡ bucket → bucket ≤ ranks.last
+    own number None is same = omega (arith, same)
+    own number (Some told) is same = omega (arith, own_within ranks number told is, same)
+
+    by : (null : Bool) (found : Option ℤ) → (if null then None else Some (bucket_among ranks found)) ≡ Some bucket → bucket ≤ ranks.last
+    by true found e = cc
+    by false None e = let same : ranks.last ≡ bucket = some_is e in omega (arith, same)
+    by false (Some number) e = own number (own_bucket ranks number) refl (some_is e)
+
 module _ (search : Search) (is : IsSearch search) where
+  -- the first right row of a left row's chain
+  pub first_leads : (row : ℕ) → row < search.left.batch.now.rows → IsHead search false row (first_right search row)
+  first_leads row h = record { leads = by (bucket_left (walk_at search row)) refl; all = λ own_is. cc }
+    where
+      count : ℕ
+      count = length search.rights.now.places.items
+
+      by : (found : Option ℕ) → bucket_left (walk_at search row) ≡ found → Leads (in_chain (walk_at search row)) count 0 (head_of search found)
+      by None e = record {
+        after = omega arith;
+        none = λ right from to. ap (λ (left : Option ℕ). stands left (bucket_at search.rights.now right)) e;
+        there = λ lt. absurd (omega (arith, lt));
+      }
+      by (Some bucket) e =
+          head_leads (walk_at search row) (can_walk search is row h) bucket e
+          (bucket_within search.rights.now.buckets (key_of (walk_at search row).left) bucket e)
+
   -- the last of the ranks' buckets has no right row
   module _ (ranks : Ranks) (parts : search.rights.now.buckets ≡ parted.Ranked ranks)
       (empty : length search.rights.now.places.items ≤ get_or search.chains.now.heads.items ranks.last 0) where
@@ -193,8 +238,24 @@ module _ (search : Search) (is : IsSearch search) where
             (ap (λ (b : Bool). if b then Some (rank_at ranks.keys (place_among ranks.span number)) else None) one)
         by false one = tt
 
-    pub ranks_tell : TellsNumbers search (is_key ranks) (ranks_told ranks)
-    ranks_tell = record { sound = other_row; holds = λ row number h key. told_row row number key }
+    -- the head of the chain of a row whose key is a right key
+    own_head : (row : ℕ) (number : ℤ) → row < search.left.batch.now.rows → key_of (walk_at search row).left ≡ Int number ∷ [] → is_key ranks number ≡ true →
+        IsHead search true row (get_or search.chains.now.heads.items (bucket_among ranks (Some number)) 0)
+    own_head row number h key one =
+        let rank = rank_at ranks.keys (place_among ranks.span number) in
+        let e : own_bucket ranks number ≡ Some rank = ap (λ (b : Bool). if b then Some rank else None) one in
+        let told = own_row row number rank key e in
+        let same : bucket_among ranks (Some number) ≡ rank = ap (λ (b : Option ℕ). unwrap_or b ranks.last) e in
+        subst (λ (bucket : ℕ). IsHead search true row (get_or search.chains.now.heads.items bucket 0)) (sym same)
+        (record { leads = head_leads (walk_at search row) (can_walk search is row h) rank told.0.is told.0.within; all = λ own_is. told.1 })
+
+    pub ranks_tell : (heads : List ℕ) → heads ≡ search.chains.now.heads.items →
+        TellsNumbers search (is_key ranks) (ranks_told ranks) (λ number. get_or heads (bucket_among ranks (Some number)) 0) true
+    ranks_tell heads heads_are = record {
+      sound = other_row;
+      holds = λ row number h key. told_row row number key;
+      heads = λ row number h key one. subst (λ (all : List ℕ). IsHead search true row (get_or all (bucket_among ranks (Some number)) 0)) (sym heads_are) (own_head row number h key one);
+    }
 
   -- the chains of buckets by a product tell of numbers
   module _ (product : Product) (parts : search.rights.now.buckets ≡ parted.Multiplied product) where
@@ -207,6 +268,7 @@ module _ (search : Search) (is : IsSearch search) where
 
     pub products_tell : (heads : List ℕ) (count : ℕ) → heads ≡ search.chains.now.heads.items → count ≡ length search.rights.now.places.items →
         TellsNumbers search (λ number. nat_lt (get_or heads (product_at product number) 0) count) (λ number. known.Shared (product_at product number))
+        (λ number. get_or heads (product_at product number) 0) false
     products_tell heads count heads_are counted = record {
       sound = λ row from number h key empty.
           let has = product_row row number key in
@@ -215,6 +277,10 @@ module _ (search : Search) (is : IsSearch search) where
           let same : get_or heads bucket 0 ≡ get_or search.chains.now.heads.items bucket 0 = ap (λ (all : List ℕ). get_or all bucket 0) heads_are in
           none_led (walk_at search row) (can_walk search is row h) bucket from has.is has.within (omega (arith, none, same, counted));
       holds = λ row number h key. product_row row number key;
+      heads = λ row number h key passes.
+          let has = product_row row number key in
+          subst (λ (all : List ℕ). IsHead search false row (get_or all (product_at product number) 0)) (sym heads_are)
+          (record { leads = head_leads (walk_at search row) (can_walk search is row h) (product_at product number) has.is has.within; all = λ own_is. cc });
     }
 
   module _ (cells : IntegersAt) (first : ℕ) (are : AreKeysOf search cells first) (row : ℕ) (h : row < search.left.batch.now.rows) where
@@ -239,7 +305,7 @@ module _ (search : Search) (is : IsSearch search) where
     number_row : is_valid cells.validity (first + row) ≡ true → key_of (walk_at search row).left ≡ Int (integer_at cells.integer cells.values (first + row)) ∷ []
     number_row valid = key_is ∙ ap (λ (v : Bool). (if v then Int (integer_at cells.integer cells.values (first + row)) else Null) ∷ []) valid
 
-    module _ (passes : ℤ → Bool) (told : ℤ → Told) (tells : TellsNumbers search passes told) where
+    module _ (passes : ℤ → Bool) (told : ℤ → Told) (head : ℤ → ℕ) (own : Bool) (tells : TellsNumbers search passes told head own) where
       -- a row that does not pass joins nothing
       pub row_stopped : (from : ℕ) → (is_valid cells.validity (first + row) && passes (integer_at cells.integer cells.values (first + row))) ≡ false → pairs_past (walk_at search row) from ≡ []
       row_stopped from e = by (is_valid cells.validity (first + row)) refl e
@@ -256,3 +322,13 @@ module _ (search : Search) (is : IsSearch search) where
           by : (valid : Bool) → is_valid cells.validity (first + row) ≡ valid → IsTold search row (if valid then told (integer_at cells.integer cells.values (first + row)) else known.Nothing)
           by true valid = tells.holds row (integer_at cells.integer cells.values (first + row)) h (number_row valid)
           by false null = tt
+
+      -- and so is the head of the chain of a row that passes
+      pub row_head : (is_valid cells.validity (first + row) && passes (integer_at cells.integer cells.values (first + row))) ≡ true →
+          IsHead search own row (head (integer_at cells.integer cells.values (first + row)))
+      row_head e = by (is_valid cells.validity (first + row)) refl e
+        where
+          by : (valid : Bool) → is_valid cells.validity (first + row) ≡ valid → (valid && passes (integer_at cells.integer cells.values (first + row))) ≡ true →
+              IsHead search own row (head (integer_at cells.integer cells.values (first + row)))
+          by true valid bit = tells.heads row (integer_at cells.integer cells.values (first + row)) h (number_row valid) bit
+          by false null bit = cc

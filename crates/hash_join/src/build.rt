@@ -121,6 +121,7 @@ impl Build {
         ensures kept { OnErr result (probe.new ≡ probe.old) }
     {
         let search = Search {
+            alloc,
             rights: &self.rights,
             chains: &self.chains,
             left: *left,

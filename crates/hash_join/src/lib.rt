@@ -10,6 +10,7 @@ mod look;
 mod marks;
 mod numbers;
 pub mod pair;
+mod pieces;
 mod product;
 mod ranks;
 mod rights;

@@ -1,6 +1,6 @@
 //! What one look at the right side tells of a number.
 
-ghost use Rattle.std.specs.Prelude.{◌≡◌, ◌+◌, ℤ, Bool, get_or, length, nat_lt};
+ghost use Rattle.std.specs.Prelude.{◌≡◌, ◌+◌, ℕ, ℤ, Bool, get_or, length, nat_lt};
 ghost use Rattle.hash_join.specs.declared.look.Told.{Told as ToldOf};
 
 use crate::product::Product;
@@ -22,6 +22,10 @@ pub(crate) trait Look {
 
     ghost told: { Self → ℤ → ToldOf };
 
+    ghost head: { Self → ℤ → ℕ };
+
+    ghost own: { Self → Bool };
+
     // Whether a right row may have the number.
     fn passes(&self, number: i128) -> bool
         ensures { result ≡ passes self.now number };
@@ -29,25 +33,54 @@ pub(crate) trait Look {
     // What is known of its bucket.
     fn tell(&self, number: i128) -> Told
         ensures { result ≡ told self.now number };
+
+    // The first row of its bucket's chain.
+    fn head(&self, number: i128) -> u32
+        ensures { result ≡ head self.now number };
+
+    // Whether the right rows of a bucket all have the number, where it passes.
+    fn is_own(&self) -> bool
+        ensures { result ≡ own self.now };
 }
 
-impl Look for Ranks {
-    ghost use Rattle.hash_join.specs.Hashes.{is_key};
+// The chains of buckets by ranks.
+#[derive(Clone, Copy, Drop)]
+pub(crate) struct RankHeads<'a> {
+    pub(crate) ranks: &'a Ranks,
+    pub(crate) heads: &'a [u32],
+    ghost all: { length heads.now ≡ ranks.now.last + 1 },
+}
+
+impl<'a> Look for RankHeads<'a> {
+    ghost use Rattle.std.specs.Prelude.{Some, true};
+    ghost use Rattle.hash_join.specs.Hashes.{bucket_among, is_key};
     ghost use Rattle.hash_join.specs.Looks.{ranks_told};
 
-    ghost passes = { λ ranks number. is_key ranks number };
+    ghost passes = { λ all number. is_key all.ranks.now number };
 
-    ghost told = { λ ranks number. ranks_told ranks number };
+    ghost told = { λ all number. ranks_told all.ranks.now number };
+
+    ghost head = { λ all number. get_or all.heads.now (bucket_among all.ranks.now (Some number)) 0 };
+
+    ghost own = { λ _. true };
 
     fn passes(&self, number: i128) -> bool {
-        self.is_key(number)
+        self.ranks.is_key(number)
     }
 
     fn tell(&self, number: i128) -> Told {
-        match self.own_bucket(number) {
+        match self.ranks.own_bucket(number) {
             None => Told::Nothing,
             Some(bucket) => Told::Own(bucket),
         }
+    }
+
+    fn head(&self, number: i128) -> u32 {
+        self.heads[self.ranks.bucket_among(number)]
+    }
+
+    fn is_own(&self) -> bool {
+        true
     }
 }
 
@@ -61,6 +94,7 @@ pub(crate) struct ProductHeads<'a> {
 }
 
 impl<'a> Look for ProductHeads<'a> {
+    ghost use Rattle.std.specs.Prelude.{false};
     ghost use Rattle.hash_join.specs.declared.look.Told.TheVariants as known;
     ghost use Rattle.hash_join.specs.Hashes.{product_at};
 
@@ -68,12 +102,23 @@ impl<'a> Look for ProductHeads<'a> {
 
     ghost told = { λ all number. known.Shared (product_at all.product number) };
 
+    ghost head = { λ all number. get_or all.heads.now (product_at all.product number) 0 };
+
+    ghost own = { λ _. false };
+
     fn passes(&self, number: i128) -> bool {
-        let head = self.heads[self.product.at(number)];
-        (head as usize) < self.count
+        (self.head(number) as usize) < self.count
     }
 
     fn tell(&self, number: i128) -> Told {
         Told::Shared(self.product.at(number))
+    }
+
+    fn head(&self, number: i128) -> u32 {
+        self.heads[self.product.at(number)]
+    }
+
+    fn is_own(&self) -> bool {
+        false
     }
 }

@@ -73,7 +73,7 @@ impl Ranks {
     }
 
     // The bucket of a number.
-    fn bucket_among(&self, number: i128) -> usize
+    pub(crate) fn bucket_among(&self, number: i128) -> usize
         ensures bucket { result ≡ bucket_among self.now (Some number) }
         ensures within { result ≤ self.now.last }
     {

@@ -4,27 +4,29 @@ ghost use Rattle.std.specs.Prelude.{◌≡◌, ◌≤◌, ◌<◌, ◌++◌, ◌
 ghost use Rattle.hash_join.specs.declared.buckets.Buckets.TheVariants as parted;
 ghost use Rattle.hash_join.specs.Hashes.{last_of};
 ghost use Rattle.hash_join.specs.Walks.{pairs_past};
-ghost use Rattle.hash_join.specs.Searches.{ahead_of, walk_at, AreKeysOf, IsSearch, Passes, Tells, TellsNumbers};
+ghost use Rattle.hash_join.specs.Searches.{ahead_of, first_right, walk_at, AreHeads, AreKeysOf, IsSearch, Passes, Tells, TellsNumbers};
 
 use crate::buckets::Buckets;
 use crate::build::{LeftSide, Probe};
 use crate::chains::Chains;
 use crate::key_element::KeyElement;
 use crate::key_row::KeyRow;
-use crate::look::{Look, ProductHeads, Told};
+use crate::look::{Look, ProductHeads, RankHeads, Told};
 use crate::pair::Pair;
 use crate::product::Product;
+use crate::ranks::Ranks;
 use crate::rights::Rights;
-use crate::sieve::{AllRows, NumberRows, Sieve, first_passing};
+use crate::sieve::{AllRows, NumberRows, Sieve};
 use crate::walk::Walk;
 use arrays::{Cells, Integers, Layout};
 use arrow_schema::IntegerType;
-use std::alloc::AllocError;
+use std::alloc::{AllocError, Global};
 use std::marker::PhantomData;
 
 // A left batch, and the right rows with their chains.
 #[derive(Clone, Copy, Drop)]
 pub(crate) struct Search<'a> {
+    pub(crate) alloc: Global,
     pub(crate) rights: &'a Rights,
     pub(crate) chains: &'a Chains,
     pub(crate) left: LeftSide<'a>,
@@ -54,7 +56,7 @@ impl<'a> Search<'a> {
     {
         match &self.rights.buckets {
             Buckets::Ranked(ranks) if self.has_one_part() && self.is_empty(ranks.last) => {
-                self.push_numbers(ranks, probe, most, pairs)
+                self.push_ranks(ranks, probe, most, pairs)
             }
             Buckets::Multiplied(product) if self.has_one_part() => {
                 self.push_products(*product, probe, most, pairs)
@@ -92,10 +94,32 @@ impl<'a> Search<'a> {
         ensures few { IfOk result (λ _. length pairs.new.items ≤ most) }
         ensures ended { IfOk result (λ stop. length pairs.new.items < most → ahead_of self.now stop ≡ []) }
     {
-        let sieve = AllRows {
-            count: self.left.batch.rows(),
+        let sieve = AllRows { search: *self };
+        self.push_pieces(&sieve, probe, most, pairs)
+    }
+
+    // The same, where the right keys are parted by ranks, the left key is one column, and all right keys have their own bucket.
+    fn push_ranks(
+        &self,
+        ranks: &Ranks,
+        probe: &Probe,
+        most: usize,
+        pairs: &mut Vec<Pair>,
+    ) -> Result<Probe, AllocError>
+        requires whole { IsSearch self.now }
+        requires parted { (self.now).rights.now.buckets ≡ parted.Ranked ranks.now }
+        requires own { length (self.now).rights.now.places.items ≤ get_or (self.now).chains.now.heads.items ranks.now.last 0 }
+        requires single { length (self.now).left.key.now ≡ 1 }
+        requires few { length pairs.old.items ≤ most }
+        ensures given { IfOk result (λ stop. pairs.new.items ++ ahead_of self.now stop ≡ pairs.old.items ++ ahead_of self.now probe.now) }
+        ensures few { IfOk result (λ _. length pairs.new.items ≤ most) }
+        ensures ended { IfOk result (λ stop. length pairs.new.items < most → ahead_of self.now stop ≡ []) }
+    {
+        let heads = RankHeads {
+            ranks,
+            heads: self.chains.heads.as_slice(),
         };
-        self.push_through(&sieve, probe, most, pairs)
+        self.push_numbers(&heads, probe, most, pairs)
     }
 
     // The same, where the right keys are parted by a product, and the left key is one column.
@@ -131,7 +155,7 @@ impl<'a> Search<'a> {
         pairs: &mut Vec<Pair>,
     ) -> Result<Probe, AllocError>
         requires whole { IsSearch self.now }
-        requires look { TellsNumbers self.now (L.passes look.now) (L.told look.now) }
+        requires look { TellsNumbers self.now (L.passes look.now) (L.told look.now) (L.head look.now) (L.own look.now) }
         requires single { length (self.now).left.key.now ≡ 1 }
         requires few { length pairs.old.items ≤ most }
         ensures given { IfOk result (λ stop. pairs.new.items ++ ahead_of self.now stop ≡ pairs.old.items ++ ahead_of self.now probe.now) }
@@ -163,7 +187,7 @@ impl<'a> Search<'a> {
     ) -> Result<Probe, AllocError>
         requires whole { IsSearch self.now }
         requires keys { AreKeysOf self.now keys.cells keys.first }
-        requires look { TellsNumbers self.now (L.passes keys.look.now) (L.told keys.look.now) }
+        requires look { TellsNumbers self.now (L.passes keys.look.now) (L.told keys.look.now) (L.head keys.look.now) (L.own keys.look.now) }
         requires few { length pairs.old.items ≤ most }
         ensures given { IfOk result (λ stop. pairs.new.items ++ ahead_of self.now stop ≡ pairs.old.items ++ ahead_of self.now probe.now) }
         ensures few { IfOk result (λ _. length pairs.new.items ≤ most) }
@@ -191,7 +215,7 @@ impl<'a> Search<'a> {
     ) -> Result<Probe, AllocError>
         requires whole { IsSearch self.now }
         requires keys { AreKeysOf self.now keys.cells keys.first }
-        requires look { TellsNumbers self.now (L.passes keys.look.now) (L.told keys.look.now) }
+        requires look { TellsNumbers self.now (L.passes keys.look.now) (L.told keys.look.now) (L.head keys.look.now) (L.own keys.look.now) }
         requires kind { E.kind ≡ keys.cells.integer }
         requires few { length pairs.old.items ≤ most }
         ensures given { IfOk result (λ stop. pairs.new.items ++ ahead_of self.now stop ≡ pairs.old.items ++ ahead_of self.now probe.now) }
@@ -205,11 +229,12 @@ impl<'a> Search<'a> {
             look: keys.look,
             kind: PhantomData,
         };
-        self.push_through(&sieve, probe, most, pairs)
+        self.push_pieces(&sieve, probe, most, pairs)
     }
 
-    // The same, where rows that a sieve stops join nothing.
-    fn push_through<S: Sieve>(
+    // The same, where rows that a sieve stops join nothing. The row where the probe is may be within its chain; all later
+    // ones are at the head of theirs.
+    fn push_pieces<S: Sieve>(
         &self,
         sieve: &S,
         probe: &Probe,
@@ -220,27 +245,23 @@ impl<'a> Search<'a> {
         requires all { (self.now).left.batch.now.rows ≤ S.count sieve.now }
         requires sound { Passes self.now (S.passes sieve.now) }
         requires told { Tells self.now (S.told sieve.now) }
+        requires heads { AreHeads self.now (S.passes sieve.now) (S.head sieve.now) (S.own sieve.now) }
         requires few { length pairs.old.items ≤ most }
         ensures given { IfOk result (λ stop. pairs.new.items ++ ahead_of self.now stop ≡ pairs.old.items ++ ahead_of self.now probe.now) }
         ensures few { IfOk result (λ _. length pairs.new.items ≤ most) }
         ensures ended { IfOk result (λ stop. length pairs.new.items < most → ahead_of self.now stop ≡ []) }
     {
-        let rows = self.left.batch.rows();
-        let mut at = *probe;
-        'rows: while at.left < rows {
-            let stop = self.push_row(sieve, &at, most, pairs)?;
-            if stop < self.rights.places.len() {
-                return Ok(Probe {
-                    left: at.left,
-                    from: stop,
-                });
-            }
-            at = Probe {
-                left: first_passing(sieve, at.left + 1, rows),
-                from: 0,
-            };
+        if probe.left >= self.left.batch.rows() {
+            return Ok(*probe);
         }
-        Ok(at)
+        let stop = self.push_row(sieve, probe, most, pairs)?;
+        if stop < self.rights.places.len() {
+            return Ok(Probe {
+                left: probe.left,
+                from: stop,
+            });
+        }
+        self.push_rows(sieve, probe.left + 1, most, pairs)
     }
 
     // Adds the pairs of one left row with right rows from one on, until there are `most`, and gives the right row where it
@@ -279,6 +300,23 @@ impl<'a> Search<'a> {
             Told::Nothing => walk.push_pairs(probe.from, most, pairs),
             Told::Shared(bucket) => walk.push_bucket(bucket, probe.from, most, pairs),
             Told::Own(bucket) => walk.push_chain(bucket, probe.from, most, pairs),
+        }
+    }
+
+    // The first right row of a left row's chain; the number of right rows where it has none.
+    pub(crate) fn first_right(&self, row: usize) -> u32
+        requires whole { IsSearch self.now }
+        requires row { row < (self.now).left.batch.now.rows }
+        ensures { result ≡ first_right self.now row }
+    {
+        let key = KeyRow {
+            batch: self.left.batch,
+            key: self.left.key,
+            row,
+        };
+        match self.rights.buckets.bucket(&key) {
+            None => self.rights.places.len() as u32,
+            Some(bucket) => self.chains.heads[bucket],
         }
     }
 }

@@ -6,9 +6,11 @@ ghost use Rattle.arrays.specs.Number.{integer_at};
 ghost use Rattle.arrays.specs.Validity.{is_valid};
 ghost use Rattle.hash_join.specs.declared.look.Told.{Told as ToldOf};
 ghost use Rattle.hash_join.specs.declared.look.Told.TheVariants as known;
+ghost use Rattle.hash_join.specs.Searches.{IsSearch};
 
 use crate::key_element::{KeyElement, is_known};
 use crate::look::{Look, Told};
+use crate::search::Search;
 use arrays::Integers;
 use std::marker::PhantomData;
 
@@ -20,6 +22,10 @@ pub(crate) trait Sieve {
 
     ghost told: { Self → ℕ → ToldOf };
 
+    ghost head: { Self → ℕ → ℕ };
+
+    ghost own: { Self → Bool };
+
     // Whether a row may join a right row.
     fn passes(&self, row: usize) -> bool
         requires { row < count self.now }
@@ -29,20 +35,36 @@ pub(crate) trait Sieve {
     fn tell(&self, row: usize) -> Told
         requires { row < count self.now }
         ensures { result ≡ told self.now row };
+
+    // The first right row of the chain of a row that passes; the number of right rows where it has none.
+    fn head(&self, row: usize) -> u32
+        requires { row < count self.now }
+        ensures { result ≡ head self.now row };
+
+    // Whether a row that passes joins each right row of its chain.
+    fn is_own(&self) -> bool
+        ensures { result ≡ own self.now };
 }
 
-// So many rows, of which nothing is told.
+// The rows of a left batch, each of which passes.
 #[derive(Clone, Copy, Drop)]
-pub(crate) struct AllRows {
-    pub(crate) count: usize,
+pub(crate) struct AllRows<'a> {
+    pub(crate) search: Search<'a>,
+    ghost whole: { IsSearch search },
 }
 
-impl Sieve for AllRows {
-    ghost count = { λ rows. rows.count };
+impl<'a> Sieve for AllRows<'a> {
+    ghost use Rattle.hash_join.specs.Searches.{first_right};
+
+    ghost count = { λ rows. rows.search.left.batch.now.rows };
 
     ghost passes = { λ _ _. true };
 
     ghost told = { λ _ _. known.Nothing };
+
+    ghost head = { λ rows row. first_right rows.search row };
+
+    ghost own = { λ _. false };
 
     fn passes(&self, _row: usize) -> bool {
         true
@@ -50,6 +72,14 @@ impl Sieve for AllRows {
 
     fn tell(&self, _row: usize) -> Told {
         Told::Nothing
+    }
+
+    fn head(&self, row: usize) -> u32 {
+        self.search.first_right(row)
+    }
+
+    fn is_own(&self) -> bool {
+        false
     }
 }
 
@@ -74,6 +104,10 @@ impl<'a, E: KeyElement, L: Look> Sieve for NumberRows<'a, E, L> {
     ghost told = { λ rows row. if is_valid rows.cells.validity (rows.first + row)
         then L.told rows.look.now (integer_at E.kind rows.cells.values (rows.first + row)) else known.Nothing };
 
+    ghost head = { λ rows row. L.head rows.look.now (integer_at E.kind rows.cells.values (rows.first + row)) };
+
+    ghost own = { λ rows. L.own rows.look.now };
+
     fn passes(&self, row: usize) -> bool {
         let _count = self.cells.len();
         let place = self.first + row;
@@ -91,20 +125,14 @@ impl<'a, E: KeyElement, L: Look> Sieve for NumberRows<'a, E, L> {
         }
         self.look.tell(E::number_at(self.cells.values(), place))
     }
-}
 
-// The first row from one on that passes; behind the last of so many where none does.
-pub(crate) fn first_passing<S: Sieve>(sieve: &S, from: usize, rows: usize) -> usize
-    requires ordered { from ≤ rows }
-    requires within { rows ≤ S.count sieve.now }
-    ensures after { from ≤ result }
-    ensures within { result ≤ rows }
-    ensures none { (row : ℕ) → from ≤ row → row < result → S.passes sieve.now row ≡ false }
-{
-    for row in from..rows {
-        if sieve.passes(row) {
-            return row;
-        }
+    fn head(&self, row: usize) -> u32 {
+        let _count = self.cells.len();
+        self.look
+            .head(E::number_at(self.cells.values(), self.first + row))
     }
-    rows
+
+    fn is_own(&self) -> bool {
+        self.look.is_own()
+    }
 }

@@ -90,7 +90,31 @@ impl<'a> Walk<'a> {
         }
     }
 
-    // Adds the pairs with the rows of the chain from one of them on, until there are `most`.
+    // Adds the pairs with the rows of the chain from one of them on, until there are `most`. Where the left row has its own
+    // bucket, it joins each of them.
+    pub(crate) fn push_from(
+        &self,
+        own: bool,
+        first: usize,
+        most: usize,
+        pairs: &mut Vec<Pair>,
+    ) -> Result<usize, AllocError>
+        requires whole { IsWalk self.now }
+        requires all { own ≡ true → JoinsChain self.now }
+        requires there { first < length (self.now).rights.now.places.items → in_chain self.now first ≡ true }
+        requires few { length pairs.old.items ≤ most }
+        ensures given { IfOk result (λ stop. pairs.new.items ++ pairs_past self.now stop ≡ pairs.old.items ++ pairs_past self.now first) }
+        ensures few { IfOk result (λ _. length pairs.new.items ≤ most) }
+        ensures stop { IfOk result (λ stop. stop < length (self.now).rights.now.places.items → most ≤ length pairs.new.items) }
+    {
+        if own {
+            self.take_chain(first, most, pairs)
+        } else {
+            self.follow(first, most, pairs)
+        }
+    }
+
+    // Adds the pairs with the rows of the chain from one of them on, where the two join, until there are `most`.
     fn follow(&self, first: usize, most: usize, pairs: &mut Vec<Pair>) -> Result<usize, AllocError>
         requires whole { IsWalk self.now }
         requires there { first < length (self.now).rights.now.places.items → in_chain self.now first ≡ true }

@@ -1,8 +1,7 @@
 //! Lines of names.
 
-ghost use Rattle.std.specs.Prelude.{◌<◌};
 ghost use Rattle.std.specs.List.{flat_map};
-ghost use Rattle.grpc_frame.specs.Ends.{CountsFailure, FailsByTransport, Writes};
+ghost use Rattle.grpc_frame.specs.Ends.{CanFail, CountsFailure, FailsByTransport, Writes};
 ghost use Rattle.grpc_frame.specs.Sending.{Sends};
 ghost use Rattle.row_lines.specs.Lines.{escaped, header_line, name_line, next_cell};
 
@@ -19,7 +18,7 @@ use std::alloc::Global;
 ///
 /// `Fault::Transport` where a write failed. It is counted, and a beginning of the lines is written.
 pub fn write_names<W: Output>(alloc: Global, names: &[Text], output: &mut W) -> Result<(), Fault>
-    requires { W.failures output.old < 18446744073709551615 }
+    requires { CanFail (W.failures output.old) }
     ensures bytes { Writes result (W.contents output.old) (W.contents output.new) (flat_map name_line names.now) }
     ensures counted { CountsFailure result (W.failures output.old) (W.failures output.new) }
     ensures fault { FailsByTransport result }
@@ -33,7 +32,7 @@ pub fn write_names<W: Output>(alloc: Global, names: &[Text], output: &mut W) -> 
 
 // Sends a name, and LF.
 fn send_name_line<W: Output>(writer: &mut W, outbox: &mut Outbox, name: &str) -> Result<(), Fault>
-    requires { W.failures writer.old < 18446744073709551615 }
+    requires { CanFail (W.failures writer.old) }
     ensures bytes { Sends result (W.contents writer.old) (W.contents writer.new)
         outbox.old outbox.new (name_line name.now) }
     ensures counted { CountsFailure result (W.failures writer.old) (W.failures writer.new) }
@@ -45,7 +44,7 @@ fn send_name_line<W: Output>(writer: &mut W, outbox: &mut Outbox, name: &str) ->
 
 // Sends a tab, and then a name.
 fn send_next_name<W: Output>(writer: &mut W, outbox: &mut Outbox, name: &str) -> Result<(), Fault>
-    requires { W.failures writer.old < 18446744073709551615 }
+    requires { CanFail (W.failures writer.old) }
     ensures bytes { Sends result (W.contents writer.old) (W.contents writer.new)
         outbox.old outbox.new (next_cell (escaped name.now)) }
     ensures counted { CountsFailure result (W.failures writer.old) (W.failures writer.new) }
@@ -65,7 +64,7 @@ pub(crate) fn send_header<W: Output>(
     outbox: &mut Outbox,
     fields: &[Field],
 ) -> Result<(), Fault>
-    requires { W.failures writer.old < 18446744073709551615 }
+    requires { CanFail (W.failures writer.old) }
     ensures bytes { Sends result (W.contents writer.old) (W.contents writer.new)
         outbox.old outbox.new (header_line fields.now) }
     ensures counted { CountsFailure result (W.failures writer.old) (W.failures writer.new) }

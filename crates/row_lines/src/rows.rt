@@ -3,7 +3,7 @@
 ghost use Rattle.std.specs.Prelude.{◌<◌, All};
 ghost use Rattle.std.specs.List.{flat_map};
 ghost use Rattle.arrays.specs.Batch.{row_of, rows_of};
-ghost use Rattle.grpc_frame.specs.Ends.{CountsFailure, FailsByTransport, Writes};
+ghost use Rattle.grpc_frame.specs.Ends.{CanFail, CountsFailure, FailsByTransport, Writes};
 ghost use Rattle.grpc_frame.specs.Sending.{Sends};
 ghost use Rattle.row_lines.specs.Lines.{lines_of, row_line};
 
@@ -27,7 +27,7 @@ pub fn write_rows<W: Output>(
     batches: &[Batch],
     output: &mut W,
 ) -> Result<(), Fault>
-    requires { W.failures output.old < 18446744073709551615 }
+    requires { CanFail (W.failures output.old) }
     ensures bytes { Writes result (W.contents output.old) (W.contents output.new)
         (lines_of schema.now (flat_map rows_of batches.now)) }
     ensures counted { CountsFailure result (W.failures output.old) (W.failures output.new) }
@@ -45,7 +45,7 @@ fn send_batches<W: Output>(
     outbox: &mut Outbox,
     batches: &[Batch],
 ) -> Result<(), Fault>
-    requires { W.failures writer.old < 18446744073709551615 }
+    requires { CanFail (W.failures writer.old) }
     ensures bytes { Sends result (W.contents writer.old) (W.contents writer.new)
         outbox.old outbox.new (flat_map row_line (flat_map rows_of batches.now)) }
     ensures counted { CountsFailure result (W.failures writer.old) (W.failures writer.new) }
@@ -59,7 +59,7 @@ fn send_batches<W: Output>(
 
 // Sends a line for each row of a batch.
 fn send_batch<W: Output>(writer: &mut W, outbox: &mut Outbox, batch: &Batch) -> Result<(), Fault>
-    requires { W.failures writer.old < 18446744073709551615 }
+    requires { CanFail (W.failures writer.old) }
     ensures bytes { Sends result (W.contents writer.old) (W.contents writer.new)
         outbox.old outbox.new (flat_map row_line (rows_of batch.now)) }
     ensures counted { CountsFailure result (W.failures writer.old) (W.failures writer.new) }
@@ -78,7 +78,7 @@ fn send_row<W: Output>(
     columns: &[Column],
     place: usize,
 ) -> Result<(), Fault>
-    requires failures { W.failures writer.old < 18446744073709551615 }
+    requires failures { CanFail (W.failures writer.old) }
     requires within { All (λ column. place < column.len) columns.now }
     ensures bytes { Sends result (W.contents writer.old) (W.contents writer.new)
         outbox.old outbox.new (row_line (row_of columns.now place)) }

@@ -1,8 +1,8 @@
 //! Texts and names, as they are printed.
 
-ghost use Rattle.std.specs.Prelude.{◌≡◌, ◌∷◌, ◌<◌, [], MatchOption};
+ghost use Rattle.std.specs.Prelude.{◌≡◌, ◌∷◌, [], MatchOption};
 ghost use Rattle.std.specs.List.{flat_map};
-ghost use Rattle.grpc_frame.specs.Ends.{CountsFailure, FailsByTransport};
+ghost use Rattle.grpc_frame.specs.Ends.{CanFail, CountsFailure, FailsByTransport};
 ghost use Rattle.grpc_frame.specs.Sending.{Sends};
 ghost use Rattle.row_lines.specs.Lines.{escaped_byte, spelled_byte};
 
@@ -54,7 +54,7 @@ pub(crate) fn send_text<W: Output>(
     text: &str,
     spelling: Spelling,
 ) -> Result<(), Fault>
-    requires { W.failures writer.old < 18446744073709551615 }
+    requires { CanFail (W.failures writer.old) }
     ensures bytes { Sends result (W.contents writer.old) (W.contents writer.new)
         outbox.old outbox.new (flat_map (spelled_byte spelling) text.now) }
     ensures counted { CountsFailure result (W.failures writer.old) (W.failures writer.new) }

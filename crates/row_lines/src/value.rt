@@ -1,8 +1,7 @@
 //! Values, as they are printed.
 
-ghost use Rattle.std.specs.Prelude.{◌<◌};
 ghost use Rattle.scan_base.specs.Value.{value_of};
-ghost use Rattle.grpc_frame.specs.Ends.{CountsFailure, FailsByTransport};
+ghost use Rattle.grpc_frame.specs.Ends.{CanFail, CountsFailure, FailsByTransport};
 ghost use Rattle.grpc_frame.specs.Sending.{Sends};
 ghost use Rattle.row_lines.specs.Lines.{next_cell, quoted, shown};
 
@@ -21,7 +20,7 @@ pub(crate) fn send_value<W: Output>(
     outbox: &mut Outbox,
     value: ValueRef<'_>,
 ) -> Result<(), Fault>
-    requires { W.failures writer.old < 18446744073709551615 }
+    requires { CanFail (W.failures writer.old) }
     ensures bytes { Sends result (W.contents writer.old) (W.contents writer.new)
         outbox.old outbox.new (shown (value_of value.entry)) }
     ensures counted { CountsFailure result (W.failures writer.old) (W.failures writer.new) }
@@ -40,7 +39,7 @@ pub(crate) fn send_value<W: Output>(
 
 // Sends a text in single quotes.
 fn send_quoted<W: Output>(writer: &mut W, outbox: &mut Outbox, text: &str) -> Result<(), Fault>
-    requires { W.failures writer.old < 18446744073709551615 }
+    requires { CanFail (W.failures writer.old) }
     ensures bytes { Sends result (W.contents writer.old) (W.contents writer.new)
         outbox.old outbox.new (quoted text.now) }
     ensures counted { CountsFailure result (W.failures writer.old) (W.failures writer.new) }
@@ -61,7 +60,7 @@ pub(crate) fn send_next_value<W: Output>(
     outbox: &mut Outbox,
     value: ValueRef<'_>,
 ) -> Result<(), Fault>
-    requires { W.failures writer.old < 18446744073709551615 }
+    requires { CanFail (W.failures writer.old) }
     ensures bytes { Sends result (W.contents writer.old) (W.contents writer.new)
         outbox.old outbox.new (next_cell (shown (value_of value.entry))) }
     ensures counted { CountsFailure result (W.failures writer.old) (W.failures writer.new) }

@@ -22,15 +22,17 @@ use Rattle.arrays.specs.Batch.{rows_of}
 use Rattle.typed_plan.specs.Plan.{answered, groups_by, output_rows}
 use Rattle.typed_plan.specs.Typed.{IsTyped, type_at, types_taken, types_of, tree_types, output_types, item_type, is_grouping}
 use Rattle.typed_plan.specs.View.{BoundAt, plan_of, tree_of}
-use Rattle.scan_exec.specs.Answering.{GivingAt, IsScan, Rise, answer_for, of_rows, renumbered, scan_at}
-use Rattle.scan_exec.specs.Begun.{IsBegun, tree_given}
-use Rattle.scan_exec.specs.Showing.{shown_of}
-use Rattle.scan_exec.specs.Given.{given_of, first_batches, further_rows, numbered_parts, rows_over}
+use Rattle.scan_exec.specs.Giving.{GivingAt, of_rows}
+use Rattle.scan_exec.specs.Answering.{IsScan, Rise, answer_for, renumbered, scan_at}
+use Rattle.row_sources.specs.Begun.{IsBegun, tree_given}
+use Rattle.row_sources.specs.Showing.{shown_of, cells}
+use Rattle.scan_exec.specs.Given.{given_of}
+use Rattle.row_sources.specs.Parts.{first_batches, further_rows, numbered_parts}
+use Rattle.rewrite.specs.Places.{rows_over}
 use Rattle.opened_batches.specs.Opened.{batches_in, first_numbers, first_opened, further_numbers, further_opened, scans_of, where_parts}
 use Rattle.scan_exec.specs.Morsels.{of_first}
-use Rattle.scan_exec.specs.Running.{RowsAt}
+use Rattle.row_sources.specs.Running.{RowsAt}
 use Rattle.scan_exec.specs.Scan.{ScanAt, IsBeginning}
-use Rattle.scan_exec.specs.Shown.{cells}
 use Rattle.scan_exec.proofs.PartScan.{firsts_rise, further_none}
 use Rattle.scan_exec.proofs.PlanGives.{given_rows}
 use Rattle.scan_exec.proofs.ScanGiven.{scan_given}

@@ -25,18 +25,18 @@ use Rattle.typed_plan.specs.Plan.{answered, groups_by}
 use Rattle.typed_plan.specs.Typed.{item_type}
 use Rattle.grouping.specs.Answers.{AnswersAt, Finishes, GivesAnswer, IsAnswerOf, IsOver, answer_types, answers_ahead}
 use Rattle.grouping.specs.Fed.{GroupsAt, Holds, HasFed, IsAlike, IsNew, batch_at}
-use Rattle.scan_exec.specs.declared.cursor.Part.{Part}
+use Rattle.row_sources.specs.declared.part.Part.{Part}
 use Rattle.scan_exec.specs.declared.grouped.MadeGroups.{MadeGroups}
 use Rattle.scan_exec.specs.declared.grouped.Stage.{Stage}
 use Rattle.scan_exec.specs.declared.grouped.Stage.TheVariants.{Waiting, Made}
 use Rattle.scan_exec.specs.declared.grouped.Wanted.{Wanted}
 use Rattle.scan_exec.specs.Giving.{GivingAt, GivingOn, GivesNext}
-use Rattle.scan_exec.specs.Collected.{AreCollected, IsBatchOf}
+use Rattle.row_sources.specs.Collected.{AreCollected, IsBatchOf}
 use Rattle.scan_exec.specs.Grouped.{AnswersAll, AreFed, AreMade, IsAnswering, of_groups, passing, passing_before, wanted_rows, wanted_types}
-use Rattle.scan_exec.specs.Picking.{PickAt, IsPick, holds, chosen_rows, pick_of}
-use Rattle.scan_exec.specs.Running.{RowsAt, GoesOn}
-use Rattle.scan_exec.proofs.Giving.{filter-map}
-use Rattle.scan_exec.proofs.JoinSteps.{as_many}
+use Rattle.row_sources.specs.Picking.{PickAt, IsPick, holds, chosen_rows, pick_of}
+use Rattle.row_sources.specs.Running.{RowsAt, GoesOn}
+use Rattle.row_sources.proofs.Giving.{filter-map}
+use Rattle.row_sources.proofs.JoinSteps.{as_many}
 
 -- no more pass than there are
 passing_few : {X : Type 0} (test : X → Bool) (xs : List X) → length (filter test xs) ≤ length xs

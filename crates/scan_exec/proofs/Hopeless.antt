@@ -29,13 +29,13 @@ use Rattle.typed_plan.specs.Typed.{has_columns, type_at, types_of}
 use Rattle.typed_plan.proofs.Numbered.{truth_of-map}
 use Rattle.rewrite.specs.Conjuncts.{all_true, is_between}
 use Rattle.rewrite.specs.Pushed.{moved}
-use Rattle.scan_exec.specs.Chosen.{are_within, columns_at, listed}
+use Rattle.opened_batches.specs.Chosen.{are_within, columns_at, listed}
 use Rattle.opened_batches.specs.Opened.{batch_can, can_hold, given_columns, given_width}
-use Rattle.scan_exec.proofs.Narrowing.{there_at, one_of}
+use Rattle.row_sources.proofs.Narrowing.{there_at, one_of}
 use Rattle.scan_exec.proofs.NarrowGiven.{through}
 use Rattle.scan_exec.proofs.NarrowLaw.{Holds}
-use Rattle.scan_exec.proofs.Shown.{of_types}
-use Rattle.scan_exec.proofs.BeginTree.{fields_wide}
+use Rattle.row_sources.proofs.Shown.{of_types}
+use Rattle.row_sources.proofs.BeginTree.{fields_wide}
 use Rattle.scan_exec.proofs.Through.{first_need, need_behind}
 
 -- ---- the columns that a scan gives

@@ -20,15 +20,15 @@ use Rattle.typed_plan.specs.Joined.{rows_between}
 use Rattle.typed_plan.specs.Plan.{Tree, taken}
 use Rattle.rewrite.specs.Conjuncts.{all_true}
 use Rattle.rewrite.specs.Places.{first_rows}
-use Rattle.scan_exec.specs.Chosen.{are_within}
-use Rattle.scan_exec.specs.Given.{numbered_parts, parts}
+use Rattle.opened_batches.specs.Chosen.{are_within}
+use Rattle.row_sources.specs.Parts.{numbered_parts, parts}
 use Rattle.opened_batches.specs.Narrow.{batches_at, narrowed, narrowed_from, narrowed_to}
 use Rattle.opened_batches.specs.Opened.{batch_can, can_hold, given_columns, given_width, has_row_in, numbers_behind, place_opened}
 use Rattle.table_versions.proofs.Rowing.{length-rows_of, rows-cons}
-use Rattle.scan_exec.proofs.Batched.{none_behind, none_between as no_rows}
-use Rattle.scan_exec.proofs.Narrowing.{there_at}
-use Rattle.scan_exec.proofs.NarrowRange.{AreListed, before_next, between_same, listed_of, listed_within, made_of, narrow_from, part_at, whole_made}
-use Rattle.scan_exec.proofs.Opening.{in_all}
+use Rattle.row_sources.proofs.Batched.{none_behind, none_between as no_rows}
+use Rattle.row_sources.proofs.Narrowing.{there_at}
+use Rattle.row_sources.proofs.NarrowRange.{AreListed, before_next, between_same, listed_of, listed_within, made_of, narrow_from, part_at, whole_made}
+use Rattle.row_sources.proofs.Opening.{in_all}
 use Rattle.scan_exec.proofs.PartsJoin.{parts_join, parts_numbered}
 use Rattle.scan_exec.proofs.PlaceByPlace.{EachSame, LetsSame}
 use Rattle.scan_exec.proofs.Through.{first_need, need_behind}

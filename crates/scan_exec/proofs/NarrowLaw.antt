@@ -1,11 +1,10 @@
 -- The rewritten plan over the batches that are opened gives what the plan gives over all.
-use Rattle.std.proofs.Common.{◌≡◌, ◌≤◌, ◌<◌, ℕ, zero, suc, ◌+◌, ◌-◌, Bool, true, false, ◌&&◌, All, List, [], ◌∷◌, ◌++◌, length, map, drop, get_or, slice_get, cond, if◌then◌else◌, Option, Some, None, option_map, refl, sym, ap, ◌∙◌, subst, arith}
-use Rattle.std.specs.List.{filter, flat_map, range_with_len}
+use Rattle.std.proofs.Common.{◌≡◌, ◌<◌, ℕ, zero, suc, ◌+◌, ◌-◌, Bool, true, false, ◌&&◌, All, List, [], ◌∷◌, ◌++◌, length, map, get_or, slice_get, if◌then◌else◌, Option, Some, None, refl, sym, ap, ◌∙◌, subst, arith}
+use Rattle.std.specs.List.{flat_map, range_with_len}
 use Rattle.std.specs.Option.{option_to_list}
 use Rattle.std.proofs.lemmas.Bool.{and_parts, ltb-true}
 use Rattle.std.proofs.lemmas.List.{length-map, map-append}
 use Rattle.std.proofs.lemmas.List.Elements.{All-head, All-tail}
-use Rattle.std.proofs.lemmas.Simd.{map-map}
 use Rattle.arrow_schema.specs.declared.schema.Schema.{Schema}
 use Rattle.arrays.specs.Batch.{BatchAt, rows_of}
 use Rattle.arrays.specs.Typed.{AreOfTypes}
@@ -18,25 +17,25 @@ use Rattle.typed_plan.specs.declared.plan.Columns.{Columns}
 use Rattle.typed_plan.specs.declared.plan.Columns.TheVariants as columns
 use Rattle.typed_plan.specs.declared.plan.Output.{Output}
 use Rattle.typed_plan.specs.declared.plan.Output.TheVariants.{Project, Groups}
-use Rattle.typed_plan.specs.declared.plan.Plan.{Plan}
 use Rattle.typed_plan.specs.Held.{tree_schemas}
 use Rattle.typed_plan.specs.Joined.{rows_between}
 use Rattle.typed_plan.specs.Plan.{Tree, output_rows, taken}
 use Rattle.typed_plan.specs.Typed.{has_columns, is_grouping}
-use Rattle.typed_plan.specs.View.{BoundAt, plan_of, tree_of}
+use Rattle.typed_plan.specs.View.{BoundAt, tree_of}
 use Rattle.rewrite.specs.Laws.{AreWide, SkippingKeepsRows}
-use Rattle.rewrite.specs.Places.{first_rows, rows_over}
+use Rattle.rewrite.specs.Places.{rows_over}
 use Rattle.scan_exec.specs.Answering.{number_in, renumbered}
-use Rattle.scan_exec.specs.Given.{first_batches, further_rows, given_of, numbered_parts, rows_from}
+use Rattle.row_sources.specs.Parts.{first_batches, further_rows, numbered_parts}
+use Rattle.scan_exec.specs.Given.{given_of}
 use Rattle.opened_batches.specs.Narrow.{BeginsInFirst, batches_at, narrowed, narrowed_from, narrowed_to}
-use Rattle.scan_exec.specs.OpenedTables.{narrow_all}
+use Rattle.row_sources.specs.OpenedTables.{narrow_all}
 use Rattle.rewrite.specs.Same.{StandsFor}
 use Rattle.opened_batches.specs.Opened.{batch_can, batches_in, given_width, has_row_in, numbers_behind, place_opened, scans_of, where_parts}
-use Rattle.scan_exec.proofs.NarrowGiven.{all_same, listed, none_in, range_same, ranged, through}
-use Rattle.scan_exec.proofs.BeginTree.{fields_wide}
-use Rattle.scan_exec.proofs.Narrowing.{all_at, at_many, filled_each, one_of, there_at}
-use Rattle.scan_exec.proofs.NarrowRange.{AreListed, all_in, before_next, begins_in_first, listed_of, listed_within, made_of, narrow_from, part_at, whole_in, whole_made}
-use Rattle.scan_exec.proofs.PlaceByPlace.{AllSame, EachSame, LetsSame, places_same}
+use Rattle.scan_exec.proofs.NarrowGiven.{all_same, none_in, range_same, through}
+use Rattle.row_sources.proofs.BeginTree.{fields_wide}
+use Rattle.row_sources.proofs.Narrowing.{all_at, at_many, filled_each, one_of, there_at}
+use Rattle.row_sources.proofs.NarrowRange.{AreListed, all_in, before_next, begins_in_first, listed_of, listed_within, made_of, narrow_from, part_at, whole_made}
+use Rattle.scan_exec.proofs.PlaceByPlace.{AllSame, EachSame, places_same}
 use Rattle.scan_exec.proofs.Through.{IsDeep, first_need, need_behind, same_through}
 use Rattle.scan_exec.proofs.TreeGives.{over_none}
 use Rattle.scan_exec.proofs.Wide.{PlacesWide, Wide, are_wide, batch_wide, table_wide, wide_between}
@@ -322,14 +321,3 @@ module _ (old new : BoundAt) (from to : ℕ) (some : Columns) (scans : List Colu
 
   pub begins_law : BeginsInFirst a (batches_at numbers table.batches)
   begins_law = begins_in_first from to table.batches 0 numbers in_order
-
--- each batch of a table has one of all rows
-pub all_whole : (table : TableAt) (rows : ℕ) → IsKept table rows → batches_in 0 rows table.batches ≡ range_with_len 0 (length table.batches)
-all_whole table rows kept = whole_in rows table.batches kept.counted filled
-  where
-    filled : (i : ℕ) → i < length table.batches → rows_before table.batches i < rows_before table.batches (i + 1)
-    filled i h =
-        let one = there_at table.batches i h in
-        let next = before_next 0 rows table.batches i one.0 one.1 in
-        let some = ltb-true 0 (one.0).rows (one_of (λ (batch : BatchAt). has_rows batch ≡ true) table.batches (filled_each table.batches kept.filled) i one.0 one.1) in
-        omega (arith, next, some)

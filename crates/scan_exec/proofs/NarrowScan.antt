@@ -5,6 +5,7 @@ use Rattle.arrow_schema.specs.declared.schema.Schema.{Schema}
 use Rattle.arrays.specs.Batch.{rows_of}
 use Rattle.scan_base.specs.Limits.{most_rows}
 use Rattle.scan_base.specs.Predicate.{Pred}
+use Rattle.table_versions.specs.Kept.{IsKept}
 use Rattle.table_versions.specs.Stored.{TableAt, table_of}
 use Rattle.table_versions.specs.Table.{Row}
 use Rattle.typed_plan.specs.declared.plan.Columns.{Columns}
@@ -15,17 +16,21 @@ use Rattle.typed_plan.specs.View.{BoundAt, plan_of, tree_of}
 use Rattle.rewrite.specs.Laws.{SkippingKeepsRows}
 use Rattle.opened_batches.specs.declared.opened.OpenedList.{OpenedList}
 use Rattle.scan_exec.specs.Answering.{renumbered}
-use Rattle.scan_exec.specs.Given.{first_batches, given_of}
+use Rattle.row_sources.specs.Parts.{first_batches}
+use Rattle.scan_exec.specs.Given.{given_of}
 use Rattle.opened_batches.specs.Listed.{AreLists, AreWhole, IsListOf}
-use Rattle.scan_exec.specs.OpenedTables.{AreKept}
 use Rattle.opened_batches.specs.Narrow.{BeginsInFirst, CanNarrow, batches_at, narrowed, narrowed_from, narrowed_to}
 use Rattle.opened_batches.specs.Opened.{batches_in, first_numbers, given_width, first_opened, further_numbers, numbers_behind, opened_numbers, place_opened, scans_of, where_parts}
-use Rattle.scan_exec.specs.OpenedTables.{CanAll, narrow_all}
+use Rattle.row_sources.specs.OpenedTables.{CanAll, narrow_all}
 use Rattle.rewrite.specs.Same.{StandsFor}
 use Rattle.scan_exec.proofs.NarrowLaw.{Fit, Holds, batches_law, begins_law, each_law, given_law, narrow_bound, schemas_of}
 use Rattle.scan_exec.proofs.OpenedLists.{numbers_of}
 use Rattle.scan_exec.proofs.PlaceByPlace.{as_many_scans}
 use Rattle.scan_exec.proofs.Through.{IsDeep}
+
+-- the tables are kept
+abbrev pub AreKept : List TableAt → Type 0
+AreKept tables = All (λ (table : TableAt). IsKept table (length (table_of table).rows)) tables
 
 -- the columns that scans give are columns of these schemas
 abbrev FitSchemas : List Columns → List Schema → Type 0

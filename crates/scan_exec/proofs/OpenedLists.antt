@@ -5,7 +5,7 @@ use Rattle.table_versions.specs.Stored.{TableAt}
 use Rattle.opened_batches.specs.declared.opened.OpenedList.{OpenedList}
 use Rattle.opened_batches.specs.Narrow.{CanNarrow, narrowed}
 use Rattle.opened_batches.specs.Opened.{numbered_batches}
-use Rattle.scan_exec.specs.OpenedTables.{CanAll, narrow_all}
+use Rattle.row_sources.specs.OpenedTables.{CanAll, narrow_all}
 
 abbrev pub numbers_of : List OpenedList → List (List ℕ)
 numbers_of lists = map (λ (list : OpenedList). list.numbers.items) lists

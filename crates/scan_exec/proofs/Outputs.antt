@@ -1,5 +1,5 @@
 -- What a result takes of columns that are alike.
-use Rattle.std.proofs.Common.{◌≡◌, ℕ, Bool, ◌&&◌, List, [], ◌∷◌, length, map, nat_lt, refl, sym, ap, ◌∙◌, subst}
+use Rattle.std.proofs.Common.{◌≡◌, ℕ, Bool, ◌&&◌, List, [], ◌∷◌, length, map, nat_lt, refl, sym, ap, ◌∙◌}
 use Rattle.std.specs.List.{list_all}
 use Rattle.std.proofs.lemmas.List.{length-map}
 use Rattle.arrow_schema.specs.Answer.{answer_type}
@@ -14,8 +14,8 @@ use Rattle.typed_plan.specs.declared.plan.Output.{Output}
 use Rattle.typed_plan.specs.declared.plan.Output.TheVariants.{Project, Groups}
 use Rattle.typed_plan.specs.Typed.{HasOutput, IsTyped, has_columns, has_item, tree_types, type_at}
 use Rattle.typed_plan.specs.View.{BoundAt, plan_of, tree_of}
-use Rattle.scan_exec.specs.declared.build.Sourced.{Sourced}
-use Rattle.scan_exec.specs.Begun.{IsBegun, IsSourced, sourced_at}
+use Rattle.row_sources.specs.Begun.{IsBegun}
+use Rattle.row_sources.specs.Running.{RowsAt}
 use Rattle.scan_exec.proofs.Beginning.{type_answered}
 
 -- what is summed is no dictionary
@@ -52,9 +52,7 @@ module _ (some others : List DataType) (e : map answer_type some ≡ map answer_
       (ap (λ (n : ℕ). list_all (λ key. nat_lt key n) keys) long ∙ has.0, items_same (length keys) items ∙ has.1)
 
 -- what a result takes of a source that begins is there
-module _ (bound : BoundAt) (from to : ℕ) (typed : IsTyped (plan_of bound)) (sourced : Sourced) (is : IsSourced sourced)
-    (begun : IsBegun (tree_of bound.plan) bound.tables from to (sourced_at sourced)) where
-  pub output_there : HasOutput bound.output sourced.types.items
-  output_there =
-      subst (HasOutput bound.output) (sym is.types)
-      (output_alike (sourced_at sourced).types (tree_types (tree_of bound.plan)) begun.types bound.output typed.output)
+module _ (bound : BoundAt) (from to : ℕ) (typed : IsTyped (plan_of bound)) (rows : RowsAt)
+    (begun : IsBegun (tree_of bound.plan) bound.tables from to rows) where
+  pub output_there : HasOutput bound.output rows.types
+  output_there = output_alike rows.types (tree_types (tree_of bound.plan)) begun.types bound.output typed.output

@@ -3,9 +3,10 @@ use Rattle.std.proofs.Common.{◌≡◌, ◌≤◌, ◌<◌, ℕ, zero, suc, ◌
 use Rattle.std.specs.List.{list_all, range_with_len}
 use Rattle.std.proofs.lemmas.Bool.{and_parts, eqb-true}
 use Rattle.std.proofs.lemmas.List.FromFn.{length-range_with_len}
-use Rattle.scan_exec.specs.Answering.{IsScan, number_in, of_rows}
+use Rattle.scan_exec.specs.Answering.{IsScan, number_in}
+use Rattle.scan_exec.specs.Giving.{of_rows}
 use Rattle.scan_exec.specs.Morsels.{of_first}
-use Rattle.scan_exec.specs.Running.{RowsAt}
+use Rattle.row_sources.specs.Running.{RowsAt}
 
 get_any : (xs : List (ℕ × ℕ)) (i : ℕ) (d e : ℕ × ℕ) → i < length xs → get_or xs i d ≡ get_or xs i e
 get_any [] i d e h = absurd (omega (arith, h))

@@ -13,12 +13,14 @@ use Rattle.scan_base.specs.Predicate.{Pred}
 use Rattle.table_versions.specs.Stored.{TableAt}
 use Rattle.table_versions.specs.Table.{Row}
 use Rattle.typed_plan.specs.declared.plan.Columns.{Columns}
-use Rattle.scan_exec.specs.Answering.{GivingAt, IsScan, Rise, number_in, of_rows, renumbered, scan_at}
+use Rattle.scan_exec.specs.Giving.{GivingAt, of_rows}
+use Rattle.scan_exec.specs.Answering.{IsScan, Rise, number_in, renumbered, scan_at}
 use Rattle.scan_exec.specs.Morsels.{HasMorsels, batch_of, comes_of, morsel_of, morsel_rows, of_first}
-use Rattle.scan_exec.specs.Parting.{ComeInOrder, of_number, part_of}
-use Rattle.scan_exec.specs.Running.{RowsAt}
+use Rattle.row_sources.specs.Parting.{ComeInOrder, of_number, part_of}
+use Rattle.row_sources.specs.Running.{RowsAt}
 use Rattle.scan_exec.specs.Scan.{ScanAt}
-use Rattle.scan_exec.proofs.ByNumber.{map-flat_map, ne-eqb, named, named_of, named_one, range_rises, rise_once, same_lists}
+use Rattle.row_sources.proofs.ByNumber.{map-flat_map, ne-eqb, same_lists}
+use Rattle.scan_exec.proofs.RisingNumbers.{named, named_of, named_one, range_rises, rise_once}
 use Rattle.scan_exec.proofs.Scanning.{opened_few}
 
 -- ---- batches of the first place

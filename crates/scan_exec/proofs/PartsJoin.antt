@@ -7,8 +7,8 @@ use Rattle.arrays.specs.Batch.{BatchAt, rows_of}
 use Rattle.table_versions.specs.Table.{Row}
 use Rattle.table_versions.proofs.Rowing.{length-rows_of}
 use Rattle.typed_plan.specs.Joined.{rows_between}
-use Rattle.scan_exec.specs.Given.{parts, numbered_parts}
-use Rattle.scan_exec.proofs.Batched.{none_behind}
+use Rattle.row_sources.specs.Parts.{parts, numbered_parts}
+use Rattle.row_sources.proofs.Batched.{none_behind}
 
 take_append : {X : Type 0} (n : ℕ) (xs ys : List X) → take n (xs ++ ys) ≡ take n xs ++ take (n - length xs) ys
 take_append zero [] ys = refl

@@ -17,7 +17,9 @@ use Rattle.typed_plan.specs.Plan.{Tree, plan_rows, output_rows, tree_rows, taken
 use Rattle.typed_plan.specs.Typed.{IsTyped, is_grouping}
 use Rattle.typed_plan.specs.View.{BoundAt, plan_of, tree_of}
 use Rattle.typed_plan.proofs.Scans.{some_table}
-use Rattle.scan_exec.specs.Given.{rows_over, rows_from, further_rows, first_batches, parts, numbered_parts, given_of}
+use Rattle.rewrite.specs.Places.{rows_over}
+use Rattle.scan_exec.specs.Given.{rows_from, given_of}
+use Rattle.row_sources.specs.Parts.{further_rows, first_batches, parts, numbered_parts}
 use Rattle.scan_exec.proofs.PartsJoin.{parts_join, parts_numbered}
 use Rattle.scan_exec.proofs.TreeGives.{taken-append, over-append, over_none, over_tables}
 

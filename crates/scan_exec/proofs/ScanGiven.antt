@@ -9,10 +9,11 @@ use Rattle.typed_plan.specs.declared.plan.Columns.TheVariants.{All, These}
 use Rattle.typed_plan.specs.declared.plan.Output.TheVariants.{Project}
 use Rattle.typed_plan.specs.Plan.{taken}
 use Rattle.typed_plan.specs.View.{BoundAt, plan_of, tree_of}
-use Rattle.scan_exec.specs.Begun.{tree_given}
-use Rattle.scan_exec.specs.Given.{rows_over, further_rows, first_batches, numbered_parts, given_of}
-use Rattle.scan_exec.specs.Placed.{numbered_rows}
-use Rattle.scan_exec.specs.Shown.{cells}
+use Rattle.row_sources.specs.Begun.{tree_given}
+use Rattle.rewrite.specs.Places.{rows_over}
+use Rattle.row_sources.specs.Parts.{further_rows, first_batches, numbered_parts, numbered_rows}
+use Rattle.scan_exec.specs.Given.{given_of}
+use Rattle.row_sources.specs.Showing.{cells}
 
 pub taken_cells : (columns : Columns) (rows : List Row) → taken columns rows ≡ map (cells columns) rows
 taken_cells All rows = sym (map-id rows)

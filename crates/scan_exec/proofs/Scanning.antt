@@ -14,11 +14,12 @@ use Rattle.scan_base.specs.declared.fault.Fault.{Fault}
 use Rattle.scan_base.specs.declared.fault.Fault.TheVariants.{OutOfMemory, ResultTooLarge}
 use Rattle.table_versions.specs.Table.{Row}
 use Rattle.table_versions.proofs.Rowing.{length-rows_of}
-use Rattle.scan_exec.specs.declared.piece.Piece.{Piece}
-use Rattle.scan_exec.specs.Answering.{GivingAt, GivingOn, IsOfLast, GivesBatch, GivesNone, CountsNext, IsScan, number_in, of_rows, renumbered, scan_at}
-use Rattle.scan_exec.specs.Running.{RowsAt, GoesOn, FindsPiece}
+use Rattle.row_sources.specs.declared.piece.Piece.{Piece}
+use Rattle.scan_exec.specs.Giving.{GivingAt, GivingOn, IsOfLast, GivesBatch, GivesNone, of_rows}
+use Rattle.scan_exec.specs.Answering.{CountsNext, IsScan, number_in, renumbered, scan_at}
+use Rattle.row_sources.specs.Running.{RowsAt, GoesOn, FindsPiece}
 use Rattle.scan_exec.specs.Scan.{ScanAt, Continues, IsLatest, GivesRows, MayRefuse, Gives}
-use Rattle.scan_exec.proofs.JoinSteps.{as_many}
+use Rattle.row_sources.proofs.JoinSteps.{as_many}
 
 -- a piece is a batch
 pub gives_of : (before after : RowsAt) (piece : Piece) → FindsPiece before piece after → GivesBatch (of_rows before) piece.batch (of_rows after)

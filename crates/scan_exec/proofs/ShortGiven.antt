@@ -1,6 +1,5 @@
 -- A plan gives no text that is too long, where the rows of its tables have none.
-use Rattle.std.proofs.Common.{◌≡◌, ℕ, zero, suc, ◌-◌, ◌==◌, Bool, true, false, if◌then◌else◌, All, List, [], ◌∷◌, ◌++◌, length, map, take, drop, cond, pos}
-use Rattle.std.proofs.Common.{Option, refl, ap, ◌∙◌, fold}
+use Rattle.std.proofs.Common.{◌≡◌, ℕ, zero, suc, ◌-◌, ◌==◌, Bool, true, false, if◌then◌else◌, All, List, [], ◌∷◌, ◌++◌, length, map, take, drop, cond, pos, Option, refl, ap, ◌∙◌, fold}
 use Rattle.std.specs.List.{list_any, filter, flat_map}
 use Rattle.std.proofs.lemmas.List.Folds.{list_any-append, list_any_none}
 use Rattle.arrays.specs.Batch.{rows_of}
@@ -22,7 +21,9 @@ use Rattle.typed_plan.specs.Held.{tree_schemas}
 use Rattle.typed_plan.specs.Joined.{rows_between}
 use Rattle.typed_plan.specs.Plan.{Tree, scan, filtered, joined, taken, is_true, fits, joined_rows, answered, groups_by, output_rows}
 use Rattle.typed_plan.specs.View.{BoundAt, tree_of}
-use Rattle.scan_exec.specs.Given.{first_rows, first_batches, further_rows, rows_over, given_of}
+use Rattle.rewrite.specs.Places.{first_rows, rows_over}
+use Rattle.row_sources.specs.Parts.{first_batches, further_rows}
+use Rattle.scan_exec.specs.Given.{given_of}
 use Rattle.scan_exec.proofs.PlanGives.{given_rows}
 
 -- ---- lists of which nothing passes a test

@@ -16,7 +16,7 @@ use Rattle.typed_plan.specs.Held.{tree_tables, tree_schemas}
 use Rattle.typed_plan.specs.Joined.{rows_in}
 use Rattle.typed_plan.specs.Plan.{Tree, scan, filtered, joined, taken, is_true, fits, joined_rows, tree_rows}
 use Rattle.typed_plan.proofs.Scans.{some_schema}
-use Rattle.scan_exec.specs.Given.{rows_over}
+use Rattle.rewrite.specs.Places.{rows_over}
 
 -- ---- rows of the first place, one behind another
 

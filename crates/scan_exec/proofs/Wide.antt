@@ -14,7 +14,7 @@ use Rattle.typed_plan.specs.Joined.{rows_between}
 use Rattle.typed_plan.specs.Plan.{Tree, scan, filtered, joined}
 use Rattle.rewrite.specs.Laws.{AreWide}
 use Rattle.rewrite.specs.Places.{first_rows}
-use Rattle.scan_exec.proofs.BeginTree.{fields_wide}
+use Rattle.row_sources.proofs.BeginTree.{fields_wide}
 
 -- rows of so many cells
 abbrev pub Wide : ℕ → List Row → Type 0

@@ -1,5 +1,5 @@
 -- Inside: what a scan still has to give, of rows or of groups.
-use Rattle.std.specs.Prelude.{◌≡◌, ◌≤◌, ◌<◌, ◌⊎◌, ℕ, ◌+◌, ◌-◌, IsTrue, ◌==◌, List, [], ◌∷◌, ◌++◌, length, map, take, drop, get_or, Option, Some, None, option_map, Result, Ok, Err}
+use Rattle.std.specs.Prelude.{◌≡◌, ◌≤◌, ◌<◌, ◌⊎◌, ℕ, ◌+◌, ◌-◌, IsTrue, ◌==◌, List, [], ◌∷◌, length, map, take, drop, get_or, Option, Some, None, option_map, Result, Ok, Err}
 use Rattle.std.specs.List.{list_all, range_with_len}
 use Rattle.arrays.specs.Batch.{BatchAt}
 use Rattle.arrow_schema.specs.Answer.{answer_type}
@@ -8,8 +8,8 @@ use Rattle.typed_plan.specs.declared.plan.Output.TheVariants.{Project, Groups}
 use Rattle.typed_plan.specs.Plan.{answered, groups_by}
 use Rattle.typed_plan.specs.Typed.{item_type}
 use Rattle.table_versions.specs.Table.{Row}
-use Rattle.scan_exec.specs.Running.{RowsAt}
-use Rattle.scan_exec.specs.Showing.{shown_of}
+use Rattle.row_sources.specs.Running.{RowsAt}
+use Rattle.row_sources.specs.Showing.{shown_of}
 use Rattle.arrow_schema.specs.declared.schema.Schema.{Schema}
 use Rattle.scan_base.specs.Limits.{most_answer_rows}
 use Rattle.scan_base.specs.declared.fault.Fault.{Fault}

@@ -6,7 +6,7 @@ use Rattle.arrow_schema.specs.declared.data_type.DataType.{DataType}
 use Rattle.arrays.specs.Batch.{BatchAt, rows_of}
 use Rattle.arrays.specs.Typed.{AreOf}
 use Rattle.table_versions.specs.Table.{Row}
-use Rattle.scan_exec.specs.Running.{RowsAt}
+use Rattle.row_sources.specs.Running.{RowsAt}
 use Rattle.array_select.specs.Room.{most_batch_rows}
 
 -- The types of the columns; the rows that are still to be given, each with the number of the batch of the first place of

@@ -14,14 +14,10 @@ use Rattle.scan_exec.specs.declared.grouped.MadeGroups.{MadeGroups}
 use Rattle.scan_exec.specs.declared.grouped.Stage.{Stage}
 use Rattle.scan_exec.specs.declared.grouped.Stage.TheVariants.{Waiting, Made, Refused}
 use Rattle.scan_exec.specs.declared.grouped.Wanted.{Wanted}
-use Rattle.scan_exec.specs.Collected.{plain_rows}
+use Rattle.row_sources.specs.Collected.{plain_rows}
 use Rattle.scan_exec.specs.Giving.{GivingAt}
-use Rattle.scan_exec.specs.Picking.{PickAt, IsPick, holds, pick_of}
-use Rattle.scan_exec.specs.Running.{RowsAt, picked_of}
-
--- these columns of all rows of a source
-abbrev pub unfiltered : List ℕ → RowsAt → RowsAt
-unfiltered columns source = picked_of (record { filters = []; read = columns; shown = columns }) source
+use Rattle.row_sources.specs.Picking.{PickAt, IsPick, holds, pick_of}
+use Rattle.row_sources.specs.Running.{RowsAt}
 
 -- the rows that the filters let through
 abbrev pub passing : PickAt → List Row → List Row

@@ -1,23 +1,16 @@
 //! What a scan gives: rows, or groups of them.
 
-ghost use Rattle.std.specs.Prelude.{◌≡◌, ◌≤◌, IsTrue, true, IfOk, length, take};
+ghost use Rattle.std.specs.Prelude.{◌≡◌, ◌≤◌, true, IfOk, length, take};
 ghost use Rattle.scan_base.specs.Limits.{most_rows};
 ghost use Rattle.typed_plan.specs.Typed.{HasOutput, is_grouping};
-ghost use Rattle.scan_exec.specs.Answering.{GivesNext, IsGiving, answer_for, giving_at, of_rows};
-ghost use Rattle.scan_exec.specs.Begun.{IsSourced, sourced_at};
-ghost use Rattle.scan_exec.specs.Chosen.{are_within};
-ghost use Rattle.scan_exec.specs.Grouped.{unfiltered};
-ghost use Rattle.scan_exec.specs.Joined.{IsSource, source_at};
+ghost use Rattle.scan_exec.specs.Answering.{IsGiving, answer_for, giving_at};
+ghost use Rattle.scan_exec.specs.Giving.{GivesNext, of_rows};
 
-use crate::build::Sourced;
-use crate::columns::numbers_below;
 use crate::grouped::{GroupedRows, Stage, Wanted};
-use crate::picker::Picker;
-use crate::rows::{Rows, Source};
 use arrays::Batch;
 use hash_seed::HashSeed;
+use row_sources::{RowSource, Rows, UnfilteredRows};
 use std::alloc::{AllocError, Global};
-use std::sync::Arc;
 use typed_plan::Output;
 
 // What is still to be given.
@@ -74,53 +67,36 @@ fn next_batch(alloc: Global, rows: &mut Rows) -> Result<Option<Batch>, AllocErro
 // them are grouped is for the filters to choose then.
 pub(crate) fn answer_of(
     alloc: Global,
-    sourced: Sourced,
+    source: RowSource,
     output: Output,
     seed: HashSeed,
 ) -> Result<Answer, AllocError>
-    requires sourced { IsSourced sourced }
-    requires output { HasOutput output sourced.types.items }
-    requires front { take (length (sourced_at sourced).opened) (sourced_at sourced).batches ≡ (sourced_at sourced).opened }
-    requires few { is_grouping output ≡ true → length (source_at sourced.source).ahead ≤ most_rows }
+    requires output { HasOutput output source.rows.types }
+    requires front { take (length source.rows.opened) source.rows.batches ≡ source.rows.opened }
+    requires few { is_grouping output ≡ true → source.count ≤ most_rows }
     ensures giving { IfOk result IsGiving }
-    ensures answer { IfOk result (λ answer. giving_at answer ≡ answer_for output (sourced_at sourced)) }
+    ensures answer { IfOk result (λ answer. giving_at answer ≡ answer_for output source.rows) }
 {
     match output {
-        Output::Project(columns) => Ok(Answer::Rows(sourced.shown(alloc, &columns)?)),
+        Output::Project(columns) => Ok(Answer::Rows(source.project(alloc, &columns)?)),
         Output::Groups { keys, items } => {
-            let picker = Picker {
-                filters: sourced.filters,
-                read: numbers_below(alloc, sourced.columns.len())?,
-                shown: Vec::new(alloc),
-            };
+            let UnfilteredRows {
+                rows,
+                picker,
+                types,
+            } = source.without_filters(alloc)?;
             let wanted = Wanted {
                 picker,
                 seed,
-                types: sourced.types,
+                types,
                 keys: keys.into_vec(),
                 items: items.into_vec(),
             };
             Ok(Answer::Groups(GroupedRows {
-                rows: all_rows(alloc, sourced.source, sourced.columns)?,
+                rows,
                 wanted,
                 stage: Stage::Waiting,
             }))
         }
     }
-}
-
-// What gives these columns of all rows of a source.
-fn all_rows(alloc: Global, source: Source, columns: Vec<usize>) -> Result<Rows, AllocError>
-    requires source { IsSource source }
-    requires there { IsTrue (are_within (length (source_at source).types) columns.items) }
-    ensures { IfOk result (λ rows. rows ≡ unfiltered columns.items (source_at source)) }
-{
-    let mut read = Vec::new(alloc);
-    read.extend_from_slice(columns.as_slice())?;
-    let picker = Picker {
-        filters: Vec::new(alloc),
-        read,
-        shown: columns,
-    };
-    Ok(Rows::new(alloc, source, Arc::new(alloc, picker)?))
 }

@@ -1,13 +1,10 @@
-//! The tables of a plan's places, as a scan reads them.
+//! The batches that a scan opens, each by the number of its place and its own.
 
-ghost use Rattle.std.specs.Prelude.{◌≡◌, ◌<◌, ◌++◌, IfOk, OnOk, drop, length, map};
+ghost use Rattle.std.specs.Prelude.{◌≡◌, ◌++◌, IfOk, OnOk, drop, map};
 ghost use Rattle.opened_batches.specs.Opened.{numbered_batches};
-ghost use Rattle.scan_exec.specs.OpenedTables.{CanAll, narrow_all};
 
-use crate::opened_table::OpenedTable;
 use opened_batches::OpenedList;
 use std::alloc::{AllocError, Global};
-use table_versions::TableVersion;
 
 // The batches of the further places, place by place, each by the number of its place and its own.
 pub(crate) fn further_batches(
@@ -35,21 +32,4 @@ pub(crate) fn push_numbers(
         batches.push((place, *number))?;
     }
     Ok(())
-}
-
-// Each table with the batches of its list alone.
-pub(crate) fn opened_tables(
-    alloc: Global,
-    tables: &[TableVersion],
-    lists: Vec<OpenedList>,
-) -> Result<Vec<OpenedTable>, AllocError>
-    requires { CanAll tables.now lists.items }
-    ensures { IfOk result (λ opened. opened.items ≡ narrow_all (map (λ list. list.numbers.items) lists.items) tables.now) }
-{
-    let mut opened = Vec::new(alloc);
-    for list in lists {
-        let table = tables[opened.len()].share()?;
-        opened.push(OpenedTable::new(table, list.numbers, list.rows))?;
-    }
-    Ok(opened)
 }

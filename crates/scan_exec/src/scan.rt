@@ -13,13 +13,13 @@ ghost use Rattle.scan_exec.specs.Morsels.{HasMorsels, morsel_of, of_first};
 ghost use Rattle.scan_exec.specs.Scan.{Gives, IsBeginning, left};
 
 use crate::answer::{Answer, answer_of};
-use crate::build::{Reading, build};
-use crate::opened::{further_batches, opened_tables, push_numbers};
+use crate::opened::{further_batches, push_numbers};
 use arrays::Batch;
 use arrow_schema::Schema;
 use hash_seed::HashSeed;
 use opened_batches::opened_lists;
 use rewrite::laws::skipping_keeps_rows;
+use row_sources::{Reading, RowSource, opened_tables};
 use scan_base::Fault;
 use std::alloc::{AllocError, Global};
 use std::marker::Model;
@@ -99,10 +99,10 @@ impl Scan {
         let (from, to) = (first.from, first.to);
         let (tables, plan, output, schema) = rewrite::rewrite(alloc, plan)?.into_parts();
         let tables = opened_tables(alloc, tables.as_slice(), lists)?;
-        let sourced = build(alloc, plan, tables, Reading { seed, from, to })?;
+        let source = RowSource::new(alloc, plan, tables, Reading { seed, from, to })?;
         Ok(Scan {
             schema: Arc::new(alloc, schema)?,
-            answer: answer_of(alloc, sourced, output, seed)?,
+            answer: answer_of(alloc, source, output, seed)?,
             batches,
             further,
             given: 0,
@@ -145,6 +145,13 @@ impl Scan {
         ensures { result.now ≡ self.now.opened }
     {
         &self.batches.as_slice()[..self.further + self.answer.opened()]
+    }
+
+    /// How many rows were given.
+    pub fn given(&self) -> usize
+        ensures { result ≡ self.now.given }
+    {
+        self.given
     }
 
     /// How many morsels the scan has: one for each batch of the first place that is to be opened. Its rows are those of its

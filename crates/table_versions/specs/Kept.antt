@@ -29,7 +29,7 @@ pub record AreSound (fields : List Field) (rows : List Row) : Type 0 where
   pub nulls : list_any (has_bad_null fields) rows ≡ false
   pub texts : list_any (list_any is_long_text) rows ≡ false
 
--- a stored table also has rows in each batch, all of them sound, and this is their number
+-- a stored table also has rows in each batch, each batch stands, all rows are sound, and this is their number
 pub record IsKept (table : TableAt) (rows : ℕ) : Type 0 where
   pub storable : IsStorable table.schema table.batches
   pub filled : IsTrue (list_all has_rows table.batches)

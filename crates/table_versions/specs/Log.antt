@@ -8,6 +8,7 @@ use Rattle.table_versions.specs.Valid.{IsPut}
 pub data Entry : Type 0 where
   added : Put → Entry
 
+-- what was done to a catalog, in order
 abbrev pub Log : Type 0
 Log = List Entry
 
@@ -20,10 +21,11 @@ puts_of (added put ∷ log) = put ∷ puts_of log
 abbrev pub puts_in : Log → ℕ
 puts_in log = length (puts_of log)
 
--- the newest database of a log, and that of its first n puts
+-- the newest database of a log
 abbrev pub database_of : Log → Database
 database_of log = puts.database_of (puts_of log)
 
+-- the database behind the first n puts of a log
 abbrev pub version : Log → ℕ → Database
 version log n = puts.version (puts_of log) n
 

@@ -1,7 +1,7 @@
 use Rattle.std.proofs.Common.{◌≡◌, true}
 use Rattle.fetch_stream.specs.inside.Ahead.{schema_behind}
 use Rattle.fetch_stream.specs.inside.Steps.{HasNext}
-use Rattle.fetch_stream.proofs.Ahead.{says_next}
+use Rattle.fetch_stream.proofs.Stepping.{says_next}
 use Rattle.fetch_stream.proofs.Streaming.{few_answered}
 use Rattle.fetch_stream.proofs.stream.next_rows.Goals as goal
 

@@ -1,5 +1,5 @@
 use Rattle.std.proofs.Common.{arith}
-use Rattle.fetch_stream.proofs.Ahead.{next_batch}
+use Rattle.fetch_stream.proofs.Stepping.{next_batch}
 use Rattle.fetch_stream.proofs.stream.refill.Goals as goal
 
 pub returns : goal.returns

@@ -1,8 +1,8 @@
 use Rattle.std.proofs.Common.{List, All, sym, ◌∙◌, subst, length}
 use Rattle.arrow_schema.specs.declared.data_type.DataType.{DataType}
 use Rattle.grouping.specs.Fed.{IsNew}
-use Rattle.scan_exec.specs.Collected.{IsBatchOf}
-use Rattle.scan_exec.specs.Picking.{IsPick, pick_of}
+use Rattle.row_sources.specs.Collected.{IsBatchOf}
+use Rattle.row_sources.specs.Picking.{IsPick, pick_of}
 use Rattle.scan_exec.proofs.Grouping.{finished}
 use Rattle.scan_exec.proofs.grouped.answers_of.Goals as goal
 

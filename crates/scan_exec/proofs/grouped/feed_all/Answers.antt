@@ -1,5 +1,5 @@
 use Rattle.std.proofs.Common.{◌∙◌}
-use Rattle.scan_exec.specs.Picking.{pick_of}
+use Rattle.row_sources.specs.Picking.{pick_of}
 use Rattle.scan_exec.proofs.Grouping.{can_pick, few_enough, is_at, more_fed}
 use Rattle.scan_exec.proofs.grouped.feed_all.Goals as goal
 

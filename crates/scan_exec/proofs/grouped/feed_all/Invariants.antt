@@ -2,7 +2,7 @@ use Rattle.std.proofs.Common.{take}
 use Rattle.std.specs.List.{flat_map}
 use Rattle.arrays.specs.Batch.{rows_of}
 use Rattle.scan_exec.specs.Grouped.{AreFed, passing}
-use Rattle.scan_exec.specs.Picking.{pick_of}
+use Rattle.row_sources.specs.Picking.{pick_of}
 use Rattle.scan_exec.proofs.grouped.feed_all.Given as goal
 
 -- those rows of the batches so far that the filters let through were fed

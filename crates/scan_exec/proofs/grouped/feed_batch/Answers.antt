@@ -1,10 +1,10 @@
 use Rattle.std.proofs.Common.{◌≡◌, ◌≤◌, ◌<◌, ◌-◌, ℕ, Bool, List, All, map, refl, sym, ap, ◌∙◌, subst, arith}
 use Rattle.arrays.specs.Batch.{BatchAt, row_of}
 use Rattle.grouping.specs.Fed.{HasFed, batch_at}
-use Rattle.scan_exec.specs.declared.cursor.Part.{Part}
-use Rattle.scan_exec.specs.Picking.{holds, pick_of}
+use Rattle.row_sources.specs.declared.part.Part.{Part}
+use Rattle.row_sources.specs.Picking.{holds, pick_of}
 use Rattle.scan_exec.proofs.Grouping.{part_fed, part_few, passing_all}
-use Rattle.scan_exec.proofs.Selecting.{chosen_below}
+use Rattle.row_sources.proofs.Selecting.{chosen_below}
 use Rattle.scan_exec.proofs.grouped.feed_batch.Goals as goal
 
 pub feed-requires-clause-within : goal.feed-requires-clause-within

@@ -1,7 +1,7 @@
 use Rattle.std.specs.Prelude.{◌≤◌, ◌-◌}
 use Rattle.grouping.specs.Fed.{HasFed}
 use Rattle.scan_exec.specs.Grouped.{passing_before}
-use Rattle.scan_exec.specs.Picking.{pick_of}
+use Rattle.row_sources.specs.Picking.{pick_of}
 use Rattle.scan_exec.proofs.grouped.feed_batch.Given as goal
 
 -- those rows so far that the filters let through were fed

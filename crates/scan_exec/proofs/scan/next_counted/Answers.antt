@@ -1,5 +1,6 @@
 use Rattle.std.proofs.Common.{refl, inr, arith}
-use Rattle.scan_exec.specs.Answering.{GivesBatch, giving_at}
+use Rattle.scan_exec.specs.Giving.{GivesBatch}
+use Rattle.scan_exec.specs.Answering.{giving_at}
 use Rattle.scan_exec.proofs.Scanning.{batch_few}
 use Rattle.scan_exec.proofs.scan.next_counted.Goals as goal
 

@@ -1,5 +1,5 @@
 use Rattle.std.proofs.Common.{arith}
-use Rattle.fetch_stream.proofs.Ahead.{one_fits, more_than_one, half_reaches}
+use Rattle.fetch_stream.proofs.Stepping.{one_fits, more_than_one, half_reaches}
 use Rattle.fetch_stream.proofs.cutter.Cutter.next.Goals as goal
 
 pub loop-payload-preserved : goal.loop-payload-preserved

@@ -3,7 +3,7 @@ use Rattle.scan_exec.specs.declared.grouped.Stage.{Stage}
 use Rattle.scan_exec.specs.declared.grouped.Stage.TheVariants.{Waiting, Made}
 use Rattle.scan_exec.specs.Giving.{GivingAt, GivesNext}
 use Rattle.scan_exec.specs.Grouped.{IsAnswering, of_groups}
-use Rattle.scan_exec.proofs.AllRows.{goes_still}
+use Rattle.row_sources.proofs.AllRows.{goes_still}
 use Rattle.scan_exec.proofs.Grouping.{gives_made, groups_on, made_ahead, still_answering}
 use Rattle.scan_exec.proofs.grouped.GroupedRows.next.Goals as goal
 

@@ -1,9 +1,10 @@
 use Rattle.std.proofs.Common.{◌≡◌, ◌<◌, ℕ, List, [], ◌∷◌, ◌++◌, length, take, drop, refl, sym, ap, ◌∙◌, subst}
 use Rattle.std.specs.Arc.{arc_value}
 use Rattle.scan_exec.specs.declared.answer.Answer.{Answer}
-use Rattle.scan_exec.specs.Answering.{IsScan, giving_at, number_in, of_rows, scan_at}
+use Rattle.scan_exec.specs.Answering.{IsScan, giving_at, number_in, scan_at}
+use Rattle.scan_exec.specs.Giving.{of_rows}
 use Rattle.scan_exec.specs.Morsels.{morsel_of, of_first}
-use Rattle.scan_exec.specs.Running.{RowsAt}
+use Rattle.row_sources.specs.Running.{RowsAt}
 use Rattle.scan_exec.specs.Scan.{ScanAt}
 use Rattle.scan_exec.proofs.PartPairs.{batch_there, first_there, pair_is}
 use Rattle.scan_exec.proofs.PartScan.{morsel_is, morsel_scan, none_opened}

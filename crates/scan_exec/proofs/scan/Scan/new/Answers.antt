@@ -7,7 +7,6 @@ use Rattle.scan_base.specs.Limits.{most_rows}
 use Rattle.std.proofs.lemmas.List.Elements.{All-nil, All-cons, All-head, All-tail}
 use Rattle.table_versions.specs.Kept.{IsKept}
 use Rattle.table_versions.specs.Stored.{TableAt, table_of}
-use Rattle.scan_exec.specs.Showing.{IsShort}
 use Rattle.table_versions.specs.Table.{Row, is_long_text}
 use Rattle.typed_plan.specs.declared.plan.Output.{Output}
 use Rattle.typed_plan.specs.declared.plan.Plan.{Plan}
@@ -15,28 +14,31 @@ use Rattle.typed_plan.specs.Held.{tree_schemas}
 use Rattle.typed_plan.specs.Typed.{HasOutput, IsTyped, is_grouping, is_place}
 use Rattle.typed_plan.specs.View.{BoundAt, plan_of, tree_of}
 use Rattle.rewrite.specs.Laws.{SkippingKeepsRows}
-use Rattle.scan_exec.specs.declared.build.Sourced.{Sourced}
 use Rattle.opened_batches.specs.declared.opened.OpenedList.{OpenedList}
 use Rattle.scan_exec.specs.Answering.{IsScan, answer_for, giving_at, scan_at}
-use Rattle.scan_exec.specs.Begun.{IsBegun, IsSourced, sourced_at}
+use Rattle.row_sources.specs.Begun.{IsBegun}
+use Rattle.row_sources.specs.Running.{RowsAt}
 use Rattle.scan_exec.specs.Giving.{GivingAt}
-use Rattle.scan_exec.specs.Given.{first_batches}
+use Rattle.row_sources.specs.Parts.{first_batches}
 use Rattle.opened_batches.specs.Listed.{AreLists}
-use Rattle.scan_exec.specs.OpenedTables.{AreKept}
 use Rattle.opened_batches.specs.Narrow.{BeginsInFirst}
 use Rattle.opened_batches.specs.Opened.{batches_in, first_opened, further_opened, opened_numbers, numbered_batches, where_parts}
-use Rattle.scan_exec.specs.OpenedTables.{CanAll, narrow_all}
+use Rattle.row_sources.specs.OpenedTables.{CanAll, narrow_all}
 use Rattle.rewrite.specs.Same.{StandsFor}
 use Rattle.scan_exec.specs.Scan.{IsBeginning}
 use Rattle.scan_exec.proofs.Beginning.{begins_is, is_scan}
 use Rattle.scan_exec.proofs.Hopeless.{holds}
 use Rattle.scan_exec.proofs.NarrowLaw.{schemas_of}
-use Rattle.scan_exec.proofs.NarrowScan.{Laws, first_list, laws, lists_can, narrow_schemas, typed_fit}
+use Rattle.scan_exec.proofs.NarrowScan.{AreKept, Laws, first_list, laws, lists_can, narrow_schemas, typed_fit}
 use Rattle.scan_exec.proofs.OpenedLists.{numbers_of}
 use Rattle.scan_exec.proofs.Outputs.{output_there}
 use Rattle.scan_exec.proofs.PlanGives.{rows_law}
 use Rattle.scan_exec.proofs.ShortGiven.{short_law}
 use Rattle.scan_exec.proofs.scan.Scan.new.Goals as goal
+
+-- no text of a table is too long
+abbrev IsShort : TableAt → Type 0
+IsShort table = list_any (list_any is_long_text) (table_of table).rows ≡ false
 
 -- tables that are kept have no text that is too long
 kept_short : (tables : List TableAt) → AreKept tables → All IsShort tables
@@ -85,31 +87,31 @@ module _ (old new : BoundAt) (from to : ℕ) (lists : List OpenedList) (list : O
       ∙ ap (λ (ns : List ℕ). further_opened old ++ map (λ number. (0, number)) ns) (sym (first_named lists list some first) ∙ ap first_numbers_of numbers)
 
   -- what gives the rows of the new plan over these batches
-  module _ (typed_new : IsTyped (plan_of new)) (plan : Plan) (tables : List TableAt) (sourced : Sourced) (plan_is : plan ≡ new.plan) (tables_are : tables ≡ narrow_all (numbers_of lists) old.tables)
-      (begun : IsBegun (tree_of plan) tables list.from list.to (sourced_at sourced)) where
-    begun_over : IsBegun (tree_of new.plan) bound.tables list.from list.to (sourced_at sourced)
+  module _ (typed_new : IsTyped (plan_of new)) (plan : Plan) (tables : List TableAt) (rows : RowsAt) (plan_is : plan ≡ new.plan) (tables_are : tables ≡ narrow_all (numbers_of lists) old.tables)
+      (begun : IsBegun (tree_of plan) tables list.from list.to rows) where
+    begun_over : IsBegun (tree_of new.plan) bound.tables list.from list.to rows
     begun_over =
-        subst (λ (some : Plan). IsBegun (tree_of some) bound.tables list.from list.to (sourced_at sourced)) plan_is
-        (subst (λ (some : List TableAt). IsBegun (tree_of plan) some list.from list.to (sourced_at sourced)) tables_are begun)
+        subst (λ (some : Plan). IsBegun (tree_of some) bound.tables list.from list.to rows) plan_is
+        (subst (λ (some : List TableAt). IsBegun (tree_of plan) some list.from list.to rows) tables_are begun)
 
-    pub output_is : IsSourced sourced → HasOutput new.output sourced.types.items
-    output_is is = output_there bound list.from list.to typed_new sourced is begun_over
+    pub output_is : HasOutput new.output rows.types
+    output_is = output_there bound list.from list.to typed_new rows begun_over
 
     module _ (output : Output) (giving : GivingAt) (schema : Schema) (front pairs : List (ℕ × ℕ)) (further : ℕ) (output_same : output ≡ new.output) (schema_is : schema ≡ new.schema)
-        (answer : giving ≡ answer_for output (sourced_at sourced)) (front_is : front ≡ numbered_batches 1 (drop 1 (numbers_of lists)))
+        (answer : giving ≡ answer_for output rows) (front_is : front ≡ numbered_batches 1 (drop 1 (numbers_of lists)))
         (pairs_are : pairs ≡ front ++ map (λ number. (0, number)) list.numbers.items) (count : further ≡ length front) where
-      giving_is : giving ≡ answer_for new.output (sourced_at sourced)
-      giving_is = answer ∙ ap (λ (o : Output). answer_for o (sourced_at sourced)) output_same
+      giving_is : giving ≡ answer_for new.output rows
+      giving_is = answer ∙ ap (λ (o : Output). answer_for o rows) output_same
 
       pub begins : IsBeginning old from to (scan_at schema giving pairs further 0 None)
       begins =
           subst (λ (s : Schema). IsBeginning old from to (scan_at s giving pairs further 0 None)) (sym (schema_is ∙ same.schema))
-          (begins_is bound list.from list.to typed_new (sourced_at sourced) begun_over old from to giving pairs further giving_is (all_pairs front pairs front_is pairs_are)
+          (begins_is bound list.from list.to typed_new rows begun_over old from to giving pairs further giving_is (all_pairs front pairs front_is pairs_are)
           (count ∙ ap length (further_is front front_is)) same.schema all_laws.given)
 
       pub scans : IsScan giving pairs further 0
       scans =
-          is_scan bound list.from list.to typed_new (sourced_at sourced) begun_over old from to giving pairs further giving_is (all_pairs front pairs front_is pairs_are)
+          is_scan bound list.from list.to typed_new rows begun_over old from to giving pairs further giving_is (all_pairs front pairs front_is pairs_are)
           (count ∙ ap length (further_is front front_is)) all_laws.batches
 
 -- the tables of the new plan are those of the old one
@@ -119,8 +121,8 @@ opened_tables-requires c =
     subst (λ (ts : List TableAt). CanAll ts c.in_ok-lists.lists.items) (sym tables)
     (lists_can c.args.range.start c.args.range.end c.args.plan.tables c.in_ok-lists.lists.items c.in_ok-lists.ensures.lists)
 
-pub build-requires-clause-schemas : goal.build-requires-clause-schemas
-build-requires-clause-schemas c =
+pub new-requires-clause-schemas : goal.new-requires-clause-schemas
+new-requires-clause-schemas c =
     let parts = c.into_parts-tables in
     let lists = c.in_ok-lists.lists.items in
     let old = c.args.plan in
@@ -131,23 +133,23 @@ build-requires-clause-schemas c =
     ∙ sym (narrow_schemas old.tables lists (lists_can c.args.range.start c.args.range.end old.tables lists c.in_ok-lists.ensures.lists))
     ∙ ap schemas_of (sym (c.in_ok-tables.ensures ∙ ap (narrow_all (numbers_of lists)) tables))
 
-pub build-requires-clause-first : goal.build-requires-clause-first
-build-requires-clause-first c =
+pub new-requires-clause-first : goal.new-requires-clause-first
+new-requires-clause-first c =
     let known = all_laws c.args.plan c.in_ok-rewrite.field-0 c.args.range.start c.args.range.end c.in_ok-lists.lists.items c.index-first.result.now c.plan-typed.ensures.typed c.tables-columns.ensures.columns c.skipping_keeps_rows.ensures c.in_ok-rewrite.ensures.same c.in_ok-lists.ensures.kept c.in_ok-lists.ensures.numbers c.in_ok-lists.ensures.lists (list_at c.in_ok-lists.lists.items c.index-first.result.now c.index-first.ensures) in
     let tables = c.in_ok-tables.ensures ∙ ap (narrow_all (numbers_of c.in_ok-lists.lists.items)) (c.as_slice-3.ensures.value ∙ c.into_parts-tables.ensures.tables ∙ c.in_ok-rewrite.ensures.same.tables) in
     subst (λ (ts : List TableAt). BeginsInFirst c.index-first.result.now.from (first_batches ts)) (sym tables) known.begins
 
-pub build-requires-clause-each : goal.build-requires-clause-each
-build-requires-clause-each c =
+pub new-requires-clause-each : goal.new-requires-clause-each
+new-requires-clause-each c =
     let known = all_laws c.args.plan c.in_ok-rewrite.field-0 c.args.range.start c.args.range.end c.in_ok-lists.lists.items c.index-first.result.now c.plan-typed.ensures.typed c.tables-columns.ensures.columns c.skipping_keeps_rows.ensures c.in_ok-rewrite.ensures.same c.in_ok-lists.ensures.kept c.in_ok-lists.ensures.numbers c.in_ok-lists.ensures.lists (list_at c.in_ok-lists.lists.items c.index-first.result.now c.index-first.ensures) in
     let tables = c.in_ok-tables.ensures ∙ ap (narrow_all (numbers_of c.in_ok-lists.lists.items)) (c.as_slice-3.ensures.value ∙ c.into_parts-tables.ensures.tables ∙ c.in_ok-rewrite.ensures.same.tables) in
     subst (λ (ts : List TableAt). batches_in c.index-first.result.now.from c.index-first.result.now.to (first_batches ts) ≡ range_with_len 0 (length (first_batches ts))) (sym tables) known.each
 
 pub answer_of-requires-clause-output : goal.answer_of-requires-clause-output
 answer_of-requires-clause-output c =
-    subst (λ (output : Output). HasOutput output c.in_ok-sourced.sourced.types.items) (sym c.into_parts-tables.ensures.output)
+    subst (λ (output : Output). HasOutput output c.in_ok-source.source.rows.types) (sym c.into_parts-tables.ensures.output)
     (output_is c.args.plan c.in_ok-rewrite.field-0 c.args.range.start c.args.range.end c.in_ok-lists.lists.items c.index-first.result.now c.plan-typed.ensures.typed c.tables-columns.ensures.columns c.skipping_keeps_rows.ensures c.in_ok-rewrite.ensures.same c.in_ok-lists.ensures.kept c.in_ok-lists.ensures.numbers c.in_ok-lists.ensures.lists (list_at c.in_ok-lists.lists.items c.index-first.result.now c.index-first.ensures)
-    c.into_parts-tables.ensures.typed c.into_parts-tables.result.1 c.in_ok-tables.tables.items c.in_ok-sourced.sourced c.into_parts-tables.ensures.plan (c.in_ok-tables.ensures ∙ ap (narrow_all (numbers_of c.in_ok-lists.lists.items)) (c.as_slice-3.ensures.value ∙ c.into_parts-tables.ensures.tables ∙ c.in_ok-rewrite.ensures.same.tables)) c.in_ok-sourced.ensures.begun c.in_ok-sourced.ensures.sourced)
+    c.into_parts-tables.ensures.typed c.into_parts-tables.result.1 c.in_ok-tables.tables.items c.in_ok-source.source.rows c.into_parts-tables.ensures.plan (c.in_ok-tables.ensures ∙ ap (narrow_all (numbers_of c.in_ok-lists.lists.items)) (c.as_slice-3.ensures.value ∙ c.into_parts-tables.ensures.tables ∙ c.in_ok-rewrite.ensures.same.tables)) c.in_ok-source.ensures.begun)
 
 pub answer_of-requires-clause-few : goal.answer_of-requires-clause-few
 answer_of-requires-clause-few c grouped =
@@ -157,20 +159,20 @@ answer_of-requires-clause-few c grouped =
     let tables = c.in_ok-tables.ensures ∙ ap (narrow_all (numbers_of c.in_ok-lists.lists.items)) (c.as_slice-3.ensures.value ∙ parts.ensures.tables ∙ c.in_ok-rewrite.ensures.same.tables) in
     let place : is_place (tree_of parts.result.1) ≡ true =
     ap (λ (plan : Plan). is_place (tree_of plan)) parts.ensures.plan ∙ parts.ensures.typed.alone (ap is_grouping (sym parts.ensures.output) ∙ grouped) in
-    omega (arith, c.in_ok-sourced.ensures.few place, ap (λ (ts : List TableAt). length (flat_map rows_of (first_batches ts))) tables, known.few)
+    omega (arith, c.in_ok-source.ensures.few place, ap (λ (ts : List TableAt). length (flat_map rows_of (first_batches ts))) tables, known.few)
 
 pub invariant_of-result : goal.invariant_of-result
 invariant_of-result c = (
   c.in_ok-answer_of.ensures.giving,
   scans c.args.plan c.in_ok-rewrite.field-0 c.args.range.start c.args.range.end c.in_ok-lists.lists.items c.index-first.result.now c.plan-typed.ensures.typed c.tables-columns.ensures.columns c.skipping_keeps_rows.ensures c.in_ok-rewrite.ensures.same c.in_ok-lists.ensures.kept c.in_ok-lists.ensures.numbers c.in_ok-lists.ensures.lists (list_at c.in_ok-lists.lists.items c.index-first.result.now c.index-first.ensures)
-      c.into_parts-tables.ensures.typed c.into_parts-tables.result.1 c.in_ok-tables.tables.items c.in_ok-sourced.sourced c.into_parts-tables.ensures.plan (c.in_ok-tables.ensures ∙ ap (narrow_all (numbers_of c.in_ok-lists.lists.items)) (c.as_slice-3.ensures.value ∙ c.into_parts-tables.ensures.tables ∙ c.in_ok-rewrite.ensures.same.tables)) c.in_ok-sourced.ensures.begun
+      c.into_parts-tables.ensures.typed c.into_parts-tables.result.1 c.in_ok-tables.tables.items c.in_ok-source.source.rows c.into_parts-tables.ensures.plan (c.in_ok-tables.ensures ∙ ap (narrow_all (numbers_of c.in_ok-lists.lists.items)) (c.as_slice-3.ensures.value ∙ c.into_parts-tables.ensures.tables ∙ c.in_ok-rewrite.ensures.same.tables)) c.in_ok-source.ensures.begun
       c.into_parts-tables.result.2 (giving_at c.in_ok-answer_of.field-0) c.into_parts-tables.result.3 c.in_ok-batches.batches.items c.push_numbers.new.batches.items c.len-further.result c.into_parts-tables.ensures.output c.into_parts-tables.ensures.schema c.in_ok-answer_of.ensures.answer (c.in_ok-batches.ensures ∙ ap (λ (some : List OpenedList). numbered_batches 1 (drop 1 (numbers_of some))) c.as_slice.ensures.value) (c.in_ok-push_numbers.ensures ∙ ap (λ (ns : List ℕ). c.in_ok-batches.batches.items ++ map (λ number. (0, number)) ns) c.as_slice-2.ensures.value) (search rules),
 )
 
 pub returns-clause-begins : goal.returns-clause-begins
 returns-clause-begins c =
     begins c.args.plan c.in_ok-rewrite.field-0 c.args.range.start c.args.range.end c.in_ok-lists.lists.items c.index-first.result.now c.plan-typed.ensures.typed c.tables-columns.ensures.columns c.skipping_keeps_rows.ensures c.in_ok-rewrite.ensures.same c.in_ok-lists.ensures.kept c.in_ok-lists.ensures.numbers c.in_ok-lists.ensures.lists (list_at c.in_ok-lists.lists.items c.index-first.result.now c.index-first.ensures)
-    c.into_parts-tables.ensures.typed c.into_parts-tables.result.1 c.in_ok-tables.tables.items c.in_ok-sourced.sourced c.into_parts-tables.ensures.plan (c.in_ok-tables.ensures ∙ ap (narrow_all (numbers_of c.in_ok-lists.lists.items)) (c.as_slice-3.ensures.value ∙ c.into_parts-tables.ensures.tables ∙ c.in_ok-rewrite.ensures.same.tables)) c.in_ok-sourced.ensures.begun
+    c.into_parts-tables.ensures.typed c.into_parts-tables.result.1 c.in_ok-tables.tables.items c.in_ok-source.source.rows c.into_parts-tables.ensures.plan (c.in_ok-tables.ensures ∙ ap (narrow_all (numbers_of c.in_ok-lists.lists.items)) (c.as_slice-3.ensures.value ∙ c.into_parts-tables.ensures.tables ∙ c.in_ok-rewrite.ensures.same.tables)) c.in_ok-source.ensures.begun
     c.into_parts-tables.result.2 (giving_at c.in_ok-answer_of.field-0) (arc_value c.in_ok-new.field-0) c.in_ok-batches.batches.items c.push_numbers.new.batches.items c.len-further.result c.into_parts-tables.ensures.output (c.in_ok-new.ensures.ok ∙ c.into_parts-tables.ensures.schema) c.in_ok-answer_of.ensures.answer (c.in_ok-batches.ensures ∙ ap (λ (some : List OpenedList). numbered_batches 1 (drop 1 (numbers_of some))) c.as_slice.ensures.value) (c.in_ok-push_numbers.ensures ∙ ap (λ (ns : List ℕ). c.in_ok-batches.batches.items ++ map (λ number. (0, number)) ns) c.as_slice-2.ensures.value) (search rules)
 
 pub returns-clause-rows : goal.returns-clause-rows

@@ -1,0 +1,145 @@
+-- Payloads that are made ahead of a stream, and the rest of it.
+use Rattle.std.proofs.Common.{◌≡◌, ◌≤◌, ◌<◌, ◌+◌, ℕ, Bool, true, false, List, [], ◌∷◌, ◌++◌, length, map, drop, cond, Option, Some, None, Result, Ok, Err, inl, inr, refl, sym, ap, subst, ◌∙◌, length-append, arith}
+use Rattle.std.specs.List.{list_any, filter}
+use Rattle.std.proofs.lemmas.List.{drop-drop, drop_at, length-drop}
+use Rattle.scan_base.specs.declared.fault.Fault.{Fault}
+use Rattle.arrow_schema.specs.declared.schema.Schema.{Schema}
+use Rattle.table_versions.specs.Table.{Row}
+use Rattle.table_versions.proofs.Storable.{first_false, second_false}
+use Rattle.flight_info.specs.Payloads.{Payload}
+use Rattle.fetch_stream.specs.Streams.{StreamAt, Gives, GivesPayload, MayRefuse}
+use Rattle.fetch_stream.specs.declared.made.Made.{Made}
+use Rattle.fetch_stream.specs.inside.MadeAhead.{AreAhead, GivesMade, MakesNext, Stands, behind}
+use Rattle.fetch_stream.proofs.Answering.{ended}
+
+abbrev at_parts : Schema → Bool → List Row → ℕ → Option Fault → StreamAt
+at_parts schema begun left given refused = record { schema = schema; begun = begun; left = left; given = given; refused = refused }
+
+parts_are : (schema other : Schema) (begun : Bool) (left rest : List Row) (given : ℕ) (refused : Option Fault) → schema ≡ other → begun ≡ true → left ≡ rest → refused ≡ None
+    → at_parts schema begun left given refused ≡ at_parts other true rest given None
+parts_are schema other begun left rest given refused same on all none = rw (same, on, all, none) refl
+
+-- what refused a stream is answered from then on
+pub stays_refused : (before after : StreamAt) (result : Result (Option Payload) Fault) (fault : Fault) → before.refused ≡ Some fault → Gives before result after → (result ≡ Err fault) × (after ≡ before)
+stays_refused before after result fault is gives = by before.schema before.begun before.left before.given before.refused is gives
+  where
+    by : (schema : Schema) (begun : Bool) (left : List Row) (given : ℕ) (refused : Option Fault) → refused ≡ Some fault
+        → Gives (at_parts schema begun left given refused) result after
+        → (result ≡ Err fault) × (after ≡ at_parts schema begun left given refused)
+    by schema begun left given None is gives = absurd cc
+    by schema begun left given (Some other) is gives =
+        let same : other ≡ fault = cc in
+        (gives.0 ∙ rw same refl, gives.1)
+
+-- ---- one payload more
+
+module _ (schema : Schema) (rows : List Row) (given : ℕ) (payload : Payload) (after : StreamAt) (gives : GivesPayload (behind schema rows given) payload after) where
+  -- behind the next payload a stream of these rows stands at the rows behind it
+  pub next_stands : after ≡ behind schema rows after.given
+  next_stands =
+      let n = length gives.rows in
+      let rest : after.left ≡ drop after.given rows =
+      sym (drop_at gives.rows after.left n refl) ∙ ap (λ (l : List Row). drop n l) gives.left ∙ drop-drop n given rows ∙ ap (λ (k : ℕ). drop k rows) (sym gives.counted) in
+      parts_are after.schema schema after.begun after.left (drop after.given rows) after.given after.refused gives.schema gives.begun rest gives.refused
+
+  -- and what is given and left of them is all of them
+  pub next_whole : after.given + length after.left ≡ length rows
+  next_whole = omega (arith, gives.counted, gives.some refl, ap length gives.left, length-append gives.rows after.left, length-drop given rows)
+
+pub one_ahead : (schema : Schema) (rows : List Row) (given : ℕ) (next : Made) (after : StreamAt) → MakesNext (behind schema rows given) (Ok (Some next)) after → AreAhead schema rows given (next ∷ []) (Some after)
+one_ahead schema rows given next after makes =
+    let gives : GivesPayload (behind schema rows given) next.payload after = makes.0 in
+    let stands : after ≡ behind schema rows next.given = next_stands schema rows given next.payload after gives ∙ ap (λ (k : ℕ). behind schema rows k) (sym makes.1) in (
+      subst (λ (s : StreamAt). GivesPayload (behind schema rows given) next.payload s) stands gives,
+      makes.2,
+      omega (arith, makes.3, next_whole schema rows given next.payload after gives),
+      inl stands,
+    )
+
+pub more_ahead : (schema : Schema) (rows : List Row) (given : ℕ) (made : List Made) (before after : StreamAt) (next : Made) → AreAhead schema rows given made (Some before)
+    → MakesNext before (Ok (Some next)) after → AreAhead schema rows given (made ++ next ∷ []) (Some after)
+more_ahead schema rows given [] before after next (inl same) makes =
+    one_ahead schema rows given next after (subst (λ (s : StreamAt). MakesNext s (Ok (Some next)) after) same makes)
+more_ahead schema rows given [] before after next (inr refused) makes =
+    absurd (let e = (stays_refused before after (Ok (Some next.payload)) refused.0 refused.1 makes.0).0 in cc)
+more_ahead schema rows given (made ∷ more) before after next all makes =
+    (all.0, all.1, all.2, more_ahead schema rows made.given more before after next all.3 makes)
+
+-- ---- none more
+
+-- the rest gave nothing
+pub ended_ahead : (schema : Schema) (rows : List Row) (given : ℕ) (made : List Made) (before after : StreamAt) → AreAhead schema rows given made (Some before)
+    → Gives before (Ok None) after → AreAhead schema rows given made (Some after)
+ended_ahead schema rows given made before after all gives =
+    subst (λ (s : StreamAt). AreAhead schema rows given made (Some s)) (sym (ended before after gives).2) all
+
+-- or was refused
+pub refused_ahead : (schema : Schema) (rows : List Row) (given : ℕ) (made : List Made) (before after : StreamAt) (fault : Fault) → AreAhead schema rows given made (Some before)
+    → Gives before (Err fault) after → AreAhead schema rows given made (Some after)
+refused_ahead schema rows given [] before after fault (inl same) gives =
+    let refuses : MayRefuse (behind schema rows given) fault × (after.refused ≡ Some fault) = subst (λ (s : StreamAt). Gives s (Err fault) after) same gives in
+    inr (fault, refuses.1, refuses.0)
+refused_ahead schema rows given [] before after fault (inr refused) gives =
+    let stays = stays_refused before after (Err fault) refused.0 refused.1 gives in
+    inr (refused.0, ap (λ (s : StreamAt). s.refused) stays.1 ∙ refused.1, refused.2)
+refused_ahead schema rows given (made ∷ more) before after fault all gives =
+    (all.0, all.1, all.2, refused_ahead schema rows made.given more before after fault all.3 gives)
+
+-- ---- what is given
+
+-- the first payload that was made
+pub gives_first_made : (schema : Schema) (rows : List Row) (given : ℕ) (first : Made) (more : List Made) (rest : Option StreamAt) → AreAhead schema rows given (first ∷ more) rest
+    → GivesMade schema rows given (Ok (Some first)) more rest
+gives_first_made schema rows given first more rest all = all
+
+-- or that of the rest
+pub gives_rest : (schema : Schema) (rows : List Row) (given : ℕ) (before after : StreamAt) (result : Result (Option Made) Fault) → AreAhead schema rows given [] (Some before)
+    → MakesNext before result after → GivesMade schema rows given result [] (Some after)
+gives_rest schema rows given before after (Ok (Some next)) (inl same) makes =
+    one_ahead schema rows given next after (subst (λ (s : StreamAt). MakesNext s (Ok (Some next)) after) same makes)
+gives_rest schema rows given before after (Ok (Some next)) (inr refused) makes =
+    absurd (let e = (stays_refused before after (Ok (Some next.payload)) refused.0 refused.1 makes.0).0 in cc)
+gives_rest schema rows given before after (Ok None) (inl same) makes =
+    let end = ended before after makes in
+    (sym (ap (λ (s : StreamAt). s.left) same) ∙ end.1, inl (end.2 ∙ same))
+gives_rest schema rows given before after (Ok None) (inr refused) makes =
+    absurd (let e = (stays_refused before after (Ok None) refused.0 refused.1 makes).0 in cc)
+gives_rest schema rows given before after (Err fault) (inl same) makes =
+    let refuses : MayRefuse (behind schema rows given) fault × (after.refused ≡ Some fault) = subst (λ (s : StreamAt). Gives s (Err fault) after) same makes in
+    refuses.0
+gives_rest schema rows given before after (Err fault) (inr refused) makes =
+    let e = (stays_refused before after (Err fault) refused.0 refused.1 makes).0 in
+    let same : fault ≡ refused.0 = cc in
+    subst (λ (f : Fault). MayRefuse (behind schema rows given) f) (sym same) refused.2
+
+-- what is the same without its first one is empty
+none_dropped : {X : Type 0} (xs : List X) → xs ≡ drop 1 xs → xs ≡ []
+none_dropped [] same = refl
+none_dropped (x ∷ xs) same = absurd (let long : length (x ∷ xs) ≡ length xs = ap length same in omega (arith, long))
+
+-- none was made, and the rest gives the next one
+pub gives_behind : (schema : Schema) (rows : List Row) (given : ℕ) (made more : List Made) (rest : Option StreamAt) (before after : StreamAt) (result : Result (Option Made) Fault)
+    → made ≡ more → more ≡ drop 1 made → rest ≡ Some before → MakesNext before result after → AreAhead schema rows given made rest → GivesMade schema rows given result more (Some after)
+gives_behind schema rows given made more rest before after result same none is makes all =
+    let empty : more ≡ [] = none_dropped more (none ∙ ap (λ (l : List Made). drop 1 l) same) in
+    let there : AreAhead schema rows given made (Some before) = subst (λ (r : Option StreamAt). AreAhead schema rows given made r) is all in
+    let begins : AreAhead schema rows given [] (Some before) = subst (λ (m : List Made). AreAhead schema rows given m (Some before)) (same ∙ empty) there in
+    subst (λ (m : List Made). GivesMade schema rows given result m (Some after)) (sym empty) (gives_rest schema rows given before after result begins makes)
+
+-- none is made at the beginning
+pub begins_ahead : (schema : Schema) (rows : List Row) (made : List Made) (rest : StreamAt) → made ≡ [] → rest ≡ behind schema rows 0 → AreAhead schema rows 0 made (Some rest)
+begins_ahead schema rows made rest none same = subst (λ (m : List Made). AreAhead schema rows 0 m (Some rest)) (sym none) (inl same)
+
+-- ---- morsels of a scan
+
+-- a part of rows has no text that is too long where they have none
+pub short_part : (test : Row → Bool) (chosen : Option ℕ × Row → Bool) (ahead : List (Option ℕ × Row)) → list_any test (map (λ (given : Option ℕ × Row). given.1) ahead) ≡ false
+    → list_any test (map (λ (given : Option ℕ × Row). given.1) (filter chosen ahead)) ≡ false
+short_part test chosen [] short = refl
+short_part test chosen (row ∷ ahead) short =
+    by (chosen row) (short_part test chosen ahead (second_false (test row.1) (list_any test (map (λ (given : Option ℕ × Row). given.1) ahead)) short))
+  where
+    by : (b : Bool) → list_any test (map (λ (given : Option ℕ × Row). given.1) (filter chosen ahead)) ≡ false
+        → list_any test (map (λ (given : Option ℕ × Row). given.1) (cond b (row ∷ filter chosen ahead) (filter chosen ahead))) ≡ false
+    by true rest = rw (first_false (test row.1) (list_any test (map (λ (given : Option ℕ × Row). given.1) ahead)) short) rest
+    by false rest = rest

@@ -1,0 +1,56 @@
+-- Inside: payloads of a morsel that are made ahead.
+use Rattle.std.specs.Prelude.{◌≡◌, ◌≤◌, ◌⊎◌, ℕ, ◌+◌, true, List, [], ◌∷◌, length, map, drop, Option, Some, None, Result, Ok, Err}
+use Rattle.std.specs.List.{range_with_len}
+use Rattle.scan_base.specs.declared.fault.Fault.{Fault}
+use Rattle.arrow_schema.specs.declared.schema.Schema.{Schema}
+use Rattle.table_versions.specs.Table.{Row}
+use Rattle.scan_exec.specs.Scan.{ScanAt}
+use Rattle.scan_exec.specs.Morsels.{HasMorsels, morsel_rows}
+use Rattle.fetch_stream.specs.Streams.{StreamAt, Gives, GivesPayload, MayRefuse}
+use Rattle.fetch_stream.specs.Morsels.{MorselsAt}
+use Rattle.fetch_stream.specs.declared.made.Made.{Made}
+use Rattle.fetch_stream.specs.declared.source.Source.TheVariants.{Scanned}
+use Rattle.fetch_stream.specs.inside.Ahead.{IsSource}
+
+-- the morsels of a scan
+abbrev pub morsels_at : ScanAt → ℕ → MorselsAt
+morsels_at scan count = record { schema = scan.schema; rows = map (morsel_rows scan) (range_with_len 0 count) }
+
+-- a scan of rows that falls into so many morsels
+pub record FallsInto (scan : ScanAt) (count : ℕ) : Type 0 where
+  pub morsels : HasMorsels scan count
+  pub source : IsSource (Scanned scan)
+
+-- a stream of these rows, of which so many were given
+abbrev pub behind : Schema → List Row → ℕ → StreamAt
+behind schema rows given = record { schema = schema; begun = true; left = drop given rows; given = given; refused = None }
+
+-- where the rest of a stream stands, if there is memory for one: at its next row, or it was refused there
+abbrev pub Stands : StreamAt → Option StreamAt → Type 0
+Stands stream None = Unit {0}
+Stands stream (Some rest) = (rest ≡ stream) ⊎ ((fault : Fault) × (rest.refused ≡ Some fault) × MayRefuse stream fault)
+
+-- Payloads that were made of these rows behind the first ones, each behind the other, and the rest. With each stands how many
+-- rows are given with it, and how many were taken of the scan.
+abbrev pub AreAhead : Schema → List Row → ℕ → List Made → Option StreamAt → Type 0
+AreAhead schema rows given [] rest = Stands (behind schema rows given) rest
+AreAhead schema rows given (made ∷ more) rest =
+    GivesPayload (behind schema rows given) made.payload (behind schema rows made.given)
+    × (made.given ≤ made.taken) × (made.taken ≤ length rows)
+    × AreAhead schema rows made.given more rest
+
+-- what a call of a stream gives, with how many rows were given and taken then
+abbrev pub MakesNext : StreamAt → Result (Option Made) Fault → StreamAt → Type 0
+MakesNext before (Ok (Some made)) after = Gives before (Ok (Some made.payload)) after × (made.given ≡ after.given)
+    × (made.given ≤ made.taken) × (made.taken ≤ after.given + length after.left)
+MakesNext before (Ok None) after = Gives before (Ok None) after
+MakesNext before (Err fault) after = Gives before (Err fault) after
+
+-- what payloads that are ahead give, and the rest behind them
+abbrev pub GivesMade : Schema → List Row → ℕ → Result (Option Made) Fault → List Made → Option StreamAt → Type 0
+GivesMade schema rows given (Ok (Some made)) more rest =
+    GivesPayload (behind schema rows given) made.payload (behind schema rows made.given)
+    × (made.given ≤ made.taken) × (made.taken ≤ length rows)
+    × AreAhead schema rows made.given more rest
+GivesMade schema rows given (Ok None) more rest = (drop given rows ≡ []) × AreAhead schema rows given more rest
+GivesMade schema rows given (Err fault) more rest = MayRefuse (behind schema rows given) fault

@@ -1,0 +1,95 @@
+//! The morsels of a stream.
+
+ghost use Rattle.std.specs.Prelude.{◌≡◌, ◌<◌, IfOk, length, ℕ};
+ghost use Rattle.fetch_stream.specs.Morsels.{GivesSchema, behind_schema, morsel_stream};
+ghost use Rattle.fetch_stream.specs.inside.MadeAhead.{FallsInto, morsels_at};
+ghost use Rattle.scan_exec.specs.Morsels.{morsel_rows};
+
+use crate::ahead::{Ahead, made_ahead};
+use crate::message::schema_payload;
+use crate::payload::Payload;
+use crate::source::Source;
+use crate::stream::FetchStream;
+use arrays::Batch;
+use scan_base::Fault;
+use scan_exec::Scan;
+use std::alloc::{AllocError, Global};
+use std::marker::Model;
+
+/// The morsels of a stream of which nothing was given. The payloads of each can be made apart from those of the others, also
+/// by several threads. Behind the payload of the schema, those of all morsels in order are what the stream gives, as long as
+/// it has no more rows than an answer may: who reads them counts their rows. A contract sees the schema, and the rows of each
+/// morsel.
+pub struct Morsels<'s> {
+    scan: &'s Scan,
+    count: usize,
+}
+
+impl<'s> Model for Morsels<'s> {
+    ghost use Rattle.fetch_stream.specs.Morsels.{MorselsAt};
+    ghost use Rattle.fetch_stream.specs.inside.MadeAhead.{FallsInto, morsels_at};
+
+    ghost Value = { MorselsAt };
+
+    ghost view = { λ m. morsels_at m.scan.now m.count };
+
+    ghost invariant = { λ m. FallsInto m.scan.now m.count };
+}
+
+// Written out, so that dropping it is one call (docs/DECISIONS.md).
+impl<'s> Drop for Morsels<'s> {
+    fn drop(self) {
+        let Morsels { scan: _, count: _ } = self;
+    }
+}
+
+impl<'s> Morsels<'s> {
+    // The morsels of a scan that falls into so many.
+    pub(crate) fn new(scan: &'s Scan, count: usize) -> Morsels<'s>
+        requires { FallsInto scan.now count }
+        ensures { result ≡ morsels_at scan.now count }
+    {
+        Morsels { scan, count }
+    }
+
+    /// How many there are.
+    pub fn count(&self) -> usize
+        ensures { result ≡ length self.now.rows }
+    {
+        self.count
+    }
+
+    /// The payload of the schema.
+    ///
+    /// # Errors
+    ///
+    /// F21 (`Fault::OutOfMemory`) where memory is refused.
+    pub fn first_payload(&self, alloc: Global) -> Result<Payload, Fault>
+        ensures { GivesSchema self.now.schema result }
+    {
+        Ok(schema_payload(alloc, self.scan.schema())?)
+    }
+
+    /// A morsel, counted from 0, as a stream of its own, behind the payload of the schema. Payloads of it are made here until
+    /// there are 16 or have 8,388,608 bytes, and the others when they are asked for. What refuses it, as memory that is
+    /// refused here, is answered behind the payloads that were made before.
+    pub fn ahead(&self, alloc: Global, number: usize) -> Ahead<'s>
+        requires { number < length self.now.rows }
+        ensures { result ≡ morsel_stream self.now number }
+    {
+        let scan = self.scan;
+        let rest = morsel_rest(alloc, scan, number);
+        made_ahead(alloc, scan, number, rest)
+    }
+}
+
+// The stream of a morsel of a scan, before its first row.
+fn morsel_rest(alloc: Global, scan: &Scan, number: usize) -> Result<FetchStream, AllocError>
+    requires falls { (count : ℕ) × FallsInto scan.now count × (number < count) }
+    ensures { IfOk result (λ stream. stream ≡ behind_schema scan.now.schema (morsel_rows scan.now number)) }
+{
+    let morsel = scan.morsel(alloc, number)?;
+    let nothing = Batch::new(Vec::new(alloc), 0);
+    let stream = FetchStream::of(nothing, Source::Scanned(morsel));
+    Ok(stream.behind_schema())
+}

@@ -1,0 +1,16 @@
+use Rattle.std.proofs.Common.{◌≡◌, ◌≤◌, ◌-◌, ◌++◌, length}
+use Rattle.hash_join.specs.Searches.{ahead_of, probe_at}
+use Rattle.hash_join.proofs.search.Search.push_rows.Given as goal
+
+abbrev pub invariant-pieces : goal.invariant-pieces
+invariant-pieces g l = record {
+  within : l.at.left ≤ l.self.left.batch.now.rows;
+  after : l.fn.from ≤ l.at.left;
+  first : l.at.from ≡ 0;
+  kept : length l.kept.items ≡ l.room;
+  all : l.pairs.items ++ ahead_of l.self l.at ≡ l.fn.pairs.items ++ ahead_of l.self (probe_at l.fn.from 0);
+  few : length l.pairs.items ≤ l.most;
+}
+
+abbrev pub decreases-pieces : goal.decreases-pieces
+decreases-pieces g l = l.self.left.batch.now.rows - l.at.left

@@ -1,0 +1,150 @@
+//! Left rows that look for their partners, piece by piece.
+
+ghost use Rattle.std.specs.Prelude.{◌≡◌, ◌≤◌, ◌<◌, ◌+◌, ◌-◌, ◌++◌, ◌^◌, [], All, IfOk, OnOk, length, map, take};
+ghost use Rattle.std.specs.List.{filter, range_with_len};
+ghost use Rattle.hash_join.specs.Searches.{ahead_of, probe_at, start_at, first_left, AreHeads, AreStarts, IsSearch, Passes};
+
+use crate::build::Probe;
+use crate::key_row::KeyRow;
+use crate::pair::Pair;
+use crate::search::Search;
+use crate::sieve::Sieve;
+use crate::walk::Walk;
+use std::alloc::AllocError;
+
+// So many rows make a piece. Those that pass are kept, then the heads of their chains are found, and last their pairs. Each
+// step is a loop of its own, so that its reads of memory do not wait for one another.
+const PIECE_ROWS: usize = 4_096;
+
+// A left row, and the first right row of its chain: the number of right rows where it has none.
+#[derive(Clone, Copy, Drop)]
+pub(crate) struct Start {
+    pub(crate) left: u32,
+    pub(crate) head: u32,
+}
+
+// Left rows that may join, up to the end of a piece, and whether each joins all rows of its chain.
+#[derive(Clone, Copy, Drop)]
+pub(crate) struct Piece<'a> {
+    pub(crate) starts: &'a [Start],
+    pub(crate) own: bool,
+    pub(crate) to: usize,
+}
+
+// Writes the rows from one up to, not with, another that pass, one behind another, and gives how many they are. It takes no
+// branch by what a row tells.
+fn keep_passing<S: Sieve>(sieve: &S, from: usize, to: usize, kept: &mut [u32]) -> usize
+    requires ordered { from ≤ to }
+    requires within { to ≤ S.count sieve.now }
+    requires small { to ≤ 2 ^ 32 }
+    requires room { to ≤ from + length kept.old }
+    ensures few { result ≤ length kept.new }
+    ensures long { length kept.new ≡ length kept.old }
+    ensures kept { take result kept.new ≡ filter (S.passes sieve.now) (range_with_len from (to - from)) }
+{
+    let mut count = 0usize;
+    for row in from..to {
+        kept[count] = row as u32;
+        count += sieve.passes(row) as usize;
+    }
+    count
+}
+
+// Puts rows, with the heads of their chains, in place of what was there.
+fn find_heads<S: Sieve>(sieve: &S, rows: &[u32], starts: &mut Vec<Start>) -> Result<(), AllocError>
+    requires { All (λ row. row < S.count sieve.now) rows.now }
+    ensures { OnOk result (starts.new.items ≡ map (start_at (S.head sieve.now)) rows.now) }
+{
+    starts.clear();
+    for row in rows {
+        let left = *row;
+        let head = sieve.head(left as usize);
+        starts.push(Start { left, head })?;
+    }
+    Ok(())
+}
+
+impl<'a> Search<'a> {
+    // Adds the pairs of the rows from one on until there are `most`, and gives where it stopped: before the last pair only
+    // where there are. Rows that do not pass join nothing.
+    pub(crate) fn push_rows<S: Sieve>(
+        &self,
+        sieve: &S,
+        from: usize,
+        most: usize,
+        pairs: &mut Vec<Pair>,
+    ) -> Result<Probe, AllocError>
+        requires whole { IsSearch self.now }
+        requires row { from ≤ (self.now).left.batch.now.rows }
+        requires all { (self.now).left.batch.now.rows ≤ S.count sieve.now }
+        requires sound { Passes self.now (S.passes sieve.now) }
+        requires heads { AreHeads self.now (S.passes sieve.now) (S.head sieve.now) (S.own sieve.now) }
+        requires few { length pairs.old.items ≤ most }
+        ensures given { IfOk result (λ stop. pairs.new.items ++ ahead_of self.now stop ≡ pairs.old.items ++ ahead_of self.now (probe_at from 0)) }
+        ensures few { IfOk result (λ _. length pairs.new.items ≤ most) }
+        ensures ended { IfOk result (λ stop. length pairs.new.items < most → ahead_of self.now stop ≡ []) }
+    {
+        let rows = self.left.batch.rows();
+        let room = (rows - from).min(PIECE_ROWS);
+        let mut kept = Vec::new(self.alloc);
+        kept.resize(room, 0u32)?;
+        let mut starts = Vec::with_capacity(self.alloc, room)?;
+        let mut at = Probe {
+            left: from,
+            from: 0,
+        };
+        'pieces: while at.left < rows {
+            let to = rows.min(at.left + room);
+            let count = keep_passing(sieve, at.left, to, &mut kept);
+            find_heads(sieve, &kept[..count], &mut starts)?;
+            let piece = Piece {
+                starts: starts.as_slice(),
+                own: sieve.is_own(),
+                to,
+            };
+            at = self.push_piece(&piece, most, pairs)?;
+            if pairs.len() >= most {
+                return Ok(at);
+            }
+        }
+        Ok(at)
+    }
+
+    // Adds the pairs of the rows of a piece until there are `most`, and gives where it stopped: before the end of the piece only
+    // where there are.
+    fn push_piece(
+        &self,
+        piece: &Piece<'_>,
+        most: usize,
+        pairs: &mut Vec<Pair>,
+    ) -> Result<Probe, AllocError>
+        requires whole { IsSearch self.now }
+        requires starts { AreStarts self.now piece.now.own piece.now.to piece.now.starts.now }
+        requires few { length pairs.old.items ≤ most }
+        ensures given { IfOk result (λ stop. pairs.new.items ++ ahead_of self.now stop
+            ≡ pairs.old.items ++ ahead_of self.now (probe_at (first_left piece.now.to piece.now.starts.now) 0)) }
+        ensures few { IfOk result (λ _. length pairs.new.items ≤ most) }
+        ensures ended { IfOk result (λ stop. length pairs.new.items < most → stop ≡ probe_at piece.now.to 0) }
+    {
+        for start in piece.starts {
+            let left = start.left as usize;
+            let walk = Walk {
+                rights: self.rights,
+                chains: self.chains,
+                left: KeyRow {
+                    batch: self.left.batch,
+                    key: self.left.key,
+                    row: left,
+                },
+            };
+            let stop = walk.push_from(piece.own, start.head as usize, most, pairs)?;
+            if stop < self.rights.places.len() {
+                return Ok(Probe { left, from: stop });
+            }
+        }
+        Ok(Probe {
+            left: piece.to,
+            from: 0,
+        })
+    }
+}

@@ -1,0 +1,252 @@
+-- Steps of a join: a joined batch, and a left batch.
+use Rattle.std.proofs.Common.{◌≡◌, ◌≤◌, ◌<◌, ◌⊎◌, inl, inr, ℕ, suc, ◌+◌, ◌-◌, List, [], ◌∷◌, ◌++◌, length, map, take, Option, Some, None, refl, sym, ap, ◌∙◌, subst, arith, append_assoc, length-append, length-take}
+use Rattle.std.specs.List.{flat_map, last_or, range_with_len}
+use Rattle.std.proofs.lemmas.Grind.{flat_map-append}
+use Rattle.std.proofs.lemmas.List.{map-append, length-map, take-take}
+use Rattle.std.proofs.lemmas.List.FromFn.{length-range_with_len}
+use Rattle.std.proofs.lemmas.Simd.{map-map}
+use Rattle.arrow_schema.specs.declared.data_type.DataType.{DataType}
+use Rattle.arrays.specs.Batch.{BatchAt, row_of, rows_of, cut_batch}
+use Rattle.arrays.specs.Column.{ColumnAt}
+use Rattle.arrays.specs.Typed.{AreOf}
+use Rattle.join_batches.specs.Joiner.{JoinerAt, joined_with, joined_of, joined_types, GivesJoined}
+use Rattle.table_versions.specs.Table.{Row}
+use Rattle.table_versions.proofs.Rowing.{length-rows_of}
+use Rattle.row_sources.specs.declared.piece.Piece.{Piece}
+use Rattle.row_sources.specs.Joined.{numbered_joined, joined_at, IsJoined}
+use Rattle.row_sources.specs.Picking.{PickAt, given_numbered}
+use Rattle.row_sources.specs.Picked.{given, given_of_part, IsPicked}
+use Rattle.row_sources.specs.Running.{RowsAt, GoesOn, FindsPiece, Ends, picked_of}
+use Rattle.row_sources.proofs.Piecing.{passed, next_is, given_few}
+use Rattle.row_sources.proofs.Selecting.{cuts_have, rows_there}
+use Rattle.row_sources.specs.declared.part.Part.{Part}
+use Rattle.typed_plan.specs.Typed.{type_at}
+
+-- ---- rows that are joined one by one
+
+-- the joined rows of left rows of one batch
+joined_one : (joiner : JoinerAt) (number : ℕ) (lefts : List Row) →
+    numbered_joined joiner (map (λ row. (number, row)) lefts) ≡ map (λ row. (number, row)) (joined_of joiner lefts)
+joined_one joiner number [] = refl
+joined_one joiner number (left ∷ lefts) =
+    ap (λ (rest : List (ℕ × Row)). map (λ row. (number, row)) (joined_with joiner left) ++ rest) (joined_one joiner number lefts)
+    ∙ sym (map-append (λ row. (number, row)) (joined_with joiner left) (joined_of joiner lefts))
+
+-- and of others behind them
+joined_more : (joiner : JoinerAt) (number : ℕ) (lefts : List Row) (rest : List (ℕ × Row)) →
+    numbered_joined joiner (map (λ row. (number, row)) lefts ++ rest)
+    ≡ map (λ row. (number, row)) (joined_of joiner lefts) ++ numbered_joined joiner rest
+joined_more joiner number lefts rest =
+    flat_map-append (λ (left : ℕ × Row). map (λ row. (left.0, row)) (joined_with joiner left.1)) (map (λ row. (number, row)) lefts) rest
+    ∙ ap (λ (some : List (ℕ × Row)). some ++ numbered_joined joiner rest) (joined_one joiner number lefts)
+
+-- all rows of a batch, as a part of it
+pub whole_part : (batch : BatchAt) → rows_of (cut_batch batch 0 batch.rows) ≡ rows_of batch
+whole_part batch =
+    let size : batch.rows - 0 ≡ batch.rows = omega arith in
+    rows_there (range_with_len 0 (batch.rows - 0)) batch.columns (cut_batch batch 0 batch.rows) (cuts_have batch.columns 0 batch.rows)
+    (sym (length-range_with_len 0 (batch.rows - 0)))
+    ∙ ap (λ (n : ℕ). map (row_of batch.columns) (range_with_len 0 n)) size
+
+-- as many columns as types
+pub as_many : (types : List DataType) (columns : List ColumnAt) → AreOf types columns → length columns ≡ length types
+as_many [] [] typed = refl
+as_many [] (column ∷ columns) typed = absurd typed
+as_many (data_type ∷ types) [] typed = absurd typed
+as_many (data_type ∷ types) (column ∷ columns) typed = ap suc (as_many types columns typed.1)
+
+-- ---- a joined batch
+
+-- a joiner with other rows still to be given
+abbrev pub with_ahead : JoinerAt → List Row → JoinerAt
+with_ahead joiner rows = record joiner { ahead = rows }
+
+module _ (left : RowsAt) (joiner : JoinerAt) (number : ℕ) (batch : BatchAt) (after : JoinerAt) (gives : GivesJoined joiner batch after) where
+  -- its rows are the next ones
+  pub batch_next : (joined_at left joiner number).ahead ≡ map (λ row. (number, row)) (rows_of batch) ++ (joined_at left after number).ahead
+  batch_next =
+      let with_number : List Row → List (ℕ × Row) = λ rows. map (λ row. (number, row)) rows in
+      let rest = numbered_joined joiner left.ahead in
+      ap (λ (rows : List Row). with_number rows ++ rest) gives.next
+      ∙ ap (λ (rows : List (ℕ × Row)). rows ++ rest) (map-append (λ row. (number, row)) (rows_of batch) after.ahead)
+      ∙ append_assoc (with_number (rows_of batch)) (with_number after.ahead) rest
+      ∙ ap (λ (j : JoinerAt). with_number (rows_of batch) ++ (with_number after.ahead ++ numbered_joined j left.ahead)) (sym gives.on)
+
+  -- fewer joined rows are to come
+  pub batch_fewer : length (joined_at left after number).ahead < length (joined_at left joiner number).ahead
+  batch_fewer =
+      let long = ap length (batch_next) in
+      let both = length-append (map (λ row. (number, row)) (rows_of batch)) (joined_at left after number).ahead in
+      let size = length-map {B = ℕ × Row} (rows_of batch) (λ (row : Row). (number, row)) in
+      let rows = length-rows_of batch in
+      omega (arith, long, both, size, rows, gives.some)
+
+  -- nothing else is changed
+  pub batch_on : take (length left.opened) left.batches ≡ left.opened → GoesOn (joined_at left joiner number) (joined_at left after number)
+  batch_on front = record {
+    types = ap joined_types gives.on;
+    batches = refl;
+    depth = refl;
+    opening = take_same left.opened;
+    opened = front;
+  }
+    where
+      take_same : (xs : List ℕ) → take (length xs) xs ≡ xs
+      take_same [] = refl
+      take_same (x ∷ xs) = ap (λ rest. x ∷ rest) (take_same xs)
+
+  pub still_joined : IsJoined left joiner number → IsJoined left after number
+  still_joined is = record {
+    typed = is.typed ∙ sym (ap (λ (j : JoinerAt). j.left_types) gives.on);
+    front = is.front;
+    latest = inr (of_last is.latest);
+  }
+    where
+      of_last : (joiner.ahead ≡ []) ⊎ (last_or None left.opened ≡ Some number) → last_or None left.opened ≡ Some number
+      of_last (inr latest) = latest
+      of_last (inl none) =
+          let long = length-append (rows_of batch) after.ahead in
+          let size = length-rows_of batch in
+          absurd (omega (arith, long, size, gives.some, ap length (sym gives.next ∙ none)))
+
+-- ---- a left batch
+
+module _ (left : RowsAt) (joiner : JoinerAt) (number : ℕ) (piece : Piece) (after : RowsAt) (none : joiner.ahead ≡ []) (finds : FindsPiece left piece after) where
+  abbrev pub fed : JoinerAt
+  fed = with_ahead joiner (joined_of joiner (rows_of piece.batch))
+
+  -- the joined rows to come are the same
+  pub fed_next : (joined_at left joiner number).ahead ≡ (joined_at after fed piece.number).ahead
+  fed_next =
+      ap (λ (rows : List Row). map (λ row. (number, row)) rows ++ numbered_joined joiner left.ahead) none
+      ∙ ap (numbered_joined joiner) finds.next
+      ∙ joined_more joiner piece.number (rows_of piece.batch) after.ahead
+
+  pub fed_on : GoesOn (joined_at left joiner number) (joined_at after fed piece.number)
+  fed_on = record {
+    types = refl;
+    batches = finds.on.batches;
+    depth = ap (λ (n : ℕ). n + 1) finds.on.depth;
+    opening = finds.on.opening;
+    opened = finds.on.opened;
+  }
+
+  pub fed_joined : left.types ≡ joiner.left_types → IsJoined after fed piece.number
+  fed_joined typed = record { typed = finds.on.types ∙ typed; front = finds.on.opened; latest = inr finds.latest }
+
+  -- fewer left rows are to come
+  pub fed_fewer : length after.ahead < length left.ahead
+  fed_fewer =
+      let long = ap length finds.next in
+      let both = length-append (map (λ row. (piece.number, row)) (rows_of piece.batch)) after.ahead in
+      let size = length-map {B = ℕ × Row} (rows_of piece.batch) (λ (row : Row). (piece.number, row)) in
+      let rows = length-rows_of piece.batch in
+      omega (arith, long, both, size, rows, finds.some)
+
+-- ---- no left batch
+
+module _ (left : RowsAt) (joiner : JoinerAt) (number : ℕ) (after : RowsAt) (none : joiner.ahead ≡ []) where
+  -- what goes on below goes on here
+  pub left_on : GoesOn left after → GoesOn (joined_at left joiner number) (joined_at after joiner number)
+  left_on on = record {
+    types = refl;
+    batches = on.batches;
+    depth = ap (λ (n : ℕ). n + 1) on.depth;
+    opening = on.opening;
+    opened = on.opened;
+  }
+
+  pub left_joined : left.types ≡ joiner.left_types → GoesOn left after → IsJoined after joiner number
+  left_joined typed on = record { typed = on.types ∙ typed; front = on.opened; latest = inl none }
+
+  nothing : (some : RowsAt) → some.ahead ≡ [] → (joined_at some joiner number).ahead ≡ []
+  nothing some empty =
+      ap (λ (rows : List Row). map (λ row. (number, row)) rows ++ numbered_joined joiner some.ahead) none
+      ∙ ap (numbered_joined joiner) empty
+
+  pub left_ends : Ends left after → Ends (joined_at left joiner number) (joined_at after joiner number)
+  left_ends ends = record {
+    none = nothing left ends.none;
+    still = nothing after ends.still;
+    all = ends.all;
+    on = left_on ends.on;
+  }
+
+-- ---- what is picked of them
+
+goes-goes : (a b c : RowsAt) → GoesOn a b → GoesOn b c → length a.opened ≤ length b.opened → GoesOn a c
+goes-goes a b c one other fewer = record {
+  types = other.types ∙ one.types;
+  batches = other.batches ∙ one.batches;
+  depth = other.depth ∙ one.depth;
+  opening = sym (take-take (length a.opened) (length b.opened) c.opened fewer) ∙ ap (take (length a.opened)) other.opening ∙ one.opening;
+  opened = other.opened;
+}
+
+-- what begins with some is no shorter
+longer : (whole begin : List ℕ) → take (length begin) whole ≡ begin → length begin ≤ length whole
+longer whole begin e = omega (arith, ap length (sym e), length-take (length begin) whole)
+
+pub on_and_on : (a b c : RowsAt) → GoesOn a b → GoesOn b c → GoesOn a c
+on_and_on a b c one other = goes-goes a b c one other (longer b.opened a.opened one.opening)
+
+-- the same of what is picked
+pub picks_on : (pick : PickAt) (a b : RowsAt) → GoesOn a b → GoesOn (picked_of pick a) (picked_of pick b)
+picks_on pick a b on = record {
+  types = ap (λ (types : List DataType). map (type_at types) pick.shown) on.types;
+  batches = on.batches;
+  depth = on.depth;
+  opening = on.opening;
+  opened = on.opened;
+}
+
+pub picks_end : (pick : PickAt) (first a b : RowsAt) → GoesOn first a → given_numbered pick first.ahead ≡ given_numbered pick a.ahead → Ends a b →
+    Ends (picked_of pick first) (picked_of pick b)
+picks_end pick first a b on same ends = record {
+  none = same ∙ ap (given_numbered pick) ends.none;
+  still = ap (given_numbered pick) ends.still;
+  all = ends.all ∙ on.batches;
+  on = picks_on pick first b (on_and_on first a b on ends.on);
+}
+
+-- a joined batch is passed
+pub batch_goes : (first left : RowsAt) (joiner : JoinerAt) (number : ℕ) (batch : BatchAt) (after : JoinerAt) → GivesJoined joiner batch after →
+    GoesOn first (joined_at left joiner number) → IsJoined left joiner number → GoesOn first (joined_at left after number)
+batch_goes first left joiner number batch after gives on is =
+    on_and_on first (joined_at left joiner number) (joined_at left after number) on (batch_on left joiner number batch after gives is.front)
+
+-- a joined batch of which a row is given, or none is
+module _ (pick : PickAt) (first left : RowsAt) (joiner : JoinerAt) (number : ℕ) (batch : BatchAt) (after : JoinerAt) (gives : GivesJoined joiner batch after)
+    (on : GoesOn first (joined_at left joiner number)) (same : given_numbered pick first.ahead ≡ given_numbered pick (joined_at left joiner number).ahead)
+    (is : IsJoined left joiner number) (part : Part) (of : part.batch.now ≡ batch) (from : part.from ≡ 0) (to : part.to ≡ batch.rows) where
+  part_is : given_of_part pick part ≡ given pick (rows_of batch)
+  part_is = rw (of, from, to) (ap (given pick) (whole_part batch))
+
+  pub batch_over : given_of_part pick part ≡ [] → given_numbered pick first.ahead ≡ given_numbered pick (joined_at left after number).ahead
+  batch_over none =
+      same ∙ passed pick (joined_at left joiner number).ahead (joined_at left after number).ahead number (rows_of batch)
+      (batch_next left joiner number batch after gives) (sym part_is ∙ none)
+
+  pub batch_found : (picked : BatchAt) → IsPicked pick part picked →
+      FindsPiece (picked_of pick first) (record { batch = picked; number = number }) (picked_of pick (joined_at left after number))
+  batch_found picked done =
+      let long = length-rows_of picked in
+      let size = length-rows_of batch in
+      let fewer = given_few pick (rows_of batch) in
+      record {
+        next = same ∙ next_is pick (joined_at left joiner number).ahead (joined_at left after number).ahead number (rows_of batch) picked
+            (batch_next left joiner number batch after gives) (done.rows ∙ part_is);
+        latest = latest_of is.latest;
+        some = done.some;
+        few = omega (arith, long, size, fewer, ap length (done.rows ∙ part_is), gives.few);
+        typed = subst (λ (types : List DataType). AreOf (map (type_at types) pick.shown) picked.columns) on.types
+            (done.typed (joined_types joiner) (subst (λ (b : BatchAt). AreOf (joined_types joiner) b.columns) (sym of) gives.typed));
+        on = picks_on pick first (joined_at left after number) (batch_goes first left joiner number batch after gives on is);
+      }
+    where
+      latest_of : (joiner.ahead ≡ []) ⊎ (last_or None left.opened ≡ Some number) → last_or None left.opened ≡ Some number
+      latest_of (inr latest) = latest
+      latest_of (inl none) =
+          let long = length-append (rows_of batch) after.ahead in
+          let size = length-rows_of batch in
+          absurd (omega (arith, long, size, gives.some, ap length (sym gives.next ∙ none)))

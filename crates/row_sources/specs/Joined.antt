@@ -1,0 +1,41 @@
+-- Inside: joined rows, and what holds of what gives them.
+use Rattle.std.specs.Prelude.{◌≡◌, ◌⊎◌, ℕ, ◌+◌, List, [], ◌++◌, length, map, take, Some, None}
+use Rattle.std.specs.List.{flat_map, last_or}
+use Rattle.join_batches.specs.Joiner.{JoinerAt, joined_with, joined_types}
+use Rattle.table_versions.specs.Table.{Row}
+use Rattle.row_sources.specs.declared.rows.Source.{Source}
+use Rattle.row_sources.specs.declared.rows.Source.TheVariants.{Place, Joined}
+use Rattle.row_sources.specs.Placed.{IsPlaced}
+use Rattle.row_sources.specs.Running.{RowsAt}
+use Rattle.row_sources.specs.Sources.{place_at}
+
+-- the joined rows of left rows, each with the number that its left row has
+abbrev pub numbered_joined : JoinerAt → List (ℕ × Row) → List (ℕ × Row)
+numbered_joined joiner lefts = flat_map (λ (left : ℕ × Row). map (λ row. (left.0, row)) (joined_with joiner left.1)) lefts
+
+-- joined rows: those of the left batch, of this number, and then those of the left rows behind it
+abbrev pub joined_at : RowsAt → JoinerAt → ℕ → RowsAt
+joined_at left joiner number = record {
+  types = joined_types joiner;
+  ahead = map (λ row. (number, row)) joiner.ahead ++ numbered_joined joiner left.ahead;
+  batches = left.batches;
+  opened = left.opened;
+  depth = left.depth + 1;
+}
+
+-- the rows of a source that are still to be given
+abbrev pub source_at : Source → RowsAt
+source_at (Place place) = place_at place
+source_at (Joined left joining) = joined_at left.value joining.joiner joining.number
+
+-- the left rows are of the joiner's types, what was opened of them is what is first to be, and the joiner's left batch comes
+-- of the batch that was opened last
+pub record IsJoined (left : RowsAt) (joiner : JoinerAt) (number : ℕ) : Type 0 where
+  pub typed : left.types ≡ joiner.left_types
+  pub front : take (length left.opened) left.batches ≡ left.opened
+  pub latest : (joiner.ahead ≡ []) ⊎ (last_or None left.opened ≡ Some number)
+
+-- what holds of a source
+abbrev pub IsSource : Source → Type 0
+IsSource (Place place) = IsPlaced place.table place.cursor
+IsSource (Joined left joining) = IsJoined left.value joining.joiner joining.number

@@ -1,0 +1,17 @@
+pub mod Parts
+pub mod Begun
+pub mod OpenedTables
+pub mod Showing
+pub mod Picking
+pub mod Picked
+pub mod Running
+pub mod Parting
+pub mod Collected
+pub mod RowSource
+pub mod Unfiltered
+pub mod Chosen
+pub mod Placed
+pub mod Sources
+pub mod Joined
+pub mod Sourced
+pub mod Joining

@@ -1,0 +1,16 @@
+-- Inside: the sources of rows.
+use Rattle.typed_plan.specs.Typed.{types_of}
+use Rattle.row_sources.specs.declared.place.PlaceRows.{PlaceRows}
+use Rattle.opened_batches.specs.Opened.{batches_in}
+use Rattle.row_sources.specs.Placed.{rows_ahead}
+use Rattle.row_sources.specs.Running.{RowsAt}
+
+-- the rows of a place, before its filters
+abbrev pub place_at : PlaceRows → RowsAt
+place_at place = record {
+  types = types_of place.table.schema.fields;
+  ahead = rows_ahead place.table place.cursor;
+  batches = batches_in place.cursor.from place.cursor.to place.table.batches;
+  opened = batches_in place.cursor.from place.cursor.at place.table.batches;
+  depth = 0;
+}

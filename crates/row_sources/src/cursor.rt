@@ -1,0 +1,76 @@
+//! Going through the batches of a table in order.
+
+ghost use Rattle.std.specs.Prelude.{◌≡◌, ◌≤◌, ◌<◌, length};
+ghost use Rattle.std.specs.List.{range_with_len};
+ghost use Rattle.table_versions.specs.Stored.{table_of};
+ghost use Rattle.opened_batches.specs.Narrow.{BeginsInFirst};
+ghost use Rattle.opened_batches.specs.Opened.{batches_in};
+ghost use Rattle.row_sources.specs.Placed.{IsPlaced, IsPart, Begins, Opens};
+
+use crate::opened_table::OpenedTable;
+use crate::part::Part;
+use array_select::MOST_BATCH_ROWS;
+use arrays::laws::batch_slices_keep_rows;
+use table_versions::laws::batches_are_rows;
+
+// Where a scan of the rows `from` up to, not with, `to` of a table has come to.
+#[derive(Clone, Copy, Drop)]
+pub(crate) struct Cursor {
+    pub(crate) from: usize,
+    pub(crate) to: usize,
+    // The next row to look at.
+    pub(crate) at: usize,
+    // The number of the batch that it stands in, and how many rows stand before that batch.
+    pub(crate) batch: usize,
+    pub(crate) start: usize,
+    // How many batches were opened.
+    pub(crate) opened: usize,
+}
+
+impl Cursor {
+    // Before the rows `from` up to, not with, `to` of a table, of which the first is one of its first batch, and each batch has
+    // one.
+    pub(crate) fn new(table: &OpenedTable, from: usize, to: usize) -> Cursor
+        requires ordered { from ≤ to }
+        requires within { from < to → to ≤ length (table_of table.now).rows }
+        requires first { BeginsInFirst from table.now.batches }
+        requires each { batches_in from to table.now.batches ≡ range_with_len 0 (length table.now.batches) }
+        ensures placed { IsPlaced table.now result }
+        ensures begins { Begins from to result }
+    {
+        Cursor {
+            from,
+            to,
+            at: from,
+            batch: 0,
+            start: 0,
+            opened: 0,
+        }
+    }
+
+    // The next rows of the range that stand in one batch, as many as are looked at at once. The cursor goes on behind them.
+    pub(crate) fn open<'a>(&mut self, table: &'a OpenedTable) -> Part<'a>
+        requires more { self.old.at < self.old.to }
+        requires placed { IsPlaced table.now self.old }
+        ensures placed { IsPlaced table.now self.new }
+        ensures part { IsPart table.now result }
+        ensures opened { Opens table.now self.old result self.new }
+    {
+        batches_are_rows();
+        batch_slices_keep_rows();
+        let _most = table.rows();
+        let batch = table.batch(self.batch);
+        let rows = batch.rows();
+        let from = self.at - self.start;
+        let to = rows.min(self.to - self.start).min(from + MOST_BATCH_ROWS);
+        if self.at == self.start.max(self.from) {
+            self.opened += 1;
+        }
+        self.at = self.start + to;
+        if to == rows {
+            self.batch += 1;
+            self.start += rows;
+        }
+        Part { batch, from, to }
+    }
+}

@@ -1,0 +1,127 @@
+//! What gives joined rows.
+
+ghost use Rattle.std.specs.Prelude.{◌≡◌, ◌≤◌, [], ◌++◌, IfOk, length, map};
+ghost use Rattle.arrow_schema.specs.Answer.{answer_type};
+ghost use Rattle.join_batches.specs.Joiner.{joined_types};
+ghost use Rattle.scan_base.specs.Limits.{most_rows};
+ghost use Rattle.row_sources.specs.Joining.{CanJoin, JoinsRows, HasKeys, IsSides, all_joined, joiner_with};
+ghost use Rattle.row_sources.specs.Sourced.{IsSourced, sourced_at};
+ghost use Rattle.row_sources.specs.Collected.{plain_rows};
+ghost use Rattle.row_sources.specs.Joined.{IsJoined};
+
+use crate::build::Sourced;
+use crate::collected::collect_batches;
+use crate::columns::numbers_below;
+use crate::rows::{Joining, Source};
+use arrow_schema::DataType;
+use hash_seed::HashSeed;
+use join_batches::{JoinSide, JoinSides, Joiner};
+use std::alloc::{AllocError, Global};
+use typed_plan::JoinKey;
+
+// What gives the rows of both sides of a join.
+#[derive(Drop)]
+pub(crate) struct Sides {
+    pub(crate) left: Sourced,
+    pub(crate) right: Sourced,
+}
+
+// What gives the joined rows of both sides that fit. The right ones are read here.
+pub(crate) fn join_source(
+    alloc: Global,
+    seed: HashSeed,
+    sides: Sides,
+    on: &[JoinKey],
+) -> Result<Sourced, AllocError>
+    requires left { IsSourced sides.left }
+    requires right { IsSourced sides.right }
+    requires joinable { CanJoin on.now (sourced_at sides.left) (sourced_at sides.right) }
+    ensures sourced { IfOk result IsSourced }
+    ensures joins { IfOk result (λ made. JoinsRows on.now (sourced_at sides.left) (sourced_at sides.right) (sourced_at made)) }
+{
+    let Sides { left, right } = sides;
+    let types = answered_types(alloc, left.types.as_slice(), right.types.as_slice())?;
+    let sides = join_sides(alloc, left.types.as_slice(), right.types.as_slice(), on)?;
+    let joiner = joiner_of(alloc, seed, sides, right)?;
+    joined(alloc, left, joiner, types)
+}
+
+// The types of joined rows: those of dictionaries are texts.
+fn answered_types(
+    alloc: Global,
+    left: &[DataType],
+    right: &[DataType],
+) -> Result<Vec<DataType>, AllocError>
+    ensures { IfOk result (λ types. types.items ≡ map answer_type (left.now ++ right.now)) }
+{
+    left.iter()
+        .chain(right.iter())
+        .map(|data_type| data_type.answered())
+        .collect(alloc)
+}
+
+// The types of both sides of a join, and the numbers of their columns that are the key.
+fn join_sides(
+    alloc: Global,
+    left: &[DataType],
+    right: &[DataType],
+    on: &[JoinKey],
+) -> Result<JoinSides, AllocError>
+    ensures { IfOk result (λ sides. IsSides on.now left.now right.now sides) }
+{
+    let seam = left.len();
+    let left = JoinSide {
+        types: left.iter().copied().collect(alloc)?,
+        key: on.iter().map(|key| key.left).collect(alloc)?,
+    };
+    let right = JoinSide {
+        types: right.iter().copied().collect(alloc)?,
+        key: on
+            .iter()
+            .map(|key| key.right.saturating_sub(seam))
+            .collect(alloc)?,
+    };
+    Ok(JoinSides { left, right })
+}
+
+// The join with all rows of the right side, which are read here.
+fn joiner_of(
+    alloc: Global,
+    seed: HashSeed,
+    sides: JoinSides,
+    right: Sourced,
+) -> Result<Joiner, AllocError>
+    requires right { IsSourced right }
+    requires unopened { (sourced_at right).opened ≡ [] }
+    requires few { length (sourced_at right).ahead ≤ most_rows }
+    requires typed { sides.right.types.items ≡ (sourced_at right).types }
+    requires keys { HasKeys sides }
+    ensures { IfOk result (λ joiner. joiner ≡ joiner_with sides (plain_rows (sourced_at right).ahead)) }
+{
+    let mut rows = right.rows(alloc)?;
+    let batches = collect_batches(alloc, &mut rows)?;
+    Joiner::new(alloc, seed, sides, batches)
+}
+
+// What gives the joined rows of left ones, in columns of these types.
+fn joined(
+    alloc: Global,
+    left: Sourced,
+    joiner: Joiner,
+    types: Vec<DataType>,
+) -> Result<Sourced, AllocError>
+    requires left { IsSourced left }
+    requires joined { IsJoined (sourced_at left) joiner 0 }
+    requires types { types.items ≡ joined_types joiner }
+    ensures sourced { IfOk result IsSourced }
+    ensures joined { IfOk result (λ made. sourced_at made ≡ all_joined (sourced_at left) joiner) }
+{
+    let columns = numbers_below(alloc, types.len())?;
+    let left = Box::new(alloc, left.rows(alloc)?)?;
+    Ok(Sourced {
+        source: Source::Joined(left, Joining { joiner, number: 0 }),
+        filters: Vec::new(alloc),
+        columns,
+        types,
+    })
+}

@@ -1,0 +1,118 @@
+//! Which rows of a source are given, and which of their columns.
+
+ghost use Rattle.std.specs.Prelude.{◌≡◌, ◌≤◌, ◌+◌, ◌^◌, ◌<◌, [], IfOk, OnOk, length};
+ghost use Rattle.row_sources.specs.Picking.{IsPick, chosen_rows, pick_of};
+ghost use Rattle.row_sources.specs.Picked.{Picks};
+
+use crate::columns::{gather_of, slice_of};
+use crate::part::Part;
+use array_select::Selection;
+use arrays::Batch;
+use kernels::Columns;
+use scan_base::Predicate;
+use std::alloc::{AllocError, Global};
+
+/// Which rows of a source are given, and which of their columns.
+pub struct Picker {
+    /// The filters: a row is given for which each is true.
+    pub filters: Vec<Predicate<usize>>,
+    /// The numbers of the source's columns that the filters see, in their order.
+    pub read: Vec<usize>,
+    /// The numbers of the source's columns that are given, in their order.
+    pub shown: Vec<usize>,
+}
+
+// Written out, so that dropping it is one call (docs/DECISIONS.md).
+impl Drop for Picker {
+    fn drop(self) {
+        let Picker {
+            filters: _,
+            read: _,
+            shown: _,
+        } = self;
+    }
+}
+
+impl Picker {
+    // What is given of a part of a batch of the source, or nothing where that is no row: a slice where its rows stand next
+    // to each other, else in buffers of their own. The selection's memory is used again.
+    pub(crate) fn pick(
+        &self,
+        alloc: Global,
+        part: &Part<'_>,
+        selection: &mut Selection,
+    ) -> Result<Option<Batch>, AllocError>
+        requires pick { IsPick (length part.now.batch.now.columns) (pick_of self.now) }
+        requires some { part.now.from < part.now.to }
+        requires within { part.now.to ≤ part.now.batch.now.rows }
+        requires small { part.now.to + 64 ≤ 2 ^ 32 }
+        ensures { Picks (pick_of self.now) part.now result }
+    {
+        if self.filters.is_empty() {
+            return Ok(Some(slice_of(alloc, part, self.shown.as_slice())?));
+        }
+        selection.clear();
+        self.select(alloc, part, selection)?;
+        self.selected(alloc, part, selection)
+    }
+
+    /// The numbers in their batch of those rows of a part that the filters let through, in order, into an empty selection.
+    ///
+    /// # Errors
+    ///
+    /// `AllocError` where memory is refused.
+    pub fn select(
+        &self,
+        alloc: Global,
+        part: &Part<'_>,
+        selection: &mut Selection,
+    ) -> Result<(), AllocError>
+        requires pick { IsPick (length part.now.batch.now.columns) (pick_of self.now) }
+        requires ordered { part.now.from ≤ part.now.to }
+        requires within { part.now.to ≤ part.now.batch.now.rows }
+        requires small { part.now.to + 64 ≤ 2 ^ 32 }
+        requires empty { selection.old ≡ [] }
+        ensures { OnOk result (selection.new ≡ chosen_rows (pick_of self.now) part.now) }
+    {
+        let columns = Columns {
+            columns: part.batch.columns(),
+            read: self.read.as_slice(),
+            count: part.batch.rows(),
+        };
+        let (from, to) = (part.from, part.to);
+        kernels::select(
+            alloc,
+            self.filters.as_slice(),
+            &columns,
+            from,
+            to,
+            selection,
+        )
+    }
+
+    // The rows of a part that are selected: a slice where they stand next to each other, else in buffers of their own.
+    fn selected(
+        &self,
+        alloc: Global,
+        part: &Part<'_>,
+        selection: &Selection,
+    ) -> Result<Option<Batch>, AllocError>
+        requires pick { IsPick (length part.now.batch.now.columns) (pick_of self.now) }
+        requires within { part.now.to ≤ part.now.batch.now.rows }
+        requires ordered { part.now.from ≤ part.now.to }
+        requires selected { selection.now ≡ chosen_rows (pick_of self.now) part.now }
+        ensures { Picks (pick_of self.now) part.now result }
+    {
+        let (batch, shown) = (part.batch, self.shown.as_slice());
+        let rows = selection.places();
+        if rows.is_empty() {
+            return Ok(None);
+        }
+        let (from, to) = (rows[0] as usize, rows[rows.len() - 1] as usize + 1);
+        if to - from > rows.len() {
+            return Ok(Some(gather_of(alloc, batch, selection, shown)?));
+        }
+        let run = Part { batch, from, to };
+        Ok(Some(slice_of(alloc, &run, shown)?))
+    }
+}

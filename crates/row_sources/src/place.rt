@@ -1,0 +1,95 @@
+//! The rows of one place.
+
+ghost use Rattle.std.specs.Prelude.{◌≡◌, ◌≤◌, ◌<◌, [], IfOk, length};
+ghost use Rattle.table_versions.specs.Stored.{table_of};
+ghost use Rattle.row_sources.specs.Placed.{begin_in, end_in, IsPlaced};
+ghost use Rattle.row_sources.specs.Parting.{part_of};
+ghost use Rattle.row_sources.specs.Picking.{IsPick, pick_of};
+ghost use Rattle.row_sources.specs.Running.{FindsNext, picked_of};
+ghost use Rattle.row_sources.specs.Sources.{place_at};
+
+use crate::cursor::Cursor;
+use crate::opened_table::OpenedTable;
+use crate::picker::Picker;
+use crate::piece::Piece;
+use array_select::Selection;
+use std::alloc::{AllocError, Global};
+
+// A table, and where a scan of a range of its rows has come to.
+pub(crate) struct PlaceRows {
+    pub(crate) table: OpenedTable,
+    pub(crate) cursor: Cursor,
+}
+
+// Written out, so that dropping it is one call (docs/DECISIONS.md).
+impl Drop for PlaceRows {
+    fn drop(self) {
+        let PlaceRows {
+            table: _,
+            cursor: _,
+        } = self;
+    }
+}
+
+impl PlaceRows {
+    // What is picked of the next piece of a batch of the table of which a row is.
+    pub(crate) fn next(
+        &mut self,
+        alloc: Global,
+        picker: &Picker,
+        selection: &mut Selection,
+    ) -> Result<Option<Piece>, AllocError>
+        requires placed { IsPlaced self.old.table self.old.cursor }
+        requires pick { IsPick (length self.old.table.schema.fields) (pick_of picker.now) }
+        ensures placed { IsPlaced self.new.table self.new.cursor }
+        ensures table { self.new.table ≡ self.old.table }
+        ensures found { FindsNext (picked_of (pick_of picker.now) (place_at self.old)) result
+            (picked_of (pick_of picker.now) (place_at self.new)) }
+    {
+        while self.cursor.at < self.cursor.to {
+            let number = self.cursor.batch;
+            let part = self.cursor.open(&self.table);
+            if let Some(batch) = picker.pick(alloc, &part, selection)? {
+                return Ok(Some(Piece { batch, number }));
+            }
+        }
+        Ok(None)
+    }
+
+    // The first row of the range in a batch, counted from the batch's first row. The range begins in the first batch.
+    fn begin_in(&self, number: usize) -> usize
+        requires placed { IsPlaced self.now.table self.now.cursor }
+        requires there { number < length self.now.table.batches }
+        ensures { result ≡ begin_in self.now.table self.now.cursor number }
+    {
+        if number == 0 { self.cursor.from } else { 0 }
+    }
+
+    // The first row behind those of the range in a batch, counted from the batch's first row. The range ends in the last batch.
+    fn end_in(&self, number: usize) -> usize
+        requires placed { IsPlaced self.now.table self.now.cursor }
+        requires there { number < length self.now.table.batches }
+        requires few { self.now.cursor.to ≤ length (table_of self.now.table).rows }
+        ensures { result ≡ end_in self.now.table self.now.cursor number }
+    {
+        let (rows, count) = (self.table.batch(number).rows(), self.table.batch_count());
+        if number + 1 < count {
+            return rows;
+        }
+        rows - (self.table.rows() - self.cursor.to)
+    }
+
+    // The rows of the range in one batch of the table, as those of a table that has no other.
+    pub(crate) fn part(&self, alloc: Global, number: usize) -> Result<PlaceRows, AllocError>
+        requires placed { IsPlaced self.now.table self.now.cursor }
+        requires unopened { (place_at self.now).opened ≡ [] }
+        requires there { number < length (place_at self.now).batches }
+        ensures placed { IfOk result (λ part. IsPlaced part.table part.cursor) }
+        ensures part { IfOk result (λ part. place_at part ≡ part_of number (place_at self.now)) }
+    {
+        let (from, to) = (self.begin_in(number), self.end_in(number));
+        let table = self.table.only(alloc, number)?;
+        let cursor = Cursor::new(&table, from, to);
+        Ok(PlaceRows { table, cursor })
+    }
+}

@@ -1,0 +1,66 @@
+//! What gives columns of the rows of a table.
+
+ghost use Rattle.std.specs.Prelude.{◌≡◌, ◌≤◌, [], ◌∷◌, IfOk, IsTrue, length, map};
+ghost use Rattle.std.specs.List.{flat_map, range_with_len};
+ghost use Rattle.arrays.specs.Batch.{rows_of};
+ghost use Rattle.table_versions.specs.Table.{Name};
+ghost use Rattle.typed_plan.specs.Plan.{scan};
+ghost use Rattle.typed_plan.specs.Typed.{has_columns, type_at, types_of};
+ghost use Rattle.row_sources.specs.Begun.{IsBegun};
+ghost use Rattle.row_sources.specs.Sourced.{IsSourced, sourced_at};
+ghost use Rattle.opened_batches.specs.Chosen.{are_within};
+ghost use Rattle.row_sources.specs.Joined.{source_at};
+ghost use Rattle.opened_batches.specs.Narrow.{BeginsInFirst};
+ghost use Rattle.opened_batches.specs.Opened.{batches_in};
+
+use crate::build::Sourced;
+use crate::columns::{numbers_below, picked};
+use crate::cursor::Cursor;
+use crate::opened_table::OpenedTable;
+use crate::place::PlaceRows;
+use crate::row_source::Reading;
+use crate::rows::Source;
+use arrow_schema::{DataType, Field};
+use std::alloc::{AllocError, Global};
+use typed_plan::Columns;
+
+// What gives these columns of the rows of a table that are read.
+pub(crate) fn scan_source(
+    alloc: Global,
+    columns: &Columns,
+    table: OpenedTable,
+    reading: Reading,
+) -> Result<Sourced, AllocError>
+    requires there { IsTrue (has_columns (length table.schema.fields) columns.now) }
+    requires first { BeginsInFirst reading.from table.batches }
+    requires each { batches_in reading.from reading.to table.batches ≡ range_with_len 0 (length table.batches) }
+    ensures sourced { IfOk result IsSourced }
+    ensures begun { IfOk result (λ made. (name : Name) →
+        IsBegun (scan name table.schema columns.now) (table ∷ []) reading.from reading.to (sourced_at made)) }
+    ensures few { IfOk result (λ made. length (source_at made.source).ahead ≤ length (flat_map rows_of table.batches)) }
+{
+    let fields = table.schema().fields.as_slice();
+    let numbers = numbers_below(alloc, fields.len())?;
+    let columns = picked(alloc, columns, numbers.as_slice())?;
+    let types = types_at(alloc, fields, columns.as_slice())?;
+    let to = reading.to.min(table.rows()).max(reading.from);
+    let cursor = Cursor::new(&table, reading.from, to);
+    Ok(Sourced {
+        source: Source::Place(PlaceRows { table, cursor }),
+        filters: Vec::new(alloc),
+        columns,
+        types,
+    })
+}
+
+// The types of the fields of these numbers.
+fn types_at(alloc: Global, fields: &[Field], numbers: &[usize]) -> Result<Vec<DataType>, AllocError>
+    requires { IsTrue (are_within (length fields.now) numbers.now) }
+    ensures { IfOk result (λ types. types.items ≡ map (type_at (types_of fields.now)) numbers.now) }
+{
+    let mut types = Vec::with_capacity(alloc, numbers.len())?;
+    for number in numbers {
+        types.push(fields[*number].data_type)?;
+    }
+    Ok(types)
+}

@@ -1,9 +1,0 @@
-use Rattle.std.proofs.Common.{take}
-use Rattle.std.specs.List.{AllZip}
-use Rattle.scan_exec.specs.Chosen.{columns_at}
-use Rattle.scan_exec.specs.Picking.{rows_of_part, HasSlotsAt}
-use Rattle.scan_exec.proofs.columns.slice_of.Given as goal
-
-abbrev pub invariant-loop-number : goal.invariant-loop-number
-invariant-loop-number l =
-    AllZip (HasSlotsAt (rows_of_part l.part)) (columns_at (take l.number-index l.numbers) l.part.batch.now.columns) l.slices.items

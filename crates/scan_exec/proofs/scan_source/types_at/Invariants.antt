@@ -1,6 +1,0 @@
-use Rattle.std.proofs.Common.{◌≡◌, map, take}
-use Rattle.typed_plan.specs.Typed.{type_at, types_of}
-use Rattle.scan_exec.proofs.scan_source.types_at.Given as goal
-
-abbrev pub invariant-loop-number : goal.invariant-loop-number
-invariant-loop-number l = l.types.items ≡ map (type_at (types_of l.fields)) (take l.number-index l.numbers)
