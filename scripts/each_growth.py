@@ -26,7 +26,7 @@ import sys
 import tempfile
 import time
 from collections.abc import Callable
-from dataclasses import dataclass, field
+from dataclasses import dataclass, field, replace
 from random import Random
 
 sys.dont_write_bytecode = True
@@ -121,13 +121,21 @@ class Asked:
         return len(database[self.query.places[0].table].rows)
 
     def binds(self, database: Database) -> bool:
-        """Whether all tables are there with the query's columns."""
-        return all(place.table in database and database[place.table].columns == place.columns for place in self.query.places)
+        """Whether all tables are there. The columns that are asked for are those of each put of them."""
+        return all(place.table in database for place in self.query.places)
+
+    def over(self, database: Database) -> Query:
+        """The query, with the columns that its tables have there."""
+        places = [replace(place, columns=database[place.table].columns) for place in self.query.places]
+        return replace(self.query, places=tuple(places))
+
+    def columns(self, database: Database) -> list[Column]:
+        return large.answer_columns(self.over(database), database)
 
     def rows(self, state: State, version: int, first: int, end: int) -> list[Row]:
-        key = state.made[:version], first, end
+        database, key = state.versions[version], (state.made[:version], first, end)
         if key not in self.known:
-            self.known[key] = large.answer_rows(self.query, state.versions[version], first, end)
+            self.known[key] = large.answer_rows(self.over(database), database, first, end)
         return self.known[key]
 
 
@@ -140,7 +148,7 @@ def info(asked: Asked) -> Call:
             same("whether an info is refused", True, answer.code != 0)
             return
         handles = [wire.query_handle(version, *part, asked.text.encode()) for part in asked.parts(database)]
-        FlightInfo(large.answer_columns(asked.query, database), descriptor, handles).look(answer)
+        FlightInfo(asked.columns(database), descriptor, handles).look(answer)
 
     return Call(f"info of {asked.text}", wire.call(b"GetFlightInfo", [descriptor]), may_be_refused(look))
 
@@ -162,7 +170,7 @@ def fetch(asked: Asked, version: int, first: int, end: int) -> Call:
         state.refused += is_refused
         fault = "F18" if version >= len(state.versions) else "F17" if not fits(asked, state, version, first, end) else None
         if fault is None:
-            columns = large.answer_columns(asked.query, state.versions[version])
+            columns = asked.columns(state.versions[version])
             rows = asked.rows(state, version, first, end)
             if is_refused:
                 look_at_beginning(answer, columns, rows)
