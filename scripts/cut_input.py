@@ -104,7 +104,7 @@ def main() -> int:
             began = time.monotonic()
             for length in range(len(SESSION) + 1):
                 LOOKS[name](path, length, answers)
-            print(f"{name}: {len(SESSION) + 1} cuts of {len(SESSION)} bytes, each as it has to be, {time.monotonic() - began:.1f} s", flush=True)
+            print(f"{name}: {len(SESSION) + 1} cuts of {len(SESSION)} bytes, {time.monotonic() - began:.1f} s, no difference", flush=True)
     except (Difference, wire.Unreadable, OSError, subprocess.TimeoutExpired) as found:
         print(f"a difference:\n{found}")
         return 1

@@ -204,33 +204,44 @@ def tables() -> Call:
     return Call("the list of tables", call, may_be_refused(look))
 
 
-def session() -> list[Call]:
-    """The calls, which are always the same."""
-    random = Random("growth")
+def queries() -> dict[str, Asked]:
+    """A plain query, and a join, groups, a filter and sums, of small tables and of the one of 70,000 rows."""
     t, u, many = Place("t", None, A), Place("u", None, A_AND_S), Place("many", None, A)
     a, s, other, of_many = Name("a", "t"), Name("s", "u"), Name("a", "u"), Name("a", "many")
-    plain = Asked(Query(((a, None),), (t,), (), None, ()), "SELECT t.a FROM t")
-    join = Asked(Query(((a, None), (s, None)), (t, u), (((a, other),),), None, ()), "SELECT t.a, u.s FROM t JOIN u ON t.a = u.a")
-    group = Asked(Query(((s, None), (Count(None), None), (Sum(other), None)), (u,), (), None, (s,)),
-                  "SELECT s, COUNT(*), SUM(a) FROM u GROUP BY s")
-    few = Asked(Query(((of_many, None),), (many,), (), Comparison("<", of_many, Literal(9)), ()),
-                "SELECT many.a FROM many WHERE many.a < 9")
-    sums = Asked(Query(((Count(None), None), (Sum(of_many), None)), (many,), (), None, ()), "SELECT COUNT(*), SUM(many.a) FROM many")
-    met = Asked(Query(((of_many, None), (s, None)), (many, u), (((of_many, other),),), None, ()),
-                "SELECT many.a, u.s FROM many JOIN u ON many.a = u.a")
+    grouped = ((s, None), (Count(None), None), (Sum(other), None))
+    found = [
+        ("plain", Query(((a, None),), (t,), (), None, ()), "SELECT t.a FROM t"),
+        ("join", Query(((a, None), (s, None)), (t, u), (((a, other),),), None, ()), "SELECT t.a, u.s FROM t JOIN u ON t.a = u.a"),
+        ("groups", Query(grouped, (u,), (), None, (s,)), "SELECT s, COUNT(*), SUM(a) FROM u GROUP BY s"),
+        ("few", Query(((of_many, None),), (many,), (), Comparison("<", of_many, Literal(9)), ()), "SELECT a FROM many WHERE a < 9"),
+        ("sums", Query(((Count(None), None), (Sum(of_many), None)), (many,), (), None, ()), "SELECT COUNT(*), SUM(a) FROM many"),
+        ("met", Query(((of_many, None), (s, None)), (many, u), (((of_many, other),),), None, ()),
+         "SELECT many.a, u.s FROM many JOIN u ON many.a = u.a"),
+    ]
+    return {name: Asked(query, text) for name, query, text in found}
+
+
+def put_of(name: str, there: str, columns: tuple[Column, ...], rows: list[Row]) -> Put:
+    return Put(name, "CREATE", there, Table(columns, rows))
+
+
+def session() -> list[Call]:
+    """The calls, which are always the same."""
+    random, of = Random("growth"), queries()
     rows = [(number * 7 % MANY,) for number in range(MANY)]
     texts = [(1, "x"), (2, None), (3, "y"), (None, "x"), (4, "x")]
-
-    def made(number: int, name: str, there: str, columns: tuple[Column, ...], rows: list[Row], ends: list[int]) -> Call:
-        return put(random, number, Put(name, "CREATE", there, Table(columns, rows)), ends)
-
     return [
-        made(1, "t", "FAIL", A, [(1,), (2,), (3,), (None,), (4,)], [3, 5]), info(plain),
-        made(2, "t", "APPEND", A, [(3,), (9,)], [2]), made(3, "u", "FAIL", A_AND_S, texts, [2, 5]), info(join),
-        fetch(plain, 1, 2, 5), fetch(join, 3, 3, 7), made(4, "many", "FAIL", A, rows, MANY_ENDS), info(group),
-        fetch(few, 4, 0, MANY), made(5, "t", "FAIL", A, [(1,)], [1]), fetch(sums, 4, 0, MANY), fetch(group, 3, 0, 5),
-        fetch(met, 4, 0, MANY), made(6, "t", "REPLACE", A_AND_S, texts, [5]), fetch(plain, 1, 0, 2), fetch(join, 3, 0, 3),
-        fetch(few, 4, 100, 69_000), made(7, "t", "REPLACE", A, [(7,)], [1]), info(plain), fetch(plain, 6, 0, 1), tables(),
+        put(random, 1, put_of("t", "FAIL", A, [(1,), (2,), (3,), (None,), (4,)]), [3, 5]), info(of["plain"]),
+        put(random, 2, put_of("t", "APPEND", A, [(3,), (9,)]), [2]),
+        put(random, 3, put_of("u", "FAIL", A_AND_S, texts), [2, 5]), info(of["join"]),
+        fetch(of["plain"], 1, 2, 5), fetch(of["join"], 3, 3, 7),
+        put(random, 4, put_of("many", "FAIL", A, rows), MANY_ENDS), info(of["groups"]),
+        fetch(of["few"], 4, 0, MANY),
+        put(random, 5, put_of("t", "FAIL", A, [(1,)]), [1]),
+        fetch(of["sums"], 4, 0, MANY), fetch(of["groups"], 3, 0, 5), fetch(of["met"], 4, 0, MANY),
+        put(random, 6, put_of("t", "REPLACE", A_AND_S, texts), [5]),
+        fetch(of["plain"], 1, 0, 2), fetch(of["join"], 3, 0, 3), fetch(of["few"], 4, 100, 69_000),
+        put(random, 7, put_of("t", "REPLACE", A, [(7,)]), [1]), info(of["plain"]), fetch(of["plain"], 6, 0, 1), tables(),
     ]
 
 

@@ -170,7 +170,8 @@ def tried(path: str, case: Case, workers: list[int]) -> bool:
             print(f"DIFFERENCE in {case.name}, workers {count}: {wrong}", flush=True)
             return False
         rows, ends = sum(stream.rows for stream in found), ", ".join(stream.status[1] or "status 0" for stream in found)
-        print(f"{case.name}, workers {count}: {rows:,} rows, {ends}; at most {held:.0f} MB held, {time.monotonic() - began:.1f} s", flush=True)
+        seconds = time.monotonic() - began
+        print(f"{case.name}, workers {count}: {rows:,} rows, {ends}; at most {held:.0f} MB held, {seconds:.1f} s", flush=True)
     return True
 
 

@@ -28,6 +28,7 @@ MOST_WORDS = 60  # of a dictionary, to which a put may add some that it does not
 WORDS = ["", "a", "Z", "abcdefgh", "abcdefghi", "abcdefghj", "\u00e9", "\U00010000"]
 TOP = 2**63  # numbers that sqlite3 knows lie below it
 SUM_LIMIT = 2**62
+MOST_COUNTS = 16
 
 
 def wide_columns(random: Random) -> tuple[Column, ...]:
@@ -121,8 +122,10 @@ class Sorted:
         return list(dict.fromkeys(self.of[table, column]))
 
     def keys(self, table: str, numbers: tuple[int, ...]) -> collections.Counter:
-        """How often each key of these columns of a table stands there. One with a null does not count."""
+        """How often each key of these columns of a table stands there. One with a null does not count. A few are kept."""
         if (table, numbers) not in self.counts:
+            if len(self.counts) == MOST_COUNTS:
+                self.counts.pop(next(iter(self.counts)))
             keys = (tuple([row[number] for number in numbers]) for row in self.database[table].rows)
             self.counts[table, numbers] = collections.Counter(key for key in keys if None not in key)
         return self.counts[table, numbers]
