@@ -1,7 +1,8 @@
 #!/usr/bin/env python3
 """Drives a `flightscan serve` over many connections at once, and compares each answer with plain lists.
 
-    python3 scripts/drive.py [--connections N] [--seconds S] [--workers W,..] [--large] [--seed S] [--parts P] [--program PATH]
+    python3 scripts/drive.py [--connections N] [--seconds S] [--workers W,..] [--large] [--rough N] [--seed S] [--parts P]
+                             [--program PATH]
 
 For a minute, 32 connections put, ask for infos and fetch endpoints at random, each endpoint over any connection, however
 long after its info. The Messages of puts go side by side, and their Ends one after another, so it is known which put made
@@ -16,6 +17,10 @@ With --workers 1,2,4,16 all this is done for each of these numbers, on a server 
 given the same table of 70,000 to 140,000 rows, in two to nine batches of unequal sizes, and a small one. Some of the fetches
 are then of twelve queries over them, with filters, joins and groups, whole or over a range. The first answer to each is
 compared with the model, and each later one, from any connection of any server, with the bytes of the first one.
+
+With --rough N there are so many further clients, each over one connection after the other. Some go away in the middle of a
+call, in an orderly way or not, some in the middle of an answer that they read slowly, and some say nothing for a while. What
+the others are answered, and what the server holds in memory and in open files at the end, has to be as without them.
 """
 
 from __future__ import annotations
@@ -277,6 +282,40 @@ class Worker(threading.Thread):
             self.drive.count("own puts")
 
 
+class RoughClient(threading.Thread):
+    """Connections that end anywhere, one after the other."""
+
+    def __init__(self, drive: Drive, port: int, number: int, seed: int):
+        super().__init__(daemon=True)
+        self.drive, self.port, self.random, self.end = drive, port, Random(f"rough {seed} {number}"), 0.0
+
+    def run(self) -> None:
+        while time.monotonic() < self.end and not self.drive.found:
+            try:
+                connection = Connection(self.port)
+                self.random.choice([self.cut_call, self.slow_read, self.say_nothing])(connection)
+                self.random.choice([connection.close, connection.break_off])()
+                self.drive.count("rough connections")
+            except (OSError, wire.Unreadable) as found:
+                self.drive.found.append(f"a rough client: {found!r}")
+
+    def cut_call(self, connection: Connection) -> None:
+        """A beginning of a put, without its End."""
+        call = replaced("rough", A, [(row,) for row in range(self.random.choice([1, 5_000]))])
+        connection.send(call[: self.random.randrange(len(call))])
+
+    def slow_read(self, connection: Connection) -> None:
+        """Some of the answer to a fetch, or to many of them, piece by piece."""
+        fetches = [one.call for one in self.drive.large] or [wire.call(b"GetFlightInfo", [descriptor_of("SELECT * FROM t")])]
+        connection.send(self.random.choice(fetches) * self.random.choice([1, 5]))
+        for _ in range(self.random.randrange(20)):
+            connection.source.read1(self.random.choice([1, 100, 10_000]))
+            time.sleep(0.01)
+
+    def say_nothing(self, connection: Connection) -> None:
+        time.sleep(self.random.choice([0, 0.05, 0.5]))
+
+
 # ---- the phases
 
 
@@ -330,7 +369,14 @@ def carry_out(words: argparse.Namespace, drive: Drive, server: Server) -> str:
     def workers() -> list[Worker]:
         return [Worker(drive, connection, number, words.seed) for number, connection in enumerate(connections, 1)]
 
+    rough = [RoughClient(drive, server.port, number, words.seed) for number in range(words.rough)]
+    files = server.open_files()
+    for client in rough:
+        client.end = time.monotonic() + words.seconds
+        client.start()
     go_through(workers(), lambda worker: worker.at_random, words.seconds)
+    for client in rough:
+        client.join()
     if not drive.found:
         go_through(workers(), lambda worker: worker.own_puts, 0)
     if drive.found:
@@ -338,12 +384,22 @@ def carry_out(words: argparse.Namespace, drive: Drive, server: Server) -> str:
     look_at_own_puts(drive, connections)
     said = replace_a_table(server, connections, len(drive.versions) - 1 + drive.counts["own puts"])
     same("the server's exit status, and what it printed", (None, b""), (server.process.poll(), server.said()))
+    same("the server's open files", files, files_at_rest(server, files))
     return said
+
+
+def files_at_rest(server: Server, wanted: int) -> int:
+    """How many files the server has open, once what rough clients left was looked at."""
+    for _ in range(100):
+        if server.open_files() == wanted:
+            break
+        time.sleep(0.05)
+    return server.open_files()
 
 
 def driven(words: argparse.Namespace, workers: int, large_tables: LargeTables | None) -> bool:
     """Drives a server with so many workers, and tells what came."""
-    drive, seats = Drive(words.parts, large_tables), min(words.connections, 32)
+    drive, seats = Drive(words.parts, large_tables), min(words.connections + words.rough, 32)
     options = ["--parts", str(words.parts), "--seats", str(seats), "--workers", str(workers)]
     with Server(program(words.program), *options) as server:
         try:
@@ -368,6 +424,7 @@ def main() -> int:
     parser.add_argument("--seconds", type=float, default=60, help="how long they go on at random (60)")
     parser.add_argument("--workers", type=worker_counts, default=[1], help="the numbers of workers, as 1,2,4,16 (1)")
     parser.add_argument("--large", action="store_true", help="fetch from large tables too")
+    parser.add_argument("--rough", type=int, default=0, help="how many clients go away anywhere (none)")
     parser.add_argument("--seed", type=int, default=1, help="of what is put and asked (1)")
     parser.add_argument("--parts", type=int, default=5, help="of an info (5)")
     words = parser.parse_args()
