@@ -370,7 +370,8 @@ def carry_out(words: argparse.Namespace, drive: Drive, server: Server) -> str:
         return [Worker(drive, connection, number, words.seed) for number, connection in enumerate(connections, 1)]
 
     rough = [RoughClient(drive, server.port, number, words.seed) for number in range(words.rough)]
-    files = server.open_files()
+    same("the version of a server that is begun", {len(drive.versions) - 1}, {*map(version_of, connections)})
+    files = server.open_files()  # with each connection
     for client in rough:
         client.end = time.monotonic() + words.seconds
         client.start()
