@@ -36,7 +36,7 @@ from built import ROOT, program, worker_counts  # noqa: E402
 sys.path += [str(ROOT / "vectors" / folder) for folder in ("arrow", "flight", "queries", "streams")]
 
 import wire  # noqa: E402
-from each_allocation import FAULT_LINE, compiled, counted_in  # noqa: E402
+from each_allocation import FAULT_LINE, REFUSED, compiled, counted_in  # noqa: E402
 from loopback import Connection, Server  # noqa: E402
 from random_calls import large  # noqa: E402
 from random_calls import plain_model as model  # noqa: E402
@@ -272,19 +272,26 @@ def look_at(call: Call, number: int, answer: wire.Answer, state: State) -> None:
 
 
 def through_pipe(refusing: Refusing, calls: list[Call], number: int) -> str:
-    """A run of `pipe`. What came of it is told."""
+    """A run of `pipe`. What came of it is told. Where F21 ends the connection, the calls behind it have no answer."""
     command = [refusing.path, "pipe", *refusing.options()]
     done = subprocess.run(command, input=b"".join(call.records for call in calls), capture_output=True, timeout=SECONDS,
                           env=os.environ | refusing.environment(number))
     source, state = wire.Bytes(done.stdout), State()
     for place, call in enumerate(calls, 1):
         if source.ended() and done.returncode == 3:
-            same("what was said at the connection's end, and F21 before it", (FAULT_LINE, True), (done.stderr, state.refused <= 1))
-            return "connection ended" if done.stdout else "command line not read"
+            break
         look_at(call, place, wire.answer(source), state)
-    same("the exit status, what was said, and the bytes behind", (0, b"", b""), (done.returncode, done.stderr, source.data[source.place :]))
-    same("at most one F21", True, state.refused <= 1)
+    same("the bytes behind, and at most one F21", (b"", True), (source.data[source.place :], state.refused <= 1))
+    if done.returncode == 3:
+        same("what was said, and that it stands in the last status", (FAULT_LINE, True), (done.stderr, ends_refused(done.stdout)))
+        return "connection ended" if done.stdout else "command line not read"
+    same("the exit status, and what was said", (0, b""), (done.returncode, done.stderr))
     return "an answer refused" if state.refused else "all whole"
+
+
+def ends_refused(written: bytes) -> bool:
+    """Whether the last record is the status F21, or nothing was written."""
+    return written[-len(REFUSED) :] in (b"", REFUSED)
 
 
 class Client:
