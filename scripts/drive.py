@@ -305,11 +305,15 @@ class RoughClient(threading.Thread):
         connection.send(call[: self.random.randrange(len(call))])
 
     def slow_read(self, connection: Connection) -> None:
-        """Some of the answer to a fetch, or to many of them, piece by piece."""
+        """Some of the answer to a fetch, or to many of them, piece by piece, or all that there is."""
         fetches = [one.call for one in self.drive.large] or [wire.call(b"GetFlightInfo", [descriptor_of("SELECT * FROM t")])]
         connection.send(self.random.choice(fetches) * self.random.choice([1, 5]))
+        connection.socket.settimeout(0.1)
         for _ in range(self.random.randrange(20)):
-            connection.source.read1(self.random.choice([1, 100, 10_000]))
+            try:
+                connection.socket.recv(self.random.choice([1, 100, 10_000]))
+            except TimeoutError:
+                break
             time.sleep(0.01)
 
     def say_nothing(self, connection: Connection) -> None:
