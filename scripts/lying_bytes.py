@@ -1,7 +1,7 @@
 #!/usr/bin/env python3
 """Puts whose headers lie, through `flightscan pipe`: each byte of a header by each of 256 values.
 
-    python3 scripts/lying_bytes.py [--program PATH] [--trips] [--every] [WHAT..]
+    python3 scripts/lying_bytes.py [--program PATH] [WHAT..]
 
 messages   Each byte of the headers of the first run's schema and batch takes each of its 256 values: 61,440 puts. A second
            reader (vectors/arrow/reader.py) says for each which fault it has, or which rows; so also for an accepted put. One
@@ -13,10 +13,11 @@ records    Each byte of a record's header in that put, of its Open, its Messages
            records says what has to be answered, and how the program ends. After a refused put that lets the connection go
            on, the first run's put is version 1.
 
-With --trips the headers of the stored stream of trips lie too: seven rows of five columns, two dictionaries. With --every
-each byte of the first run's whole put takes each value, in a `pipe` of its own, which takes about ten minutes: what comes has
-to be answers and an exit status of 0 or 3, and after a refused put the first run's put is version 1. No `pipe` may take longer
-than 20 seconds. It ends with 1 at the first difference.
+trips      As messages, with the stored stream of trips: seven rows of five columns, and a dictionary that grows.
+every      Each byte of the first run's whole put takes each value, in a `pipe` of its own: 104,192 inputs. What comes has to be
+           answers and an exit status of 0 or 3, and after a refused put the first run's put is version 1.
+
+The first two are done where nothing is named. No `pipe` may take longer than 20 seconds. It ends with 1 at the first difference.
 """
 
 from __future__ import annotations
@@ -272,25 +273,24 @@ def look_at_every(path: str, counts: collections.Counter) -> None:
             counts["whole" if status == 0 else "connection ended"] += 1
 
 
+LOOKS = {
+    "messages": lambda path, counts: look_at_messages(path, FIRST_RUN, counts),
+    "records": look_at_records,
+    "trips": lambda path, counts: look_at_messages(path, [*stored_messages(STREAM.read_bytes())], counts),
+    "every": look_at_every,
+}
+
+
 def main() -> int:
     parser = argparse.ArgumentParser(description=__doc__, formatter_class=argparse.RawDescriptionHelpFormatter)
     parser.add_argument("--program", help="the built program (that of the repository)")
-    parser.add_argument("--trips", action="store_true", help="the headers of the stream of trips too")
-    parser.add_argument("--every", action="store_true", help="each byte of the whole put too")
-    parser.add_argument("what", nargs="*", help="messages, records (both)")
+    parser.add_argument("what", nargs="*", help=f"of {', '.join(LOOKS)} (the first two)")
     words = parser.parse_args()
     path = program(words.program)
-    looks = {"messages": lambda counts: look_at_messages(path, FIRST_RUN, counts),
-             "records": lambda counts: look_at_records(path, counts)}
-    looks = {name: look for name, look in looks.items() if not words.what or name in words.what}
-    if words.trips:
-        looks["trips"] = lambda counts: look_at_messages(path, [*stored_messages(STREAM.read_bytes())], counts)
-    if words.every:
-        looks["every byte"] = lambda counts: look_at_every(path, counts)
-    for name, look in looks.items():
+    for name in words.what or ["messages", "records"]:
         began, counts = time.monotonic(), collections.Counter()
         try:
-            look(counts)
+            LOOKS[name](path, counts)
         except (Difference, wire.Unreadable, subprocess.TimeoutExpired) as found:
             print(f"a difference in {name}:\n{found}")
             return 1
