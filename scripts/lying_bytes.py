@@ -17,13 +17,15 @@ trips      As messages, with the stored stream of trips: seven rows of five colu
 every      Each byte of the first run's whole put takes each value, in a `pipe` of its own: 104,192 inputs. What comes has to be
            answers and an exit status of 0 or 3, and after a refused put the first run's put is version 1.
 
-The first two are done where nothing is named. No `pipe` may take longer than 20 seconds. It ends with 1 at the first difference.
+The first two are done where nothing is named. A `pipe` has 16 MB of memory and 20 seconds, also where a length claims more. It
+ends with 1 at the first difference.
 """
 
 from __future__ import annotations
 
 import argparse
 import collections
+import resource
 import subprocess
 import sys
 import time
@@ -47,7 +49,7 @@ from reader import Fault, Reader  # noqa: E402
 from served.cases import A, FETCH, PUT, fetch_of, status_of  # noqa: E402
 from trips import STREAM  # noqa: E402
 
-SECONDS = 20  # that one program may take
+SECONDS, MEMORY = 20, 16_000_000  # that one program may take, and bytes of its address space
 Message = tuple[bytes, bytes]  # a header and a body
 FIRST_RUN = [(SCHEMA_HEADER, b""), (BATCH_HEADER, BODY)]
 REPLACES = wire.chunk(1, wire.scalar(1, 1) + wire.scalar(2, 3)) + wire.chunk(2, b"t")
@@ -55,7 +57,11 @@ REPLACES = wire.chunk(1, wire.scalar(1, 1) + wire.scalar(2, 3)) + wire.chunk(2, 
 
 def piped(path: str, given: bytes) -> tuple[int, bytes, bytes]:
     """The exit status of `pipe`, and what it wrote and said."""
-    done = subprocess.run([path, "pipe"], input=given, capture_output=True, timeout=SECONDS)
+
+    def limited() -> None:
+        resource.setrlimit(resource.RLIMIT_AS, (MEMORY, MEMORY))
+
+    done = subprocess.run([path, "pipe"], input=given, capture_output=True, timeout=SECONDS, preexec_fn=limited)
     return done.returncode, done.stdout, done.stderr
 
 
