@@ -51,6 +51,7 @@ from reader import Fault, Reader  # noqa: E402
 SECONDS = 60  # that one run may take
 OUT_OF_MEMORY = (8, "F21 OutOfMemory")
 PARTS = 2
+SEATS = "3"  # one more than connections: where a thread is refused, a seat waits for the end of another one
 A = (Column("a", "Int64", True),)
 A_AND_S = (Column("a", "Int64", True), Column("s", "dictionary", True))
 MANY, MANY_ENDS = 70_000, [5_000, 66_000, 70_000]
@@ -321,7 +322,7 @@ def through_serve(refusing: Refusing, calls: list[Call], number: int) -> str:
     """A run of `serve`, over two connections in turn. What came of it is told."""
     state = State()
     try:
-        server = Server(refusing.path, "--seats", "2", *refusing.options(), more=refusing.environment(number))
+        server = Server(refusing.path, "--seats", SEATS, *refusing.options(), more=refusing.environment(number))
     except SystemExit as found:
         same("what a server that did not begin said", True, repr(FAULT_LINE) in str(found))
         return "server did not begin"

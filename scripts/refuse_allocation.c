@@ -27,7 +27,9 @@ __attribute__((constructor)) static void begin(void) {
 
 /* Counts an allocation, and tells whether it is the one that is refused. Threads may allocate at once. */
 static int is_refused(void) {
-    return count && __atomic_add_fetch(count, 1, __ATOMIC_RELAXED) == refused;
+    if (!count || __atomic_add_fetch(count, 1, __ATOMIC_RELAXED) != refused) return 0;
+    errno = ENOMEM;
+    return 1;
 }
 
 #define NEXT(name, result, ...)                              \
