@@ -4,8 +4,8 @@
     python3 bench/workers.py [--program PATH] [--before PATH] [--runs N] [--seconds S] [--rows N] [QUERY..]
 
 A table of 8,000,000 rows in batches of 65,536 (numbers, one with a tenth of nulls, and texts of ten words) and one of 100,000
-rows are put to servers with 1, 2 and 4 workers. First each query is fetched once from each server, whose streams have to be
-the same bytes. Then a client fetches it over and over for S seconds (1.5), from one server after the other: Q2 keeps 1 row in
+rows are put to servers with 1, 2, 4 and 16 workers. First each query is fetched once from each server, whose streams have to
+be the same bytes. Then a client fetches it over and over for S seconds (1.5), from those of 1, 2 and 4 in turn: Q2 keeps 1 row in
 100, Q3 half of them, Q6 and Q7 make 1,000 groups by a number and ten by a text, Q8 joins a tenth of the rows with the smaller
 table. Told are the median of the best of N rounds (3), the least processor time of the server for a fetch, and both against
 one worker.
@@ -40,7 +40,7 @@ from trees import UTF8, batch, field, integer, schema
 from wire import END, call, chunk, descriptor, packed, query_handle, record_message, record_open, scalar, ticket
 
 BATCH_ROWS, SMALLER_ROWS = 65_536, 100_000
-WORKERS = (1, 2, 4)
+WORKERS, COMPARED = (1, 2, 4), (1, 2, 4, 16)  # measured, and compared by their streams
 FASTER, MORE_TIME, SMALL_MORE, READERS_LEAST = {2: 1.7, 4: 3.0}, 1.15, 1.1, 0.97  # the goals
 WORDS = [b"alpha", b"beta", b"gamma", b"delta", b"epsilon", b"zeta", b"eta", b"theta", b"iota", b"kappa"]
 BILLION, MILLION = 10**9, 10**6
@@ -269,7 +269,7 @@ def main():
     with tempfile.TemporaryDirectory() as name, ExitStack() as stack:
         folder = pathlib.Path(name)
         bench, workload = (serve.compiled(folder), words.seconds), made(folder, words.rows)
-        options = {workers: (path, "--seats", "8", "--workers", str(workers)) for workers in WORKERS}
+        options = {workers: (path, "--seats", "8", "--workers", str(workers)) for workers in COMPARED}
         if words.before:
             options["before"] = words.before, "--seats", "8"
         servers = {which: stack.enter_context(Server(*option)) for which, option in options.items()}

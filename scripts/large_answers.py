@@ -1,17 +1,18 @@
 #!/usr/bin/env python3
-"""The largest answers of `flightscan serve`: a join of 8,192 by 8,192 rows of one key, and of 8,193 by 8,193.
+"""The largest answers of `flightscan serve`: joins of 8,192 by 8,192 rows of one key, and of 65,536 by 1,024.
 
     python3 scripts/large_answers.py [--program PATH] [--workers W,..] [--rows N] [CASE..]
 
-The first has 67,108,864 rows, the most that a fetch may give, and has to end with status 0. The second has too many: a
-beginning of its rows may come, and then F20. In two endpoints both have to be whole, and together they have every row.
-The joined column is one of Int8 or of Bool, whose values are all equal, in four batches of unequal sizes. Each case has a
-server of its own.
+Both have 67,108,864 rows, the most that a fetch may give, and have to end with status 0. With one row more on each side, or in
+the longer table, there are too many: a beginning of the rows may come, and then F20. In two endpoints both have to be whole, and
+together they have every row. The joined column is one of Int8 or of Bool, whose values are all equal, in eight batches of
+unequal sizes. Each case has a server of its own. The longer table has enough rows for two workers.
 
 The stream is read as it comes. Rows are counted by the headers of the record batches, and none is kept. Told are the rows,
-the time, and the most memory that the server held, which has to stay below 64 MB: the pairs of an answer, two numbers of
-32 bits each, would take 512 MB. With --workers 1,2,4,16 each case is done for each of these numbers, and the streams have to
-be the same bytes. With --rows N the smaller join has N by N rows, to try the script. It ends with 1 at the first difference.
+the time, and the most memory that the server held, which has to stay below 24 MB and 10 MB for each worker: the pairs of an
+answer, two numbers of 32 bits each, would take 512 MB. With --workers 1,2,4,16 each case is done for each of these numbers, and
+the streams have to be the same bytes. With --rows N the first join has N by N rows, to try the script. It ends with 1 at the
+first difference.
 """
 
 from __future__ import annotations
@@ -36,10 +37,10 @@ from random_calls.plain_model import split  # noqa: E402
 from reader import Table  # noqa: E402
 
 ROWS, MOST_ROWS, BATCH_ROWS = 8_192, 67_108_864, 65_536
-HELD_MB = 64
-QUERY = b"SELECT x.a FROM t AS x JOIN t AS y ON x.a = y.a"
+HELD_MB, HELD_BY_WORKER_MB = 24, 10
+QUERY = b"SELECT x.a FROM t AS x JOIN u AS y ON x.a = y.a"
 KINDS = {"Int8": trees.integer(8, True), "Bool": trees.BOOL}
-BATCHES = [0.1, 0.15, 0.7, 1]  # where they end, as shares of the rows
+BATCHES = [0.05, 0.1, 0.25, 0.35, 0.5, 0.55, 0.9, 1]  # where they end, as shares of the rows
 HEAD = 4_096  # bytes of a FlightData in which its header lies
 TOO_LARGE = (8, "F20 ResultTooLarge")
 
@@ -55,32 +56,42 @@ def demand(truth: bool, said: str) -> None:
 
 @dataclass
 class Case:
+    """A join of tables of so many rows, of which the left one is cut in parts."""
+
     kind: str
-    rows: int
+    left: int
+    right: int
     parts: int
 
     @property
     def name(self) -> str:
-        return f"{self.kind}, {self.rows} rows, {self.parts} part{'s' * (self.parts > 1)}"
+        return f"{self.kind}, {self.left} by {self.right} rows, {self.parts} part{'s' * (self.parts > 1)}"
 
     def whole(self) -> bool:
         """Whether no part has too many rows."""
-        return max(end - first for first, end in split(self.rows, self.parts)) * self.rows <= MOST_ROWS
+        return max(end - first for first, end in split(self.left, self.parts)) * self.right <= MOST_ROWS
 
-    def put(self) -> bytes:
-        """The table, all of whose rows have one value."""
-        ends = [int(share * self.rows) for share in BATCHES]
-        made = [(trees.schema(trees.field("a", KINDS[self.kind], False)), b"")]
-        for first, end in zip([0, *ends], ends):
-            values = b"\x01" * (end - first) if self.kind == "Int8" else trees.bits([True] * (end - first))
-            made.append(trees.batch(end - first, (0, b"", values)))
-        command = wire.packed(b"CommandStatementIngest", wire.chunk(1, wire.scalar(1, 1)) + wire.chunk(2, b"t"))
-        messages = [wire.chunk(2, written("Message", tree, "spread")) + wire.chunk(1000, body) for tree, body in made]
-        return wire.call(b"DoPut", [wire.chunk(1, wire.descriptor(command)) + messages[0], *messages[1:]])
+    def puts(self) -> list[bytes]:
+        return [put(b"t", self.kind, self.left), put(b"u", self.kind, self.right)]
+
+
+def put(table: bytes, kind: str, rows: int) -> bytes:
+    """A put of rows of one value."""
+    ends = [int(share * rows) for share in BATCHES]
+    made = [(trees.schema(trees.field("a", KINDS[kind], False)), b"")]
+    for first, end in zip([0, *ends], ends):
+        values = b"\x01" * (end - first) if kind == "Int8" else trees.bits([True] * (end - first))
+        made.append(trees.batch(end - first, (0, b"", values)))
+    command = wire.packed(b"CommandStatementIngest", wire.chunk(1, wire.scalar(1, 1)) + wire.chunk(2, table))
+    messages = [wire.chunk(2, written("Message", tree, "spread")) + wire.chunk(1000, body) for tree, body in made]
+    return wire.call(b"DoPut", [wire.chunk(1, wire.descriptor(command)) + messages[0], *messages[1:]])
 
 
 def cases(rows: int) -> list[Case]:
-    return [Case(kind, count, parts) for kind in KINDS for parts in (1, 2) for count in (rows, rows + 1)]
+    """Joins of two tables of so many rows, and of one that is eight times as long with one that is as much shorter."""
+    sides = [(rows, rows, 1), (rows + 1, rows + 1, 1), (rows, rows, 2), (rows + 1, rows + 1, 2), (8 * rows, rows // 8, 1),
+             (8 * rows + 1, rows // 8, 1)]
+    return [Case(kind, *side) for kind in KINDS for side in sides]
 
 
 @dataclass
@@ -124,7 +135,7 @@ def tickets_of(connection: Connection, case: Case) -> list[bytes]:
     connection.send(wire.call(b"GetFlightInfo", [command]))
     parts = wire.fields(connection.answer().messages[0])
     tickets = [wire.one_field(content, 1) for number, content in parts if number == 3]
-    wanted = [wire.ticket(wire.query_handle(1, first, end, QUERY)) for first, end in split(case.rows, case.parts)]
+    wanted = [wire.ticket(wire.query_handle(2, first, end, QUERY)) for first, end in split(case.left, case.parts)]
     demand(tickets == wanted, "other tickets")
     return tickets
 
@@ -133,9 +144,10 @@ def streams_of(path: str, case: Case, workers: int) -> tuple[list[Stream], float
     """The streams of all endpoints, and the most megabytes that the server held."""
     with Server(path, "--parts", str(case.parts), "--workers", str(workers)) as server:
         with Connection(server.port) as connection:
-            connection.send(case.put())
-            answer = connection.answer()
-            demand(answer.code == 0, f"the put: {answer.text}")
+            for records in case.puts():
+                connection.send(records)
+                answer = connection.answer()
+                demand(answer.code == 0, f"a put: {answer.text}")
             found = []
             for ticket in tickets_of(connection, case):
                 connection.send(wire.call(b"DoGet", [ticket]))
@@ -144,16 +156,15 @@ def streams_of(path: str, case: Case, workers: int) -> tuple[list[Stream], float
         return found, server.most_held() / 1e6
 
 
-def look(case: Case, found: list[Stream], held: float) -> None:
+def look(case: Case, found: list[Stream]) -> None:
     """The rows and the statuses are those of the case."""
     statuses, total = [stream.status for stream in found], sum(stream.rows for stream in found)
     if case.whole():
         demand(statuses == [(0, "")] * case.parts, f"statuses {statuses}")
-        demand(total == case.rows**2, f"{total:,} rows, where {case.rows ** 2:,} had to come")
+        demand(total == case.left * case.right, f"{total:,} rows, where {case.left * case.right:,} had to come")
     else:
         demand(statuses == [TOO_LARGE], f"statuses {statuses}")
         demand(total <= MOST_ROWS, f"{total:,} rows before F20")
-    demand(held < HELD_MB, f"{held:.0f} MB held")
 
 
 def tried(path: str, case: Case, workers: list[int]) -> bool:
@@ -163,7 +174,8 @@ def tried(path: str, case: Case, workers: list[int]) -> bool:
         began = time.monotonic()
         try:
             found, held = streams_of(path, case, count)
-            look(case, found, held)
+            look(case, found)
+            demand(held < HELD_MB + count * HELD_BY_WORKER_MB, f"{held:.0f} MB held")
             first = first or found
             demand(found == first, f"other streams than with {workers[0]} workers: {found}, {first}")
         except (Wrong, wire.Unreadable, OSError) as wrong:
@@ -179,7 +191,7 @@ def main() -> int:
     parser = argparse.ArgumentParser(description=__doc__, formatter_class=argparse.RawDescriptionHelpFormatter)
     parser.add_argument("--program", help="the built program (that of the repository)")
     parser.add_argument("--workers", type=worker_counts, default=[1], help="the numbers of workers, as 1,2,4,16 (1)")
-    parser.add_argument("--rows", type=int, default=ROWS, help="of the smaller join's table (8192)")
+    parser.add_argument("--rows", type=int, default=ROWS, help="of the first join's tables (8192)")
     parser.add_argument("case", nargs="*", help="cases whose names begin so (all)")
     words = parser.parse_args()
     path = program(words.program)
