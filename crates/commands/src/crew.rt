@@ -93,7 +93,12 @@ trait Job<L, C: CellName> {
 }
 
 // A worker serves connections.
-impl<'a, 'h, L: Listen, C: CellName, T: Wait + Clock> Job<L, C> for Crew<'a, 'h, C, T> {
+impl<'a, 'h, L, C, T> Job<L, C> for Crew<'a, 'h, C, T>
+where
+    L: Listen,
+    C: CellName,
+    T: Threads + Wait + Clock + Sync,
+{
     ghost use Rattle.commands.specs.inside.Gathering.{HasWorked, IsNew};
 
     ghost takes = { λ crew worker. IsNew crew.service.turns.now.name worker };

@@ -9,11 +9,13 @@ ghost use Rattle.commands.specs.inside.Accepting.{TakesNext, TakesNone};
 
 use command_ends::Listen;
 use connection_turns::{Drawer, Turns};
-use flight_calls::{Backend, OneWorker, Options, Setting};
+use fetch_workers::Workers;
+use flight_calls::{Backend, Options, Setting};
 use scan_base::Fault;
 use std::alloc::Global;
 use std::sync::Wait;
 use std::thread;
+use std::thread::Threads;
 use std::time::{Clock, Duration};
 
 // So many accepts that fail one behind the other end a worker.
@@ -31,12 +33,13 @@ pub struct Service<'a, 'h, T: Wait> {
     pub turns: &'a Turns,
 }
 
-/// Serves connections one behind the other, over one backend: one for each turn that it draws, until none is left.
+/// Serves connections one behind the other, over one backend: one for each turn that it draws, until none is left. The
+/// answer to a fetch is made by as many threads as the options say.
 ///
 /// # Errors
 ///
 /// `Fault::Transport` (F22) where a hundred accepts failed one behind the other.
-pub fn serve_in_turn<L: Listen, B: Backend, T: Wait + Clock>(
+pub fn serve_in_turn<L: Listen, B: Backend, T: Threads + Wait + Clock + Sync>(
     service: &Service<'_, '_, T>,
     drawer: &mut Drawer,
     network: &mut L,
@@ -48,6 +51,7 @@ pub fn serve_in_turn<L: Listen, B: Backend, T: Wait + Clock>(
     ensures drawer { (drawer.new.name ≡ service.now.turns.now.name) × (drawer.new.parts ≡ 1) }
     ensures ended { IfOk result (λ _. 0 < drawer.new.ended) }
 {
+    let executor = Workers::new(service.rt);
     for _ in service.rt.forever() {
         if !service.turns.draw(service.rt, drawer) {
             return Ok(());
@@ -55,7 +59,7 @@ pub fn serve_in_turn<L: Listen, B: Backend, T: Wait + Clock>(
         let (mut reader, mut writer) = accept_next(service.rt, network)?;
         let setting = Setting {
             alloc: service.alloc,
-            executor: &OneWorker,
+            executor: &executor,
             options: service.options,
         };
         let _ = flight_calls::serve(&setting, &mut reader, &mut writer, backend);
