@@ -9,13 +9,11 @@ ghost use Rattle.commands.specs.inside.Accepting.{TakesNext, TakesNone};
 
 use command_ends::Listen;
 use connection_turns::{Drawer, Turns};
-use fetch_workers::Workers;
-use flight_calls::{Backend, Options, Setting};
+use flight_calls::{Backend, Executor, Options, Setting};
 use scan_base::Fault;
 use std::alloc::Global;
 use std::sync::Wait;
 use std::thread;
-use std::thread::Threads;
 use std::time::{Clock, Duration};
 
 // So many accepts that fail one behind the other end a worker.
@@ -24,23 +22,23 @@ const MOST_FAILED_ACCEPTS: u32 = 100;
 // It waits so long behind each: what keeps a connection from being accepted may pass.
 const PAUSE_MILLISECONDS: u64 = 20;
 
-/// How all workers serve, and how many connections are still to be accepted.
+/// How all workers serve, who makes the answers to fetches, and how many connections are still to be accepted.
 #[derive(Drop)]
-pub struct Service<'a, 'h, T: Wait> {
+pub struct Service<'a, 'h, T: Wait, X> {
     pub rt: &'h T,
     pub alloc: Global,
+    pub executor: &'a X,
     pub options: Options,
     pub turns: &'a Turns,
 }
 
-/// Serves connections one behind the other, over one backend: one for each turn that it draws, until none is left. The
-/// answer to a fetch is made by as many threads as the options say.
+/// Serves connections one behind the other, over one backend: one for each turn that it draws, until none is left.
 ///
 /// # Errors
 ///
 /// `Fault::Transport` (F22) where a hundred accepts failed one behind the other.
-pub fn serve_in_turn<L: Listen, B: Backend, T: Threads + Wait + Clock + Sync>(
-    service: &Service<'_, '_, T>,
+pub fn serve_in_turn<L: Listen, B: Backend, T: Wait + Clock, X: Executor>(
+    service: &Service<'_, '_, T, X>,
     drawer: &mut Drawer,
     network: &mut L,
     backend: &mut B,
@@ -51,7 +49,6 @@ pub fn serve_in_turn<L: Listen, B: Backend, T: Threads + Wait + Clock + Sync>(
     ensures drawer { (drawer.new.name ≡ service.now.turns.now.name) × (drawer.new.parts ≡ 1) }
     ensures ended { IfOk result (λ _. 0 < drawer.new.ended) }
 {
-    let executor = Workers::new(service.rt);
     for _ in service.rt.forever() {
         if !service.turns.draw(service.rt, drawer) {
             return Ok(());
@@ -59,7 +56,7 @@ pub fn serve_in_turn<L: Listen, B: Backend, T: Threads + Wait + Clock + Sync>(
         let (mut reader, mut writer) = accept_next(service.rt, network)?;
         let setting = Setting {
             alloc: service.alloc,
-            executor: &executor,
+            executor: service.executor,
             options: service.options,
         };
         let _ = flight_calls::serve(&setting, &mut reader, &mut writer, backend);
