@@ -45,9 +45,9 @@ pub trait StartsWorkers {
 }
 
 impl<R: Threads + Wait + Sync> StartsWorkers for R {
-    ghost use Rattle.std.specs.Thread.{IsSync};
+    ghost use Rattle.fetch_workers.specs.inside.Shared.{MayBeShared};
 
-    ghost shared = { λ _. IsSync R.row };
+    ghost shared = { λ _. MayBeShared R.row };
 
     fn read_beside<S: ReadsPayloads>(
         &self,
