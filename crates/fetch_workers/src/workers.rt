@@ -2,9 +2,10 @@
 
 ghost use Rattle.std.specs.Prelude.{◌≡◌, IfSome, None};
 
+use crate::grouped::read_grouped;
 use crate::joined::Joined;
 use crate::work::MorselWork;
-use fetch_stream::{Ahead, Executor, FetchStream, Morsels, OneWorker, ReadsPayloads};
+use fetch_stream::{Ahead, Executor, FetchStream, Morsels, ReadsPayloads};
 use scan_base::Fault;
 use scan_workers::{Answers, NoGate, Reads, in_order};
 use std::alloc::Global;
@@ -13,7 +14,7 @@ use std::sync::Wait;
 use std::thread::Threads;
 
 // How many rows a worker reads at least: for fewer, a thread costs more than it saves.
-const LEAST_ROWS: usize = 32_768;
+pub(crate) const LEAST_ROWS: usize = 32_768;
 
 /// A handle that starts the threads of a fetch: each that may start threads and wait, and that threads may share.
 pub trait StartsWorkers {
@@ -35,6 +36,21 @@ pub trait StartsWorkers {
         requires takes { S.takes reader.old }
         ensures read { IfSome result (λ read. S.reads reader.old stream.now read reader.new) }
         ensures kept { result ≡ None → reader.new ≡ reader.old };
+
+    /// Has a stream read whose groups several workers make.
+    ///
+    /// # Errors
+    ///
+    /// Those of the reader.
+    fn read_grouped<S: ReadsPayloads>(
+        &self,
+        alloc: Global,
+        stream: FetchStream,
+        reader: &mut S,
+    ) -> Result<(), Fault>
+        requires shared { shared self.now }
+        requires takes { S.takes reader.old }
+        ensures { S.reads reader.old stream result reader.new };
 }
 
 impl<R: Threads + Wait + Sync> StartsWorkers for R {
@@ -50,12 +66,22 @@ impl<R: Threads + Wait + Sync> StartsWorkers for R {
     ) -> Option<Result<(), Fault>> {
         read_beside(self, alloc, stream, reader)
     }
+
+    fn read_grouped<S: ReadsPayloads>(
+        &self,
+        alloc: Global,
+        stream: FetchStream,
+        reader: &mut S,
+    ) -> Result<(), Fault> {
+        read_grouped(self, alloc, stream, reader)
+    }
 }
 
 /// The thread that reads has the payloads of a stream made by others beside it, each in a thread of its own, and makes some
 /// itself: as many workers as the stream asks for at most, one for each 32,768 rows that are read and one for each morsel at
-/// most. Threads are started once for a fetch, and have ended when it has. Groups, the list of tables, and streams that have
-/// begun stay with one worker; so does a stream where memory is refused for the others.
+/// most. Threads are started once for a fetch, and have ended when it has. Of groups the others make those of each batch, with
+/// the same bounds. The list of tables and streams that have begun stay with one worker; so does a stream of rows where memory
+/// is refused for the others.
 #[derive(Drop)]
 pub struct Workers<'h, R: StartsWorkers> {
     rt: &'h R,
@@ -87,7 +113,7 @@ impl<'h, R: StartsWorkers> Executor for Workers<'h, R> {
         if let Some(read) = self.rt.read_beside(alloc, &stream, reader) {
             return read;
         }
-        OneWorker.execute(alloc, stream, reader)
+        self.rt.read_grouped(alloc, stream, reader)
     }
 }
 

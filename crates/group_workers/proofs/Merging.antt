@@ -6,10 +6,21 @@ use Rattle.std.proofs.lemmas.List.Folds.{length-flat_map-take}
 use Rattle.arrays.specs.Batch.{BatchAt, rows_of}
 use Rattle.scan_base.specs.Limits.{most_rows}
 use Rattle.table_versions.specs.Table.{Row}
-use Rattle.grouping.specs.Fed.{GroupsAt, HasMerged, Holds, IsAlike, batch_at}
+use Rattle.grouping.specs.Fed.{GroupsAt, HasMerged, Holds, IsAlike, IsNew, batch_at}
 use Rattle.row_sources.specs.Picking.{holds}
 use Rattle.scan_exec.specs.GroupWork.{AreGroupsOf, GroupWorkAt, passing}
 use Rattle.scan_exec.proofs.Grouping.{passing_few, rows_more}
+
+-- groups of no row
+pub new_are : (work : GroupWorkAt) (groups : GroupsAt) → IsNew work.batches work.types work.keys work.items groups → AreGroupsOf work [] groups
+new_are work groups is = record {
+  batches_are = is.batches_are;
+  types_are = is.types_are;
+  keys_are = is.keys_are;
+  items_are = is.items_are;
+  refused = is.refused;
+  held = is.held;
+}
 
 -- groups of the same batches, by the same, are alike
 pub are_alike : (work : GroupWorkAt) (groups other : GroupsAt) (some rows : List Row) → AreGroupsOf work some groups → AreGroupsOf work rows other → IsAlike groups other

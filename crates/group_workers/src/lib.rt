@@ -4,4 +4,4 @@
 mod merging;
 pub mod workers;
 
-pub use crate::workers::GroupWorkers;
+pub use crate::workers::{GroupWorkers, StartsGroupWorkers};

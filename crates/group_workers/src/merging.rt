@@ -25,7 +25,8 @@ impl<'w, 't, 'p> Work for BatchGroups<'w, 't, 'p> {
     ghost answers = { λ b number answer. GroupsOfBatch (work_at b.work.now) number answer };
 
     fn count(&self) -> usize {
-        self.work.shape.batches.len()
+        let work = self.work;
+        work.shape.batches.len()
     }
 
     fn answer(&self, alloc: Global, morsel: usize) -> Result<Groups<'t>, Fault> {

@@ -1,6 +1,0 @@
-use Rattle.scan_exec.specs.GroupWork.{work_at}
-use Rattle.group_workers.proofs.Kept.{can_merge}
-use Rattle.group_workers.proofs.workers.GroupWorkersGroupsBatches.groups_of_all.Goals as goal
-
-pub in_order-requires-clause-takes : goal.in_order-requires-clause-takes
-in_order-requires-clause-takes g c lifetimes met = can_merge (work_at c.args.work.now) c.in_ok-groups.groups c.requires _
