@@ -1,5 +1,4 @@
-use Rattle.scan_exec.specs.GroupWork.{CanBeGrouped, GroupsOfAll}
-use Rattle.scan_exec.proofs.Grouping.{finished, wanted_work}
+use Rattle.scan_exec.proofs.Grouping.{finished}
 use Rattle.scan_exec.proofs.grouped.answers_of.Goals as goal
 
 pub groups_of_all-requires : goal.groups_of_all-requires
