@@ -1,2 +1,2 @@
-pub mod Merging
+pub mod Merged
 pub mod Kept

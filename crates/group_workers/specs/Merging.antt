@@ -1,5 +1,5 @@
 -- Inside: groups of each batch, merged behind groups of no row.
-use Rattle.std.specs.Prelude.{◌≡◌, ℕ, List, [], length, Result}
+use Rattle.std.specs.Prelude.{◌≡◌, ℕ, [], length, Result}
 use Rattle.std.specs.List.{flat_map}
 use Rattle.arrays.specs.Batch.{rows_of}
 use Rattle.scan_base.specs.declared.fault.Fault.{Fault}

@@ -1,6 +1,6 @@
-use Rattle.scan_exec.specs.GroupWork.{AreGroupsOf, work_at}
+use Rattle.scan_exec.specs.GroupWork.{work_at}
 use Rattle.group_workers.proofs.Kept.{can_merge}
-use Rattle.group_workers.proofs.Merging.{new_are}
+use Rattle.group_workers.proofs.Merged.{new_are}
 use Rattle.group_workers.proofs.workers.groups_beside.Goals as goal
 
 pub in_order-requires-clause-takes : goal.in_order-requires-clause-takes

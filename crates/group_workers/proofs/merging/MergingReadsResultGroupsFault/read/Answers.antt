@@ -3,7 +3,7 @@ use Rattle.std.specs.List.{flat_map}
 use Rattle.arrays.specs.Batch.{rows_of}
 use Rattle.grouping.specs.Fed.{HasMerged, batch_at}
 use Rattle.scan_exec.specs.GroupWork.{AreGroupsOf, GroupsOfBatch, passing, work_at}
-use Rattle.group_workers.proofs.Merging.{are_alike, merge_few, more_merged}
+use Rattle.group_workers.proofs.Merged.{are_alike, merge_few, more_merged}
 use Rattle.group_workers.proofs.merging.MergingReadsResultGroupsFault.read.Goals as goal
 
 pub merge-requires-clause-alike : goal.merge-requires-clause-alike
