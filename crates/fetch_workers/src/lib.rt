@@ -3,9 +3,11 @@
 //! `Workers` is an executor: what is read over it is what is read over one worker.
 #![tactic(auto)]
 
+pub mod grouped;
 mod joined;
 mod part;
 mod work;
 mod workers;
 
+pub use crate::grouped::GroupedStream;
 pub use crate::workers::Workers;

@@ -2,6 +2,7 @@
 
 ghost use Rattle.std.specs.Prelude.{◌≡◌, IfSome, None};
 
+use crate::grouped::{GroupedWork, read_grouped};
 use crate::joined::Joined;
 use crate::work::MorselWork;
 use fetch_stream::{Ahead, Executor, FetchStream, Morsels, OneWorker, ReadsPayloads};
@@ -42,6 +43,20 @@ pub trait StartsWorkers {
         requires takes { S.takes reader.old }
         ensures read { IfSome result (λ read. S.reads reader.old work.now.stream.now read reader.new) }
         ensures kept { result ≡ None → reader.new ≡ reader.old };
+
+    /// Has a stream read whose groups several workers make.
+    ///
+    /// # Errors
+    ///
+    /// Those of the reader.
+    fn read_grouped<S: ReadsPayloads>(
+        &self,
+        work: GroupedWork,
+        reader: &mut S,
+    ) -> Result<(), Fault>
+        requires shared { shared self.now }
+        requires takes { S.takes reader.old }
+        ensures { S.reads reader.old work.stream result reader.new };
 }
 
 impl<R: Threads + Wait + Sync> StartsWorkers for R {
@@ -56,12 +71,21 @@ impl<R: Threads + Wait + Sync> StartsWorkers for R {
     ) -> Option<Result<(), Fault>> {
         read_beside(self, work, reader)
     }
+
+    fn read_grouped<S: ReadsPayloads>(
+        &self,
+        work: GroupedWork,
+        reader: &mut S,
+    ) -> Result<(), Fault> {
+        read_grouped(self, work, reader)
+    }
 }
 
 /// The thread that reads has the payloads of a stream made by others beside it, each in a thread of its own, and makes some
 /// itself: as many workers as the stream asks for at most, one for each 32,768 rows that are read and one for each morsel at
-/// most. Threads are started once for a fetch, and have ended when it has. Groups, the list of tables, and streams that have
-/// begun stay with one worker; so does a stream where memory is refused for the others.
+/// most. Threads are started once for a fetch, and have ended when it has. Of groups the others make those of each batch, with
+/// the same bounds. The list of tables and streams that have begun stay with one worker; so does a stream of rows where memory
+/// is refused for the others.
 #[derive(Drop)]
 pub struct Workers<'h, R: StartsWorkers> {
     rt: &'h R,
@@ -105,15 +129,24 @@ impl<'h, R: StartsWorkers> Executor for Workers<'h, R> {
         stream: FetchStream,
         reader: &mut S,
     ) -> Result<(), Fault> {
+        let workers = self.worth(&stream);
+        if workers < 2 {
+            return OneWorker.execute(alloc, stream, reader);
+        }
         let work = SideBySide {
             alloc,
             stream: &stream,
-            workers: self.worth(&stream),
+            workers,
         };
         if let Some(read) = self.rt.read_beside(&work, reader) {
             return read;
         }
-        OneWorker.execute(alloc, stream, reader)
+        let work = GroupedWork {
+            alloc,
+            stream,
+            workers,
+        };
+        self.rt.read_grouped(work, reader)
     }
 }
 
