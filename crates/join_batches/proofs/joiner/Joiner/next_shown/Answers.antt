@@ -6,11 +6,11 @@ use Rattle.arrays.specs.Batch.{BatchAt}
 use Rattle.hash_join.specs.declared.pair.Pair.{Pair}
 use Rattle.join_batches.specs.declared.joiner.BuiltSides.{BuiltSides}
 use Rattle.join_batches.specs.Rows.{IsPair}
-use Rattle.join_batches.specs.Joiner.{JoinerAt, GivesJoined}
+use Rattle.join_batches.specs.Joiner.{JoinerAt, GivesShown}
 use Rattle.join_batches.specs.Held.{joiner_of, sides_of}
-use Rattle.join_batches.proofs.Giving.{left_key, Goes, goes_found, goes_on, sides_are, gives_next}
-use Rattle.join_batches.proofs.joiner.Joiner.next.Goals as goal
-use Rattle.join_batches.proofs.joiner.Joiner.next.Goals.{After-as_slice-2, After-as_slice-4, then-self-len+in_ok-self-inside, else-self-len}
+use Rattle.join_batches.proofs.Giving.{left_key, Goes, goes_found, goes_on, sides_are, gives_shown, shown_there}
+use Rattle.join_batches.proofs.joiner.Joiner.next_shown.Goals as goal
+use Rattle.join_batches.proofs.joiner.Joiner.next_shown.Goals.{After-as_slice-2, After-as_slice-4, then-self-len+in_ok-self-inside, else-self-len}
 
 pub next_pairs-requires-clause-key : goal.next_pairs-requires-clause-key
 next_pairs-requires-clause-key c = λ some.
@@ -46,6 +46,18 @@ joined-requires-clause-sides c =
     sides_are c.if-self-len.self-inside _ g.held refl (c.as_slice-3.ensures.value ∙ ap (λ (s : BuiltSides). s.left.types.items) is)
     (c.batches.ensures ∙ ap (λ (s : BuiltSides). s.build.batches) is) (c.as_slice-4.ensures.value ∙ ap (λ (s : BuiltSides). s.right_types.items) is) m
 
+-- the columns are there
+within : (c : After-as_slice-4) → Goes c.self.inside c.if-self-len.self-inside →
+    All (λ number. number < length c.as_slice-3.result.now + length c.as_slice-4.result.now) c.args.shown.now
+within c g =
+    let is = c.deref-built-2.ensures in
+    shown_there c.if-self-len.self-inside c.args.self.now c.as_slice-3.result.now c.as_slice-4.result.now c.args.shown.now (g.same ∙ c.self.view_is)
+    (c.as_slice-3.ensures.value ∙ ap (λ (s : BuiltSides). s.left.types.items) is)
+    (c.as_slice-4.ensures.value ∙ ap (λ (s : BuiltSides). s.right_types.items) is) c.requires
+
+pub joined-requires-clause-shown : goal.joined-requires-clause-shown
+joined-requires-clause-shown c = within (goal.at.joined-requires-clause-shown c).After-as_slice-4 (goes (goal.at.joined-requires-clause-shown c).After-as_slice-2)
+
 pub joined-requires-clause-there : goal.joined-requires-clause-there
 joined-requires-clause-there c =
     let g = goes (goal.at.joined-requires-clause-there c).After-as_slice-2 in
@@ -66,7 +78,7 @@ returns c =
     let behind = length-drop j.given pairs in
     let all : take (length pairs - j.given) (drop j.given pairs) ≡ drop j.given j.pairs.items =
     take_all (length pairs - j.given) (drop j.given pairs) (omega (arith, behind)) ∙ ap (drop j.given) c.as_slice-2.ensures.value in
-    subst (λ (before : JoinerAt). GivesJoined before c.in_ok-joined.joined (joiner_of (record j { given = j.given + c.rows.result }))) (g.same ∙ c.self.view_is)
-    (gives_next j _ (take (length pairs - j.given) (drop j.given pairs)) c.in_ok-joined.joined c.rows.result g.held refl
+    subst (λ (before : JoinerAt). GivesShown before c.args.shown.now c.in_ok-joined.joined (joiner_of (record j { given = j.given + c.rows.result }))) (g.same ∙ c.self.view_is)
+    (gives_shown j _ c.args.shown.now (take (length pairs - j.given) (drop j.given pairs)) c.in_ok-joined.joined c.rows.result g.held refl
     (c.as_slice-3.ensures.value ∙ ap (λ (s : BuiltSides). s.left.types.items) is) (c.batches.ensures ∙ ap (λ (s : BuiltSides). s.build.batches) is)
-    (c.as_slice-4.ensures.value ∙ ap (λ (s : BuiltSides). s.right_types.items) is) all c.rows.ensures c.in_ok-joined.ensures)
+    (c.as_slice-4.ensures.value ∙ ap (λ (s : BuiltSides). s.right_types.items) is) all c.rows.ensures (within (goal.at.returns c).After-as_slice-4 (goes (goal.at.returns c).After-as_slice-2)) c.in_ok-joined.ensures)
