@@ -60,7 +60,7 @@ pub trait StartsWorkers {
 }
 
 impl<R: Threads + Wait + Sync> StartsWorkers for R {
-    ghost use Rattle.fetch_workers.specs.inside.Shared.{MayBeShared};
+    ghost use Rattle.group_workers.specs.Shared.{MayBeShared};
 
     ghost shared = { λ _. MayBeShared R.row };
 
