@@ -49,11 +49,7 @@ pub trait StartsWorkers {
     /// # Errors
     ///
     /// Those of the reader.
-    fn read_grouped<S: ReadsPayloads>(
-        &self,
-        work: GroupedWork,
-        reader: &mut S,
-    ) -> Result<(), Fault>
+    fn read_grouped<S: ReadsPayloads>(&self, work: GroupedWork, reader: &mut S) -> Result<(), Fault>
         requires shared { shared self.now }
         requires takes { S.takes reader.old }
         ensures { S.reads reader.old work.stream result reader.new };
