@@ -1,10 +1,9 @@
 -- The morsels of a stream, and the payloads that are made ahead of one, may cross threads: each of their parts may. The tree of types
 -- is too deep for one search, so each type that holds a recursive one has a lemma here; the others have one that is generated.
-use denote.RattleType.{RattleType}
 use denote.Builtin.{usize}
 use denote.Param.Send.{IsSend, IsSync, sendable}
 use denote.Param.SendFields.{as_row_send, as_row_sync}
-use Rattle.std.proofs.Crossing.{Box-send, Box-sync, Arc-send, Arc-sync, crosses}
+use Rattle.std.proofs.Crossing.{Box-send, Box-sync, crosses}
 use Rattle.std.proofs.MapsCrossing.{crosses as maps}
 use Rattle.scan_base.specs.contracts.predicate.Operand as operand
 use Rattle.scan_base.specs.contracts.predicate.Predicate as predicate
@@ -29,7 +28,6 @@ use Rattle.scan_exec.specs.contracts.scan.Scan as scan
 use Rattle.scan_base.proofs.fault.Fault.TheSendSync as fault
 use Rattle.arrow_schema.proofs.schema.Schema.TheSendSync as schema
 use Rattle.fetch_stream.proofs.cutter.Cutter.TheSendSync as cutter
-use Rattle.fetch_stream.proofs.made.Made.TheSendSync as made
 use Rattle.fetch_stream.specs.contracts.source.Source as source
 use Rattle.fetch_stream.specs.contracts.stream.FetchStream as stream
 

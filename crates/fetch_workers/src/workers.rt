@@ -49,18 +49,14 @@ pub trait StartsWorkers {
     /// # Errors
     ///
     /// Those of the reader.
-    fn read_grouped<S: ReadsPayloads>(
-        &self,
-        work: GroupedWork,
-        reader: &mut S,
-    ) -> Result<(), Fault>
+    fn read_grouped<S: ReadsPayloads>(&self, work: GroupedWork, reader: &mut S) -> Result<(), Fault>
         requires shared { shared self.now }
         requires takes { S.takes reader.old }
         ensures { S.reads reader.old work.stream result reader.new };
 }
 
 impl<R: Threads + Wait + Sync> StartsWorkers for R {
-    ghost use Rattle.fetch_workers.specs.inside.Shared.{MayBeShared};
+    ghost use Rattle.group_workers.specs.Shared.{MayBeShared};
 
     ghost shared = { λ _. MayBeShared R.row };
 

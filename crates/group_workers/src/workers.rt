@@ -36,9 +36,9 @@ pub trait StartsGroupWorkers {
 }
 
 impl<R: Threads + Wait + Sync> StartsGroupWorkers for R {
-    ghost use Rattle.std.specs.Thread.{IsSync};
+    ghost use Rattle.group_workers.specs.Shared.{MayBeShared};
 
-    ghost shared = { λ _. IsSync R.row };
+    ghost shared = { λ _. MayBeShared R.row };
 
     fn groups_beside<'t>(
         &self,

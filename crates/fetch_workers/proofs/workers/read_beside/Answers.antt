@@ -1,4 +1,4 @@
-use denote.Param.Send.{IsSend, IsSync, sendable}
+use denote.Param.Send.{sendable}
 use Rattle.std.proofs.Crossing.{crosses}
 use Rattle.scan_base.proofs.fault.Fault.TheSendSync as fault
 use Rattle.fetch_stream.proofs.made.Made.TheSendSync as made
