@@ -8,6 +8,7 @@ use client_commands::put::{Putting, put};
 use client_commands::query::{Querying, query};
 use client_commands::tables::tables;
 use command_ends::{Connect, Listen};
+use command_line::Format;
 use grpc_frame::{MemoryInput, MemoryOutput};
 use loopback::{Loopback, Port};
 use scan_base::PutMode;
@@ -136,6 +137,7 @@ where
         port,
         streams: 2,
         sql: GROUPED,
+        format: Format::Lines,
     };
     ask_rows(rt, grouped, MemoryOutput::new(alloc), told)?;
     let all = Querying {
