@@ -40,3 +40,10 @@ cause_of_none batches fault cause = cause_of [] batches fault (λ each k d insid
 pub cause_of_one : (batches : List BatchAt) (i : ℕ) (batch : BatchAt) (fault : Fault) → i < length batches → batch ≡ get_or batches i batch → IsCause (batch ∷ []) fault → IsCause batches fault
 cause_of_one batches i batch fault inside is cause =
     cause_of (batch ∷ []) batches fault (λ each. All-cons IsShort batch [] (subst IsShort (sym is) (each i batch inside)) (All-nil IsShort)) cause
+
+-- ---- a result
+
+-- a failed transport is the only cause
+pub causes_by_transport : {A : Type 0} (batches : List BatchAt) (result : Result A Fault) → FailsByTransport result → MatchResult result (λ _. Unit {0}) (IsCause batches)
+causes_by_transport batches (Ok x) kind = tt
+causes_by_transport batches (Err fault) kind = by_transport batches fault kind

@@ -5,7 +5,7 @@ use Rattle.scan_base.specs.Reading.{◌>>=◌, demand}
 use Rattle.scan_base.specs.declared.fault.Fault.TheVariants.{UnsupportedArrow}
 use Rattle.flatbuf.specs.Layout.{TableAt}
 use Rattle.flatbuf.specs.Place.{root_of, scalar_of}
-use Rattle.arrow_schema.specs.declared.header.HeaderKind.TheVariants as header
+use Rattle.arrow_schema.specs.declared.header.HeaderKind.TheVariants as kinds
 use Rattle.arrow_schema.specs.declared.schema.Field.{Field}
 use Rattle.arrow_schema.specs.declared.schema.Schema.{Schema}
 use Rattle.arrow_schema.specs.Answer.{answer_type, answer_schema}
@@ -14,16 +14,17 @@ use Rattle.arrow_schema.specs.Schema.{IsSchema}
 use Rattle.arrow_schema.specs.Written.{schema_part, schema_bytes}
 use Rattle.arrow_schema.proofs.Messages.{messages_read}
 use Rattle.arrow_schema.proofs.Again.{whole_schema, short_schema, schemas_read}
+use Rattle.arrays.specs.Column.{ColumnAt}
 use Rattle.arrays.specs.Batch.{BatchAt, rows_of}
 use Rattle.arrays.specs.Typed.{AreOfTypes}
 use Rattle.ipc_batch.specs.State.{Known}
 use Rattle.ipc_batch.specs.Parts.{body_claimed}
 use Rattle.ipc_batch.specs.Said.{Sent, News, Rows, schema_sent, news_of, Follows, Says}
-use Rattle.ipc_batch.specs.Written.{SaysBatch}
+use Rattle.ipc_batch.specs.Written.{WrittenParts, SaysBatch, SaysParts, most_header_bytes}
 use Rattle.ipc_batch.proofs.Lengths.{fine, both}
 use Rattle.ipc_batch.proofs.Messages.{joined}
 use Rattle.ipc_stream.specs.declared.message.IpcMessage.{IpcMessage}
-use Rattle.ipc_stream.specs.Stream.{ClaimsBody, IsMessage}
+use Rattle.ipc_stream.specs.Stream.{announced, frame, ClaimsBody, IsMessage}
 use Rattle.row_stream.specs.Stream.{sent_in}
 use Rattle.row_stream.specs.inside.Frames.{SaysSchema}
 
@@ -43,7 +44,7 @@ root_found bytes message e =
     let number = both (scalar_of 1 table 1 0) _ message right.2 in
     let kind = both (header_kind number.0) _ message number.2 in
     let same : record { kind = kind.0; table = table } ≡ message = let last = kind.2 in cc in
-    root.1 ∙ ap (λ (m : MessageAt). fine m.table) same
+    root.1 ∙ ap (λ (m : MessageAt). fine m.table) {x = record { kind = kind.0; table = table }} same
 
 -- a header that is read so claims just its body
 pub claims : (header body : List ℕ) (message : MessageAt) → message_of header ≡ Ok message → body_length_of message ≡ Ok (length body) → length header < 2 ^ 31 → length body < 2 ^ 63
@@ -57,17 +58,29 @@ claims header body message found claimed short fits = record {
 pub schema_fits : (schema : Schema) (header : List ℕ) → IsSchema schema → header ≡ schema_bytes schema → length header ≤ 2 ^ 15 → IsMessage (record { header = header; body = [] })
 schema_fits schema header is e short =
     let part = short_schema schema is in
-    let m = messages_read header.Schema (schema_part schema) 0 (whole_schema schema) (omega arith) (omega arith) in
+    let m = messages_read kinds.Schema (schema_part schema) 0 (whole_schema schema) (omega arith) (omega arith) in
     claims header [] m.message (ap message_of e ∙ m.found) m.body_length_again (omega arith) (omega arith)
 
 pub schema_says : (schema : Schema) (header : List ℕ) → IsSchema schema → header ≡ schema_bytes schema → SaysSchema schema (record { header = header; body = [] })
 unfolding schema_of schema_message_of schema_sent news_of body_claimed
 schema_says schema header is e =
     let part = short_schema schema is in
-    let m = messages_read header.Schema (schema_part schema) 0 (whole_schema schema) (omega arith) (omega arith) in
+    let m = messages_read kinds.Schema (schema_part schema) 0 (whole_schema schema) (omega arith) (omega arith) in
     let again = schemas_read schema is in
     let told : schema_in m.message ≡ Ok schema = rw (m.found, m.kind_again) at again in
     rw (e, m.found, m.kind_again, told, m.body_length_again) refl
+
+-- the message of a batch, by what its header says
+pub batch_fits : (header body : List ℕ) (parts : WrittenParts) → SaysParts (record { header = header; body = body }) parts → length header ≤ most_header_bytes → length body < 2 ^ 31
+    → IsMessage (record { header = header; body = body })
+batch_fits header body parts says short small = claims header body says.message says.found says.claimed (omega (arith, short)) (omega (arith, small))
+
+-- there are as many columns as fields
+pub columns_many : (fields : List Field) (columns : List ColumnAt) → AreOfTypes fields columns → length columns ≡ length fields
+columns_many [] [] typed = refl
+columns_many [] (column ∷ columns) typed = absurd typed
+columns_many (field ∷ fields) [] typed = absurd typed
+columns_many (field ∷ fields) (column ∷ columns) typed = omega (arith, columns_many fields columns typed.1)
 
 -- ---- what messages say
 
@@ -96,3 +109,10 @@ more_said messages message schema rows batch tells typed said =
     let all : Follows None (sent ++ sent_in message ∷ []) (Some known) (rows ++ rows_of read.0) = joined None sent (sent_in message ∷ []) (Some known) (Some known) rows (rows_of read.0) said.2 one in
     subst (λ (l : List Sent). Says l (answer_schema schema) (rows ++ rows_of batch)) (sym (map-append sent_in messages (message ∷ [])))
     (known, said.1, subst (λ (more : Rows). Follows None (sent ++ sent_in message ∷ []) (Some known) (rows ++ more)) read.2 all)
+
+-- ---- a frame
+
+-- what stands in front of a header, the header and the body
+pub frame_parts : (message : IpcMessage) (header body : List ℕ) (len : ℕ) → record { header = header; body = body } ≡ message → len ≡ length header
+    → announced len [] ++ (header ++ body) ≡ frame message
+frame_parts message header body len is long = ap (λ (n : ℕ). announced n [] ++ (header ++ body)) long ∙ ap frame is
