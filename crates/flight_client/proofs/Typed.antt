@@ -1,5 +1,7 @@
 -- The columns of the batches that a stream and rows hold.
 use Rattle.std.proofs.Common.{◌≡◌, ◌&&◌, ◌++◌, Bool, true, false, List, [], ◌∷◌, All, Option, Some, None, Result, Ok, Err, refl, sym, subst, ◌∙◌}
+use Rattle.std.specs.Prelude.{IfSome, option_map}
+use Rattle.arrow_schema.specs.Schema.{IsSchema}
 use Rattle.std.specs.List.{list_all, AllByRecursion}
 use Rattle.std.proofs.lemmas.List.Elements.{All-head, All-tail, All-nil, All-push, All-append, All-weaker, All-from_recursion}
 use Rattle.scan_base.specs.declared.fault.Fault.{Fault}
@@ -96,6 +98,14 @@ fit_tail None stream rest table e fit =
     subst (λ (t : Table). All (HasSchema t.schema) rest) is fit.2
 
 -- ---- rows
+
+-- the rows of the first stream may be written
+pub rows_begun : (state : State) (found : Option Schema) (schema : Schema) (batches : List BatchAt) → found ≡ option_map (λ (known : Known). known.schema) state → IfSome found IsSchema → found ≡ Some schema
+    → AreTyped state batches → IsSchema schema × HaveColumns schema batches
+rows_begun None found schema batches value valid is typed = let no : None ≡ Some schema = sym value ∙ is in absurd (let none : ⊥ = cc in none)
+rows_begun (Some known) found schema batches value valid is typed =
+    let same : Some known.schema ≡ Some schema = sym value ∙ is in
+    (subst (λ (o : Option Schema). IfSome o IsSchema) is valid, subst (λ (o : Option Schema). IfSome o (λ (s : Schema). HaveColumns s batches)) same typed)
 
 -- the batches of the first stream
 pub rows_first : (state : State) (known : Known) (batches : List BatchAt) → state ≡ Some known → AreTyped state batches → HaveColumns known.schema batches
