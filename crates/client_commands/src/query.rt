@@ -4,7 +4,7 @@ ghost use Rattle.grpc_frame.specs.Ends.{CanFail};
 ghost use Rattle.command_ends.specs.Printing.{said_of};
 ghost use Rattle.command_line.specs.declared.request.Format.TheVariants.{Arrow};
 ghost use Rattle.client_commands.specs.Told.{Tells};
-ghost use Rattle.client_commands.specs.Rows.{table_lines, TellsRows};
+ghost use Rattle.client_commands.specs.Rows.{table_csv, table_lines, TellsRows};
 ghost use Rattle.client_commands.specs.Commands.{Queries, desk_of};
 
 use crate::connecting::{end_unconnected, open};
@@ -13,6 +13,7 @@ use crate::telling::{end_by_failure, end_by_printing};
 use client_calls::Failure;
 use command_ends::{Connect, ExitStatus, end_by_fault};
 use command_line::Format;
+use csv_rows::write_csv;
 use flight_client::Rows;
 use grpc_frame::Output;
 use row_lines::write_rows;
@@ -34,7 +35,7 @@ pub struct Querying<'a> {
 }
 
 /// Prints the rows that a query answers, in the order of the endpoints: a line of the columns' names, and a line for each
-/// row; or an Arrow IPC stream. The endpoints are fetched over up to `streams` connections at a time, each but the first in a thread of its own,
+/// row; or an Arrow IPC stream, or CSV. The endpoints are fetched over up to `streams` connections at a time, each but the first in a thread of its own,
 /// or over as many as the network gives. Nothing is printed before all came. A fault is printed on `faults` in a line,
 /// as far as that takes it; where no connection was made, a second line says so.
 pub fn query<T: Threads, C: Connect, W: Output, E: Output>(
@@ -66,6 +67,7 @@ where
     match query.format {
         Format::Lines => tell_lines(alloc, output, faults, fetched),
         Format::Arrow => tell_stream(alloc, output, faults, fetched),
+        Format::Csv => tell_csv(alloc, output, faults, fetched),
     }
 }
 
@@ -85,6 +87,28 @@ fn tell_lines<W: Output, E: Output>(
     match fetched {
         Ok(rows) => {
             let printed = write_rows(alloc, rows.schema(), rows.batches(), output);
+            end_by_printing(faults, printed)
+        }
+        Err(failure) => end_by_failure(faults, failure),
+    }
+}
+
+// Tells the rows that were fetched as CSV, or why none were.
+fn tell_csv<W: Output, E: Output>(
+    alloc: Global,
+    output: &mut W,
+    faults: &mut E,
+    fetched: Result<Rows, Failure>,
+) -> ExitStatus
+    requires writes { CanFail (W.failures output.old) }
+    requires prints { CanFail (E.failures faults.old) }
+    ensures { Tells table_csv fetched result
+        (said_of W.Output output.old) (said_of W.Output output.new)
+        (said_of E.Output faults.old) (said_of E.Output faults.new) }
+{
+    match fetched {
+        Ok(rows) => {
+            let printed = write_csv(alloc, rows.schema(), rows.batches(), output);
             end_by_printing(faults, printed)
         }
         Err(failure) => end_by_failure(faults, failure),

@@ -65,7 +65,9 @@ fn format<'a>(alloc: Global, names: &'a [&'a str]) -> Arg<'a>
         .action(ArgAction::Set)
         .value_parser(ValueParser::Names(names))
         .value_name("F")
-        .help("lines: cells apart by tabs; arrow: an Arrow IPC stream [default: lines]")
+        .help(
+            "lines: cells apart by tabs; arrow: an Arrow IPC stream; csv: as RFC 4180 [default: lines]",
+        )
 }
 
 // The option `--table`.

@@ -23,7 +23,7 @@ use std::alloc::Global;
 static MODES: [&str; 3] = ["create", "append", "replace"];
 
 // The names of the formats of `query`.
-static FORMATS: [&str; 2] = ["lines", "arrow"];
+static FORMATS: [&str; 3] = ["lines", "arrow", "csv"];
 
 /// Reads the command line, whose first word is the program's name.
 ///

@@ -42,8 +42,11 @@ fn mode_of(matches: &ArgMatches<'_>) -> PutMode
 fn format_of(matches: &ArgMatches<'_>) -> Format
     ensures { result ≡ format_named (text_given (rows_of (found_of matches.now)) (codes "format")) }
 {
-    if text_of(matches, "format") == "arrow" {
+    let name = text_of(matches, "format");
+    if name == "arrow" {
         Format::Arrow
+    } else if name == "csv" {
+        Format::Csv
     } else {
         Format::Lines
     }

@@ -24,6 +24,8 @@ pub enum Format {
     Lines,
     /// As an Arrow IPC stream.
     Arrow,
+    /// As CSV.
+    Csv,
 }
 
 /// What the command line asks for. Texts are taken as they stand.
