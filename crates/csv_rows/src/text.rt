@@ -1,7 +1,7 @@
 //! Texts, as fields.
 
 ghost use Rattle.std.specs.Prelude.{◌≡◌, ◌∷◌, [], MatchOption};
-ghost use Rattle.csv.specs.Writing.{needs_byte, quoted};
+ghost use Rattle.csv.specs.Writing.{needs_byte, needs_quotes, quoted};
 ghost use Rattle.std.specs.List.{flat_map};
 ghost use Rattle.grpc_frame.specs.Ends.{CanFail, CountsFailure, FailsByTransport};
 ghost use Rattle.grpc_frame.specs.Sending.{Sends};
@@ -18,11 +18,18 @@ fn calls_for_quotes(byte: u8) -> bool
     byte == b',' || byte == b'"' || byte == b'\r' || byte == b'\n'
 }
 
+// Whether a text needs quotes.
+fn needs_quotes(text: &[u8]) -> bool
+    ensures { result ≡ needs_quotes comma_writer text.now }
+{
+    text.iter().any(|byte| calls_for_quotes(*byte))
+}
+
 // Whether a text stands in quotes.
 fn stands_in_quotes(text: &[u8]) -> bool
     ensures { result ≡ stands_in_quotes text.now }
 {
-    text.is_empty() || text.iter().any(|byte| calls_for_quotes(*byte))
+    text.is_empty() || needs_quotes(text)
 }
 
 // What stands for a byte of a text in quotes, where it is not the byte itself.

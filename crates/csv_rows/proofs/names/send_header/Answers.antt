@@ -1,6 +1,6 @@
 use Rattle.std.proofs.Common.{◌-◌, length, take, drop, rules}
 use Rattle.std.proofs.lemmas.Result.{err_from_is_err_and}
-use Rattle.csv_rows.specs.Records.{text_field, header_record}
+use Rattle.csv_rows.specs.Records.{text_field, header_record, record_end}
 use Rattle.row_lines.proofs.Parts.{front_sent, front_not_sent, item_sent, item_not_sent, back_sent}
 use Rattle.csv_rows.proofs.Recorded.{name_cell, first_name, first_name_is, header_is}
 use Rattle.csv_rows.proofs.names.send_header.Goals as goal
@@ -17,7 +17,7 @@ returns-in_err-send_text-clause-bytes g c =
 
 pub loop-field-init : goal.loop-field-init
 loop-field-init g c = record {
-  sent = front_sent _ _ _ _ (first_name c.args.fields.now) (escaped c.first-item.result.name)
+  sent = front_sent _ _ _ _ (first_name c.args.fields.now) (text_field c.first-item.result.name)
       (first_name_is c.args.fields.now c.first-item.result c.in-len1-up.len_at_least c.first-item.is) (rw c.as_str.ensures at c.in_ok-send_text.ensures.bytes);
   count = c.in_ok-send_text.ensures.counted;
 }

@@ -1,7 +1,7 @@
 use Rattle.std.proofs.Common.{◌≡◌, take}
 use Rattle.std.specs.List.{flat_map}
 use Rattle.grpc_frame.specs.Sending.{Sent}
-use Rattle.csv_rows.proofs.Lined.{batch_records}
+use Rattle.csv_rows.proofs.Recorded.{batch_records}
 use Rattle.csv_rows.proofs.rows.send_batches.Given as goal
 
 abbrev pub invariant-loop-batch : goal.invariant-loop-batch

@@ -2,7 +2,7 @@ use Rattle.std.proofs.Common.{◌≡◌, ◌==◌, ◌-◌, ◌∙◌, Bool, sym
 use Rattle.std.proofs.lemmas.Result.{err_from_is_err_and}
 use Rattle.arrays.specs.Batch.{row_of}
 use Rattle.arrays.specs.Column.{slot_of}
-use Rattle.csv_rows.specs.Records.{first_field, row_record}
+use Rattle.csv_rows.specs.Records.{first_field, record_end, row_record}
 use Rattle.row_lines.proofs.Parts.{front_sent, front_not_sent, item_sent, item_not_sent, back_sent}
 use Rattle.csv_rows.proofs.Recorded.{value_cell, first_value, first_value_is, row_is}
 use Rattle.csv_rows.proofs.rows.send_row.Goals as goal
