@@ -17,6 +17,17 @@ pub struct Serving {
     pub workers: u32,
 }
 
+/// How rows are printed.
+#[derive(Clone, Copy, Debug, PartialEq, Eq)]
+pub enum Format {
+    /// In lines whose cells stand apart by tabs.
+    Lines,
+    /// As an Arrow IPC stream.
+    Arrow,
+    /// As CSV.
+    Csv,
+}
+
 /// What the command line asks for. Texts are taken as they stand.
 #[derive(Clone, Copy, Debug)]
 pub enum Request<'a> {
@@ -33,9 +44,10 @@ pub enum Request<'a> {
         table: &'a str,
         mode: PutMode,
     },
-    /// Prints the rows that a query answers, fetched over so many connections.
+    /// Prints the rows that a query answers in a format, fetched over so many connections.
     Query {
         port: u16,
+        format: Format,
         streams: u32,
         sql: &'a str,
     },

@@ -91,8 +91,18 @@ where
             let putting = Putting { port, target };
             put(rt.alloc(), &mut network, input, output, faults, putting)
         }
-        Request::Query { port, streams, sql } => {
-            let querying = Querying { port, streams, sql };
+        Request::Query {
+            port,
+            format,
+            streams,
+            sql,
+        } => {
+            let querying = Querying {
+                port,
+                streams,
+                sql,
+                format,
+            };
             query(rt, rt.alloc(), &mut network, output, faults, querying)
         }
         Request::Tables { port } => tables(rt.alloc(), &mut network, output, faults, port),
