@@ -52,7 +52,7 @@ where
         Request::Serve(serving) => {
             let alloc = rt.alloc();
             let host = Host { rt, alloc, seed };
-            serve(host, &mut Port::new(rt), output, faults, serving)
+            serve(host, &mut Port::new(rt, serving.idle), output, faults, serving)
         }
         Request::Pipe { parts, workers } => {
             let workers = workers as usize;
