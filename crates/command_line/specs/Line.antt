@@ -5,7 +5,7 @@ use Rattle.clap.specs.Simple.{App, new_app, with_rule, with_subcommand}
 use Rattle.clap.specs.declared.builder.value_parser.ValueParser.{ValueParser}
 use Rattle.clap.specs.declared.builder.value_parser.ValueParser.TheVariants.{Names}
 use Rattle.command_line.specs.declared.names.TakenNames.{TakenNames}
-use Rattle.command_line.specs.Numbers.{text_rule, number_rule, parts_taken, workers_taken, seats_taken, accept_taken, streams_taken, port_taken}
+use Rattle.command_line.specs.Numbers.{text_rule, number_rule, parts_taken, workers_taken, seats_taken, accept_taken, idle_taken, streams_taken, port_taken}
 
 -- ---- options
 
@@ -73,7 +73,8 @@ serve =
     let at = with_rule (new_app (codes "serve")) port_rule in
     let seats = with_rule at (number_rule (codes "seats") seats_taken) in
     let accept = with_rule seats (number_rule (codes "accept") accept_taken) in
-    with_rule (with_rule accept parts_rule) workers_rule
+    let idle = with_rule accept (number_rule (codes "idle") idle_taken) in
+    with_rule (with_rule idle parts_rule) workers_rule
 
 abbrev pub put : ValueParser → App
 put modes = with_rule (with_rule (with_rule (new_app (codes "put")) port_rule) table_rule) (mode_rule modes)

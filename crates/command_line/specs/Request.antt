@@ -6,7 +6,7 @@ use Rattle.clap.specs.Simple.{subcommand_of}
 use Rattle.scan_base.specs.declared.put_options.PutMode.{PutMode}
 use Rattle.scan_base.specs.declared.put_options.PutMode.TheVariants.{Create, Append, Replace}
 use Rattle.command_line.specs.Line.{Parsers, program}
-use Rattle.command_line.specs.Numbers.{SaysNumber, parts_taken, workers_taken, seats_taken, accept_taken, streams_taken, port_taken}
+use Rattle.command_line.specs.Numbers.{SaysNumber, parts_taken, workers_taken, seats_taken, accept_taken, idle_taken, streams_taken, port_taken}
 use Rattle.command_line.specs.declared.number.Numbers.{Numbers}
 use Rattle.command_line.specs.declared.request.Format.{Format}
 use Rattle.command_line.specs.declared.request.Format.TheVariants.{Lines, Arrow, Csv}
@@ -42,6 +42,7 @@ pub record IsServing (rows : List Row) (serving : Serving) : Type 0 where
   pub port : IsGiven rows (codes "port") port_taken serving.port
   pub seats : IsGiven rows (codes "seats") seats_taken serving.seats
   pub accept : IsGiven rows (codes "accept") accept_taken serving.accept
+  pub idle : IsGiven rows (codes "idle") idle_taken serving.idle
   pub parts : IsGiven rows (codes "parts") parts_taken serving.parts
   pub workers : IsGiven rows (codes "workers") workers_taken serving.workers
 

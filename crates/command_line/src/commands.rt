@@ -7,7 +7,7 @@ ghost use Rattle.clap.specs.Words.{AddsSubcommand, app_of, new_app, rule_of, wit
 ghost use Rattle.command_line.specs.Line as line;
 
 use crate::names::TakenNames;
-use crate::number::{ACCEPT, PARTS, PORT, SEATS, STREAMS, WORKERS, number_option};
+use crate::number::{ACCEPT, IDLE, PARTS, PORT, SEATS, STREAMS, WORKERS, number_option};
 use clap::builder::ValueParser;
 use clap::{Arg, ArgAction, Command};
 use std::alloc::{AllocError, Global};
@@ -158,7 +158,12 @@ fn serve<'a>(alloc: Global) -> Result<Command<'a>, AllocError>
         number_option(alloc, "seats", SEATS, "S", many),
         number_option(alloc, "accept", ACCEPT, "A", end),
     )?;
-    with_two(seated, parts(alloc), workers(alloc))
+    let silence = "Ends a connection after so many seconds without news, 0: never [default: 300]";
+    let waiting = with_one(
+        seated,
+        number_option(alloc, "idle", IDLE, "SECONDS", silence),
+    )?;
+    with_two(waiting, parts(alloc), workers(alloc))
 }
 
 // `put`: an Arrow stream from standard input into a table, by a mode of these names.

@@ -5,7 +5,7 @@ ghost use Rattle.clap.specs.Words.{found_of, rows_of};
 ghost use Rattle.command_line.specs.Numbers as taken;
 ghost use Rattle.command_line.specs.Request.{Asks, IsGiven, IsServing, format_named, mode_named, text_given};
 
-use crate::number::{ACCEPT, PARTS, PORT, SEATS, STREAMS, WORKERS, number_of};
+use crate::number::{ACCEPT, IDLE, PARTS, PORT, SEATS, STREAMS, WORKERS, number_of};
 use crate::request::{Format, Request, Serving};
 use clap::ArgMatches;
 use scan_base::PutMode;
@@ -60,6 +60,7 @@ fn serving_of(matches: &ArgMatches<'_>) -> Serving
         port: port_of(matches),
         seats: number_of(matches, "seats", SEATS),
         accept: number_of(matches, "accept", ACCEPT) as u16,
+        idle: number_of(matches, "idle", IDLE) as u16,
         parts: number_of(matches, "parts", PARTS),
         workers: number_of(matches, "workers", WORKERS),
     }

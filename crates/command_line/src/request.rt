@@ -11,6 +11,8 @@ pub struct Serving {
     pub seats: u32,
     /// After so many the program ends; 0 stands for no end.
     pub accept: u16,
+    /// A connection ends where so many seconds nothing comes, or nothing of an answer is read; 0 stands for no end.
+    pub idle: u16,
     /// In so many parts the rows of a query may be fetched.
     pub parts: u32,
     /// So many workers one fetch may have.

@@ -21,6 +21,7 @@ use grpc_frame::{Counted, Input, Output};
 use hash_seed::HashSeed;
 use loopback::{Loopback, Port};
 use scan_base::Fault;
+use std::fs::{File, Files};
 use std::io::ErrorKind;
 use std::net::{Net, TcpListener, TcpStream};
 use std::process::ExitCode;
@@ -53,7 +54,13 @@ where
         Request::Serve(serving) => {
             let alloc = rt.alloc();
             let host = Host { rt, alloc, seed };
-            serve(host, &mut Port::new(rt), output, faults, serving)
+            serve(
+                host,
+                &mut Port::new(rt, serving.idle),
+                output,
+                faults,
+                serving,
+            )
         }
         Request::Pipe { parts, workers } => {
             let workers = workers as usize;
@@ -110,7 +117,14 @@ where
     }
 }
 
+// The null device, where it can be opened. A file takes the least number that is free.
+fn null_device<R: Files>(files: &R) -> Option<R::File> {
+    File::open(files, "/dev/null").ok()
+}
+
 fn main(rt: HostRuntime) -> ExitCode {
+    // Where standard input, output or error is closed, one of these has its number, and no socket does.
+    let _standard = (null_device(&rt), null_device(&rt), null_device(&rt));
     let alloc = rt.alloc();
     let mut output = Counted::new(rt.stdout());
     let mut faults = Counted::new(rt.stderr());

@@ -109,6 +109,7 @@ where
         port: 0,
         seats: 2,
         accept,
+        idle: 0,
         parts: 2,
         workers: 1,
     };
@@ -152,7 +153,7 @@ where
 {
     let (alloc, seed) = (rt.alloc(), HashSeed::new(rt)?);
     let host = Host { rt, alloc, seed };
-    let mut port = Port::new(rt);
+    let mut port = Port::new(rt, 0);
     let number = port.listen(0)?;
     let bound = Bound { port, number };
     let (served, told) = thread::join(
