@@ -220,6 +220,20 @@ def closed_output(run: Run) -> None:
                 same("a full disk", (3, b"", TRANSPORT), typed(run, *words, out=full.fileno()))
 
 
+@case("standard output, or input, that is closed at the start: its number is no socket's, so nothing is written into a connection")
+def closed_at_the_start(run: Run) -> None:
+    with run.serving() as server:
+        same("put", printed("7 rows"), put(run, server, "t", TRIPS))
+        port = str(server.port)
+        for words in (["tables", "--port", port], ["query", "--port", port, "SELECT * FROM t"]):
+            done = subprocess.run(["sh", "-c", 'exec "$0" "$@" >&-', run.path, *words], stderr=subprocess.PIPE, timeout=SECONDS)
+            same(" ".join(words), (3, TRANSPORT), (done.returncode, done.stderr))
+        words = ["put", "--port", port, "--table", "u", "--mode", "create"]
+        done = subprocess.run(["sh", "-c", 'exec "$0" "$@" <&-', run.path, *words], stdout=subprocess.PIPE, stderr=subprocess.PIPE, timeout=SECONDS)
+        same("an input that is closed", 3, done.returncode)
+        same("tables", printed("t"), tables(run, server))
+
+
 def told(run: Run, answer: bytes) -> tuple[int, bytes, bytes]:
     """What `query` makes of a server that answers its first call by these bytes, and ends the connection."""
 
