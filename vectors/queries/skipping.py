@@ -183,7 +183,7 @@ def many_batches():
     kinds = [Kind(name, domain_of(draws, name), manner, nulls)
              for name, manner, nulls in [("i64", "rising", "some"), ("u16", "random", "batches"), ("f", "one", "some"), ("s", "rising", "none"),
                                          ("c", "falling", "any")]]
-    return Batched(draws, "p", kinds, PAGED_BATCHES, (PAGED_SIZES[number % len(PAGED_SIZES)] for number in range(PAGED_BATCHES)))
+    return Batched(draws, "pages", kinds, PAGED_BATCHES, (PAGED_SIZES[number % len(PAGED_SIZES)] for number in range(PAGED_BATCHES)))
 
 
 # ---- the model
