@@ -5,8 +5,8 @@
 
 It needs the proved program (`rt run` or the gate leaves it in crates/flightscan/out), a C compiler and `sqlite3`. Some
 vectors are made by flatc and protoc, and the gateway's test needs protoc and a Python that has gRPC; where these are absent,
-that is passed over, and the step says so. All steps take about six minutes. With names, the steps whose names begin so are run. The last line counts the steps that
-passed, and it ends with 1 where one did not.
+that is passed over, and the step says so. All steps take about ten minutes. With names, the steps whose names begin so are
+run. The last line counts the steps that passed, and it ends with 1 where one did not.
 """
 
 import argparse
@@ -135,9 +135,13 @@ class Vectors:
         return f"passed over: {'; '.join(passed_over)}" if passed_over else None
 
 
+WORKERS = ["--workers", "1,2,4,16"]
 STEPS = [Script("pages", ["--check"], of_program=False), Script("session"), Script("serving"), Script("each_allocation"),
-         Script("interleavings", ["--count", "200"]), Script("sqlite_answers", ["--count", "100", "--wide", "1", "--batched", "5"]),
-         Script("drive", ["--seconds", "20", "--connections", "16"]), Gateway(), ColumnAnswers(), FirstRun(), Vectors()]
+         Script("cut_input"), Script("lying_bytes"), Script("large_answers", ["--workers", "1,4", "Int8"]),
+         Script("interleavings", ["--count", "200", "--large", "2", *WORKERS]),
+         Script("sqlite_answers", ["--count", "100", "--wide", "1", "--large", "1", "--batched", "5", *WORKERS]),
+         Script("drive", ["--seconds", "10", "--connections", "16", "--large", "--workers", "1,4"]),
+         Gateway(), ColumnAnswers(), FirstRun(), Vectors()]
 
 
 def passes(step, path):

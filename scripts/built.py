@@ -1,4 +1,4 @@
-"""Where the built program lies, for the scripts that run it."""
+"""Where the built program lies, and with how many workers it is run, for the scripts that run it."""
 
 import pathlib
 import sys
@@ -12,3 +12,11 @@ def program(named=None):
     if not path.exists():
         sys.exit("build the program first: cd crates/flightscan && rt run -- pipe < stdin > /dev/null")
     return str(path)
+
+
+def worker_counts(words):
+    """The numbers of workers in words such as `1,2,4,16`."""
+    counts = [int(word) for word in words.split(",")]
+    if not all(1 <= count <= 16 for count in counts):
+        raise ValueError(words)
+    return counts

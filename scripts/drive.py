@@ -1,7 +1,8 @@
 #!/usr/bin/env python3
 """Drives a `flightscan serve` over many connections at once, and compares each answer with plain lists.
 
-    python3 scripts/drive.py [--connections N] [--seconds S] [--seed S] [--parts P] [--program PATH]
+    python3 scripts/drive.py [--connections N] [--seconds S] [--workers W,..] [--large] [--rough N] [--seed S] [--parts P]
+                             [--program PATH]
 
 For a minute, 32 connections put, ask for infos and fetch endpoints at random, each endpoint over any connection, however
 long after its info. The Messages of puts go side by side, and their Ends one after another, so it is known which put made
@@ -11,12 +12,22 @@ joined rows. Then all connections put at once, each into a table of its own: no 
 own. Last, a table is replaced again and again: what the server holds grows by the bytes put and no more, as each version
 stays, and fetches leave nothing behind. It ends with 1 at the first difference. Build the program first, as for
 bench/pipe.py.
+
+With --workers 1,2,4,16 all this is done for each of these numbers, on a server of its own. With --large each server is first
+given the same table of 70,000 to 140,000 rows, in two to nine batches of unequal sizes, and a small one. Some of the fetches
+are then of twelve queries over them, with filters, joins and groups, whole or over a range. The first answer to each is
+compared with the model, and each later one, from any connection of any server, with the bytes of the first one.
+
+With --rough N there are so many further clients, each over one connection after the other. Some go away in the middle of a
+call, in an orderly way or not, some in the middle of an answer that they read slowly, and some say nothing for a while. What
+the others are answered, and what the server holds in memory and in open files at the end, has to be as without them.
 """
 
 from __future__ import annotations
 
 import argparse
 import collections
+import hashlib
 import pathlib
 import sys
 import threading
@@ -30,13 +41,15 @@ ROOT = pathlib.Path(__file__).resolve().parent.parent
 sys.path += [str(ROOT / "vectors" / folder) for folder in ("arrow", "flight", "queries", "streams")]
 
 import wire  # noqa: E402
-from built import program  # noqa: E402
-from interleavings import Info, Questions  # noqa: E402
+from built import program, worker_counts  # noqa: E402
+from interleavings import Info, LargeQuestions, Questions  # noqa: E402
 from loopback import Connection, Server  # noqa: E402
+from random_calls import large  # noqa: E402
 from random_calls import plain_model as model  # noqa: E402
 from random_calls.answers import Difference, FlightInfo, PutCount, Refusal, Rows, same  # noqa: E402
-from random_calls.plain_model import Refused  # noqa: E402
-from random_calls.puts import MadePut, made_put  # noqa: E402
+from random_calls.batched import stream_in_batches  # noqa: E402
+from random_calls.plain_model import Database, Put, Refused, Table  # noqa: E402
+from random_calls.puts import MadePut, ingest, made_put, messages_of  # noqa: E402
 from random_calls.queries import Asker  # noqa: E402
 from reader import Fault  # noqa: E402
 from served.cases import A, descriptor_of, fetch_of, replaced  # noqa: E402
@@ -44,7 +57,66 @@ from served.cases import A, descriptor_of, fetch_of, replaced  # noqa: E402
 MOST_PUTS = 60_000  # a server takes 65,536
 OWN_PUTS = 20  # of each connection, into its own table
 LARGE_ROWS, LARGE_PUTS = 125_000, 60  # a table of 1 MB, and how often it is replaced
+LARGE_QUERIES = 12
 SLACK = 4_000_000
+
+
+@dataclass
+class LargeFetch:
+    """A fetch over the large tables: what it has to give, and the digest of the first answer."""
+
+    said: str
+    call: bytes
+    wanted: Rows
+    digest: bytes | None = None
+
+    def look(self, answer: wire.Answer) -> None:
+        same(f"the status of {self.said}", (0, ""), (answer.code, answer.text))
+        digest = hashlib.sha256(b"".join(map(wire.record_message, answer.messages))).digest()
+        if self.digest is None:
+            self.wanted.look(answer)
+            self.digest = digest
+        same(f"the bytes of {self.said}, by their digest", self.digest, digest)
+
+
+class LargeTables:
+    """Puts of both large tables, the versions that they make, and fetches of the last one."""
+
+    def __init__(self, seed: int):
+        self.random = Random(f"large {seed}")
+        tables, self.puts, self.versions = large.Tables(self.random), [], [{}]
+        for name in (large.LARGE, large.SMALL):
+            rows, ends = tables.rows(name)
+            put = Put(name, "CREATE", "FAIL", Table(tables.columns, rows))
+            stream = stream_in_batches(self.random, put, ends)
+            self.puts.append((wire.call(b"DoPut", messages_of(self.random, ingest(self.random, put, b""), stream)), len(rows)))
+            self.versions.append(model.after(self.versions[-1], put))
+        questions = LargeQuestions(self.random, self.versions)
+        self.fetches = [self.fetch(questions) for _ in range(LARGE_QUERIES)]
+
+    def fetch(self, questions: LargeQuestions) -> LargeFetch:
+        question, database, version = questions.question(), self.versions[-1], len(self.versions) - 1
+        size = question.size(database)
+        first = 0 if question.query.grouped else self.random.choice([0, 0, self.random.randrange(size // 8 + 1)])
+        wanted = Rows(question.columns(database), question.rows(database, first, size), [None], 0)
+        call = wire.call(b"DoGet", [wire.ticket(question.handle(version, first, size))])
+        return LargeFetch(f"rows {first} to {size} of {question.said}", call, wanted)
+
+    def put(self, connection: Connection) -> None:
+        for call, rows in self.puts:
+            connection.send(call)
+            PutCount(rows).look(connection.answer())
+
+
+def without_large(database: Database) -> Database:
+    return {name: table for name, table in database.items() if name not in (large.LARGE, large.SMALL)}
+
+
+class SmallAsker(Asker):
+    """Makes queries over one table, but none over the large ones."""
+
+    def __init__(self, random: Random, database: Database):
+        super().__init__(random, without_large(database))
 
 
 @dataclass
@@ -59,8 +131,10 @@ class Asked:
 class Drive:
     """What the connections share: the versions so far, the endpoints that wait to be fetched, and what was found."""
 
-    def __init__(self, parts: int):
-        self.parts, self.versions, self.ending = parts, [{}], threading.Lock()
+    def __init__(self, parts: int, large_tables: LargeTables | None):
+        self.parts, self.ending = parts, threading.Lock()
+        self.versions = list(large_tables.versions) if large_tables else [{}]
+        self.large, self.looking = large_tables.fetches if large_tables else [], threading.Lock()
         self.waiting: collections.deque[tuple[Asked, int]] = collections.deque()  # endpoints
         self.counts, self.counting = collections.Counter(), threading.Lock()
         self.found: list[str] = []
@@ -97,7 +171,7 @@ class Worker(threading.Thread):
         super().__init__(daemon=True)
         self.drive, self.connection, self.number, self.known = drive, connection, number, 0
         self.random, self.steps = Random(seed * 1000 + number), self.at_random
-        self.questions = Questions(self.random, drive.versions, True, Asker)
+        self.questions = Questions(self.random, drive.versions, True, SmallAsker)
         self.end = 0.0
 
     def run(self) -> None:
@@ -113,15 +187,16 @@ class Worker(threading.Thread):
     # ---- at random
 
     def at_random(self) -> None:
+        steps = [self.put, *[self.info] * 2, *[self.fetch] * 4, *[self.large_fetch] * bool(self.drive.large)]
         while time.monotonic() < self.end and not self.drive.found:
-            self.random.choice([self.put, self.info, self.info, self.fetch, self.fetch, self.fetch, self.fetch])()
+            self.random.choice(steps)()
         while self.drive.waiting and not self.drive.found:
             self.fetch()
 
     def put(self) -> None:
         if len(self.drive.versions) > MOST_PUTS:
             return
-        made = made_put(self.random, self.drive.versions[-1])
+        made = made_put(self.random, without_large(self.drive.versions[-1]))
         self.connection.send(wire.call(b"DoPut", made.messages)[: -len(wire.END)])
         version = self.drive.end_put(self.connection, made)
         self.known = max(self.known, version or 0)
@@ -180,6 +255,15 @@ class Worker(threading.Thread):
             info.look_at_the_join()
             self.drive.count("joins")
 
+    def large_fetch(self) -> None:
+        """A fetch over the large tables. One connection looks at a time, so that one answer is the first."""
+        one = self.random.choice(self.drive.large)
+        self.connection.send(one.call)
+        answer = self.connection.answer()
+        with self.drive.looking:
+            one.look(answer)
+        self.drive.count("large fetches")
+
     # ---- all at once
 
     def own_puts(self) -> None:
@@ -196,6 +280,44 @@ class Worker(threading.Thread):
             for endpoint, (first, end) in enumerate(model.split(2, self.drive.parts)):
                 Rows(list(A), rows[first:end], streams, endpoint).look(self.ask(b"DoGet", ends[endpoint]))
             self.drive.count("own puts")
+
+
+class RoughClient(threading.Thread):
+    """Connections that end anywhere, one after the other."""
+
+    def __init__(self, drive: Drive, port: int, number: int, seed: int):
+        super().__init__(daemon=True)
+        self.drive, self.port, self.random, self.end = drive, port, Random(f"rough {seed} {number}"), 0.0
+
+    def run(self) -> None:
+        while time.monotonic() < self.end and not self.drive.found:
+            try:
+                connection = Connection(self.port)
+                self.random.choice([self.cut_call, self.slow_read, self.say_nothing])(connection)
+                self.random.choice([connection.close, connection.break_off])()
+                self.drive.count("rough connections")
+            except (OSError, wire.Unreadable) as found:
+                self.drive.found.append(f"a rough client: {found!r}")
+
+    def cut_call(self, connection: Connection) -> None:
+        """A beginning of a put, without its End."""
+        call = replaced("rough", A, [(row,) for row in range(self.random.choice([1, 5_000]))])
+        connection.send(call[: self.random.randrange(len(call))])
+
+    def slow_read(self, connection: Connection) -> None:
+        """Some of the answer to a fetch, or to many of them, piece by piece, or all that there is."""
+        fetches = [one.call for one in self.drive.large] or [wire.call(b"GetFlightInfo", [descriptor_of("SELECT * FROM t")])]
+        connection.send(self.random.choice(fetches) * self.random.choice([1, 5]))
+        connection.socket.settimeout(0.1)
+        for _ in range(self.random.randrange(20)):
+            try:
+                connection.socket.recv(self.random.choice([1, 100, 10_000]))
+            except TimeoutError:
+                break
+            time.sleep(0.01)
+
+    def say_nothing(self, connection: Connection) -> None:
+        time.sleep(self.random.choice([0, 0.05, 0.5]))
 
 
 # ---- the phases
@@ -251,7 +373,15 @@ def carry_out(words: argparse.Namespace, drive: Drive, server: Server) -> str:
     def workers() -> list[Worker]:
         return [Worker(drive, connection, number, words.seed) for number, connection in enumerate(connections, 1)]
 
+    rough = [RoughClient(drive, server.port, number, words.seed) for number in range(words.rough)]
+    same("the version of a server that is begun", {len(drive.versions) - 1}, {*map(version_of, connections)})
+    files = server.open_files()  # with each connection
+    for client in rough:
+        client.end = time.monotonic() + words.seconds
+        client.start()
     go_through(workers(), lambda worker: worker.at_random, words.seconds)
+    for client in rough:
+        client.join()
     if not drive.found:
         go_through(workers(), lambda worker: worker.own_puts, 0)
     if drive.found:
@@ -259,7 +389,37 @@ def carry_out(words: argparse.Namespace, drive: Drive, server: Server) -> str:
     look_at_own_puts(drive, connections)
     said = replace_a_table(server, connections, len(drive.versions) - 1 + drive.counts["own puts"])
     same("the server's exit status, and what it printed", (None, b""), (server.process.poll(), server.said()))
+    same("the server's open files", files, files_at_rest(server, files))
     return said
+
+
+def files_at_rest(server: Server, wanted: int) -> int:
+    """How many files the server has open, once what rough clients left was looked at."""
+    for _ in range(100):
+        if server.open_files() == wanted:
+            break
+        time.sleep(0.05)
+    return server.open_files()
+
+
+def driven(words: argparse.Namespace, workers: int, large_tables: LargeTables | None) -> bool:
+    """Drives a server with so many workers, and tells what came."""
+    drive, seats = Drive(words.parts, large_tables), min(words.connections + words.rough, 32)
+    options = ["--parts", str(words.parts), "--seats", str(seats), "--workers", str(workers)]
+    with Server(program(words.program), *options) as server:
+        try:
+            if large_tables:
+                with Connection(server.port) as connection:
+                    large_tables.put(connection)
+            said = carry_out(words, drive, server)
+        except (Difference, wire.Unreadable, OSError) as found:
+            print(f"seed {words.seed}, workers {workers}, a difference:\n{found}")
+            return False
+    versions = len(drive.versions) - 1
+    print(f"{words.connections} connections, {workers} workers, {words.seconds:.0f} seconds, {versions} versions, no difference")
+    print(", ".join(f"{number} {what}" for what, number in sorted(drive.counts.items())))
+    print(said, flush=True)
+    return True
 
 
 def main() -> int:
@@ -267,21 +427,14 @@ def main() -> int:
     parser.add_argument("--program", help="the built program (that of the repository)")
     parser.add_argument("--connections", type=int, default=32, help="how many at once (32)")
     parser.add_argument("--seconds", type=float, default=60, help="how long they go on at random (60)")
+    parser.add_argument("--workers", type=worker_counts, default=[1], help="the numbers of workers, as 1,2,4,16 (1)")
+    parser.add_argument("--large", action="store_true", help="fetch from large tables too")
+    parser.add_argument("--rough", type=int, default=0, help="how many clients go away anywhere (none)")
     parser.add_argument("--seed", type=int, default=1, help="of what is put and asked (1)")
     parser.add_argument("--parts", type=int, default=5, help="of an info (5)")
     words = parser.parse_args()
-    drive, seats = Drive(words.parts), min(words.connections, 32)
-    with Server(program(words.program), "--parts", str(words.parts), "--seats", str(seats)) as server:
-        try:
-            said = carry_out(words, drive, server)
-        except (Difference, wire.Unreadable, OSError) as found:
-            print(f"seed {words.seed}, a difference:\n{found}")
-            return 1
-    versions = len(drive.versions) - 1
-    print(f"{words.connections} connections, {words.seconds:.0f} seconds, {versions} versions, no difference")
-    print(", ".join(f"{number} {what}" for what, number in sorted(drive.counts.items())))
-    print(said)
-    return 0
+    large_tables = LargeTables(words.seed) if words.large else None
+    return 0 if all(driven(words, workers, large_tables) for workers in words.workers) else 1
 
 
 if __name__ == "__main__":

@@ -62,12 +62,25 @@ def run(path, bytes_in, shim, number, counted):
     return done.stdout, done.stderr, done.returncode
 
 
+def counted_in(counted, path):
+    """How many allocations a run made."""
+    allocations = int.from_bytes(counted.read_bytes(), "little") if counted.exists() else 0
+    if allocations == 0:
+        sys.exit(f"{path} did not count its allocations: this wants the proved program, and not that of `rt try`")
+    return allocations
+
+
 def allocations_of(path, bytes_in, shim, counted):
     """How many allocations a run makes with none refused."""
     run(path, bytes_in, shim, 0, counted)
-    if not counted.exists():
-        sys.exit(f"{path} did not count its allocations: this wants the proved program, and not that of `rt try`")
-    return int(counted.read_text())
+    return counted_in(counted, path)
+
+
+def compiled(folder):
+    """What refuses an allocation of the program into which it is loaded."""
+    shim, source = folder / "refuse_allocation.so", ROOT / "scripts/refuse_allocation.c"
+    subprocess.run(["cc", "-shared", "-fPIC", "-O1", "-o", shim, source, "-ldl"], check=True)
+    return shim
 
 
 def main():
@@ -81,9 +94,7 @@ def main():
     outcomes = allowed(answers[len(MADE) :])
     seen = collections.Counter()
     with tempfile.TemporaryDirectory() as folder:
-        shim = pathlib.Path(folder) / "refuse_allocation.so"
-        source = ROOT / "scripts/refuse_allocation.c"
-        subprocess.run(["cc", "-shared", "-fPIC", "-O1", "-o", shim, source, "-ldl"], check=True)
+        shim = compiled(pathlib.Path(folder))
         counted = pathlib.Path(folder) / "counted"
         allocations = allocations_of(path, put + put + fetch + fetch, shim, counted)
         for number in range(1, allocations + 1):

@@ -1,8 +1,8 @@
 #!/usr/bin/env python3
 """Random queries over small and over wide random tables, through `flightscan pipe` and through sqlite3, compared.
 
-    python3 scripts/sqlite_answers.py [--count N] [--wide N] [--batched N] [--long] [--seed S] [--program PATH] [--plain]
-                                      [--without-program]
+    python3 scripts/sqlite_answers.py [--count N] [--wide N] [--large N] [--batched N] [--long] [--workers W,..] [--seed S]
+                                      [--program PATH] [--plain] [--without-program]
 
 What it shows: that the answers are those of a program which shares nothing with ours, wherever both define the same.
 Each of the small databases (400 if no count is said) has 1 to 4 tables of 1 to 4 columns of any types but floats and
@@ -16,6 +16,9 @@ together or anywhere, with those at the ends of their types. The queries keep no
 half, nearly all or all of them; an IN has up to 256 items; keys of joins and groups go from one for all rows to another
 one for each.
 
+Each of the large databases (none if no number is said) is a wide one whose table has 70,000 to 140,000 rows in two to nine
+batches of unequal sizes. Its infos have one or two parts.
+
 Each of the batched databases (20 if no number is said) has two tables of up to some hundred batches of 0 to 5 rows. A column
 rises from batch to batch, or falls, or is random, or has one value or nulls alone, in each batch or in all. Most queries
 keep few rows, by ranges, IN, IS NULL and comparisons of which most batches can meet none, so a fetch passes over these.
@@ -28,9 +31,12 @@ info and of its streams, and the rows of each endpoint, one by one, in order.
 What both define alike, and no more: sqlite3 has its truth values as 1 and 0, names differ by more than their case,
 numbers have 64 bits with a sign, and such columns alone are summed whose sums have no more.
 
-With --long there are 2,000 small databases, 40 wide ones and 200 batched ones. With --plain no query has a join or groups. With
+With --workers 1,2,4,16 a `pipe` is given the calls for each of these numbers. The answers of the first one are compared with
+those of sqlite3, and each other one has to write the same bytes.
+
+With --long there are 2,000 small databases, 40 wide ones, 10 large ones and 200 batched ones. With --plain no query has a join or groups. With
 --without-program the answers of sqlite3 are compared with those of the plain model in random_calls, which needs no built
-program; a wide database then has no joins. Seeds are S, S + 1, .. of all kinds; of one seed all is always the same.
+program; a wide database then has no joins, and a large one is answered by the model for many rows. Seeds are S, S + 1, .. of all kinds; of one seed all is always the same.
 It ends with 1 at the first difference, and prints the query and both answers. It needs `sqlite3` on the path (tried
 with 3.40), and the program is built as for bench/pipe.py.
 
@@ -55,8 +61,8 @@ ROOT = pathlib.Path(__file__).resolve().parent.parent
 sys.path += [str(ROOT / "vectors" / folder) for folder in ("arrow", "flight", "queries")]
 
 import wire  # noqa: E402
-from built import program  # noqa: E402
-from random_calls import joined  # noqa: E402
+from built import program, worker_counts  # noqa: E402
+from random_calls import joined, large  # noqa: E402
 from random_calls.answers import Difference, PutCount, columns_of, only_message, same  # noqa: E402
 from random_calls.batched import Batches, batched_columns, domains_of, stream_in_batches  # noqa: E402
 from random_calls.joined import Joiner, JoinSpeller, Query, Values  # noqa: E402
@@ -73,7 +79,7 @@ COUNTS = [0, 1, 2, 4, 6, 8, 12]  # of a put's rows; of a large one as many times
 MARK = "="  # the line behind each answer of sqlite3
 TOGETHER = 500  # rows of a statement of sqlite3
 TOLD = 200  # rows of a table or an answer that are told
-LONG, SHORT = (2000, 40, 200), (400, 3, 20)  # small, wide and batched databases
+LONG, SHORT = (2000, 40, 10, 200), (400, 3, 0, 20)  # small, wide, large and batched databases
 
 
 @dataclass
@@ -92,7 +98,8 @@ class Asked:
 class Case:
     """A database, its queries, and the calls and the script that say both."""
 
-    again = "--count 1 --wide 0 --batched 0"
+    again = "--count 1 --wide 0 --large 0 --batched 0"
+    rows_of = staticmethod(query_rows)  # the plain model
 
     def __init__(self, seed: int, plain: bool, modelled: bool):
         self.random, self.seed, self.plain, self.modelled = self.seeded(seed), seed, plain, modelled
@@ -181,7 +188,7 @@ class Case:
 class WideCase(Case):
     """A database of a wide table and a small one, of which the wide one comes in two puts."""
 
-    again = "--count 0 --wide 1 --batched 0"
+    again = "--count 0 --wide 1 --large 0 --batched 0"
 
     @staticmethod
     def seeded(seed: int) -> Random:
@@ -203,10 +210,35 @@ class WideCase(Case):
         return WideJoiner(self.random, self.database, self.sorted, self.random.choice(tables), self.plain).wide_query()
 
 
+class LargeCase(WideCase):
+    """A database of a large table and a small one, of which the large one comes in one put or two."""
+
+    again = "--count 0 --wide 0 --large 1 --batched 0"
+    rows_of = staticmethod(large.answer_rows)
+
+    @staticmethod
+    def seeded(seed: int) -> Random:
+        return Random(f"large {seed}")
+
+    def make(self) -> None:
+        self.parts, tables = self.random.choice([1, 2]), large.Tables(self.random)
+        rows, ends = tables.rows(large.LARGE)
+        self.put_rows(large.LARGE, "REPLACE", tables.columns, rows, ends)
+        if self.random.random() < 0.5:
+            self.put_rows(large.LARGE, "APPEND", tables.columns, *tables.rows(large.LARGE, appended=True))
+        self.put_rows(large.SMALL, "REPLACE", tables.columns, *tables.rows(large.SMALL))
+        self.sorted = Sorted(self.database)
+        while len(self.asked) < 24:
+            self.ask()
+
+    def query(self) -> Query | None:
+        return large.LargeJoiner(self.random, self.database, self.sorted, self.plain).wide_query()
+
+
 class BatchedCase(Case):
     """A database of two tables of many small batches, of which most queries keep few rows."""
 
-    again = "--count 0 --wide 0 --batched 1"
+    again = "--count 0 --wide 0 --large 0 --batched 1"
 
     @staticmethod
     def seeded(seed: int) -> Random:
@@ -286,9 +318,22 @@ def stream_of_fetch(answer: wire.Answer) -> tuple[list[Column], list[Row]]:
     return columns_of(reader), [tuple(row) for row in reader.total]
 
 
-def pipe_answers(path: str, case: Case) -> None:
+def pipe_bytes(path: str, case: Case, workers: int) -> bytes:
+    return run([path, "pipe", "--parts", str(case.parts), "--workers", str(workers)], b"".join(case.calls))
+
+
+def look_at_more_workers(path: str, case: Case, workers: list[int], written: bytes) -> None:
+    """With each further number of workers the same bytes are written."""
+    case.now = None
+    for count in workers:
+        other = pipe_bytes(path, case, count)
+        place = next((place for place, (one, two) in enumerate(zip(written, other)) if one != two), None)
+        same(f"the number of bytes with {count} workers, and the first other one", (len(written), None), (len(other), place))
+
+
+def pipe_answers(path: str, case: Case, workers: list[int]) -> None:
     """Looks at the answers of `pipe`. A query's rows are those of its endpoints, joined in their order."""
-    source = wire.Bytes(run([path, "pipe", "--parts", str(case.parts)], b"".join(case.calls)))
+    source = wire.Bytes(pipe_bytes(path, case, workers[0]))
     schemas: dict[int, list[Column]] = {}
     for rows, asked in case.counts:
         if asked is None:
@@ -301,6 +346,7 @@ def pipe_answers(path: str, case: Case) -> None:
         columns, asked.given[number] = stream_of_fetch(wire.answer(source))
         same("the schema of a stream and that of its info", schemas[id(asked)], columns)
     same("the bytes behind the last answer", 0, len(source.data) - source.place)
+    look_at_more_workers(path, case, workers[1:], source.data)
 
 
 def of_endpoints(asked: Asked, rows: list[Row]) -> list[list[Row]]:
@@ -310,18 +356,18 @@ def of_endpoints(asked: Asked, rows: list[Row]) -> list[list[Row]]:
     return [[row[:-1] for row in rows if first < row[-1] <= end] for first, end in asked.ranges]
 
 
-def compare(case: Case, path: str | None) -> None:
-    """Compares all answers of a case: of `pipe`, or of the plain model, with those of sqlite3."""
+def compare(case: Case, path: str | None, workers: list[int]) -> None:
+    """Compares all answers of a case: of `pipe`, or of a model, with those of sqlite3."""
     answers = sqlite_answers(case)
     same("the number of answers of sqlite3", len(case.asked), len(answers))
     for asked, rows in zip(case.asked, answers):
         asked.wanted = of_endpoints(asked, rows)
         same("the rows of all endpoints of sqlite3", len(rows), sum(map(len, asked.wanted)))
     if path:
-        pipe_answers(path, case)
+        pipe_answers(path, case, workers)
     else:
         for asked in case.asked:
-            asked.given = [query_rows(asked.query, asked.database, first, end) for first, end in asked.ranges]
+            asked.given = [case.rows_of(asked.query, asked.database, first, end) for first, end in asked.ranges]
     for case.now in case.asked:
         for number, (wanted, given) in enumerate(zip(case.now.wanted, case.now.given, strict=True)):
             same(f"the rows of endpoint {number}, wanted as sqlite3 gives them", wanted, given)
@@ -361,14 +407,16 @@ def options() -> argparse.Namespace:
     parser = argparse.ArgumentParser(description=__doc__, formatter_class=argparse.RawDescriptionHelpFormatter)
     parser.add_argument("--count", type=int, help="how many small databases (400)")
     parser.add_argument("--wide", type=int, help="how many wide databases (3)")
+    parser.add_argument("--large", type=int, help="how many large databases (none)")
     parser.add_argument("--batched", type=int, help="how many batched databases (20)")
-    parser.add_argument("--long", action="store_true", help="2,000 small, 40 wide and 200 batched ones, where no number is said")
+    parser.add_argument("--long", action="store_true", help="2,000 small, 40 wide, 10 large and 200 batched ones, where no number is said")
+    parser.add_argument("--workers", type=worker_counts, default=[1], help="the numbers of workers, as 1,2,4,16 (1)")
     parser.add_argument("--seed", type=int, default=1, help="the seed of the first (1)")
     parser.add_argument("--program", help="the built program (that of the repository)")
     parser.add_argument("--plain", action="store_true", help="ask no joins and no groups")
     parser.add_argument("--without-program", action="store_true", help="compare sqlite3 with the plain model")
     words = parser.parse_args()
-    for name, usual in zip(["count", "wide", "batched"], LONG if words.long else SHORT):
+    for name, usual in zip(["count", "wide", "large", "batched"], LONG if words.long else SHORT):
         if getattr(words, name) is None:
             setattr(words, name, usual)
     return words
@@ -376,19 +424,19 @@ def options() -> argparse.Namespace:
 
 def main() -> int:
     words, counts = options(), collections.Counter()
-    path = None if words.without_program else program(words.program)
-    switches = ["--plain"] * words.plain + ["--without-program"] * words.without_program
-    kinds = [(Case, words.count), (WideCase, words.wide), (BatchedCase, words.batched)]
+    path, workers = None if words.without_program else program(words.program), ",".join(map(str, words.workers))
+    switches = ["--workers", workers] + ["--plain"] * words.plain + ["--without-program"] * words.without_program
+    kinds = [(Case, words.count), (WideCase, words.wide), (LargeCase, words.large), (BatchedCase, words.batched)]
     for kind, number in [(kind, number) for kind, most in kinds for number in range(most)]:
         case = kind(words.seed + number, words.plain, words.without_program)
         try:
-            compare(case, path)
+            compare(case, path, words.workers)
             count(case, counts)
         except (Difference, wire.Unreadable, Fault, ValueError, IndexError, subprocess.TimeoutExpired) as found:
             tell(case, str(found) if isinstance(found, Difference) else repr(found), switches)
             return 1
-    print(f"{words.count} small, {words.wide} wide and {words.batched} batched databases from seed {words.seed} on, and no difference; "
-          f"{counts['endpoints']} endpoints")
+    print(f"{words.count} small, {words.wide} wide, {words.large} large and {words.batched} batched databases from seed {words.seed} on, "
+          f"workers {workers}, and no difference; {counts['endpoints']} endpoints")
     for kind in ["groups", *(f"places: {number}" for number in range(1, 5))]:
         print(f"{counts[kind]:7} queries of {kind}, {counts[kind, 'none']} without rows; {counts[kind, 'rows']} rows")
     return 0

@@ -28,6 +28,7 @@ MOST_WORDS = 60  # of a dictionary, to which a put may add some that it does not
 WORDS = ["", "a", "Z", "abcdefgh", "abcdefghi", "abcdefghj", "\u00e9", "\U00010000"]
 TOP = 2**63  # numbers that sqlite3 knows lie below it
 SUM_LIMIT = 2**62
+MOST_COUNTS = 16
 
 
 def wide_columns(random: Random) -> tuple[Column, ...]:
@@ -96,10 +97,12 @@ class Choices:
 
 
 class Sorted:
-    """The values of a database's columns in their order, without nulls."""
+    """The values of a database's columns in their order, without nulls, and how often keys of several columns stand there."""
 
     def __init__(self, database: Database):
         self.of: dict[tuple[str, str], list[Value]] = {}
+        self.counts: dict[tuple[str, tuple[int, ...]], collections.Counter] = {}
+        self.database = database
         for name, table in database.items():
             for number, column in enumerate(table.columns):
                 values = (row[number] for row in table.rows)
@@ -117,6 +120,15 @@ class Sorted:
     def once(self, table: str, column: str) -> list[Value]:
         """Each of them once."""
         return list(dict.fromkeys(self.of[table, column]))
+
+    def keys(self, table: str, numbers: tuple[int, ...]) -> collections.Counter:
+        """How often each key of these columns of a table stands there. One with a null does not count. A few are kept."""
+        if (table, numbers) not in self.counts:
+            if len(self.counts) == MOST_COUNTS:
+                self.counts.pop(next(iter(self.counts)))
+            keys = (tuple([row[number] for number in numbers]) for row in self.database[table].rows)
+            self.counts[table, numbers] = collections.Counter(key for key in keys if None not in key)
+        return self.counts[table, numbers]
 
     def may_sum(self, table: str, column: str) -> bool:
         """Whether sums of the column have 63 bits, and sqlite3 gives them."""
@@ -225,11 +237,10 @@ class WideJoiner(Joiner):
         return sum(count * right[key] for key, count in left.items())
 
     def keys_of(self, names: list[Name]) -> collections.Counter:
-        """How often each key of these columns of one place stands there. One with a null does not count."""
+        """How often each key of these columns of one place stands there."""
         place = next(place for place in self.places if place.name == names[0].place)
-        numbers = [[column.name for column in place.columns].index(name.column) for name in names]
-        keys = (tuple(row[number] for number in numbers) for row in self.database[place.table].rows)
-        return collections.Counter(key for key in keys if None not in key)
+        columns = [column.name for column in place.columns]
+        return self.sorted.keys(place.table, tuple(columns.index(name.column) for name in names))
 
 
 class NarrowJoiner(WideJoiner):

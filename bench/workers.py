@@ -1,0 +1,289 @@
+#!/usr/bin/env python3
+"""What several workers make of a fetch of `flightscan serve`: its time by the clock and that of the processors.
+
+    python3 bench/workers.py [--program PATH] [--before PATH] [--runs N] [--seconds S] [--rows N] [QUERY..]
+
+A table of 8,000,000 rows in batches of 65,536 (numbers, one with a tenth of nulls, and texts of ten words) and one of 100,000
+rows are put to servers with 1, 2 and 4 workers. First each query is fetched once from each server, whose streams have to be
+the same bytes. Then a client fetches it over and over for S seconds (1.5), from one server after the other: Q2 keeps 1 row in
+100, Q3 half of them, Q6 and Q7 make 1,000 groups by a number and ten by a text, Q8 joins a tenth of the rows with the smaller
+table. Told are the median of the best of N rounds (3), the least processor time of the server for a fetch, and both against
+one worker.
+
+Two small queries follow, with 1 worker and with 4: all of a table of two rows, and one row of 100,000. Then four readers,
+each on a connection of its own, fetch at once from the server of 1 worker. With --before another program is put beside it,
+one from before there were workers. The client is bench/sockets.cpp, compiled with g++; the kernel throws its answers away.
+
+The goals: 4 workers 3.0 times as fast by the clock as 1 on four cores (2 workers 1.7 times), with at most 1.15 times the
+processor time; a small query at most 1.1 times; four readers as fast as before. Which ones are missed is told. It ends with 1
+where streams differ. Build the program first, as for pipe.py.
+"""
+
+import argparse
+import pathlib
+import sys
+import tempfile
+import zlib
+from array import array
+from contextlib import ExitStack
+from dataclasses import dataclass
+from itertools import accumulate
+from random import Random
+
+import serve
+from built import program
+from layout import written
+from loopback import Connection, Server
+from measured import Measured
+from readers import counted
+from trees import UTF8, batch, field, integer, schema
+from wire import END, call, chunk, descriptor, packed, query_handle, record_message, record_open, scalar, ticket
+
+BATCH_ROWS, SMALLER_ROWS = 65_536, 100_000
+WORKERS = (1, 2, 4)
+FASTER, MORE_TIME, SMALL_MORE, READERS_LEAST = {2: 1.7, 4: 3.0}, 1.15, 1.1, 0.97  # the goals
+WORDS = [b"alpha", b"beta", b"gamma", b"delta", b"epsilon", b"zeta", b"eta", b"theta", b"iota", b"kappa"]
+BILLION, MILLION = 10**9, 10**6
+TABLES = {
+    "t": [("a", integer(64, True)), ("b", integer(64, True)), ("k", integer(32, True)), ("s", UTF8), ("j", integer(32, True))],
+    "u": [("key", integer(64, True)), ("v", integer(64, True))],
+    "w": [("v", integer(64, True))],
+}
+LARGE = {
+    "Q2": "SELECT a, b, k FROM t WHERE a < 10000000",
+    "Q3": "SELECT a, b FROM t WHERE (a BETWEEN 100000000 AND 799999999 AND NOT b < -500000) OR (a >= 950000000 AND (b IS NULL OR b > 0))",
+    "Q6": "SELECT k, COUNT(*), SUM(b) FROM t GROUP BY k",
+    "Q7": "SELECT s, COUNT(*), SUM(b) FROM t GROUP BY s",
+    "Q8": "SELECT t.a, t.k, u.v FROM t JOIN u ON t.j = u.key",
+}
+SMALL = {"two rows": "SELECT * FROM w", "one row of 100,000": "SELECT v FROM u WHERE key = {key}"}
+READ = ("Q2", "Q6")  # by four readers
+
+
+# ---- the tables
+
+
+def numbers(random, rows, kind):
+    """So many numbers of 32 bits at random, as an array of this kind."""
+    return array(kind, array("I", random.randbytes(4 * rows)))
+
+
+def below(random, rows, bound, kind):
+    return array(kind, [number * bound >> 32 for number in numbers(random, rows, "Q")])
+
+
+def columns_of(name, rows, random):
+    """The columns of a batch, each a count of nulls and its buffers."""
+    if name != "t":
+        return [(0, b"", below(random, rows, MILLION, "q").tobytes()) for _ in TABLES[name]]
+    flags = array("B", [number >= 26 for number in random.randbytes(rows)])
+    valid = int(bytes(48 + flag for flag in reversed(flags)), 2).to_bytes((rows + 7) // 8, "little")
+    b = array("q", [number - MILLION for number in below(random, rows, 2 * MILLION, "q")])
+    texts = [WORDS[number] for number in below(random, rows, len(WORDS), "B")]
+    offsets = array("i", accumulate(map(len, texts), initial=0))
+    return [(0, b"", below(random, rows, BILLION, "q").tobytes()), (flags.count(0), valid, b.tobytes()),
+            (0, b"", below(random, rows, 1_000, "i").tobytes()), (0, b"", offsets.tobytes(), b"".join(texts)),
+            (0, b"", below(random, rows, MILLION, "i").tobytes())]
+
+
+def put(name, rows, random):
+    """The records of a put, piece by piece. The keys of `u` are all different."""
+    ingest = chunk(1, scalar(1, 1)) + chunk(2, name.encode())
+    front = chunk(1, descriptor(packed(b"CommandStatementIngest", ingest)))
+    head = schema(*(field(column, kind, column == "b") for column, kind in TABLES[name]))
+    keys = array("q", random.sample(range(MILLION), rows)) if name == "u" else None
+    yield record_open(b"DoPut")
+    yield record_message(front + chunk(2, written("Message", head, "spread")))
+    for first in range(0, rows, BATCH_ROWS):
+        count = min(BATCH_ROWS, rows - first)
+        columns = columns_of(name, count, random)
+        if keys is not None:
+            columns[0] = 0, b"", keys[first : first + count].tobytes()
+        tree, body = batch(count, *columns)
+        yield record_message(chunk(2, written("Message", tree, "spread")) + chunk(1000, body))
+    yield END
+
+
+@dataclass
+class Workload:
+    """The files of the puts, and of each query its call."""
+
+    puts: list[pathlib.Path]
+    steps: dict[str, serve.Step]
+
+
+def made(folder, rows):
+    """The puts and the calls, as files. The tables' versions are 1, 2 and 3."""
+    sizes, puts, steps = {"t": rows, "u": SMALLER_ROWS, "w": 2}, [], {}
+    for name, count in sizes.items():
+        puts.append(folder / f"{name}.put")
+        with open(puts[-1], "wb") as out:
+            out.writelines(put(name, count, Random(name)))
+    key = Random("u").sample(range(MILLION), SMALLER_ROWS)[SMALLER_ROWS // 2]
+    for name, text in (LARGE | SMALL).items():
+        text, table = text.format(key=key), text.partition(" FROM ")[2].partition(" ")[0]
+        file = folder / name.replace(" ", "_")
+        file.write_bytes(call(b"DoGet", [ticket(query_handle(len(sizes), 0, sizes[table], text.encode()))]))
+        steps[name] = serve.Step(name, file, 1)
+    return Workload(puts, steps)
+
+
+# ---- servers
+
+
+def answer_of(connection):
+    """The size of an answer, which has to have status 0, and a sum over its bytes."""
+    size, total = 4, 0
+    while (kind := connection.take(1)) == b"\x02":
+        message = connection.take(int.from_bytes(connection.take(5)[1:], "big"))
+        size, total = size + 6 + len(message), zlib.crc32(message, total)
+    code, length = connection.number(1), connection.number(2)
+    if kind != b"\x04" or code != 0:
+        sys.exit(f"a call was refused: {connection.take(length).decode()}")
+    return size, total
+
+
+def given_the_tables(server, workload):
+    with Connection(server.port) as connection:
+        for file in workload.puts:
+            with open(file, "rb") as source:
+                connection.socket.sendfile(source)
+            answer_of(connection)
+
+
+def answers_of(server, workload):
+    """The size and the sum of each query's answer."""
+    found = {}
+    with Connection(server.port) as connection:
+        for name, step in workload.steps.items():
+            connection.send(step.file.read_bytes())
+            found[name] = answer_of(connection)
+    return found
+
+
+# ---- measuring
+
+
+@dataclass
+class Figures:
+    """Of a fetch the median seconds, the processor seconds of the server, and the fetches a second of all readers."""
+
+    clock: float
+    processor: float
+    rate: float
+
+
+def measured_once(bench, server, step, readers):
+    client, seconds = bench
+    calls, cores, _, _ = counted(client, server.port, seconds, server, [(step, readers, 0)])
+    one = calls[step.name]
+    return Figures(one.median, cores / one.rate, one.rate)
+
+
+def best(rounds):
+    """The least of each time, and the highest rate."""
+    return Figures(min(one.clock for one in rounds), min(one.processor for one in rounds), max(one.rate for one in rounds))
+
+
+def told(seconds):
+    return f"{1e3 * seconds:.1f} ms" if seconds >= 1e-3 else f"{1e6 * seconds:.1f} \u00b5s"
+
+
+def print_large(found, names, missed):
+    print("| | workers | time | times as fast as 1 | processor | times that of 1 |")
+    print("|---|---:|---:|---:|---:|---:|")
+    for name in names:
+        one = best(found[name, 1])
+        for workers in WORKERS:
+            now = best(found[name, workers])
+            faster, more = one.clock / now.clock, now.processor / one.processor
+            print(f"| {name} | {workers} | {told(now.clock)} | {faster:.2f} | {told(now.processor)} | {more:.2f} |")
+            if workers > 1 and (faster < FASTER[workers] or more > MORE_TIME):
+                missed.append(f"{name} with {workers} workers: {faster:.2f} times as fast, {more:.2f} times the processor time")
+    print()
+
+
+def print_small(found, names, missed):
+    print("| | 1 worker | 4 workers | times |")
+    print("|---|---:|---:|---:|")
+    for name in names:
+        one, four = (best(found[name, workers]).clock for workers in (1, 4))
+        print(f"| {name} | {told(one)} | {told(four)} | {four / one:.2f} |")
+        if four > SMALL_MORE * one:
+            missed.append(f"{name}: {four / one:.2f} times with 4 workers")
+    print()
+
+
+def print_readers(found, names, missed):
+    """Fetches a second of four readers, of 1 worker and of the program from before, if there is one."""
+    print("| four readers | fetches a second | before | times |")
+    print("|---|---:|---:|---:|")
+    for name in names:
+        now = best(found[name, "readers"]).rate
+        before = best(found[name, "before"]).rate if (name, "before") in found else None
+        print(f"| {name} | {now:.1f} | {f'{before:.1f}' if before else ''} | {f'{now / before:.2f}' if before else ''} |")
+        if before and now < READERS_LEAST * before:
+            missed.append(f"four readers of {name}: {now / before:.2f} times as many fetches as before")
+    print()
+
+
+def one_round(bench, servers, workload, names, found):
+    """Each query once, from one server after the other."""
+    for name in [name for name in names if name in LARGE]:
+        for workers in WORKERS:
+            found.setdefault((name, workers), []).append(measured_once(bench, servers[workers], workload.steps[name], 1))
+    for name in [name for name in names if name in SMALL]:
+        for workers in (1, 4):
+            found.setdefault((name, workers), []).append(measured_once(bench, servers[workers], workload.steps[name], 1))
+    for name in [name for name in names if name in READ]:
+        for which, server in [("readers", servers[1]), ("before", servers.get("before"))]:
+            if server:
+                found.setdefault((name, which), []).append(measured_once(bench, server, workload.steps[name], 4))
+
+
+def look_at_answers(servers, workload):
+    """All servers have to give the same bytes. The sizes are kept with the calls."""
+    found = {which: answers_of(server, workload) for which, server in servers.items() if which != "before"}
+    for which, answers in found.items():
+        if other := [name for name in answers if answers[name] != found[1][name]]:
+            sys.exit(f"other streams with {which} workers than with 1: {', '.join(other)}")
+    for name, (size, _) in found[1].items():
+        workload.steps[name].answer = size
+    if "before" in servers:
+        other = [name for name, answer in answers_of(servers["before"], workload).items() if answer[0] != found[1][name][0]]
+        if other:
+            sys.exit(f"answers of another size before: {', '.join(other)}")
+
+
+def main():
+    parser = argparse.ArgumentParser(description=__doc__, formatter_class=argparse.RawDescriptionHelpFormatter)
+    parser.add_argument("--program", help="the built program (that of the repository)")
+    parser.add_argument("--before", help="a program from before there were workers")
+    parser.add_argument("--runs", type=int, default=3, help="rounds, of which the best is told (3)")
+    parser.add_argument("--seconds", type=float, default=1.5, help="that a query is fetched over and over (1.5)")
+    parser.add_argument("--rows", type=int, default=8_000_000, help="of the table (8000000)")
+    parser.add_argument("query", nargs="*", help=f"queries whose names begin so (all): {', '.join([*LARGE, *SMALL])}")
+    words = parser.parse_args()
+    path, measured, found, missed = program(words.program), Measured(words.program), {}, []
+    names = [name for name in [*LARGE, *SMALL] if not words.query or name.startswith(tuple(words.query))]
+    with tempfile.TemporaryDirectory() as name, ExitStack() as stack:
+        folder = pathlib.Path(name)
+        bench, workload = (serve.compiled(folder), words.seconds), made(folder, words.rows)
+        options = {workers: (path, "--seats", "8", "--workers", str(workers)) for workers in WORKERS}
+        if words.before:
+            options["before"] = words.before, "--seats", "8"
+        servers = {which: stack.enter_context(Server(*option)) for which, option in options.items()}
+        for server in servers.values():
+            given_the_tables(server, workload)
+        look_at_answers(servers, workload)
+        for _ in range(words.runs):
+            one_round(bench, servers, workload, names, found)
+        print_large(found, [name for name in names if name in LARGE], missed)
+        print_small(found, [name for name in names if name in SMALL], missed)
+        print_readers(found, [name for name in names if name in READ], missed)
+    print("\n".join([f"Missed: {one}" for one in missed] or ["All goals are met."]))
+    print(f"\n{measured.line()}")
+
+
+if __name__ == "__main__":
+    main()
