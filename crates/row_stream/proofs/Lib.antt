@@ -2,3 +2,4 @@ pub mod Parts
 pub mod Messages
 pub mod Causes
 pub mod SoFar
+pub mod Worked
