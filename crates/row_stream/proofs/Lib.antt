@@ -2,4 +2,3 @@ pub mod Parts
 pub mod Messages
 pub mod Causes
 pub mod SoFar
-pub mod Worked

@@ -24,7 +24,7 @@ use Rattle.ipc_batch.specs.Written.{WrittenParts, SaysBatch, SaysParts, most_hea
 use Rattle.ipc_batch.proofs.Lengths.{fine, both}
 use Rattle.ipc_batch.proofs.Messages.{joined}
 use Rattle.ipc_stream.specs.declared.message.IpcMessage.{IpcMessage}
-use Rattle.ipc_stream.specs.Stream.{announced, frame, IsMessage}
+use Rattle.ipc_stream.specs.Stream.{announced, frame, ClaimsBody, IsMessage}
 use Rattle.row_stream.specs.Stream.{sent_in}
 use Rattle.row_stream.specs.inside.Frames.{SaysSchema}
 

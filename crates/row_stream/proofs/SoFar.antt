@@ -1,6 +1,7 @@
 -- What was sent so far of a stream.
 use Rattle.std.proofs.Common.{◌≡◌, ◌⊎◌, inl, inr, ℕ, List, [], ◌∷◌, ◌++◌, map, All, Option, Result, Ok, Err, refl, sym, ap, subst, ◌∙◌, append-nil, append_assoc}
 use Rattle.std.specs.List.{flat_map}
+use Rattle.std.specs.Io.KnownBytes.{Appends}
 use Rattle.std.proofs.KnownBytes.{Appends-nil}
 use Rattle.std.proofs.lemmas.Grind.{flat_map-append}
 use Rattle.std.proofs.lemmas.List.Elements.{All-append, All-nil, All-cons}
@@ -15,9 +16,9 @@ use Rattle.grpc_frame.proofs.Sending.{both_sent, second_not_sent, begun_alone, f
 use Rattle.ipc_batch.specs.Said.{Rows, Says, Sent as SentMessage}
 use Rattle.ipc_batch.specs.Written.{SaysBatch}
 use Rattle.ipc_stream.specs.declared.message.IpcMessage.{IpcMessage}
-use Rattle.ipc_stream.specs.Stream.{frame, IsMessage, end_marker}
+use Rattle.ipc_stream.specs.Stream.{frame, IsMessage, Framed, end_marker}
 use Rattle.row_stream.specs.Stream.{sent_in, StreamSays, IsWhole, SaysSome, WritesStream}
-use Rattle.row_stream.specs.inside.Frames.{SaysSchema, FrameSent, SendsMessage}
+use Rattle.row_stream.specs.inside.Frames.{SaysSchema, FrameSent, FrameNotSent, SendsMessage}
 use Rattle.row_stream.proofs.Messages.{first_said, more_said}
 
 -- messages that say these rows were sent, from an outbox with nothing gathered

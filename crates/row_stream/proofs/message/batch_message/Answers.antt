@@ -1,4 +1,4 @@
-use Rattle.std.proofs.Common.{◌<◌, ◌^◌, ℕ, List, length, sym, ap, subst, arith}
+use Rattle.std.proofs.Common.{◌≡◌, ◌<◌, ◌^◌, ℕ, List, length, sym, ap, subst, arith}
 use Rattle.ipc_batch.specs.Written.{body_of, buffers_written, body_length, parts_written}
 use Rattle.ipc_stream.specs.Stream.{IsMessage}
 use Rattle.row_stream.proofs.Messages.{batch_fits}
