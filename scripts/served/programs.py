@@ -258,7 +258,7 @@ def closed_at_the_start(run: Run) -> None:
             same(" ".join(words), (3, TRANSPORT), (done.returncode, done.stderr))
         words = ["put", "--port", port, "--table", "u", "--mode", "create"]
         done = subprocess.run(["sh", "-c", 'exec "$0" "$@" <&-', run.path, *words], stdout=subprocess.PIPE, stderr=subprocess.PIPE, timeout=SECONDS)
-        same("an input that is closed", 3, done.returncode)
+        same("an input that is closed has no byte, which the server refuses", 1, done.returncode)
         same("tables", printed("t"), tables(run, server))
 
 
