@@ -14,7 +14,7 @@ use std::sync::Wait;
 use std::thread::Threads;
 
 // How many rows a worker reads at least: for fewer, a thread costs more than it saves.
-const LEAST_ROWS: usize = 32_768;
+const LEAST_ROWS: usize = 65_536;
 
 /// A stream, and how many workers make its payloads at most.
 #[derive(Clone, Copy, Drop)]
@@ -78,7 +78,7 @@ impl<R: Threads + Wait + Sync> StartsWorkers for R {
 }
 
 /// The thread that reads has the payloads of a stream made by others beside it, each in a thread of its own, and makes some
-/// itself: as many workers as the stream asks for at most, one for each 32,768 rows that are read and one for each morsel at
+/// itself: as many workers as the stream asks for at most, one for each 65,536 rows that are read and one for each morsel at
 /// most. Threads are started once for a fetch, and have ended when it has. Of groups the others make those of each batch, with
 /// the same bounds. The list of tables and streams that have begun stay with one worker; so does a stream of rows where memory
 /// is refused for the others.
@@ -103,7 +103,7 @@ impl<'h, R: Threads + Wait + Sync> Workers<'h, R> {
         Workers::reading(rt, LEAST_ROWS)
     }
 
-    /// The same, with one worker for each so many rows that are read at most, in place of 32,768: what is read is the same for
+    /// The same, with one worker for each so many rows that are read at most, in place of 65,536: what is read is the same for
     /// any number.
     pub fn reading(rt: &'h R, least_rows: usize) -> Workers<'h, R> {
         Workers { rt, least_rows }
