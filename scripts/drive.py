@@ -14,7 +14,7 @@ stays, and fetches leave nothing behind. It ends with 1 at the first difference.
 bench/pipe.py.
 
 With --workers 1,2,4,16 all this is done for each of these numbers, on a server of its own. With --large each server is first
-given the same table of 70,000 to 140,000 rows, in two to nine batches of unequal sizes, and a small one. Some of the fetches
+given the same table of 140,000 to 280,000 rows, in two to nine batches of unequal sizes, and a small one. Some of the fetches
 are then of twelve queries over them, with filters, joins and groups, whole or over a range. The first answer to each is
 compared with the model, and each later one, from any connection of any server, with the bytes of the first one.
 

@@ -10,7 +10,7 @@ through, the joined rows of each info's endpoints with those of its query on the
 Every fourth interleaving has tables of up to some hundred batches of few rows, whose columns rise from batch to batch, or
 fall, or have one value or nulls alone; most of its queries keep few rows, so a fetch passes over most batches.
 
-Each of the large interleavings (none if no number is said) has a table of 70,000 to 140,000 rows in two to nine batches of
+Each of the large interleavings (none if no number is said) has a table of 140,000 to 280,000 rows in two to nine batches of
 unequal sizes, that is extended, and one of up to 300 rows. Its queries have filters, joins and groups; its fetches have
 ranges of endpoints and any others. Each takes about half a minute.
 

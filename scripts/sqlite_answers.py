@@ -16,7 +16,7 @@ together or anywhere, with those at the ends of their types. The queries keep no
 half, nearly all or all of them; an IN has up to 256 items; keys of joins and groups go from one for all rows to another
 one for each.
 
-Each of the large databases (none if no number is said) is a wide one whose table has 70,000 to 140,000 rows in two to nine
+Each of the large databases (none if no number is said) is a wide one whose table has 140,000 to 280,000 rows in two to nine
 batches of unequal sizes. Its infos have one or two parts.
 
 Each of the batched databases (20 if no number is said) has two tables of up to some hundred batches of 0 to 5 rows. A column

@@ -1,6 +1,6 @@
 """Databases of a large table and a small one, and what queries over them mean, in less than a second each.
 
-The large table has 70,000 rows and more, in two to nine batches of unequal sizes, so several workers share a fetch of it.
+The large table has 140,000 rows and more, in two to nine batches of unequal sizes, so several workers share a fetch of it.
 What a query means is the same as in joined_model.py, which is too slow here. A WHERE is made into a function of a joined
 row, a join looks its partners up by their keys, and of a group the rows are gathered one by one.
 """
@@ -17,7 +17,7 @@ from random_calls.plain_model import (And, Between, Column, Comparison, Database
                                       Operand, Or, Predicate, Row, Truth, Value, both, compared, demand, either, negated)
 from random_calls.wide import Choices, Sorted, WideJoiner, wide_columns
 
-FEWEST_ROWS, MOST_ROWS = 70_000, 140_000
+FEWEST_ROWS, MOST_ROWS = 140_000, 280_000
 BATCHES = range(2, 10)
 SMALL_ROWS = [0, 1, 20, 100, 300]
 APPENDED_ROWS = [1, 100, 5_000, 70_000]

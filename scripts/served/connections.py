@@ -181,6 +181,28 @@ def nothing_read(run: Run) -> str:
     return more
 
 
+@case("clients that send nothing, half a record, or read nothing: with --idle 1 each gives its seat back, and its call is not made")
+def idle_clients(run: Run) -> None:
+    with run.serving("--seats", "1", "--idle", "1") as server:
+        for sent in (b"", PUT[:45], PUT[:300]):
+            with Connection(server.port) as idle, Connection(server.port) as waiting:
+                idle.send(sent)
+                ask(waiting, FETCH, Refusal("F18"))
+        with Connection(server.port) as connection:
+            ask(connection, large_put(4_096), PutCount(4_096))
+        with Connection(server.port, room=65_536) as idle, Connection(server.port) as waiting:
+            idle.send(fetch_of(1, 0, 4_096, "SELECT * FROM t"))
+            ask(waiting, PUT, Refusal("F10"))
+
+
+@case("a client that waits before it calls: with --idle 0 its connection stays")
+def patient_server(run: Run) -> None:
+    with run.serving("--idle", "0") as server:
+        with Connection(server.port) as connection:
+            time.sleep(1.5)
+            ask(connection, PUT, PutCount(2))
+
+
 @case("500 connections, one after another: the last 300 leave no open file and no memory behind")
 def connections_in_a_row(run: Run) -> None:
     with run.serving() as server:

@@ -120,6 +120,34 @@ def joined_endpoints(run: Run) -> None:
             same(f"query {options}", lines, query(run, server, "SELECT a FROM t", *options))
 
 
+@case("an answer as an Arrow IPC stream: its end marker, and the same rows where it is put again")
+def copied_table(run: Run) -> None:
+    with run.serving("--parts", "3") as server:
+        same("put", printed("7 rows"), put(run, server, "t", TRIPS))
+        many = stream(A, [(row,) for row in range(70_000)])
+        same("put of many", printed("70000 rows"), put(run, server, "many", many))
+        for name, count in (("t", 7), ("many", 70_000)):
+            text = f"SELECT * FROM {name}"
+            for options in ((), ("--streams", "3")):
+                status, data, said = query(run, server, text, "--format", "arrow", *options)
+                same("its end", (0, END, b""), (status, data[-len(END) :], said))
+                same("put of the copy", printed(f"{count} rows"), put(run, server, "copy", data, "replace"))
+                same("rows", query(run, server, text), query(run, server, "SELECT * FROM copy"))
+        same("no stream", answered("F14 UnknownName"), query(run, server, "SELECT b FROM many", "--format", "arrow"))
+
+
+@case("an answer as CSV: texts in quotes where they need them, and nulls")
+def csv_records(run: Run) -> None:
+    columns = (Column("t, of all", "Utf8", True), Column("n", "Int64", True), Column("b", "Bool", True))
+    rows = [("a,b", 1, True), ('say "no"', None, False), ("", -5, None), (None, 0, True), ("x\r\ny", 2, None)]
+    lines = b'"t, of all",n,b\r\n"a,b",1,true\r\n"say ""no""",,false\r\n"",-5,\r\n,0,true\r\n"x\r\ny",2,\r\n'
+    with run.serving() as server:
+        same("put", printed("5 rows"), put(run, server, "t", stream(columns, rows)))
+        same("all", (0, lines, b""), query(run, server, "SELECT * FROM t", "--format", "csv"))
+        lone = b'n\r\n1\r\n""\r\n-5\r\n0\r\n2\r\n'
+        same("one column", (0, lone, b""), query(run, server, "SELECT n FROM t", "--format", "csv"))
+
+
 # ---- streams
 
 
@@ -218,6 +246,20 @@ def closed_output(run: Run) -> None:
             os.close(writes)
             with open("/dev/full", "wb") as full:
                 same("a full disk", (3, b"", TRANSPORT), typed(run, *words, out=full.fileno()))
+
+
+@case("standard output, or input, that is closed at the start: its number is no socket's, so nothing is written into a connection")
+def closed_at_the_start(run: Run) -> None:
+    with run.serving() as server:
+        same("put", printed("7 rows"), put(run, server, "t", TRIPS))
+        port = str(server.port)
+        for words in (["tables", "--port", port], ["query", "--port", port, "SELECT * FROM t"]):
+            done = subprocess.run(["sh", "-c", 'exec "$0" "$@" >&-', run.path, *words], stderr=subprocess.PIPE, timeout=SECONDS)
+            same(" ".join(words), (3, TRANSPORT), (done.returncode, done.stderr))
+        words = ["put", "--port", port, "--table", "u", "--mode", "create"]
+        done = subprocess.run(["sh", "-c", 'exec "$0" "$@" <&-', run.path, *words], stdout=subprocess.PIPE, stderr=subprocess.PIPE, timeout=SECONDS)
+        same("an input that is closed has no byte, which the server refuses", 1, done.returncode)
+        same("tables", printed("t"), tables(run, server))
 
 
 def told(run: Run, answer: bytes) -> tuple[int, bytes, bytes]:

@@ -13,6 +13,9 @@ Three further tables have dictionaries of 2,560 values, with indices of 16, 32 a
 many values, or few. The values that are used have codes of which two are neighbors, or leave one remainder by 2,048: where such
 codes are taken for one, the statistics are others. Each column is also asked at the ends of its values in each batch.
 
+A last table has 530 batches. A server keeps the statistics of each 256 batches in a page, so these have two pages, and 18 batches
+behind them.
+
 Which batches are opened is written here from docs/SQL.md, section 7, over `may_hold` in truths.py. Each case is looked at in
 two more ways, which use no statistics or no rule about them: each row that is kept lies in a batch that is opened; and the
 possible truths of a conjunct are those that it has over the cells which the statistics allow, by allowed.py.
@@ -37,6 +40,8 @@ ROWS = [0, 1, 1, 2, 2, 3, 4, 6]  # of a batch
 VALUES = 2_560  # of a dictionary of many values
 SHARED = [0, 1, 2_048, 2_049]  # of four values with codes that are alike, how far behind the first one's they are
 SIZES = [120, 2, 63, 24, 64, 1, 3]  # the rows of the batches with such a dictionary: from 64 on each of its values has a mark
+PAGED_BATCHES = 530  # two pages of 256, and 18
+PAGED_SIZES = [1, 1, 1, 2, 1, 3]
 PARTS = [1, 1, 1, 2, 2, 3]  # of a WHERE
 DEPTHS = [0, 0, 1, 1, 2]  # of a part
 TEXTS = [[f"abcdefgh{number:02}" for number in range(40)],
@@ -170,6 +175,15 @@ def many_values(number):
     kinds = [Kind(name, domain_of(draws, name), manners[(place + number) % 3], draws.choice(NULLS))
              for place, name in enumerate(["c16", "c32", "c64"])]
     return Batched(draws, f"v{number}", kinds, len(SIZES), SIZES)
+
+
+def many_batches():
+    """A table of more batches than two pages of statistics have."""
+    draws = Draws("pages")
+    kinds = [Kind(name, domain_of(draws, name), manner, nulls)
+             for name, manner, nulls in [("i64", "rising", "some"), ("u16", "random", "batches"), ("f", "one", "some"), ("s", "rising", "none"),
+                                         ("c", "falling", "any")]]
+    return Batched(draws, "pages", kinds, PAGED_BATCHES, (PAGED_SIZES[number % len(PAGED_SIZES)] for number in range(PAGED_BATCHES)))
 
 
 # ---- the model
@@ -415,12 +429,13 @@ def over_wide():
 
 BATCHED = [small_batches(number) for number in range(TABLES)]
 CODED = [many_values(number) for number in range(3)]
+PAGED = many_batches()
 SMALL = sorted(BATCHED, key=lambda one: one.size)[: TABLES // 2]
 OF_PLACES = 400
 
 
 def puts():
-    for one in BATCHED + CODED:
+    for one in [*BATCHED, *CODED, PAGED]:
         yield from one.puts()
 
 
@@ -434,3 +449,4 @@ def cases():
     for number, one in enumerate(CODED, TABLES):
         yield from of_one_place(number, one, 40)
         yield from at_the_ends(one)
+    yield from of_one_place(TABLES + len(CODED), PAGED, 60)

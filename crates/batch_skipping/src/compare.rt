@@ -1,7 +1,8 @@
 //! The possible truths of a comparison of two sides, and of IS NULL.
 
 ghost use Rattle.std.specs.Prelude.{◌≡◌, is_some};
-ghost use Rattle.scan_base.specs.Comparison.{order_of};
+ghost use Rattle.std.specs.Ordering.{int_cmp};
+ghost use Rattle.scan_base.specs.Comparison.{order_of, satisfies};
 ghost use Rattle.scan_base.specs.Value.{value_of};
 ghost use Rattle.batch_skipping.specs.Can.{can_be_null, can_compare, equal_between, less_between, of_sides};
 ghost use Rattle.batch_stats.specs.Sides.{ends_at, side_at};
@@ -23,10 +24,27 @@ fn have_order(left: ValueRef<'_>, right: ValueRef<'_>) -> bool
     }
 }
 
-// Whether a comparison of two values is true.
+// Whether a comparison of two numbers is true.
+fn numbers_stand(comparison: Comparison, left: i128, right: i128) -> bool
+    ensures { result ≡ satisfies comparison (int_cmp left right) }
+{
+    match comparison {
+        Comparison::Equal => left == right,
+        Comparison::NotEqual => left != right,
+        Comparison::Less => left < right,
+        Comparison::LessOrEqual => left <= right,
+        Comparison::Greater => left > right,
+        Comparison::GreaterOrEqual => left >= right,
+    }
+}
+
+// Whether a comparison of two values is true. Most are numbers, which are compared without a call.
 fn stand(comparison: Comparison, left: ValueRef<'_>, right: ValueRef<'_>) -> bool
     ensures { result ≡ stand comparison (value_of left.entry) (value_of right.entry) }
 {
+    if let (ValueRef::Int(left), ValueRef::Int(right)) = (left, right) {
+        return numbers_stand(comparison, left, right);
+    }
     left.compare(comparison, right) == Truth::True
 }
 

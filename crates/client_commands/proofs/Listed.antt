@@ -13,7 +13,7 @@ use Rattle.client_commands.specs.Lines.{opened_line}
 pub names_told : {A : Type 0} (Gives : Option Ends → Type 0) (view : A → List (List ℕ)) (result : Result A Failure) (ends : Ends) (last : Line) (status : ExitStatus) (old new : Desk)
     → Gives (Some ends) → FetchesNames view result (opened_line ends) last
     → Tells (λ (x : A). flat_map name_line (view x)) result status old.out new.out old.faults new.faults
-    → Over Gives (FetchesNames (λ (names : List (List ℕ)). names)) (flat_map name_line) status old new
+    → Over Gives (FetchesNames (λ (names : List (List ℕ)). names)) (Tells (flat_map name_line)) status old new
 names_told Gives view (Ok x) ends last status old new given made tells =
     record { ends = ends; given = given; result = Ok (view x); last = last; made = made; tells = tells }
 names_told Gives view (Err failure) ends last status old new given made tells =

@@ -6,7 +6,7 @@ use Rattle.scan_base.specs.declared.fault.Fault.TheVariants.{OutOfMemory, Transp
 use Rattle.flight_proto.specs.Wanted.{rows_of, tables}
 use Rattle.ipc_stream.specs.declared.message.IpcMessage.{IpcMessage}
 use Rattle.table_versions.specs.Table.{Table}
-use Rattle.row_lines.specs.Lines.{lines_of, name_line}
+use Rattle.row_lines.specs.Lines.{name_line}
 use Rattle.client_calls.specs.declared.call.Method.TheVariants.{DoPut}
 use Rattle.client_calls.specs.declared.failure.Failure.{Failure}
 use Rattle.client_calls.specs.declared.failure.Failure.TheVariants.{Found}
@@ -14,6 +14,7 @@ use Rattle.client_calls.specs.declared.putting.Target.{Target}
 use Rattle.client_calls.specs.Answers.{AnswersOne}
 use Rattle.client_calls.specs.Commands.{put_payloads, ReadsCount}
 use Rattle.client_calls.specs.Outcome.{Calls, Line}
+use Rattle.command_line.specs.declared.request.Format.{Format}
 use Rattle.command_ends.specs.Network.{Ends}
 use Rattle.command_ends.specs.Printing.{Said, Prints, cause_lines, count_line, fault_line}
 use Rattle.command_ends.specs.Whole.{Source, ReadsMessages}
@@ -24,6 +25,7 @@ use Rattle.client_commands.specs.Lines.{opened_line}
 use Rattle.client_commands.specs.Spread.{FetchesSpread}
 use Rattle.client_commands.specs.Names.{names_listed}
 use Rattle.client_commands.specs.Told.{Tells}
+use Rattle.client_commands.specs.Rows.{TellsRows}
 
 -- what a command prints on: its output and its faults, before and behind it
 pub record Desk : Type 0 where
@@ -39,35 +41,35 @@ pub record EndsBy (lines : List ℕ) (status : ExitStatus) (old new : Desk) : Ty
   pub status_is : status ≡ FaultAtThisEnd
   pub says : Prints lines old.faults new.faults
 
+-- how a result is told, on an output and on the faults
+abbrev pub Telling : Type 0 → Type 1
+Telling A = Result A Failure → ExitStatus → Said → Said → Said → Said → Type 0
+
 -- the network gave a connection, the calls on it gave a result, and that is told
-pub record Over (Gives : Option Ends → Type 0) {A : Type 0} (Made : Result A Failure → Line → Line → Type 0) (text : A → List ℕ) (status : ExitStatus) (old new : Desk) : Type 0 where
+pub record Over (Gives : Option Ends → Type 0) {A : Type 0} (Made : Result A Failure → Line → Line → Type 0) (Told : Telling A) (status : ExitStatus) (old new : Desk) : Type 0 where
   pub ends : Ends
   pub given : Gives (Some ends)
   pub result : Result A Failure
   pub last : Line
   pub made : Made result (opened_line ends) last
-  pub tells : Tells text result status old.out new.out old.faults new.faults
+  pub tells : Told result status old.out new.out old.faults new.faults
 
 -- calls were made over a connection that the network gave, and their result is told; or it gave none, and why is said
-abbrev pub Connects : (Option Ends → Type 0) → {A : Type 0} → (Result A Failure → Line → Line → Type 0) → (A → List ℕ) → ExitStatus → Desk → Desk → Type 0
-Connects Gives Made text status old new =
-    (Gives None × ((cause : List ℕ) × EndsBy (cause_lines cause) status old new)) ⊎ Over Gives Made text status old new
+abbrev pub Connects : (Option Ends → Type 0) → {A : Type 0} → (Result A Failure → Line → Line → Type 0) → Telling A → ExitStatus → Desk → Desk → Type 0
+Connects Gives Made Told status old new =
+    (Gives None × ((cause : List ℕ) × EndsBy (cause_lines cause) status old new)) ⊎ Over Gives Made Told status old new
 
 -- ---- query
-
--- the lines of an answer
-abbrev pub table_lines : Table → List ℕ
-table_lines table = lines_of table.schema table.rows
 
 -- what came of asking for the first connection; where the network gave none, no other is asked for
 abbrev pub GivesFirst : {N : Type 0} → (N → Option Ends → N → Type 0) → N → N → N → Option Ends → Type 0
 GivesFirst Gives old middle new None = Gives old None new
 GivesFirst Gives old middle new (Some ends) = Gives old (Some ends) middle
 
--- the lines of the rows that a query answers, fetched over up to `streams` connections
-abbrev pub Queries : {N : Type 0} → (N → Option Ends → N → Type 0) → ℕ → List ℕ → N → N → ExitStatus → Desk → Desk → Type 0
-Queries {N} Gives streams sql before behind status old new =
-    (middle : N) × Connects (GivesFirst Gives before middle behind) (FetchesSpread Gives streams (rows_of sql) middle behind) table_lines status old new
+-- the rows that a query answers, fetched over up to `streams` connections, are told in a format
+abbrev pub Queries : {N : Type 0} → (N → Option Ends → N → Type 0) → ℕ → List ℕ → Format → N → N → ExitStatus → Desk → Desk → Type 0
+Queries {N} Gives streams sql format before behind status old new =
+    (middle : N) × Connects (GivesFirst Gives before middle behind) (FetchesSpread Gives streams (rows_of sql) middle behind) (TellsRows format) status old new
 
 -- ---- tables
 
@@ -81,7 +83,7 @@ FetchesNames view (Err failure) old new =
 
 -- a line for each name
 abbrev pub ListsTables : (Option Ends → Type 0) → ExitStatus → Desk → Desk → Type 0
-ListsTables Gives status old new = Connects Gives (FetchesNames (λ (names : List (List ℕ)). names)) (flat_map name_line) status old new
+ListsTables Gives status old new = Connects Gives (FetchesNames (λ (names : List (List ℕ)). names)) (Tells (flat_map name_line)) status old new
 
 -- ---- put
 
@@ -101,7 +103,7 @@ pub record IsUnread (old new : Source) (untouched : Type 0) (status : ExitStatus
 pub record IsPut (old new : Source) (Gives : Option Ends → Type 0) (target : Target) (status : ExitStatus) (desk desk' : Desk) : Type 0 where
   pub messages : List IpcMessage
   pub reads : ReadsMessages (λ (messages : List IpcMessage). messages) (Ok messages) old new
-  pub puts : Connects Gives (Calls DoPut (put_payloads target messages) (AnswersOne ReadsCount)) count_line status desk desk'
+  pub puts : Connects Gives (Calls DoPut (put_payloads target messages) (AnswersOne ReadsCount)) (Tells count_line) status desk desk'
 
 abbrev pub Puts : Source → Source → Type 0 → (Option Ends → Type 0) → Target → ExitStatus → Desk → Desk → Type 0
 Puts old new untouched Gives target status desk desk' =

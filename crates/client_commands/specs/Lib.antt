@@ -1,4 +1,5 @@
 pub mod Told
+pub mod Rows
 pub mod Lines
 pub mod Fetching
 pub mod Spread

@@ -71,7 +71,7 @@ fn put_messages<C: Connect, W: Output, E: Output>(
     requires prints { CanFail (E.failures faults.old) }
     ensures { Connects (λ ends. C.connects network.old putting.entry.port ends network.new)
         (Calls DoPut (put_payloads putting.entry.target messages.now) (AnswersOne ReadsCount))
-        count_line result
+        (Tells count_line) result
         (desk_of (said_of W.Output output.old) (said_of E.Output faults.old))
         (desk_of (said_of W.Output output.new) (said_of E.Output faults.new)) }
 {

@@ -5,14 +5,13 @@ use Rattle.clap.specs.Words.{App, FailsBy, HasKind, HasMatchesOf, IsParsedFrom, 
 use Rattle.clap.specs.Matches.{subcommand_name_of}
 use Rattle.clap.specs.declared.builder.command.Command.{Command}
 use Rattle.clap.specs.declared.builder.command.Command.TheViews.{out-Command}
-use Rattle.clap.specs.declared.builder.value_parser.ValueParser.{ValueParser}
 use Rattle.clap.specs.declared.error.Error.{Error}
 use Rattle.clap.specs.declared.parser.matches.ArgMatches.{ArgMatches}
 use Rattle.clap.specs.declared.parser.matches.ArgMatches.TheViews.{out-ArgMatches, out-SubCommand}
 use Rattle.clap.specs.declared.parser.matches.SubCommand.{SubCommand}
 use Rattle.clap.proofs.OnLiterals.{clap_on_literals}
 use Rattle.std.specs.Box.{box_value}
-use Rattle.command_line.specs.Line.{program}
+use Rattle.command_line.specs.Line.{Parsers, program}
 use Rattle.command_line.specs.Request.{Asks, IsAskedBy}
 use Rattle.command_line.specs.declared.request.Request.{Request}
 
@@ -23,13 +22,13 @@ text_is (Some x) default text is = rw (← is) refl
 text_is None default text is = rw (← is) refl
 
 -- clap's definitions speak of the program
-is_free : (modes : ValueParser) → is_simple_and_free (program modes) ≡ true
+is_free : (parsers : Parsers) → is_simple_and_free (program parsers) ≡ true
 unfolding clap_on_literals
-is_free modes = refl
+is_free parsers = refl
 
-simple : (modes : ValueParser) → is_simple (program modes) ≡ true
+simple : (parsers : Parsers) → is_simple (program parsers) ≡ true
 unfolding clap_on_literals
-simple modes = refl
+simple parsers = refl
 
 module _ {Z : Type 0} where
   -- a subcommand by its name and its rows
@@ -41,23 +40,23 @@ module _ {Z : Type 0} where
   entered (Some met) name rows named has = ap Some (ap₂ (λ (x : Text) (y : List Row). (x, y)) (same_Some _ _ named) (same_Some _ _ has))
 
 -- the program, as clap built it
-pub free_of : (command : Command) (modes : ValueParser) → app_of command ≡ program modes → is_simple_and_free (app_of command) ≡ true
-free_of command modes is = ap is_simple_and_free is ∙ is_free modes
+pub free_of : (command : Command) (parsers : Parsers) → app_of command ≡ program parsers → is_simple_and_free (app_of command) ≡ true
+free_of command parsers is = ap is_simple_and_free is ∙ is_free parsers
 
 -- an error of a parse is one of the faults of the words
-pub fails_by : {A : Type 0} (r : Result A Error) (words : List Text) (command : Command) (modes : ValueParser) (e y : Error) → app_of command ≡ program modes
-    → r ≡ Err y → y ≡ e → HasKind (fault_of (app_of command) words) e → FailsBy (fault_of (program modes) words) r
-fails_by r words command modes e y is fails same kind = rw (fails, same) (subst (λ (a : App). HasKind (fault_of a words) e) is kind)
+pub fails_by : {A : Type 0} (r : Result A Error) (words : List Text) (command : Command) (parsers : Parsers) (e y : Error) → app_of command ≡ program parsers
+    → r ≡ Err y → y ≡ e → HasKind (fault_of (app_of command) words) e → FailsBy (fault_of (program parsers) words) r
+fails_by r words command parsers e y is fails same kind = rw (fails, same) (subst (λ (a : App). HasKind (fault_of a words) e) is kind)
 
 -- the subcommand that was met is what the words name
-pub asked : (modes : ValueParser) (words : List Text) (command : Command) (matches : ArgMatches) (name : Text) (rows : List Row) (request : Request)
-    → app_of command ≡ program modes → HasMatchesOf (app_of command) words matches
+pub asked : (parsers : Parsers) (words : List Text) (command : Command) (matches : ArgMatches) (name : Text) (rows : List Row) (request : Request)
+    → app_of command ≡ program parsers → HasMatchesOf (app_of command) words matches
     → subcommand_name_of matches ≡ Some name
     → option_map (λ (p : Text × List Row). p.1) (subcommand_rows (out-ArgMatches matches).subcommand) ≡ Some rows
-    → Asks (name, rows) request → IsAskedBy modes words request
-asked modes words command matches name rows request is has named given asks =
-    let found : subcommand_of (program modes) words ≡ Some (name, rows) =
-    ap (λ (a : App). subcommand_of a words) (sym is) ∙ sym ((has (ap is_simple is ∙ simple modes)).1)
+    → Asks (name, rows) request → IsAskedBy parsers words request
+asked parsers words command matches name rows request is has named given asks =
+    let found : subcommand_of (program parsers) words ≡ Some (name, rows) =
+    ap (λ (a : App). subcommand_of a words) (sym is) ∙ sym ((has (ap is_simple is ∙ simple parsers)).1)
     ∙ entered (out-ArgMatches matches).subcommand name rows named given in
     rw found asks
 
@@ -65,8 +64,8 @@ pub not_both : (met : Bool) → false ≡ met → met ≡ true → ⊥
 not_both met lacks has = cc
 
 -- a command has to be given
-pub not_bare : (command : Command) (modes : ValueParser) (matches : ArgMatches) → app_of command ≡ program modes → (out-Command command).has_globals ≡ false
+pub not_bare : (command : Command) (parsers : Parsers) (matches : ArgMatches) → app_of command ≡ program parsers → (out-Command command).has_globals ≡ false
     → IsParsedFrom command matches → has_subcommand matches ≡ true
-not_bare command modes matches is local parsed =
+not_bare command parsers matches is local parsed =
     let required : (out-Command command).subcommand_required ≡ true = ap (λ (a : App). a.top.subcommand_required) is in
     (parsed.parsed (parsed.from.globals ∙ local)).checked.subcommand (parsed.from.needs_subcommand ∙ required)

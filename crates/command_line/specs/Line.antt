@@ -4,7 +4,8 @@ use Rattle.clap.specs.Words.{Rule, Text}
 use Rattle.clap.specs.Simple.{App, new_app, with_rule, with_subcommand}
 use Rattle.clap.specs.declared.builder.value_parser.ValueParser.{ValueParser}
 use Rattle.clap.specs.declared.builder.value_parser.ValueParser.TheVariants.{Names}
-use Rattle.command_line.specs.Numbers.{text_rule, number_rule, parts_taken, workers_taken, seats_taken, accept_taken, streams_taken, port_taken}
+use Rattle.command_line.specs.declared.names.TakenNames.{TakenNames}
+use Rattle.command_line.specs.Numbers.{text_rule, number_rule, parts_taken, workers_taken, seats_taken, accept_taken, idle_taken, streams_taken, port_taken}
 
 -- ---- options
 
@@ -28,6 +29,10 @@ table_rule = required_rule (text_rule (codes "table"))
 abbrev pub mode_rule : ValueParser → Rule
 mode_rule modes = required_rule (record (text_rule (codes "mode")) { parser = Some modes })
 
+-- `--format`, whose values a parser takes
+abbrev pub format_rule : ValueParser → Rule
+format_rule formats = record (text_rule (codes "format")) { parser = Some formats }
+
 -- the query, which has no name before it
 abbrev pub sql_rule : Rule
 sql_rule = required_rule (record (text_rule (codes "sql")) { long = None })
@@ -41,6 +46,23 @@ TakesNames taken _ = ⊥
 abbrev pub mode_names : List Text
 mode_names = codes "create" ∷ codes "append" ∷ codes "replace" ∷ []
 
+-- the names of the formats
+abbrev pub format_names : List Text
+format_names = codes "lines" ∷ codes "arrow" ∷ codes "csv" ∷ []
+
+-- the parsers of the options that take names
+pub record Parsers : Type 0 where
+  pub modes : ValueParser
+  pub formats : ValueParser
+
+-- each takes its own
+abbrev pub TakeNames : Parsers → Type 0
+TakeNames parsers = TakesNames mode_names parsers.modes × TakesNames format_names parsers.formats
+
+-- those of these names
+abbrev pub parsers_of : TakenNames → Parsers
+parsers_of names = record { modes = Names names.modes; formats = Names names.formats }
+
 -- ---- commands
 
 abbrev pub pipe : App
@@ -51,24 +73,26 @@ serve =
     let at = with_rule (new_app (codes "serve")) port_rule in
     let seats = with_rule at (number_rule (codes "seats") seats_taken) in
     let accept = with_rule seats (number_rule (codes "accept") accept_taken) in
-    with_rule (with_rule accept parts_rule) workers_rule
+    let idle = with_rule accept (number_rule (codes "idle") idle_taken) in
+    with_rule (with_rule idle parts_rule) workers_rule
 
 abbrev pub put : ValueParser → App
 put modes = with_rule (with_rule (with_rule (new_app (codes "put")) port_rule) table_rule) (mode_rule modes)
 
-abbrev pub query : App
-query =
+abbrev pub query : ValueParser → App
+query formats =
     let at = with_rule (new_app (codes "query")) port_rule in
-    with_rule (with_rule at (number_rule (codes "streams") streams_taken)) sql_rule
+    let formatted = with_rule at (format_rule formats) in
+    with_rule (with_rule formatted (number_rule (codes "streams") streams_taken)) sql_rule
 
 abbrev pub tables : App
 tables = with_rule (new_app (codes "tables")) port_rule
 
 -- the program, which has a version, and its commands, one of which has to be given
-abbrev pub program : ValueParser → App
-program modes =
+abbrev pub program : Parsers → App
+program parsers =
     let named = new_app (codes "flightscan") in
     let bare = record named { top = record named.top { has_version = true; subcommand_required = true } } in
     let served = with_subcommand (with_subcommand bare pipe.top) serve.top in
-    let putting = with_subcommand served (put modes).top in
-    with_subcommand (with_subcommand putting query.top) tables.top
+    let putting = with_subcommand served (put parsers.modes).top in
+    with_subcommand (with_subcommand putting (query parsers.formats).top) tables.top

@@ -20,6 +20,9 @@ seats_taken = record { least = 1; most = 32; default = 4 }
 abbrev pub accept_taken : Numbers
 accept_taken = record { least = 0; most = 65535; default = 0 }
 
+abbrev pub idle_taken : Numbers
+idle_taken = record { least = 0; most = 65535; default = 300 }
+
 abbrev pub streams_taken : Numbers
 streams_taken = record { least = 1; most = 16; default = 1 }
 

@@ -3,12 +3,13 @@ use Rattle.std.specs.Prelude.{◌≡◌, ◌≢◌, ◌≤◌, ℕ, List, [], Is
 use Rattle.std.specs.Str.{bytes_eq}
 use Rattle.clap.specs.Words.{Row, Text, first_of, one_of}
 use Rattle.clap.specs.Simple.{subcommand_of}
-use Rattle.clap.specs.declared.builder.value_parser.ValueParser.{ValueParser}
 use Rattle.scan_base.specs.declared.put_options.PutMode.{PutMode}
 use Rattle.scan_base.specs.declared.put_options.PutMode.TheVariants.{Create, Append, Replace}
-use Rattle.command_line.specs.Line.{program}
-use Rattle.command_line.specs.Numbers.{SaysNumber, parts_taken, workers_taken, seats_taken, accept_taken, streams_taken, port_taken}
+use Rattle.command_line.specs.Line.{Parsers, program}
+use Rattle.command_line.specs.Numbers.{SaysNumber, parts_taken, workers_taken, seats_taken, accept_taken, idle_taken, streams_taken, port_taken}
 use Rattle.command_line.specs.declared.number.Numbers.{Numbers}
+use Rattle.command_line.specs.declared.request.Format.{Format}
+use Rattle.command_line.specs.declared.request.Format.TheVariants.{Lines, Arrow, Csv}
 use Rattle.command_line.specs.declared.request.Serving.{Serving}
 use Rattle.command_line.specs.declared.request.Request.{Request}
 use Rattle.command_line.specs.declared.request.Request.TheVariants.{Pipe, Serve, Put, Query, Tables}
@@ -29,11 +30,19 @@ mode_named name =
     if bytes_eq name (codes "replace") then Replace else
     Create
 
+-- The format of a name, and lines where there is none. clap's definitions refuse every other name.
+abbrev pub format_named : Text → Format
+format_named name =
+    if bytes_eq name (codes "arrow") then Arrow else
+    if bytes_eq name (codes "csv") then Csv else
+    Lines
+
 -- how `serve` with these options serves
 pub record IsServing (rows : List Row) (serving : Serving) : Type 0 where
   pub port : IsGiven rows (codes "port") port_taken serving.port
   pub seats : IsGiven rows (codes "seats") seats_taken serving.seats
   pub accept : IsGiven rows (codes "accept") accept_taken serving.accept
+  pub idle : IsGiven rows (codes "idle") idle_taken serving.idle
   pub parts : IsGiven rows (codes "parts") parts_taken serving.parts
   pub workers : IsGiven rows (codes "workers") workers_taken serving.workers
 
@@ -47,11 +56,12 @@ Asks (name, rows) (Serve serving) = (name ≡ codes "serve") × IsServing rows s
 Asks (name, rows) (Put port table mode) =
     (name ≡ codes "put") × IsGiven rows (codes "port") port_taken port
     × (table.now ≡ text_given rows (codes "table")) × (mode ≡ mode_named (text_given rows (codes "mode")))
-Asks (name, rows) (Query port streams sql) =
+Asks (name, rows) (Query port format streams sql) =
     (name ≡ codes "query") × IsGiven rows (codes "port") port_taken port
+    × (format ≡ format_named (text_given rows (codes "format")))
     × IsGiven rows (codes "streams") streams_taken streams × (sql.now ≡ text_given rows (codes "sql"))
 Asks (name, rows) (Tables port) = (name ≡ codes "tables") × IsGiven rows (codes "port") port_taken port
 
 -- what the words ask for: they name a command
-abbrev pub IsAskedBy : ValueParser → List Text → Request → Type 0
-IsAskedBy modes words request = IsSomeAnd (subcommand_of (program modes) words) (λ entered. Asks entered request)
+abbrev pub IsAskedBy : Parsers → List Text → Request → Type 0
+IsAskedBy parsers words request = IsSomeAnd (subcommand_of (program parsers) words) (λ entered. Asks entered request)

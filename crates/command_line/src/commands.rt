@@ -6,7 +6,8 @@ ghost use Rattle.clap.specs.declared.builder.value_parser.ValueParser.TheVariant
 ghost use Rattle.clap.specs.Words.{AddsSubcommand, app_of, new_app, rule_of, with_rule};
 ghost use Rattle.command_line.specs.Line as line;
 
-use crate::number::{ACCEPT, PARTS, PORT, SEATS, STREAMS, WORKERS, number_option};
+use crate::names::TakenNames;
+use crate::number::{ACCEPT, IDLE, PARTS, PORT, SEATS, STREAMS, WORKERS, number_option};
 use clap::builder::ValueParser;
 use clap::{Arg, ArgAction, Command};
 use std::alloc::{AllocError, Global};
@@ -52,6 +53,21 @@ fn mode<'a>(alloc: Global, names: &'a [&'a str]) -> Arg<'a>
         .value_name("M")
         .help("create: the table must not be there; append: it must be; replace: it may be")
         .required(true)
+}
+
+// The option `--format`, of these names.
+fn format<'a>(alloc: Global, names: &'a [&'a str]) -> Arg<'a>
+    ensures rule { rule_of result ≡ line.format_rule (Names names.entry) }
+    ensures local { result.global ≡ false }
+{
+    Arg::new(alloc, "format")
+        .long("format")
+        .action(ArgAction::Set)
+        .value_parser(ValueParser::Names(names))
+        .value_name("F")
+        .help(
+            "lines: cells apart by tabs; arrow: an Arrow IPC stream; csv: as RFC 4180 [default: lines]",
+        )
 }
 
 // The option `--table`.
@@ -142,7 +158,12 @@ fn serve<'a>(alloc: Global) -> Result<Command<'a>, AllocError>
         number_option(alloc, "seats", SEATS, "S", many),
         number_option(alloc, "accept", ACCEPT, "A", end),
     )?;
-    with_two(seated, parts(alloc), workers(alloc))
+    let silence = "Ends a connection after so many seconds without news, 0: never [default: 300]";
+    let waiting = with_one(
+        seated,
+        number_option(alloc, "idle", IDLE, "SECONDS", silence),
+    )?;
+    with_two(waiting, parts(alloc), workers(alloc))
 }
 
 // `put`: an Arrow stream from standard input into a table, by a mode of these names.
@@ -157,18 +178,19 @@ fn put<'a>(alloc: Global, modes: &'a [&'a str]) -> Result<Command<'a>, AllocErro
     with_two(at_port, table(alloc), mode(alloc, modes))
 }
 
-// `query`: the rows of an answer.
-fn query<'a>(alloc: Global) -> Result<Command<'a>, AllocError>
-    ensures shape { IfOk result (λ command. app_of command ≡ line.query) }
+// `query`: the rows of an answer, in a format of these names.
+fn query<'a>(alloc: Global, formats: &'a [&'a str]) -> Result<Command<'a>, AllocError>
+    ensures shape { IfOk result (λ command. app_of command ≡ line.query (Names formats.entry)) }
     ensures local { IfOk result (λ command. (out-Command command).has_globals ≡ false) }
 {
-    let about = "Prints the rows that a query answers, in lines whose cells stand apart by tabs";
+    let about = "Prints the rows that a query answers";
     let example =
         "Example: flightscan query --port 4711 'SELECT town, COUNT(*) FROM trips GROUP BY town'";
     let many = "Connections that fetch, 1 to 16 [default: 1]";
-    let at_port = with_one(command(alloc, "query", about, example), port(alloc))?;
+    let bare = command(alloc, "query", about, example);
+    let formatted = with_two(bare, port(alloc), format(alloc, formats))?;
     let streams = number_option(alloc, "streams", STREAMS, "K", many);
-    with_two(at_port, streams, sql(alloc))
+    with_two(formatted, streams, sql(alloc))
 }
 
 // `tables`: the names of the tables.
@@ -191,13 +213,13 @@ fn with_below<'a>(
     command.subcommand(made?)
 }
 
-/// The program and its commands, one of which has to be given. It has a version. The modes of `put` have these names.
+/// The program and its commands, one of which has to be given. It has a version. Options take these names.
 ///
 /// # Errors
 ///
 /// `AllocError` where memory is refused.
-pub(crate) fn program<'a>(alloc: Global, modes: &'a [&'a str]) -> Result<Command<'a>, AllocError>
-    ensures shape { IfOk result (λ command. app_of command ≡ line.program (Names modes.entry)) }
+pub(crate) fn program<'a>(alloc: Global, names: TakenNames<'a>) -> Result<Command<'a>, AllocError>
+    ensures shape { IfOk result (λ command. app_of command ≡ line.program (line.parsers_of names.entry)) }
     ensures local { IfOk result (λ command. (out-Command command).has_globals ≡ false) }
 {
     let about = "Holds Arrow tables in memory, and scans them by SQL";
@@ -207,7 +229,7 @@ pub(crate) fn program<'a>(alloc: Global, modes: &'a [&'a str]) -> Result<Command
         .subcommand_required(true);
     let piping = with_below(bare, pipe(alloc))?;
     let serving = with_below(piping, serve(alloc))?;
-    let putting = with_below(serving, put(alloc, modes))?;
-    let asking = with_below(putting, query(alloc))?;
+    let putting = with_below(serving, put(alloc, names.modes))?;
+    let asking = with_below(putting, query(alloc, names.formats))?;
     with_below(asking, tables(alloc))
 }

@@ -44,6 +44,13 @@ pub(crate) const ACCEPT: Numbers = Numbers {
     default: 0,
 };
 
+/// How many seconds a connection may be without news from its client; 0 stands for ever.
+pub(crate) const IDLE: Numbers = Numbers {
+    least: 0,
+    most: 65_535,
+    default: 300,
+};
+
 /// Over how many connections `query` fetches.
 pub(crate) const STREAMS: Numbers = Numbers {
     least: 1,

@@ -3,10 +3,10 @@
 ghost use Rattle.std.specs.Prelude.{◌≡◌, codes};
 ghost use Rattle.clap.specs.Words.{found_of, rows_of};
 ghost use Rattle.command_line.specs.Numbers as taken;
-ghost use Rattle.command_line.specs.Request.{Asks, IsGiven, IsServing, mode_named, text_given};
+ghost use Rattle.command_line.specs.Request.{Asks, IsGiven, IsServing, format_named, mode_named, text_given};
 
-use crate::number::{ACCEPT, PARTS, PORT, SEATS, STREAMS, WORKERS, number_of};
-use crate::request::{Request, Serving};
+use crate::number::{ACCEPT, IDLE, PARTS, PORT, SEATS, STREAMS, WORKERS, number_of};
+use crate::request::{Format, Request, Serving};
 use clap::ArgMatches;
 use scan_base::PutMode;
 
@@ -38,6 +38,20 @@ fn mode_of(matches: &ArgMatches<'_>) -> PutMode
     }
 }
 
+// The format that is given, and lines where none is.
+fn format_of(matches: &ArgMatches<'_>) -> Format
+    ensures { result ≡ format_named (text_given (rows_of (found_of matches.now)) (codes "format")) }
+{
+    let name = text_of(matches, "format");
+    if name == "arrow" {
+        Format::Arrow
+    } else if name == "csv" {
+        Format::Csv
+    } else {
+        Format::Lines
+    }
+}
+
 // How `serve` is asked to serve.
 fn serving_of(matches: &ArgMatches<'_>) -> Serving
     ensures { IsServing (rows_of (found_of matches.now)) result }
@@ -46,6 +60,7 @@ fn serving_of(matches: &ArgMatches<'_>) -> Serving
         port: port_of(matches),
         seats: number_of(matches, "seats", SEATS),
         accept: number_of(matches, "accept", ACCEPT) as u16,
+        idle: number_of(matches, "idle", IDLE) as u16,
         parts: number_of(matches, "parts", PARTS),
         workers: number_of(matches, "workers", WORKERS),
     }
@@ -64,6 +79,7 @@ pub(crate) fn request_of<'a>(name: &str, matches: &ArgMatches<'a>) -> Request<'a
         },
         "query" => Request::Query {
             port: port_of(matches),
+            format: format_of(matches),
             streams: number_of(matches, "streams", STREAMS),
             sql: text_of(matches, "sql"),
         },

@@ -11,10 +11,23 @@ pub struct Serving {
     pub seats: u32,
     /// After so many the program ends; 0 stands for no end.
     pub accept: u16,
+    /// A connection ends where so many seconds nothing comes, or nothing of an answer is read; 0 stands for no end.
+    pub idle: u16,
     /// In so many parts the rows of a query may be fetched.
     pub parts: u32,
     /// So many workers one fetch may have.
     pub workers: u32,
+}
+
+/// How rows are printed.
+#[derive(Clone, Copy, Debug, PartialEq, Eq)]
+pub enum Format {
+    /// In lines whose cells stand apart by tabs.
+    Lines,
+    /// As an Arrow IPC stream.
+    Arrow,
+    /// As CSV.
+    Csv,
 }
 
 /// What the command line asks for. Texts are taken as they stand.
@@ -33,9 +46,10 @@ pub enum Request<'a> {
         table: &'a str,
         mode: PutMode,
     },
-    /// Prints the rows that a query answers, fetched over so many connections.
+    /// Prints the rows that a query answers in a format, fetched over so many connections.
     Query {
         port: u16,
+        format: Format,
         streams: u32,
         sql: &'a str,
     },

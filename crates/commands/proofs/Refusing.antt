@@ -1,18 +1,17 @@
 -- Words that are no request.
 use Rattle.std.proofs.Common.{◌≡◌, ◌⊎◌, List, Err, inl, inr}
 use Rattle.clap.specs.Words.{IsAmong, Text, fault_of}
-use Rattle.clap.specs.declared.builder.value_parser.ValueParser.{ValueParser}
 use Rattle.clap.specs.declared.error.kind.ErrorKind.{ErrorKind}
 use Rattle.clap.specs.declared.error.kind.ErrorKind.TheVariants.{OutOfMemory}
-use Rattle.command_line.specs.Line.{program}
+use Rattle.command_line.specs.Line.{Parsers, program}
 use Rattle.command_ends.specs.Printing.{Said}
 use Rattle.command_ends.specs.declared.exit_status.ExitStatus.{ExitStatus}
 use Rattle.commands.specs.Words.{AnswersKind, ReadsWords}
 
 -- an error of such a kind
-pub answered : (modes : ValueParser) (words : List Text) (found : ErrorKind) (status : ExitStatus) (out out' said said' : Said)
-    → (found ≡ OutOfMemory) ⊎ IsAmong found (fault_of (program modes) words) → AnswersKind found status out out' said said'
-    → ReadsWords modes words (Err status) out out' said said'
-answered modes words found status out out' said said' cause (inl lacks) = inl (lacks.1, lacks.2)
-answered modes words found status out out' said said' (inl memory) (inr ends) = absurd (ends.0 memory)
-answered modes words found status out out' said said' (inr among) (inr ends) = inr (found, among, ends.1)
+pub answered : (parsers : Parsers) (words : List Text) (found : ErrorKind) (status : ExitStatus) (out out' said said' : Said)
+    → (found ≡ OutOfMemory) ⊎ IsAmong found (fault_of (program parsers) words) → AnswersKind found status out out' said said'
+    → ReadsWords parsers words (Err status) out out' said said'
+answered parsers words found status out out' said said' cause (inl lacks) = inl (lacks.1, lacks.2)
+answered parsers words found status out out' said said' (inl memory) (inr ends) = absurd (ends.0 memory)
+answered parsers words found status out out' said said' (inr among) (inr ends) = inr (found, among, ends.1)

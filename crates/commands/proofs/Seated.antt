@@ -4,8 +4,7 @@ use Rattle.std.proofs.Common.{List, Option, Some, None}
 use Rattle.std.specs.Prelude.{IsSomeAnd}
 use Rattle.clap.specs.Words.{Row, Text}
 use Rattle.clap.specs.Simple.{subcommand_of}
-use Rattle.clap.specs.declared.builder.value_parser.ValueParser.{ValueParser}
-use Rattle.command_line.specs.Line.{program}
+use Rattle.command_line.specs.Line.{Parsers, program}
 use Rattle.command_line.specs.Request.{Asks, IsAskedBy}
 use Rattle.command_line.specs.declared.request.Request.{Request}
 use Rattle.command_line.specs.declared.request.Request.TheVariants.{Pipe, Serve, Put, Query, Tables}
@@ -16,8 +15,8 @@ asked_seats None request asked = absurd asked
 asked_seats (Some (name, rows)) (Pipe parts workers) asked = tt
 asked_seats (Some (name, rows)) (Serve serving) asked = (omega (arith, asked.1.seats.1), asked.1.seats.2)
 asked_seats (Some (name, rows)) (Put port table mode) asked = tt
-asked_seats (Some (name, rows)) (Query port streams sql) asked = tt
+asked_seats (Some (name, rows)) (Query port format streams sql) asked = tt
 asked_seats (Some (name, rows)) (Tables port) asked = tt
 
-pub has_seats : (modes : ValueParser) (words : List Text) (request : Request) → IsAskedBy modes words request → HasSeats request
-has_seats modes words request asked = asked_seats (subcommand_of (program modes) words) request asked
+pub has_seats : (parsers : Parsers) (words : List Text) (request : Request) → IsAskedBy parsers words request → HasSeats request
+has_seats parsers words request asked = asked_seats (subcommand_of (program parsers) words) request asked

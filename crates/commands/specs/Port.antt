@@ -24,13 +24,7 @@ options_of serving = record { parts = serving.parts; workers = serving.workers }
 
 -- what is asked for, at the port that the network gave
 abbrev pub at_port : ℕ → Serving → Serving
-at_port port serving = record {
-  port = port;
-  seats = serving.seats;
-  accept = serving.accept;
-  parts = serving.parts;
-  workers = serving.workers;
-}
+at_port port serving = record serving { port = port }
 
 -- it listens to the same port, and its seat has seen nothing
 abbrev pub IsFresh : {L : Type 0} → (L → Option L → Type 0) → L → Worker L → Type 0

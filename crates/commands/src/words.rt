@@ -3,8 +3,7 @@
 ghost use Rattle.std.specs.Prelude.{ℕ, List, IfOk, map, string_bytes};
 ghost use Rattle.grpc_frame.specs.Ends.{CanFail};
 ghost use Rattle.clap.specs.Words.{kind_of};
-ghost use Rattle.clap.specs.declared.builder.value_parser.ValueParser.{ValueParser};
-ghost use Rattle.command_line.specs.Line.{TakesNames, mode_names};
+ghost use Rattle.command_line.specs.Line.{Parsers, TakeNames};
 ghost use Rattle.command_ends.specs.Printing.{Prints, said_of};
 ghost use Rattle.commands.specs.Words.{AnswersKind, HasSeats, PrintsVersion, ReadsWords};
 
@@ -44,8 +43,8 @@ pub fn read_words<'a, W: Output, E: Output>(
     requires prints { CanFail (E.failures faults.old) }
 
     // The words are a request, and nothing is printed; or they are none, and what ends the program is.
-    ensures reads { (modes : ValueParser) × TakesNames mode_names modes
-        × ReadsWords modes (map string_bytes words.now) result
+    ensures reads { (parsers : Parsers) × TakeNames parsers
+        × ReadsWords parsers (map string_bytes words.now) result
         (said_of W.Output output.old) (said_of W.Output output.new)
         (said_of E.Output faults.old) (said_of E.Output faults.new) }
 

@@ -1,6 +1,6 @@
 //! Command lines, and what they ask for.
 
-use command_line::Request;
+use command_line::{Format, Request};
 use commands::words::read_words;
 use grpc_frame::MemoryOutput;
 use scan_base::PutMode;
@@ -20,7 +20,7 @@ fn words(alloc: Global, line: &str) -> Result<Vec<String>, AllocError> {
 }
 
 // Command lines that are refused, and the first words that are printed.
-static REFUSED: [(&'static str, &'static [u8]); 26] = [
+static REFUSED: [(&'static str, &'static [u8]); 27] = [
     ("", b"error: "),
     ("pipes", b"error: unrecognized subcommand 'pipes'"),
     ("pipe more", b"error: unexpected argument 'more' found"),
@@ -76,6 +76,10 @@ static REFUSED: [(&'static str, &'static [u8]); 26] = [
     (
         "query --port 1 --streams 0 x",
         b"error: invalid value '0' for '--streams <K>'",
+    ),
+    (
+        "query --port 1 --format xml x",
+        b"error: invalid value 'xml' for '--format <F>'",
     ),
     (
         "query --port 1 x y",
@@ -166,7 +170,19 @@ fn told(alloc: Global, request: Request<'_>) -> Result<String, AllocError> {
             };
             format!(in alloc; "put {port} {table} {mode}")
         }
-        Request::Query { port, streams, sql } => format!(in alloc; "query {port} {streams} {sql}"),
+        Request::Query {
+            port,
+            format,
+            streams,
+            sql,
+        } => {
+            let format = match format {
+                Format::Lines => "lines",
+                Format::Arrow => "arrow",
+                Format::Csv => "csv",
+            };
+            format!(in alloc; "query {port} {format} {streams} {sql}")
+        }
         Request::Tables { port } => format!(in alloc; "tables {port}"),
     }
 }
@@ -186,9 +202,15 @@ static TAKEN: [(&'static str, &'static str); 11] = [
         "put 1 create append",
     ),
     ("put --port=1 --table= --mode=replace", "put 1  replace"),
-    ("query --port 1 tables", "query 1 1 tables"),
-    ("query SELECT --streams 16 --port 1", "query 1 16 SELECT"),
-    ("query --port 1 -- --port", "query 1 1 --port"),
+    ("query --port 1 tables", "query 1 lines 1 tables"),
+    (
+        "query SELECT --streams 16 --port 1 --format=arrow",
+        "query 1 arrow 16 SELECT",
+    ),
+    (
+        "query --format csv --port 1 -- --port",
+        "query 1 csv 1 --port",
+    ),
     ("tables --port 4711", "tables 4711"),
 ];
 

@@ -1,5 +1,5 @@
 -- Payloads that are made ahead of a stream, and the rest of it.
-use Rattle.std.proofs.Common.{◌≡◌, ◌≤◌, ◌<◌, ◌+◌, ℕ, Bool, true, false, List, [], ◌∷◌, ◌++◌, length, map, drop, cond, Option, Some, None, Result, Ok, Err, inl, inr, refl, sym, ap, subst, ◌∙◌, length-append, arith}
+use Rattle.std.proofs.Common.{◌≡◌, ◌+◌, ℕ, Bool, true, false, List, [], ◌∷◌, ◌++◌, length, map, drop, cond, Option, Some, None, Result, Ok, Err, inl, inr, refl, sym, ap, subst, ◌∙◌, length-append, arith}
 use Rattle.std.specs.List.{list_any, filter}
 use Rattle.std.proofs.lemmas.List.{drop-drop, drop_at, length-drop}
 use Rattle.scan_base.specs.declared.fault.Fault.{Fault}
@@ -9,7 +9,7 @@ use Rattle.table_versions.proofs.Storable.{first_false, second_false}
 use Rattle.flight_info.specs.Payloads.{Payload}
 use Rattle.fetch_stream.specs.Streams.{StreamAt, Gives, GivesPayload, MayRefuse}
 use Rattle.fetch_stream.specs.declared.made.Made.{Made}
-use Rattle.fetch_stream.specs.inside.MadeAhead.{AreAhead, GivesMade, MakesNext, Stands, behind}
+use Rattle.fetch_stream.specs.inside.MadeAhead.{AreAhead, GivesMade, MakesNext, behind}
 use Rattle.fetch_stream.proofs.Answering.{ended}
 
 abbrev at_parts : Schema → Bool → List Row → ℕ → Option Fault → StreamAt

@@ -8,7 +8,7 @@ ghost use Rattle.fetch_stream.specs.inside.Given.{GivesBatch};
 use arrays::Batch;
 use arrow_schema::Schema;
 use scan_base::Fault;
-use scan_exec::Scan;
+use scan_exec::{GroupsBatches, Scan};
 use std::alloc::Global;
 
 // What gives the batches of an answer.
@@ -50,18 +50,22 @@ impl Source {
         }
     }
 
-    /// The next batch, of one row or more.
+    /// The next batch, of one row or more. The groups of a grouped query are made by the one that is handed in.
     ///
     /// # Errors
     ///
     /// F20 (`Fault::ResultTooLarge`) where the answer has more than 67,108,864 rows, and F21 (`Fault::OutOfMemory`) where
     /// memory is refused; and from then on.
-    pub(crate) fn next(&mut self, alloc: Global) -> Result<Option<Batch>, Fault>
+    pub(crate) fn next<G: GroupsBatches>(
+        &mut self,
+        alloc: Global,
+        by: &G,
+    ) -> Result<Option<Batch>, Fault>
         requires { IsSource self.old }
         ensures { GivesBatch self.old result self.new }
     {
         match self {
-            Source::Scanned(scan) => scan.next(alloc),
+            Source::Scanned(scan) => scan.next_by(alloc, by),
             Source::Listed(_) => Ok(None),
         }
     }

@@ -29,7 +29,7 @@ use arrow_schema::Schema;
 use endpoint_split::{Handle, Range};
 use flight_info::{Planned, plan_text, tables_batch, tables_schema};
 use scan_base::Fault;
-use scan_exec::Scan;
+use scan_exec::{GroupsBatches, InOneWalk, Scan};
 use std::alloc::{AllocError, Global};
 use std::marker::Model;
 use table_versions::{CatalogVersion, Snapshot};
@@ -231,11 +231,26 @@ impl FetchStream {
     pub fn next(&mut self, alloc: Global) -> Result<Option<Payload>, Fault>
         ensures { Gives self.old result self.new }
     {
+        self.next_by(alloc, &InOneWalk)
+    }
+
+    /// The same, where the groups of a grouped query are made by the one that is handed in, before the first payload of them.
+    ///
+    /// # Errors
+    ///
+    /// Those of `next`.
+    pub fn next_by<G: GroupsBatches>(
+        &mut self,
+        alloc: Global,
+        by: &G,
+    ) -> Result<Option<Payload>, Fault>
+        ensures { Gives self.old result self.new }
+    {
         if let Some(fault) = self.refused {
             return Err(fault);
         }
         let given = if self.begun {
-            next_rows(alloc, &mut self.cutter, &mut self.source)
+            next_rows(alloc, by, &mut self.cutter, &mut self.source)
         } else {
             first_payload(alloc, self.source.schema())
         };
@@ -256,7 +271,12 @@ fn first_payload(alloc: Global, schema: &Schema) -> Result<Option<Payload>, Faul
 }
 
 // Goes on to the next batch, where the last one was given whole. Whether a row is left.
-fn refill(alloc: Global, cutter: &mut Cutter, source: &mut Source) -> Result<bool, Fault>
+fn refill<G: GroupsBatches>(
+    alloc: Global,
+    by: &G,
+    cutter: &mut Cutter,
+    source: &mut Source,
+) -> Result<bool, Fault>
     requires { IsGoing cutter.old source.old }
     ensures { Refills cutter.old source.old result cutter.new source.new }
 {
@@ -264,7 +284,7 @@ fn refill(alloc: Global, cutter: &mut Cutter, source: &mut Source) -> Result<boo
     if cutter.at < cutter.batch.rows() {
         return Ok(true);
     }
-    let Some(batch) = source.next(alloc)? else {
+    let Some(batch) = source.next(alloc, by)? else {
         return Ok(false);
     };
     *cutter = Cutter::new(batch);
@@ -272,8 +292,9 @@ fn refill(alloc: Global, cutter: &mut Cutter, source: &mut Source) -> Result<boo
 }
 
 // The payload of the next rows.
-fn next_rows(
+fn next_rows<G: GroupsBatches>(
     alloc: Global,
+    by: &G,
     cutter: &mut Cutter,
     source: &mut Source,
 ) -> Result<Option<Payload>, Fault>
@@ -281,7 +302,7 @@ fn next_rows(
     ensures { GivesRows cutter.old source.old result cutter.new source.new }
 {
     batch_slices_keep_rows();
-    if !refill(alloc, cutter, source)? {
+    if !refill(alloc, by, cutter, source)? {
         return Ok(None);
     }
     Ok(Some(cutter.next(alloc)?))

@@ -111,7 +111,7 @@ gathered_more table (s ∷ ss) =
     gathered_more (record table { rows = table.rows ++ s.rows }) ss ∙ ap (λ (rows : Rows). fine (record table { rows = rows })) (append_assoc table.rows s.rows (rows_in_all ss))
 
 -- the schema of a stream stands in what is known
-knows : (stream : StreamAt) (schema : Schema) → schema_said stream ≡ Ok schema → (known : Known) × (stream.state ≡ Some known) × (known.schema ≡ schema)
+pub knows : (stream : StreamAt) (schema : Schema) → schema_said stream ≡ Ok schema → (known : Known) × (stream.state ≡ Some known) × (known.schema ≡ schema)
 knows stream schema e =
     let a = both (ending stream.end) (λ (done : Unit {0}). (wanted stream.state BadBatch >>= λ known. fine known.schema)) schema e in
     let b = both (wanted stream.state BadBatch) (λ (known : Known). fine known.schema) schema a.2 in

@@ -5,6 +5,7 @@ ghost use Rattle.scan_base.specs.Reading.{Gives, GivesUnlessMemory, RefusesFirst
 ghost use Rattle.arrow_schema.specs.declared.schema.Schema.{Schema};
 ghost use Rattle.flight_client.specs.Join.{Answer, AreOf, joined, schema_of_all, rows_together};
 ghost use Rattle.flight_client.specs.inside.Gathered.{gathered};
+ghost use Rattle.flight_client.specs.inside.Typed.{FitRows};
 
 use crate::rows::Rows;
 use crate::stream::Stream;
@@ -31,8 +32,9 @@ fn schema_of_all(streams: &[Stream]) -> Result<&Schema, Fault>
     Ok(schema)
 }
 
-// The rows of streams, one stream's behind another's, behind the schema of the first.
+// The rows of streams, one stream's behind another's, behind the schema of the first, whose columns all have.
 fn gather(streams: Vec<Stream>) -> Result<Rows, Fault>
+    requires { FitRows None streams.items }
     ensures { GivesUnlessMemory (λ rows. rows) result (gathered None streams.items) }
 {
     let mut rows = None;

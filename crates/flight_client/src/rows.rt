@@ -1,10 +1,13 @@
 //! The rows of an answer.
 
-ghost use Rattle.std.specs.Prelude.{◌≡◌};
+ghost use Rattle.std.specs.Prelude.{◌≡◌, All};
 ghost use Rattle.std.specs.List.{flat_map};
 ghost use Rattle.scan_base.specs.Reading.{GivesUnlessMemory};
 ghost use Rattle.arrays.specs.Batch.{rows_of};
+ghost use Rattle.arrays.specs.Typed.{AreOfTypes};
+ghost use Rattle.arrow_schema.specs.Schema.{IsSchema};
 ghost use Rattle.flight_client.specs.inside.Gathered.{gathered_with};
+ghost use Rattle.flight_client.specs.inside.Typed.{FitsRows};
 
 use crate::stream::Stream;
 use arrays::Batch;
@@ -22,24 +25,30 @@ pub struct Rows {
 impl Model for Rows {
     ghost use Rattle.std.specs.List.{flat_map};
     ghost use Rattle.arrays.specs.Batch.{rows_of};
+    ghost use Rattle.arrow_schema.specs.Schema.{IsSchema};
     ghost use Rattle.table_versions.specs.Table.{Table};
+    ghost use Rattle.flight_client.specs.inside.Typed.{HaveColumns};
 
     ghost Value = { Table };
 
     ghost view = { λ r. record { schema = r.schema; rows = flat_map rows_of r.batches.items } };
+
+    ghost invariant = { λ r. IsSchema r.schema × HaveColumns r.schema r.batches.items };
 }
 
 impl Rows {
-    /// The columns.
+    /// The columns, which may be written.
     pub fn schema(&self) -> &Schema
-        ensures { result.now ≡ self.now.schema }
+        ensures schema { result.now ≡ self.now.schema }
+        ensures valid { IsSchema result.now }
     {
         &self.schema
     }
 
-    /// The batches: the rows of each, in order, are all rows.
+    /// The batches: the rows of each, in order, are all rows. Each has a column for each column of the schema, of its type.
     pub fn batches(&self) -> &[Batch]
-        ensures { flat_map rows_of result.now ≡ self.now.rows }
+        ensures rows { flat_map rows_of result.now ≡ self.now.rows }
+        ensures typed { All (λ batch. AreOfTypes self.now.schema.fields batch.columns) result.now }
     {
         self.batches.as_slice()
     }
@@ -47,6 +56,7 @@ impl Rows {
     // The rows of streams before this one, and behind them its own. The first stream gives the schema. The batches
     // are moved.
     pub(crate) fn with(rows: Option<Rows>, stream: Stream) -> Result<Rows, Fault>
+        requires { FitsRows rows stream }
         ensures { GivesUnlessMemory (λ rows. rows) result (gathered_with rows stream) }
     {
         let Stream {

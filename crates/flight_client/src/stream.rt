@@ -28,6 +28,7 @@ impl Model for Stream {
     ghost use Rattle.std.specs.List.{flat_map};
     ghost use Rattle.arrays.specs.Batch.{rows_of};
     ghost use Rattle.flight_client.specs.Stream.{StreamAt};
+    ghost use Rattle.flight_client.specs.inside.Typed.{AreTyped};
 
     ghost Value = { StreamAt };
 
@@ -36,6 +37,8 @@ impl Model for Stream {
       rows = flat_map rows_of s.batches.items;
       end = s.end;
     } };
+
+    ghost invariant = { λ s. AreTyped s.reader s.batches.items };
 }
 
 impl Stream {

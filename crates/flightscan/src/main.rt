@@ -15,11 +15,13 @@ use commands::arguments::refuse_arguments;
 use commands::pipe::pipe;
 use commands::serve::{Host, serve};
 use commands::words::read_words;
-use flight_calls::{OneWorker, Options, Setting};
+use fetch_workers::Workers;
+use flight_calls::{Options, Setting};
 use grpc_frame::{Counted, Input, Output};
 use hash_seed::HashSeed;
 use loopback::{Loopback, Port};
 use scan_base::Fault;
+use std::fs::{File, Files};
 use std::io::ErrorKind;
 use std::net::{Net, TcpListener, TcpStream};
 use std::process::ExitCode;
@@ -52,13 +54,19 @@ where
         Request::Serve(serving) => {
             let alloc = rt.alloc();
             let host = Host { rt, alloc, seed };
-            serve(host, &mut Port::new(rt), output, faults, serving)
+            serve(
+                host,
+                &mut Port::new(rt, serving.idle),
+                output,
+                faults,
+                serving,
+            )
         }
         Request::Pipe { parts, workers } => {
             let workers = workers as usize;
             let setting = Setting {
                 alloc: rt.alloc(),
-                executor: &OneWorker,
+                executor: &Workers::new(rt),
                 options: Options { parts, workers },
             };
             pipe(&setting, seed, input, output, faults)
@@ -90,8 +98,18 @@ where
             let putting = Putting { port, target };
             put(rt.alloc(), &mut network, input, output, faults, putting)
         }
-        Request::Query { port, streams, sql } => {
-            let querying = Querying { port, streams, sql };
+        Request::Query {
+            port,
+            format,
+            streams,
+            sql,
+        } => {
+            let querying = Querying {
+                port,
+                streams,
+                sql,
+                format,
+            };
             query(rt, rt.alloc(), &mut network, output, faults, querying)
         }
         Request::Tables { port } => tables(rt.alloc(), &mut network, output, faults, port),
@@ -99,7 +117,14 @@ where
     }
 }
 
+// The null device, where it can be opened. A file takes the least number that is free.
+fn null_device<R: Files>(files: &R) -> Option<R::File> {
+    File::open(files, "/dev/null").ok()
+}
+
 fn main(rt: HostRuntime) -> ExitCode {
+    // Where standard input, output or error is closed, one of these has its number, and no socket does.
+    let _standard = (null_device(&rt), null_device(&rt), null_device(&rt));
     let alloc = rt.alloc();
     let mut output = Counted::new(rt.stdout());
     let mut faults = Counted::new(rt.stderr());

@@ -86,8 +86,23 @@ impl Span {
         ensures place { result ≡ place_among self.now number }
         ensures within { result ≤ self.now.count }
     {
-        place_from(number, i128::from(self.least), self.count)
+        match i64::try_from(number) {
+            Ok(near) => near_place(near, self.least, self.count),
+            Err(_) => place_from(number, i128::from(self.least), self.count),
+        }
     }
+}
+
+// The place of a number of 64 bits among so many from the least on; behind the last of them where it is none of them. It
+// takes no step in 128 bits.
+fn near_place(number: i64, least: i64, count: usize) -> usize
+    ensures place { result ≡ index_among (number -ℤ least) count }
+    ensures within { result ≤ count }
+{
+    if number < least {
+        return count;
+    }
+    (number.abs_diff(least) as usize).min(count)
 }
 
 // The place of a number among so many from the least on; behind the last of them where it is none of them.

@@ -1,6 +1,7 @@
 -- Texts that are short, of fewer values too.
-use Rattle.std.proofs.Common.{◌≡◌, ◌≤◌, ◌<◌, ℕ, ◌+◌, List, length, map, take, ap, ◌∙◌, arith, length-take, subst, below_more}
+use Rattle.std.proofs.Common.{◌≡◌, ◌≤◌, ◌<◌, ℕ, ◌+◌, All, List, [], length, map, take, get_or, ap, sym, ◌∙◌, arith, length-take, subst}
 use Rattle.std.proofs.lemmas.List.{length-map, take-map, take-take}
+use Rattle.std.proofs.lemmas.List.Elements.{All-nil, All-push, All-weaker}
 use Rattle.scan_base.specs.declared.value.Value.{Value}
 use Rattle.scan_base.specs.Predicate.{cell_in}
 use Rattle.array_select.specs.declared.of_slots.SlotRef.{SlotRef}
@@ -12,6 +13,7 @@ use Rattle.join_batches.specs.declared.sides.Sides.{Sides}
 use Rattle.join_batches.specs.Rows.{pair_row}
 use Rattle.join_batches.specs.Sides.{HoldCells, rows_at, cells_of, FitsIn, AllFit}
 use Rattle.join_batches.proofs.Cells.{held_values, held_long}
+use Rattle.join_batches.proofs.Typed.{taken_more}
 
 -- the cells of fewer rows
 first_cells : (sides : Sides) (pairs : List Pair) (number n : ℕ) →
@@ -26,9 +28,9 @@ taken sides pairs number n count h =
     first_cells sides (take count pairs) number n ∙ ap (λ (some : List Pair). cells_of (rows_at sides some) number) (take-take n count pairs h)
 
 -- one column more, which may leave fewer rows
-pub fit_more : (sides : Sides) (pairs : List Pair) (number count fewer : ℕ) → AllFit sides pairs number count →
-    FitsIn sides (take count pairs) number fewer → AllFit sides pairs (number + 1) fewer
-fit_more sides pairs number count fewer fit fits =
+pub fit_more : (sides : Sides) (pairs : List Pair) (shown : List ℕ) (i number count fewer : ℕ) → i < length shown → number ≡ get_or shown i 0 →
+    AllFit sides pairs (take i shown) count → FitsIn sides (take count pairs) number fewer → AllFit sides pairs (take (i + 1) shown) fewer
+fit_more sides pairs shown i number count fewer low is fit fits =
     let size = length-take count pairs in
     let within = fits.within in
     let less : fewer ≤ count = omega (arith, within, size) in
@@ -36,9 +38,12 @@ fit_more sides pairs number count fewer fit fits =
     record {
       some = fits.some;
       within = omega (arith, less, few);
-      short = below_more (λ k. AreShort (cells_of (rows_at sides (take fewer pairs)) k)) number
-          (λ k h. subst AreShort (taken sides pairs k fewer count less) (shorter fewer (cells_of (rows_at sides (take count pairs)) k) (fit.short k h)))
-          (subst (λ (some : List Pair). AreShort (cells_of (rows_at sides some) number)) (take-take fewer count pairs less) fits.short);
+      short = subst (All (λ k. AreShort (cells_of (rows_at sides (take fewer pairs)) k))) (sym (taken_more shown i number low is))
+          (All-push (λ k. AreShort (cells_of (rows_at sides (take fewer pairs)) k)) (take i shown) number
+          (All-weaker (λ k. AreShort (cells_of (rows_at sides (take count pairs)) k)) (λ k. AreShort (cells_of (rows_at sides (take fewer pairs)) k))
+          (λ k short. subst AreShort (taken sides pairs k fewer count less) (shorter fewer (cells_of (rows_at sides (take count pairs)) k) short))
+          (take i shown) fit.short)
+          (subst (λ (some : List Pair). AreShort (cells_of (rows_at sides some) number)) (take-take fewer count pairs less) fits.short));
     }
 
 -- what fits of slots fits of the rows whose cells they have
@@ -53,5 +58,5 @@ fits_in sides pairs slots number count hold fits =
     }
 
 -- of no column all do
-pub none_fit : (sides : Sides) (pairs : List Pair) → 0 < length pairs → AllFit sides pairs 0 (length pairs)
-none_fit sides pairs some = record { some = some; within = omega arith; short = λ k h. absurd (omega (arith, h)) }
+pub none_fit : (sides : Sides) (pairs : List Pair) → 0 < length pairs → AllFit sides pairs [] (length pairs)
+none_fit sides pairs some = record { some = some; within = omega arith; short = All-nil (λ (k : ℕ). AreShort (cells_of (rows_at sides (take (length pairs) pairs)) k)) }

@@ -1,10 +1,12 @@
 -- The joined rows of a left batch, batch by batch.
-use Rattle.std.specs.Prelude.{◌≡◌, ◌≤◌, ◌<◌, ℕ, All, List, [], ◌++◌, map, Option, Some, None, Result, Ok, Err}
+use Rattle.std.specs.Prelude.{◌≡◌, ◌≤◌, ◌<◌, ℕ, All, List, [], ◌++◌, length, map, slice_get, unwrap_or, Option, Some, None, Result, Ok, Err}
 use Rattle.std.specs.List.{filter, flat_map}
 use Rattle.std.specs.declared.alloc.AllocError.{AllocError}
 use Rattle.arrow_schema.specs.declared.data_type.DataType.{DataType}
+use Rattle.arrow_schema.specs.declared.data_type.DataType.TheVariants.{Utf8}
 use Rattle.arrow_schema.specs.Answer.{answer_type}
 use Rattle.scan_base.specs.declared.value.Value.{Value}
+use Rattle.scan_base.specs.Predicate.{cell_in}
 use Rattle.arrays.specs.Batch.{BatchAt, rows_of}
 use Rattle.arrays.specs.Column.{ColumnAt}
 use Rattle.arrays.specs.Typed.{AreOf}
@@ -35,6 +37,14 @@ joined_of joiner lefts = flat_map (joined_with joiner) lefts
 abbrev pub joined_types : JoinerAt → List DataType
 joined_types joiner = map answer_type (joiner.left_types ++ joiner.right_types)
 
+-- the type of a column of joined rows
+abbrev pub joined_type : JoinerAt → ℕ → DataType
+joined_type joiner number = unwrap_or (slice_get (joined_types joiner) number) Utf8
+
+-- the cells of these columns
+abbrev pub shown_cells : List ℕ → List Value → List Value
+shown_cells shown row = map (cell_in row) shown
+
 -- a batch has the next joined rows, one or more, and short texts
 pub record GivesJoined (before : JoinerAt) (batch : BatchAt) (after : JoinerAt) : Type 0 where
   pub next : before.ahead ≡ rows_of batch ++ after.ahead
@@ -49,3 +59,21 @@ abbrev pub JoinsNext : JoinerAt → Result (Option BatchAt) AllocError → Joine
 JoinsNext before (Ok (Some batch)) after = GivesJoined before batch after
 JoinsNext before (Ok None) after = (before.ahead ≡ []) × (after ≡ before)
 JoinsNext before (Err _) after = after ≡ before
+
+-- a batch has these columns of the next joined rows, one or more, and short texts
+pub record GivesShown (before : JoinerAt) (shown : List ℕ) (batch : BatchAt) (after : JoinerAt) : Type 0 where
+  pub rows : List (List Value)
+  pub next : before.ahead ≡ rows ++ after.ahead
+  pub wide : All (λ (row : List Value). length row ≡ length (joined_types before)) rows
+  pub cells : rows_of batch ≡ map (shown_cells shown) rows
+  pub some : 0 < batch.rows
+  pub few : batch.rows ≤ most_batch_rows
+  pub typed : AreOf (map (joined_type before) shown) batch.columns
+  pub light : 1 < batch.rows → All (λ (column : ColumnAt). text_bytes_of column ≤ most_column_bytes) batch.columns
+  pub on : after ≡ record before { ahead = after.ahead }
+
+-- These columns of the next joined rows, or none where no row is left. Where memory is refused the same rows come next.
+abbrev pub JoinsShown : JoinerAt → List ℕ → Result (Option BatchAt) AllocError → JoinerAt → Type 0
+JoinsShown before shown (Ok (Some batch)) after = GivesShown before shown batch after
+JoinsShown before shown (Ok None) after = (before.ahead ≡ []) × (after ≡ before)
+JoinsShown before shown (Err _) after = after ≡ before

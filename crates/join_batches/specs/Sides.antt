@@ -18,6 +18,7 @@ use Rattle.array_select.specs.Room.{most_column_bytes, text_bytes_of}
 use Rattle.hash_join.specs.declared.pair.Pair.{Pair}
 use Rattle.join_batches.specs.declared.placed.Placed.{Placed}
 use Rattle.join_batches.specs.declared.sides.Sides.{Sides}
+use Rattle.join_batches.specs.Joiner.{shown_cells}
 use Rattle.join_batches.specs.Rows.{pair_row, IsPair}
 
 -- the types of a joined row's cells, as they come
@@ -84,21 +85,30 @@ pub record FitsIn (sides : Sides) (pairs : List Pair) (number count : ℕ) : Typ
   pub within : count ≤ length pairs
   pub short : AreShort (cells_of (rows_at sides (take count pairs)) number)
 
--- the texts of the first columns of so many rows are short
-pub record AllFit (sides : Sides) (pairs : List Pair) (columns count : ℕ) : Type 0 where
+-- the texts of these columns of so many rows are short
+pub record AllFit (sides : Sides) (pairs : List Pair) (shown : List ℕ) (count : ℕ) : Type 0 where
   pub some : 0 < count
   pub within : count ≤ length pairs
-  pub short : (number : ℕ) → number < columns → AreShort (cells_of (rows_at sides (take count pairs)) number)
+  pub short : All (λ number. AreShort (cells_of (rows_at sides (take count pairs)) number)) shown
 
 -- a column is that of rows
 pub record IsColumnOf (rows : List (List Value)) (number : ℕ) (column : ColumnAt) : Type 0 where
   pub values : values_of column ≡ cells_of rows number
   pub long : column.len ≡ length rows
 
--- a batch has the rows of the first of these pairs
-pub record IsBatchOf (sides : Sides) (pairs : List Pair) (batch : BatchAt) : Type 0 where
+-- the type of a column of joined rows
+abbrev pub answered_at : Sides → ℕ → DataType
+answered_at sides number = answer_type (get_or (types_of sides) number Utf8)
+
+-- the columns are there
+abbrev pub AreWithin : Sides → List ℕ → Type 0
+AreWithin sides shown = All (λ number. number < width_of sides) shown
+
+-- a batch has these columns of the rows of the first of these pairs
+pub record IsBatchOf (sides : Sides) (shown : List ℕ) (pairs : List Pair) (batch : BatchAt) : Type 0 where
   pub some : 0 < batch.rows
   pub few : batch.rows ≤ length pairs
-  pub rows_are : rows_of batch ≡ rows_at sides (take batch.rows pairs)
-  pub typed : AreOf (map answer_type (types_of sides)) batch.columns
+  pub wide : All (λ (row : List Value). length row ≡ width_of sides) (rows_at sides (take batch.rows pairs))
+  pub rows_are : rows_of batch ≡ map (shown_cells shown) (rows_at sides (take batch.rows pairs))
+  pub typed : AreOf (map (answered_at sides) shown) batch.columns
   pub light : 1 < batch.rows → All (λ (column : ColumnAt). text_bytes_of column ≤ most_column_bytes) batch.columns

@@ -2,14 +2,14 @@
 
 ghost use Rattle.std.specs.Prelude.{◌≡◌, ◌≤◌, ◌<◌, ◌++◌, [], All, IfOk, IsTrue, OnErr, length, nat_lt};
 ghost use Rattle.std.specs.Arc.{arc_value};
-ghost use Rattle.std.specs.List.{list_all, flat_map};
+ghost use Rattle.std.specs.List.{list_all, flat_map, range_with_len};
 ghost use Rattle.scan_base.specs.Limits.{most_rows};
 ghost use Rattle.arrays.specs.Batch.{BatchAt, rows_of};
 ghost use Rattle.arrays.specs.Typed.{AreOf};
 ghost use Rattle.hash_join.specs.Pairs.{places, pairs_ahead};
 ghost use Rattle.array_select.specs.Room.{most_batch_rows};
 ghost use Rattle.join_batches.specs.Built.{AreBuilt, unfed};
-ghost use Rattle.join_batches.specs.Joiner.{JoinsNext, joined_of};
+ghost use Rattle.join_batches.specs.Joiner.{JoinsNext, JoinsShown, joined_of, joined_types};
 ghost use Rattle.join_batches.specs.Rows.{IsPair};
 
 use crate::sides::Sides;
@@ -140,6 +140,14 @@ impl Joiner {
         Ok(Joiner::unfed(alloc, Arc::try_clone(&self.sides)?))
     }
 
+    // How many columns the joined rows have.
+    fn width(&self) -> usize
+        ensures { result ≡ length (joined_types self.now) }
+    {
+        let built: &BuiltSides = &self.sides;
+        built.left.types.len() + built.right_types.len()
+    }
+
     // The join of these sides, where no left batch is there yet.
     fn unfed(alloc: Global, sides: Arc<BuiltSides>) -> Joiner
         requires { AreBuilt (arc_value sides) }
@@ -177,6 +185,26 @@ impl Joiner {
     pub fn next(&mut self, alloc: Global) -> Result<Option<Batch>, AllocError>
         ensures { JoinsNext self.old result self.new }
     {
+        let all = numbers_below(alloc, self.width())?;
+        self.next_shown(alloc, all.as_slice())
+    }
+
+    /// These columns of the next joined rows of the left batch, by their numbers, as a batch: one row or more, no more than
+    /// 65,536, whose texts have no more than 16 MB in a column where it is more than one. No other column is gathered.
+    /// `None` where no row is left.
+    ///
+    /// # Errors
+    ///
+    /// `AllocError` where memory is refused, or where one text has so many bytes that no offset names the last: 2 to the 31
+    /// or more. The same rows come next.
+    pub fn next_shown(
+        &mut self,
+        alloc: Global,
+        shown: &[usize],
+    ) -> Result<Option<Batch>, AllocError>
+        requires { IsTrue (list_all (λ number. nat_lt number (length (joined_types self.old))) shown.now) }
+        ensures { JoinsShown self.old shown.now result self.new }
+    {
         if self.given == self.pairs.len() {
             let built: &BuiltSides = &self.sides;
             let left = LeftSide {
@@ -197,10 +225,21 @@ impl Joiner {
             rights: built.build.batches(),
             right_types: built.right_types.as_slice(),
         };
-        let joined = sides.joined(alloc, pairs)?;
+        let joined = sides.joined(alloc, shown, pairs)?;
         self.given += joined.rows();
         Ok(Some(joined))
     }
+}
+
+// The numbers from 0 up to, not with, `count`.
+fn numbers_below(alloc: Global, count: usize) -> Result<Vec<usize>, AllocError>
+    ensures { IfOk result (λ numbers. numbers.items ≡ range_with_len 0 count) }
+{
+    let mut numbers = Vec::with_capacity(alloc, count)?;
+    for number in 0..count {
+        numbers.push(number)?;
+    }
+    Ok(numbers)
 }
 
 // The next pairs of a left batch that are to be found: none where the batch has no row.

@@ -1,12 +1,12 @@
 //! The rows that pairs stand for, as columns.
 
-ghost use Rattle.std.specs.Prelude.{◌≡◌, ◌<◌, ◌+◌, ℕ, All, IfOk, length, map, slice_index_or, true};
-ghost use Rattle.std.specs.List.{AllZip, range_with_len};
+ghost use Rattle.std.specs.Prelude.{◌≡◌, ◌<◌, ◌+◌, All, IfOk, length, map, slice_index_or, true};
+ghost use Rattle.std.specs.List.{AllZip};
 ghost use Rattle.arrow_schema.specs.Answer.{answer_type};
 ghost use Rattle.arrays.specs.Typed.{AreOf, IsOfType};
 ghost use Rattle.array_select.specs.Fitting.{AreShort};
 ghost use Rattle.join_batches.specs.Sides.{AllFit, AreSides, ArePairs, ArePlaced, AreSources, HoldCells, place_for};
-ghost use Rattle.join_batches.specs.Sides.{FitsIn, IsBatchOf, IsColumnOf, cells_of, rows_at, types_of, width_of};
+ghost use Rattle.join_batches.specs.Sides.{AreWithin, FitsIn, IsBatchOf, IsColumnOf, answered_at, cells_of, rows_at, types_of, width_of};
 
 use crate::placed::{Placed, left_places, right_places};
 use array_select::{
@@ -28,12 +28,18 @@ pub(crate) struct Sides<'a> {
 }
 
 impl<'a> Sides<'a> {
-    // The joined rows of pairs, from the first on, as a batch: as many as have room in one.
-    pub(crate) fn joined(&self, alloc: Global, pairs: &[Pair]) -> Result<Batch, AllocError>
+    // These columns of the joined rows of pairs, from the first on, as a batch: as many rows as have room in one.
+    pub(crate) fn joined(
+        &self,
+        alloc: Global,
+        shown: &[usize],
+        pairs: &[Pair],
+    ) -> Result<Batch, AllocError>
         requires sides { AreSides self.now }
+        requires shown { AreWithin self.now shown.now }
         requires there { ArePairs self.now pairs.now }
         requires some { 0 < length pairs.now }
-        ensures { IfOk result (λ batch. IsBatchOf self.now pairs.now batch) }
+        ensures { IfOk result (λ batch. IsBatchOf self.now shown.now pairs.now batch) }
     {
         let lefts = left_places(alloc, pairs)?;
         let rights = right_places(alloc, pairs)?;
@@ -42,22 +48,28 @@ impl<'a> Sides<'a> {
             lefts: lefts.as_slice(),
             rights: rights.as_slice(),
         };
-        let count = self.how_many_fit(alloc, &placed)?;
-        let columns = self.columns(alloc, &placed.first(count))?;
+        let count = self.how_many_fit(alloc, shown, &placed)?;
+        let columns = self.columns(alloc, shown, &placed.first(count))?;
         Ok(Batch::new(columns, count))
     }
 
-    // How many of the pairs, from the first on, have room in one batch.
-    fn how_many_fit(&self, alloc: Global, placed: &Placed<'_>) -> Result<usize, AllocError>
+    // How many of the pairs, from the first on, have room in one batch of these columns.
+    fn how_many_fit(
+        &self,
+        alloc: Global,
+        shown: &[usize],
+        placed: &Placed<'_>,
+    ) -> Result<usize, AllocError>
         requires sides { AreSides self.now }
+        requires shown { AreWithin self.now shown.now }
         requires placed { ArePlaced placed.now }
         requires there { ArePairs self.now placed.now.pairs.now }
         requires some { 0 < length placed.now.pairs.now }
-        ensures { IfOk result (λ count. AllFit self.now placed.now.pairs.now (width_of self.now) count) }
+        ensures { IfOk result (λ count. AllFit self.now placed.now.pairs.now shown.now count) }
     {
         let mut count = placed.pairs.len();
-        for number in 0..self.width() {
-            count = self.how_many_fit_in(alloc, number, &placed.first(count))?;
+        for number in shown {
+            count = self.how_many_fit_in(alloc, *number, &placed.first(count))?;
         }
         Ok(count)
     }
@@ -102,19 +114,25 @@ impl<'a> Sides<'a> {
         Ok(texts_fit_many(columns.as_slice(), places, MOST_COLUMN_BYTES))
     }
 
-    // The columns of the joined rows.
-    fn columns(&self, alloc: Global, placed: &Placed<'_>) -> Result<Vec<Column>, AllocError>
+    // These columns of the joined rows.
+    fn columns(
+        &self,
+        alloc: Global,
+        shown: &[usize],
+        placed: &Placed<'_>,
+    ) -> Result<Vec<Column>, AllocError>
         requires sides { AreSides self.now }
+        requires shown { AreWithin self.now shown.now }
         requires placed { ArePlaced placed.now }
         requires there { ArePairs self.now placed.now.pairs.now }
-        requires short { (number : ℕ) → number < width_of self.now → AreShort (cells_of (rows_at self.now placed.now.pairs.now) number) }
+        requires short { All (λ number. AreShort (cells_of (rows_at self.now placed.now.pairs.now) number)) shown.now }
         ensures cells { IfOk result
-            (λ columns. AllZip (IsColumnOf (rows_at self.now placed.now.pairs.now)) (range_with_len 0 (width_of self.now)) columns.items) }
-        ensures typed { IfOk result (λ columns. AreOf (map answer_type (types_of self.now)) columns.items) }
+            (λ columns. AllZip (IsColumnOf (rows_at self.now placed.now.pairs.now)) shown.now columns.items) }
+        ensures typed { IfOk result (λ columns. AreOf (map (answered_at self.now) shown.now) columns.items) }
     {
-        let mut columns = Vec::with_capacity(alloc, self.width())?;
-        for number in 0..self.width() {
-            let column = self.column(alloc, number, placed)?;
+        let mut columns = Vec::with_capacity(alloc, shown.len())?;
+        for number in shown {
+            let column = self.column(alloc, *number, placed)?;
             columns.push(column)?;
         }
         Ok(columns)
@@ -224,13 +242,6 @@ impl<'a> Sides<'a> {
         } else {
             placed.rights
         }
-    }
-
-    // How many columns the joined rows have.
-    fn width(&self) -> usize
-        ensures { result ≡ width_of self.now }
-    {
-        self.left_types.len() + self.right_types.len()
     }
 
     // The type of a column's slots.

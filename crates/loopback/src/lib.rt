@@ -8,6 +8,7 @@ use grpc_frame::Counted;
 use std::io;
 use std::io::ErrorKind;
 use std::net::{Ipv4Addr, Net, TcpListener, TcpStream};
+use std::time::Duration;
 
 /// Connects to servers of this machine.
 #[derive(Drop)]
@@ -39,12 +40,23 @@ impl<R: Net<Listener = TcpListener, Stream = TcpStream>> Connect for Loopback<'_
 pub struct Port<'a, R> {
     rt: &'a R,
     listener: Option<TcpListener>,
+    // A read or a write of a connection fails after so long without a byte; `None` is never.
+    patience: Option<Duration>,
 }
 
 impl<'a, R> Port<'a, R> {
-    /// By the sockets of this runtime. No port is listened to yet.
-    pub fn new(rt: &'a R) -> Port<'a, R> {
-        Port { rt, listener: None }
+    /// By the sockets of this runtime. No port is listened to yet. A read or a write of a connection fails where so many seconds
+    /// no byte comes or goes; 0 stands for no end.
+    pub fn new(rt: &'a R, idle: u16) -> Port<'a, R> {
+        let patience = match idle {
+            0 => None,
+            seconds => Some(Duration::from_secs(u64::from(seconds))),
+        };
+        Port {
+            rt,
+            listener: None,
+            patience,
+        }
     }
 }
 
@@ -73,6 +85,7 @@ impl<R: Net<Listener = TcpListener, Stream = TcpStream>> Listen for Port<'_, R> 
         Ok(Port {
             rt: self.rt,
             listener: Some(listener.try_clone()?),
+            patience: self.patience,
         })
     }
 
@@ -81,6 +94,8 @@ impl<R: Net<Listener = TcpListener, Stream = TcpStream>> Listen for Port<'_, R> 
             return Err(io::Error::from(ErrorKind::NotConnected));
         };
         let (stream, _) = listener.accept()?;
+        stream.set_read_timeout(self.patience)?;
+        stream.set_write_timeout(self.patience)?;
         ends_of(stream)
     }
 }

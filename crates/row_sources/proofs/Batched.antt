@@ -1,5 +1,5 @@
 -- The rows of a range, batch by batch.
-use Rattle.std.proofs.Common.{◌≡◌, ◌≤◌, ◌<◌, ℕ, zero, suc, ◌+◌, ◌-◌, List, [], ◌∷◌, ◌++◌, length, map, take, drop, max, min, append_assoc, slice_get, Some, refl, sym, ap, ◌∙◌, arith, length-append, length-drop, length-take, length-take-le, zip, take-add, drop-drop}
+use Rattle.std.proofs.Common.{◌≡◌, ◌≤◌, ◌<◌, ℕ, zero, suc, ◌+◌, ◌-◌, List, [], ◌∷◌, ◌++◌, length, map, take, drop, min, append_assoc, slice_get, Some, refl, sym, ap, ◌∙◌, arith, length-append, length-drop, length-take, length-take-le, zip, take-add, drop-drop}
 use Rattle.std.specs.List.{flat_map, range_with_len}
 use Rattle.std.proofs.lemmas.List.{take-append-drop, drop_all, length-map, map-append}
 use Rattle.arrays.specs.Batch.{BatchAt, rows_of}
@@ -8,7 +8,7 @@ use Rattle.table_versions.specs.Table.{Row}
 use Rattle.table_versions.proofs.Places.{split_at}
 use Rattle.table_versions.proofs.Rowing.{length-rows_of, rows-cons}
 use Rattle.typed_plan.specs.Joined.{rows_between}
-use Rattle.row_sources.specs.Parts.{parts, numbered_parts, numbered_rows}
+use Rattle.row_sources.specs.Parts.{parts, numbered_rows}
 use Rattle.array_select.specs.Room.{most_batch_rows}
 
 take_none : {X : Type 0} (n : ℕ) (xs : List X) → xs ≡ [] → take n xs ≡ []

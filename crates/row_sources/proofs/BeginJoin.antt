@@ -1,11 +1,11 @@
 -- What gives joined rows, before the first one.
-use Rattle.std.proofs.Common.{◌≡◌, ◌≤◌, ◌<◌, ℕ, zero, suc, ◌+◌, Bool, true, false, ◌&&◌, cond, All, List, [], ◌∷◌, ◌++◌, length, map, nat_lt, drop, slice_get, unwrap_or, Option, Some, None, refl, sym, ap, ◌∙◌, subst, arith, append_assoc, length-append, ◌⊎◌, inl, inr, get_or, take}
+use Rattle.std.proofs.Common.{◌≡◌, ◌≤◌, ◌<◌, ℕ, suc, ◌+◌, Bool, true, false, ◌&&◌, cond, All, List, [], ◌∷◌, ◌++◌, length, map, nat_lt, unwrap_or, Option, refl, sym, ap, ◌∙◌, subst, arith, length-append, inl, get_or, take}
 use Rattle.std.specs.Prelude.{◌-◌, not}
 use Rattle.std.specs.List.{filter, flat_map, list_all, range_with_len, zip}
 use Rattle.std.proofs.lemmas.Bool.{and_parts, ltb-true, ltb-false, lt-ltb}
 use Rattle.std.proofs.lemmas.Grind.{flat_map-append}
 use Rattle.std.proofs.lemmas.List.{length-map, map-append}
-use Rattle.std.proofs.lemmas.List.Elements.{filter-append, All-append, All-filter, All-map, All-nil}
+use Rattle.std.proofs.lemmas.List.Elements.{All-append, All-filter, All-map, All-nil}
 use Rattle.std.proofs.lemmas.List.FromFn.{length-map-range_with_len}
 use Rattle.arrow_schema.specs.Answer.{answer_type}
 use Rattle.arrow_schema.specs.declared.data_type.DataType.{DataType}
@@ -21,14 +21,14 @@ use Rattle.scan_base.specs.Predicate.{cell_in}
 use Rattle.scan_base.specs.Truth.{keeps}
 use Rattle.table_versions.specs.Table.{Row}
 use Rattle.shared_pages.proofs.Lists.{slice_get-append_left, slice_get-append_right}
-use Rattle.table_versions.proofs.Rowing.{length-rows_of, rows-cons}
+use Rattle.table_versions.proofs.Rowing.{rows-cons}
 use Rattle.typed_plan.specs.declared.plan.JoinKey.{JoinKey}
 use Rattle.typed_plan.specs.Plan.{fits, joined_rows}
 use Rattle.typed_plan.specs.Typed.{spans, type_at}
 use Rattle.row_sources.specs.Joining.{CanJoin, JoinsRows, numbered_fits, HasKeys, IsSides, all_joined, joiner_with}
 use Rattle.row_sources.specs.Joined.{IsJoined, joined_at, numbered_joined}
 use Rattle.row_sources.specs.Picking.{IsPick, PickAt, given_numbered}
-use Rattle.row_sources.specs.Running.{RowsAt, picked_of}
+use Rattle.row_sources.specs.Running.{RowsAt}
 use Rattle.row_sources.proofs.BeginPick.{all_given, all_types, all_within, given_wide, pick_with}
 use Rattle.row_sources.specs.Collected.{plain_rows}
 use Rattle.row_sources.specs.Parts.{numbered_rows}

@@ -1,6 +1,6 @@
 -- What gives the rows of a join of plans.
-use Rattle.std.proofs.Common.{◌≡◌, ◌≤◌, ◌<◌, ℕ, zero, suc, ◌+◌, Bool, true, false, ◌&&◌, All, List, [], ◌∷◌, ◌++◌, length, map, nat_lt, drop, slice_get, Option, Some, None, Result, Ok, Err, refl, sym, ap, ◌∙◌, subst, arith, length-append, length-drop, cond}
-use Rattle.std.specs.Prelude.{◌-◌, IsTrue}
+use Rattle.std.proofs.Common.{◌≡◌, ◌≤◌, ◌<◌, ℕ, zero, suc, ◌+◌, Bool, true, false, List, [], ◌∷◌, ◌++◌, length, map, nat_lt, drop, slice_get, Option, Some, None, Result, Ok, Err, refl, sym, ap, ◌∙◌, subst, arith, length-append, length-drop, cond}
+use Rattle.std.specs.Prelude.{◌-◌}
 use Rattle.std.specs.List.{filter, flat_map, list_all, range_with_len, zip}
 use Rattle.std.proofs.lemmas.Bool.{lt-ltb}
 use Rattle.std.proofs.lemmas.List.{drop_all, length-map, map-append, take_all}
@@ -29,7 +29,7 @@ use Rattle.typed_plan.proofs.TypedNames.{then_none}
 use Rattle.row_sources.specs.Joining.{CanJoin, JoinsRows, numbered_fits}
 use Rattle.row_sources.specs.Begun.{IsBegun, tree_given}
 use Rattle.row_sources.specs.Collected.{plain_rows}
-use Rattle.row_sources.specs.Parts.{first_batches, numbered_parts, parts, numbered_rows}
+use Rattle.row_sources.specs.Parts.{numbered_parts, parts, numbered_rows}
 use Rattle.rewrite.specs.Places.{first_rows, rows_over}
 use Rattle.row_sources.specs.Running.{RowsAt}
 use Rattle.row_sources.proofs.BeginJoin.{fits_over}

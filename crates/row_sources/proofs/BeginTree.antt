@@ -1,5 +1,5 @@
 -- What gives the rows of a table, and of a filter.
-use Rattle.std.proofs.Common.{◌≡◌, ◌≤◌, ◌<◌, ℕ, suc, ◌+◌, Bool, true, false, All, List, [], ◌∷◌, ◌++◌, length, map, max, min, nat_lt, refl, sym, ap, ◌∙◌, subst, arith, get_or, take, option_map, unwrap_or, Option}
+use Rattle.std.proofs.Common.{◌≡◌, ◌<◌, ℕ, ◌+◌, true, All, List, [], ◌∷◌, ◌++◌, length, map, max, min, nat_lt, refl, sym, ap, ◌∙◌, subst, arith, get_or, take, option_map, unwrap_or, Option}
 use Rattle.std.specs.Prelude.{IsTrue}
 use Rattle.std.proofs.lemmas.List.{map-append, take_more, length-map}
 use Rattle.std.proofs.lemmas.Option.{slice_get-map, slice_get_read}
@@ -8,7 +8,7 @@ use Rattle.scan_base.specs.declared.predicate.Predicate.{Predicate}
 use Rattle.scan_base.specs.View.{pred_of}
 use Rattle.row_sources.proofs.Cells.{within_at}
 use Rattle.opened_batches.specs.Chosen.{are_within}
-use Rattle.std.specs.List.{filter, flat_map, range_with_len, zip}
+use Rattle.std.specs.List.{filter, flat_map, range_with_len}
 use Rattle.std.proofs.lemmas.List.Elements.{All-push}
 use Rattle.arrow_schema.specs.Answer.{answer_type}
 use Rattle.arrow_schema.specs.declared.data_type.DataType.{DataType}
@@ -16,18 +16,18 @@ use Rattle.arrow_schema.specs.declared.schema.Field.{Field}
 use Rattle.arrays.specs.Batch.{BatchAt, rows_of}
 use Rattle.arrays.specs.Typed.{AreOfTypes}
 use Rattle.scan_base.specs.Predicate.{Pred, names_only}
-use Rattle.table_versions.specs.Stored.{TableAt, table_of}
+use Rattle.table_versions.specs.Stored.{TableAt}
 use Rattle.table_versions.specs.Table.{Name, Row}
 use Rattle.typed_plan.specs.declared.plan.Columns.{Columns}
-use Rattle.typed_plan.specs.Plan.{Tree, scan, filtered, taken, is_true}
-use Rattle.typed_plan.specs.Typed.{has_columns, type_at, types_of, tree_types, types_taken}
+use Rattle.typed_plan.specs.Plan.{Tree, scan, filtered, is_true}
+use Rattle.typed_plan.specs.Typed.{has_columns, type_at, types_of, tree_types}
 use Rattle.row_sources.specs.declared.cursor.Cursor.{Cursor}
 use Rattle.row_sources.specs.Begun.{IsBegun, tree_given}
 use Rattle.row_sources.specs.Chosen.{numbers_at}
 use Rattle.rewrite.specs.Places.{rows_over}
 use Rattle.row_sources.specs.Parts.{first_batches, further_rows, numbered_parts}
 use Rattle.opened_batches.specs.Opened.{batches_in}
-use Rattle.row_sources.specs.Picking.{PickAt, IsPick, given_numbered}
+use Rattle.row_sources.specs.Picking.{IsPick, given_numbered}
 use Rattle.row_sources.specs.Placed.{Begins, rows_ahead}
 use Rattle.row_sources.specs.Running.{RowsAt, picked_of}
 use Rattle.row_sources.proofs.Batched.{numbered_from}

@@ -1,22 +1,22 @@
 -- Steps of a join: a joined batch, and a left batch.
-use Rattle.std.proofs.Common.{◌≡◌, ◌≤◌, ◌<◌, ◌⊎◌, inl, inr, ℕ, suc, ◌+◌, ◌-◌, List, [], ◌∷◌, ◌++◌, length, map, take, Option, Some, None, refl, sym, ap, ◌∙◌, subst, arith, append_assoc, length-append, length-take}
-use Rattle.std.specs.List.{flat_map, last_or, range_with_len}
+use Rattle.std.proofs.Common.{◌≡◌, ◌≤◌, ◌<◌, ◌⊎◌, inl, inr, ℕ, suc, ◌+◌, ◌-◌, List, [], ◌∷◌, ◌++◌, length, map, take, Some, None, refl, sym, ap, ◌∙◌, subst, arith, append_assoc, length-append, length-take}
+use Rattle.std.specs.List.{last_or, range_with_len}
 use Rattle.std.proofs.lemmas.Grind.{flat_map-append}
 use Rattle.std.proofs.lemmas.List.{map-append, length-map, take-take}
 use Rattle.std.proofs.lemmas.List.FromFn.{length-range_with_len}
-use Rattle.std.proofs.lemmas.Simd.{map-map}
 use Rattle.arrow_schema.specs.declared.data_type.DataType.{DataType}
 use Rattle.arrays.specs.Batch.{BatchAt, row_of, rows_of, cut_batch}
 use Rattle.arrays.specs.Column.{ColumnAt}
 use Rattle.arrays.specs.Typed.{AreOf}
-use Rattle.join_batches.specs.Joiner.{JoinerAt, joined_with, joined_of, joined_types, GivesJoined}
+use Rattle.join_batches.specs.Joiner.{JoinerAt, joined_with, joined_of, joined_types, GivesJoined, GivesShown}
 use Rattle.table_versions.specs.Table.{Row}
 use Rattle.table_versions.proofs.Rowing.{length-rows_of}
 use Rattle.row_sources.specs.declared.piece.Piece.{Piece}
 use Rattle.row_sources.specs.Joined.{numbered_joined, joined_at, IsJoined}
-use Rattle.row_sources.specs.Picking.{PickAt, given_numbered}
+use Rattle.row_sources.specs.Picking.{PickAt, cells_at, given_numbered}
 use Rattle.row_sources.specs.Picked.{given, given_of_part, IsPicked}
 use Rattle.row_sources.specs.Running.{RowsAt, GoesOn, FindsPiece, Ends, picked_of}
+use Rattle.row_sources.proofs.Giving.{filter-all}
 use Rattle.row_sources.proofs.Piecing.{passed, next_is, given_few}
 use Rattle.row_sources.proofs.Selecting.{cuts_have, rows_there}
 use Rattle.row_sources.specs.declared.part.Part.{Part}
@@ -61,30 +61,53 @@ as_many (data_type ∷ types) (column ∷ columns) typed = ap suc (as_many types
 abbrev pub with_ahead : JoinerAt → List Row → JoinerAt
 with_ahead joiner rows = record joiner { ahead = rows }
 
-module _ (left : RowsAt) (joiner : JoinerAt) (number : ℕ) (batch : BatchAt) (after : JoinerAt) (gives : GivesJoined joiner batch after) where
-  -- its rows are the next ones
-  pub batch_next : (joined_at left joiner number).ahead ≡ map (λ row. (number, row)) (rows_of batch) ++ (joined_at left after number).ahead
-  batch_next =
+-- the next joined rows, one or more
+pub record Takes (joiner : JoinerAt) (rows : List Row) (after : JoinerAt) : Type 0 where
+  pub next : joiner.ahead ≡ rows ++ after.ahead
+  pub some : 0 < length rows
+  pub on : after ≡ with_ahead joiner after.ahead
+
+pub takes_joined : (joiner : JoinerAt) (batch : BatchAt) (after : JoinerAt) → GivesJoined joiner batch after → Takes joiner (rows_of batch) after
+takes_joined joiner batch after gives = record {
+  next = gives.next;
+  some = let size = length-rows_of batch in omega (arith, size, gives.some);
+  on = gives.on;
+}
+
+takes_shown : (joiner : JoinerAt) (shown : List ℕ) (batch : BatchAt) (after : JoinerAt) → (gives : GivesShown joiner shown batch after) → Takes joiner gives.rows after
+takes_shown joiner shown batch after gives = record {
+  next = gives.next;
+  some =
+      let size = length-rows_of batch in
+      let long = ap length gives.cells in
+      let same = length-map gives.rows (cells_at shown) in
+      omega (arith, size, long, same, gives.some);
+  on = gives.on;
+}
+
+module _ (left : RowsAt) (joiner : JoinerAt) (number : ℕ) (rows : List Row) (after : JoinerAt) (takes : Takes joiner rows after) where
+  -- they are the next ones
+  rows_next : (joined_at left joiner number).ahead ≡ map (λ row. (number, row)) rows ++ (joined_at left after number).ahead
+  rows_next =
       let with_number : List Row → List (ℕ × Row) = λ rows. map (λ row. (number, row)) rows in
       let rest = numbered_joined joiner left.ahead in
-      ap (λ (rows : List Row). with_number rows ++ rest) gives.next
-      ∙ ap (λ (rows : List (ℕ × Row)). rows ++ rest) (map-append (λ row. (number, row)) (rows_of batch) after.ahead)
-      ∙ append_assoc (with_number (rows_of batch)) (with_number after.ahead) rest
-      ∙ ap (λ (j : JoinerAt). with_number (rows_of batch) ++ (with_number after.ahead ++ numbered_joined j left.ahead)) (sym gives.on)
+      ap (λ (rows : List Row). with_number rows ++ rest) takes.next
+      ∙ ap (λ (rows : List (ℕ × Row)). rows ++ rest) (map-append (λ row. (number, row)) rows after.ahead)
+      ∙ append_assoc (with_number rows) (with_number after.ahead) rest
+      ∙ ap (λ (j : JoinerAt). with_number rows ++ (with_number after.ahead ++ numbered_joined j left.ahead)) (sym takes.on)
 
   -- fewer joined rows are to come
-  pub batch_fewer : length (joined_at left after number).ahead < length (joined_at left joiner number).ahead
-  batch_fewer =
-      let long = ap length (batch_next) in
-      let both = length-append (map (λ row. (number, row)) (rows_of batch)) (joined_at left after number).ahead in
-      let size = length-map {B = ℕ × Row} (rows_of batch) (λ (row : Row). (number, row)) in
-      let rows = length-rows_of batch in
-      omega (arith, long, both, size, rows, gives.some)
+  rows_fewer : length (joined_at left after number).ahead < length (joined_at left joiner number).ahead
+  rows_fewer =
+      let long = ap length (rows_next) in
+      let both = length-append (map (λ row. (number, row)) rows) (joined_at left after number).ahead in
+      let size = length-map {B = ℕ × Row} rows (λ (row : Row). (number, row)) in
+      omega (arith, long, both, size, takes.some)
 
   -- nothing else is changed
-  pub batch_on : take (length left.opened) left.batches ≡ left.opened → GoesOn (joined_at left joiner number) (joined_at left after number)
-  batch_on front = record {
-    types = ap joined_types gives.on;
+  rows_on : take (length left.opened) left.batches ≡ left.opened → GoesOn (joined_at left joiner number) (joined_at left after number)
+  rows_on front = record {
+    types = ap joined_types takes.on;
     batches = refl;
     depth = refl;
     opening = take_same left.opened;
@@ -95,19 +118,40 @@ module _ (left : RowsAt) (joiner : JoinerAt) (number : ℕ) (batch : BatchAt) (a
       take_same [] = refl
       take_same (x ∷ xs) = ap (λ rest. x ∷ rest) (take_same xs)
 
-  pub still_joined : IsJoined left joiner number → IsJoined left after number
-  still_joined is = record {
-    typed = is.typed ∙ sym (ap (λ (j : JoinerAt). j.left_types) gives.on);
+  -- they come of the batch that was opened last
+  rows_latest : (joiner.ahead ≡ []) ⊎ (last_or None left.opened ≡ Some number) → last_or None left.opened ≡ Some number
+  rows_latest (inr latest) = latest
+  rows_latest (inl none) =
+      let long = length-append rows after.ahead in
+      absurd (omega (arith, long, takes.some, ap length (sym takes.next ∙ none)))
+
+  rows_joined : IsJoined left joiner number → IsJoined left after number
+  rows_joined is = record {
+    typed = is.typed ∙ sym (ap (λ (j : JoinerAt). j.left_types) takes.on);
     front = is.front;
-    latest = inr (of_last is.latest);
+    latest = inr (rows_latest is.latest);
   }
-    where
-      of_last : (joiner.ahead ≡ []) ⊎ (last_or None left.opened ≡ Some number) → last_or None left.opened ≡ Some number
-      of_last (inr latest) = latest
-      of_last (inl none) =
-          let long = length-append (rows_of batch) after.ahead in
-          let size = length-rows_of batch in
-          absurd (omega (arith, long, size, gives.some, ap length (sym gives.next ∙ none)))
+
+module _ (left : RowsAt) (joiner : JoinerAt) (number : ℕ) (batch : BatchAt) (after : JoinerAt) (gives : GivesJoined joiner batch after) where
+  -- its rows are the next ones
+  pub batch_next : (joined_at left joiner number).ahead ≡ map (λ row. (number, row)) (rows_of batch) ++ (joined_at left after number).ahead
+  batch_next = rows_next left joiner number (rows_of batch) after (takes_joined joiner batch after gives)
+
+  pub batch_fewer : length (joined_at left after number).ahead < length (joined_at left joiner number).ahead
+  batch_fewer = rows_fewer left joiner number (rows_of batch) after (takes_joined joiner batch after gives)
+
+  pub batch_on : take (length left.opened) left.batches ≡ left.opened → GoesOn (joined_at left joiner number) (joined_at left after number)
+  batch_on front = rows_on left joiner number (rows_of batch) after (takes_joined joiner batch after gives) front
+
+  pub still_joined : IsJoined left joiner number → IsJoined left after number
+  still_joined is = rows_joined left joiner number (rows_of batch) after (takes_joined joiner batch after gives) is
+
+  pub batch_latest : (joiner.ahead ≡ []) ⊎ (last_or None left.opened ≡ Some number) → last_or None left.opened ≡ Some number
+  batch_latest latest = rows_latest left joiner number (rows_of batch) after (takes_joined joiner batch after gives) latest
+
+pub shown_joined : (left : RowsAt) (joiner : JoinerAt) (number : ℕ) (shown : List ℕ) (batch : BatchAt) (after : JoinerAt) → GivesShown joiner shown batch after →
+    IsJoined left joiner number → IsJoined left after number
+shown_joined left joiner number shown batch after gives is = rows_joined left joiner number gives.rows after (takes_shown joiner shown batch after gives) is
 
 -- ---- a left batch
 
@@ -236,17 +280,31 @@ module _ (pick : PickAt) (first left : RowsAt) (joiner : JoinerAt) (number : ℕ
       record {
         next = same ∙ next_is pick (joined_at left joiner number).ahead (joined_at left after number).ahead number (rows_of batch) picked
             (batch_next left joiner number batch after gives) (done.rows ∙ part_is);
-        latest = latest_of is.latest;
+        latest = batch_latest left joiner number batch after gives is.latest;
         some = done.some;
         few = omega (arith, long, size, fewer, ap length (done.rows ∙ part_is), gives.few);
         typed = subst (λ (types : List DataType). AreOf (map (type_at types) pick.shown) picked.columns) on.types
             (done.typed (joined_types joiner) (subst (λ (b : BatchAt). AreOf (joined_types joiner) b.columns) (sym of) gives.typed));
         on = picks_on pick first (joined_at left after number) (batch_goes first left joiner number batch after gives on is);
       }
-    where
-      latest_of : (joiner.ahead ≡ []) ⊎ (last_or None left.opened ≡ Some number) → last_or None left.opened ≡ Some number
-      latest_of (inr latest) = latest
-      latest_of (inl none) =
-          let long = length-append (rows_of batch) after.ahead in
-          let size = length-rows_of batch in
-          absurd (omega (arith, long, size, gives.some, ap length (sym gives.next ∙ none)))
+
+-- the shown columns of joined rows, where there is no filter
+all_given : (pick : PickAt) (rows : List Row) → pick.filters ≡ [] → given pick rows ≡ map (cells_at pick.shown) rows
+all_given pick rows none = ap (map (cells_at pick.shown)) (rw none (filter-all rows))
+
+pub shown_found : (pick : PickAt) (first left : RowsAt) (joiner : JoinerAt) (number : ℕ) (batch : BatchAt) (after : JoinerAt) →
+    GivesShown joiner pick.shown batch after → GoesOn first (joined_at left joiner number) →
+    given_numbered pick first.ahead ≡ given_numbered pick (joined_at left joiner number).ahead → IsJoined left joiner number → pick.filters ≡ [] →
+    FindsPiece (picked_of pick first) (record { batch = batch; number = number }) (picked_of pick (joined_at left after number))
+shown_found pick first left joiner number batch after gives on same is none =
+    let takes = takes_shown joiner pick.shown batch after gives in
+    record {
+      next = same ∙ next_is pick (joined_at left joiner number).ahead (joined_at left after number).ahead number gives.rows batch
+          (rows_next left joiner number gives.rows after takes) (gives.cells ∙ sym (all_given pick gives.rows none));
+      latest = rows_latest left joiner number gives.rows after takes is.latest;
+      some = gives.some;
+      few = gives.few;
+      typed = subst (λ (types : List DataType). AreOf (map (type_at types) pick.shown) batch.columns) on.types gives.typed;
+      on = picks_on pick first (joined_at left after number)
+          (on_and_on first (joined_at left joiner number) (joined_at left after number) on (rows_on left joiner number gives.rows after takes is.front));
+    }

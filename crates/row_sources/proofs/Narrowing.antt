@@ -1,17 +1,15 @@
 -- What holds of a table holds of some of its batches alone.
-use Rattle.std.proofs.Common.{◌≡◌, ◌≤◌, ◌<◌, ◌⊎◌, inl, inr, ℕ, zero, suc, ◌+◌, Bool, true, false, ◌&&◌, All, List, [], ◌∷◌, ◌++◌, length, nat_lt, get_or, slice_get, Option, Some, None, refl, sym, ap, ◌∙◌, subst, arith, length-append}
-use Rattle.std.specs.Prelude.{IsTrue}
+use Rattle.std.proofs.Common.{◌≡◌, ◌<◌, ℕ, zero, suc, Bool, true, false, All, List, [], ◌∷◌, ◌++◌, length, nat_lt, get_or, slice_get, Option, Some, None, refl, sym, ap, ◌∙◌, subst, arith}
 use Rattle.std.specs.List.{flat_map, list_all, list_any}
 use Rattle.std.specs.Option.{option_to_list}
 use Rattle.std.proofs.lemmas.Bool.{and_parts, and_from, ltb-true}
 use Rattle.std.proofs.lemmas.List.Elements.{All-nil, All-cons, All-head, All-tail}
-use Rattle.std.proofs.lemmas.List.Folds.{list_any-append, list_any_none}
-use Rattle.std.proofs.lemmas.Option.{slice_get_within}
+use Rattle.std.proofs.lemmas.List.Folds.{list_any-append}
 use Rattle.arrays.specs.Batch.{BatchAt, rows_of}
 use Rattle.arrays.specs.Typed.{AreOfTypes}
-use Rattle.table_versions.specs.Kept.{IsKept, AreSound, IsStorable, Stands}
+use Rattle.table_versions.specs.Kept.{IsKept, Stands}
 use Rattle.table_versions.proofs.Storable.{first_false, second_false}
-use Rattle.table_versions.specs.Stored.{TableAt, table_of, has_rows}
+use Rattle.table_versions.specs.Stored.{TableAt, has_rows}
 use Rattle.table_versions.specs.Table.{Row, has_bad_null, is_long_text}
 use Rattle.opened_batches.specs.Chosen.{are_within}
 use Rattle.opened_batches.specs.Narrow.{CanNarrow, batches_at, narrowed}

@@ -1,8 +1,8 @@
 -- The rows of one batch of the first place, through filters and joins.
-use Rattle.std.proofs.Common.{◌≡◌, ◌⊎◌, inl, inr, ℕ, ◌+◌, Bool, true, false, List, [], ◌∷◌, ◌++◌, map, Some, None, refl, sym, ap, ◌∙◌}
-use Rattle.std.specs.List.{filter, flat_map, last_or}
+use Rattle.std.proofs.Common.{◌≡◌, ◌⊎◌, inl, inr, ℕ, true, false, List, [], ◌∷◌, ◌++◌, map, Some, None, refl, sym, ap, ◌∙◌}
+use Rattle.std.specs.List.{flat_map, last_or}
 use Rattle.std.proofs.lemmas.Bool.{cases_Bool}
-use Rattle.join_batches.specs.Joiner.{JoinerAt, joined_with, joined_types}
+use Rattle.join_batches.specs.Joiner.{JoinerAt, joined_with}
 use Rattle.table_versions.specs.Table.{Row}
 use Rattle.row_sources.specs.Joined.{IsJoined, joined_at, numbered_joined}
 use Rattle.row_sources.specs.Parting.{ComeInOrder, of_number, part_of}

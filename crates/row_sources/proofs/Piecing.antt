@@ -1,6 +1,6 @@
 -- Pieces of what is still to be given.
-use Rattle.std.proofs.Common.{◌≡◌, ◌≤◌, ◌<◌, ℕ, suc, ◌+◌, ◌-◌, Bool, true, false, cond, List, [], ◌∷◌, ◌++◌, length, map, take, Some, None, refl, sym, ap, ◌∙◌, subst, arith}
-use Rattle.std.specs.List.{filter, last_or}
+use Rattle.std.proofs.Common.{◌≡◌, ◌≤◌, ℕ, suc, Bool, true, false, cond, List, [], ◌∷◌, ◌++◌, length, map, take, refl, sym, ap, ◌∙◌, subst, arith}
+use Rattle.std.specs.List.{filter}
 use Rattle.std.proofs.lemmas.List.{map-append, length-map}
 use Rattle.std.proofs.lemmas.List.Elements.{filter-append}
 use Rattle.std.proofs.lemmas.Simd.{map-map}
@@ -11,14 +11,11 @@ use Rattle.table_versions.proofs.Rowing.{length-rows_of}
 use Rattle.typed_plan.specs.Typed.{types_of}
 use Rattle.row_sources.specs.declared.cursor.Cursor.{Cursor}
 use Rattle.row_sources.specs.declared.part.Part.{Part}
-use Rattle.row_sources.specs.declared.piece.Piece.{Piece}
-use Rattle.row_sources.specs.declared.place.PlaceRows.{PlaceRows}
 use Rattle.opened_batches.specs.Opened.{batches_in}
 use Rattle.row_sources.specs.Picking.{PickAt, cells_at, holds, given_numbered}
 use Rattle.row_sources.specs.Picked.{given, given_of_part, IsPicked}
 use Rattle.row_sources.specs.Placed.{IsPlaced, IsPart, Opens, rows_ahead}
 use Rattle.row_sources.specs.Running.{RowsAt, GoesOn, FindsPiece, Ends, picked_of}
-use Rattle.array_select.specs.Room.{most_batch_rows}
 use Rattle.row_sources.specs.Sources.{place_at}
 use Rattle.row_sources.proofs.Batched.{none_from}
 use Rattle.row_sources.proofs.Giving.{filter-map}

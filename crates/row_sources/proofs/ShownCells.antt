@@ -1,5 +1,5 @@
 -- The columns that a result takes of a source's.
-use Rattle.std.proofs.Common.{◌≡◌, ◌<◌, ℕ, zero, suc, Bool, true, List, [], ◌∷◌, length, map, get_or, nat_lt, slice_index, slice_get, unwrap_or, Option, option_map, refl, sym, ap, ◌∙◌, arith}
+use Rattle.std.proofs.Common.{◌≡◌, ℕ, true, List, [], ◌∷◌, length, map, nat_lt, slice_index, unwrap_or, Option, option_map, refl, sym, ap, ◌∙◌}
 use Rattle.std.specs.List.{filter}
 use Rattle.std.proofs.lemmas.Bool.{ltb-true, lt-ltb, and_parts, and_from}
 use Rattle.std.proofs.lemmas.Option.{slice_get-map, slice_get-get_or}
@@ -14,7 +14,7 @@ use Rattle.typed_plan.specs.Typed.{has_columns, type_at, types_taken}
 use Rattle.row_sources.specs.Showing.{shown_of, cells}
 use Rattle.opened_batches.specs.Chosen.{are_within}
 use Rattle.row_sources.specs.Chosen.{numbers_at}
-use Rattle.row_sources.specs.Picking.{PickAt, cells_at, holds, given_numbered}
+use Rattle.row_sources.specs.Picking.{PickAt, cells_at, holds}
 use Rattle.row_sources.specs.Running.{RowsAt, picked_of}
 use Rattle.row_sources.proofs.Cells.{cell-map, within_at}
 

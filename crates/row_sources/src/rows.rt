@@ -81,7 +81,11 @@ impl Rows {
         match &mut self.source {
             Source::Place(place) => place.next(alloc, &self.picker, &mut self.selection),
             Source::Joined(left, joining) => {
-                joining.next(alloc, left, &self.picker, &mut self.selection)
+                if self.picker.filters.is_empty() {
+                    joining.next_shown(alloc, left, &self.picker)
+                } else {
+                    joining.next(alloc, left, &self.picker, &mut self.selection)
+                }
             }
         }
     }
@@ -168,6 +172,37 @@ impl Joining {
                     let number = self.number;
                     return Ok(Some(Piece { batch, number }));
                 }
+            } else if let Some(piece) = left.next(alloc)? {
+                self.number = piece.number;
+                self.joiner.feed(piece.batch);
+            } else {
+                return Ok(None);
+            }
+        }
+    }
+
+    // The same where there is no filter: of the joined rows only the columns that are shown are made.
+    #[cycle(next)]
+    fn next_shown(
+        &mut self,
+        alloc: Global,
+        left: &mut Rows,
+        picker: &Picker,
+    ) -> Result<Option<Piece>, AllocError>
+        requires joined { IsJoined left.old self.old.joiner self.old.number }
+        requires pick { IsPick (length (joined_types self.old.joiner)) (pick_of picker.now) }
+        requires bare { (pick_of picker.now).filters ≡ [] }
+        ensures joined { IsJoined left.new self.new.joiner self.new.number }
+        ensures types { joined_types self.new.joiner ≡ joined_types self.old.joiner }
+        ensures depth { left.new.depth ≡ left.old.depth }
+        ensures found { FindsNext (picked_of (pick_of picker.now) (joined_at left.old self.old.joiner self.old.number)) result
+            (picked_of (pick_of picker.now) (joined_at left.new self.new.joiner self.new.number)) }
+    {
+        let shown = picker.shown.as_slice();
+        loop {
+            if let Some(batch) = self.joiner.next_shown(alloc, shown)? {
+                let number = self.number;
+                return Ok(Some(Piece { batch, number }));
             } else if let Some(piece) = left.next(alloc)? {
                 self.number = piece.number;
                 self.joiner.feed(piece.batch);

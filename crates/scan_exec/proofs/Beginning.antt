@@ -1,5 +1,5 @@
 -- A scan before its first batch.
-use Rattle.std.proofs.Common.{◌≡◌, ◌<◌, ℕ, zero, suc, ◌+◌, ◌-◌, ◌==◌, true, false, All, List, [], ◌∷◌, ◌++◌, length, map, take, drop, unwrap_or, slice_get, Option, Some, None, option_map, refl, sym, ap, ◌∙◌, subst, arith, length-append, get_or, if◌then◌else◌}
+use Rattle.std.proofs.Common.{◌≡◌, ℕ, ◌+◌, ◌-◌, ◌==◌, true, List, [], ◌∷◌, ◌++◌, length, map, take, drop, unwrap_or, slice_get, Option, Some, None, option_map, refl, sym, ap, ◌∙◌, subst, arith, length-append, get_or, if◌then◌else◌}
 use Rattle.std.specs.List.{flat_map, list_all, range_with_len}
 use Rattle.arrow_schema.specs.declared.schema.Schema.{Schema}
 use Rattle.std.proofs.lemmas.Option.{slice_get-map}
@@ -8,7 +8,6 @@ use Rattle.std.proofs.lemmas.Simd.{map-map}
 use Rattle.arrow_schema.specs.Answer.{answer_type}
 use Rattle.arrow_schema.specs.declared.data_type.DataType.{DataType}
 use Rattle.arrow_schema.specs.declared.data_type.DataType.TheVariants.{Integer, Utf8, Bool as Flag, Decimal128, Dictionary}
-use Rattle.table_versions.specs.Stored.{TableAt}
 use Rattle.table_versions.specs.Table.{Row}
 use Rattle.typed_plan.specs.declared.plan.Columns.{Columns}
 use Rattle.typed_plan.specs.declared.plan.Columns.TheVariants as columns
@@ -22,17 +21,17 @@ use Rattle.arrays.specs.Batch.{rows_of}
 use Rattle.typed_plan.specs.Plan.{answered, groups_by, output_rows}
 use Rattle.typed_plan.specs.Typed.{IsTyped, type_at, types_taken, types_of, tree_types, output_types, item_type, is_grouping}
 use Rattle.typed_plan.specs.View.{BoundAt, plan_of, tree_of}
-use Rattle.scan_exec.specs.Giving.{GivingAt, of_rows}
+use Rattle.scan_exec.specs.Giving.{GivingAt}
 use Rattle.scan_exec.specs.Answering.{IsScan, Rise, answer_for, renumbered, scan_at}
 use Rattle.row_sources.specs.Begun.{IsBegun, tree_given}
-use Rattle.row_sources.specs.Showing.{shown_of, cells}
+use Rattle.row_sources.specs.Showing.{cells}
 use Rattle.scan_exec.specs.Given.{given_of}
 use Rattle.row_sources.specs.Parts.{first_batches, further_rows, numbered_parts}
 use Rattle.rewrite.specs.Places.{rows_over}
 use Rattle.opened_batches.specs.Opened.{batches_in, first_numbers, first_opened, further_numbers, further_opened, scans_of, where_parts}
 use Rattle.scan_exec.specs.Morsels.{of_first}
 use Rattle.row_sources.specs.Running.{RowsAt}
-use Rattle.scan_exec.specs.Scan.{ScanAt, IsBeginning}
+use Rattle.scan_exec.specs.Scan.{IsBeginning}
 use Rattle.scan_exec.proofs.PartScan.{firsts_rise, further_none}
 use Rattle.scan_exec.proofs.PlanGives.{given_rows}
 use Rattle.scan_exec.proofs.ScanGiven.{scan_given}

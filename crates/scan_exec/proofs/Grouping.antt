@@ -32,14 +32,15 @@ use Rattle.scan_exec.specs.declared.grouped.Stage.TheVariants.{Waiting, Made}
 use Rattle.scan_exec.specs.declared.grouped.Wanted.{Wanted}
 use Rattle.scan_exec.specs.Giving.{GivingAt, GivingOn, GivesNext}
 use Rattle.row_sources.specs.Collected.{AreCollected, IsBatchOf}
-use Rattle.scan_exec.specs.Grouped.{AnswersAll, AreFed, AreMade, IsAnswering, of_groups, passing, passing_before, wanted_rows, wanted_types}
+use Rattle.scan_exec.specs.Grouped.{AnswersAll, AreFed, AreMade, IsAnswering, of_groups, passing_before, wanted_rows, wanted_types}
+use Rattle.scan_exec.specs.GroupWork.{AreGroupsOf, GroupWorkAt, passing}
 use Rattle.row_sources.specs.Picking.{PickAt, IsPick, holds, chosen_rows, pick_of}
 use Rattle.row_sources.specs.Running.{RowsAt, GoesOn}
 use Rattle.row_sources.proofs.Giving.{filter-map}
 use Rattle.row_sources.proofs.JoinSteps.{as_many}
 
 -- no more pass than there are
-passing_few : {X : Type 0} (test : X → Bool) (xs : List X) → length (filter test xs) ≤ length xs
+pub passing_few : {X : Type 0} (test : X → Bool) (xs : List X) → length (filter test xs) ≤ length xs
 passing_few test [] = omega arith
 passing_few test (x ∷ xs) = by (test x) (passing_few test xs)
   where
@@ -119,7 +120,7 @@ module _ (pick : PickAt) (batches : List BatchAt) (k : ℕ) (batch : BatchAt) (t
   so_far = passing pick (flat_map rows_of (take k batches))
 
   -- the rows so far, with those of this batch
-  rows_more : passing pick (flat_map rows_of (take (k + 1) batches)) ≡ so_far ++ passing pick (rows_of batch)
+  pub rows_more : passing pick (flat_map rows_of (take (k + 1) batches)) ≡ so_far ++ passing pick (rows_of batch)
   rows_more =
       let next : k + 1 ≡ suc k = omega arith in
       ap (λ (n : ℕ). passing pick (flat_map rows_of (take n batches))) next
@@ -158,49 +159,73 @@ module _ (pick : PickAt) (batches : List BatchAt) (k : ℕ) (batch : BatchAt) (t
       let of : IsBatchOf types batch = subst (IsBatchOf types) (sym is) (each k batch there) in
       subst (λ (n : ℕ). IsPick n pick) (sym (as_many types batch.columns of.typed)) picks
 
+-- ---- the groups of what is grouped
+
+module _ (work : GroupWorkAt) (new after : GroupsAt) (rows : List Row) (is : IsNew work.batches work.types work.keys work.items new) where
+  -- groups of no row, fed with some, are the groups of these
+  pub fed_are : HasFed new after rows → AreGroupsOf work rows after
+  fed_are has = record {
+    batches_are = has.alike.batches ∙ is.batches_are;
+    types_are = has.alike.types ∙ is.types_are;
+    keys_are = has.alike.keys ∙ is.keys_are;
+    items_are = has.alike.items ∙ is.items_are;
+    refused = has.refused;
+    held = has.held [] is.held;
+  }
+
+  pub all_are : AreFed new rows after → AreGroupsOf work rows after
+  all_are fed = record {
+    batches_are = fed.alike.batches ∙ is.batches_are;
+    types_are = fed.alike.types ∙ is.types_are;
+    keys_are = fed.alike.keys ∙ is.keys_are;
+    items_are = fed.alike.items ∙ is.items_are;
+    refused = fed.refused;
+    held = fed.held;
+  }
+
 -- ---- the answer
 
 -- the types of what groups answer
 abbrev types_answered : List DataType → List ℕ → List Aggregate → List DataType
 types_answered types keys items = map answer_type (map (item_type keys types) items)
 
-module _ (wanted : Wanted) (batches : List BatchAt) (new fed : GroupsAt) (is : IsNew batches wanted.types.items wanted.keys.items wanted.items.items new)
-    (feeds : AreFed new (passing (pick_of wanted.picker) (flat_map rows_of batches)) fed) where
-  -- what was fed is grouped by what is wanted
-  batches_are : fed.batches ≡ batches
-  batches_are = feeds.alike.batches ∙ is.batches_are
+-- what is grouped to answer what is wanted
+abbrev pub wanted_work : Wanted → List BatchAt → GroupWorkAt
+wanted_work wanted batches = record {
+  batches = batches;
+  types = wanted.types.items;
+  keys = wanted.keys.items;
+  items = wanted.items.items;
+  pick = pick_of wanted.picker;
+}
 
-  keys_are : fed.keys ≡ wanted.keys.items
-  keys_are = feeds.alike.keys ∙ is.keys_are
-
-  items_are : fed.items ≡ wanted.items.items
-  items_are = feeds.alike.items ∙ is.items_are
-
+module _ (wanted : Wanted) (batches : List BatchAt) (fed : GroupsAt) (is : AreGroupsOf (wanted_work wanted batches) (passing (pick_of wanted.picker) (flat_map rows_of batches)) fed) where
+  -- they are grouped by what is wanted
   types_are : types_answered fed.types fed.keys fed.items ≡ wanted_types wanted
   types_are =
-      ap (λ (some : List DataType). types_answered some fed.keys fed.items) (feeds.alike.types ∙ is.types_are)
-      ∙ ap (λ (some : List ℕ). types_answered wanted.types.items some fed.items) keys_are
-      ∙ ap (types_answered wanted.types.items wanted.keys.items) items_are
+      ap (λ (some : List DataType). types_answered some fed.keys fed.items) is.types_are
+      ∙ ap (λ (some : List ℕ). types_answered wanted.types.items some fed.items) is.keys_are
+      ∙ ap (types_answered wanted.types.items wanted.keys.items) is.items_are
 
   -- so the answer is what is wanted
   answers_all : (answers : AnswersAt) → IsAnswerOf fed answers → AnswersAll batches wanted answers
   answers_all answers answer =
       let rows = passing (pick_of wanted.picker) (flat_map rows_of batches) in
       record {
-        over = subst (λ (some : List BatchAt). IsOver some answers) batches_are answer.over;
+        over = subst (λ (some : List BatchAt). IsOver some answers) is.batches_are answer.over;
         types = answer.types ∙ types_are;
-        rows = ap (λ (some : List BatchAt). answers_ahead some answers) (sym batches_are)
-            ∙ answer.ahead rows feeds.held
-            ∙ ap (λ (some : List Aggregate). map (λ group. map (answered group) some) (groups_by fed.keys rows)) items_are
-            ∙ ap (λ (some : List ℕ). map (λ group. map (answered group) wanted.items.items) (groups_by some rows)) keys_are;
+        rows = ap (λ (some : List BatchAt). answers_ahead some answers) (sym is.batches_are)
+            ∙ answer.ahead rows is.held
+            ∙ ap (λ (some : List Aggregate). map (λ group. map (answered group) some) (groups_by fed.keys rows)) is.items_are
+            ∙ ap (λ (some : List ℕ). map (λ group. map (answered group) wanted.items.items) (groups_by some rows)) is.keys_are;
       }
 
   -- or it was refused
   pub finished : (result : Result AnswersAt Fault) → Finishes fed result → IfOk result (AnswersAll batches wanted)
   finished (Ok answers) finishes =
       let with : Option Fault → GroupsAt = λ refused. record fed { refused = refused } in
-      let is : IsAnswerOf (with None) answers = subst (λ (refused : Option Fault). Finishes (with refused) (Ok answers)) feeds.refused finishes in
-      answers_all answers (subst (λ (refused : Option Fault). IsAnswerOf (with refused) answers) (sym feeds.refused) is)
+      let answer : IsAnswerOf (with None) answers = subst (λ (refused : Option Fault). Finishes (with refused) (Ok answers)) is.refused finishes in
+      answers_all answers (subst (λ (refused : Option Fault). IsAnswerOf (with refused) answers) (sym is.refused) answer)
   finished (Err fault) finishes = tt
 
 -- of all rows that were collected

@@ -20,8 +20,9 @@ use Rattle.scan_exec.specs.declared.grouped.Wanted.{Wanted}
 use Rattle.scan_exec.specs.Answering.{answer_for}
 use Rattle.row_sources.specs.Collected.{plain_rows}
 use Rattle.scan_exec.specs.Giving.{GivingAt}
-use Rattle.scan_exec.specs.Grouped.{IsGrouped, IsWanted, of_groups, passing, wanted_rows, wanted_types}
-use Rattle.row_sources.specs.Picking.{holds, pick_of}
+use Rattle.scan_exec.specs.GroupWork.{passing}
+use Rattle.scan_exec.specs.Grouped.{IsGrouped, IsWanted, of_groups, wanted_rows, wanted_types}
+use Rattle.row_sources.specs.Picking.{pick_of}
 
 module _ (source : SourceAt) (made : UnfilteredRows) (is : IsUnfiltered source made) (keys : List ℕ) (items : List Aggregate) (wanted : Wanted)
     (p : wanted.picker ≡ made.picker) (t : wanted.types ≡ made.types) (k : wanted.keys.items ≡ keys) (i : wanted.items.items ≡ items) where

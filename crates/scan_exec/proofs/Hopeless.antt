@@ -5,10 +5,8 @@ use Rattle.std.specs.Option.{option_to_list}
 use Rattle.std.proofs.lemmas.Bool.{and_parts, cases_Bool, ltb-true}
 use Rattle.std.proofs.lemmas.List.Elements.{All-nil, All-cons, All-head, All-tail}
 use Rattle.std.proofs.lemmas.Option.{slice_get-map}
-use Rattle.std.proofs.lemmas.Simd.{map-map}
 use Rattle.arrow_schema.specs.declared.data_type.DataType.{DataType}
-use Rattle.arrow_schema.specs.declared.data_type.DataType.TheVariants.{Utf8}
-use Rattle.arrays.specs.Batch.{AreLong, BatchAt, row_of, rows_of}
+use Rattle.arrays.specs.Batch.{BatchAt, row_of, rows_of}
 use Rattle.arrays.specs.Column.{ColumnAt, IsColumn, slot_of}
 use Rattle.arrays.specs.Typed.{AreOf, AreOfTypes, IsOfType}
 use Rattle.batch_skipping.specs.Can.{can}
@@ -17,7 +15,7 @@ use Rattle.batch_skipping.proofs.InBatch.{skipped_rows_are_not_kept}
 use Rattle.batch_stats.specs.Columns.{stats_in}
 use Rattle.scan_base.specs.declared.value.Value.{Value}
 use Rattle.scan_base.specs.declared.value.Value.TheVariants.{Null}
-use Rattle.scan_base.specs.Predicate.{Pred, cell_in, names_only, truth_of}
+use Rattle.scan_base.specs.Predicate.{Pred, cell_in, names_only}
 use Rattle.scan_base.specs.Truth.{keeps}
 use Rattle.table_versions.specs.Kept.{IsKept, Stands}
 use Rattle.table_versions.specs.Stored.{TableAt, table_of}

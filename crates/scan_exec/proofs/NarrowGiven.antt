@@ -1,37 +1,30 @@
 -- What a plan gives of the batches that are opened is what it gives of all.
-use Rattle.std.proofs.Common.{◌≡◌, ◌≤◌, ◌<◌, ◌⊎◌, inl, inr, ℕ, zero, suc, ◌+◌, ◌-◌, Bool, true, false, ◌&&◌, All, List, [], ◌∷◌, ◌++◌, length, map, take, drop, min, max, nat_lt, get_or, slice_get, cond, Option, Some, None, option_map, refl, sym, ap, ◌∙◌, subst, arith, length-append}
-use Rattle.std.specs.List.{filter, flat_map, list_all, range_with_len}
+use Rattle.std.proofs.Common.{◌≡◌, ◌≤◌, ◌<◌, ◌⊎◌, inl, inr, ℕ, zero, suc, ◌+◌, ◌-◌, Bool, true, false, ◌&&◌, List, [], ◌∷◌, ◌++◌, length, map, take, drop, min, max, nat_lt, get_or, slice_get, cond, Option, Some, refl, sym, ap, ◌∙◌, subst, arith}
+use Rattle.std.specs.List.{filter, flat_map, range_with_len}
 use Rattle.std.specs.Option.{option_to_list}
 use Rattle.std.proofs.lemmas.Bool.{and_parts, both_ways, cases_Bool, cases_lt, ltb-true, ltb-false}
-use Rattle.std.proofs.lemmas.List.{length-map, map-append, take_all}
-use Rattle.std.proofs.lemmas.List.Elements.{All-head, All-tail, filter-append}
-use Rattle.std.proofs.lemmas.Simd.{map-map}
-use Rattle.arrow_schema.specs.declared.schema.Schema.{Schema}
+use Rattle.std.proofs.lemmas.List.{take_all}
+use Rattle.std.proofs.lemmas.List.Elements.{filter-append}
 use Rattle.arrays.specs.Batch.{BatchAt, rows_of}
-use Rattle.arrays.specs.Typed.{AreOfTypes}
 use Rattle.scan_base.specs.Predicate.{Pred, cell_in}
-use Rattle.table_versions.specs.Kept.{IsKept}
 use Rattle.table_versions.specs.Standing.{rows_before}
 use Rattle.table_versions.specs.Stored.{TableAt, table_of}
 use Rattle.table_versions.specs.Table.{Row}
 use Rattle.typed_plan.specs.declared.plan.Columns.{Columns}
 use Rattle.typed_plan.specs.declared.plan.Columns.TheVariants as columns
 use Rattle.typed_plan.specs.Joined.{rows_between}
-use Rattle.typed_plan.specs.Plan.{Tree, taken}
+use Rattle.typed_plan.specs.Plan.{taken}
 use Rattle.rewrite.specs.Conjuncts.{all_true}
-use Rattle.rewrite.specs.Places.{first_rows}
 use Rattle.opened_batches.specs.Chosen.{are_within}
 use Rattle.row_sources.specs.Parts.{numbered_parts, parts}
 use Rattle.opened_batches.specs.Narrow.{batches_at, narrowed, narrowed_from, narrowed_to}
-use Rattle.opened_batches.specs.Opened.{batch_can, can_hold, given_columns, given_width, has_row_in, numbers_behind, place_opened}
+use Rattle.opened_batches.specs.Opened.{has_row_in}
 use Rattle.table_versions.proofs.Rowing.{length-rows_of, rows-cons}
 use Rattle.row_sources.proofs.Batched.{none_behind, none_between as no_rows}
 use Rattle.row_sources.proofs.Narrowing.{there_at}
-use Rattle.row_sources.proofs.NarrowRange.{AreListed, before_next, between_same, listed_of, listed_within, made_of, narrow_from, part_at, whole_made}
+use Rattle.row_sources.proofs.NarrowRange.{AreListed, before_next, listed_of, listed_within, narrow_from, part_at, whole_made}
 use Rattle.row_sources.proofs.Opening.{in_all}
 use Rattle.scan_exec.proofs.PartsJoin.{parts_join, parts_numbered}
-use Rattle.scan_exec.proofs.PlaceByPlace.{EachSame, LetsSame}
-use Rattle.scan_exec.proofs.Through.{first_need, need_behind}
 use Rattle.scan_exec.proofs.TreeGives.{taken-append}
 
 -- ---- lists

@@ -1,5 +1,5 @@
 -- A scan over the batches that a plan opens.
-use Rattle.std.proofs.Common.{◌≡◌, ◌≤◌, ◌<◌, ℕ, suc, ◌+◌, Bool, true, All, List, [], ◌∷◌, ◌++◌, length, map, refl, sym, ap, ◌∙◌, subst, arith}
+use Rattle.std.proofs.Common.{◌≡◌, ◌≤◌, ℕ, true, All, List, [], ◌∷◌, ◌++◌, length, map, refl, sym, ap, ◌∙◌, subst, arith}
 use Rattle.std.specs.List.{flat_map, range_with_len}
 use Rattle.arrow_schema.specs.declared.schema.Schema.{Schema}
 use Rattle.arrays.specs.Batch.{rows_of}
@@ -7,19 +7,18 @@ use Rattle.scan_base.specs.Limits.{most_rows}
 use Rattle.scan_base.specs.Predicate.{Pred}
 use Rattle.table_versions.specs.Kept.{IsKept}
 use Rattle.table_versions.specs.Stored.{TableAt, table_of}
-use Rattle.table_versions.specs.Table.{Row}
 use Rattle.typed_plan.specs.declared.plan.Columns.{Columns}
 use Rattle.typed_plan.specs.Held.{tree_schemas}
 use Rattle.typed_plan.specs.Plan.{Tree, scan, filtered, joined}
 use Rattle.typed_plan.specs.Typed.{IsTypedTree, has_columns}
-use Rattle.typed_plan.specs.View.{BoundAt, plan_of, tree_of}
+use Rattle.typed_plan.specs.View.{BoundAt, tree_of}
 use Rattle.rewrite.specs.Laws.{SkippingKeepsRows}
 use Rattle.opened_batches.specs.declared.opened.OpenedList.{OpenedList}
 use Rattle.scan_exec.specs.Answering.{renumbered}
 use Rattle.row_sources.specs.Parts.{first_batches}
 use Rattle.scan_exec.specs.Given.{given_of}
-use Rattle.opened_batches.specs.Listed.{AreLists, AreWhole, IsListOf}
-use Rattle.opened_batches.specs.Narrow.{BeginsInFirst, CanNarrow, batches_at, narrowed, narrowed_from, narrowed_to}
+use Rattle.opened_batches.specs.Listed.{AreLists, AreWhole}
+use Rattle.opened_batches.specs.Narrow.{BeginsInFirst, batches_at, narrowed_from, narrowed_to}
 use Rattle.opened_batches.specs.Opened.{batches_in, first_numbers, given_width, first_opened, further_numbers, numbers_behind, opened_numbers, place_opened, scans_of, where_parts}
 use Rattle.row_sources.specs.OpenedTables.{CanAll, narrow_all}
 use Rattle.rewrite.specs.Same.{StandsFor}

@@ -1,10 +1,9 @@
 -- The morsels of a scan.
-use Rattle.std.proofs.Common.{◌≡◌, ◌≤◌, ◌<◌, ◌⊎◌, inl, inr, ℕ, zero, suc, ◌+◌, ◌-◌, ◌==◌, Bool, true, false, cond, List, [], ◌∷◌, ◌++◌, length, map, take, drop, get_or, Option, Some, None, refl, sym, ap, ◌∙◌, subst, arith, length-append, length-drop, length-take}
+use Rattle.std.proofs.Common.{◌≡◌, ◌≤◌, ◌<◌, ℕ, zero, suc, ◌+◌, ◌-◌, ◌==◌, Bool, true, false, cond, List, [], ◌∷◌, ◌++◌, length, map, take, drop, get_or, Option, Some, None, refl, sym, ap, ◌∙◌, subst, arith, length-append, length-drop}
 use Rattle.std.specs.List.{filter, flat_map, list_all, range_with_len}
 use Rattle.std.proofs.lemmas.Bool.{and_parts}
 use Rattle.std.proofs.lemmas.List.{take-append-drop}
 use Rattle.std.proofs.lemmas.List.Elements.{filter-append}
-use Rattle.std.proofs.lemmas.List.FromFn.{length-range_with_len}
 use Rattle.std.proofs.lemmas.Simd.{map-map}
 use Rattle.arrow_schema.specs.declared.schema.Schema.{Schema}
 use Rattle.opened_batches.specs.Opened.{first_numbers, numbered_batches}
@@ -15,7 +14,7 @@ use Rattle.table_versions.specs.Table.{Row}
 use Rattle.typed_plan.specs.declared.plan.Columns.{Columns}
 use Rattle.scan_exec.specs.Giving.{GivingAt, of_rows}
 use Rattle.scan_exec.specs.Answering.{IsScan, Rise, number_in, renumbered, scan_at}
-use Rattle.scan_exec.specs.Morsels.{HasMorsels, batch_of, comes_of, morsel_of, morsel_rows, of_first}
+use Rattle.scan_exec.specs.Morsels.{HasMorsels, batch_of, comes_of, morsel_of, of_first}
 use Rattle.row_sources.specs.Parting.{ComeInOrder, of_number, part_of}
 use Rattle.row_sources.specs.Running.{RowsAt}
 use Rattle.scan_exec.specs.Scan.{ScanAt}

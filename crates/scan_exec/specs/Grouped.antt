@@ -16,12 +16,9 @@ use Rattle.scan_exec.specs.declared.grouped.Stage.TheVariants.{Waiting, Made, Re
 use Rattle.scan_exec.specs.declared.grouped.Wanted.{Wanted}
 use Rattle.row_sources.specs.Collected.{plain_rows}
 use Rattle.scan_exec.specs.Giving.{GivingAt}
+use Rattle.scan_exec.specs.GroupWork.{passing}
 use Rattle.row_sources.specs.Picking.{PickAt, IsPick, holds, pick_of}
 use Rattle.row_sources.specs.Running.{RowsAt}
-
--- the rows that the filters let through
-abbrev pub passing : PickAt → List Row → List Row
-passing pick rows = filter (holds pick) rows
 
 -- those rows before one of a batch that the filters let through
 abbrev pub passing_before : PickAt → BatchAt → ℕ → List Row

@@ -6,6 +6,7 @@ ghost use Rattle.typed_plan.specs.Typed.{HasOutput, is_grouping};
 ghost use Rattle.scan_exec.specs.Answering.{IsGiving, answer_for, giving_at};
 ghost use Rattle.scan_exec.specs.Giving.{GivesNext, of_rows};
 
+use crate::group_work::GroupsBatches;
 use crate::grouped::{GroupedRows, Stage, Wanted};
 use arrays::Batch;
 use hash_seed::HashSeed;
@@ -30,15 +31,19 @@ impl Drop for Answer {
 }
 
 impl Answer {
-    // The next batch.
-    pub(crate) fn next(&mut self, alloc: Global) -> Result<Option<Batch>, AllocError>
+    // The next batch. Groups are made by the one that is handed in.
+    pub(crate) fn next<G: GroupsBatches>(
+        &mut self,
+        alloc: Global,
+        by: &G,
+    ) -> Result<Option<Batch>, AllocError>
         requires { IsGiving self.old }
         ensures giving { IsGiving self.new }
         ensures gives { GivesNext (giving_at self.old) result (giving_at self.new) }
     {
         match self {
             Answer::Rows(rows) => next_batch(alloc, rows),
-            Answer::Groups(groups) => groups.next(alloc),
+            Answer::Groups(groups) => groups.next(alloc, by),
         }
     }
 

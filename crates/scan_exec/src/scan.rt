@@ -13,6 +13,7 @@ ghost use Rattle.scan_exec.specs.Morsels.{HasMorsels, morsel_of, of_first};
 ghost use Rattle.scan_exec.specs.Scan.{Gives, IsBeginning, left};
 
 use crate::answer::{Answer, answer_of};
+use crate::group_work::{GroupsBatches, InOneWalk};
 use crate::opened::{further_batches, push_numbers};
 use arrays::Batch;
 use arrow_schema::Schema;
@@ -128,10 +129,25 @@ impl Scan {
     pub fn next(&mut self, alloc: Global) -> Result<Option<Batch>, Fault>
         ensures { Gives self.old result self.new }
     {
+        self.next_by(alloc, &InOneWalk)
+    }
+
+    /// The same, where the groups of a grouped query are made by the one that is handed in, at the first call.
+    ///
+    /// # Errors
+    ///
+    /// Those of `next`.
+    pub fn next_by<G: GroupsBatches>(
+        &mut self,
+        alloc: Global,
+        by: &G,
+    ) -> Result<Option<Batch>, Fault>
+        ensures { Gives self.old result self.new }
+    {
         if let Some(fault) = self.refused {
             return Err(fault);
         }
-        match next_counted(alloc, &mut self.answer, &mut self.given) {
+        match next_counted(alloc, by, &mut self.answer, &mut self.given) {
             Ok(found) => Ok(found),
             Err(fault) => {
                 self.refused = Some(fault);
@@ -200,8 +216,9 @@ impl Scan {
 }
 
 // The next batch, where so many rows were given.
-fn next_counted(
+fn next_counted<G: GroupsBatches>(
     alloc: Global,
+    by: &G,
     answer: &mut Answer,
     given: &mut usize,
 ) -> Result<Option<Batch>, Fault>
@@ -210,7 +227,7 @@ fn next_counted(
     ensures giving { IsGiving answer.new }
     ensures counts { CountsNext (giving_at answer.old) given.old result (giving_at answer.new) given.new }
 {
-    let Some(batch) = answer.next(alloc)? else {
+    let Some(batch) = answer.next(alloc, by)? else {
         return Ok(None);
     };
     if batch.rows() > MAX_ANSWER_ROWS - *given {

@@ -8,6 +8,7 @@ use client_commands::put::{Putting, put};
 use client_commands::query::{Querying, query};
 use client_commands::tables::tables;
 use command_ends::{Connect, Listen};
+use command_line::Format;
 use grpc_frame::{MemoryInput, MemoryOutput};
 use loopback::{Loopback, Port};
 use scan_base::PutMode;
@@ -52,8 +53,17 @@ const NOTHING: &[u8] = b"";
 
 // ---- over loopback
 
+// A put that creates a table.
+pub(crate) fn created(port: u16, table: &str) -> Putting<'_> {
+    let mode = PutMode::Create;
+    Putting {
+        port,
+        target: Target { table, mode },
+    }
+}
+
 // Adds what came of a command: its exit status, the lines only of one that ended well, and what is said.
-fn add_heard(
+pub(crate) fn add_heard(
     told: &mut String,
     status: u8,
     lines: &MemoryOutput,
@@ -66,21 +76,21 @@ fn add_heard(
     push_text(told, said.as_slice())
 }
 
-// Puts the stream.
-fn put_stream<R>(rt: &R, port: u16, told: &mut String) -> Result<(), AllocError>
+// Puts a stream.
+pub(crate) fn put_stream<R>(
+    rt: &R,
+    putting: Putting<'_>,
+    stream: &[u8],
+    told: &mut String,
+) -> Result<(), AllocError>
 where
     R: Net<Listener = TcpListener, Stream = TcpStream> + AllocGlobal,
 {
     let alloc = rt.alloc();
     let mut network = Loopback::new(rt);
-    let mut input = MemoryInput::new(STREAM);
+    let mut input = MemoryInput::new(stream);
     let mut lines = MemoryOutput::new(alloc);
     let mut said = MemoryOutput::new(alloc);
-    let target = Target {
-        table: "t",
-        mode: PutMode::Create,
-    };
-    let putting = Putting { port, target };
     let status = put(
         alloc,
         &mut network,
@@ -106,7 +116,7 @@ where
 }
 
 // A query over two connections at most, which prints on these lines.
-fn ask_rows<R>(
+pub(crate) fn ask_rows<R>(
     rt: &R,
     querying: Querying<'_>,
     mut lines: MemoryOutput,
@@ -130,12 +140,13 @@ where
     R: Net<Listener = TcpListener, Stream = TcpStream> + AllocGlobal + Threads,
 {
     let alloc = rt.alloc();
-    put_stream(rt, port, told)?;
+    put_stream(rt, created(port, "t"), STREAM, told)?;
     list_tables(rt, port, told)?;
     let grouped = Querying {
         port,
         streams: 2,
         sql: GROUPED,
+        format: Format::Lines,
     };
     ask_rows(rt, grouped, MemoryOutput::new(alloc), told)?;
     let all = Querying {
@@ -162,7 +173,7 @@ where
     R: Net<Listener = TcpListener, Stream = TcpStream> + AllocGlobal,
 {
     let alloc = rt.alloc();
-    let port = Port::new(rt).listen(0)?;
+    let port = Port::new(rt, 0).listen(0)?;
     let wanted = format!(in alloc; "cannot connect to 127.0.0.1:{port}: ")?;
     let mut output = MemoryOutput::new(alloc);
     let mut faults = MemoryOutput::new(alloc);

@@ -5,6 +5,7 @@
 mod asking;
 mod at_once;
 mod clients;
+mod formats;
 mod serving;
 mod side_by_side;
 mod streams;
@@ -28,6 +29,8 @@ fn main(rt: HostRuntime) -> io::Result<()> {
     println!(rt; "cut connection: {cut}")?;
     let commands = beside(&rt, 6, Client::Commands)?;
     println!(rt; "five commands: {commands}")?;
+    let formats = beside(&rt, 7, Client::Formats)?;
+    println!(rt; "formats: {formats}")?;
     let port = told_port(&rt)?;
     println!(rt; "nobody listens: {port}")?;
     for case in PUTS.iter() {

@@ -3,6 +3,7 @@
 use crate::asking::connected;
 use crate::at_once::{stay_open, stay_whole};
 use crate::clients::run_commands;
+use crate::formats::run_formats;
 use crate::texts::push_text;
 use client_calls::Failure;
 use command_ends::Listen;
@@ -29,6 +30,8 @@ pub(crate) enum Client {
     StaysWhole,
     // Five commands.
     Commands,
+    // The formats of `query`.
+    Formats,
 }
 
 // Has a client call the server at this port, and adds what comes of it.
@@ -40,6 +43,7 @@ where
         Client::StaysOpen(most) => stay_open(rt, port, most, told),
         Client::StaysWhole => stay_whole(rt, port, told),
         Client::Commands => run_commands(rt, port, told),
+        Client::Formats => Ok(run_formats(rt, port, told)?),
     }
 }
 
@@ -105,6 +109,7 @@ where
         port: 0,
         seats: 2,
         accept,
+        idle: 0,
         parts: 2,
         workers: 1,
     };
@@ -148,7 +153,7 @@ where
 {
     let (alloc, seed) = (rt.alloc(), HashSeed::new(rt)?);
     let host = Host { rt, alloc, seed };
-    let mut port = Port::new(rt);
+    let mut port = Port::new(rt, 0);
     let number = port.listen(0)?;
     let bound = Bound { port, number };
     let (served, told) = thread::join(

@@ -6,6 +6,7 @@ use crate::clients::STREAM;
 use crate::texts::push_text;
 use client_commands::query::{Querying, query};
 use command_ends::Connect;
+use command_line::Format;
 use grpc_frame::{Input, MemoryInput, MemoryOutput};
 use scan_base::Fault;
 use std::alloc::{AllocError, Global};
@@ -174,6 +175,7 @@ fn told_rows<R: Clock + Threads + Sync>(
         port: 1,
         streams: 3,
         sql: "SELECT s FROM t",
+        format: Format::Lines,
     };
     let status = query(rt, alloc, &mut network, &mut output, &mut faults, querying).number();
     let made = network.made;

@@ -9,5 +9,5 @@ loop-batch-preserved c =
 pub returns-in_err-append_names : goal.returns-in_err-append_names
 returns-in_err-append_names c =
     let p = err_from_is_err_and c.from_residual.result c.from_residual.ensures.1 in
-    rw (p.1, p.2, ← c.batches-batches.ensures) (λ memory. batch_refused c.batches-batches.result.now c.loop-batch.batch-index c.batch-item.result _ _ c.loop-batch-test.true c.batch-item.is c.loop-batch.invariant
+    rw (p.1, p.2, ← c.batches-batches.ensures.rows) (λ memory. batch_refused c.batches-batches.result.now c.loop-batch.batch-index c.batch-item.result _ _ c.loop-batch-test.true c.batch-item.is c.loop-batch.invariant
     (c.in_err-append_names.ensures memory))

@@ -5,8 +5,8 @@ use Rattle.command_line.proofs.commands.query.Goals as goal
 
 pub returns-clause-shape : goal.returns-clause-shape
 returns-clause-shape c =
-    let at = c.in_ok-at_port.ensures.shape ∙ ap₂ with_rule c.command.ensures.shape c.port.ensures.rule in
-    has_two_more _ _ c.number_option-streams.result c.sql.result _ _ _ at c.number_option-streams.ensures.rule c.sql.ensures.rule c.with_two.ensures.shape
+    let at = c.in_ok-formatted.ensures.shape ∙ ap₂ with_rule (ap₂ with_rule c.command-bare.ensures.shape c.port.ensures.rule) c.format.ensures.rule in
+    has_two_more _ _ c.number_option-streams.result c.sql.result _ _ _ at c.number_option-streams.ensures.rule c.sql.ensures.rule c.with_two-2.ensures.shape
 
 pub returns-clause-local : goal.returns-clause-local
-returns-clause-local c = stays_local _ _ (c.in_ok-at_port.ensures.local c.command.ensures.local) c.with_two.ensures.local
+returns-clause-local c = stays_local _ _ (c.in_ok-formatted.ensures.local c.command-bare.ensures.local) c.with_two-2.ensures.local

@@ -1,5 +1,9 @@
 use Rattle.flight_client.proofs.Together.{answers_joined, joined_gathered, joined_stop}
+use Rattle.flight_client.proofs.Typed.{alike}
 use Rattle.flight_client.proofs.joining.join.Goals as goal
+
+pub gather-requires : goal.gather-requires
+gather-requires c = alike c.args.streams.items c.in_ok-schema_of_all.field-0.now (rw c.deref.ensures.value at c.in_ok-schema_of_all.ensures)
 
 pub returns-in_err-schema_of_all-clause-said : goal.returns-in_err-schema_of_all-clause-said
 returns-in_err-schema_of_all-clause-said c schema answers are =

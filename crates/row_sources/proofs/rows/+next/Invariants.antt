@@ -15,3 +15,14 @@ invariant-Joining::next-loop-batch l = record {
 
 abbrev pub decreases-Joining::next-loop-batch : goal.decreases-Joining::next-loop-batch
 decreases-Joining::next-loop-batch l = length (joined_at l.left l.self.joiner l.self.number).ahead + length l.left.ahead
+
+abbrev pub invariant-Joining::next_shown-loop-batch : goal.invariant-Joining::next_shown-loop-batch
+invariant-Joining::next_shown-loop-batch l = record {
+  is : IsJoined l.left l.self.joiner l.self.number;
+  goes : GoesOn (joined_at l.fn.left l.fn.self.joiner l.fn.self.number) (joined_at l.left l.self.joiner l.self.number);
+  rows : given_numbered (pick_of l.picker) (joined_at l.fn.left l.fn.self.joiner l.fn.self.number).ahead
+      ≡ given_numbered (pick_of l.picker) (joined_at l.left l.self.joiner l.self.number).ahead;
+}
+
+abbrev pub decreases-Joining::next_shown-loop-batch : goal.decreases-Joining::next_shown-loop-batch
+decreases-Joining::next_shown-loop-batch l = length (joined_at l.left l.self.joiner l.self.number).ahead + length l.left.ahead

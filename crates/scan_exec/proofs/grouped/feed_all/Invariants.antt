@@ -1,7 +1,8 @@
 use Rattle.std.proofs.Common.{take}
 use Rattle.std.specs.List.{flat_map}
 use Rattle.arrays.specs.Batch.{rows_of}
-use Rattle.scan_exec.specs.Grouped.{AreFed, passing}
+use Rattle.scan_exec.specs.Grouped.{AreFed}
+use Rattle.scan_exec.specs.GroupWork.{passing}
 use Rattle.row_sources.specs.Picking.{pick_of}
 use Rattle.scan_exec.proofs.grouped.feed_all.Given as goal
 

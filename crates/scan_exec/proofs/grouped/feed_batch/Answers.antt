@@ -1,4 +1,4 @@
-use Rattle.std.proofs.Common.{◌≡◌, ◌≤◌, ◌<◌, ◌-◌, ℕ, Bool, List, All, map, refl, sym, ap, ◌∙◌, subst, arith}
+use Rattle.std.proofs.Common.{◌≡◌, ◌<◌, ◌-◌, ℕ, Bool, List, All, map, refl, sym, ap, ◌∙◌, subst, arith}
 use Rattle.arrays.specs.Batch.{BatchAt, row_of}
 use Rattle.grouping.specs.Fed.{HasFed, batch_at}
 use Rattle.row_sources.specs.declared.part.Part.{Part}

@@ -1,5 +1,5 @@
-use Rattle.std.proofs.Common.{◌≡◌, ◌+◌, ℕ, List, ◌++◌, ◌∷◌, [], length, map, take, get_or, ap, sym, subst, ◌∙◌, append_assoc}
-use Rattle.std.proofs.lemmas.List.{map-append, take_more, take_all}
+use Rattle.std.proofs.Common.{ℕ, List, ◌++◌, ◌∷◌, [], map, take, get_or, ap, sym, ◌∙◌, append_assoc}
+use Rattle.std.proofs.lemmas.List.{map-append, take_more}
 use Rattle.scan_exec.proofs.opened.push_numbers.Goals as goal
 
 pub loop-number-preserved : goal.loop-number-preserved

@@ -5,7 +5,7 @@ use Rattle.scan_exec.proofs.Scanning.{batch_few}
 use Rattle.scan_exec.proofs.scan.next_counted.Goals as goal
 
 pub returns-then-rows-given-clause-counts : goal.returns-then-rows-given-clause-counts
-returns-then-rows-given-clause-counts c =
+returns-then-rows-given-clause-counts g c =
     let gives : GivesBatch (giving_at c.args.answer.now) c.in-Some.batch (giving_at c.next.new.self) = rw (c.in_ok-batch.was, c.in-Some.is) at c.next.ensures.gives in
     let few = batch_few (giving_at c.args.answer.now) c.in-Some.batch (giving_at c.next.new.self) gives in
     (gives.on, c.requires.few, inr (refl, omega (arith, few, c.rows.ensures, c.if-rows-given.true, c.requires.few)))

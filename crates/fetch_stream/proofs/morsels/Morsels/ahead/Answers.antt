@@ -1,4 +1,4 @@
-use Rattle.std.proofs.Common.{◌≡◌, ◌<◌, ap, ◌∙◌, length, arith}
+use Rattle.std.proofs.Common.{◌<◌, ap, ◌∙◌, length, arith}
 use Rattle.fetch_stream.specs.Morsels.{MorselsAt, morsel_stream}
 use Rattle.fetch_stream.proofs.Falling.{count_morsels, morsel_at}
 use Rattle.fetch_stream.proofs.morsels.Morsels.ahead.Goals as goal

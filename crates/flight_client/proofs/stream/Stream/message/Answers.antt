@@ -1,7 +1,31 @@
 use Rattle.std.proofs.lemmas.Result.{err_from_is_err_and}
 use Rattle.flight_proto.specs.FlightData.{data_said}
 use Rattle.flight_client.proofs.Arrivals.{came_batch, came_none, stays, glance_stops}
+use Rattle.std.proofs.Common.{None, Some}
+use Rattle.flight_info.specs.Payloads.{message_in}
+use Rattle.flight_client.proofs.Typed.{typed_on, typed_more}
 use Rattle.flight_client.proofs.stream.Stream.message.Goals as goal
+
+pub invariant_of-self : goal.invariant_of-self
+invariant_of-self c = rw c.in_err-batch.ensures.exact.1 c.self.invariant
+
+pub invariant_of-self-in-Continue-branch-3 : goal.invariant_of-self-in-Continue-branch-3
+invariant_of-self-in-Continue-branch-3 c =
+    let batch = c.in-Some.batch in
+    typed_more c.self.inside.reader c.message.new.self (message_in (data_said c.in-Ok.data)) c.self.inside.batches.items c.push.new.self.items batch
+    (rw c.in-Some.is at c.in_ok-batch.ensures.exact) (rw c.in-Some.is at c.in_ok-batch.ensures.columns) c.in_ok-push.ensures.items c.self.invariant
+
+pub invariant_of-self-in_err-push : goal.invariant_of-self-in_err-push
+invariant_of-self-in_err-push c =
+    let batch = c.in-Some.batch in
+    rw c.in_err-push.ensures.items
+    (typed_on c.self.inside.reader (message_in (data_said c.in-Ok.data)) (record { state = c.message.new.self; batch = Some batch }) c.self.inside.batches.items
+    (rw c.in-Some.is at c.in_ok-batch.ensures.exact) c.self.invariant)
+
+pub invariant_of-self-in_default-batch : goal.invariant_of-self-in_default-batch
+invariant_of-self-in_default-batch c =
+    typed_on c.self.inside.reader (message_in (data_said c.in-Ok.data)) (record { state = c.message.new.self; batch = None }) c.self.inside.batches.items
+    (rw c.in_default-batch.is at c.in_ok-batch.ensures.exact) c.self.invariant
 
 pub returns-in_err-push-clause-kept : goal.returns-in_err-push-clause-kept
 returns-in_err-push-clause-kept c =

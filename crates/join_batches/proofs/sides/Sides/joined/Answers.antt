@@ -2,7 +2,7 @@ use Rattle.std.proofs.Common.{ℕ, take, ◌∙◌, subst}
 use Rattle.std.proofs.lemmas.List.{length-map, length-take-le}
 use Rattle.arrays.specs.Batch.{AreLong}
 use Rattle.join_batches.specs.Rows.{pair_row}
-use Rattle.join_batches.specs.Sides.{rows_at, width_of}
+use Rattle.join_batches.specs.Sides.{rows_at}
 use Rattle.join_batches.proofs.Made.{all_long, batch_made}
 use Rattle.join_batches.proofs.sides.Sides.joined.Goals as goal
 
@@ -13,12 +13,12 @@ new-requires c =
     let count = c.in_ok-count.count in
     subst (λ (rows : ℕ). AreLong rows c.in_ok-columns.columns.items)
     (length-map (take count pairs) (pair_row sides.rights.now sides.left.now) ∙ length-take-le count pairs c.in_ok-count.ensures.within)
-    (all_long (rows_at sides (take count pairs)) 0 (width_of sides) c.in_ok-columns.columns.items (rw c.first.ensures.pairs at c.in_ok-columns.ensures.cells))
+    (all_long (rows_at sides (take count pairs)) c.args.shown.now c.in_ok-columns.columns.items (rw c.first.ensures.pairs at c.in_ok-columns.ensures.cells))
 
 pub returns : goal.returns
 returns c =
     rw c.new.ensures
-    (batch_made c.args.self.now c.args.pairs.now c.in_ok-count.count c.in_ok-columns.columns.items c.requires.sides c.requires.there c.in_ok-count.ensures
+    (batch_made c.args.self.now c.args.shown.now c.args.pairs.now c.in_ok-count.count c.in_ok-columns.columns.items c.requires.sides c.requires.there c.in_ok-count.ensures
     (rw c.first.ensures.pairs at c.in_ok-columns.ensures.cells) c.in_ok-columns.ensures.typed)
 
 pub how_many_fit-requires-clause-placed : goal.how_many_fit-requires-clause-placed

@@ -1,4 +1,4 @@
-use Rattle.std.proofs.Common.{◌≡◌, ◌-◌, ℕ, List, All, IfOk, OnOk, length, map, nat_lt, ap, sym, subst}
+use Rattle.std.proofs.Common.{◌≡◌, ◌-◌, ℕ, List, All, OnOk, length, map, nat_lt, ap, sym, subst}
 use Rattle.std.specs.Prelude.{IsTrue}
 use Rattle.std.specs.List.{filter, range_with_len}
 use Rattle.arrays.specs.Column.{ColumnAt}

@@ -1,4 +1,4 @@
-use Rattle.std.proofs.Common.{◌≡◌, ◌+◌, ◌≤◌, ℕ, length, length-take-le, take, ap, sym, arith, ◌∙◌}
+use Rattle.std.proofs.Common.{◌+◌, ◌≤◌, ℕ, length, length-take-le, take, ap, sym, arith, ◌∙◌}
 use Rattle.scan_exec.specs.Answering.{giving_at}
 use Rattle.scan_exec.specs.Scan.{ScanAt}
 use Rattle.scan_exec.proofs.Scanning.{opened_few}

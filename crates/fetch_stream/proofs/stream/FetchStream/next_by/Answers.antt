@@ -4,11 +4,11 @@ use Rattle.fetch_stream.specs.Streams.{StreamAt}
 use Rattle.fetch_stream.specs.inside.Ahead.{schema_behind, rows_cut}
 use Rattle.fetch_stream.specs.inside.Steps.{GivesFirst, rows_left}
 use Rattle.fetch_stream.proofs.Going.{cut_few, goes_on, gives_so, gives_next, gives_first}
-use Rattle.fetch_stream.proofs.stream.FetchStream.next.Goals as goal
-use Rattle.fetch_stream.proofs.stream.FetchStream.next.Goals.{then-self, else-self}
+use Rattle.fetch_stream.proofs.stream.FetchStream.next_by.Goals as goal
+use Rattle.fetch_stream.proofs.stream.FetchStream.next_by.Goals.{then-self, else-self}
 
 pub invariant_of-self : goal.invariant_of-self
-invariant_of-self c none = elim c.if-self.branch [
+invariant_of-self g c none = elim c.if-self.branch [
   | then-self w ↦
       let rows = w.next_rows-given in
       rw w.self-inside-is (goes_on c.self.inside.cutter c.self.inside.source c.in-Ok.field-0 rows.new.cutter rows.new.source (rw (sym w.given-is ∙ c.in-Ok.is) at rows.ensures))
@@ -16,7 +16,7 @@ invariant_of-self c none = elim c.if-self.branch [
 ]
 
 pub returns-in-Ok : goal.returns-in-Ok
-returns-in-Ok c =
+returns-in-Ok g c =
     let inside = c.self.inside in
     let new = c.if-self.self-inside in
     let given = c.in-Ok.field-0 in

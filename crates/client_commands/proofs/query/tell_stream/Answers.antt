@@ -1,0 +1,14 @@
+use Rattle.client_commands.proofs.query.tell_stream.Goals as goal
+
+pub returns : goal.returns
+returns g c =
+    rw c.in-Ok.is
+    (record {
+      result = c.write_stream.result;
+      wrote = rw (c.schema.ensures.schema, c.batches.ensures.rows) at c.write_stream.ensures.bytes;
+      counted = c.write_stream.ensures.counted;
+      batches = c.batches.result.now;
+      are = c.batches.ensures.rows;
+      cause = c.write_stream.ensures.cause;
+      told = rw c.in-Err-write_stream.is (c.end_by_fault.ensures.status, c.end_by_fault.ensures.line);
+    })

@@ -1,0 +1,3 @@
+pub mod Quoting
+pub mod Recorded
+pub mod Worked

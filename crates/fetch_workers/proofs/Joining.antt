@@ -1,0 +1,216 @@
+-- The streams of morsels, one behind the other, are the stream that they make up.
+use Rattle.std.proofs.Common.{◌≡◌, ◌≤◌, ◌<◌, ◌+◌, ℕ, Bool, true, false, List, [], ◌∷◌, ◌++◌, length, drop, Option, Some, None, Result, Ok, Err, inl, inr, refl, sym, ap, subst, ◌∙◌, append_assoc, length-append, arith}
+use Rattle.std.specs.List.{flat_map}
+use Rattle.std.proofs.lemmas.List.{drop_more, drop_all}
+use Rattle.scan_base.specs.declared.fault.Fault.{Fault}
+use Rattle.scan_base.specs.declared.fault.Fault.TheVariants.{ResultTooLarge}
+use Rattle.scan_base.specs.Limits.{most_answer_rows}
+use Rattle.arrow_schema.specs.declared.schema.Schema.{Schema}
+use Rattle.table_versions.specs.Table.{Row}
+use Rattle.flight_info.specs.Payloads.{Payload, PayloadsSay}
+use Rattle.fetch_stream.specs.Streams.{StreamAt, Gives, GivesPayload, MayRefuse, SaySoFar}
+use Rattle.fetch_stream.specs.Morsels.{MorselsAt, morsel_stream, whole_stream}
+use Rattle.fetch_stream.proofs.Answering.{gave, ended, was_refused}
+use Rattle.fetch_workers.specs.inside.Joined.{GivesCounted, GivesFirst, GivesJoined, GivesPresent, Goes, IsJoined, given_of, joined_stream, left_of}
+
+-- the rows of the morsels that come behind
+abbrev rest_of : MorselsAt → ℕ → List Row
+rest_of morsels answered = flat_map (λ (rows : List Row). rows) (drop answered morsels.rows)
+
+-- ---- a morsel, counted
+
+-- where so many rows were taken
+pub counts_payload : (before after : StreamAt) (payload : Payload) (done taken : ℕ) → Gives before (Ok (Some payload)) after → after.given ≤ taken → done + taken ≤ most_answer_rows
+    → GivesCounted before done (Ok (Some payload)) after
+counts_payload before after payload done taken gives there few = (gave before after payload gives, omega (arith, there, few))
+
+-- where there are too many
+pub counts_too_many : (before after : StreamAt) (payload : Payload) (done taken : ℕ) → Gives before (Ok (Some payload)) after → taken ≤ after.given + length after.left → most_answer_rows < done + taken
+    → GivesCounted before done (Err ResultTooLarge) after
+counts_too_many before after payload done taken gives there many =
+    let payload_gives = gave before after payload gives in
+    inr (refl, omega (arith, there, many, payload_gives.counted, ap length payload_gives.left, length-append payload_gives.rows after.left))
+
+pub counts_end : (before after : StreamAt) (done : ℕ) → Gives before (Ok None) after → GivesCounted before done (Ok None) after
+counts_end before after done gives = let end = ended before after gives in (end.1, end.2)
+
+pub counts_refusal : (before after : StreamAt) (done : ℕ) (fault : Fault) → before.refused ≡ None → Gives before (Err fault) after → GivesCounted before done (Err fault) after
+counts_refusal before after done fault none gives = by (was_refused before after fault none gives)
+  where
+    by : MayRefuse before fault → GivesCounted before done (Err fault) after
+    by (inl memory) = inl memory
+    by (inr large) = inr (large.0, omega (arith, large.2))
+
+-- ---- one payload
+
+-- what payloads say so far, where the stream has begun
+said_as : (one other : StreamAt) → one.begun ≡ true → other.begun ≡ true → one.schema ≡ other.schema → (payloads : List Payload) (rows : List Row) → SaySoFar one payloads rows → SaySoFar other payloads rows
+said_as one other on off same payloads rows said = by one.schema other.schema one.begun other.begun on off same said
+  where
+    by : (schema last : Schema) (begun too : Bool) → begun ≡ true → too ≡ true → schema ≡ last
+        → SaySoFar (record { schema = schema; begun = begun; left = one.left; given = one.given; refused = one.refused }) payloads rows
+        → SaySoFar (record { schema = last; begun = too; left = other.left; given = other.given; refused = other.refused }) payloads rows
+    by schema last true true on off same said = subst (λ (s : Schema). PayloadsSay payloads s rows) same said
+    by schema last false too on off same said = absurd cc
+    by schema last true false on off same said = absurd cc
+
+-- a payload of the present morsel is one of the stream, if there are not too many rows
+gives_present : (morsels : MorselsAt) (answered done : ℕ) (present after : StreamAt) (payload : Payload) → Goes morsels.schema (Some present) → GivesPayload present payload after
+    → done + after.given ≤ most_answer_rows → GivesPayload (joined_stream morsels answered true (Some present) done None) payload (joined_stream morsels answered true (Some after) done None)
+gives_present morsels answered done present after payload goes gives within =
+    let before = joined_stream morsels answered true (Some present) done None in
+    let behind = joined_stream morsels answered true (Some after) done None in
+    record {
+      rows = gives.rows;
+      said = λ payloads given so.
+          said_as after behind gives.begun refl (gives.schema ∙ goes.0) (payloads ++ payload ∷ []) (given ++ gives.rows)
+          (gives.said payloads given (said_as before present refl goes.1 (sym goes.0) payloads given so));
+      left = sym (append_assoc gives.rows after.left (rest_of morsels answered)) ∙ ap (λ (rows : List Row). rows ++ rest_of morsels answered) gives.left;
+      counted = omega (arith, gives.counted);
+      within = within;
+      some = λ e. gives.some goes.1;
+      few = gives.few;
+      short = gives.short;
+      fits = gives.fits;
+      schema = refl;
+      begun = refl;
+      refused = refl;
+    }
+
+-- the present morsel goes on
+still_goes : (schema : Schema) (present after : StreamAt) (payload : Payload) → Goes schema (Some present) → GivesPayload present payload after → Goes schema (Some after)
+still_goes schema present after payload goes gives = (gives.schema ∙ goes.0, gives.begun, gives.refused)
+
+-- what refuses a morsel that is counted refuses the stream
+refuses_counted : (morsels : MorselsAt) (answered done : ℕ) (present : StreamAt) (fault : Fault) → GivesCounted present done (Err fault) present → MayRefuse (joined_stream morsels answered true (Some present) done None) fault
+refuses_counted morsels answered done present fault (inl memory) = inl memory
+refuses_counted morsels answered done present fault (inr large) =
+    inr (large.0, refl, omega (arith, large.1, length-append present.left (rest_of morsels answered)))
+
+-- behind the end of the present morsel the stream is the same with none
+none_present : (morsels : MorselsAt) (answered done : ℕ) (present : StreamAt) → present.left ≡ []
+    → joined_stream morsels answered true None (done + present.given) None ≡ joined_stream morsels answered true (Some present) done None
+none_present morsels answered done present none = by present.left present.given none
+  where
+    by : (left : List Row) (given : ℕ) → left ≡ [] → joined_stream morsels answered true None (done + given) None
+        ≡ record { schema = morsels.schema; begun = true; left = left ++ rest_of morsels answered; given = done + given; refused = None }
+    by left given none = let sum : done + given + 0 ≡ done + given = omega arith in rw (none, sum) refl
+
+-- ---- the present morsel
+
+module _ (morsels : MorselsAt) (answered done : ℕ) where
+  -- none is present
+  pub present_none : (present next : Option StreamAt) → present ≡ None → next ≡ None → done + given_of present ≤ most_answer_rows → GivesPresent morsels answered present done (Ok None) next done
+  present_none present next none too few = rw (none, too) (refl, omega (arith, rw none at few), refl)
+
+  -- a payload of it
+  pub present_payload : (present after : StreamAt) (payload : Payload) → Goes morsels.schema (Some present) → GivesCounted present done (Ok (Some payload)) after
+      → GivesPresent morsels answered (Some present) done (Ok (Some payload)) (Some after) done
+  present_payload present after payload goes gives =
+      (gives_present morsels answered done present after payload goes gives.0 gives.1, still_goes morsels.schema present after payload goes gives.0, gives.1)
+
+  -- its end
+  pub present_ended : (present after : StreamAt) (all : ℕ) → done + present.given ≤ most_answer_rows → GivesCounted present done (Ok None) after → all ≡ done + after.given
+      → GivesPresent morsels answered (Some present) done (Ok None) None all
+  present_ended present after all few gives is =
+      let same : all ≡ done + present.given = is ∙ ap (λ (s : StreamAt). done + s.given) gives.1 in
+      rw same (refl, few, none_present morsels answered done present gives.0)
+
+  -- it is refused
+  pub present_refused : (present after : StreamAt) (fault : Fault) (next : Option StreamAt) (all : ℕ) → GivesCounted present done (Err fault) after → GivesPresent morsels answered (Some present) done (Err fault) next all
+  present_refused present after fault next all gives = refuses_counted morsels answered done present fault gives
+
+-- ---- the next morsel
+
+-- the next morsel is the present one
+next_present : (morsels : MorselsAt) (answered done : ℕ) → answered < length morsels.rows
+    → joined_stream morsels answered true None done None ≡ joined_stream morsels (answered + 1) true (Some (morsel_stream morsels answered)) done None
+next_present morsels answered done there =
+    ap (λ (left : List Row). record { schema = morsels.schema; begun = true; left = left; given = done + 0; refused = None }) (ap (flat_map (λ (rows : List Row). rows)) (drop_more morsels.rows answered [] there))
+
+-- where more morsels were answered, all of which gave nothing, the stream is what it was
+abbrev pub StoodSo : MorselsAt → ℕ → ℕ → ℕ → Type 0
+StoodSo morsels done first now = joined_stream morsels now true None done None ≡ joined_stream morsels first true None done None
+
+-- the next morsel was not refused
+fresh_goes : (morsels : MorselsAt) (now : ℕ) (part : StreamAt) → part ≡ morsel_stream morsels now → Goes morsels.schema (Some part)
+fresh_goes morsels now part is = subst (λ (s : StreamAt). Goes morsels.schema (Some s)) (sym is) (refl, refl, refl)
+
+module _ (morsels : MorselsAt) (done first now : ℕ) (stood : StoodSo morsels done first now) where
+  -- behind the last morsel nothing is left
+  pub later_none : done ≤ most_answer_rows → length morsels.rows ≤ now → GivesJoined morsels first None done (Ok None) now None done
+  later_none few high =
+      let none : (joined_stream morsels now true None done None).left ≡ [] = ap (flat_map (λ (rows : List Row). rows)) (drop_all now morsels.rows high) in
+      (sym (ap (λ (s : StreamAt). s.left) stood) ∙ none, stood, tt, omega (arith, few))
+
+  module _ (part : StreamAt) (is : part ≡ morsel_stream morsels now) (there : now < length morsels.rows) where
+    -- the stream with the next morsel present
+    with_next : joined_stream morsels (now + 1) true (Some part) done None ≡ joined_stream morsels first true None done None
+    with_next = ap (λ (s : StreamAt). joined_stream morsels (now + 1) true (Some s) done None) is ∙ sym (next_present morsels now done there) ∙ stood
+
+    -- a payload of it
+    pub later_payload : (after : StreamAt) (payload : Payload) (next : ℕ) → next ≡ now + 1 → GivesCounted part done (Ok (Some payload)) after → GivesJoined morsels first None done (Ok (Some payload)) next (Some after) done
+    later_payload after payload next more gives =
+        let goes : Goes morsels.schema (Some part) = fresh_goes morsels now part is in
+        let one : GivesPayload (joined_stream morsels (now + 1) true (Some part) done None) payload (joined_stream morsels (now + 1) true (Some after) done None) = gives_present morsels (now + 1) done part after payload goes gives.0 gives.1 in
+        let all : GivesPayload (joined_stream morsels first true None done None) payload (joined_stream morsels (now + 1) true (Some after) done None) =
+        subst (λ (s : StreamAt). GivesPayload s payload (joined_stream morsels (now + 1) true (Some after) done None)) with_next one in
+        subst (λ (k : ℕ). GivesJoined morsels first None done (Ok (Some payload)) k (Some after) done) (sym more) (all, still_goes morsels.schema part after payload goes gives.0, gives.1)
+
+    -- its end, where it gave nothing
+    pub later_ended : (after : StreamAt) (next : ℕ) → next ≡ now + 1 → GivesCounted part done (Ok None) after → StoodSo morsels done first next
+    later_ended after next more gives =
+        let nothing : done + part.given ≡ done = ap (λ (s : StreamAt). done + s.given) is ∙ omega arith in
+        let one : joined_stream morsels (now + 1) true None (done + part.given) None ≡ joined_stream morsels (now + 1) true (Some part) done None = none_present morsels (now + 1) done part gives.0 in
+        let two : joined_stream morsels (now + 1) true None done None ≡ joined_stream morsels (now + 1) true (Some part) done None = subst (λ (k : ℕ). joined_stream morsels (now + 1) true None k None ≡ joined_stream morsels (now + 1) true (Some part) done None) nothing one in
+        subst (λ (k : ℕ). StoodSo morsels done first k) (sym more) (two ∙ with_next)
+
+    -- it is refused
+    pub later_refused : (after : StreamAt) (fault : Fault) (next : ℕ) (present : Option StreamAt) → GivesCounted part done (Err fault) after → GivesJoined morsels first None done (Err fault) next present done
+    later_refused after fault next present gives =
+        subst (λ (s : StreamAt). MayRefuse s fault) with_next (refuses_counted morsels (now + 1) done part fault gives)
+
+-- ---- a call
+
+-- what a stream gives, by another name of it
+pub joined_as : (morsels : MorselsAt) (answered done all now last : ℕ) (one other next : Option StreamAt) (result : Result (Option Payload) Fault)
+    → joined_stream morsels answered true one done None ≡ joined_stream morsels answered true other all None
+    → GivesJoined morsels answered one done result now next last → GivesJoined morsels answered other all result now next last
+joined_as morsels answered done all now last one other next (Ok (Some payload)) same gives =
+    (subst (λ (s : StreamAt). GivesPayload s payload (joined_stream morsels now true next last None)) same gives.0, gives.1, gives.2)
+joined_as morsels answered done all now last one other next (Ok None) same gives =
+    (sym (ap (λ (s : StreamAt). s.left) same) ∙ gives.0, gives.1 ∙ same, gives.2, gives.3)
+joined_as morsels answered done all now last one other next (Err fault) same gives = subst (λ (s : StreamAt). MayRefuse s fault) same gives
+
+-- what the present morsel gives is what the stream gives
+pub joined_present : (morsels : MorselsAt) (answered done all : ℕ) (present next : Option StreamAt) (payload : Payload) → GivesPresent morsels answered present done (Ok (Some payload)) next all
+    → GivesJoined morsels answered present done (Ok (Some payload)) answered next all
+joined_present morsels answered done all present next payload gives = gives
+
+-- no morsel was answered, and no payload given
+pub begins : (morsels : MorselsAt) → joined_stream morsels 0 false None 0 None ≡ whole_stream morsels
+begins morsels = refl
+
+-- the first payload
+pub first_joined : (morsels : MorselsAt) (answered done : ℕ) (begun : Bool) (present : Option StreamAt) (given : Option Payload) → begun ≡ false → done + given_of present ≡ 0 → GivesFirst morsels.schema (Ok given)
+    → Gives (joined_stream morsels answered begun present done None) (Ok given) (joined_stream morsels answered true present done None)
+first_joined morsels answered done begun present None first zero says = absurd says
+first_joined morsels answered done true present (Some payload) first zero says = absurd cc
+first_joined morsels answered done false present (Some payload) first zero says = by (done + given_of present) zero
+  where
+    by : (count : ℕ) → count ≡ 0 → GivesPayload (record { schema = morsels.schema; begun = false; left = left_of present ++ rest_of morsels answered; given = count; refused = None }) payload
+        (record { schema = morsels.schema; begun = true; left = left_of present ++ rest_of morsels answered; given = count; refused = None })
+    by count none = rw none (says (left_of present ++ rest_of morsels answered))
+
+-- a later one
+pub next_joined : (morsels : MorselsAt) (answered done now all : ℕ) (begun : Bool) (present next : Option StreamAt) (given : Option Payload) → begun ≡ true → GivesJoined morsels answered present done (Ok given) now next all
+    → Gives (joined_stream morsels answered begun present done None) (Ok given) (joined_stream morsels now true next all None)
+next_joined morsels answered done now all false present next given on gives = absurd cc
+next_joined morsels answered done now all true present next (Some payload) on gives = gives.0
+next_joined morsels answered done now all true present next None on gives = (refl, gives.0, gives.1)
+
+-- where a stream stands behind a call
+pub stands_on : (morsels : MorselsAt) (answered done now all : ℕ) (present next : Option StreamAt) (given : Option Payload) (refused : Option Fault) → GivesJoined morsels answered present done (Ok given) now next all
+    → IsJoined morsels true next all refused
+stands_on morsels answered done now all present next (Some payload) refused gives = record { goes = λ e. gives.1; few = λ e. gives.2; first = λ e. absurd cc }
+stands_on morsels answered done now all present next None refused gives = record { goes = λ e. gives.2; few = λ e. gives.3; first = λ e. absurd cc }

@@ -1,0 +1,82 @@
+-- Inside: the stream that its morsels make up, where some of them were answered.
+use Rattle.std.specs.Prelude.{◌≡◌, ◌≤◌, ◌<◌, ◌⊎◌, ℕ, ◌+◌, Bool, true, false, List, [], ◌++◌, length, drop, Option, Some, None, Result, Ok, Err}
+use Rattle.std.specs.List.{flat_map}
+use Rattle.scan_base.specs.declared.fault.Fault.{Fault}
+use Rattle.scan_base.specs.declared.fault.Fault.TheVariants.{OutOfMemory, ResultTooLarge}
+use Rattle.scan_base.specs.Limits.{most_answer_rows}
+use Rattle.arrow_schema.specs.declared.schema.Schema.{Schema}
+use Rattle.table_versions.specs.Table.{Row}
+use Rattle.flight_info.specs.Payloads.{Payload}
+use Rattle.fetch_stream.specs.Streams.{StreamAt, GivesPayload, MayRefuse}
+use Rattle.fetch_stream.specs.Morsels.{MorselsAt, GivesSchema, morsel_stream}
+
+-- what may be answered to each morsel is its stream, and there are as many answers as morsels
+pub record AnswersMorsels {A : Type 0} (stream : A → StreamAt) (morsels : MorselsAt) (right : ℕ → A → Type 0) (count : ℕ) : Type 0 where
+  pub count_is : count ≡ length morsels.rows
+  pub each : (number : ℕ) (answer : A) → right number answer → stream answer ≡ morsel_stream morsels number
+
+-- what is left of the morsel whose payloads come next, and how many rows of it were given
+abbrev pub left_of : Option StreamAt → List Row
+left_of None = []
+left_of (Some present) = present.left
+
+abbrev pub given_of : Option StreamAt → ℕ
+given_of None = 0
+given_of (Some present) = present.given
+
+-- the stream behind so many morsels that were answered, of which the last one is present, and those before had so many rows
+abbrev pub joined_stream : MorselsAt → ℕ → Bool → Option StreamAt → ℕ → Option Fault → StreamAt
+joined_stream morsels answered begun present done refused = record {
+  schema = morsels.schema;
+  begun = begun;
+  left = left_of present ++ flat_map (λ (rows : List Row). rows) (drop answered morsels.rows);
+  given = done + given_of present;
+  refused = refused;
+}
+
+-- a morsel that is present was not refused
+abbrev pub Goes : Schema → Option StreamAt → Type 0
+Goes schema None = Unit {0}
+Goes schema (Some present) = (present.schema ≡ schema) × (present.begun ≡ true) × (present.refused ≡ None)
+
+-- where a stream stands, if it was not refused; before its first payload no row was given
+pub record IsJoined (morsels : MorselsAt) (begun : Bool) (present : Option StreamAt) (done : ℕ) (refused : Option Fault) : Type 0 where
+  pub goes : refused ≡ None → Goes morsels.schema present
+  pub few : refused ≡ None → done + given_of present ≤ most_answer_rows
+  pub first : begun ≡ false → done + given_of present ≡ 0
+
+-- the first payload says the schema
+abbrev pub GivesFirst : Schema → Result (Option Payload) Fault → Type 0
+GivesFirst schema (Ok (Some payload)) = GivesSchema schema (Ok payload)
+GivesFirst schema (Ok None) = ⊥
+GivesFirst schema (Err fault) = GivesSchema schema (Err fault)
+
+-- what a morsel gives, where those before it had so many rows
+abbrev pub GivesCounted : StreamAt → ℕ → Result (Option Payload) Fault → StreamAt → Type 0
+GivesCounted before done (Ok (Some payload)) after = GivesPayload before payload after × (done + after.given ≤ most_answer_rows)
+GivesCounted before done (Ok None) after = (before.left ≡ []) × (after ≡ before)
+GivesCounted before done (Err fault) after =
+    (fault ≡ OutOfMemory) ⊎ ((fault ≡ ResultTooLarge) × (most_answer_rows < done + (before.given + length before.left)))
+
+-- what the present morsel gives; behind its end none is present
+abbrev pub GivesPresent : MorselsAt → ℕ → Option StreamAt → ℕ → Result (Option Payload) Fault → Option StreamAt → ℕ → Type 0
+GivesPresent morsels answered present done (Ok (Some payload)) next all =
+    GivesPayload (joined_stream morsels answered true present done None) payload (joined_stream morsels answered true next all None)
+    × Goes morsels.schema next × (all + given_of next ≤ most_answer_rows)
+GivesPresent morsels answered present done (Ok None) next all =
+    (next ≡ None) × (all ≤ most_answer_rows)
+    × (joined_stream morsels answered true None all None ≡ joined_stream morsels answered true present done None)
+GivesPresent morsels answered present done (Err fault) next all =
+    MayRefuse (joined_stream morsels answered true present done None) fault
+
+-- what comes of all morsels, where a stream stood at one and stands at another
+abbrev pub GivesJoined : MorselsAt → ℕ → Option StreamAt → ℕ → Result (Option Payload) Fault → ℕ → Option StreamAt → ℕ → Type 0
+GivesJoined morsels answered present done (Ok (Some payload)) now next all =
+    GivesPayload (joined_stream morsels answered true present done None) payload (joined_stream morsels now true next all None)
+    × Goes morsels.schema next × (all + given_of next ≤ most_answer_rows)
+GivesJoined morsels answered present done (Ok None) now next all =
+    ((joined_stream morsels answered true present done None).left ≡ [])
+    × (joined_stream morsels now true next all None ≡ joined_stream morsels answered true present done None)
+    × Goes morsels.schema next × (all + given_of next ≤ most_answer_rows)
+GivesJoined morsels answered present done (Err fault) now next all =
+    MayRefuse (joined_stream morsels answered true present done None) fault

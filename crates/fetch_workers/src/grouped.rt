@@ -1,0 +1,62 @@
+//! Streams whose groups several workers make.
+
+ghost use Rattle.std.specs.Prelude.{◌≡◌};
+
+use fetch_stream::{FetchStream, Payload, Payloads, ReadsPayloads};
+use group_workers::GroupWorkers;
+use scan_base::Fault;
+use scan_exec::GroupsBatches;
+use std::alloc::Global;
+use std::sync::Wait;
+use std::thread::Threads;
+
+/// A stream, and who makes its groups. What a reader sees is the stream.
+#[derive(Drop)]
+pub struct GroupedStream<'g, G> {
+    stream: FetchStream,
+    by: &'g G,
+}
+
+impl<'g, G: GroupsBatches> GroupedStream<'g, G> {
+    /// A stream whose groups are made by the one that is handed in.
+    pub fn new(stream: FetchStream, by: &'g G) -> GroupedStream<'g, G>
+        ensures { result.stream ≡ stream }
+    {
+        GroupedStream { stream, by }
+    }
+}
+
+impl<'g, G: GroupsBatches> Payloads for GroupedStream<'g, G> {
+    ghost stream = { λ s. s.stream };
+
+    fn next(&mut self, alloc: Global) -> Result<Option<Payload>, Fault> {
+        self.stream.next_by(alloc, self.by)
+    }
+}
+
+/// A stream, and how many workers make its groups at most.
+#[derive(Drop)]
+pub struct GroupedWork {
+    pub alloc: Global,
+    pub stream: FetchStream,
+    pub workers: usize,
+}
+
+// Has a stream read whose groups so many workers make. Its payloads are made by the thread that reads.
+pub(crate) fn read_grouped<R: Threads + Wait + Sync, S: ReadsPayloads>(
+    rt: &R,
+    work: GroupedWork,
+    reader: &mut S,
+) -> Result<(), Fault>
+    requires { S.takes reader.old }
+    ensures { S.reads reader.old work.stream result reader.new }
+{
+    let GroupedWork {
+        alloc,
+        stream,
+        workers,
+    } = work;
+    let by = GroupWorkers::new(rt, workers);
+    let mut grouped = GroupedStream::new(stream, &by);
+    reader.read(alloc, &mut grouped)
+}

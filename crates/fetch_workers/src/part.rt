@@ -1,0 +1,42 @@
+//! The payloads of one morsel.
+
+use fetch_stream::{Ahead, Payload};
+use scan_base::Fault;
+use std::alloc::Global;
+
+// The payloads of one morsel, one at a time, and how many rows they have.
+pub(crate) trait Part: Drop {
+    ghost use Rattle.std.specs.Prelude.{◌≡◌, ◌≤◌, ◌+◌, length};
+    ghost use Rattle.fetch_stream.specs.Streams.{StreamAt, Gives};
+
+    // What is still to come of it.
+    ghost stream: { Self → StreamAt };
+
+    fn next(&mut self, alloc: Global) -> Result<Option<Payload>, Fault>
+        ensures { Gives (stream self.old) result (stream self.new) };
+
+    // How many rows were given.
+    fn given(&self) -> usize
+        ensures { result ≡ (stream self.now).given };
+
+    // How many rows were taken of its scan.
+    fn taken(&self) -> usize
+        ensures given { (stream self.now).given ≤ result }
+        ensures there { result ≤ (stream self.now).given + length (stream self.now).left };
+}
+
+impl<'s> Part for Ahead<'s> {
+    ghost stream = { λ s. s };
+
+    fn next(&mut self, alloc: Global) -> Result<Option<Payload>, Fault> {
+        Ahead::next(self, alloc)
+    }
+
+    fn given(&self) -> usize {
+        Ahead::given(self)
+    }
+
+    fn taken(&self) -> usize {
+        Ahead::taken(self)
+    }
+}

@@ -1,0 +1,32 @@
+//! The morsels of a stream as work.
+
+use fetch_stream::{Ahead, Morsels};
+use scan_workers::Work;
+use std::alloc::Global;
+
+// The morsels of a stream, each of which is answered by its payloads, some of them made ahead.
+#[derive(Drop)]
+pub(crate) struct MorselWork<'s> {
+    pub(crate) morsels: Morsels<'s>,
+}
+
+impl<'s> Work for MorselWork<'s> {
+    type Answer = Ahead<'s>;
+
+    ghost use Rattle.std.specs.Prelude.{◌≡◌, length};
+    ghost use Rattle.fetch_stream.specs.Morsels.{morsel_stream};
+
+    ghost ready = { λ _. Unit {0} };
+
+    ghost count = { λ w. length w.morsels.rows };
+
+    ghost answers = { λ w number answer. answer ≡ morsel_stream w.morsels number };
+
+    fn count(&self) -> usize {
+        self.morsels.count()
+    }
+
+    fn answer(&self, alloc: Global, morsel: usize) -> Ahead<'s> {
+        self.morsels.ahead(alloc, morsel)
+    }
+}

@@ -1,0 +1,68 @@
+-- That groups are those of some rows can be shown in one way at most.
+use Rattle.std.proofs.Common.{◌≡◌, ℕ, List, [], length, Option, Result, Ok, Err, refl}
+use Rattle.std.specs.Coded.{Coded-set, coded_ℕ, coded_list, coded_option}
+use Rattle.std.proofs.Math.Logic.{∥∥₁_elim}
+use Rattle.arrow_schema.specs.declared.data_type.DataType.{DataType}
+use Rattle.arrow_schema.specs.contracts.data_type.DataType as data_type
+use Rattle.arrays.specs.Batch.{BatchAt}
+use Rattle.arrays.specs.contracts.batch.Batch as batch
+use Rattle.scan_base.specs.declared.fault.Fault.{Fault}
+use Rattle.scan_base.specs.contracts.fault.Fault as fault
+use Rattle.scan_base.specs.declared.value.Value.{Value}
+use Rattle.scan_base.specs.contracts.value.Value as value
+use Rattle.table_versions.specs.Table.{Row}
+use Rattle.typed_plan.specs.declared.plan.Aggregate.{Aggregate}
+use Rattle.typed_plan.specs.contracts.plan.Aggregate as aggregate
+use Rattle.grouping.specs.declared.tally.Tally.{Tally}
+use Rattle.grouping.specs.contracts.tally.Tally as tally
+use Rattle.grouping.specs.Fed.{AreTallied, GroupsAt, Holds}
+use Rattle.group_workers.specs.Merging.{CanMerge}
+use Rattle.scan_exec.specs.GroupWork.{AreGroupsOf, CanBeGrouped, GroupsOfBatch, GroupWorkAt}
+
+numbers_equal : (n m : ℕ) → IsProp (n ≡ m)
+numbers_equal = Coded-set coded_ℕ
+
+places_equal : (xs ys : List ℕ) → IsProp (xs ≡ ys)
+places_equal = Coded-set (coded_list coded_ℕ)
+
+batches_equal : (xs ys : List BatchAt) → IsProp (xs ≡ ys)
+batches_equal = Coded-set (coded_list batch.the_row.coded)
+
+types_equal : (xs ys : List DataType) → IsProp (xs ≡ ys)
+types_equal = Coded-set (coded_list data_type.the_row.coded)
+
+items_equal : (xs ys : List Aggregate) → IsProp (xs ≡ ys)
+items_equal = Coded-set (coded_list aggregate.the_row.coded)
+
+faults_equal : (xs ys : Option Fault) → IsProp (xs ≡ ys)
+faults_equal = Coded-set (coded_option fault.the_row.coded)
+
+keys_equal : (xs ys : List (List Value)) → IsProp (xs ≡ ys)
+keys_equal = Coded-set (coded_list (coded_list value.the_row.coded))
+
+tallies_equal : (x y : Tally) → IsProp (x ≡ y)
+tallies_equal = Coded-set tally.the_row.coded
+
+AreTallied-prop : (keys : List ℕ) (found : List (List Value)) (rows : List Row) (item : Aggregate) (tallies : List Tally) → IsProp (AreTallied keys found rows item tallies)
+AreTallied-prop keys found rows item tallies = hlevel (numbers_equal, tallies_equal)
+
+Holds-prop : (groups : GroupsAt) (rows : List Row) → IsProp (Holds groups rows)
+Holds-prop groups rows = hlevel (numbers_equal, keys_equal, AreTallied-prop)
+
+AreGroupsOf-prop : (work : GroupWorkAt) (rows : List Row) (groups : GroupsAt) → IsProp (AreGroupsOf work rows groups)
+AreGroupsOf-prop work rows groups = hlevel (batches_equal, types_equal, places_equal, items_equal, faults_equal, Holds-prop)
+
+-- so what is kept of it is what it was
+groups_of_batch : (work : GroupWorkAt) (number : ℕ) (answer : Result GroupsAt Fault) → ∥ GroupsOfBatch work number answer ∥₁ → GroupsOfBatch work number answer
+groups_of_batch work number (Ok groups) is = ∥∥₁_elim is (AreGroupsOf-prop work _ groups) (λ x. x)
+groups_of_batch work number (Err fault) is = tt
+
+-- so the groups of each batch can be merged behind groups of no row
+pub can_merge : (work : GroupWorkAt) (groups : GroupsAt) → CanBeGrouped work → AreGroupsOf work [] groups →
+    CanMerge work groups (λ number answer. ∥ GroupsOfBatch work number answer ∥₁) (length work.batches)
+can_merge work groups can new = record {
+  can = can;
+  new = new;
+  count_is = refl;
+  each = groups_of_batch work;
+}

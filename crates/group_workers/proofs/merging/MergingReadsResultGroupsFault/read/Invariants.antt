@@ -1,0 +1,17 @@
+use Rattle.std.proofs.Common.{◌≡◌, ◌≤◌, ◌-◌, take}
+use Rattle.std.specs.List.{flat_map}
+use Rattle.arrays.specs.Batch.{rows_of}
+use Rattle.scan_exec.specs.GroupWork.{AreGroupsOf, passing, work_at}
+use Rattle.group_workers.proofs.merging.MergingReadsResultGroupsFault.read.Given as goal
+
+-- the groups of the batches so far are merged
+abbrev pub invariant-loop-part : goal.invariant-loop-part
+invariant-loop-part g l =
+    (l.self.work ≡ l.initial.self.work)
+    × (g.P.Answers.count l.answers ≡ g.P.Answers.count l.initial.answers)
+    × g.P.Answers.ready l.answers
+    × (g.P.Answers.given l.answers ≤ g.P.Answers.count l.answers)
+    × AreGroupsOf (work_at l.self.work.now) (passing (work_at l.self.work.now).pick (flat_map rows_of (take (g.P.Answers.given l.answers) l.self.work.now.shape.batches.now))) l.self.groups
+
+abbrev pub decreases-loop-part : goal.decreases-loop-part
+decreases-loop-part g l = g.P.Answers.count l.answers - g.P.Answers.given l.answers

@@ -1,0 +1,117 @@
+//! Several workers that group the rows of batches.
+
+ghost use Rattle.scan_exec.specs.GroupWork.{CanBeGrouped, GroupsOfAll, work_at};
+
+use crate::merging::{BatchGroups, Merging};
+use grouping::Groups;
+use scan_base::Fault;
+use scan_exec::{GroupWork, GroupsBatches, InOneWalk};
+use scan_workers::{NoGate, in_order};
+use std::alloc::Global;
+use std::marker::Model;
+use std::sync::Wait;
+use std::thread::Threads;
+
+/// A handle that starts the threads which make groups: each that may start threads and wait, and that threads may share.
+pub trait StartsGroupWorkers {
+    ghost use Rattle.scan_exec.specs.GroupWork.{CanBeGrouped, GroupsOfAll, work_at};
+
+    // What is to be known of it: that threads may share it.
+    ghost shared: { Self → Type 0 };
+
+    /// The groups of all batches, of which so many workers make those of each batch.
+    ///
+    /// # Errors
+    ///
+    /// F21 (`Fault::OutOfMemory`) where memory is refused.
+    fn groups_beside<'t>(
+        &self,
+        alloc: Global,
+        work: &GroupWork<'t, '_>,
+        workers: usize,
+    ) -> Result<Groups<'t>, Fault>
+        requires shared { shared self.now }
+        requires can { CanBeGrouped (work_at work.now) }
+        ensures { GroupsOfAll (work_at work.now) result };
+}
+
+impl<R: Threads + Wait + Sync> StartsGroupWorkers for R {
+    ghost use Rattle.group_workers.specs.Shared.{MayBeShared};
+
+    ghost shared = { λ _. MayBeShared R.row };
+
+    fn groups_beside<'t>(
+        &self,
+        alloc: Global,
+        work: &GroupWork<'t, '_>,
+        workers: usize,
+    ) -> Result<Groups<'t>, Fault> {
+        groups_beside(self, alloc, work, workers)
+    }
+}
+
+/// Groups the rows of each batch for itself, by several workers, and merges the groups in the order of the batches. Threads
+/// are started once for a call, and have ended when it returns. No more workers are at work than there are batches; with fewer
+/// than two the rows are grouped in one walk, and no thread is started.
+#[derive(Drop)]
+pub struct GroupWorkers<'h, R: StartsGroupWorkers> {
+    rt: &'h R,
+    workers: usize,
+}
+
+// That threads may share the handle is known where workers are made of it, and kept for where they group.
+impl<'h, R: StartsGroupWorkers> Model for GroupWorkers<'h, R> {
+    ghost Value = { Unit {0} };
+
+    ghost view = { λ _. tt };
+
+    ghost invariant = { λ w. R.shared w.rt.now };
+}
+
+impl<'h, R: Threads + Wait + Sync> GroupWorkers<'h, R> {
+    /// So many workers at most, with the thread that calls. This handle starts the threads of the others.
+    pub fn new(rt: &'h R, workers: usize) -> GroupWorkers<'h, R> {
+        GroupWorkers { rt, workers }
+    }
+}
+
+impl<'h, R: StartsGroupWorkers> GroupsBatches for GroupWorkers<'h, R> {
+    fn groups_of_all<'t>(
+        &self,
+        alloc: Global,
+        work: &GroupWork<'t, '_>,
+    ) -> Result<Groups<'t>, Fault> {
+        let batches = work.shape.batches;
+        let workers = self.workers.min(batches.len());
+        if workers < 2 {
+            return InOneWalk.groups_of_all(alloc, work);
+        }
+        self.rt.groups_beside(alloc, work, workers)
+    }
+}
+
+// The groups of all batches, of which so many workers make those of each batch. This thread merges them in order.
+fn groups_beside<'t, R: Threads + Wait + Sync>(
+    rt: &R,
+    alloc: Global,
+    work: &GroupWork<'t, '_>,
+    workers: usize,
+) -> Result<Groups<'t>, Fault>
+    requires { CanBeGrouped (work_at work.now) }
+    ensures { GroupsOfAll (work_at work.now) result }
+{
+    let groups = Groups::new(alloc, work.seed, work.shape)?;
+    let mut merging = Merging {
+        alloc,
+        work,
+        groups,
+    };
+    let morsels = BatchGroups { work };
+    in_order(rt, alloc, &morsels, workers, &NoGate, &mut merging)??;
+    let Merging {
+        alloc: _,
+        work: _,
+        groups,
+    } = merging;
+    Ok(groups)
+}

@@ -1,0 +1,49 @@
+-- Why a stream was not written.
+use Rattle.std.proofs.Common.{◌≡◌, ◌<◌, ◌^◌, ℕ, ◌+◌, List, [], ◌∷◌, length, get_or, All, Result, Ok, Err, refl, sym, subst, arith}
+use Rattle.std.specs.Prelude.{MatchResult}
+use Rattle.std.proofs.lemmas.List.Elements.{All-nil, All-cons}
+use Rattle.scan_base.specs.declared.fault.Fault.{Fault}
+use Rattle.scan_base.specs.declared.fault.Fault.TheVariants.{LimitReached, OutOfMemory, Transport}
+use Rattle.arrays.specs.Batch.{BatchAt}
+use Rattle.grpc_frame.specs.Ends.{CountsFailure, FailsByTransport}
+use Rattle.ipc_batch.specs.Written.{body_length}
+use Rattle.row_stream.specs.Stream.{CountsTransport, IsCause}
+
+-- a failed transport is counted
+pub counts : {A : Type 0} (result : Result A Fault) (old new : ℕ) → CountsFailure result old new → FailsByTransport result → CountsTransport result old new
+counts (Ok x) old new counted kind = counted
+counts {A = A} (Err fault) old new counted kind = subst (λ (f : Fault). CountsTransport {A = A} (Err f) old new) (sym kind) counted
+
+-- and is the cause
+pub by_transport : (batches : List BatchAt) (fault : Fault) → fault ≡ Transport → IsCause batches fault
+by_transport batches fault e = subst (IsCause batches) (sym e) tt
+
+pub by_memory : (batches : List BatchAt) (fault : Fault) → fault ≡ OutOfMemory → IsCause batches fault
+by_memory batches fault e = subst (IsCause batches) (sym e) tt
+
+-- the body of a batch is not too long
+abbrev IsShort : BatchAt → Type 0
+IsShort batch = body_length batch < 2 ^ 31
+
+-- the cause of some batches is one of all
+cause_of : (some all : List BatchAt) (fault : Fault) → (All (λ batch. body_length batch < 2 ^ 31) all → All (λ batch. body_length batch < 2 ^ 31) some) → IsCause some fault → IsCause all fault
+cause_of some all Transport less cause = tt
+cause_of some all OutOfMemory less cause = tt
+cause_of some all LimitReached less cause = λ each. cause (less each)
+cause_of some all _ less cause = absurd cause
+
+-- of none
+pub cause_of_none : (batches : List BatchAt) (fault : Fault) → IsCause [] fault → IsCause batches fault
+cause_of_none batches fault cause = cause_of [] batches fault (λ each k d inside. absurd (omega (arith, inside))) cause
+
+-- of one
+pub cause_of_one : (batches : List BatchAt) (i : ℕ) (batch : BatchAt) (fault : Fault) → i < length batches → batch ≡ get_or batches i batch → IsCause (batch ∷ []) fault → IsCause batches fault
+cause_of_one batches i batch fault inside is cause =
+    cause_of (batch ∷ []) batches fault (λ each. All-cons IsShort batch [] (subst IsShort (sym is) (each i batch inside)) (All-nil IsShort)) cause
+
+-- ---- a result
+
+-- a failed transport is the only cause
+pub causes_by_transport : {A : Type 0} (batches : List BatchAt) (result : Result A Fault) → FailsByTransport result → MatchResult result (λ _. Unit {0}) (IsCause batches)
+causes_by_transport batches (Ok x) kind = tt
+causes_by_transport batches (Err fault) kind = by_transport batches fault kind

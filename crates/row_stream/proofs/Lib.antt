@@ -1,0 +1,4 @@
+pub mod Parts
+pub mod Messages
+pub mod Causes
+pub mod SoFar

@@ -1,0 +1,10 @@
+//! Rows as an Arrow IPC stream.
+//!
+//! `specs/Stream.antt` says what is written.
+#![tactic(auto)]
+
+mod message;
+mod sending;
+mod writing;
+
+pub use crate::writing::write_stream;

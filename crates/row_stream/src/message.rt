@@ -1,0 +1,60 @@
+//! Messages of a stream, ready to be sent.
+
+ghost use Rattle.std.specs.Prelude.{◌≡◌, ◌↔◌, ◌≤◌, ◌<◌, ◌^◌, length, IfOk, IfSome, IsSome};
+ghost use Rattle.arrow_schema.specs.Schema.{IsSchema};
+ghost use Rattle.scan_base.specs.Limits.{most_columns};
+ghost use Rattle.ipc_batch.specs.Written.{body_length, SaysBatch};
+ghost use Rattle.ipc_stream.specs.Stream.{IsMessage};
+ghost use Rattle.row_stream.specs.Stream.{sent_in};
+ghost use Rattle.row_stream.specs.inside.Frames.{SaysSchema};
+
+use arrays::Batch;
+use arrow_schema::{Schema, write_schema};
+use bytes::Bytes;
+use ipc_batch::SizedBatch;
+use std::alloc::{AllocError, Global};
+use std::marker::Model;
+
+/// A message of a stream: its header, and the buffers of its body, of which no copy is made. A contract sees the message.
+#[derive(Drop)]
+pub(crate) struct Ready {
+    pub header: Vec<u8>,
+    pub buffers: Vec<Bytes>,
+}
+
+impl Model for Ready {
+    ghost use Rattle.ipc_batch.specs.Written.{body_of};
+    ghost use Rattle.ipc_stream.specs.declared.message.IpcMessage.{IpcMessage};
+
+    ghost Value = { IpcMessage };
+
+    ghost view = { λ ready. record { header = ready.header.items; body = body_of ready.buffers.items } };
+}
+
+/// The message of a schema.
+pub(crate) fn schema_message(alloc: Global, schema: &Schema) -> Result<Ready, AllocError>
+    requires { IsSchema schema.now }
+    ensures fits { IfOk result IsMessage }
+    ensures says { IfOk result (λ message. SaysSchema schema.now (sent_in message)) }
+{
+    Ok(Ready {
+        header: write_schema(alloc, schema)?,
+        buffers: Vec::new(alloc),
+    })
+}
+
+/// The message of a batch, or nothing where its body would have 2 to the 31 bytes or more.
+pub(crate) fn batch_message(alloc: Global, batch: &Batch) -> Result<Option<Ready>, AllocError>
+    requires { length batch.now.columns ≤ most_columns }
+    ensures found { IfOk result (λ found. IsSome found ↔ (body_length batch.now < 2 ^ 31)) }
+    ensures fits { IfOk result (λ found. IfSome found IsMessage) }
+    ensures says { IfOk result (λ found. IfSome found (λ message. SaysBatch (sent_in message) batch.now)) }
+{
+    let Some(sized) = SizedBatch::new(alloc, batch)? else {
+        return Ok(None);
+    };
+    Ok(Some(Ready {
+        header: sized.write_header(alloc)?,
+        buffers: sized.buffers(alloc)?,
+    }))
+}

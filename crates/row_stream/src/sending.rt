@@ -1,0 +1,118 @@
+//! Sending the messages of a stream through an outbox.
+
+ghost use Rattle.std.specs.Prelude.{◌≡◌, ◌≤◌, ◌<◌, ◌^◌, [], ◌∷◌, length, MatchResult};
+ghost use Rattle.flatbuf.specs.Block.{padded};
+ghost use Rattle.arrow_schema.specs.Schema.{IsSchema};
+ghost use Rattle.scan_base.specs.Limits.{most_columns};
+ghost use Rattle.ipc_batch.specs.Written.{body_of, SaysBatch};
+ghost use Rattle.ipc_stream.specs.Stream.{announced, frame};
+ghost use Rattle.grpc_frame.specs.Ends.{CanFail, CountsFailure, FailsByTransport};
+ghost use Rattle.grpc_frame.specs.Sending.{Sends};
+ghost use Rattle.row_stream.specs.Stream.{CountsTransport, IsCause};
+ghost use Rattle.row_stream.specs.inside.Frames.{SaysSchema, SendsMessage};
+
+use crate::message::{Ready, batch_message, schema_message};
+use arrays::Batch;
+use arrow_schema::Schema;
+use bytes::Bytes;
+use grpc_frame::{Outbox, Output};
+use scan_base::Fault;
+use std::alloc::Global;
+
+// Sends what stands in front of a header of so many bytes.
+fn send_announcement<W: Output>(writer: &mut W, outbox: &mut Outbox, len: u32) -> Result<(), Fault>
+    requires { CanFail (W.failures writer.old) }
+    ensures bytes { Sends result (W.contents writer.old) (W.contents writer.new)
+        outbox.old outbox.new (announced len []) }
+    ensures counted { CountsFailure result (W.failures writer.old) (W.failures writer.new) }
+    ensures fault { FailsByTransport result }
+{
+    outbox.send_parts(writer, &[0xff; 4], &len.to_le_bytes())
+}
+
+// Sends a buffer, and zeros behind it up to a multiple of 8.
+fn send_buffer<W: Output>(writer: &mut W, outbox: &mut Outbox, buffer: &Bytes) -> Result<(), Fault>
+    requires { CanFail (W.failures writer.old) }
+    ensures bytes { Sends result (W.contents writer.old) (W.contents writer.new)
+        outbox.old outbox.new (padded buffer.now) }
+    ensures counted { CountsFailure result (W.failures writer.old) (W.failures writer.new) }
+    ensures fault { FailsByTransport result }
+{
+    let zeros = (8 - buffer.len() % 8) % 8;
+    outbox.send_parts(writer, buffer.as_slice(), &[0; 8][..zeros])
+}
+
+// Sends the body that these buffers make.
+fn send_body<W: Output>(writer: &mut W, outbox: &mut Outbox, buffers: &[Bytes]) -> Result<(), Fault>
+    requires { CanFail (W.failures writer.old) }
+    ensures bytes { Sends result (W.contents writer.old) (W.contents writer.new)
+        outbox.old outbox.new (body_of buffers.now) }
+    ensures counted { CountsFailure result (W.failures writer.old) (W.failures writer.new) }
+    ensures fault { FailsByTransport result }
+{
+    for buffer in buffers {
+        send_buffer(writer, outbox, buffer)?;
+    }
+    Ok(())
+}
+
+// Sends a message in its frame.
+fn send_frame<W: Output>(writer: &mut W, outbox: &mut Outbox, message: &Ready) -> Result<(), Fault>
+    requires failures { CanFail (W.failures writer.old) }
+    requires fits { length message.now.header < 2 ^ 31 }
+    ensures bytes { Sends result (W.contents writer.old) (W.contents writer.new)
+        outbox.old outbox.new (frame message.now) }
+    ensures counted { CountsFailure result (W.failures writer.old) (W.failures writer.new) }
+    ensures fault { FailsByTransport result }
+{
+    send_announcement(writer, outbox, message.header.len() as u32)?;
+    outbox.send_part(writer, &message.header)?;
+    send_body(writer, outbox, &message.buffers)
+}
+
+/// Sends the message of a schema.
+///
+/// # Errors
+///
+/// `Fault::Transport` where a write failed. It is counted. `Fault::OutOfMemory` where memory is refused.
+pub(crate) fn send_schema<W: Output>(
+    alloc: Global,
+    writer: &mut W,
+    outbox: &mut Outbox,
+    schema: &Schema,
+) -> Result<(), Fault>
+    requires failures { CanFail (W.failures writer.old) }
+    requires schema { IsSchema schema.now }
+    ensures bytes { SendsMessage (SaysSchema schema.now) result
+        (W.contents writer.old) (W.contents writer.new) outbox.old outbox.new }
+    ensures counted { CountsTransport result (W.failures writer.old) (W.failures writer.new) }
+    ensures cause { MatchResult result (λ _. Unit {0}) (IsCause []) }
+{
+    let message = schema_message(alloc, schema)?;
+    send_frame(writer, outbox, &message)
+}
+
+/// Sends the message of a batch.
+///
+/// # Errors
+///
+/// `Fault::Transport` where a write failed. It is counted. `Fault::OutOfMemory` where memory is refused, and
+/// `Fault::LimitReached` where the body would have 2 to the 31 bytes or more.
+pub(crate) fn send_batch<W: Output>(
+    alloc: Global,
+    writer: &mut W,
+    outbox: &mut Outbox,
+    batch: &Batch,
+) -> Result<(), Fault>
+    requires failures { CanFail (W.failures writer.old) }
+    requires few { length batch.now.columns ≤ most_columns }
+    ensures bytes { SendsMessage (λ sent. SaysBatch sent batch.now) result
+        (W.contents writer.old) (W.contents writer.new) outbox.old outbox.new }
+    ensures counted { CountsTransport result (W.failures writer.old) (W.failures writer.new) }
+    ensures cause { MatchResult result (λ _. Unit {0}) (IsCause (batch.now ∷ [])) }
+{
+    let Some(message) = batch_message(alloc, batch)? else {
+        return Err(Fault::LimitReached);
+    };
+    send_frame(writer, outbox, &message)
+}

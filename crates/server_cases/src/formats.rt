@@ -1,0 +1,53 @@
+//! The formats of `query`, over loopback from a `serve` in another thread.
+
+use crate::clients::{STREAM, add_heard, ask_rows, created, put_stream};
+use client_commands::query::{Querying, query};
+use command_line::Format;
+use grpc_frame::MemoryOutput;
+use loopback::Loopback;
+use std::alloc::{AllocError, AllocGlobal};
+use std::net::{Net, TcpListener, TcpStream};
+use std::thread::Threads;
+
+// Copies a table: the Arrow IPC stream of a query is put again. No byte of the stream is told.
+fn copy_rows<R>(rt: &R, querying: Querying<'_>, told: &mut String) -> Result<(), AllocError>
+where
+    R: Net<Listener = TcpListener, Stream = TcpStream> + AllocGlobal + Threads,
+{
+    let alloc = rt.alloc();
+    let mut network = Loopback::new(rt);
+    let mut stream = MemoryOutput::new(alloc);
+    let mut said = MemoryOutput::new(alloc);
+    let status = query(rt, alloc, &mut network, &mut stream, &mut said, querying);
+    add_heard(told, status.number(), &MemoryOutput::new(alloc), &said)?;
+    let putting = created(querying.port, "copy");
+    put_stream(rt, putting, stream.as_slice(), told)
+}
+
+// A put, its rows as CSV, its rows copied by an Arrow IPC stream, and groups of the copy. Two connections are made for all rows,
+// and else one.
+pub(crate) fn run_formats<R>(rt: &R, port: u16, told: &mut String) -> Result<(), AllocError>
+where
+    R: Net<Listener = TcpListener, Stream = TcpStream> + AllocGlobal + Threads,
+{
+    let alloc = rt.alloc();
+    put_stream(rt, created(port, "t"), STREAM, told)?;
+    let all = Querying {
+        port,
+        streams: 2,
+        sql: "SELECT s FROM t",
+        format: Format::Csv,
+    };
+    ask_rows(rt, all, MemoryOutput::new(alloc), told)?;
+    let copied = Querying {
+        format: Format::Arrow,
+        ..all
+    };
+    copy_rows(rt, copied, told)?;
+    let grouped = Querying {
+        sql: "SELECT s, COUNT(*) FROM copy GROUP BY s",
+        format: Format::Lines,
+        ..all
+    };
+    ask_rows(rt, grouped, MemoryOutput::new(alloc), told)
+}
