@@ -3,7 +3,7 @@
 
     python3 scripts/each_growth.py [--program PATH] [--workers W,..] [--only pipe|serve] [--from N] [--every N]
 
-The session has puts of three tables, of which one has 70,000 rows in three batches, so several workers share its fetches;
+The session has puts of three tables, of which one has 140,000 rows in three batches, so two workers share its fetches;
 infos in two parts with puts between, one that extends a table and one that replaces it; fetches of the parts, the later one
 first; a join, groups, a filter, the list of tables, and a put that is refused. `serve` gets the calls in turn over two
 connections. Of N allocations the one of number 1, 2, .. N is refused, where N is how many the session takes.
@@ -54,7 +54,7 @@ PARTS = 2
 SEATS = "3"  # one more than connections: where a thread is refused, a seat waits for the end of another one
 A = (Column("a", "Int64", True),)
 A_AND_S = (Column("a", "Int64", True), Column("s", "dictionary", True))
-MANY, MANY_ENDS = 70_000, [5_000, 66_000, 70_000]
+MANY, MANY_ENDS = 140_000, [5_000, 90_000, 140_000]
 
 
 @dataclass
@@ -206,7 +206,7 @@ def tables() -> Call:
 
 
 def queries() -> dict[str, Asked]:
-    """A plain query, and a join, groups, a filter and sums, of small tables and of the one of 70,000 rows."""
+    """A plain query, and a join, groups, a filter and sums, of small tables and of the one of 140,000 rows."""
     t, u, many = Place("t", None, A), Place("u", None, A_AND_S), Place("many", None, A)
     a, s, other, of_many = Name("a", "t"), Name("s", "u"), Name("a", "u"), Name("a", "many")
     grouped = ((s, None), (Count(None), None), (Sum(other), None))
@@ -229,7 +229,7 @@ def put_of(name: str, there: str, columns: tuple[Column, ...], rows: list[Row]) 
 def session() -> list[Call]:
     """The calls, which are always the same."""
     random, of = Random("growth"), queries()
-    rows = [(number * 7 % MANY,) for number in range(MANY)]
+    rows = [(number * 11 % MANY,) for number in range(MANY)]
     texts = [(1, "x"), (2, None), (3, "y"), (None, "x"), (4, "x")]
     return [
         put(random, 1, put_of("t", "FAIL", A, [(1,), (2,), (3,), (None,), (4,)]), [3, 5]), info(of["plain"]),
@@ -241,7 +241,7 @@ def session() -> list[Call]:
         put(random, 5, put_of("t", "FAIL", A, [(1,)]), [1]),
         fetch(of["sums"], 4, 0, MANY), fetch(of["groups"], 3, 0, 5), fetch(of["met"], 4, 0, MANY),
         put(random, 6, put_of("t", "REPLACE", A_AND_S, texts), [5]),
-        fetch(of["plain"], 1, 0, 2), fetch(of["join"], 3, 0, 3), fetch(of["few"], 4, 100, 69_000),
+        fetch(of["plain"], 1, 0, 2), fetch(of["join"], 3, 0, 3), fetch(of["few"], 4, 100, 139_000),
         put(random, 7, put_of("t", "REPLACE", A, [(7,)]), [1]), info(of["plain"]), fetch(of["plain"], 6, 0, 1), tables(),
     ]
 

@@ -1,12 +1,12 @@
 #!/usr/bin/env python3
-"""The largest answers of `flightscan serve`: joins of 8,192 by 8,192 rows of one key, and of 65,536 by 1,024.
+"""The largest answers of `flightscan serve`: joins of 8,192 by 8,192 rows of one key, and of 1,048,576 by 64.
 
     python3 scripts/large_answers.py [--program PATH] [--workers W,..] [--rows N] [CASE..]
 
 Both have 67,108,864 rows, the most that a fetch may give, and have to end with status 0. With one row more on each side, or in
 the longer table, there are too many: a beginning of the rows may come, and then F20. In two endpoints both have to be whole, and
-together they have every row. The joined column is one of Int8 or of Bool, whose values are all equal, in eight batches of
-unequal sizes. Each case has a server of its own. The longer table has enough rows for two workers.
+together they have every row. The joined column is one of Int8 or of Bool, whose values are all equal, in 24 batches of
+unequal sizes. Each case has a server of its own. The longer table has rows enough for 16 workers.
 
 The stream is read as it comes. Rows are counted by the headers of the record batches, and none is kept. Told are the rows,
 the time, and the most memory that the server held, which has to stay below 24 MB and 10 MB for each worker: the pairs of an
@@ -40,7 +40,7 @@ ROWS, MOST_ROWS, BATCH_ROWS = 8_192, 67_108_864, 65_536
 HELD_MB, HELD_BY_WORKER_MB = 24, 10
 QUERY = b"SELECT x.a FROM t AS x JOIN u AS y ON x.a = y.a"
 KINDS = {"Int8": trees.integer(8, True), "Bool": trees.BOOL}
-BATCHES = [0.05, 0.1, 0.25, 0.35, 0.5, 0.55, 0.9, 1]  # where they end, as shares of the rows
+BATCHES = [(number / 24) ** 1.3 for number in range(1, 25)]  # where they end, as shares of the rows
 HEAD = 4_096  # bytes of a FlightData in which its header lies
 TOO_LARGE = (8, "F20 ResultTooLarge")
 
@@ -88,9 +88,9 @@ def put(table: bytes, kind: str, rows: int) -> bytes:
 
 
 def cases(rows: int) -> list[Case]:
-    """Joins of two tables of so many rows, and of one that is eight times as long with one that is as much shorter."""
-    sides = [(rows, rows, 1), (rows + 1, rows + 1, 1), (rows, rows, 2), (rows + 1, rows + 1, 2), (8 * rows, rows // 8, 1),
-             (8 * rows + 1, rows // 8, 1)]
+    """Joins of two tables of so many rows, and of one that is 128 times as long with one that is as much shorter."""
+    sides = [(rows, rows, 1), (rows + 1, rows + 1, 1), (rows, rows, 2), (rows + 1, rows + 1, 2), (128 * rows, rows // 128, 1),
+             (128 * rows + 1, rows // 128, 1)]
     return [Case(kind, *side) for kind in KINDS for side in sides]
 
 

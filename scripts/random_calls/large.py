@@ -9,6 +9,7 @@ from __future__ import annotations
 
 import collections
 from collections.abc import Callable
+from itertools import pairwise
 from operator import itemgetter
 from random import Random
 
@@ -18,7 +19,7 @@ from random_calls.plain_model import (And, Between, Column, Comparison, Database
 from random_calls.wide import Choices, Sorted, WideJoiner, wide_columns
 
 FEWEST_ROWS, MOST_ROWS = 140_000, 280_000
-BATCHES = range(2, 10)
+BATCHES, MOST_IN_BATCH = range(2, 10), 140_000  # a message has at most 16,777,216 bytes
 SMALL_ROWS = [0, 1, 20, 100, 300]
 APPENDED_ROWS = [1, 100, 5_000, 70_000]
 LARGE, SMALL = "large", "small"  # the names of the tables
@@ -27,8 +28,11 @@ Numbers = dict[tuple[str, str], int]  # of a place's column the place in a joine
 
 
 def unequal_ends(random: Random, rows: int, batches: int) -> list[int]:
-    """Where so many batches end, each of at least one row, and cut anywhere."""
-    return [*sorted(random.sample(range(1, rows), batches - 1)), rows]
+    """Where so many batches end, or more, so that none is too large: each of at least one row, and cut anywhere."""
+    ends = [*sorted(random.sample(range(1, rows), batches - 1)), rows]
+    if max(end - first for first, end in pairwise([0, *ends])) > MOST_IN_BATCH:
+        return unequal_ends(random, rows, batches + 1)
+    return ends
 
 
 class Tables:
