@@ -12,7 +12,7 @@ use Rattle.arrays.specs.Typed.{AreOfTypes}
 use Rattle.grpc_frame.specs.Ends.{AppendsBeginning, Writes}
 use Rattle.grpc_frame.specs.Sending.{Sent, NotSent, Sends}
 use Rattle.grpc_frame.proofs.Sending.{both_sent, second_not_sent, begun_alone, flushed}
-use Rattle.ipc_batch.specs.Said.{Rows, Says, Sent as SentMessage}
+use Rattle.ipc_batch.specs.Said.{Rows, Says, Sent as Message}
 use Rattle.ipc_batch.specs.Written.{SaysBatch}
 use Rattle.ipc_stream.specs.declared.message.IpcMessage.{IpcMessage}
 use Rattle.ipc_stream.specs.Stream.{frame, IsMessage, end_marker}
@@ -131,7 +131,7 @@ flushed_whole (Err fault) schema rows a b c d mid last so sent wrote =
 -- ---- one message
 
 -- a message that was sent in its frame, or not
-pub sent_message : (Tells : SentMessage → Type 0) (result : Result (Unit {0}) Fault) (old new : Option (List ℕ)) (before after : List ℕ) (message : IpcMessage) → IsMessage message → Tells (sent_in message)
+pub sent_message : (Tells : Message → Type 0) (result : Result (Unit {0}) Fault) (old new : Option (List ℕ)) (before after : List ℕ) (message : IpcMessage) → IsMessage message → Tells (sent_in message)
     → Sends result old new before after (frame message) → SendsMessage Tells result old new before after
 sent_message Tells (Ok done) old new before after message fits tells sends = record { message = message; fits = fits; tells = tells; sent = sends }
 sent_message Tells (Err fault) old new before after message fits tells sends = inl (record { message = message; fits = fits; tells = tells; failed = sends })
