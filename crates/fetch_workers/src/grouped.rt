@@ -4,12 +4,10 @@ ghost use Rattle.std.specs.Prelude.{◌≡◌};
 
 use crate::workers::LEAST_ROWS;
 use fetch_stream::{FetchStream, Payload, Payloads, ReadsPayloads};
-use group_workers::GroupWorkers;
+use group_workers::{GroupWorkers, StartsGroupWorkers};
 use scan_base::Fault;
 use scan_exec::GroupsBatches;
 use std::alloc::Global;
-use std::sync::Wait;
-use std::thread::Threads;
 
 /// A stream, and who makes its groups. What a reader sees is the stream.
 #[derive(Drop)]
@@ -37,13 +35,14 @@ impl<'g, G: GroupsBatches> Payloads for GroupedStream<'g, G> {
 
 // Has a stream read whose groups so many workers make as the stream asks for, but no more than one for each 32,768 rows that
 // are read. Its payloads are made by the thread that reads.
-pub(crate) fn read_grouped<R: Threads + Wait + Sync, S: ReadsPayloads>(
+pub(crate) fn read_grouped<R: StartsGroupWorkers, S: ReadsPayloads>(
     rt: &R,
     alloc: Global,
     stream: FetchStream,
     reader: &mut S,
 ) -> Result<(), Fault>
-    requires { S.takes reader.old }
+    requires shared { R.shared rt.now }
+    requires takes { S.takes reader.old }
     ensures { S.reads reader.old stream result reader.new }
 {
     let workers = stream.workers().min(stream.rows() / LEAST_ROWS);

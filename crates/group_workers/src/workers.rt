@@ -68,9 +68,11 @@ impl<'h, R: StartsGroupWorkers> Model for GroupWorkers<'h, R> {
     ghost invariant = { λ w. R.shared w.rt.now };
 }
 
-impl<'h, R: Threads + Wait + Sync> GroupWorkers<'h, R> {
+impl<'h, R: StartsGroupWorkers> GroupWorkers<'h, R> {
     /// So many workers at most, with the thread that calls. This handle starts the threads of the others.
-    pub fn new(rt: &'h R, workers: usize) -> GroupWorkers<'h, R> {
+    pub fn new(rt: &'h R, workers: usize) -> GroupWorkers<'h, R>
+        requires { R.shared rt.now }
+    {
         GroupWorkers { rt, workers }
     }
 }
