@@ -141,8 +141,11 @@ class Connection:
         answer = Answer(text, self.versions[-1])
         self.calls.append(lines.bodies(query_handle(len(self.versions) - 1, 0, answer.total, text.encode()), *bodies))
 
-    def end(self):
-        lines.pipe(f"--parts {self.parts}" if self.parts > 1 else "", *self.calls)
+    def end(self, workers=()):
+        """The connection with one worker, and the same with each of these numbers of workers."""
+        parts = f"--parts {self.parts}" if self.parts > 1 else ""
+        for options in (parts, *(f"{parts} --workers {many}".strip() for many in workers)):
+            lines.pipe(options, *self.calls)
 
 
 def one_table(said, *batches, parts=1, name="t"):
@@ -186,13 +189,13 @@ def groups():
     for batches in ([TEXTS], [TEXTS[:2], TEXTS[2:4], TEXTS[4:]]):
         words = one_table("s Utf8?", *batches, parts=3)
         words.ask(OF_TEXTS, GROUPED_TEXTS)
-        words.end()
+        words.end((2, 4, 8))
     twice = one_table("c dictionary", [("x",), ("x",)])
     twice.ask("SELECT c, COUNT(*) FROM t GROUP BY c", [("x", 2)])
     twice.end()
     words = one_table("s dictionary?", TEXTS[:3], TEXTS[3:])
     words.ask(OF_TEXTS, GROUPED_TEXTS)
-    words.end()
+    words.end((2, 4, 8))
 
 
 def joins():
@@ -205,14 +208,14 @@ def joins():
     pairs.ask("SELECT x.i, y.i FROM t x JOIN t y ON x.a = y.a WHERE x.i < y.i", [(10, 20)])
     pairs.put("u", "a Int64?", [(1,), (1,), (None,)])
     pairs.ask("SELECT x.a, y.i, z.i FROM u x JOIN t y ON x.a = y.a JOIN t z ON y.i = z.i", [(1, 10, 10), (1, 20, 20)] * 2)
-    pairs.end()
+    pairs.end((2,))
     nulls = one_table("a Int64?", [(1,), (None,), (1,)])
     nulls.put("u", "a Int64?", [(1,), (1,), (None,)])
     nulls.ask("SELECT * FROM t JOIN u ON t.a = u.a", [(1, 1)] * 4)
     nulls.put("t", "a Int64?", how="REPLACE")
     nulls.ask("SELECT * FROM t JOIN u ON t.a = u.a", [])
     nulls.ask("SELECT * FROM u JOIN t ON t.a = u.a", [])
-    nulls.end()
+    nulls.end((2,))
 
 
 def refusals():
@@ -293,7 +296,7 @@ def more_joins():
         found.fetch("SELECT n, u FROM t JOIN u ON t.k = u.k", 2, 5)
         found.fetch("SELECT n, u FROM t JOIN u ON t.k = u.k", 8, 8)
         found.fetch("SELECT n, u FROM t JOIN u ON t.k = u.k", 8, 9)
-        found.end()
+        found.end((2, 3, 16))
 
 
 def more_groups():
@@ -316,7 +319,7 @@ def more_groups():
         "SELECT COUNT(*), COUNT(u), SUM(u) FROM none",
         "SELECT u, SUM(k) FROM none GROUP BY u",
     )
-    found.end()
+    found.end((2, 3, 16))
 
 
 INTEGERS = ["Int8", "Int16", "Int32", "Int64", "UInt8", "UInt16", "UInt32", "UInt64"]
@@ -381,7 +384,7 @@ def older_versions():
     for text in (join, grouped):
         for version, end in ((1, 2), (2, 4), (3, 1), (1, 4), (2, 2), (0, 0), (4, 1)):
             found.fetch(text, 0, end, version=version)
-    found.end()
+    found.end((4,))
 
 
 def connections():

@@ -32,8 +32,8 @@ pipe("--parts=1", FIRST_PUT, INFO)
 
 note("a put of a schema and no batch")
 NONE = put(b"t", CREATE, COLUMN_A)
-for parts in ("", "--parts 2"):
-    pipe(parts, NONE, info(PAYLOAD, A, [query_handle(1, 0, 0, ALL)]), fetch(query_handle(1, 0, 0, ALL), A))
+for options in ("", "--parts 2", "--workers 2", "--workers 8"):
+    pipe(options, NONE, info(PAYLOAD, A, [query_handle(1, 0, 0, ALL)]), fetch(query_handle(1, 0, 0, ALL), A))
 
 note("an info in two parts, an append and a replacement, and then both fetches, the second first")
 FRONT, BACK = query_handle(1, 0, 2, ALL), query_handle(1, 2, 5, ALL)
@@ -42,7 +42,8 @@ LATER = info(PAYLOAD, "b Utf8 or null;", [query_handle(3, 0, 1, ALL)])
 KEPT = (ONE_TO_FIVE, info(PAYLOAD, A, [FRONT, BACK]), put(b"t", APPEND, COLUMN_A, numbers(6, 7), rows=2), OTHER, LATER,
         fetch(BACK, A, *whole_numbers(3, 4, 5)), fetch(FRONT, A, *whole_numbers(1, 2)),
         fetch(query_handle(3, 0, 1, ALL), "b Utf8 or null;", 'Text("x"),'))
-pipe("--parts 2", *KEPT)
+for options in ("--parts 2", "--parts 2 --workers 2", "--parts 2 --workers 8"):
+    pipe(options, *KEPT)
 SOME = b"SELECT a FROM t AS x WHERE x.a > 1"
 pipe("--parts 3", ONE_TO_FIVE, schema(of_query(SOME), A),
      info(of_query(SOME), A, [query_handle(1, first, end, SOME) for first, end in ((0, 1), (1, 3), (3, 5))]),

@@ -6,7 +6,7 @@ use crate::answers::push_answer;
 use command_line::Request;
 use commands::pipe::pipe;
 use commands::words::read_words;
-use flight_calls::{OneWorker, Options, Setting};
+use flight_calls::{Executor, Options, Setting};
 use grpc_frame::{Inbox, MemoryInput, MemoryOutput};
 use hash_seed::HashSeed;
 use scan_base::Fault;
@@ -19,11 +19,12 @@ struct Named {
     records: Vec<u8>,
 }
 
-/// The calls that were named, and the seed of each `pipe`.
+/// The calls that were named, the seed of each `pipe`, and who makes the payloads of its fetches.
 #[derive(Drop)]
-pub struct Cases {
+pub struct Cases<'x, X> {
     calls: Vec<Named>,
     seed: HashSeed,
+    executor: &'x X,
 }
 
 // The parts before and behind the first delimiter, or all and nothing.
@@ -56,12 +57,13 @@ fn push_piece(alloc: Global, records: &mut Vec<u8>, piece: &str) -> Result<(), F
     Ok(())
 }
 
-impl Cases {
+impl<'x, X: Executor> Cases<'x, X> {
     /// No call.
-    pub fn new(alloc: Global, seed: HashSeed) -> Cases {
+    pub fn new(alloc: Global, seed: HashSeed, executor: &'x X) -> Cases<'x, X> {
         Cases {
             calls: Vec::new(alloc),
             seed,
+            executor,
         }
     }
 
@@ -112,7 +114,7 @@ impl Cases {
         let workers = workers as usize;
         let setting = Setting {
             alloc,
-            executor: &OneWorker,
+            executor: self.executor,
             options: Options { parts, workers },
         };
         let status = pipe(&setting, self.seed, &mut reader, &mut writer, &mut faults).number();

@@ -11,6 +11,7 @@ ghost use Rattle.commands.specs.inside.Gathering.{HasDrawn, HasWorked, IsNew, Is
 use crate::turns::{Service, serve_in_turn};
 use command_ends::Listen;
 use connection_turns::{Drawer, Turns};
+use flight_calls::Executor;
 use scan_base::Fault;
 use shared_calls::Shared;
 use std::sync::Wait;
@@ -33,8 +34,8 @@ type ServingWorker<L, C> = Hired<L, Scanner<C>, Drawer>;
 
 /// What all workers share: how they serve, and the putter of their cell.
 #[derive(Drop)]
-pub(crate) struct Crew<'a, 'h, C: CellName, T: Wait> {
-    pub service: Service<'a, 'h, T>,
+pub(crate) struct Crew<'a, 'h, C: CellName, T: Wait, X> {
+    pub service: Service<'a, 'h, T, X>,
     pub putter: &'a SharedPutter<C, &'h T>,
 }
 
@@ -44,8 +45,8 @@ pub(crate) struct Crew<'a, 'h, C: CellName, T: Wait> {
 ///
 /// - `Fault::OutOfMemory` (F21) where memory is refused.
 /// - `Fault::Transport` (F22) where the network gives no further listener.
-pub(crate) fn workers_of<L: Listen + Drop, C: CellName, T: Wait>(
-    service: &Service<'_, '_, T>,
+pub(crate) fn workers_of<L: Listen + Drop, C: CellName, T: Wait, X>(
+    service: &Service<'_, '_, T, X>,
     drawer: &mut Drawer,
     network: &L,
     scanners: Vec<Scanner<C>>,
@@ -93,7 +94,13 @@ trait Job<L, C: CellName> {
 }
 
 // A worker serves connections.
-impl<'a, 'h, L: Listen, C: CellName, T: Wait + Clock> Job<L, C> for Crew<'a, 'h, C, T> {
+impl<'a, 'h, L, C, T, X> Job<L, C> for Crew<'a, 'h, C, T, X>
+where
+    L: Listen,
+    C: CellName,
+    T: Wait + Clock,
+    X: Executor,
+{
     ghost use Rattle.commands.specs.inside.Gathering.{HasWorked, IsNew};
 
     ghost takes = { λ crew worker. IsNew crew.service.turns.now.name worker };
@@ -170,8 +177,8 @@ fn first_of<L: Drop, C: CellName>(
 /// # Errors
 ///
 /// The first fault of a worker.
-pub(crate) fn serve_side_by_side<L, C, T>(
-    crew: &Crew<'_, '_, C, T>,
+pub(crate) fn serve_side_by_side<L, C, T, X>(
+    crew: &Crew<'_, '_, C, T, X>,
     drawer: Drawer,
     mut workers: Vec<ServingWorker<L, C>>,
 ) -> Result<(), Fault>
@@ -181,6 +188,7 @@ where
     L::Writer: Send,
     C: CellName + Send + Sync,
     T: Threads + Wait + Clock + Sync,
+    X: Executor + Sync,
     requires parts { crew.now.service.turns.now.parts ≡ length workers.items + 1 }
     requires drawer { drawer ≡ drawers.drawer_at crew.now.service.turns.now.name 1 0 0 }
     requires new { All (IsNew crew.now.service.turns.now.name) workers.items }

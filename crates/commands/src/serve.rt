@@ -13,6 +13,7 @@ use crate::turns::Service;
 use command_ends::{ExitStatus, Listen, end_by_cause, end_by_fault, print_listening};
 use command_line::Serving;
 use connection_turns::open as open_turns;
+use fetch_workers::Workers;
 use flight_calls::Options;
 use grpc_frame::Output;
 use hash_seed::HashSeed;
@@ -132,9 +133,11 @@ where
     )?;
     let (putter, scanners) = blank.named::<C, &T>(host.alloc, host.rt)?;
     let putter = SharedPutter::new(putter);
+    let executor = Workers::new(host.rt);
     let service = Service {
         rt: host.rt,
         alloc: host.alloc,
+        executor: &executor,
         options: options_of(&serving),
         turns: &turns,
     };

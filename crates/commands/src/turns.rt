@@ -9,7 +9,7 @@ ghost use Rattle.commands.specs.inside.Accepting.{TakesNext, TakesNone};
 
 use command_ends::Listen;
 use connection_turns::{Drawer, Turns};
-use flight_calls::{Backend, OneWorker, Options, Setting};
+use flight_calls::{Backend, Executor, Options, Setting};
 use scan_base::Fault;
 use std::alloc::Global;
 use std::sync::Wait;
@@ -22,11 +22,12 @@ const MOST_FAILED_ACCEPTS: u32 = 100;
 // It waits so long behind each: what keeps a connection from being accepted may pass.
 const PAUSE_MILLISECONDS: u64 = 20;
 
-/// How all workers serve, and how many connections are still to be accepted.
+/// How all workers serve, who makes the answers to fetches, and how many connections are still to be accepted.
 #[derive(Drop)]
-pub struct Service<'a, 'h, T: Wait> {
+pub struct Service<'a, 'h, T: Wait, X> {
     pub rt: &'h T,
     pub alloc: Global,
+    pub executor: &'a X,
     pub options: Options,
     pub turns: &'a Turns,
 }
@@ -36,8 +37,8 @@ pub struct Service<'a, 'h, T: Wait> {
 /// # Errors
 ///
 /// `Fault::Transport` (F22) where a hundred accepts failed one behind the other.
-pub fn serve_in_turn<L: Listen, B: Backend, T: Wait + Clock>(
-    service: &Service<'_, '_, T>,
+pub fn serve_in_turn<L: Listen, B: Backend, T: Wait + Clock, X: Executor>(
+    service: &Service<'_, '_, T, X>,
     drawer: &mut Drawer,
     network: &mut L,
     backend: &mut B,
@@ -55,7 +56,7 @@ pub fn serve_in_turn<L: Listen, B: Backend, T: Wait + Clock>(
         let (mut reader, mut writer) = accept_next(service.rt, network)?;
         let setting = Setting {
             alloc: service.alloc,
-            executor: &OneWorker,
+            executor: service.executor,
             options: service.options,
         };
         let _ = flight_calls::serve(&setting, &mut reader, &mut writer, backend);

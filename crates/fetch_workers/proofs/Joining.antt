@@ -1,17 +1,17 @@
 -- The streams of morsels, one behind the other, are the stream that they make up.
-use Rattle.std.proofs.Common.{◌≡◌, ◌≤◌, ◌<◌, ◌+◌, ◌-◌, ℕ, Bool, true, false, List, [], ◌∷◌, ◌++◌, length, drop, get_or, Option, Some, None, Result, Ok, Err, inl, inr, refl, sym, ap, subst, ◌∙◌, append_assoc, length-append, arith}
+use Rattle.std.proofs.Common.{◌≡◌, ◌≤◌, ◌<◌, ◌+◌, ℕ, Bool, true, false, List, [], ◌∷◌, ◌++◌, length, drop, Option, Some, None, Result, Ok, Err, inl, inr, refl, sym, ap, subst, ◌∙◌, append_assoc, length-append, arith}
 use Rattle.std.specs.List.{flat_map}
 use Rattle.std.proofs.lemmas.List.{drop_more, drop_all}
 use Rattle.scan_base.specs.declared.fault.Fault.{Fault}
-use Rattle.scan_base.specs.declared.fault.Fault.TheVariants.{OutOfMemory, ResultTooLarge}
+use Rattle.scan_base.specs.declared.fault.Fault.TheVariants.{ResultTooLarge}
 use Rattle.scan_base.specs.Limits.{most_answer_rows}
 use Rattle.arrow_schema.specs.declared.schema.Schema.{Schema}
 use Rattle.table_versions.specs.Table.{Row}
 use Rattle.flight_info.specs.Payloads.{Payload, PayloadsSay}
 use Rattle.fetch_stream.specs.Streams.{StreamAt, Gives, GivesPayload, MayRefuse, SaySoFar}
-use Rattle.fetch_stream.specs.Morsels.{MorselsAt, GivesSchema, before_schema, behind_schema, morsel_stream, whole_stream}
+use Rattle.fetch_stream.specs.Morsels.{MorselsAt, morsel_stream, whole_stream}
 use Rattle.fetch_stream.proofs.Answering.{gave, ended, was_refused}
-use Rattle.fetch_workers.specs.inside.Joined.{AnswersMorsels, GivesCounted, GivesFirst, GivesJoined, GivesPresent, Goes, IsJoined, given_of, joined_stream, left_of}
+use Rattle.fetch_workers.specs.inside.Joined.{GivesCounted, GivesFirst, GivesJoined, GivesPresent, Goes, IsJoined, given_of, joined_stream, left_of}
 
 -- the rows of the morsels that come behind
 abbrev rest_of : MorselsAt → ℕ → List Row

@@ -1,2 +1,3 @@
 pub mod Joining
 pub mod Kept
+pub mod Sent

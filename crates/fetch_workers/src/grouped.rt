@@ -2,7 +2,6 @@
 
 ghost use Rattle.std.specs.Prelude.{◌≡◌};
 
-use crate::workers::LEAST_ROWS;
 use fetch_stream::{FetchStream, Payload, Payloads, ReadsPayloads};
 use group_workers::{GroupWorkers, StartsGroupWorkers};
 use scan_base::Fault;
@@ -33,19 +32,29 @@ impl<'g, G: GroupsBatches> Payloads for GroupedStream<'g, G> {
     }
 }
 
-// Has a stream read whose groups so many workers make as the stream asks for, but no more than one for each 32,768 rows that
-// are read. Its payloads are made by the thread that reads.
+/// A stream, and how many workers make its groups at most.
+#[derive(Drop)]
+pub struct GroupedFetch {
+    pub alloc: Global,
+    pub stream: FetchStream,
+    pub workers: usize,
+}
+
+// Has a stream read whose groups several workers make. Its payloads are made by the thread that reads.
 pub(crate) fn read_grouped<R: StartsGroupWorkers, S: ReadsPayloads>(
     rt: &R,
-    alloc: Global,
-    stream: FetchStream,
+    fetch: GroupedFetch,
     reader: &mut S,
 ) -> Result<(), Fault>
     requires shared { R.shared rt.now }
     requires takes { S.takes reader.old }
-    ensures { S.reads reader.old stream result reader.new }
+    ensures { S.reads reader.old fetch.stream result reader.new }
 {
-    let workers = stream.workers().min(stream.rows() / LEAST_ROWS);
+    let GroupedFetch {
+        alloc,
+        stream,
+        workers,
+    } = fetch;
     let by = GroupWorkers::new(rt, workers);
     let mut grouped = GroupedStream::new(stream, &by);
     reader.read(alloc, &mut grouped)

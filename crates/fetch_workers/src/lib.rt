@@ -9,5 +9,5 @@ mod part;
 mod work;
 mod workers;
 
-pub use crate::grouped::GroupedStream;
+pub use crate::grouped::{GroupedFetch, GroupedStream};
 pub use crate::workers::Workers;

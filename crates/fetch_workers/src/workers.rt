@@ -2,7 +2,7 @@
 
 ghost use Rattle.std.specs.Prelude.{◌≡◌, IfSome, None};
 
-use crate::grouped::read_grouped;
+use crate::grouped::{GroupedFetch, read_grouped};
 use crate::joined::Joined;
 use crate::work::MorselWork;
 use fetch_stream::{Ahead, Executor, FetchStream, Morsels, ReadsPayloads};
@@ -14,7 +14,15 @@ use std::sync::Wait;
 use std::thread::Threads;
 
 // How many rows a worker reads at least: for fewer, a thread costs more than it saves.
-pub(crate) const LEAST_ROWS: usize = 32_768;
+const LEAST_ROWS: usize = 32_768;
+
+/// A stream, and how many workers make its payloads at most.
+#[derive(Clone, Copy, Drop)]
+pub struct SideBySide<'s> {
+    pub alloc: Global,
+    pub stream: &'s FetchStream,
+    pub workers: usize,
+}
 
 /// A handle that starts the threads of a fetch: each that may start threads and wait, and that threads may share.
 pub trait StartsWorkers {
@@ -28,13 +36,12 @@ pub trait StartsWorkers {
     /// Those of the reader.
     fn read_beside<S: ReadsPayloads>(
         &self,
-        alloc: Global,
-        stream: &FetchStream,
+        work: &SideBySide<'_>,
         reader: &mut S,
     ) -> Option<Result<(), Fault>>
         requires shared { shared self.now }
         requires takes { S.takes reader.old }
-        ensures read { IfSome result (λ read. S.reads reader.old stream.now read reader.new) }
+        ensures read { IfSome result (λ read. S.reads reader.old work.now.stream.now read reader.new) }
         ensures kept { result ≡ None → reader.new ≡ reader.old };
 
     /// Has a stream read whose groups several workers make.
@@ -44,36 +51,33 @@ pub trait StartsWorkers {
     /// Those of the reader.
     fn read_grouped<S: ReadsPayloads>(
         &self,
-        alloc: Global,
-        stream: FetchStream,
+        fetch: GroupedFetch,
         reader: &mut S,
     ) -> Result<(), Fault>
         requires shared { shared self.now }
         requires takes { S.takes reader.old }
-        ensures { S.reads reader.old stream result reader.new };
+        ensures { S.reads reader.old fetch.stream result reader.new };
 }
 
 impl<R: Threads + Wait + Sync> StartsWorkers for R {
-    ghost use Rattle.std.specs.Thread.{IsSync};
+    ghost use Rattle.fetch_workers.specs.inside.Shared.{MayBeShared};
 
-    ghost shared = { λ _. IsSync R.row };
+    ghost shared = { λ _. MayBeShared R.row };
 
     fn read_beside<S: ReadsPayloads>(
         &self,
-        alloc: Global,
-        stream: &FetchStream,
+        work: &SideBySide<'_>,
         reader: &mut S,
     ) -> Option<Result<(), Fault>> {
-        read_beside(self, alloc, stream, reader)
+        read_beside(self, work, reader)
     }
 
     fn read_grouped<S: ReadsPayloads>(
         &self,
-        alloc: Global,
-        stream: FetchStream,
+        fetch: GroupedFetch,
         reader: &mut S,
     ) -> Result<(), Fault> {
-        read_grouped(self, alloc, stream, reader)
+        read_grouped(self, fetch, reader)
     }
 }
 
@@ -85,6 +89,7 @@ impl<R: Threads + Wait + Sync> StartsWorkers for R {
 #[derive(Drop)]
 pub struct Workers<'h, R: StartsWorkers> {
     rt: &'h R,
+    least_rows: usize,
 }
 
 // That threads may share the handle is known where workers are made of it, and kept for where they read.
@@ -99,7 +104,21 @@ impl<'h, R: StartsWorkers> Model for Workers<'h, R> {
 impl<'h, R: Threads + Wait + Sync> Workers<'h, R> {
     /// Workers whose threads this handle starts.
     pub fn new(rt: &'h R) -> Workers<'h, R> {
-        Workers { rt }
+        Workers::reading(rt, LEAST_ROWS)
+    }
+
+    /// The same, with one worker for each so many rows that are read at most, in place of 32,768: what is read is the same for
+    /// any number.
+    pub fn reading(rt: &'h R, least_rows: usize) -> Workers<'h, R> {
+        Workers { rt, least_rows }
+    }
+}
+
+impl<'h, R: StartsWorkers> Workers<'h, R> {
+    // How many workers are worth it.
+    fn worth(&self, stream: &FetchStream) -> usize {
+        let least = self.least_rows.max(1);
+        stream.workers().min(stream.rows() / least)
     }
 }
 
@@ -110,35 +129,40 @@ impl<'h, R: StartsWorkers> Executor for Workers<'h, R> {
         stream: FetchStream,
         reader: &mut S,
     ) -> Result<(), Fault> {
-        if let Some(read) = self.rt.read_beside(alloc, &stream, reader) {
+        let workers = self.worth(&stream);
+        let work = SideBySide {
+            alloc,
+            stream: &stream,
+            workers,
+        };
+        if let Some(read) = self.rt.read_beside(&work, reader) {
             return read;
         }
-        self.rt.read_grouped(alloc, stream, reader)
+        let fetch = GroupedFetch {
+            alloc,
+            stream,
+            workers,
+        };
+        self.rt.read_grouped(fetch, reader)
     }
-}
-
-// How many workers are worth it.
-fn worth(stream: &FetchStream, morsels: &Morsels<'_>) -> usize {
-    let most = stream.workers().min(morsels.count());
-    most.min(stream.rows() / LEAST_ROWS).max(1)
 }
 
 // Has a stream read that several workers make, and nothing where one does.
 fn read_beside<R: Threads + Wait + Sync, S: ReadsPayloads>(
     rt: &R,
-    alloc: Global,
-    stream: &FetchStream,
+    work: &SideBySide<'_>,
     reader: &mut S,
 ) -> Option<Result<(), Fault>>
     requires { S.takes reader.old }
-    ensures read { IfSome result (λ read. S.reads reader.old stream.now read reader.new) }
+    ensures read { IfSome result (λ read. S.reads reader.old work.now.stream.now read reader.new) }
     ensures kept { result ≡ None → reader.new ≡ reader.old }
 {
-    let morsels = stream.morsels()?;
-    let workers = worth(stream, &morsels);
+    let morsels = work.stream.morsels()?;
+    let workers = work.workers.min(morsels.count());
     if workers < 2 {
         return None;
     }
+    let alloc = work.alloc;
     let work = MorselWork { morsels };
     let mut reading = Reading {
         alloc,

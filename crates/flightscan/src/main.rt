@@ -15,7 +15,8 @@ use commands::arguments::refuse_arguments;
 use commands::pipe::pipe;
 use commands::serve::{Host, serve};
 use commands::words::read_words;
-use flight_calls::{OneWorker, Options, Setting};
+use fetch_workers::Workers;
+use flight_calls::{Options, Setting};
 use grpc_frame::{Counted, Input, Output};
 use hash_seed::HashSeed;
 use loopback::{Loopback, Port};
@@ -58,7 +59,7 @@ where
             let workers = workers as usize;
             let setting = Setting {
                 alloc: rt.alloc(),
-                executor: &OneWorker,
+                executor: &Workers::new(rt),
                 options: Options { parts, workers },
             };
             pipe(&setting, seed, input, output, faults)

@@ -1,4 +1,4 @@
-use Rattle.std.proofs.Common.{◌≡◌, ◌<◌, ◌+◌, length, Option, Some, Result, Ok, subst, arith}
+use Rattle.std.proofs.Common.{◌≡◌, ◌<◌, length, Option, Some, Result, Ok, subst, arith}
 use Rattle.scan_base.specs.declared.fault.Fault.{Fault}
 use Rattle.flight_info.specs.Payloads.{Payload}
 use Rattle.fetch_stream.specs.Morsels.{morsel_stream}

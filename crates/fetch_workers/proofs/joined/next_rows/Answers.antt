@@ -2,8 +2,7 @@ use Rattle.std.proofs.Common.{◌≡◌, Option, Some, None, Result, Ok, subst}
 use Rattle.std.specs.Prelude.{option_map}
 use Rattle.scan_base.specs.declared.fault.Fault.{Fault}
 use Rattle.flight_info.specs.Payloads.{Payload}
-use Rattle.fetch_stream.specs.Morsels.{MorselsAt}
-use Rattle.fetch_workers.specs.inside.Joined.{GivesJoined, GivesPresent, Goes}
+use Rattle.fetch_workers.specs.inside.Joined.{GivesPresent}
 use Rattle.fetch_workers.proofs.Joining.{joined_as, joined_present}
 use Rattle.fetch_workers.proofs.joined.next_rows.Goals as goal
 
