@@ -17,6 +17,7 @@ from loopback import SECONDS, Server
 from random_calls.answers import same
 from random_calls.plain_model import Column, Put, Row, Table
 from random_calls.puts import RANGES, stream_of
+from reader import Reader
 from served.cases import A, Run, case, status_of
 from trips import STREAM
 
@@ -120,7 +121,15 @@ def joined_endpoints(run: Run) -> None:
             same(f"query {options}", lines, query(run, server, "SELECT a FROM t", *options))
 
 
-@case("an answer as an Arrow IPC stream: its end marker, and the same rows where it is put again")
+def rows_in(data: bytes) -> list[list[object]]:
+    """The rows of an Arrow IPC stream, by the reader of `vectors/arrow`."""
+    reader = Reader()
+    for header, body in framing.stored_messages(data):
+        reader.message(header, body)
+    return reader.total
+
+
+@case("an answer as an Arrow IPC stream: its end marker, its rows, and the same rows where it is put again")
 def copied_table(run: Run) -> None:
     with run.serving("--parts", "3") as server:
         same("put", printed("7 rows"), put(run, server, "t", TRIPS))
@@ -131,8 +140,11 @@ def copied_table(run: Run) -> None:
             for options in ((), ("--streams", "3")):
                 status, data, said = query(run, server, text, "--format", "arrow", *options)
                 same("its end", (0, END, b""), (status, data[-len(END) :], said))
+                same("its rows", count, len(rows_in(data)))
                 same("put of the copy", printed(f"{count} rows"), put(run, server, "copy", data, "replace"))
                 same("rows", query(run, server, text), query(run, server, "SELECT * FROM copy"))
+        _, data, _ = query(run, server, "SELECT a FROM many", "--format", "arrow")
+        same("each row", [[row] for row in range(70_000)], rows_in(data))
         same("no stream", answered("F14 UnknownName"), query(run, server, "SELECT b FROM many", "--format", "arrow"))
 
 
