@@ -11,7 +11,7 @@ connections. Of N allocations the one of number 1, 2, .. N is refused, where N i
 Each answer has to be whole, or F21, which a fetch may have behind a beginning of its rows. A put is in the history exactly
 where its status is 0: what the answers behind it have to be is worked out from the statuses so far, by a model on plain lists.
 The list of tables, asked for last, has the number of the puts that were made. One F21 is all there may be, and where it ends a
-connection, a new one goes on. It ends with 1 at the first difference, and says the number. It needs a C compiler and the proved
+connection, a new one goes on. If that client is still sending, its F21 may be lost on the way: then its call is not done. It ends with 1 at the first difference, and says the number. It needs a C compiler and the proved
 program, as each_allocation.py does.
 """
 
@@ -296,21 +296,22 @@ def ends_refused(written: bytes) -> bool:
 
 
 class Client:
-    """A connection that is made anew where the one before ended behind an F21."""
+    """A connection that is made anew where the one before was ended by an F21."""
 
     def __init__(self, port: int):
         self.port, self.connection, self.was_refused, self.ended = port, Connection(port), False, 0
 
     def ask(self, call: Call) -> wire.Answer:
+        """The answer to a call. An F21 is lost where the connection ended while the call was sent."""
         try:
             answer = self.ask_once(call)
-        except (OSError, wire.Unreadable):
-            if not self.was_refused:
+        except (ConnectionError, wire.Unreadable) as found:
+            if not self.was_refused and not isinstance(found, ConnectionError):
                 raise
             self.connection.close()
             self.connection, self.ended = Connection(self.port), self.ended + 1
-            answer = self.ask_once(call)
-        self.was_refused = (answer.code, answer.text) == OUT_OF_MEMORY
+            answer = self.ask_once(call) if self.was_refused else wire.Answer([], *OUT_OF_MEMORY)
+        self.was_refused = self.ended == 0 and (answer.code, answer.text) == OUT_OF_MEMORY
         return answer
 
     def ask_once(self, call: Call) -> wire.Answer:
@@ -332,7 +333,7 @@ def through_serve(refusing: Refusing, calls: list[Call], number: int) -> str:
             look_at(call, place, clients[place % 2].ask(call), state)
         for client in clients:
             client.connection.close()
-        same("at most one F21", True, state.refused <= 1)
+        same("at most one F21, and one connection ended", True, max(state.refused, sum(client.ended for client in clients)) <= 1)
         same("what the server said, and whether it is there", (b"", None), (server.said(), server.process.poll()))
     ended = any(client.ended or client.was_refused for client in clients)
     return "connection ended" if ended else "an answer refused" if state.refused else "all whole"
