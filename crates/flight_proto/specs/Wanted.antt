@@ -83,7 +83,7 @@ wanted_tables value = do
 abbrev pub statement_query_name : List ℕ
 statement_query_name = codes "arrow.flight.protocol.sql.CommandStatementQuery"
 
--- the full name of the other
+-- the full name of the command that asks for the list of tables
 abbrev pub get_tables_name : List ℕ
 get_tables_name = codes "arrow.flight.protocol.sql.CommandGetTables"
 

@@ -79,12 +79,12 @@ known_after known message body = do
   values ← extended_by (kept_of sent.is_delta (values_under known.dictionaries sent.id)) texts
   Ok (record known { dictionaries = with_values sent.id values known.dictionaries })
 
--- The first message is a schema.
+-- the schema of the first message; another kind there is F8
 abbrev pub first_schema : HeaderKind → MessageAt → List ℕ → Result Schema Fault
 first_schema header.Schema message body = schema_sent message body
 first_schema _ message body = Err BadBatch
 
--- No second schema comes.
+-- what a message behind the schema says; a second schema is F8
 abbrev pub next_news : HeaderKind → Known → MessageAt → List ℕ → Result News Fault
 next_news header.RecordBatch known message body =
     batch_sent known message body >>= λ batch. Ok (record { state = Some known; batch = Some batch })

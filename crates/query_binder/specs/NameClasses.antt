@@ -23,7 +23,7 @@ class_of_column scope (Err fault) = Err fault
 abbrev pub class_of_name : Scope → ColumnName → Result Class Fault
 class_of_name scope name = class_of_column scope (column_of scope name)
 
--- the predicate of WHERE, where there is one
+-- the fault of WHERE's predicate, where there is one
 abbrev pub filter_fault : Scope → Option (Pred ColumnName) → Option Fault
 filter_fault scope None = None
 filter_fault scope (Some predicate) = predicate_fault (class_of_name scope) predicate

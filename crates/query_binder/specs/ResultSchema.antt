@@ -18,7 +18,7 @@ use Rattle.table_versions.specs.Database.{Database}
 use Rattle.typed_plan.specs.Scope.{Scope, ScopeColumn, numbered}
 use Rattle.typed_plan.specs.Joined.{scope_of}
 
--- a query with a name that means no column is refused before
+-- the result's column for a column of the scope; a query with a name that means none is refused before
 abbrev pub field_at : Option ScopeColumn → Field
 field_at (Some column) = answer_field column.field
 field_at None = record { name = []; nullable = true; data_type = Utf8 }

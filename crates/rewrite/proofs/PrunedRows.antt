@@ -38,7 +38,7 @@ cell_kept (false ∷ uses) (value ∷ row) zero h e = cc
 cell_kept (true ∷ uses) (value ∷ row) (suc n) h e = cell_kept uses row n (omega (arith, h)) e
 cell_kept (false ∷ uses) (value ∷ row) (suc n) h e = cell_kept uses row n (omega (arith, h)) e
 
--- as scan_exec's proofs/Cells has it
+-- a row is its cells, number by number, as Cells of row_sources has it
 all_cells : (row : Row) → map (cell_in row) (range_with_len 0 (length row)) ≡ row
 all_cells row = sym (fill_by_all (cell_in row) row (length row) Null refl (λ k h. sym (unwrap_or-slice_get row k Null)))
 

@@ -23,7 +23,7 @@ Scope = List ScopeColumn
 abbrev pub columns_in : Name → List Field → Scope
 columns_in place fields = map (λ field. record { place = place; field = field }) fields
 
--- a name without a place looks at every place
+-- whether a name may mean a column of this place; without a place it may mean one of any
 abbrev pub fits_place : Option Name → Name → Bool
 fits_place None place = true
 fits_place (Some named) place = bytes_eq named place
