@@ -1,0 +1,5 @@
+mod Rows
+pub mod Parts
+pub mod Numbers
+pub mod Texts
+pub mod Printed

@@ -1,0 +1,62 @@
+//! What is printed of a day.
+
+ghost use Rattle.std.specs.Prelude.{◌≡◌, ◌<◌, ◌≤◌, ◌+◌, ◌++◌, codes};
+ghost use Rattle.std.specs.Fmt.{signed_decimal};
+ghost use Rattle.arrayvec.specs.ArrayString.{array_string_len};
+ghost use Rattle.calendar.specs.Shown.{ReadsBack, date_shown, date_text, in_two_digits};
+
+use arrayvec::ArrayString;
+use itoa::Buffer;
+use jiff_core::civil::Date;
+
+/// What is printed of a day, where 1970-01-01 is 0: `DATE 'yyyy-mm-dd'` in the years 0001 to 9999, and else `DATE(n)`
+/// with its number. It takes no memory.
+pub fn date_shown(day: i32) -> ArrayString<24>
+    ensures exact { result.bytes ≡ date_shown day }
+    ensures reads_back { ReadsBack day }
+{
+    match Date::from_unix_epoch_day(i64::from(day)) {
+        Ok(date) if date.year > 0 => shown_by_date(date.year as u16, date.month, date.day),
+        _ => shown_by_number(day),
+    }
+}
+
+// A date in quotes, behind the word.
+fn shown_by_date(year: u16, month: u8, day: u8) -> ArrayString<24>
+    requires year { year < 10000 }
+    requires month { month < 100 }
+    requires day { day < 100 }
+    ensures { result.bytes ≡ codes "DATE '" ++ (date_text year month day ++ codes "'") }
+{
+    let mut text = ArrayString::new();
+    text.push_str("DATE '");
+    push_two_digits(&mut text, (year / 100) as u8);
+    push_two_digits(&mut text, (year % 100) as u8);
+    text.push('-');
+    push_two_digits(&mut text, month);
+    text.push('-');
+    push_two_digits(&mut text, day);
+    text.push('\'');
+    text
+}
+
+// Appends a number in two digits.
+fn push_two_digits(text: &mut ArrayString<24>, number: u8)
+    requires small { number < 100 }
+    requires room { array_string_len text.old + 2 ≤ 24 }
+    ensures { text.new.bytes ≡ text.old.bytes ++ in_two_digits number }
+{
+    text.push(char::from(b'0' + number / 10));
+    text.push(char::from(b'0' + number % 10));
+}
+
+// The number of a day in brackets, behind the word.
+fn shown_by_number(day: i32) -> ArrayString<24>
+    ensures { result.bytes ≡ codes "DATE(" ++ (signed_decimal day ++ codes ")") }
+{
+    let mut text = ArrayString::new();
+    text.push_str("DATE(");
+    text.push_str(Buffer::new().format(day));
+    text.push(')');
+    text
+}
