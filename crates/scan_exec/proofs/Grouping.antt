@@ -129,6 +129,11 @@ between_few from to batches = omega (arith, rows_split from batches, rows_split 
 pub from_first : (n : ℕ) (batches : List BatchAt) → batches_between 0 n batches ≡ take n batches
 from_first n batches = let whole : n - 0 ≡ n = omega arith in ap (λ (m : ℕ). take m batches) whole
 
+-- of no batches yet no row is fed
+pub of_none_fed : (pick : PickAt) (from : ℕ) (batches : List BatchAt) (groups : GroupsAt) → groups.refused ≡ None →
+    HasFed groups groups (passing pick (flat_map rows_of (batches_between from from batches)))
+of_none_fed pick from batches groups ready = let none : from - from ≡ 0 = omega arith in rw none (none_fed groups ready)
+
 module _ (pick : PickAt) (batches : List BatchAt) (from k : ℕ) (batch : BatchAt) (ordered : from ≤ k) (there : k < length batches) (is : batch ≡ get_or batches k batch) where
   abbrev so_far : List Row
   so_far = passing pick (flat_map rows_of (batches_between from k batches))
@@ -142,7 +147,7 @@ module _ (pick : PickAt) (batches : List BatchAt) (from k : ℕ) (batch : BatchA
       ap (λ (n : ℕ). take n (drop from batches)) next
       ∙ take-suc (drop from batches) (k - from) batch within
       ∙ ap (λ (b : BatchAt). batches_between from k batches ++ b ∷ [])
-          (get_or-drop from batches (k - from) batch ∙ ap (λ (n : ℕ). get_or batches n batch) place ∙ sym is)
+      (get_or-drop from batches (k - from) batch ∙ ap (λ (n : ℕ). get_or batches n batch) place ∙ sym is)
 
   -- and their rows
   pub rows_more : passing pick (flat_map rows_of (batches_between from (k + 1) batches)) ≡ so_far ++ passing pick (rows_of batch)
@@ -158,8 +163,8 @@ module _ (pick : PickAt) (batches : List BatchAt) (from k : ℕ) (batch : BatchA
       let all = between_few from (k + 1) batches in
       let long : length (flat_map rows_of (batches_between from (k + 1) batches)) ≡ length (flat_map rows_of (batches_between from k batches)) + length (rows_of batch) =
       ap (λ (some : List BatchAt). length (flat_map rows_of some)) batches_more
-          ∙ ap length (flat_map-append rows_of (batches_between from k batches) (batch ∷ []) ∙ ap (λ (some : List Row). flat_map rows_of (batches_between from k batches) ++ some) (append-nil (rows_of batch)))
-          ∙ length-append (flat_map rows_of (batches_between from k batches)) (rows_of batch) in
+      ∙ ap length (flat_map-append rows_of (batches_between from k batches) (batch ∷ []) ∙ ap (λ (some : List Row). flat_map rows_of (batches_between from k batches) ++ some) (append-nil (rows_of batch)))
+      ∙ length-append (flat_map rows_of (batches_between from k batches)) (rows_of batch) in
       let size = passing_few (holds pick) (flat_map rows_of (batches_between from k batches)) in
       omega (arith, all, long, size, few, none, fed.count, length-rows_of batch)
 
@@ -197,10 +202,10 @@ module _ (work : GroupWorkAt) (new after : GroupsAt) (rows : List Row) (is : IsN
   }
 
 -- the part of all batches has all rows
-pub whole_part : (work : GroupWorkAt) (count : ℕ) → count ≡ length work.batches → (result : Result GroupsAt Fault) → GroupsOfPart work 0 count result → GroupsOfAll work result
-whole_part work count all result is =
+pub whole_part : (work : GroupWorkAt) (result : Result GroupsAt Fault) → GroupsOfPart work 0 (length work.batches) result → GroupsOfAll work result
+whole_part work result is =
     subst (λ (some : List BatchAt). IfOk result (AreGroupsOf work (passing work.pick (flat_map rows_of some))))
-    (from_first count work.batches ∙ ap (λ (n : ℕ). take n work.batches) all ∙ take-length work.batches) is
+    (from_first (length work.batches) work.batches ∙ take-length work.batches) is
 
 -- ---- the answer
 

@@ -61,12 +61,7 @@ impl<'t, 'p> GroupWork<'t, 'p> {
     /// # Errors
     ///
     /// F21 (`Fault::OutOfMemory`) where memory is refused.
-    pub fn groups_of_part(
-        &self,
-        alloc: Global,
-        from: usize,
-        to: usize,
-    ) -> Result<Groups<'t>, Fault>
+    pub fn groups_of_part(&self, alloc: Global, from: usize, to: usize) -> Result<Groups<'t>, Fault>
         requires can { CanBeGrouped (work_at self.now) }
         requires ordered { from ≤ to }
         requires there { to ≤ length self.now.shape.batches.now }
