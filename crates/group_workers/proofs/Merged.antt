@@ -1,5 +1,5 @@
 -- Groups of parts of the batches, and what merging those of the next part gives.
-use Rattle.std.proofs.Common.{◌≡◌, ◌≤◌, ◌+◌, ◌-◌, ℕ, List, [], ◌++◌, length, take, sym, ap, ◌∙◌, subst, arith}
+use Rattle.std.proofs.Common.{◌≡◌, ◌≤◌, ◌+◌, ◌-◌, ℕ, List, ◌++◌, length, take, sym, ap, ◌∙◌, subst, arith}
 use Rattle.std.specs.List.{flat_map}
 use Rattle.std.proofs.Math.Seq.{take-add, take-length}
 use Rattle.std.proofs.lemmas.Grind.{flat_map-append}
@@ -8,7 +8,7 @@ use Rattle.std.proofs.lemmas.List.Elements.{filter-append}
 use Rattle.arrays.specs.Batch.{BatchAt, rows_of}
 use Rattle.scan_base.specs.Limits.{most_rows}
 use Rattle.table_versions.specs.Table.{Row}
-use Rattle.grouping.specs.Fed.{GroupsAt, HasMerged, Holds, IsAlike, IsNew}
+use Rattle.grouping.specs.Fed.{GroupsAt, HasMerged, Holds, IsAlike}
 use Rattle.row_sources.specs.Picking.{PickAt, holds}
 use Rattle.group_workers.specs.Parts.{batches_before}
 use Rattle.group_workers.proofs.Parting.{before_next, none_before}
@@ -90,18 +90,3 @@ pub all_are : (work : GroupWorkAt) (parts given : ℕ) (groups : GroupsAt) → g
 all_are work parts given groups end all is =
     subst (λ (some : List BatchAt). AreGroupsOf work (passing work.pick (flat_map rows_of some)) groups)
     (ap (λ (n : ℕ). take (batches_before (length work.batches) parts n) work.batches) end ∙ ap (λ (n : ℕ). take n work.batches) all ∙ take-length work.batches) is
-
--- without a part there is no row
-pub none_are : (work : GroupWorkAt) (parts : ℕ) (groups : GroupsAt) → parts ≡ 0 → batches_before (length work.batches) parts parts ≡ length work.batches →
-    IsNew work.batches work.types work.keys work.items groups → AreGroupsOf work (passing work.pick (flat_map rows_of work.batches)) groups
-none_are work parts groups none all is =
-    let empty : length work.batches ≡ 0 = sym all ∙ ap (λ (n : ℕ). batches_before (length work.batches) n n) none ∙ none_before (length work.batches) 0 in
-    subst (λ (some : List BatchAt). AreGroupsOf work (passing work.pick (flat_map rows_of some)) groups)
-    (ap (λ (n : ℕ). take n work.batches) (sym empty) ∙ take-length work.batches) (record {
-      batches_are = is.batches_are;
-      types_are = is.types_are;
-      keys_are = is.keys_are;
-      items_are = is.items_are;
-      refused = is.refused;
-      held = is.held;
-    })

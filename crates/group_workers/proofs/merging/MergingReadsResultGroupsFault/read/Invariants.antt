@@ -8,11 +8,11 @@ use Rattle.group_workers.proofs.merging.MergingReadsResultGroupsFault.read.Given
 -- the groups of the parts so far are merged
 abbrev pub invariant-loop-part : goal.invariant-loop-part
 invariant-loop-part g l =
-    (g.P.Answers.count l.answers ≡ g.P.Answers.count l.initial.answers)
+    (g.P.Answers.count l.answers ≡ g.P.Answers.count l.fn.answers)
     × g.P.Answers.ready l.answers
     × (g.P.Answers.given l.answers ≤ g.P.Answers.count l.answers)
     × AreGroupsOf (work_at l.self.work.now) (passing (work_at l.self.work.now).pick
-    (flat_map rows_of (take (batches_before (length l.self.work.now.shape.batches.now) (g.P.Answers.count l.answers) (g.P.Answers.given l.answers)) l.self.work.now.shape.batches.now))) l.groups
+    (flat_map rows_of (take (batches_before (length l.self.work.now.shape.batches.now) (g.P.Answers.count l.fn.answers) (g.P.Answers.given l.answers)) l.self.work.now.shape.batches.now))) l.groups
 
 abbrev pub decreases-loop-part : goal.decreases-loop-part
 decreases-loop-part g l = g.P.Answers.count l.answers - g.P.Answers.given l.answers
