@@ -1,6 +1,6 @@
 //! Joins of left batches with the rows of a right side.
 
-ghost use Rattle.std.specs.Prelude.{◌≡◌, ◌≤◌, ◌<◌, ◌++◌, [], All, IfOk, IsTrue, OnErr, length, nat_lt};
+ghost use Rattle.std.specs.Prelude.{◌≡◌, ◌≤◌, ◌<◌, ◌*◌, ◌++◌, [], All, IfOk, IsTrue, OnErr, length, nat_lt};
 ghost use Rattle.std.specs.Arc.{arc_value};
 ghost use Rattle.std.specs.List.{list_all, flat_map, range_with_len};
 ghost use Rattle.scan_base.specs.Limits.{most_rows};
@@ -8,6 +8,7 @@ ghost use Rattle.arrays.specs.Batch.{BatchAt, rows_of};
 ghost use Rattle.arrays.specs.Typed.{AreOf};
 ghost use Rattle.hash_join.specs.Pairs.{places, pairs_ahead};
 ghost use Rattle.array_select.specs.Room.{most_batch_rows};
+ghost use Rattle.batch_room.specs.Room.{most_batch_cells};
 ghost use Rattle.join_batches.specs.Built.{AreBuilt, unfed};
 ghost use Rattle.join_batches.specs.Joiner.{JoinsNext, JoinsShown, joined_of, joined_types};
 ghost use Rattle.join_batches.specs.Rows.{IsPair};
@@ -16,6 +17,7 @@ use crate::sides::Sides;
 use array_select::MOST_BATCH_ROWS;
 use arrays::Batch;
 use arrow_schema::DataType;
+use batch_room::{most_rows, next_most};
 use hash_join::{Build, LeftSide, Pair, Probe};
 use hash_seed::HashSeed;
 use std::alloc::{AllocError, Global};
@@ -63,6 +65,8 @@ pub struct Joiner {
     // The next pairs, and how many of them were given.
     pairs: Vec<Pair>,
     given: usize,
+    // As many rows as the next batch is tried with.
+    most: usize,
 }
 
 // Written out, so that dropping it is one call (docs/DECISIONS.md).
@@ -74,6 +78,7 @@ impl Drop for Joiner {
             probe: _,
             pairs: _,
             given: _,
+            most: _,
         } = self;
     }
 }
@@ -159,6 +164,7 @@ impl Joiner {
             probe: Probe::new(),
             pairs: Vec::new(alloc),
             given: 0,
+            most: MOST_BATCH_ROWS,
         }
     }
 
@@ -175,8 +181,8 @@ impl Joiner {
         self.given = 0;
     }
 
-    /// The next joined rows of the left batch as a batch: one row or more, no more than 65,536, whose texts have no more
-    /// than 16 MB in a column where it is more than one. `None` where no row is left.
+    /// The next joined rows of the left batch as a batch: one row or more, no more than 65,536, which has room where it is more
+    /// than one: no more than 524,288 cells, and no more than 8 MB of text in all. `None` where no row is left.
     ///
     /// # Errors
     ///
@@ -190,8 +196,8 @@ impl Joiner {
     }
 
     /// These columns of the next joined rows of the left batch, by their numbers, as a batch: one row or more, no more than
-    /// 65,536, whose texts have no more than 16 MB in a column where it is more than one. No other column is gathered.
-    /// `None` where no row is left.
+    /// 65,536, which has room where it is more than one: no more than 524,288 cells, and no more than 8 MB of text in all. No
+    /// other column is gathered. `None` where no row is left.
     ///
     /// # Errors
     ///
@@ -225,10 +231,22 @@ impl Joiner {
             rights: built.build.batches(),
             right_types: built.right_types.as_slice(),
         };
-        let joined = sides.joined(alloc, shown, pairs)?;
+        let tried = tried_rows(pairs.len(), shown.len(), self.most);
+        let joined = sides.joined(alloc, shown, &pairs[..tried])?;
         self.given += joined.rows();
+        self.most = next_most(self.most, tried, joined.rows());
         Ok(Some(joined))
     }
+}
+
+// How many rows a batch is tried with, of so many that are left, with so many columns: one at least.
+fn tried_rows(left: usize, columns: usize, most: usize) -> usize
+    requires { 0 < left }
+    ensures some { 0 < result }
+    ensures within { result ≤ left }
+    ensures cells { 1 < result → result * columns ≤ most_batch_cells }
+{
+    left.min(most_rows(columns)).min(most.max(1))
 }
 
 // The numbers from 0 up to, not with, `count`.

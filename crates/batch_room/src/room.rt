@@ -1,0 +1,56 @@
+//! How many rows a batch has, and how many bytes its texts.
+
+ghost use Rattle.std.specs.Prelude.{◌≡◌, ◌≤◌, ◌<◌, ◌*◌, if◌then◌else◌, min, nat_lt};
+ghost use Rattle.std.specs.List.{sum_by};
+ghost use Rattle.array_select.specs.Room.{most_batch_rows};
+ghost use Rattle.batch_room.specs.Room.{allowed, most_batch_cells, most_batch_texts};
+
+use array_select::{MOST_BATCH_ROWS, has_texts};
+use arrow_schema::DataType;
+
+/// As many cells as a batch has, where it has more than one row. A cell has 16 bytes or fewer beside its text, so that all of
+/// them have 8 MB.
+pub const MOST_BATCH_CELLS: usize = 524_288;
+
+/// As many bytes as the texts of all columns of a batch have, where it has more than one row: 8 MB.
+pub const MOST_BATCH_TEXTS: usize = 8_388_608;
+
+/// The last byte of text that an offset can name.
+pub const MOST_OFFSET: usize = 2_147_483_647;
+
+/// How many rows a batch of so many columns has at most.
+pub fn most_rows(columns: usize) -> usize
+    ensures some { 0 < result }
+    ensures few { result ≤ most_batch_rows }
+    ensures cells { 1 < result → result * columns ≤ most_batch_cells }
+{
+    if columns == 0 {
+        return MOST_BATCH_ROWS;
+    }
+    (MOST_BATCH_CELLS / columns).min(MOST_BATCH_ROWS).max(1)
+}
+
+/// How many rows the next batch is tried with: no more than the last one has, where it was tried with more, and else twice as
+/// many as it was to have at most. So a batch is not tried with many rows for each one that has few.
+pub fn next_most(most: usize, tried: usize, rows: usize) -> usize
+    ensures { result ≡ if nat_lt rows tried then rows else min most 32768 * 2 }
+{
+    if rows < tried {
+        rows
+    } else {
+        most.min(MOST_BATCH_ROWS / 2) * 2
+    }
+}
+
+/// How many bytes the texts of one column have at most, in a batch of more than one row with columns of these types: each
+/// column of texts has the same share.
+pub fn text_share(types: &[DataType]) -> usize
+    ensures few { result ≤ most_batch_texts }
+    ensures all { sum_by (allowed result) types.now ≤ most_batch_texts }
+{
+    let mut columns = 0;
+    for data_type in types {
+        columns += has_texts(*data_type) as usize;
+    }
+    MOST_BATCH_TEXTS / columns.max(1)
+}
