@@ -1,2 +1,2 @@
 pub mod Light
-mod Shares
+pub mod Shares

@@ -1,11 +1,13 @@
--- Shares of columns of texts.
-use Rattle.std.proofs.Common.{◌≡◌, ◌≤◌, ℕ, suc, ◌+◌, ◌*◌, ◌/◌, subst, Bool, true, false, if◌then◌else◌, List, [], ◌∷◌, refl, sym, ap, ◌∙◌, arith}
+-- Shares of columns, and cells of fewer rows.
+use Rattle.std.proofs.Common.{◌≡◌, ◌≤◌, ◌<◌, ℕ, ◌+◌, ◌*◌, ◌/◌, subst, Bool, true, false, if◌then◌else◌, List, [], ◌∷◌, All, length, max, refl, sym, ap, ◌∙◌, arith}
 use Rattle.std.specs.List.{sum_by}
-use Rattle.std.proofs.lemmas.List.Sums.{sum_by-cons}
-use Rattle.std.proofs.Math.Nat.{mul-div-le}
+use Rattle.std.proofs.lemmas.List.Sums.{sum_by-cons, sum_by-le}
+use Rattle.std.proofs.Math.Nat.{le-max_left, mul-div-le, mul-le-mul_right}
 use Rattle.arrow_schema.specs.declared.data_type.DataType.{DataType}
+use Rattle.arrays.specs.Column.{ColumnAt}
 use Rattle.array_select.specs.Fitting.{has_texts}
-use Rattle.batch_room.specs.Room.{allowed, most_batch_texts}
+use Rattle.array_select.specs.Room.{text_bytes_of}
+use Rattle.batch_room.specs.Room.{allowed, most_batch_cells, most_batch_texts, share_among}
 
 -- a column of texts has a share, and any other has none
 shared : (share : ℕ) (texts : Bool) → (if texts then share else 0) ≡ (if texts then 1 else 0) * share
@@ -36,3 +38,20 @@ shared_out types columns some are less =
   where
     mul-le : (a b c : ℕ) → a ≤ b → a * c ≤ b * c
     mul-le a b c less = grind arith
+
+-- fewer rows have fewer cells
+pub fewer_cells : (rows count columns : ℕ) → count ≤ rows → (1 < rows → rows * columns ≤ most_batch_cells) → 1 < count → count * columns ≤ most_batch_cells
+fewer_cells rows count columns less all many =
+    let whole = all (omega (arith, many, less)) in
+    let part = mul-le-mul_right columns less in
+    omega (arith, whole, part)
+
+-- texts of columns of which each has its share
+pub shared_texts : (columns : List ColumnAt) → All (λ (column : ColumnAt). text_bytes_of column ≤ share_among (length columns)) columns →
+    sum_by text_bytes_of columns ≤ most_batch_texts
+shared_texts columns all =
+    let some = max (length columns) 1 in
+    let whole = sum_by-le text_bytes_of (share_among (length columns)) columns all in
+    let part = mul-le-mul_right (share_among (length columns)) (le-max_left (length columns) 1) in
+    let rest = mul-div-le most_batch_texts some in
+    omega (arith, whole, part, rest)

@@ -4,5 +4,8 @@
 pub mod room;
 pub mod slots;
 
-pub use crate::room::{MOST_BATCH_CELLS, MOST_BATCH_TEXTS, MOST_OFFSET, most_rows, next_most, text_share};
+pub use crate::room::{
+    MOST_BATCH_CELLS, MOST_BATCH_TEXTS, MOST_OFFSET, most_rows, next_most, share_among, text_share,
+    tried_rows,
+};
 pub use crate::slots::fitting;

@@ -1,5 +1,6 @@
 -- Texts that are light, of fewer rows too.
-use Rattle.std.proofs.Common.{◌≡◌, ◌≤◌, ◌<◌, ◌^◌, ℕ, ◌+◌, Bool, true, if◌then◌else◌, nat_le, All, List, [], length, map, take, get_or, refl, ap, sym, ◌∙◌, arith, length-take, subst}
+use Rattle.std.proofs.Common.{◌≡◌, ◌≤◌, ◌<◌, ◌^◌, ℕ, ◌+◌, Bool, true, if◌then◌else◌, nat_le, All, Result, Ok, Err, IfOk, List, [], length, map, take, get_or, refl, ap, sym, ◌∙◌, arith, length-take, subst}
+use Rattle.std.specs.declared.alloc.AllocError.{AllocError}
 use Rattle.std.proofs.lemmas.Bool.{leb-true}
 use Rattle.std.proofs.lemmas.List.{length-map, take-map, take-take}
 use Rattle.std.proofs.lemmas.List.Elements.{All-nil, All-push, All-weaker}
@@ -67,7 +68,7 @@ counted_fit sides share pairs number count fit low texts some within is holds =
     }
 
 -- one row fits where offsets name each byte of its text
-pub one_fits : (sides : Sides) (share : ℕ) (pairs : List Pair) (number count : ℕ) → count ≡ 1 → 0 < length pairs →
+one_fits : (sides : Sides) (share : ℕ) (pairs : List Pair) (number count : ℕ) → count ≡ 1 → 0 < length pairs →
     length (texts_joined (cells_of (rows_at sides (take 1 pairs)) number)) < 2 ^ 31 → FitsIn sides share pairs number count
 one_fits sides share pairs number count is some named =
     let size = cells_long sides (take 1 pairs) number in
@@ -87,3 +88,9 @@ pub all_named : (sides : Sides) (share : ℕ) (pairs : List Pair) (shown : List 
     All (λ number. length (texts_joined (cells_of (rows_at sides pairs) number)) < 2 ^ 31) shown
 all_named sides share pairs shown light =
     All-weaker (AreLightIn sides share pairs) (λ number. length (texts_joined (cells_of (rows_at sides pairs) number)) < 2 ^ 31) (λ number is. is.named) shown light
+
+-- what was found of one row
+pub alone_fits : (sides : Sides) (share : ℕ) (pairs : List Pair) (number : ℕ) (made : Result ℕ AllocError) → 0 < length pairs → IfOk made (λ count. count ≡ 1) →
+    IfOk made (λ _. length (texts_joined (cells_of (rows_at sides (take 1 pairs)) number)) < 2 ^ 31) → IfOk made (FitsIn sides share pairs number)
+alone_fits sides share pairs number (Ok count) some one named = one_fits sides share pairs number count one some named
+alone_fits sides share pairs number (Err refused) some one named = tt

@@ -2,7 +2,7 @@
 use Rattle.std.proofs.Common.{◌≡◌, ◌≤◌, ◌<◌, ℕ, suc, ◌+◌, ◌*◌, List, [], ◌∷◌, ◌++◌, All, Result, Ok, Err, IfOk, length, map, get_or, take, refl, sym, ap, ◌∙◌, subst, arith, length-take}
 use Rattle.std.specs.List.{AllZip, range_with_len, sum_by}
 use Rattle.std.specs.declared.alloc.AllocError.{AllocError}
-use Rattle.std.proofs.Math.Nat.{mul-le-mul_right}
+use Rattle.batch_room.proofs.Shares.{fewer_cells}
 use Rattle.std.proofs.lemmas.List.{get_or-map, length-map, length-take-le, take-take}
 use Rattle.std.proofs.lemmas.List.Elements.{All-nil, All-cons, All-head, All-tail, All-map, All-take, All-weaker}
 use Rattle.std.proofs.lemmas.List.Sums.{sum_by-cons}
@@ -127,13 +127,6 @@ all_cells width (row ∷ rows) wide =
     ap (λ (first : List Value). first ∷ map (shown_cells (range_with_len 0 width)) rows)
     (ap (λ (n : ℕ). map (cell_in row) (range_with_len 0 n)) (sym long) ∙ map-cells row)
     ∙ ap (λ (rest : List (List Value)). row ∷ rest) (all_cells width rows (All-tail (λ (row : List Value). length row ≡ width) row rows wide))
-
--- fewer rows have fewer cells
-fewer_cells : (rows count columns : ℕ) → count ≤ rows → (1 < rows → rows * columns ≤ most_batch_cells) → 1 < count → count * columns ≤ most_batch_cells
-fewer_cells rows count columns less all many =
-    let whole = all (omega (arith, many, less)) in
-    let part = mul-le-mul_right columns less in
-    omega (arith, whole, part)
 
 -- a batch of these columns of so many joined rows
 pub batch_made : (sides : Sides) (share : ℕ) (shown : List ℕ) (pairs : List Pair) (count : ℕ) (columns : List ColumnAt) → AreSides sides → ArePairs sides pairs →

@@ -1,6 +1,6 @@
 //! Joins of left batches with the rows of a right side.
 
-ghost use Rattle.std.specs.Prelude.{◌≡◌, ◌≤◌, ◌<◌, ◌*◌, ◌++◌, [], All, IfOk, IsTrue, OnErr, length, nat_lt};
+ghost use Rattle.std.specs.Prelude.{◌≡◌, ◌≤◌, ◌<◌, ◌++◌, [], All, IfOk, IsTrue, OnErr, length, nat_lt};
 ghost use Rattle.std.specs.Arc.{arc_value};
 ghost use Rattle.std.specs.List.{list_all, flat_map, range_with_len};
 ghost use Rattle.scan_base.specs.Limits.{most_rows};
@@ -8,7 +8,6 @@ ghost use Rattle.arrays.specs.Batch.{BatchAt, rows_of};
 ghost use Rattle.arrays.specs.Typed.{AreOf};
 ghost use Rattle.hash_join.specs.Pairs.{places, pairs_ahead};
 ghost use Rattle.array_select.specs.Room.{most_batch_rows};
-ghost use Rattle.batch_room.specs.Room.{most_batch_cells};
 ghost use Rattle.join_batches.specs.Built.{AreBuilt, unfed};
 ghost use Rattle.join_batches.specs.Joiner.{JoinsNext, JoinsShown, joined_of, joined_types};
 ghost use Rattle.join_batches.specs.Rows.{IsPair};
@@ -17,7 +16,7 @@ use crate::sides::Sides;
 use array_select::MOST_BATCH_ROWS;
 use arrays::Batch;
 use arrow_schema::DataType;
-use batch_room::{most_rows, next_most};
+use batch_room::{next_most, tried_rows};
 use hash_join::{Build, LeftSide, Pair, Probe};
 use hash_seed::HashSeed;
 use std::alloc::{AllocError, Global};
@@ -237,16 +236,6 @@ impl Joiner {
         self.most = next_most(self.most, tried, joined.rows());
         Ok(Some(joined))
     }
-}
-
-// How many rows a batch is tried with, of so many that are left, with so many columns: one at least.
-fn tried_rows(left: usize, columns: usize, most: usize) -> usize
-    requires { 0 < left }
-    ensures some { 0 < result }
-    ensures within { result ≤ left }
-    ensures cells { 1 < result → result * columns ≤ most_batch_cells }
-{
-    left.min(most_rows(columns)).min(most.max(1))
 }
 
 // The numbers from 0 up to, not with, `count`.
