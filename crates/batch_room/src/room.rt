@@ -68,9 +68,9 @@ pub fn text_share(types: &[DataType]) -> usize
     ensures few { result ≤ most_batch_texts }
     ensures all { sum_by (allowed result) types.now ≤ most_batch_texts }
 {
-    let mut columns = 0;
+    let mut with_texts = 0;
     for data_type in types {
-        columns += has_texts(*data_type) as usize;
+        with_texts += has_texts(*data_type) as usize;
     }
-    MOST_BATCH_TEXTS / columns.max(1)
+    MOST_BATCH_TEXTS / with_texts.max(1)
 }

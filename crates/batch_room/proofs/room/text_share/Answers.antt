@@ -9,6 +9,6 @@ use Rattle.batch_room.proofs.room.text_share.Goals as goal
 pub returns-clause-all : goal.returns-clause-all
 returns-clause-all c =
     let i = c.loop-data_type.data_type-index in
-    shared_out c.args.types.now c.loop-data_type.columns c.max.result
+    shared_out c.args.types.now c.loop-data_type.with_texts c.max.result
     (c.loop-data_type.invariant.0 ∙ ap (sum_by (allowed 1)) (take_all i c.args.types.now c.loop-data_type-test.false))
-    (rw c.max.ensures (le-max_left c.loop-data_type.columns 1))
+    (rw c.max.ensures (le-max_left c.loop-data_type.with_texts 1))
