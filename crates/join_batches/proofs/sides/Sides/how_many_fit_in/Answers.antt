@@ -16,13 +16,13 @@ pub returns-then-count-eq1 : goal.returns-then-count-eq1
 returns-then-count-eq1 c =
     let sides = c.args.self.now in
     alone_fits sides c.args.share c.args.placed.now.pairs.now c.args.number c.alone.result c.requires.some c.alone.ensures.one
-    (subst (λ (pairs : List Pair). IfOk c.alone.result (λ _. length (texts_joined (cells_of (rows_at sides pairs) c.args.number)) < 2 ^ 31)) c.first-2.ensures.pairs c.alone.ensures.named)
+    (subst (λ (pairs : List Pair). IfOk c.alone.result (λ _. length (texts_joined (cells_of (rows_at sides pairs) c.args.number)) < 2 ^ 31)) c.first-then-count-eq1.ensures.pairs c.alone.ensures.named)
 
 pub returns : goal.returns
 returns c =
     let sides = c.args.self.now in
-    counted_fit sides c.args.share c.args.placed.now.pairs.now c.args.number c.loop-branch.count c.in_ok-texts_fit.field-0 c.requires.share
-    (sym (ap has_texts c.type_of.ensures) ∙ sym c.has_texts.ensures ∙ c.if-not-has_texts.false) c.loop-branch.invariant.0 c.loop-branch.invariant.1
+    counted_fit sides c.args.share c.args.placed.now.pairs.now c.args.number c.loop-alloc.count c.in_ok-texts_fit.field-0 c.requires.share
+    (sym (ap has_texts c.type_of.ensures) ∙ sym c.has_texts.ensures ∙ c.if-not-has_texts.false) c.loop-alloc.invariant.0 c.loop-alloc.invariant.1
     (subst (λ (pairs : List Pair). c.in_ok-texts_fit.field-0 ≡ nat_le (length (texts_joined (cells_of (rows_at sides pairs) c.args.number))) c.args.share) c.first.ensures.pairs
     c.in_ok-texts_fit.ensures)
-    c.loop-branch-test.false
+    c.if-not-branch.false

@@ -14,7 +14,7 @@ use Rattle.join_batches.proofs.sides.Sides.joined.Goals as goal
 pub columns-requires-clause-named : goal.columns-requires-clause-named
 columns-requires-clause-named c =
     rw c.first.ensures.pairs
-    (all_named c.args.self.now c.text_share.result (take c.in_ok-count.count c.args.pairs.now) c.args.shown.now c.in_ok-count.ensures.light)
+    (all_named c.args.self.now c.text_share-share.result (take c.in_ok-count.count c.args.pairs.now) c.args.shown.now c.in_ok-count.ensures.light)
 
 pub new-requires : goal.new-requires
 new-requires c =
@@ -28,9 +28,9 @@ new-requires c =
 pub returns : goal.returns
 returns c =
     rw c.new.ensures
-    (batch_made c.args.self.now c.text_share.result c.args.shown.now c.args.pairs.now c.in_ok-count.count c.in_ok-columns.columns.items c.requires.sides c.requires.there
+    (batch_made c.args.self.now c.text_share-share.result c.args.shown.now c.args.pairs.now c.in_ok-count.count c.in_ok-columns.columns.items c.requires.sides c.requires.there
     c.requires.cells
-    (subst (λ (types : List DataType). sum_by (allowed c.text_share.result) types ≤ most_batch_texts) (c.as_slice-3.ensures.value ∙ c.in_ok-types.ensures) c.text_share.ensures.all)
+    (subst (λ (types : List DataType). sum_by (allowed c.text_share-share.result) types ≤ most_batch_texts) (c.as_slice-3.ensures.value ∙ c.in_ok-types.ensures) c.text_share-share.ensures.all)
     c.in_ok-count.ensures (rw c.first.ensures.pairs at c.in_ok-columns.ensures.cells) c.in_ok-columns.ensures.typed)
 
 pub how_many_fit-requires-clause-placed : goal.how_many_fit-requires-clause-placed

@@ -18,8 +18,8 @@ texts_fit-requires c =
     (All-weaker (IsSlotOf (get_or (types_of sides) number Utf8)) (λ (slot : SlotRef). slot.place < slot.column.now.len) (λ slot is. is.0)
     c.in_ok-slots.slots.items (held_there sides number c.args.placed.now.pairs.now c.in_ok-slots.slots.items c.in_ok-slots.ensures))
 
-pub returns-then-self-len : goal.returns-then-self-len
-returns-then-self-len c =
+pub returns-then-self-placed : goal.returns-then-self-placed
+returns-then-self-placed c =
     let sides = c.args.self.now in
     c.texts_fit.ensures
     ∙ ap (λ (values : List Value). nat_le (length (texts_joined values)) c.args.most)
