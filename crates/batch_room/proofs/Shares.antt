@@ -1,5 +1,5 @@
 -- Shares of columns, and cells of fewer rows.
-use Rattle.std.proofs.Common.{◌≡◌, ◌≤◌, ◌<◌, ℕ, ◌+◌, ◌*◌, ◌/◌, subst, Bool, true, false, if◌then◌else◌, List, [], ◌∷◌, All, length, max, refl, sym, ap, ◌∙◌, arith}
+use Rattle.std.proofs.Common.{◌≡◌, ◌≤◌, ◌<◌, ℕ, ◌+◌, ◌*◌, ◌/◌, subst, Bool, true, false, if◌then◌else◌, List, [], ◌∷◌, All, length, max, sym, ap, ◌∙◌, arith}
 use Rattle.std.specs.List.{sum_by}
 use Rattle.std.proofs.lemmas.List.Sums.{sum_by-cons, sum_by-le}
 use Rattle.std.proofs.Math.Nat.{le-max_left, mul-div-le, mul-le-mul_right}

@@ -1,5 +1,5 @@
 -- Texts that are light, of fewer rows too.
-use Rattle.std.proofs.Common.{◌≡◌, ◌≤◌, ◌<◌, ◌^◌, ℕ, ◌+◌, Bool, true, if◌then◌else◌, nat_le, All, Result, Ok, Err, IfOk, List, [], length, map, take, get_or, refl, ap, sym, ◌∙◌, arith, length-take, subst}
+use Rattle.std.proofs.Common.{◌≡◌, ◌≤◌, ◌<◌, ◌^◌, ℕ, ◌+◌, Bool, true, if◌then◌else◌, nat_le, All, Result, Ok, Err, IfOk, List, [], length, take, get_or, ap, sym, ◌∙◌, arith, length-take, subst}
 use Rattle.std.specs.declared.alloc.AllocError.{AllocError}
 use Rattle.std.proofs.lemmas.Bool.{leb-true}
 use Rattle.std.proofs.lemmas.List.{length-map, take-map, take-take}

@@ -1,7 +1,7 @@
 -- The places of cells, and the columns in which they are.
-use Rattle.std.proofs.Common.{◌≡◌, ◌≤◌, ◌<◌, ℕ, suc, ◌+◌, Bool, true, if◌then◌else◌, nat_le, List, [], ◌∷◌, ◌++◌, All, length, map, get_or, take, refl, sym, ap, ◌∙◌, arith, subst, inl, inr}
-use Rattle.std.proofs.lemmas.Bool.{lt-ltb, le-ltb, leb-true, cases_lt}
-use Rattle.std.proofs.lemmas.List.{take_more, get_or-map, length-map, get_or_append_left, get_or-append-add, map-append, take_all, take-map}
+use Rattle.std.proofs.Common.{◌≡◌, ◌≤◌, ◌<◌, ℕ, suc, ◌+◌, Bool, if◌then◌else◌, nat_le, List, [], ◌∷◌, ◌++◌, All, length, map, get_or, take, refl, sym, ap, ◌∙◌, arith, subst, inl, inr}
+use Rattle.std.proofs.lemmas.Bool.{lt-ltb, le-ltb, cases_lt}
+use Rattle.std.proofs.lemmas.List.{take_more, get_or-map, length-map, get_or_append_left, get_or-append-add, map-append, take-map}
 use Rattle.std.proofs.lemmas.List.Elements.{All-nil, All-cons, All-map, All-weaker}
 use Rattle.arrow_schema.specs.declared.data_type.DataType.{DataType}
 use Rattle.arrow_schema.specs.declared.data_type.DataType.TheVariants.{Utf8}
@@ -16,7 +16,7 @@ use Rattle.arrays.specs.Written.{texts_joined}
 use Rattle.hash_join.specs.declared.pair.Pair.{Pair}
 use Rattle.join_batches.specs.declared.sides.Sides.{Sides}
 use Rattle.join_batches.specs.Rows.{batch_at, pair_row, IsPair}
-use Rattle.join_batches.specs.Sides.{types_of, AreSides, ArePairs, AreSources, left_place, right_place, place_for, rows_at, cells_of, FitsIn}
+use Rattle.join_batches.specs.Sides.{types_of, AreSides, ArePairs, AreSources, left_place, right_place, place_for, rows_at, cells_of}
 use Rattle.join_batches.proofs.Cells.{left_cell, right_cell, same_at}
 use Rattle.join_batches.proofs.Plain.{none}
 use Rattle.join_batches.proofs.Typed.{typed_long, typed_at}

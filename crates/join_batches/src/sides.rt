@@ -123,12 +123,7 @@ impl<'a> Sides<'a> {
     }
 
     // One pair, if offsets can name each byte of its text in a column.
-    fn alone(
-        &self,
-        alloc: Global,
-        number: usize,
-        placed: &Placed<'_>,
-    ) -> Result<usize, AllocError>
+    fn alone(&self, alloc: Global, number: usize, placed: &Placed<'_>) -> Result<usize, AllocError>
         requires sides { AreSides self.now }
         requires placed { ArePlaced placed.now }
         requires there { ArePairs self.now placed.now.pairs.now }

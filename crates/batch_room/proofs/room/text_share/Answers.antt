@@ -1,9 +1,9 @@
-use Rattle.std.proofs.Common.{◌≤◌, ◌*◌, ◌/◌, ap, ◌∙◌, sym, arith}
+use Rattle.std.proofs.Common.{ap, ◌∙◌}
 use Rattle.std.specs.List.{sum_by}
 use Rattle.std.proofs.Math.Nat.{le-max_left}
 use Rattle.std.proofs.lemmas.List.{take_all}
-use Rattle.batch_room.specs.Room.{allowed, most_batch_texts}
-use Rattle.batch_room.proofs.Shares.{shares, shared_out}
+use Rattle.batch_room.specs.Room.{allowed}
+use Rattle.batch_room.proofs.Shares.{shared_out}
 use Rattle.batch_room.proofs.room.text_share.Goals as goal
 
 pub returns-clause-all : goal.returns-clause-all
