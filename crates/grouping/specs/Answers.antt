@@ -4,7 +4,6 @@ use Rattle.std.specs.declared.alloc.AllocError.{AllocError}
 use Rattle.arrow_schema.specs.declared.data_type.DataType.{DataType}
 use Rattle.arrow_schema.specs.Answer.{answer_type}
 use Rattle.arrays.specs.Batch.{BatchAt, row_of, rows_of}
-use Rattle.arrays.specs.Column.{ColumnAt}
 use Rattle.arrays.specs.Typed.{AreOf}
 use Rattle.array_select.specs.Room.{most_batch_rows}
 use Rattle.batch_room.specs.Room.{HasRoom}
