@@ -114,7 +114,8 @@ impl<'a> Walk<'a> {
         }
     }
 
-    // Adds the pairs with the rows of the chain from one of them on, where the two join, until there are `most`.
+    // Adds the pairs with the rows of the chain from one of them on, where the two join, until there are `most`. Of right rows
+    // one behind another with the same key only the first is compared.
     fn follow(&self, first: usize, most: usize, pairs: &mut Vec<Pair>) -> Result<usize, AllocError>
         requires whole { IsWalk self.now }
         requires there { first < length (self.now).rights.now.places.items → in_chain self.now first ≡ true }
@@ -124,9 +125,14 @@ impl<'a> Walk<'a> {
         ensures stop { IfOk result (λ stop. stop < length (self.now).rights.now.places.items → most ≤ length pairs.new.items) }
     {
         let mut at = first;
+        let mut joins = self.joins(at);
         'chain: while at < self.rights.places.len() && pairs.len() < most {
-            self.push_pair(at, pairs)?;
-            at = self.chains.links[at] as usize;
+            self.push_pair(joins, at, pairs)?;
+            let next = self.chains.links[at] as usize;
+            if !self.chains.repeats[at] {
+                joins = self.joins(next);
+            }
+            at = next;
         }
         Ok(at)
     }
@@ -188,14 +194,23 @@ impl<'a> Walk<'a> {
         }
     }
 
+    // Whether the left row joins a right row; never one that is not there.
+    fn joins(&self, at: usize) -> bool
+        requires whole { IsWalk self.now }
+        ensures { at < length (self.now).rights.now.places.items → result ≡ joins_at self.now (place_at (self.now).rights.now at) }
+    {
+        at < self.rights.places.len() && self.left.joins(&self.rights.key_row(at))
+    }
+
     // Adds the pair with a right row, where the two join.
-    fn push_pair(&self, at: usize, pairs: &mut Vec<Pair>) -> Result<(), AllocError>
+    fn push_pair(&self, joins: bool, at: usize, pairs: &mut Vec<Pair>) -> Result<(), AllocError>
         requires whole { IsWalk self.now }
         requires within { at < length (self.now).rights.now.places.items }
+        requires told { joins ≡ joins_at self.now (place_at (self.now).rights.now at) }
         ensures { OnOk result (pairs.new.items ≡ pairs.old.items
             ++ (if joins_at self.now (place_at (self.now).rights.now at) then pair_at self.now (place_at (self.now).rights.now at) ∷ [] else [])) }
     {
-        if self.left.joins(&self.rights.key_row(at)) {
+        if joins {
             pairs.push(self.pair(at))?;
         }
         Ok(())
