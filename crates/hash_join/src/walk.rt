@@ -1,6 +1,6 @@
 //! A left row that looks for its partners.
 
-ghost use Rattle.std.specs.Prelude.{◌≡◌, ◌≤◌, ◌<◌, ◌++◌, [], ◌∷◌, IfOk, OnOk, Some, if◌then◌else◌, length, true};
+ghost use Rattle.std.specs.Prelude.{◌≡◌, ◌≤◌, ◌<◌, ◌++◌, [], ◌∷◌, IfOk, OnOk, Some, get_or, if◌then◌else◌, length, true};
 ghost use Rattle.hash_join.specs.Rights.{place_at};
 ghost use Rattle.hash_join.specs.Hashes.{last_of};
 ghost use Rattle.hash_join.specs.Chains.{Leads};
@@ -129,9 +129,7 @@ impl<'a> Walk<'a> {
         'chain: while at < self.rights.places.len() && pairs.len() < most {
             self.push_pair(joins, at, pairs)?;
             let next = self.chains.links[at] as usize;
-            if !self.chains.repeats[at] {
-                joins = self.joins(next);
-            }
+            joins = self.joins_next(joins, at, next);
             at = next;
         }
         Ok(at)
@@ -200,6 +198,25 @@ impl<'a> Walk<'a> {
         ensures { at < length (self.now).rights.now.places.items → result ≡ joins_at self.now (place_at (self.now).rights.now at) }
     {
         at < self.rights.places.len() && self.left.joins(&self.rights.key_row(at))
+    }
+
+    // Whether the left row joins the next right row of a chain, where it is known whether it joins this one. The values of a
+    // next row that has the same key are not compared.
+    fn joins_next(&self, joins: bool, at: usize, next: usize) -> bool
+        requires whole { IsWalk self.now }
+        requires within { at < length (self.now).rights.now.places.items }
+        requires next { next ≡ get_or (self.now).chains.now.links.items at next }
+        requires told { joins ≡ joins_at self.now (place_at (self.now).rights.now at) }
+        ensures { next < length (self.now).rights.now.places.items → result ≡ joins_at self.now (place_at (self.now).rights.now next) }
+    {
+        if next >= self.rights.places.len() {
+            return false;
+        }
+        if self.chains.repeats[at] {
+            joins
+        } else {
+            self.left.joins(&self.rights.key_row(next))
+        }
     }
 
     // Adds the pair with a right row, where the two join.
