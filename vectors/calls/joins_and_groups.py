@@ -322,6 +322,23 @@ def more_groups():
     found.end((2, 3, 16))
 
 
+MANY = "k Int32, s Utf8?, n Int64"
+
+
+def many_batches():
+    lines.note("groups over more batches than there are parts, with a rest and without: keys of all parts, of one part, and of the last batch alone")
+    for batches, sums in ((19, (21, 24, 27, 30, 33, 17, 19)), (16, (21, 24, 11, 13, 15, 17, 19))):
+        texts = [None] * 9 + ["x"] * (batches - 10) + ["last"]
+        found = one_table(MANY, *([(number % 7, texts[number], number)] for number in range(batches)))
+        counts = [len(range(key, batches, 7)) for key in range(7)]
+        found.ask("SELECT k, COUNT(*), SUM(n) FROM t GROUP BY k", list(zip(range(7), counts, sums)))
+        found.ask("SELECT s, COUNT(*) FROM t GROUP BY s", [(None, 9), ("x", batches - 10), ("last", 1)])
+        found.ask("SELECT n, COUNT(s) FROM t GROUP BY n", [(number, int(number >= 9)) for number in range(batches)])
+        found.ask("SELECT n FROM t WHERE k = 6 OR n > 12 GROUP BY n", [(number,) for number in (6, *range(13, batches))])
+        found.ask("SELECT COUNT(*), SUM(k), COUNT(s) FROM t WHERE n >= 0", [(batches, sum(number % 7 for number in range(batches)), batches - 9)])
+        found.end((2, 3, 4, 16))
+
+
 INTEGERS = ["Int8", "Int16", "Int32", "Int64", "UInt8", "UInt16", "UInt32", "UInt64"]
 
 
@@ -388,5 +405,5 @@ def older_versions():
 
 
 def connections():
-    for part in (sums, groups, joins, refusals, more_joins, more_groups, more_sums, more_refusals, older_versions):
+    for part in (sums, groups, joins, refusals, more_joins, more_groups, many_batches, more_sums, more_refusals, older_versions):
         part()

@@ -79,9 +79,9 @@ impl<R: Threads + Wait + Sync> StartsWorkers for R {
 
 /// The thread that reads has the payloads of a stream made by others beside it, each in a thread of its own, and makes some
 /// itself: as many workers as the stream asks for at most, one for each 65,536 rows that are read and one for each morsel at
-/// most. Threads are started once for a fetch, and have ended when it has. Of groups the others make those of each batch, with
-/// the same bounds. The list of tables and streams that have begun stay with one worker; so does a stream of rows where memory
-/// is refused for the others.
+/// most. Threads are started once for a fetch, and have ended when it has. Of groups the others make those of each part of
+/// the batches, with the same bounds. The list of tables and streams that have begun stay with one worker; so does a stream
+/// of rows where memory is refused for the others.
 #[derive(Drop)]
 pub struct Workers<'h, R: StartsWorkers> {
     rt: &'h R,

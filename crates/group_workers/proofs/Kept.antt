@@ -1,5 +1,5 @@
 -- That groups are those of some rows can be shown in one way at most.
-use Rattle.std.proofs.Common.{◌≡◌, ℕ, List, [], length, Option, Result, Ok, Err, refl}
+use Rattle.std.proofs.Common.{◌≡◌, ℕ, ◌*◌, max, min, List, length, Option, Result, Ok, Err, arith}
 use Rattle.std.specs.Coded.{Coded-set, coded_ℕ, coded_list, coded_option}
 use Rattle.std.proofs.Math.Logic.{∥∥₁_elim}
 use Rattle.arrow_schema.specs.declared.data_type.DataType.{DataType}
@@ -16,8 +16,9 @@ use Rattle.typed_plan.specs.contracts.plan.Aggregate as aggregate
 use Rattle.grouping.specs.declared.tally.Tally.{Tally}
 use Rattle.grouping.specs.contracts.tally.Tally as tally
 use Rattle.grouping.specs.Fed.{AreTallied, GroupsAt, Holds}
-use Rattle.group_workers.specs.Merging.{CanMerge}
-use Rattle.scan_exec.specs.GroupWork.{AreGroupsOf, CanBeGrouped, GroupsOfBatch, GroupWorkAt}
+use Rattle.group_workers.specs.Merging.{CanMerge, GroupsOfPartAt}
+use Rattle.group_workers.proofs.Parting.{all_before}
+use Rattle.scan_exec.specs.GroupWork.{AreGroupsOf, CanBeGrouped, GroupWorkAt}
 
 numbers_equal : (n m : ℕ) → IsProp (n ≡ m)
 numbers_equal = Coded-set coded_ℕ
@@ -53,16 +54,15 @@ AreGroupsOf-prop : (work : GroupWorkAt) (rows : List Row) (groups : GroupsAt) �
 AreGroupsOf-prop work rows groups = hlevel (batches_equal, types_equal, places_equal, items_equal, faults_equal, Holds-prop)
 
 -- so what is kept of it is what it was
-groups_of_batch : (work : GroupWorkAt) (number : ℕ) (answer : Result GroupsAt Fault) → ∥ GroupsOfBatch work number answer ∥₁ → GroupsOfBatch work number answer
-groups_of_batch work number (Ok groups) is = ∥∥₁_elim is (AreGroupsOf-prop work _ groups) (λ x. x)
-groups_of_batch work number (Err fault) is = tt
+groups_of_part : (work : GroupWorkAt) (parts number : ℕ) (answer : Result GroupsAt Fault) → ∥ GroupsOfPartAt work parts number answer ∥₁ → GroupsOfPartAt work parts number answer
+groups_of_part work parts number (Ok groups) is = ∥∥₁_elim is (AreGroupsOf-prop work _ groups) (λ x. x)
+groups_of_part work parts number (Err fault) is = tt
 
--- so the groups of each batch can be merged behind groups of no row
-pub can_merge : (work : GroupWorkAt) (groups : GroupsAt) → CanBeGrouped work → AreGroupsOf work [] groups →
-    CanMerge work groups (λ number answer. ∥ GroupsOfBatch work number answer ∥₁) (length work.batches)
-can_merge work groups can new = record {
+-- so the groups of each part can be merged
+pub can_merge : (work : GroupWorkAt) (parts workers : ℕ) → CanBeGrouped work → parts ≡ min (length work.batches) (max 1 (workers * 4)) →
+    CanMerge work (λ number answer. ∥ GroupsOfPartAt work parts number answer ∥₁) parts
+can_merge work parts workers can count = record {
   can = can;
-  new = new;
-  count_is = refl;
-  each = groups_of_batch work;
+  all = all_before (length work.batches) parts (λ some. omega (arith, some, count));
+  each = groups_of_part work parts;
 }

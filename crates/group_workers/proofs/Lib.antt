@@ -1,2 +1,3 @@
-pub mod Merged
 pub mod Kept
+pub mod Merged
+pub mod Parting

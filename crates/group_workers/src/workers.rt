@@ -2,7 +2,8 @@
 
 ghost use Rattle.scan_exec.specs.GroupWork.{CanBeGrouped, GroupsOfAll, work_at};
 
-use crate::merging::{BatchGroups, Merging};
+use crate::merging::{Merging, PartGroups};
+use crate::parts::part_count;
 use grouping::Groups;
 use scan_base::Fault;
 use scan_exec::{GroupWork, GroupsBatches, InOneWalk};
@@ -19,7 +20,7 @@ pub trait StartsGroupWorkers {
     // What is to be known of it: that threads may share it.
     ghost shared: { Self → Type 0 };
 
-    /// The groups of all batches, of which so many workers make those of each batch.
+    /// The groups of all batches, of which so many workers make those of each part.
     ///
     /// # Errors
     ///
@@ -50,9 +51,10 @@ impl<R: Threads + Wait + Sync> StartsGroupWorkers for R {
     }
 }
 
-/// Groups the rows of each batch for itself, by several workers, and merges the groups in the order of the batches. Threads
-/// are started once for a call, and have ended when it returns. No more workers are at work than there are batches; with fewer
-/// than two the rows are grouped in one walk, and no thread is started.
+/// Groups the rows of each part of the batches for itself, by several workers, and merges the groups in the order of the
+/// parts. There are four parts for each worker, or one for each batch where there are fewer batches. Threads are started once
+/// for a call, and have ended when it returns. No more workers are at work than there are batches; with fewer than two the rows
+/// are grouped in one walk, and no thread is started.
 #[derive(Drop)]
 pub struct GroupWorkers<'h, R: StartsGroupWorkers> {
     rt: &'h R,
@@ -90,7 +92,7 @@ impl<'h, R: StartsGroupWorkers> GroupsBatches for GroupWorkers<'h, R> {
     }
 }
 
-// The groups of all batches, of which so many workers make those of each batch. This thread merges them in order.
+// The groups of all batches, of which so many workers make those of each part. This thread merges them in order.
 fn groups_beside<'t, R: Threads + Wait + Sync>(
     rt: &R,
     alloc: Global,
@@ -100,18 +102,8 @@ fn groups_beside<'t, R: Threads + Wait + Sync>(
     requires { CanBeGrouped (work_at work.now) }
     ensures { GroupsOfAll (work_at work.now) result }
 {
-    let groups = Groups::new(alloc, work.seed, work.shape)?;
-    let mut merging = Merging {
-        alloc,
-        work,
-        groups,
-    };
-    let morsels = BatchGroups { work };
-    in_order(rt, alloc, &morsels, workers, &NoGate, &mut merging)??;
-    let Merging {
-        alloc: _,
-        work: _,
-        groups,
-    } = merging;
-    Ok(groups)
+    let parts = part_count(work.shape.batches.len(), workers);
+    let morsels = PartGroups { work, parts };
+    let mut merging = Merging { alloc, work };
+    in_order(rt, alloc, &morsels, workers, &NoGate, &mut merging)?
 }

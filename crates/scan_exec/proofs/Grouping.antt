@@ -1,17 +1,16 @@
 -- Rows that are grouped, batch by batch, and what is answered of their groups.
-use Rattle.std.proofs.Common.{◌≡◌, ◌≤◌, ◌<◌, ℕ, suc, ◌+◌, ◌-◌, Bool, true, false, cond, List, [], ◌∷◌, ◌++◌, length, map, take, get_or, Option, Some, None, Result, Ok, Err, refl, sym, ap, ◌∙◌, subst, arith, append-nil, append_assoc, All}
+use Rattle.std.proofs.Common.{◌≡◌, ◌≤◌, ◌<◌, ℕ, suc, ◌+◌, ◌-◌, Bool, true, false, cond, List, [], ◌∷◌, ◌++◌, length, map, take, drop, get_or, Option, Some, None, Result, Ok, Err, refl, sym, ap, ◌∙◌, subst, arith, append-nil, append_assoc, length-drop, All}
 use Rattle.std.specs.List.{filter, flat_map, range_with_len}
 use Rattle.std.specs.Result.{IfOk}
 use Rattle.std.specs.declared.alloc.AllocError.{AllocError}
 use Rattle.std.specs.Global.{Global}
 use Rattle.std.specs.Prelude.{Vec}
-use Rattle.std.proofs.Math.Seq.{take-suc}
+use Rattle.std.proofs.Math.Seq.{take-length, take-suc}
 use Rattle.std.proofs.lemmas.Grind.{flat_map-append}
-use Rattle.std.proofs.lemmas.List.{map-append, length-append, length-map, get_or_default}
+use Rattle.std.proofs.lemmas.List.{map-append, length-append, length-map, get_or_default, get_or-drop, take-append-drop}
 use Rattle.std.proofs.lemmas.List.Elements.{filter-append}
 use Rattle.std.proofs.lemmas.List.FromFn.{length-range_with_len}
 use Rattle.kernels.proofs.PushedRows.{filter_more}
-use Rattle.std.proofs.lemmas.List.Folds.{length-flat_map-take}
 use Rattle.arrow_schema.specs.Answer.{answer_type}
 use Rattle.arrow_schema.specs.declared.data_type.DataType.{DataType}
 use Rattle.arrays.specs.Batch.{BatchAt, row_of, rows_of}
@@ -32,8 +31,8 @@ use Rattle.scan_exec.specs.declared.grouped.Stage.TheVariants.{Waiting, Made}
 use Rattle.scan_exec.specs.declared.grouped.Wanted.{Wanted}
 use Rattle.scan_exec.specs.Giving.{GivingAt, GivingOn, GivesNext}
 use Rattle.row_sources.specs.Collected.{AreCollected, IsBatchOf}
-use Rattle.scan_exec.specs.Grouped.{AnswersAll, AreFed, AreMade, IsAnswering, of_groups, passing_before, wanted_rows, wanted_types}
-use Rattle.scan_exec.specs.GroupWork.{AreGroupsOf, GroupWorkAt, passing}
+use Rattle.scan_exec.specs.Grouped.{AnswersAll, AreMade, IsAnswering, of_groups, passing_before, wanted_rows, wanted_types}
+use Rattle.scan_exec.specs.GroupWork.{AreGroupsOf, GroupsOfAll, GroupsOfPart, GroupWorkAt, batches_between, passing}
 use Rattle.row_sources.specs.Picking.{PickAt, IsPick, holds, chosen_rows, pick_of}
 use Rattle.row_sources.specs.Running.{RowsAt, GoesOn}
 use Rattle.row_sources.proofs.Giving.{filter-map}
@@ -115,38 +114,67 @@ passing_all pick batch end is = rw is (sym (filter-map (holds pick) (row_of batc
 
 -- ---- one batch more
 
-module _ (pick : PickAt) (batches : List BatchAt) (k : ℕ) (batch : BatchAt) (there : k < length batches) (is : batch ≡ get_or batches k batch) where
+-- the rows of a beginning of batches, and of the rest
+rows_split : (n : ℕ) (batches : List BatchAt) → length (flat_map rows_of (take n batches)) + length (flat_map rows_of (drop n batches)) ≡ length (flat_map rows_of batches)
+rows_split n batches =
+    sym (length-append (flat_map rows_of (take n batches)) (flat_map rows_of (drop n batches)))
+    ∙ ap length (sym (flat_map-append rows_of (take n batches) (drop n batches)))
+    ∙ ap (λ (some : List BatchAt). length (flat_map rows_of some)) (take-append-drop n batches)
+
+-- some of the batches have no more rows than all
+pub between_few : (from to : ℕ) (batches : List BatchAt) → length (flat_map rows_of (batches_between from to batches)) ≤ length (flat_map rows_of batches)
+between_few from to batches = omega (arith, rows_split from batches, rows_split (to - from) (drop from batches))
+
+-- those from the first one on are a beginning
+pub from_first : (n : ℕ) (batches : List BatchAt) → batches_between 0 n batches ≡ take n batches
+from_first n batches = let whole : n - 0 ≡ n = omega arith in ap (λ (m : ℕ). take m batches) whole
+
+-- of no batches yet no row is fed
+pub of_none_fed : (pick : PickAt) (from : ℕ) (batches : List BatchAt) (groups : GroupsAt) → groups.refused ≡ None →
+    HasFed groups groups (passing pick (flat_map rows_of (batches_between from from batches)))
+of_none_fed pick from batches groups ready = let none : from - from ≡ 0 = omega arith in rw none (none_fed groups ready)
+
+module _ (pick : PickAt) (batches : List BatchAt) (from k : ℕ) (batch : BatchAt) (ordered : from ≤ k) (there : k < length batches) (is : batch ≡ get_or batches k batch) where
   abbrev so_far : List Row
-  so_far = passing pick (flat_map rows_of (take k batches))
+  so_far = passing pick (flat_map rows_of (batches_between from k batches))
 
-  -- the rows so far, with those of this batch
-  pub rows_more : passing pick (flat_map rows_of (take (k + 1) batches)) ≡ so_far ++ passing pick (rows_of batch)
+  -- the batches so far, with this one
+  batches_more : batches_between from (k + 1) batches ≡ batches_between from k batches ++ batch ∷ []
+  batches_more =
+      let next : k + 1 - from ≡ suc (k - from) = omega (arith, ordered) in
+      let place : from + (k - from) ≡ k = omega (arith, ordered) in
+      let within : k - from < length (drop from batches) = omega (arith, length-drop from batches, ordered, there) in
+      ap (λ (n : ℕ). take n (drop from batches)) next
+      ∙ take-suc (drop from batches) (k - from) batch within
+      ∙ ap (λ (b : BatchAt). batches_between from k batches ++ b ∷ [])
+      (get_or-drop from batches (k - from) batch ∙ ap (λ (n : ℕ). get_or batches n batch) place ∙ sym is)
+
+  -- and their rows
+  pub rows_more : passing pick (flat_map rows_of (batches_between from (k + 1) batches)) ≡ so_far ++ passing pick (rows_of batch)
   rows_more =
-      let next : k + 1 ≡ suc k = omega arith in
-      ap (λ (n : ℕ). passing pick (flat_map rows_of (take n batches))) next
-      ∙ ap (λ (some : List BatchAt). passing pick (flat_map rows_of some)) (take-suc batches k batch there)
-      ∙ ap (λ (b : BatchAt). passing pick (flat_map rows_of (take k batches ++ b ∷ []))) (sym is)
-      ∙ ap (passing pick) (flat_map-append rows_of (take k batches) (batch ∷ []))
-      ∙ ap (λ (some : List Row). passing pick (flat_map rows_of (take k batches) ++ some)) (append-nil (rows_of batch))
-      ∙ filter-append (holds pick) (flat_map rows_of (take k batches)) (rows_of batch)
+      ap (λ (some : List BatchAt). passing pick (flat_map rows_of some)) batches_more
+      ∙ ap (passing pick) (flat_map-append rows_of (batches_between from k batches) (batch ∷ []))
+      ∙ ap (λ (some : List Row). passing pick (flat_map rows_of (batches_between from k batches) ++ some)) (append-nil (rows_of batch))
+      ∙ filter-append (holds pick) (flat_map rows_of (batches_between from k batches)) (rows_of batch)
 
-  -- so many rows can be fed
-  pub few_enough : (first groups : GroupsAt) → AreFed first so_far groups → length (flat_map rows_of batches) ≤ most_rows → groups.count + batch.rows ≤ most_rows
-  few_enough first groups fed few =
-      let all = length-flat_map-take rows_of batches k batch there in
-      let mine : length (rows_of batch) ≡ length (rows_of (get_or batches k batch)) = ap (λ (b : BatchAt). length (rows_of b)) is in
-      let size = passing_few (holds pick) (flat_map rows_of (take k batches)) in
-      omega (arith, all, mine, size, few, fed.held.count, length-rows_of batch)
+  -- so many rows can be fed to groups that had none
+  pub few_enough : (first groups : GroupsAt) → first.count ≡ 0 → HasFed first groups so_far → length (flat_map rows_of batches) ≤ most_rows → groups.count + batch.rows ≤ most_rows
+  few_enough first groups none fed few =
+      let all = between_few from (k + 1) batches in
+      let long : length (flat_map rows_of (batches_between from (k + 1) batches)) ≡ length (flat_map rows_of (batches_between from k batches)) + length (rows_of batch) =
+      ap (λ (some : List BatchAt). length (flat_map rows_of some)) batches_more
+      ∙ ap length (flat_map-append rows_of (batches_between from k batches) (batch ∷ []) ∙ ap (λ (some : List Row). flat_map rows_of (batches_between from k batches) ++ some) (append-nil (rows_of batch)))
+      ∙ length-append (flat_map rows_of (batches_between from k batches)) (rows_of batch) in
+      let size = passing_few (holds pick) (flat_map rows_of (batches_between from k batches)) in
+      omega (arith, all, long, size, few, none, fed.count, length-rows_of batch)
 
   -- and then the rows so far are fed
-  pub more_fed : (first groups after : GroupsAt) → AreFed first so_far groups → HasFed groups after (passing pick (rows_of batch)) →
-      AreFed first (passing pick (flat_map rows_of (take (k + 1) batches))) after
-  more_fed first groups after fed has = record {
-    alike = alike_still first groups after fed.alike has.alike;
-    refused = has.refused;
-    held = subst (Holds after) (sym rows_more) (has.held so_far fed.held);
-  }
+  pub more_fed : (first groups after : GroupsAt) → HasFed first groups so_far → HasFed groups after (passing pick (rows_of batch)) →
+      HasFed first after (passing pick (flat_map rows_of (batches_between from (k + 1) batches)))
+  more_fed first groups after fed has =
+      subst (HasFed first after) (sym rows_more) (both_fed first groups after so_far (passing pick (rows_of batch)) fed has)
 
+module _ (pick : PickAt) (batches : List BatchAt) (k : ℕ) (batch : BatchAt) (there : k < length batches) (is : batch ≡ get_or batches k batch) where
   -- it is the batch of its number
   pub is_at : (all : List BatchAt) → all ≡ batches → batch_at all k ≡ batch
   is_at all e =
@@ -173,15 +201,11 @@ module _ (work : GroupWorkAt) (new after : GroupsAt) (rows : List Row) (is : IsN
     held = has.held [] is.held;
   }
 
-  pub all_are : AreFed new rows after → AreGroupsOf work rows after
-  all_are fed = record {
-    batches_are = fed.alike.batches ∙ is.batches_are;
-    types_are = fed.alike.types ∙ is.types_are;
-    keys_are = fed.alike.keys ∙ is.keys_are;
-    items_are = fed.alike.items ∙ is.items_are;
-    refused = fed.refused;
-    held = fed.held;
-  }
+-- the part of all batches has all rows
+pub whole_part : (work : GroupWorkAt) (result : Result GroupsAt Fault) → GroupsOfPart work 0 (length work.batches) result → GroupsOfAll work result
+whole_part work result is =
+    subst (λ (some : List BatchAt). IfOk result (AreGroupsOf work (passing work.pick (flat_map rows_of some))))
+    (from_first (length work.batches) work.batches ∙ take-length work.batches) is
 
 -- ---- the answer
 

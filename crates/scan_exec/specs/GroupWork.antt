@@ -1,5 +1,5 @@
 -- What is grouped, and the groups of it.
-use Rattle.std.specs.Prelude.{◌≡◌, ◌≤◌, ℕ, All, List, length, None, Result, IfOk}
+use Rattle.std.specs.Prelude.{◌≡◌, ◌≤◌, ℕ, ◌-◌, All, List, length, take, drop, None, Result, IfOk}
 use Rattle.std.specs.List.{filter, flat_map}
 use Rattle.arrow_schema.specs.declared.data_type.DataType.{DataType}
 use Rattle.arrays.specs.Batch.{BatchAt, rows_of}
@@ -7,7 +7,7 @@ use Rattle.scan_base.specs.Limits.{most_rows}
 use Rattle.scan_base.specs.declared.fault.Fault.{Fault}
 use Rattle.table_versions.specs.Table.{Row}
 use Rattle.typed_plan.specs.declared.plan.Aggregate.{Aggregate}
-use Rattle.grouping.specs.Fed.{GroupsAt, HasItems, Holds, batch_at}
+use Rattle.grouping.specs.Fed.{GroupsAt, HasItems, Holds}
 use Rattle.row_sources.specs.Collected.{IsBatchOf}
 use Rattle.row_sources.specs.Picking.{PickAt, IsPick, holds, pick_of}
 use Rattle.scan_exec.specs.declared.group_work.GroupWork.{GroupWork}
@@ -50,9 +50,13 @@ pub record AreGroupsOf (work : GroupWorkAt) (rows : List Row) (groups : GroupsAt
   pub refused : groups.refused ≡ None
   pub held : Holds groups rows
 
--- the groups of the batch of a number, unless memory was refused
-abbrev pub GroupsOfBatch : GroupWorkAt → ℕ → Result GroupsAt Fault → Type 0
-GroupsOfBatch work number result = IfOk result (AreGroupsOf work (passing work.pick (rows_of (batch_at work.batches number))))
+-- the batches `from` up to, not with, `to`
+abbrev pub batches_between : ℕ → ℕ → List BatchAt → List BatchAt
+batches_between from to batches = take (to - from) (drop from batches)
+
+-- the groups of those batches, unless memory was refused
+abbrev pub GroupsOfPart : GroupWorkAt → ℕ → ℕ → Result GroupsAt Fault → Type 0
+GroupsOfPart work from to result = IfOk result (AreGroupsOf work (passing work.pick (flat_map rows_of (batches_between from to work.batches))))
 
 -- the groups of all batches, unless memory was refused
 abbrev pub GroupsOfAll : GroupWorkAt → Result GroupsAt Fault → Type 0

@@ -9,7 +9,7 @@ use Rattle.table_versions.specs.Table.{Row}
 use Rattle.typed_plan.specs.Plan.{answered, groups_by}
 use Rattle.typed_plan.specs.Typed.{item_type}
 use Rattle.grouping.specs.Answers.{AnswersAt, IsOver, answer_types, answers_ahead}
-use Rattle.grouping.specs.Fed.{GroupsAt, HasItems, Holds, IsAlike}
+use Rattle.grouping.specs.Fed.{HasItems}
 use Rattle.scan_exec.specs.declared.grouped.MadeGroups.{MadeGroups}
 use Rattle.scan_exec.specs.declared.grouped.Stage.{Stage}
 use Rattle.scan_exec.specs.declared.grouped.Stage.TheVariants.{Waiting, Made, Refused}
@@ -74,12 +74,6 @@ IsStage rows wanted Refused = Unit {0}
 pub record IsGrouped (rows : RowsAt) (wanted : Wanted) (stage : Stage) : Type 0 where
   pub front : take (length rows.opened) rows.batches ≡ rows.opened
   pub holds : IsStage rows wanted stage
-
--- these rows were fed, and none before
-pub record AreFed (before : GroupsAt) (rows : List Row) (after : GroupsAt) : Type 0 where
-  pub alike : IsAlike before after
-  pub refused : after.refused ≡ None
-  pub held : Holds after rows
 
 -- the answer has what is wanted of the groups of all rows of the batches
 pub record AnswersAll (batches : List BatchAt) (wanted : Wanted) (answers : AnswersAt) : Type 0 where

@@ -1,9 +1,9 @@
 //! What is grouped, and who groups it.
 
-ghost use Rattle.std.specs.Prelude.{◌<◌, length};
-ghost use Rattle.scan_exec.specs.GroupWork.{CanBeGrouped, GroupsOfAll, GroupsOfBatch, work_at};
+ghost use Rattle.std.specs.Prelude.{◌≤◌, length};
+ghost use Rattle.scan_exec.specs.GroupWork.{CanBeGrouped, GroupsOfAll, GroupsOfPart, work_at};
 
-use crate::grouped::{Feeding, feed_all, feed_batch};
+use crate::grouped::{Feeding, feed_batch};
 use array_select::Selection;
 use grouping::{Grouping, Groups};
 use hash_seed::HashSeed;
@@ -50,31 +50,33 @@ impl GroupsBatches for InOneWalk {
         alloc: Global,
         work: &GroupWork<'t, '_>,
     ) -> Result<Groups<'t>, Fault> {
-        let mut groups = Groups::new(alloc, work.seed, work.shape)?;
-        feed_all(alloc, &mut groups, work.shape.batches, work.picker)?;
-        Ok(groups)
+        work.groups_of_part(alloc, 0, work.shape.batches.len())
     }
 }
 
 impl<'t, 'p> GroupWork<'t, 'p> {
-    /// The groups of those rows of one batch that the filters let through.
+    /// The groups of those rows of the batches `from` up to, not with, `to` that the filters let through, in the order of the
+    /// batches.
     ///
     /// # Errors
     ///
     /// F21 (`Fault::OutOfMemory`) where memory is refused.
-    pub fn groups_of_batch(&self, alloc: Global, number: usize) -> Result<Groups<'t>, Fault>
+    pub fn groups_of_part(&self, alloc: Global, from: usize, to: usize) -> Result<Groups<'t>, Fault>
         requires can { CanBeGrouped (work_at self.now) }
-        requires there { number < length self.now.shape.batches.now }
-        ensures { GroupsOfBatch (work_at self.now) number result }
+        requires ordered { from ≤ to }
+        requires there { to ≤ length self.now.shape.batches.now }
+        ensures { GroupsOfPart (work_at self.now) from to result }
     {
         let mut groups = Groups::new(alloc, self.seed, self.shape)?;
         let mut selection = Selection::new(alloc);
-        let feeding = Feeding {
-            number,
-            batch: &self.shape.batches[number],
-            picker: self.picker,
-        };
-        feed_batch(alloc, &mut groups, &feeding, &mut selection)?;
+        for number in from..to {
+            let feeding = Feeding {
+                number,
+                batch: &self.shape.batches[number],
+                picker: self.picker,
+            };
+            feed_batch(alloc, &mut groups, &feeding, &mut selection)?;
+        }
         Ok(groups)
     }
 }
