@@ -86,6 +86,15 @@ pub record IsHead (search : Search) (own : Bool) (row head : ℕ) : Type 0 where
 abbrev pub AreHeads : Search → (ℕ → Bool) → (ℕ → ℕ) → Bool → Type 0
 AreHeads search passes head own = (row : ℕ) → row < search.left.batch.now.rows → passes row ≡ true → IsHead search own row (head row)
 
+-- the first right rows of the chains of the first `count` left rows
+pub record HaveFirst (search : Search) (count : ℕ) (heads : List ℕ) : Type 0 where
+  pub count : length heads ≡ count
+  pub each : (row : ℕ) → row < count → get_or heads row 0 ≡ first_right search row
+
+-- those of all left rows
+abbrev pub AreFirst : Search → List ℕ → Type 0
+AreFirst search heads = HaveFirst search search.left.batch.now.rows heads
+
 -- a left row with the head of its chain
 abbrev pub start_at : (ℕ → ℕ) → ℕ → Start
 start_at head row = record { left = row; head = head row }

@@ -1,6 +1,6 @@
 //! A row of a batch by its key.
 
-ghost use Rattle.std.specs.Prelude.{◌≡◌, ◌<◌, Some, get_or, length, not};
+ghost use Rattle.std.specs.Prelude.{◌≡◌, ◌<◌, Some, get_or, length, not, true};
 ghost use Rattle.std.specs.List.{list_any};
 ghost use Rattle.scan_base.specs.Comparison.{compared};
 ghost use Rattle.scan_base.specs.Truth.{keeps};
@@ -9,7 +9,7 @@ ghost use Rattle.scan_base.specs.declared.comparison.Comparison.TheVariants.{Equ
 ghost use Rattle.scan_base.specs.declared.value.Value.TheVariants.{Null};
 ghost use Rattle.hash_join.specs.Pairs.{keys_join};
 ghost use Rattle.arrays.specs.declared.layout.Layout.TheVariants as layout;
-ghost use Rattle.hash_join.specs.Codes.{code_of, column_code, layout_code};
+ghost use Rattle.hash_join.specs.Codes.{code_of, column_code, layout_code, AreOne};
 ghost use Rattle.hash_join.specs.Hashes.{fed, hash_of, number_of};
 ghost use Rattle.hash_join.specs.KeyRows.{key_of, IsKeyRow};
 
@@ -172,5 +172,15 @@ fn valid_code(cells: &Indices<'_>, place: usize) -> Option<i128>
         Some(packed_number(cells.index_type(), cells.values(), place))
     } else {
         None
+    }
+}
+
+// Whether two codes are there and are the same.
+pub(crate) fn are_one(code: Option<i128>, other: Option<i128>) -> bool
+    ensures { result ≡ true → AreOne code other }
+{
+    match (code, other) {
+        (Some(code), Some(other)) => code == other,
+        _ => false,
     }
 }

@@ -4,6 +4,7 @@
 mod buckets;
 pub mod build;
 mod chains;
+mod heads;
 mod key_element;
 mod key_row;
 mod look;
@@ -15,6 +16,7 @@ mod product;
 mod ranks;
 mod rights;
 mod search;
+mod seen;
 mod sieve;
 mod spans;
 mod walk;

@@ -8,10 +8,10 @@ ghost use Rattle.hash_join.specs.Pairs.{places};
 ghost use Rattle.hash_join.specs.Hashes.{last_of};
 ghost use Rattle.hash_join.specs.KeyRows.{key_of, IsKeyRow};
 ghost use Rattle.hash_join.specs.Rights.{key_at, bucket_at, AreRights};
-ghost use Rattle.hash_join.specs.Codes.{code_at, code_of, AreOne};
+ghost use Rattle.hash_join.specs.Codes.{code_at, code_of};
 
 use crate::buckets::{Buckets, Hashing};
-use crate::key_row::KeyRow;
+use crate::key_row::{KeyRow, are_one};
 use crate::numbers::are_numbers;
 use crate::product::Product;
 use crate::ranks::Ranks;
@@ -28,6 +28,7 @@ pub(crate) struct Rights {
     pub(crate) key: Vec<usize>,
     pub(crate) places: Vec<(u32, u32)>,
     pub(crate) buckets: Buckets,
+    pub(crate) seed: HashSeed,
 }
 
 // Written out, so that dropping it is one call (docs/DECISIONS.md).
@@ -38,6 +39,7 @@ impl Drop for Rights {
             key: _,
             places: _,
             buckets: _,
+            seed: _,
         } = self;
     }
 }
@@ -73,6 +75,7 @@ impl Rights {
             key,
             places,
             buckets,
+            seed,
         })
     }
 
@@ -135,16 +138,6 @@ impl Rights {
         ensures within { IfSome result (λ bucket. bucket ≤ last_of self.now.buckets) }
     {
         self.buckets.bucket(&self.key_row(number))
-    }
-}
-
-// Whether two codes are there and are the same.
-fn are_one(code: Option<i128>, other: Option<i128>) -> bool
-    ensures { result ≡ true → AreOne code other }
-{
-    match (code, other) {
-        (Some(code), Some(other)) => code == other,
-        _ => false,
     }
 }
 

@@ -9,6 +9,7 @@ ghost use Rattle.hash_join.specs.Searches.{ahead_of, first_right, walk_at, AreHe
 use crate::buckets::Buckets;
 use crate::build::{LeftSide, Probe};
 use crate::chains::Chains;
+use crate::heads::HeadRows;
 use crate::key_element::KeyElement;
 use crate::key_row::KeyRow;
 use crate::look::{Look, ProductHeads, RankHeads, Told};
@@ -94,7 +95,45 @@ impl<'a> Search<'a> {
         ensures few { IfOk result (λ _. length pairs.new.items ≤ most) }
         ensures ended { IfOk result (λ stop. length pairs.new.items < most → ahead_of self.now stop ≡ []) }
     {
+        if self.has_codes() {
+            return self.push_coded(probe, most, pairs);
+        }
         let sieve = AllRows { search: *self };
+        self.push_pieces(&sieve, probe, most, pairs)
+    }
+
+    // Whether right keys are hashed, and the left key is one column of codes.
+    fn has_codes(&self) -> bool
+        requires whole { IsSearch self.now }
+    {
+        if !self.rights.are_hashed() || self.left.key.len() != 1 {
+            return false;
+        }
+        let column = &self.left.batch.columns()[self.left.key[0]];
+        match column.layout() {
+            Layout::Indices(_) => true,
+            _ => false,
+        }
+    }
+
+    // The same, where the heads of chains are found beforehand, once for each code.
+    fn push_coded(
+        &self,
+        probe: &Probe,
+        most: usize,
+        pairs: &mut Vec<Pair>,
+    ) -> Result<Probe, AllocError>
+        requires whole { IsSearch self.now }
+        requires few { length pairs.old.items ≤ most }
+        ensures given { IfOk result (λ stop. pairs.new.items ++ ahead_of self.now stop ≡ pairs.old.items ++ ahead_of self.now probe.now) }
+        ensures few { IfOk result (λ _. length pairs.new.items ≤ most) }
+        ensures ended { IfOk result (λ stop. length pairs.new.items < most → ahead_of self.now stop ≡ []) }
+    {
+        let heads = self.first_rights()?;
+        let sieve = HeadRows {
+            search: *self,
+            heads,
+        };
         self.push_pieces(&sieve, probe, most, pairs)
     }
 
