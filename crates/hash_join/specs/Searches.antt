@@ -88,7 +88,7 @@ AreHeads search passes head own = (row : ℕ) → row < search.left.batch.now.ro
 
 -- the first right rows of the chains of the first `count` left rows
 pub record HaveFirst (search : Search) (count : ℕ) (heads : List ℕ) : Type 0 where
-  pub count : length heads ≡ count
+  pub long : length heads ≡ count
   pub each : (row : ℕ) → row < count → get_or heads row 0 ≡ first_right search row
 
 -- those of all left rows

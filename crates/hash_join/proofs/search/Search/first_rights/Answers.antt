@@ -1,6 +1,6 @@
 use Rattle.std.proofs.Common.{◌+◌, ℕ, List, sym, subst}
 use Rattle.hash_join.specs.Searches.{HaveFirst}
-use Rattle.hash_join.proofs.Heads.{more_first, none_first}
+use Rattle.hash_join.proofs.FirstRights.{more_first, none_first}
 use Rattle.hash_join.proofs.search.Search.first_rights.Goals as goal
 
 pub loop-row-init : goal.loop-row-init

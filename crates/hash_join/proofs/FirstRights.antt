@@ -21,12 +21,12 @@ same_first search other row code second is second_is one =
 -- one row more
 pub more_first : (search : Search) (row head : ℕ) (heads : List ℕ) → HaveFirst search row heads → head ≡ first_right search row → HaveFirst search (row + 1) (heads ++ head ∷ [])
 more_first search row head heads had is = record {
-  count = length_push heads head ∙ ap (λ (n : ℕ). n + 1) had.count;
+  long = length_push heads head ∙ ap (λ (n : ℕ). n + 1) had.long;
   each = λ k low. elim (cases_lt k row) [
-    | inl lt ↦ get_or_append_left heads (head ∷ []) 0 k (omega (arith, lt, had.count)) ∙ had.each k lt
+    | inl lt ↦ get_or_append_left heads (head ∷ []) 0 k (omega (arith, lt, had.long)) ∙ had.each k lt
     | inr ge ↦
         let same : k ≡ row = omega (arith, low, ge) in
-        let at : length heads ≡ k = omega (arith, same, had.count) in
+        let at : length heads ≡ k = omega (arith, same, had.long) in
         get_or_push heads head 0 k at ∙ is ∙ ap (first_right search) (sym same)
   ];
 }
@@ -34,6 +34,6 @@ more_first search row head heads had is = record {
 -- before the first row
 pub none_first : (search : Search) (heads : List ℕ) → heads ≡ [] → HaveFirst search 0 heads
 none_first search heads none = rw none (record {
-  count = refl;
+  long = refl;
   each = λ row low. absurd (omega (arith, low));
 })
