@@ -8,10 +8,12 @@ ghost use Rattle.scan_base.specs.Value.{value_of, is_null};
 ghost use Rattle.scan_base.specs.declared.comparison.Comparison.TheVariants.{Equal};
 ghost use Rattle.scan_base.specs.declared.value.Value.TheVariants.{Null};
 ghost use Rattle.hash_join.specs.Pairs.{keys_join};
+ghost use Rattle.hash_join.specs.Codes.{code_of};
 ghost use Rattle.hash_join.specs.Hashes.{fed, hash_of, number_of};
 ghost use Rattle.hash_join.specs.KeyRows.{key_of, IsKeyRow};
 
-use arrays::{Batch, Cells};
+use crate::key_element::{is_known, packed_number};
+use arrays::{Batch, Cells, Layout};
 use scan_base::{Comparison, Truth, ValueRef};
 use std::hash::{DefaultHasher, Hash, Hasher};
 
@@ -57,6 +59,29 @@ impl<'a> KeyRow<'a> {
         }
         match self.part(0) {
             ValueRef::Int(number) => Some(number),
+            _ => None,
+        }
+    }
+
+    // The code that is the key: none where the key has several parts, or is no valid code of a dictionary.
+    pub(crate) fn code(&self) -> Option<i128>
+        requires { IsKeyRow self.now }
+        ensures { result ≡ code_of self.now }
+    {
+        if self.key.len() != 1 {
+            return None;
+        }
+        let column = &self.batch.columns()[self.key[0]];
+        let _count = column.len();
+        match column.layout() {
+            Layout::Indices(cells) => {
+                let _count = cells.len();
+                let place = column.first() + self.row;
+                if !is_known(cells.validity(), place) {
+                    return None;
+                }
+                Some(packed_number(cells.index_type(), cells.values(), place))
+            }
             _ => None,
         }
     }

@@ -14,6 +14,7 @@ use crate::key_row::KeyRow;
 use crate::numbers::are_numbers;
 use crate::product::Product;
 use crate::ranks::Ranks;
+use crate::seen::Seen;
 use crate::spans::Span;
 use arrays::Batch;
 use hash_seed::HashSeed;
@@ -88,6 +89,27 @@ impl Rights {
             batch: &self.batches[batch as usize],
             key: self.key.as_slice(),
             row: row as usize,
+        }
+    }
+
+    // A later row that was seen with the code of a row's key; that has the same key.
+    pub(crate) fn alike(&self, seen: &mut Seen, number: usize) -> Option<usize>
+        requires whole { AreRights self.now }
+        requires within { number < length self.now.places.items }
+        ensures later { IfSome result (λ other. number < other) }
+        ensures within { IfSome result (λ other. other < length self.now.places.items) }
+        ensures same { IfSome result (λ other. key_at self.now number ≡ key_at self.now other) }
+    {
+        let row = self.key_row(number);
+        let code = row.code()?;
+        let other = seen.replace(code, number as u32);
+        if other <= number || other >= self.places.len() {
+            return None;
+        }
+        if self.places[number].0 == self.places[other].0 && self.key_row(other).code()? == code {
+            Some(other)
+        } else {
+            None
         }
     }
 
