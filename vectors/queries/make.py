@@ -9,6 +9,7 @@ import re
 import sys
 
 sys.dont_write_bytecode = True
+import heavy
 import lexer
 import recogniser
 import selections
@@ -49,6 +50,8 @@ def cases():
     yield from selections.cases()
     yield from ((put, "None") for put in skipping.puts())
     yield from skipping.cases()
+    yield from ((put, "None") for put in heavy.puts())
+    yield from heavy.cases()
 
 
 def main():

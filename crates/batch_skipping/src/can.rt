@@ -52,7 +52,7 @@ fn can_be_compared<C, M: Measured<C>>(
     requires right { IsTrue (operand_names (M.has batch.now) right.now) }
     ensures { result ≡ can_compare comparison (side_of (M.stats batch.now) left.now) (side_of (M.stats batch.now) right.now) }
 {
-    can_compare(comparison, side_of(left, batch), side_of(right, batch))
+    can_compare(comparison, &side_of(left, batch), &side_of(right, batch))
 }
 
 // operand >= low AND operand <= high
@@ -70,8 +70,8 @@ fn can_be_within<C, M: Measured<C>>(
         (side_of (M.stats batch.now) low.now) (side_of (M.stats batch.now) high.now) }
 {
     let side = side_of(operand, batch);
-    let above = can_compare(Comparison::GreaterOrEqual, side, side_of(low, batch));
-    above.and(can_compare(Comparison::LessOrEqual, side, side_of(high, batch)))
+    let above = can_compare(Comparison::GreaterOrEqual, &side, &side_of(low, batch));
+    above.and(can_compare(Comparison::LessOrEqual, &side, &side_of(high, batch)))
 }
 
 // The OR of the equalities with each item.
@@ -89,7 +89,7 @@ fn can_be_among<C, M: Measured<C>>(
     let mut found = Possible::only(Truth::False);
     for index in (0..items.len()).rev() {
         let item = side_of(&items[index], batch);
-        found = can_compare(Comparison::Equal, side, item).or(found);
+        found = can_compare(Comparison::Equal, &side, &item).or(found);
     }
     found
 }
@@ -100,7 +100,7 @@ fn can_be_missing<C, M: Measured<C>>(operand: &Operand<C>, batch: &M) -> Possibl
     requires { IsTrue (operand_names (M.has batch.now) operand.now) }
     ensures { result ≡ can_be_null (side_of (M.stats batch.now) operand.now) }
 {
-    can_be_null(side_of(operand, batch))
+    can_be_null(&side_of(operand, batch))
 }
 
 // The possible truths of a predicate.

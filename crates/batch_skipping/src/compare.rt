@@ -13,8 +13,8 @@ use batch_stats::{Ends, Side};
 use scan_base::{Comparison, Truth, ValueRef};
 
 // Whether two values have an order: those of one class have one. No text is looked at.
-fn have_order(left: ValueRef<'_>, right: ValueRef<'_>) -> bool
-    ensures { result ≡ is_some (order_of (value_of left.entry) (value_of right.entry)) }
+fn have_order(left: &ValueRef<'_>, right: &ValueRef<'_>) -> bool
+    ensures { result ≡ is_some (order_of (value_of left.now) (value_of right.now)) }
 {
     match (left, right) {
         (ValueRef::Bool(_), ValueRef::Bool(_)) => true,
@@ -38,45 +38,54 @@ fn numbers_stand(comparison: Comparison, left: i128, right: i128) -> bool
     }
 }
 
-// Whether a comparison of two values is true. Most are numbers, which are compared without a call.
-fn stand(comparison: Comparison, left: ValueRef<'_>, right: ValueRef<'_>) -> bool
-    ensures { result ≡ stand comparison (value_of left.entry) (value_of right.entry) }
+// Whether a comparison of two values is true.
+#[inline(never)]
+fn values_stand(comparison: Comparison, left: &ValueRef<'_>, right: &ValueRef<'_>) -> bool
+    ensures { result ≡ stand comparison (value_of left.now) (value_of right.now) }
+{
+    left.compare(comparison, *right) == Truth::True
+}
+
+// The same. Most values are numbers, which are compared without a call; so this function is small, and where the comparison
+// is known nothing is left of it but two numbers.
+fn stand(comparison: Comparison, left: &ValueRef<'_>, right: &ValueRef<'_>) -> bool
+    ensures { result ≡ stand comparison (value_of left.now) (value_of right.now) }
 {
     if let (ValueRef::Int(left), ValueRef::Int(right)) = (left, right) {
-        return numbers_stand(comparison, left, right);
+        return numbers_stand(comparison, *left, *right);
     }
-    left.compare(comparison, right) == Truth::True
+    values_stand(comparison, left, right)
 }
 
 // Whether `=` can be true, and false, of values between these ends.
-fn equal_between(left: Ends<'_>, right: Ends<'_>) -> (bool, bool)
-    ensures { result ≡ equal_between (ends_at left.entry) (ends_at right.entry) }
+fn equal_between(left: &Ends<'_>, right: &Ends<'_>) -> (bool, bool)
+    ensures { result ≡ equal_between (ends_at left.now) (ends_at right.now) }
 {
-    let can_true = stand(Comparison::LessOrEqual, left.least, right.greatest)
-        && stand(Comparison::LessOrEqual, right.least, left.greatest);
-    let is_one_value = stand(Comparison::Equal, left.least, left.greatest)
-        && (stand(Comparison::Equal, right.least, right.greatest)
-            && stand(Comparison::Equal, left.least, right.least));
+    let can_true = stand(Comparison::LessOrEqual, &left.least, &right.greatest)
+        && stand(Comparison::LessOrEqual, &right.least, &left.greatest);
+    let is_one_value = stand(Comparison::Equal, &left.least, &left.greatest)
+        && (stand(Comparison::Equal, &right.least, &right.greatest)
+            && stand(Comparison::Equal, &left.least, &right.least));
     (can_true, !is_one_value)
 }
 
 // Whether `<` can be true, and false, of values between these ends.
-fn less_between(left: Ends<'_>, right: Ends<'_>) -> (bool, bool)
-    ensures { result ≡ less_between (ends_at left.entry) (ends_at right.entry) }
+fn less_between(left: &Ends<'_>, right: &Ends<'_>) -> (bool, bool)
+    ensures { result ≡ less_between (ends_at left.now) (ends_at right.now) }
 {
     (
-        stand(Comparison::Less, left.least, right.greatest),
-        stand(Comparison::GreaterOrEqual, left.greatest, right.least),
+        stand(Comparison::Less, &left.least, &right.greatest),
+        stand(Comparison::GreaterOrEqual, &left.greatest, &right.least),
     )
 }
 
 // The possible truths of `=`.
-fn can_be_equal(left: Side<'_>, right: Side<'_>) -> Possible
-    ensures { result ≡ of_sides equal_between (side_at left.entry) (side_at right.entry) }
+fn can_be_equal(left: &Side<'_>, right: &Side<'_>) -> Possible
+    ensures { result ≡ of_sides equal_between (side_at left.now) (side_at right.now) }
 {
     let can_unknown = left.nulls > 0 || right.nulls > 0;
-    match (left.ends, right.ends) {
-        (Some(a), Some(b)) if have_order(a.least, b.least) => {
+    match (&left.ends, &right.ends) {
+        (Some(a), Some(b)) if have_order(&a.least, &b.least) => {
             let (can_true, can_false) = equal_between(a, b);
             Possible {
                 can_true,
@@ -89,12 +98,12 @@ fn can_be_equal(left: Side<'_>, right: Side<'_>) -> Possible
 }
 
 // The possible truths of `<`.
-fn can_be_less(left: Side<'_>, right: Side<'_>) -> Possible
-    ensures { result ≡ of_sides less_between (side_at left.entry) (side_at right.entry) }
+fn can_be_less(left: &Side<'_>, right: &Side<'_>) -> Possible
+    ensures { result ≡ of_sides less_between (side_at left.now) (side_at right.now) }
 {
     let can_unknown = left.nulls > 0 || right.nulls > 0;
-    match (left.ends, right.ends) {
-        (Some(a), Some(b)) if have_order(a.least, b.least) => {
+    match (&left.ends, &right.ends) {
+        (Some(a), Some(b)) if have_order(&a.least, &b.least) => {
             let (can_true, can_false) = less_between(a, b);
             Possible {
                 can_true,
@@ -108,8 +117,8 @@ fn can_be_less(left: Side<'_>, right: Side<'_>) -> Possible
 
 // The possible truths of a comparison of a value of the one side with a value of the other.
 #[tactic(auto, unfolding(crate::specs::Can::can_compare))]
-pub(crate) fn can_compare(comparison: Comparison, left: Side<'_>, right: Side<'_>) -> Possible
-    ensures { result ≡ can_compare comparison (side_at left.entry) (side_at right.entry) }
+pub(crate) fn can_compare(comparison: Comparison, left: &Side<'_>, right: &Side<'_>) -> Possible
+    ensures { result ≡ can_compare comparison (side_at left.now) (side_at right.now) }
 {
     match comparison {
         Comparison::Equal => can_be_equal(left, right),
@@ -122,8 +131,8 @@ pub(crate) fn can_compare(comparison: Comparison, left: Side<'_>, right: Side<'_
 }
 
 // The possible truths of IS NULL of a value of a side.
-pub(crate) fn can_be_null(side: Side<'_>) -> Possible
-    ensures { result ≡ can_be_null (side_at side.entry) }
+pub(crate) fn can_be_null(side: &Side<'_>) -> Possible
+    ensures { result ≡ can_be_null (side_at side.now) }
 {
     Possible {
         can_true: side.nulls > 0,

@@ -17,7 +17,7 @@ use Rattle.grouping.specs.declared.table.Chosen.{Chosen}
 use Rattle.grouping.specs.Fed.{batch_at}
 use Rattle.grouping.specs.Found.{key_in, place_in, found_then}
 use Rattle.grouping.specs.Keys.{key_self}
-use Rattle.grouping.specs.inside.Placing.{ArePlaced, FirstsStay, IsFinding, IsFirst, found_by}
+use Rattle.grouping.specs.inside.Placing.{ArePlaced, IsFinding, IsFirst, found_by}
 use Rattle.grouping.specs.RowKeys.{key_of, same_first}
 
 pub any_map : {A B : Type 0} (f : A → B) (p : B → Bool) (xs : List A) → list_any p (map f xs) ≡ list_any (λ x. p (f x)) xs

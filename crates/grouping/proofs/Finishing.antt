@@ -1,5 +1,5 @@
 -- Batches of the answer.
-use Rattle.std.proofs.Common.{◌≡◌, ◌≤◌, ◌<◌, ℕ, zero, suc, ◌+◌, ◌-◌, pos, Bool, true, false, if◌then◌else◌, nat_lt, List, [], ◌∷◌, ◌++◌, All, length, map, get_or, take, drop, Result, Ok, Err, IfOk, refl, sym, ap, ◌∙◌, subst, arith, Vec, ◌⊎◌, inl, inr}
+use Rattle.std.proofs.Common.{◌≡◌, ◌≤◌, ◌<◌, ℕ, zero, suc, ◌+◌, ◌-◌, ◌*◌, pos, Bool, true, false, if◌then◌else◌, nat_lt, List, [], ◌∷◌, ◌++◌, All, length, map, get_or, take, drop, Result, Ok, Err, IfOk, refl, sym, ap, ◌∙◌, subst, arith, Vec, ◌⊎◌, inl, inr}
 use Rattle.std.specs.Prelude.{◌==◌}
 use Rattle.std.specs.Global.{Global}
 use Rattle.std.specs.List.{range_with_len}
@@ -8,6 +8,7 @@ use Rattle.std.proofs.lemmas.List.FromFn.{get_or-map-range_with_len, length-map-
 use Rattle.std.proofs.lemmas.List.Elements.{All-map, All-take, All-drop}
 use Rattle.std.proofs.lemmas.Option.{unwrap_or-slice_get}
 use borrow.Author.Tests.{ltb-true, ltb-false}
+use Rattle.std.specs.declared.alloc.AllocError.{AllocError}
 use Rattle.scan_base.specs.Limits.{most_rows}
 use Rattle.scan_base.specs.Predicate.{cell_in}
 use Rattle.scan_base.specs.declared.value.Value.{Value}
@@ -33,14 +34,17 @@ use Rattle.grouping.specs.Fed.{GroupsAt}
 use Rattle.grouping.specs.Found.{key_in}
 use Rattle.grouping.specs.Tallies.{no_rows, item_value}
 use Rattle.grouping.specs.inside.Adding.{lists_of}
-use Rattle.array_select.specs.Fitting.{AreShort, Fits}
+use Rattle.array_select.specs.Room.{text_bytes_of}
+use Rattle.batch_room.specs.Light.{Fits}
+use Rattle.batch_room.specs.Room.{most_batch_cells, share_among, HasRoom}
+use Rattle.batch_room.proofs.Light.{plain_fit}
+use Rattle.batch_room.proofs.Shares.{fewer_cells, shared_texts}
 use Rattle.grouping.specs.inside.Answering.{first_cell}
 use Rattle.grouping.specs.inside.Counting.{AreWithin}
-use Rattle.grouping.specs.inside.Finishing.{groups_in, CanAnswer, item_cells, IsItemColumn, IsBatchOf, IsNextOf}
+use Rattle.grouping.specs.inside.Finishing.{groups_in, CanAnswer, item_cells, AllFit, IsItemColumn, IsBatchOf, IsNextOf}
 use Rattle.grouping.proofs.Batching.{ranged_any, rows_of_cells}
 use Rattle.grouping.proofs.Feeding.{has_each}
 use Rattle.grouping.proofs.KeyCells.{key_there}
-use Rattle.array_select.proofs.Short.{plain_fit}
 use Rattle.grouping.proofs.Stepping.{one_within}
 
 pub if_ok_three : {T E : Type 0} (P Q R S : T → Type 0) → ((x : T) → P x → Q x → R x → S x) → (r : Result T E) → IfOk r P → IfOk r Q → IfOk r R → IfOk r S
@@ -231,12 +235,12 @@ no_text_item item (inr (inl (column, is))) key tally = ap (λ (item : Aggregate)
 no_text_item item (inr (inr (column, is))) key tally = ap (λ (item : Aggregate). text_bytes (item_value key item tally)) is ∙ no_text_sum tally
 
 -- all of its groups have room
-pub tallies_fit : (groups : GroupsAt) (item from most : ℕ) → IsTallied (get_or groups.items item (Key 0)) → 0 < most → Fits (item_cells groups item from most) most
-tallies_fit groups item from most is some =
+pub tallies_fit : (share : ℕ) (groups : GroupsAt) (item from most : ℕ) → IsTallied (get_or groups.items item (Key 0)) → 0 < most → Fits share (item_cells groups item from most) most
+tallies_fit share groups item from most is some =
     let cells = item_cells groups item from most in
     let long : length cells ≡ most = length-map-range_with_len (λ group. cell_at groups group item) from most in
-    subst (Fits cells) long
-    (plain_fit cells (omega (arith, long, some))
+    subst (Fits share cells) long
+    (plain_fit share cells (omega (arith, long, some))
     (All-map (λ (value : Value). text_bytes value ≡ []) (λ group. cell_at groups group item) (range_with_len from most)
     (λ k d low. no_text_item (get_or groups.items item (Key 0)) is _ _)))
 
@@ -276,9 +280,8 @@ are_items h (item ∷ items) [] long each = absurd (omega arith)
 -- the columns of all items are a batch
 pub batch_made : (groups : GroupsAt) (from many : ℕ) (columns : List ColumnAt) → length columns ≡ length groups.items →
     ((i : ℕ) (d : ColumnAt) → i < length groups.items → IsItemColumn groups i from many (get_or columns i d)) →
-    ((i : ℕ) → i < length groups.items → AreShort (item_cells groups i from many)) →
     IsBatchOf groups from many (record { columns = columns; rows = many })
-batch_made groups from many columns long each short =
+batch_made groups from many columns long each =
     let cell : ℕ → ℕ → Value = λ row item. cell_at groups (from + row) item in
     let none : from + 0 ≡ from = omega arith in
     record {
@@ -296,12 +299,41 @@ batch_made groups from many columns long each short =
           ∙ ap (λ (a : ℕ). map (row_at groups) (range_with_len a many)) none;
       many_rows = refl;
       typed = are_items (item_type groups.keys groups.types) groups.items columns long (λ i d low. (each i d low).typed);
-      light = λ more i d low.
-          let there : i < length groups.items = omega (arith, long) in
-          let cells = (each i d there).values in
-          let bytes = ap (λ (values : List Value). length (texts_joined values)) cells in
-          let size = length-map-range_with_len (λ group. cell_at groups group i) from many in
-          omega (arith, bytes, (short i there).light (omega (arith, size, more)));
+      many_columns = long;
+      cells = λ item d low. (each item d low).values;
+    }
+
+-- it has room where its texts are light
+pub room_made : (groups : GroupsAt) (from most count : ℕ) (batch : BatchAt) → AllFit groups from most (length groups.items) count → IsBatchOf groups from count batch →
+    (1 < most → most * length groups.items ≤ most_batch_cells) → HasRoom batch
+room_made groups from most count batch fit is cells =
+    let wide = is.many_columns in
+    let size = is.many_rows in
+    record {
+      cells = λ many.
+          subst (λ (rows : ℕ). rows * length batch.columns ≤ most_batch_cells) (sym size)
+          (subst (λ (columns : ℕ). count * columns ≤ most_batch_cells) (sym wide) (fewer_cells most count (length groups.items) fit.within cells (omega (arith, many, size))));
+      texts = λ many. shared_texts batch.columns
+          (λ item d low.
+          let there : item < length groups.items = omega (arith, low, wide) in
+          let long = length-map-range_with_len (λ group. cell_at groups group item) from count in
+          let few = (fit.light item there).light (omega (arith, long, many, size)) in
+          subst (λ (columns : ℕ). text_bytes_of (get_or batch.columns item d) ≤ share_among columns) (sym wide)
+          (subst (λ (values : List Value). length (texts_joined values) ≤ share_among (length groups.items)) (sym (is.cells item d there)) few));
+    }
+
+-- the next batch has so many groups
+pub next_made : (groups : GroupsAt) (from most count many : ℕ) (made : Result BatchAt AllocError) → many ≡ count → AllFit groups from most (length groups.items) count →
+    (1 < most → most * length groups.items ≤ most_batch_cells) → IfOk made (IsBatchOf groups from many) → IfOk made (IsNextOf groups from most)
+next_made groups from most count many (Err refused) same fit cells is = tt
+next_made groups from most count many (Ok batch) same fit cells is =
+    let so : IsBatchOf groups from count batch = subst (λ (n : ℕ). IsBatchOf groups from n batch) same is in
+    let size = so.many_rows in
+    record {
+      some = omega (arith, size, fit.some);
+      few = omega (arith, size, fit.within);
+      is = subst (λ (n : ℕ). IsBatchOf groups from n batch) (sym size) so;
+      room = room_made groups from most count batch fit so cells;
     }
 
 -- ---- the next batch

@@ -94,7 +94,7 @@ gives batches before groups most batch same over within few next =
       some = here.some;
       few = omega (arith, here.few, few);
       typed = here.is.typed;
-      light = here.is.light;
+      room = here.room;
       over = record { typed = over.typed; there = over.there };
       types = refl;
     }

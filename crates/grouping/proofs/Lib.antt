@@ -9,7 +9,7 @@ pub mod Blank
 pub mod Answering
 pub mod Held
 pub mod Batching
-pub mod Short
+pub mod Light
 pub mod Finishing
 pub mod Giving
 pub mod JoinedKeys

@@ -4,9 +4,9 @@ use Rattle.std.specs.declared.alloc.AllocError.{AllocError}
 use Rattle.arrow_schema.specs.declared.data_type.DataType.{DataType}
 use Rattle.arrow_schema.specs.Answer.{answer_type}
 use Rattle.arrays.specs.Batch.{BatchAt, row_of, rows_of}
-use Rattle.arrays.specs.Column.{ColumnAt}
 use Rattle.arrays.specs.Typed.{AreOf}
-use Rattle.array_select.specs.Room.{most_batch_rows, most_column_bytes, text_bytes_of}
+use Rattle.array_select.specs.Room.{most_batch_rows}
+use Rattle.batch_room.specs.Room.{HasRoom}
 use Rattle.scan_base.specs.declared.fault.Fault.{Fault}
 use Rattle.scan_base.specs.declared.fault.Fault.TheVariants.{OutOfMemory}
 use Rattle.scan_base.specs.declared.value.Value.{Value}
@@ -71,13 +71,13 @@ pub record IsOver (batches : List BatchAt) (answers : AnswersAt) : Type 0 where
   pub typed : AreTyped answers.types batches
   pub there : All (IsThere batches) answers.firsts
 
--- a batch has the items of the next groups, one or more, and short texts
+-- a batch has the items of the next groups, one or more, and few cells and texts
 pub record GivesGroups (batches : List BatchAt) (before : AnswersAt) (batch : BatchAt) (after : AnswersAt) : Type 0 where
   pub next : answers_ahead batches before ≡ rows_of batch ++ answers_ahead batches after
   pub some : 0 < batch.rows
   pub few : batch.rows ≤ most_batch_rows
   pub typed : AreOf (answer_types before) batch.columns
-  pub light : 1 < batch.rows → All (λ (column : ColumnAt). text_bytes_of column ≤ most_column_bytes) batch.columns
+  pub room : HasRoom batch
   pub over : IsOver batches after
   pub types : answer_types after ≡ answer_types before
 

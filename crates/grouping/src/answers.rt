@@ -16,6 +16,7 @@ use crate::tally::Tally;
 use array_select::MOST_BATCH_ROWS;
 use arrays::Batch;
 use arrow_schema::DataType;
+use batch_room::{next_most, tried_rows};
 use std::alloc::{AllocError, Global};
 use std::marker::Model;
 use typed_plan::Aggregate;
@@ -30,6 +31,8 @@ pub struct Answers {
     firsts: Vec<Place>,
     tallies: Vec<Vec<Tally>>,
     given: usize,
+    // As many groups as the next batch is tried with.
+    most: usize,
 }
 
 impl Model for Answers {
@@ -87,12 +90,13 @@ impl Answers {
             firsts: places(alloc, firsts.as_slice())?,
             tallies,
             given: 0,
+            most: MOST_BATCH_ROWS,
         })
     }
 
     /// The items of the next groups as a batch, where these are the batches whose rows were grouped: one row or more, no
-    /// more than 65,536, whose texts have no more than 16 MB in a column where it is more than one. `None` where no group
-    /// is left.
+    /// more than 65,536, which has room where it is more than one: no more than 524,288 cells, and no more than 8 MB of text in
+    /// all. `None` where no group is left.
     ///
     /// # Errors
     ///
@@ -107,8 +111,10 @@ impl Answers {
         if left == 0 {
             return Ok(None);
         }
-        let batch = answer.next(alloc, self.given, left.min(MOST_BATCH_ROWS))?;
+        let tried = tried_rows(left, self.items.len(), self.most);
+        let batch = answer.next(alloc, self.given, tried)?;
         self.given += batch.rows();
+        self.most = next_most(self.most, tried, batch.rows());
         Ok(Some(batch))
     }
 

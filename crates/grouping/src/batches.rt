@@ -1,8 +1,10 @@
 //! Batches of the answer.
 
-ghost use Rattle.std.specs.Prelude.{◌≡◌, ◌≤◌, ◌<◌, ◌-◌, ◌+◌, ℕ, All, IfOk, length, map, take, drop};
+ghost use Rattle.std.specs.Prelude.{◌≡◌, ◌≤◌, ◌<◌, ◌-◌, ◌+◌, ◌*◌, ◌^◌, ℕ, All, IfOk, length, map, take, drop};
 ghost use Rattle.array_select.specs.OfSlots.{slot_value, IsSlotOf};
-ghost use Rattle.array_select.specs.Fitting.{AreShort, Fits};
+ghost use Rattle.arrays.specs.Written.{texts_joined};
+ghost use Rattle.batch_room.specs.Light.{Fits};
+ghost use Rattle.batch_room.specs.Room.{most_batch_cells, share_among};
 ghost use Rattle.typed_plan.specs.Typed.{type_at};
 ghost use Rattle.grouping.specs.Answers.{IsThere};
 ghost use Rattle.grouping.specs.inside.Answering.{first_cell};
@@ -11,9 +13,10 @@ ghost use Rattle.grouping.specs.inside.Finishing.{groups_in, AllFit, CanAnswer, 
 use crate::answer::{count_column, sum_column};
 use crate::key::Place;
 use crate::tally::Tally;
-use array_select::{SlotRef, column_of_slots, fitting, has_texts};
+use array_select::{SlotRef, column_of_slots, has_texts};
 use arrays::{Batch, Column};
 use arrow_schema::DataType;
+use batch_room::{fitting, share_among};
 use std::alloc::{AllocError, Global};
 use typed_plan::Aggregate;
 
@@ -58,6 +61,7 @@ impl<'a> Answer<'a> {
         requires can { CanAnswer self.now }
         requires some { 0 < most }
         requires within { from + most ≤ length (groups_in self.now).found }
+        requires cells { 1 < most → most * length self.now.items.now ≤ most_batch_cells }
         ensures { IfOk result (IsNextOf (groups_in self.now) from most) }
     {
         let count = self.how_many_fit(alloc, from, most)?;
@@ -90,7 +94,7 @@ impl<'a> Answer<'a> {
         requires there { item < length self.now.items.now }
         requires some { 0 < most }
         requires within { from + most ≤ length (groups_in self.now).found }
-        ensures { IfOk result (Fits (item_cells (groups_in self.now) item from most)) }
+        ensures { IfOk result (Fits (share_among (length self.now.items.now)) (item_cells (groups_in self.now) item from most)) }
     {
         match self.items[item] {
             Aggregate::Key(place) => {
@@ -112,13 +116,13 @@ impl<'a> Answer<'a> {
         requires there { column < length self.now.types.now }
         requires firsts { All (IsThere self.now.batches.now) firsts.now }
         requires some { 0 < length firsts.now }
-        ensures { IfOk result (Fits (map (first_cell self.now.batches.now column) firsts.now)) }
+        ensures { IfOk result (Fits (share_among (length self.now.items.now)) (map (first_cell self.now.batches.now column) firsts.now)) }
     {
         if !has_texts(self.types[column]) {
             return Ok(firsts.len());
         }
         let slots = self.slots(alloc, column, firsts)?;
-        fitting(slots.as_slice())
+        fitting(slots.as_slice(), share_among(self.items.len()))
     }
 
     // The items of the groups `from` up to, not with, `to`.
@@ -126,7 +130,7 @@ impl<'a> Answer<'a> {
         requires can { CanAnswer self.now }
         requires ordered { from ≤ to }
         requires within { to ≤ length (groups_in self.now).found }
-        requires short { (item : ℕ) → item < length self.now.items.now → AreShort (item_cells (groups_in self.now) item from (to - from)) }
+        requires named { (item : ℕ) → item < length self.now.items.now → length (texts_joined (item_cells (groups_in self.now) item from (to - from))) < 2 ^ 31 }
         ensures { IfOk result (IsBatchOf (groups_in self.now) from (to - from)) }
     {
         let mut columns = Vec::with_capacity(alloc, self.items.len())?;
@@ -148,7 +152,7 @@ impl<'a> Answer<'a> {
         requires there { item < length self.now.items.now }
         requires ordered { from ≤ to }
         requires within { to ≤ length (groups_in self.now).found }
-        requires short { AreShort (item_cells (groups_in self.now) item from (to - from)) }
+        requires named { length (texts_joined (item_cells (groups_in self.now) item from (to - from))) < 2 ^ 31 }
         ensures { IfOk result (IsItemColumn (groups_in self.now) item from (to - from)) }
     {
         match self.items[item] {

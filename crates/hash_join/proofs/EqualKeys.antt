@@ -50,7 +50,7 @@ equal_known (Int a) b h = refl
 equal_known (Text a) b h = refl
 
 -- keys that join are the same
-same_keys : (xs ys : List Value) → length xs ≡ length ys → keys_join xs ys ≡ true → xs ≡ ys
+pub same_keys : (xs ys : List Value) → length xs ≡ length ys → keys_join xs ys ≡ true → xs ≡ ys
 same_keys [] [] e h = refl
 same_keys [] (b ∷ ys) e h = absurd (omega (arith, e))
 same_keys (a ∷ xs) [] e h = absurd (omega (arith, e))

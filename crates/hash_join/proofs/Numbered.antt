@@ -6,6 +6,7 @@ use Rattle.arrays.specs.Batch.{BatchAt, row_of}
 use Rattle.hash_join.specs.declared.rights.Rights.{Rights}
 use Rattle.hash_join.specs.Pairs.{key_in, row_at}
 use Rattle.hash_join.specs.Places.{IsPlace}
+use Rattle.hash_join.specs.Codes.{code_at, code_from, key_code}
 use Rattle.hash_join.specs.Rights.{place_at, key_at, AreRights}
 use Rattle.hash_join.proofs.Places.{place_there}
 
@@ -42,3 +43,7 @@ module _ (rights : Rights) (number : ℕ) (place : ℕ × ℕ) (whole : AreRight
     pub key_found : key_in rights.key.items (row_of batch.columns place.1) ≡ key_at rights number
     key_found = ap (λ (b : BatchAt). key_in rights.key.items (row_of b.columns place.1)) batch_found
         ∙ ap (λ (p : ℕ × ℕ). key_in rights.key.items (row_at rights.batches.items p)) found
+
+    pub code_found : key_code batch.columns rights.key.items place.1 ≡ code_at rights number
+    code_found = ap (λ (b : BatchAt). key_code b.columns rights.key.items place.1) batch_found
+        ∙ ap (λ (p : ℕ × ℕ). code_from rights p) found

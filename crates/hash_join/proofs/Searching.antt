@@ -44,6 +44,7 @@ module _ (search : Search) (is : IsSearch search) where
   can_walk row h = record {
     whole = is.built.whole;
     linked = is.built.linked;
+    repeats = is.built.repeats;
     left = record { row = h; columns = is.columns };
     alike = is.alike;
     small = omega (arith, is.small);

@@ -2,7 +2,8 @@
 use Rattle.std.specs.Prelude.{◌≡◌, ◌≤◌, ◌<◌, ◌+◌, ◌==◌, ℕ, Bool, true, false, List, length, get_or, Option, Some, None}
 use Rattle.hash_join.specs.declared.rights.Rights.{Rights}
 use Rattle.hash_join.specs.Hashes.{last_of}
-use Rattle.hash_join.specs.Rights.{bucket_at}
+use Rattle.hash_join.specs.declared.chains.Chains.{Chains}
+use Rattle.hash_join.specs.Rights.{bucket_at, key_at}
 
 -- whether a row of the second bucket stands in the chain of the first; without a bucket it stands in none
 abbrev pub stands : Option ℕ → Option ℕ → Bool
@@ -28,3 +29,13 @@ pub record AreLinked (buckets : ℕ → Option ℕ) (last count : ℕ) (heads li
 -- the rows of a right side from a row on are linked
 abbrev pub HasLinked : Rights → List ℕ → List ℕ → ℕ → Type 0
 HasLinked rights heads links from = AreLinked (bucket_at rights) (last_of rights.buckets) (length rights.places.items) heads links from
+
+-- where a row says so, the row that its link names has the same key
+pub record AreRepeats (rights : Rights) (links : List ℕ) (repeats : List Bool) : Type 0 where
+  pub count : length repeats ≡ length rights.places.items
+  pub same : (row : ℕ) → row < length rights.places.items → get_or repeats row false ≡ true → key_at rights row ≡ key_at rights (get_or links row 0)
+
+-- all rows of a right side are linked, and those that say so have the key of the next
+pub record HasChains (rights : Rights) (chains : Chains) : Type 0 where
+  pub linked : HasLinked rights chains.heads.items chains.links.items 0
+  pub repeats : AreRepeats rights chains.links.items chains.repeats.items

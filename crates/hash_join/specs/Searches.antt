@@ -19,7 +19,7 @@ use Rattle.hash_join.specs.Hashes.{last_of}
 use Rattle.hash_join.specs.Walks.{in_chain, pairs_past, bucket_left, JoinsChain}
 use Rattle.hash_join.specs.Pairs.{BuildAt, pairs_ahead}
 use Rattle.hash_join.specs.Rights.{AreRights}
-use Rattle.hash_join.specs.Chains.{HasLinked, Leads}
+use Rattle.hash_join.specs.Chains.{AreRepeats, HasLinked, Leads}
 
 -- the right side, as contracts see it
 abbrev pub build_of : Rights → BuildAt
@@ -29,6 +29,7 @@ build_of rights = record { batches = rights.batches.items; key = rights.key.item
 pub record IsBuilt (rights : Rights) (chains : Chains) : Type 0 where
   pub whole : AreRights rights
   pub linked : HasLinked rights chains.heads.items chains.links.items 0
+  pub repeats : AreRepeats rights chains.links.items chains.repeats.items
 
 -- the right rows are linked, and the left batch has a key of as many parts
 pub record IsSearch (search : Search) : Type 0 where

@@ -7,7 +7,7 @@ use Rattle.hash_join.specs.Pairs.{keys_join}
 use Rattle.hash_join.specs.Hashes.{bucket_of}
 use Rattle.hash_join.specs.KeyRows.{key_of, IsKeyRow}
 use Rattle.hash_join.specs.Rights.{key_from, place_at, bucket_at, AreRights}
-use Rattle.hash_join.specs.Chains.{stands, HasLinked}
+use Rattle.hash_join.specs.Chains.{stands, AreRepeats, HasLinked}
 
 -- whether the left row joins the right row at a place
 abbrev pub joins_at : Walk → ℕ × ℕ → Bool
@@ -37,6 +37,7 @@ JoinsChain walk = (row : ℕ) → row < length walk.rights.now.places.items → 
 pub record IsWalk (walk : Walk) : Type 0 where
   pub whole : AreRights walk.rights.now
   pub linked : HasLinked walk.rights.now walk.chains.now.heads.items walk.chains.now.links.items 0
+  pub repeats : AreRepeats walk.rights.now walk.chains.now.links.items walk.chains.now.repeats.items
   pub left : IsKeyRow walk.left
   pub alike : length walk.left.key.now ≡ length walk.rights.now.key.items
   pub small : walk.left.row < 2 ^ 32

@@ -1,23 +1,29 @@
 //! Chains of the right rows whose keys are of one bucket.
 
-ghost use Rattle.std.specs.Prelude.{◌+◌, ◌<◌, IfOk, length};
+ghost use Rattle.std.specs.Prelude.{◌≡◌, ◌+◌, ◌<◌, IfOk, false, length, replicate};
 ghost use Rattle.hash_join.specs.Rights.{AreRights};
-ghost use Rattle.hash_join.specs.Chains.{HasLinked};
+ghost use Rattle.hash_join.specs.Chains.{AreRepeats, HasChains, HasLinked};
 
 use crate::rights::Rights;
 use std::alloc::{AllocError, Global};
 
 // For each bucket the first row of its chain, and for each row the next of its chain, in rising order; the number of rows
-// where there is none. A row with a null in its key stands in no chain.
+// where there is none. A row with a null in its key stands in no chain. For each row also whether the next of its chain surely
+// has the same key, so that who walks along compares no values there.
 pub(crate) struct Chains {
     pub(crate) heads: Vec<u32>,
     pub(crate) links: Vec<u32>,
+    pub(crate) repeats: Vec<bool>,
 }
 
 // Written out, so that dropping it is one call (docs/DECISIONS.md).
 impl Drop for Chains {
     fn drop(self) {
-        let Chains { heads: _, links: _ } = self;
+        let Chains {
+            heads: _,
+            links: _,
+            repeats: _,
+        } = self;
     }
 }
 
@@ -25,7 +31,7 @@ impl Chains {
     // The chains of all rows. They are linked from the last one down, so that each chain rises.
     pub(crate) fn new(alloc: Global, rights: &Rights) -> Result<Chains, AllocError>
         requires { AreRights rights.now }
-        ensures { IfOk result (λ chains. HasLinked rights.now chains.heads.items chains.links.items 0) }
+        ensures { IfOk result (λ chains. HasChains rights.now chains) }
     {
         let rows = rights.places.len();
         let mut heads = Vec::new(alloc);
@@ -35,8 +41,39 @@ impl Chains {
         for row in (0..rows).rev() {
             link_row(rights, &mut heads, &mut links, row);
         }
-        Ok(Chains { heads, links })
+        let repeats = repeats_of(alloc, rights, &links)?;
+        Ok(Chains {
+            heads,
+            links,
+            repeats,
+        })
     }
+}
+
+// For each row whether the one that its link names surely has the same key. Only keys that are hashed are looked at: those of
+// numbers are soon compared.
+fn repeats_of(alloc: Global, rights: &Rights, links: &[u32]) -> Result<Vec<bool>, AllocError>
+    requires whole { AreRights rights.now }
+    requires all { length links.now ≡ length rights.now.places.items }
+    ensures { IfOk result (λ repeats. AreRepeats rights.now links.now repeats.items) }
+{
+    let rows = rights.places.len();
+    let mut repeats = no_repeats(alloc, rows)?;
+    if !rights.are_hashed() {
+        return Ok(repeats);
+    }
+    for row in 0..rows {
+        repeats[row] = rights.is_repeat(row, links[row] as usize);
+    }
+    Ok(repeats)
+}
+
+// So many that say no.
+fn no_repeats(alloc: Global, count: usize) -> Result<Vec<bool>, AllocError>
+    ensures { IfOk result (λ repeats. repeats.items ≡ replicate count false) }
+{
+    let repeats = vec![in alloc; false; count]?;
+    Ok(repeats)
 }
 
 // Links a row, where it has a bucket, before those after it.

@@ -7,6 +7,7 @@ ghost use Rattle.arrays.specs.Number.{byte_width, integer_at};
 ghost use Rattle.arrays.specs.Validity.{is_valid, IsLong};
 
 use arrays::Element;
+use arrow_schema::IntegerType;
 use bitmap::Bits;
 
 /// A type of integers that packed keys may be of.
@@ -91,5 +92,22 @@ pub(crate) fn is_known(validity: &Option<Bits>, place: usize) -> bool
     match validity {
         None => true,
         Some(bits) => bits.get(place),
+    }
+}
+
+/// Number `place` of packed ones of a type, counted from 0.
+pub(crate) fn packed_number(kind: IntegerType, values: &[u8], place: usize) -> i128
+    requires { byte_width kind * (place + 1) ≤ length values.now }
+    ensures { result ≡ integer_at kind values.now place }
+{
+    match kind {
+        IntegerType::Int8 => i8::number_at(values, place),
+        IntegerType::Int16 => i16::number_at(values, place),
+        IntegerType::Int32 => i32::number_at(values, place),
+        IntegerType::Int64 => i64::number_at(values, place),
+        IntegerType::UInt8 => u8::number_at(values, place),
+        IntegerType::UInt16 => u16::number_at(values, place),
+        IntegerType::UInt32 => u32::number_at(values, place),
+        IntegerType::UInt64 => u64::number_at(values, place),
     }
 }

@@ -1,6 +1,6 @@
 //! A row of a batch by its key.
 
-ghost use Rattle.std.specs.Prelude.{◌≡◌, ◌<◌, get_or, length, not};
+ghost use Rattle.std.specs.Prelude.{◌≡◌, ◌<◌, Some, get_or, length, not};
 ghost use Rattle.std.specs.List.{list_any};
 ghost use Rattle.scan_base.specs.Comparison.{compared};
 ghost use Rattle.scan_base.specs.Truth.{keeps};
@@ -8,10 +8,13 @@ ghost use Rattle.scan_base.specs.Value.{value_of, is_null};
 ghost use Rattle.scan_base.specs.declared.comparison.Comparison.TheVariants.{Equal};
 ghost use Rattle.scan_base.specs.declared.value.Value.TheVariants.{Null};
 ghost use Rattle.hash_join.specs.Pairs.{keys_join};
+ghost use Rattle.arrays.specs.declared.layout.Layout.TheVariants as layout;
+ghost use Rattle.hash_join.specs.Codes.{code_of, column_code, layout_code};
 ghost use Rattle.hash_join.specs.Hashes.{fed, hash_of, number_of};
 ghost use Rattle.hash_join.specs.KeyRows.{key_of, IsKeyRow};
 
-use arrays::{Batch, Cells};
+use crate::key_element::{is_known, packed_number};
+use arrays::{Batch, Cells, Column, Indices, Layout};
 use scan_base::{Comparison, Truth, ValueRef};
 use std::hash::{DefaultHasher, Hash, Hasher};
 
@@ -59,6 +62,28 @@ impl<'a> KeyRow<'a> {
             ValueRef::Int(number) => Some(number),
             _ => None,
         }
+    }
+
+    // The code that is the key: none where the key has several parts, or is no valid code of a dictionary.
+    pub(crate) fn code(&self) -> Option<i128>
+        requires { IsKeyRow self.now }
+        ensures { result ≡ code_of self.now }
+    {
+        if self.key.len() == 1 {
+            self.single_code()
+        } else {
+            None
+        }
+    }
+
+    // The same, where the key is one column.
+    fn single_code(&self) -> Option<i128>
+        requires row { IsKeyRow self.now }
+        requires single { length self.now.key.now ≡ 1 }
+        ensures { result ≡ code_of self.now }
+    {
+        let columns = self.batch.columns();
+        code_at(&columns[self.key[0]], self.row)
     }
 
     // The hash of the key's values, begun with what a hasher has taken in; none where one is null.
@@ -122,5 +147,30 @@ fn are_equal(left: ValueRef<'_>, right: ValueRef<'_>) -> bool
     match left.compare(Comparison::Equal, right) {
         Truth::True => true,
         _ => false,
+    }
+}
+
+// The code at a row of a column: none where the column has no codes, or it is not valid.
+fn code_at(column: &Column, row: usize) -> Option<i128>
+    requires { row < column.now.len }
+    ensures { result ≡ column_code (Some column.now) row }
+{
+    let _count = column.len();
+    match column.layout() {
+        Layout::Indices(cells) => valid_code(&cells, column.first() + row),
+        _ => None,
+    }
+}
+
+// The code of a slot, where it is valid.
+fn valid_code(cells: &Indices<'_>, place: usize) -> Option<i128>
+    requires { place < cells.now.len }
+    ensures { result ≡ layout_code (layout.Indices cells.now) place }
+{
+    let _count = cells.len();
+    if is_known(cells.validity(), place) {
+        Some(packed_number(cells.index_type(), cells.values(), place))
+    } else {
+        None
     }
 }

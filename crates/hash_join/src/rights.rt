@@ -1,6 +1,6 @@
 //! The rows of the right side of a join, by their numbers over all batches.
 
-ghost use Rattle.std.specs.Prelude.{◌≡◌, ◌≤◌, ◌<◌, ◌++◌, ◌^◌, All, IfOk, IfSome, IsTrue, OnOk, length, map, nat_lt};
+ghost use Rattle.std.specs.Prelude.{◌≡◌, ◌≤◌, ◌<◌, ◌++◌, ◌^◌, All, IfOk, IfSome, IsTrue, OnOk, length, map, nat_lt, true};
 ghost use Rattle.std.specs.List.{list_all, range_with_len};
 ghost use Rattle.scan_base.specs.Limits.{most_rows};
 ghost use Rattle.arrays.specs.Batch.{BatchAt};
@@ -8,6 +8,7 @@ ghost use Rattle.hash_join.specs.Pairs.{places};
 ghost use Rattle.hash_join.specs.Hashes.{last_of};
 ghost use Rattle.hash_join.specs.KeyRows.{key_of, IsKeyRow};
 ghost use Rattle.hash_join.specs.Rights.{key_at, bucket_at, AreRights};
+ghost use Rattle.hash_join.specs.Codes.{code_at, code_of, AreOne};
 
 use crate::buckets::{Buckets, Hashing};
 use crate::key_row::KeyRow;
@@ -81,6 +82,7 @@ impl Rights {
         requires within { number < length self.now.places.items }
         ensures row { IsKeyRow result }
         ensures key { key_of result ≡ key_at self.now number }
+        ensures code { code_of result ≡ code_at self.now number }
         ensures parts { length result.key.now ≡ length self.now.key.items }
     {
         let (batch, row) = self.places[number];
@@ -91,6 +93,40 @@ impl Rights {
         }
     }
 
+    // Whether buckets are told by hashes.
+    pub(crate) fn are_hashed(&self) -> bool {
+        match self.buckets {
+            Buckets::Hashed(_) => true,
+            _ => false,
+        }
+    }
+
+    // Whether another row is there and surely has the same key: the same code of one dictionary, which takes no look at its
+    // text, or the same values.
+    pub(crate) fn is_repeat(&self, number: usize, other: usize) -> bool
+        requires whole { AreRights self.now }
+        requires within { number < length self.now.places.items }
+        ensures { result ≡ true → key_at self.now number ≡ key_at self.now other }
+    {
+        if other >= self.places.len() {
+            return false;
+        }
+        self.have_one_code(number, other) || self.key_row(number).joins(&self.key_row(other))
+    }
+
+    // Whether the keys of two rows are the same code of one dictionary.
+    fn have_one_code(&self, number: usize, other: usize) -> bool
+        requires whole { AreRights self.now }
+        requires within { number < length self.now.places.items }
+        requires other { other < length self.now.places.items }
+        ensures { result ≡ true → key_at self.now number ≡ key_at self.now other }
+    {
+        if self.places[number].0 != self.places[other].0 {
+            return false;
+        }
+        are_one(self.key_row(number).code(), self.key_row(other).code())
+    }
+
     // The bucket of the row of this number; none where a part of its key is null.
     pub(crate) fn bucket(&self, number: usize) -> Option<usize>
         requires whole { AreRights self.now }
@@ -99,6 +135,16 @@ impl Rights {
         ensures within { IfSome result (λ bucket. bucket ≤ last_of self.now.buckets) }
     {
         self.buckets.bucket(&self.key_row(number))
+    }
+}
+
+// Whether two codes are there and are the same.
+fn are_one(code: Option<i128>, other: Option<i128>) -> bool
+    ensures { result ≡ true → AreOne code other }
+{
+    match (code, other) {
+        (Some(code), Some(other)) => code == other,
+        _ => false,
     }
 }
 

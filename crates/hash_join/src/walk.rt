@@ -1,6 +1,6 @@
 //! A left row that looks for its partners.
 
-ghost use Rattle.std.specs.Prelude.{◌≡◌, ◌≤◌, ◌<◌, ◌++◌, [], ◌∷◌, IfOk, OnOk, Some, if◌then◌else◌, length, true};
+ghost use Rattle.std.specs.Prelude.{◌≡◌, ◌≤◌, ◌<◌, ◌++◌, [], ◌∷◌, IfOk, OnOk, Some, get_or, if◌then◌else◌, length, true};
 ghost use Rattle.hash_join.specs.Rights.{place_at};
 ghost use Rattle.hash_join.specs.Hashes.{last_of};
 ghost use Rattle.hash_join.specs.Chains.{Leads};
@@ -114,7 +114,8 @@ impl<'a> Walk<'a> {
         }
     }
 
-    // Adds the pairs with the rows of the chain from one of them on, where the two join, until there are `most`.
+    // Adds the pairs with the rows of the chain from one of them on, where the two join, until there are `most`. Of right rows
+    // one behind another with the same key only the first is compared.
     fn follow(&self, first: usize, most: usize, pairs: &mut Vec<Pair>) -> Result<usize, AllocError>
         requires whole { IsWalk self.now }
         requires there { first < length (self.now).rights.now.places.items → in_chain self.now first ≡ true }
@@ -124,9 +125,12 @@ impl<'a> Walk<'a> {
         ensures stop { IfOk result (λ stop. stop < length (self.now).rights.now.places.items → most ≤ length pairs.new.items) }
     {
         let mut at = first;
+        let mut joins = self.joins(at);
         'chain: while at < self.rights.places.len() && pairs.len() < most {
-            self.push_pair(at, pairs)?;
-            at = self.chains.links[at] as usize;
+            self.push_pair(joins, at, pairs)?;
+            let next = self.chains.links[at] as usize;
+            joins = self.joins_next(joins, at, next);
+            at = next;
         }
         Ok(at)
     }
@@ -188,14 +192,42 @@ impl<'a> Walk<'a> {
         }
     }
 
-    // Adds the pair with a right row, where the two join.
-    fn push_pair(&self, at: usize, pairs: &mut Vec<Pair>) -> Result<(), AllocError>
+    // Whether the left row joins a right row; never one that is not there.
+    fn joins(&self, at: usize) -> bool
+        requires whole { IsWalk self.now }
+        ensures { at < length (self.now).rights.now.places.items → result ≡ joins_at self.now (place_at (self.now).rights.now at) }
+    {
+        at < self.rights.places.len() && self.left.joins(&self.rights.key_row(at))
+    }
+
+    // Whether the left row joins the next right row of a chain, where it is known whether it joins this one. The values of a
+    // next row that has the same key are not compared.
+    fn joins_next(&self, joins: bool, at: usize, next: usize) -> bool
         requires whole { IsWalk self.now }
         requires within { at < length (self.now).rights.now.places.items }
+        requires next { next ≡ get_or (self.now).chains.now.links.items at next }
+        requires told { joins ≡ joins_at self.now (place_at (self.now).rights.now at) }
+        ensures { next < length (self.now).rights.now.places.items → result ≡ joins_at self.now (place_at (self.now).rights.now next) }
+    {
+        if next >= self.rights.places.len() {
+            return false;
+        }
+        if self.chains.repeats[at] {
+            joins
+        } else {
+            self.left.joins(&self.rights.key_row(next))
+        }
+    }
+
+    // Adds the pair with a right row, where the two join.
+    fn push_pair(&self, joins: bool, at: usize, pairs: &mut Vec<Pair>) -> Result<(), AllocError>
+        requires whole { IsWalk self.now }
+        requires within { at < length (self.now).rights.now.places.items }
+        requires told { joins ≡ joins_at self.now (place_at (self.now).rights.now at) }
         ensures { OnOk result (pairs.new.items ≡ pairs.old.items
             ++ (if joins_at self.now (place_at (self.now).rights.now at) then pair_at self.now (place_at (self.now).rights.now at) ∷ [] else [])) }
     {
-        if self.left.joins(&self.rights.key_row(at)) {
+        if joins {
             pairs.push(self.pair(at))?;
         }
         Ok(())

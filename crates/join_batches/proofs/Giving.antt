@@ -136,7 +136,7 @@ gives_shown j sides shown pairs batch rows held left left_types rights right_typ
           let few = is.few in
           omega (arith, long, rest, most, few);
       typed = subst (λ (some : List DataType). AreOf some batch.columns) (types_same j sides shown (both_types j sides.left_types.now sides.right_types.now left_types right_types) within) is.typed;
-      light = is.light;
+      room = is.room;
       on = refl;
     }
 
@@ -152,7 +152,7 @@ all_shown before after shown (Ok (Some batch)) is gives =
       few = gives.few;
       typed = subst (λ (types : List DataType). AreOf types batch.columns)
           (ap (map (joined_type before)) is ∙ all_types (joined_types before)) gives.typed;
-      light = gives.light;
+      room = gives.room;
       on = gives.on;
     }
 all_shown before after shown (Ok None) is none = none

@@ -1,6 +1,6 @@
 pub mod Typed
 pub mod Cells
-pub mod Short
+pub mod Light
 pub mod Plain
 pub mod Sources
 pub mod Made

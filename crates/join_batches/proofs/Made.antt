@@ -1,9 +1,11 @@
 -- Batches of the columns of rows have those rows.
-use Rattle.std.proofs.Common.{◌≡◌, ◌≤◌, ◌<◌, ℕ, ◌+◌, List, [], ◌∷◌, ◌++◌, All, Result, Ok, Err, IfOk, length, map, get_or, take, refl, sym, ap, ◌∙◌, subst, arith}
-use Rattle.std.specs.List.{AllZip, range_with_len}
+use Rattle.std.proofs.Common.{◌≡◌, ◌≤◌, ◌<◌, ℕ, suc, ◌+◌, ◌*◌, List, [], ◌∷◌, ◌++◌, All, Result, Ok, Err, IfOk, length, map, get_or, take, refl, sym, ap, ◌∙◌, subst, arith, length-take}
+use Rattle.std.specs.List.{AllZip, range_with_len, sum_by}
 use Rattle.std.specs.declared.alloc.AllocError.{AllocError}
-use Rattle.std.proofs.lemmas.List.{get_or-map, length-map, length-take-le}
+use Rattle.batch_room.proofs.Shares.{fewer_cells}
+use Rattle.std.proofs.lemmas.List.{get_or-map, length-map, length-take-le, take-take}
 use Rattle.std.proofs.lemmas.List.Elements.{All-nil, All-cons, All-head, All-tail, All-map, All-take, All-weaker}
+use Rattle.std.proofs.lemmas.List.Sums.{sum_by-cons}
 use Rattle.std.proofs.lemmas.List.FromFn.{fill_by_all, get_or-map-range_with_len}
 use Rattle.std.proofs.lemmas.Option.{unwrap_or-slice_get}
 use Rattle.std.proofs.lemmas.Slice.Zip.{all_zipped_more}
@@ -18,9 +20,10 @@ use Rattle.hash_join.specs.declared.pair.Pair.{Pair}
 use Rattle.join_batches.specs.declared.sides.Sides.{Sides}
 use Rattle.join_batches.specs.Joiner.{shown_cells}
 use Rattle.join_batches.specs.Rows.{pair_row, IsPair}
-use Rattle.array_select.specs.Fitting.{AreShort}
-use Rattle.array_select.specs.Room.{most_column_bytes, text_bytes_of}
-use Rattle.join_batches.specs.Sides.{answered_at, width_of, AreSides, ArePairs, AllFit, IsColumnOf, IsBatchOf, rows_at, cells_of}
+use Rattle.array_select.specs.Room.{text_bytes_of}
+use Rattle.batch_room.specs.Light.{AreLight}
+use Rattle.batch_room.specs.Room.{allowed, most_batch_cells, most_batch_texts, HasRoom}
+use Rattle.join_batches.specs.Sides.{answered_at, type_in, width_of, AreSides, ArePairs, AllFit, IsColumnOf, IsBatchOf, rows_at, cells_of}
 use Rattle.join_batches.proofs.Cells.{row_wide}
 use Rattle.join_batches.proofs.Typed.{taken_more}
 
@@ -74,19 +77,46 @@ module _ (rows : List (List Value)) where
   all_long (number ∷ shown) (column ∷ columns) all =
       All-cons (λ (column : ColumnAt). column.len ≡ length rows) column columns all.0.long (all_long shown columns all.1)
 
-  -- their texts are short
-  pub all_light : (shown : List ℕ) (columns : List ColumnAt) → AllZip (IsColumnOf rows) shown columns →
-      All (λ number. AreShort (cells_of rows number)) shown → 1 < length rows →
-      All (λ (column : ColumnAt). text_bytes_of column ≤ most_column_bytes) columns
-  all_light [] [] all short many = All-nil (λ (column : ColumnAt). text_bytes_of column ≤ most_column_bytes)
-  all_light [] (column ∷ columns) all short many = absurd all
-  all_light (number ∷ shown) [] all short many = absurd all
-  all_light (number ∷ shown) (column ∷ columns) all short many =
-      let first = All-head (λ number. AreShort (cells_of rows number)) number shown short in
+  -- they are as many as there are numbers
+  pub all_made : (shown : List ℕ) (columns : List ColumnAt) → AllZip (IsColumnOf rows) shown columns → length columns ≡ length shown
+  all_made [] [] all = refl
+  all_made [] (column ∷ columns) all = absurd all
+  all_made (number ∷ shown) [] all = absurd all
+  all_made (number ∷ shown) (column ∷ columns) all = ap suc (all_made shown columns all.1)
+
+  -- their texts have no more bytes than all of them may have
+  pub all_light : (most : ℕ → ℕ) (shown : List ℕ) (columns : List ColumnAt) → AllZip (IsColumnOf rows) shown columns →
+      All (λ number. AreLight (most number) (cells_of rows number)) shown → 1 < length rows → sum_by text_bytes_of columns ≤ sum_by most shown
+  all_light most [] [] all light many = omega arith
+  all_light most [] (column ∷ columns) all light many = absurd all
+  all_light most (number ∷ shown) [] all light many = absurd all
+  all_light most (number ∷ shown) (column ∷ columns) all light many =
+      let first = All-head (λ number. AreLight (most number) (cells_of rows number)) number shown light in
       let few = first.light (omega (arith, many, length-map rows (λ row. cell_in row number))) in
-      All-cons (λ (column : ColumnAt). text_bytes_of column ≤ most_column_bytes) column columns
-      (omega (arith, few, ap (λ values. length (texts_joined values)) all.0.values))
-      (all_light shown columns all.1 (All-tail (λ number. AreShort (cells_of rows number)) number shown short) many)
+      let here : text_bytes_of column ≤ most number = subst (λ (values : List Value). length (texts_joined values) ≤ most number) (sym all.0.values) few in
+      let rest = all_light most shown columns all.1 (All-tail (λ number. AreLight (most number) (cells_of rows number)) number shown light) many in
+      let one = sum_by-cons text_bytes_of column columns in
+      let other = sum_by-cons most number shown in
+      omega (arith, one, other, here, rest)
+
+-- the sum of what is made of each
+sum_made : {X Y : Type 0} (f : Y → ℕ) (g : X → Y) (xs : List X) → sum_by (λ x. f (g x)) xs ≡ sum_by f (map g xs)
+sum_made f g [] = refl
+sum_made f g (x ∷ xs) =
+    sum_by-cons (λ x. f (g x)) x xs ∙ ap (λ (n : ℕ). f (g x) + n) (sum_made f g xs) ∙ sym (sum_by-cons f (g x) (map g xs))
+
+-- a batch of them has room
+batch_light : (sides : Sides) (share : ℕ) (shown : List ℕ) (rows : List (List Value)) (batch : BatchAt) → AllZip (IsColumnOf rows) shown batch.columns →
+    All (λ number. AreLight (allowed share (type_in sides number)) (cells_of rows number)) shown →
+    sum_by (allowed share) (map (type_in sides) shown) ≤ most_batch_texts → batch.rows ≡ length rows →
+    (1 < batch.rows → batch.rows * length shown ≤ most_batch_cells) → HasRoom batch
+batch_light sides share shown rows batch all light shares size cells = record {
+  cells = λ many. subst (λ (n : ℕ). batch.rows * n ≤ most_batch_cells) (sym (all_made rows shown batch.columns all)) (cells many);
+  texts = λ many.
+      let less = all_light rows (λ number. allowed share (type_in sides number)) shown batch.columns all light (omega (arith, many, size)) in
+      let same = sum_made (allowed share) (type_in sides) shown in
+      omega (arith, less, same, shares);
+}
 
 -- all cells of rows
 pub all_cells : (width : ℕ) (rows : List (List Value)) → All (λ (row : List Value). length row ≡ width) rows →
@@ -99,10 +129,11 @@ all_cells width (row ∷ rows) wide =
     ∙ ap (λ (rest : List (List Value)). row ∷ rest) (all_cells width rows (All-tail (λ (row : List Value). length row ≡ width) row rows wide))
 
 -- a batch of these columns of so many joined rows
-pub batch_made : (sides : Sides) (shown : List ℕ) (pairs : List Pair) (count : ℕ) (columns : List ColumnAt) → AreSides sides → ArePairs sides pairs →
-    AllFit sides pairs shown count → AllZip (IsColumnOf (rows_at sides (take count pairs))) shown columns →
+pub batch_made : (sides : Sides) (share : ℕ) (shown : List ℕ) (pairs : List Pair) (count : ℕ) (columns : List ColumnAt) → AreSides sides → ArePairs sides pairs →
+    (1 < length pairs → length pairs * length shown ≤ most_batch_cells) → sum_by (allowed share) (map (type_in sides) shown) ≤ most_batch_texts →
+    AllFit sides share pairs shown count → AllZip (IsColumnOf (rows_at sides (take count pairs))) shown columns →
     AreOf (map (answered_at sides) shown) columns → IsBatchOf sides shown pairs (record { columns = columns; rows = count })
-batch_made sides shown pairs count columns are there fit all typed =
+batch_made sides share shown pairs count columns are there cells shares fit all typed =
     let rows = rows_at sides (take count pairs) in
     let few = fit.within in
     let size : length rows ≡ count = length-map (take count pairs) (pair_row sides.rights.now sides.left.now) ∙ length-take-le count pairs few in
@@ -114,5 +145,22 @@ batch_made sides shown pairs count columns are there fit all typed =
           (λ pair is. row_wide sides pair are is) (take count pairs) (All-take (IsPair sides.rights.now sides.left.now) count pairs there));
       rows_are = rows_there rows shown (record { columns = columns; rows = count }) all (sym size);
       typed = typed;
-      light = λ many. all_light rows shown columns all fit.short (omega (arith, many, size));
+      room = batch_light sides share shown rows (record { columns = columns; rows = count }) all fit.light shares (sym size)
+          (fewer_cells (length pairs) count (length shown) few cells);
+    }
+
+-- a batch of the first pairs is one of all
+pub batch_of_first : (sides : Sides) (shown : List ℕ) (pairs : List Pair) (n : ℕ) (batch : BatchAt) → IsBatchOf sides shown (take n pairs) batch → IsBatchOf sides shown pairs batch
+batch_of_first sides shown pairs n batch is =
+    let size = length-take n pairs in
+    let few = is.few in
+    let low : batch.rows ≤ n = omega (arith, few, size) in
+    let same = ap (rows_at sides) (take-take batch.rows n pairs low) in
+    record {
+      some = is.some;
+      few = omega (arith, few, size);
+      wide = subst (All (λ (row : List Value). length row ≡ width_of sides)) same is.wide;
+      rows_are = is.rows_are ∙ ap (map (shown_cells shown)) same;
+      typed = is.typed;
+      room = is.room;
     }

@@ -1,4 +1,4 @@
--- Columns whose values are no texts have short texts.
+-- Columns whose values are no texts have light texts.
 use Rattle.std.proofs.Common.{◌≡◌, ◌≤◌, ◌<◌, ℕ, ◌+◌, ◌-◌, false, List, [], None, length, get_or, sym, ap, ◌∙◌, ◌⊎◌, inl, inr, arith, subst}
 use Rattle.std.proofs.lemmas.Bool.{cases_lt}
 use Rattle.std.proofs.lemmas.List.{get_or_append_left, get_or-append-add, take_all}
@@ -9,12 +9,14 @@ use Rattle.scan_base.specs.Predicate.{cell_in}
 use Rattle.arrays.specs.declared.layout.Layout.TheVariants as layout
 use Rattle.arrays.specs.Column.{ColumnAt}
 use Rattle.arrays.specs.Written.{text_bytes}
-use Rattle.array_select.specs.Fitting.{AreShort, has_texts}
-use Rattle.array_select.proofs.Short.{no_text, plain_short}
+use Rattle.array_select.specs.Fitting.{has_texts}
+use Rattle.array_select.proofs.Short.{no_text}
+use Rattle.batch_room.proofs.Light.{plain_light}
+use Rattle.batch_room.specs.Room.{allowed}
 use Rattle.hash_join.specs.declared.pair.Pair.{Pair}
 use Rattle.join_batches.specs.declared.sides.Sides.{Sides}
 use Rattle.join_batches.specs.Rows.{batch_at, pair_row, IsPair}
-use Rattle.join_batches.specs.Sides.{types_of, width_of, AreSides, ArePairs, FitsIn, rows_at, cells_of}
+use Rattle.join_batches.specs.Sides.{types_of, type_in, width_of, AreSides, ArePairs, AreLightIn, FitsIn, rows_at, cells_of}
 use Rattle.join_batches.proofs.Typed.{typed_long, typed_at}
 use Rattle.join_batches.proofs.Cells.{left_cell, right_cell}
 
@@ -49,13 +51,13 @@ no_text_in sides number are h plain pair is = by (cases_lt number (length sides.
         (typed_at sides.right_types.now right.columns k type.Utf8 none rights low)
 
 -- such a column has room for all pairs
-pub all_fit_in : (sides : Sides) (pairs : List Pair) (number : ℕ) → AreSides sides → ArePairs sides pairs → 0 < length pairs → number < width_of sides →
-    has_texts (get_or (types_of sides) number type.Utf8) ≡ false → FitsIn sides pairs number (length pairs)
-all_fit_in sides pairs number are there some h plain = record {
+pub all_fit_in : (sides : Sides) (share : ℕ) (pairs : List Pair) (number : ℕ) → AreSides sides → ArePairs sides pairs → 0 < length pairs → number < width_of sides →
+    has_texts (get_or (types_of sides) number type.Utf8) ≡ false → FitsIn sides share pairs number (length pairs)
+all_fit_in sides share pairs number are there some h plain = record {
   some = some;
   within = omega arith;
-  short = subst (λ (all : List Pair). AreShort (cells_of (rows_at sides all) number)) (sym (take_all (length pairs) pairs (omega arith)))
-      (plain_short (cells_of (rows_at sides pairs) number)
+  light = subst (λ (all : List Pair). AreLightIn sides share all number) (sym (take_all (length pairs) pairs (omega arith)))
+      (plain_light (allowed share (type_in sides number)) (cells_of (rows_at sides pairs) number)
       (All-map (λ (value : Value). text_bytes value ≡ []) (λ (row : List Value). cell_in row number) (rows_at sides pairs)
       (All-map (λ (row : List Value). text_bytes (cell_in row number) ≡ []) (pair_row sides.rights.now sides.left.now) pairs
       (All-weaker (IsPair sides.rights.now sides.left.now) (λ (pair : Pair). text_bytes (cell_in (pair_row sides.rights.now sides.left.now pair) number) ≡ [])

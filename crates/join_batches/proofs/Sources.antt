@@ -1,7 +1,7 @@
 -- The places of cells, and the columns in which they are.
-use Rattle.std.proofs.Common.{◌≡◌, ◌≤◌, ◌<◌, ℕ, suc, ◌+◌, Bool, true, if◌then◌else◌, nat_le, List, [], ◌∷◌, ◌++◌, All, length, map, get_or, take, refl, sym, ap, ◌∙◌, arith, subst, inl, inr}
-use Rattle.std.proofs.lemmas.Bool.{lt-ltb, le-ltb, leb-true, cases_lt}
-use Rattle.std.proofs.lemmas.List.{take_more, get_or-map, length-map, get_or_append_left, get_or-append-add, map-append, take_all, take-map}
+use Rattle.std.proofs.Common.{◌≡◌, ◌≤◌, ◌<◌, ℕ, suc, ◌+◌, Bool, if◌then◌else◌, nat_le, List, [], ◌∷◌, ◌++◌, All, length, map, get_or, take, refl, sym, ap, ◌∙◌, arith, subst, inl, inr}
+use Rattle.std.proofs.lemmas.Bool.{lt-ltb, le-ltb, cases_lt}
+use Rattle.std.proofs.lemmas.List.{take_more, get_or-map, length-map, get_or_append_left, get_or-append-add, map-append, take-map}
 use Rattle.std.proofs.lemmas.List.Elements.{All-nil, All-cons, All-map, All-weaker}
 use Rattle.arrow_schema.specs.declared.data_type.DataType.{DataType}
 use Rattle.arrow_schema.specs.declared.data_type.DataType.TheVariants.{Utf8}
@@ -13,12 +13,10 @@ use Rattle.arrays.specs.Column.{ColumnAt, slot_of}
 use Rattle.array_select.specs.GatherMany.{column_in, value_in, IsPlaceIn}
 use Rattle.arrays.specs.Typed.{IsOfType}
 use Rattle.arrays.specs.Written.{texts_joined}
-use Rattle.array_select.specs.Fitting.{AreShort}
-use Rattle.array_select.specs.Room.{most_column_bytes}
 use Rattle.hash_join.specs.declared.pair.Pair.{Pair}
 use Rattle.join_batches.specs.declared.sides.Sides.{Sides}
 use Rattle.join_batches.specs.Rows.{batch_at, pair_row, IsPair}
-use Rattle.join_batches.specs.Sides.{types_of, AreSides, ArePairs, AreSources, left_place, right_place, place_for, rows_at, cells_of, FitsIn}
+use Rattle.join_batches.specs.Sides.{types_of, AreSides, ArePairs, AreSources, left_place, right_place, place_for, rows_at, cells_of}
 use Rattle.join_batches.proofs.Cells.{left_cell, right_cell, same_at}
 use Rattle.join_batches.proofs.Plain.{none}
 use Rattle.join_batches.proofs.Typed.{typed_long, typed_at}
@@ -152,20 +150,10 @@ places_there sides number columns pairs sources there =
 pub first_placed : (place_of : Pair → SlotPlace) (count : ℕ) (places : List SlotPlace) (pairs : List Pair) → places ≡ map place_of pairs → take count places ≡ map place_of (take count pairs)
 first_placed place_of count places pairs e = ap (take count) e ∙ take-map place_of count pairs
 
--- texts that were counted are short
-pub counted_short : (sides : Sides) (number : ℕ) (columns : List ColumnAt) (places : List SlotPlace) (pairs : List Pair) (fit : Bool) → AreSources sides number columns → ArePairs sides pairs →
-    places ≡ map (place_for sides number) pairs → fit ≡ nat_le (length (texts_joined (map (value_in columns) places))) most_column_bytes → fit ≡ true →
-    AreShort (cells_of (rows_at sides pairs) number)
-counted_short sides number columns places pairs fit sources there at is holds =
-    let values = ap (map (value_in columns)) at ∙ values_are_cells sides number columns pairs sources there in
-    let few : length (texts_joined (map (value_in columns) places)) ≤ most_column_bytes = leb-true (length (texts_joined (map (value_in columns) places))) most_column_bytes (sym is ∙ holds) in
-    let less : length (texts_joined (cells_of (rows_at sides pairs) number)) ≤ most_column_bytes = subst (λ (some : List Value). length (texts_joined some) ≤ most_column_bytes) values few in
-    record { named = omega (arith, less); light = λ several. less }
-
--- all pairs fit where the texts of all are short
-pub short_fit : (sides : Sides) (pairs : List Pair) (number : ℕ) → 0 < length pairs → AreShort (cells_of (rows_at sides pairs) number) → FitsIn sides pairs number (length pairs)
-short_fit sides pairs number some short = record {
-  some = some;
-  within = omega arith;
-  short = subst (λ (all : List Pair). AreShort (cells_of (rows_at sides all) number)) (sym (take_all (length pairs) pairs (omega arith))) short;
-}
+-- the texts at the places were counted
+pub places_counted : (sides : Sides) (number : ℕ) (columns : List ColumnAt) (places : List SlotPlace) (pairs : List Pair) (fit : Bool) (most : ℕ) → AreSources sides number columns →
+    ArePairs sides pairs → places ≡ map (place_for sides number) pairs → fit ≡ nat_le (length (texts_joined (map (value_in columns) places))) most →
+    fit ≡ nat_le (length (texts_joined (cells_of (rows_at sides pairs) number))) most
+places_counted sides number columns places pairs fit most sources there at is =
+    is ∙ ap (λ (values : List Value). nat_le (length (texts_joined values)) most)
+    (ap (map (value_in columns)) at ∙ values_are_cells sides number columns pairs sources there)

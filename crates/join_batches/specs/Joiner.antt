@@ -8,9 +8,9 @@ use Rattle.arrow_schema.specs.Answer.{answer_type}
 use Rattle.scan_base.specs.declared.value.Value.{Value}
 use Rattle.scan_base.specs.Predicate.{cell_in}
 use Rattle.arrays.specs.Batch.{BatchAt, rows_of}
-use Rattle.arrays.specs.Column.{ColumnAt}
 use Rattle.arrays.specs.Typed.{AreOf}
-use Rattle.array_select.specs.Room.{most_batch_rows, most_column_bytes, text_bytes_of}
+use Rattle.array_select.specs.Room.{most_batch_rows}
+use Rattle.batch_room.specs.Room.{HasRoom}
 use Rattle.hash_join.specs.Pairs.{key_in, keys_join}
 
 -- The types of the columns of both sides, the numbers of those that are the key, the rows of the right side in order, and
@@ -45,13 +45,13 @@ joined_type joiner number = unwrap_or (slice_get (joined_types joiner) number) U
 abbrev pub shown_cells : List ℕ → List Value → List Value
 shown_cells shown row = map (cell_in row) shown
 
--- a batch has the next joined rows, one or more, and short texts
+-- a batch has the next joined rows, one or more, and few cells and texts
 pub record GivesJoined (before : JoinerAt) (batch : BatchAt) (after : JoinerAt) : Type 0 where
   pub next : before.ahead ≡ rows_of batch ++ after.ahead
   pub some : 0 < batch.rows
   pub few : batch.rows ≤ most_batch_rows
   pub typed : AreOf (joined_types before) batch.columns
-  pub light : 1 < batch.rows → All (λ (column : ColumnAt). text_bytes_of column ≤ most_column_bytes) batch.columns
+  pub room : HasRoom batch
   pub on : after ≡ record before { ahead = after.ahead }
 
 -- The next joined batch, or none where no row is left. Where memory is refused the same rows come next.
@@ -60,7 +60,7 @@ JoinsNext before (Ok (Some batch)) after = GivesJoined before batch after
 JoinsNext before (Ok None) after = (before.ahead ≡ []) × (after ≡ before)
 JoinsNext before (Err _) after = after ≡ before
 
--- a batch has these columns of the next joined rows, one or more, and short texts
+-- a batch has these columns of the next joined rows, one or more, and few cells and texts
 pub record GivesShown (before : JoinerAt) (shown : List ℕ) (batch : BatchAt) (after : JoinerAt) : Type 0 where
   pub rows : List (List Value)
   pub next : before.ahead ≡ rows ++ after.ahead
@@ -69,7 +69,7 @@ pub record GivesShown (before : JoinerAt) (shown : List ℕ) (batch : BatchAt) (
   pub some : 0 < batch.rows
   pub few : batch.rows ≤ most_batch_rows
   pub typed : AreOf (map (joined_type before) shown) batch.columns
-  pub light : 1 < batch.rows → All (λ (column : ColumnAt). text_bytes_of column ≤ most_column_bytes) batch.columns
+  pub room : HasRoom batch
   pub on : after ≡ record before { ahead = after.ahead }
 
 -- These columns of the next joined rows, or none where no row is left. Where memory is refused the same rows come next.

@@ -13,8 +13,8 @@ use Rattle.array_select.specs.OfSlots.{slot_value, IsSlotOf}
 use Rattle.array_select.specs.declared.many_places.SlotPlace.{SlotPlace}
 use Rattle.array_select.specs.GatherMany.{value_in, IsPlaceIn}
 use Rattle.arrays.specs.Typed.{AreOf, IsOfType}
-use Rattle.array_select.specs.Fitting.{AreShort}
-use Rattle.array_select.specs.Room.{most_column_bytes, text_bytes_of}
+use Rattle.batch_room.specs.Light.{AreLight}
+use Rattle.batch_room.specs.Room.{allowed, HasRoom}
 use Rattle.hash_join.specs.declared.pair.Pair.{Pair}
 use Rattle.join_batches.specs.declared.placed.Placed.{Placed}
 use Rattle.join_batches.specs.declared.sides.Sides.{Sides}
@@ -79,17 +79,25 @@ pub record AreSources (sides : Sides) (number : ℕ) (columns : List ColumnAt) :
 abbrev pub cells_of : List (List Value) → ℕ → List Value
 cells_of rows number = map (λ row. cell_in row number) rows
 
--- the texts of a column of so many rows, from the first on, are short
-pub record FitsIn (sides : Sides) (pairs : List Pair) (number count : ℕ) : Type 0 where
-  pub some : 0 < count
-  pub within : count ≤ length pairs
-  pub short : AreShort (cells_of (rows_at sides (take count pairs)) number)
+-- the type of a column's cells, as they come
+abbrev pub type_in : Sides → ℕ → DataType
+type_in sides number = get_or (types_of sides) number Utf8
 
--- the texts of these columns of so many rows are short
-pub record AllFit (sides : Sides) (pairs : List Pair) (shown : List ℕ) (count : ℕ) : Type 0 where
+-- the texts of a column of rows are light, where those of a column of texts may have so many bytes
+abbrev pub AreLightIn : Sides → ℕ → List Pair → ℕ → Type 0
+AreLightIn sides share pairs number = AreLight (allowed share (type_in sides number)) (cells_of (rows_at sides pairs) number)
+
+-- the texts of a column of so many rows, from the first on, are light
+pub record FitsIn (sides : Sides) (share : ℕ) (pairs : List Pair) (number count : ℕ) : Type 0 where
   pub some : 0 < count
   pub within : count ≤ length pairs
-  pub short : All (λ number. AreShort (cells_of (rows_at sides (take count pairs)) number)) shown
+  pub light : AreLightIn sides share (take count pairs) number
+
+-- the texts of these columns of so many rows are light
+pub record AllFit (sides : Sides) (share : ℕ) (pairs : List Pair) (shown : List ℕ) (count : ℕ) : Type 0 where
+  pub some : 0 < count
+  pub within : count ≤ length pairs
+  pub light : All (AreLightIn sides share (take count pairs)) shown
 
 -- a column is that of rows
 pub record IsColumnOf (rows : List (List Value)) (number : ℕ) (column : ColumnAt) : Type 0 where
@@ -98,7 +106,7 @@ pub record IsColumnOf (rows : List (List Value)) (number : ℕ) (column : Column
 
 -- the type of a column of joined rows
 abbrev pub answered_at : Sides → ℕ → DataType
-answered_at sides number = answer_type (get_or (types_of sides) number Utf8)
+answered_at sides number = answer_type (type_in sides number)
 
 -- the columns are there
 abbrev pub AreWithin : Sides → List ℕ → Type 0
@@ -111,4 +119,4 @@ pub record IsBatchOf (sides : Sides) (shown : List ℕ) (pairs : List Pair) (bat
   pub wide : All (λ (row : List Value). length row ≡ width_of sides) (rows_at sides (take batch.rows pairs))
   pub rows_are : rows_of batch ≡ map (shown_cells shown) (rows_at sides (take batch.rows pairs))
   pub typed : AreOf (map (answered_at sides) shown) batch.columns
-  pub light : 1 < batch.rows → All (λ (column : ColumnAt). text_bytes_of column ≤ most_column_bytes) batch.columns
+  pub room : HasRoom batch

@@ -16,6 +16,7 @@ use crate::sides::Sides;
 use array_select::MOST_BATCH_ROWS;
 use arrays::Batch;
 use arrow_schema::DataType;
+use batch_room::{next_most, tried_rows};
 use hash_join::{Build, LeftSide, Pair, Probe};
 use hash_seed::HashSeed;
 use std::alloc::{AllocError, Global};
@@ -63,6 +64,8 @@ pub struct Joiner {
     // The next pairs, and how many of them were given.
     pairs: Vec<Pair>,
     given: usize,
+    // As many rows as the next batch is tried with.
+    most: usize,
 }
 
 // Written out, so that dropping it is one call (docs/DECISIONS.md).
@@ -74,6 +77,7 @@ impl Drop for Joiner {
             probe: _,
             pairs: _,
             given: _,
+            most: _,
         } = self;
     }
 }
@@ -159,6 +163,7 @@ impl Joiner {
             probe: Probe::new(),
             pairs: Vec::new(alloc),
             given: 0,
+            most: MOST_BATCH_ROWS,
         }
     }
 
@@ -175,8 +180,8 @@ impl Joiner {
         self.given = 0;
     }
 
-    /// The next joined rows of the left batch as a batch: one row or more, no more than 65,536, whose texts have no more
-    /// than 16 MB in a column where it is more than one. `None` where no row is left.
+    /// The next joined rows of the left batch as a batch: one row or more, no more than 65,536, which has room where it is more
+    /// than one: no more than 524,288 cells, and no more than 8 MB of text in all. `None` where no row is left.
     ///
     /// # Errors
     ///
@@ -190,8 +195,8 @@ impl Joiner {
     }
 
     /// These columns of the next joined rows of the left batch, by their numbers, as a batch: one row or more, no more than
-    /// 65,536, whose texts have no more than 16 MB in a column where it is more than one. No other column is gathered.
-    /// `None` where no row is left.
+    /// 65,536, which has room where it is more than one: no more than 524,288 cells, and no more than 8 MB of text in all. No
+    /// other column is gathered. `None` where no row is left.
     ///
     /// # Errors
     ///
@@ -225,8 +230,10 @@ impl Joiner {
             rights: built.build.batches(),
             right_types: built.right_types.as_slice(),
         };
-        let joined = sides.joined(alloc, shown, pairs)?;
+        let tried = tried_rows(pairs.len(), shown.len(), self.most);
+        let joined = sides.joined(alloc, shown, &pairs[..tried])?;
         self.given += joined.rows();
+        self.most = next_most(self.most, tried, joined.rows());
         Ok(Some(joined))
     }
 }

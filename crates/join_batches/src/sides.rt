@@ -1,20 +1,21 @@
 //! The rows that pairs stand for, as columns.
 
-ghost use Rattle.std.specs.Prelude.{◌≡◌, ◌<◌, ◌+◌, All, IfOk, length, map, slice_index_or, true};
+ghost use Rattle.std.specs.Prelude.{◌≡◌, ◌≤◌, ◌<◌, ◌^◌, ◌+◌, ◌*◌, ℕ, All, IfOk, length, map, nat_le, slice_index_or, true};
 ghost use Rattle.std.specs.List.{AllZip};
 ghost use Rattle.arrow_schema.specs.Answer.{answer_type};
 ghost use Rattle.arrays.specs.Typed.{AreOf, IsOfType};
-ghost use Rattle.array_select.specs.Fitting.{AreShort};
+ghost use Rattle.arrays.specs.Written.{texts_joined};
+ghost use Rattle.batch_room.specs.Room.{most_batch_cells, most_batch_texts};
 ghost use Rattle.join_batches.specs.Sides.{AllFit, AreSides, ArePairs, ArePlaced, AreSources, HoldCells, place_for};
-ghost use Rattle.join_batches.specs.Sides.{AreWithin, FitsIn, IsBatchOf, IsColumnOf, answered_at, cells_of, rows_at, types_of, width_of};
+ghost use Rattle.join_batches.specs.Sides.{AreWithin, FitsIn, IsBatchOf, IsColumnOf, answered_at, cells_of, rows_at, type_in, types_of, width_of};
 
 use crate::placed::{Placed, left_places, right_places};
 use array_select::{
-    MOST_COLUMN_BYTES, SlotPlace, SlotRef, column_of_slots, fitting, gather_many, has_texts,
-    texts_fit_many,
+    SlotPlace, SlotRef, column_of_slots, gather_many, has_texts, texts_fit, texts_fit_many,
 };
 use arrays::{Batch, Column};
 use arrow_schema::DataType;
+use batch_room::{MOST_OFFSET, text_share};
 use hash_join::Pair;
 use std::alloc::{AllocError, Global};
 
@@ -39,6 +40,7 @@ impl<'a> Sides<'a> {
         requires shown { AreWithin self.now shown.now }
         requires there { ArePairs self.now pairs.now }
         requires some { 0 < length pairs.now }
+        requires cells { 1 < length pairs.now → length pairs.now * length shown.now ≤ most_batch_cells }
         ensures { IfOk result (λ batch. IsBatchOf self.now shown.now pairs.now batch) }
     {
         let lefts = left_places(alloc, pairs)?;
@@ -48,70 +50,116 @@ impl<'a> Sides<'a> {
             lefts: lefts.as_slice(),
             rights: rights.as_slice(),
         };
-        let count = self.how_many_fit(alloc, shown, &placed)?;
+        let types = self.types_at(alloc, shown)?;
+        let share = text_share(types.as_slice());
+        let count = self.how_many_fit(alloc, shown, share, &placed)?;
         let columns = self.columns(alloc, shown, &placed.first(count))?;
         Ok(Batch::new(columns, count))
     }
 
-    // How many of the pairs, from the first on, have room in one batch of these columns.
+    // The types of these columns, as they come.
+    fn types_at(&self, alloc: Global, shown: &[usize]) -> Result<Vec<DataType>, AllocError>
+        requires { AreWithin self.now shown.now }
+        ensures { IfOk result (λ types. types.items ≡ map (type_in self.now) shown.now) }
+    {
+        let mut types = Vec::with_capacity(alloc, shown.len())?;
+        for number in shown {
+            types.push(self.type_of(*number))?;
+        }
+        Ok(types)
+    }
+
+    // How many of the pairs, from the first on, have room in one batch of these columns, where the texts of one have a share.
     fn how_many_fit(
         &self,
         alloc: Global,
         shown: &[usize],
+        share: usize,
         placed: &Placed<'_>,
     ) -> Result<usize, AllocError>
         requires sides { AreSides self.now }
         requires shown { AreWithin self.now shown.now }
+        requires share { share ≤ most_batch_texts }
         requires placed { ArePlaced placed.now }
         requires there { ArePairs self.now placed.now.pairs.now }
         requires some { 0 < length placed.now.pairs.now }
-        ensures { IfOk result (λ count. AllFit self.now placed.now.pairs.now shown.now count) }
+        ensures { IfOk result (λ count. AllFit self.now share placed.now.pairs.now shown.now count) }
     {
         let mut count = placed.pairs.len();
         for number in shown {
-            count = self.how_many_fit_in(alloc, *number, &placed.first(count))?;
+            count = self.how_many_fit_in(alloc, *number, share, &placed.first(count))?;
         }
         Ok(count)
     }
 
-    // How many of the pairs, from the first on, have texts in a column that have room in one batch. Only texts are looked at.
+    // How many of the pairs, from the first on, have room in one batch by their texts in a column: all of them, halved until
+    // the texts have no more bytes than the share. Only texts are looked at.
     fn how_many_fit_in(
         &self,
         alloc: Global,
         number: usize,
+        share: usize,
         placed: &Placed<'_>,
     ) -> Result<usize, AllocError>
         requires sides { AreSides self.now }
+        requires share { share ≤ most_batch_texts }
         requires placed { ArePlaced placed.now }
         requires there { ArePairs self.now placed.now.pairs.now }
         requires number { number < width_of self.now }
         requires some { 0 < length placed.now.pairs.now }
-        ensures { IfOk result (λ count. FitsIn self.now placed.now.pairs.now number count) }
+        ensures { IfOk result (λ count. FitsIn self.now share placed.now.pairs.now number count) }
     {
+        let mut count = placed.pairs.len();
         if !has_texts(self.type_of(number)) {
-            return Ok(placed.pairs.len());
+            return Ok(count);
         }
-        if self.all_fit(alloc, number, placed)? {
-            return Ok(placed.pairs.len());
+        while !self.texts_fit(alloc, number, &placed.first(count), share)? {
+            if count == 1 {
+                return self.alone(alloc, number, &placed.first(1));
+            }
+            count /= 2;
         }
-        let slots = self.slots(alloc, number, placed.pairs)?;
-        fitting(slots.as_slice())
+        Ok(count)
     }
 
-    // Whether the texts of all pairs in a column are found to have room in one batch.
-    fn all_fit(&self, alloc: Global, number: usize, placed: &Placed<'_>) -> Result<bool, AllocError>
+    // One pair, if offsets can name each byte of its text in a column.
+    fn alone(&self, alloc: Global, number: usize, placed: &Placed<'_>) -> Result<usize, AllocError>
         requires sides { AreSides self.now }
         requires placed { ArePlaced placed.now }
         requires there { ArePairs self.now placed.now.pairs.now }
         requires number { number < width_of self.now }
-        ensures { IfOk result (λ fit. fit ≡ true → AreShort (cells_of (rows_at self.now placed.now.pairs.now) number)) }
+        ensures one { IfOk result (λ count. count ≡ 1) }
+        ensures named { IfOk result (λ _. length (texts_joined (cells_of (rows_at self.now placed.now.pairs.now) number)) < 2 ^ 31) }
+    {
+        if self.texts_fit(alloc, number, placed, MOST_OFFSET)? {
+            Ok(1)
+        } else {
+            Err(AllocError)
+        }
+    }
+
+    // Whether the texts of all pairs in a column have no more than `most` bytes. The columns of right batches are listed only
+    // where they are no more than the pairs.
+    fn texts_fit(
+        &self,
+        alloc: Global,
+        number: usize,
+        placed: &Placed<'_>,
+        most: usize,
+    ) -> Result<bool, AllocError>
+        requires sides { AreSides self.now }
+        requires placed { ArePlaced placed.now }
+        requires there { ArePairs self.now placed.now.pairs.now }
+        requires number { number < width_of self.now }
+        ensures { IfOk result (λ fit. fit ≡ nat_le (length (texts_joined (cells_of (rows_at self.now placed.now.pairs.now) number))) most) }
     {
         if self.rights.len() > placed.pairs.len() {
-            return Ok(false);
+            let slots = self.slots(alloc, number, placed.pairs)?;
+            return Ok(texts_fit(slots.as_slice(), most));
         }
         let columns = self.sources(alloc, number)?;
         let places = self.places(number, placed);
-        Ok(texts_fit_many(columns.as_slice(), places, MOST_COLUMN_BYTES))
+        Ok(texts_fit_many(columns.as_slice(), places, most))
     }
 
     // These columns of the joined rows.
@@ -125,7 +173,7 @@ impl<'a> Sides<'a> {
         requires shown { AreWithin self.now shown.now }
         requires placed { ArePlaced placed.now }
         requires there { ArePairs self.now placed.now.pairs.now }
-        requires short { All (λ number. AreShort (cells_of (rows_at self.now placed.now.pairs.now) number)) shown.now }
+        requires named { All (λ number. length (texts_joined (cells_of (rows_at self.now placed.now.pairs.now) number)) < 2 ^ 31) shown.now }
         ensures cells { IfOk result
             (λ columns. AllZip (IsColumnOf (rows_at self.now placed.now.pairs.now)) shown.now columns.items) }
         ensures typed { IfOk result (λ columns. AreOf (map (answered_at self.now) shown.now) columns.items) }
@@ -149,7 +197,7 @@ impl<'a> Sides<'a> {
         requires placed { ArePlaced placed.now }
         requires there { ArePairs self.now placed.now.pairs.now }
         requires number { number < width_of self.now }
-        requires short { AreShort (cells_of (rows_at self.now placed.now.pairs.now) number) }
+        requires named { length (texts_joined (cells_of (rows_at self.now placed.now.pairs.now) number)) < 2 ^ 31 }
         ensures cells { IfOk result (λ column. IsColumnOf (rows_at self.now placed.now.pairs.now) number column) }
         ensures typed { IfOk result (λ column. IsOfType (answer_type (slice_index_or (types_of self.now) number DataType.Utf8)) column.layout) }
     {
@@ -181,7 +229,7 @@ impl<'a> Sides<'a> {
         requires sides { AreSides self.now }
         requires there { ArePairs self.now pairs.now }
         requires number { number < width_of self.now }
-        requires short { AreShort (cells_of (rows_at self.now pairs.now) number) }
+        requires named { length (texts_joined (cells_of (rows_at self.now pairs.now) number)) < 2 ^ 31 }
         ensures cells { IfOk result (λ column. IsColumnOf (rows_at self.now pairs.now) number column) }
         ensures typed { IfOk result (λ column. IsOfType (answer_type (slice_index_or (types_of self.now) number DataType.Utf8)) column.layout) }
     {

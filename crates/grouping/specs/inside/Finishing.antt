@@ -6,8 +6,8 @@ use Rattle.arrow_schema.specs.declared.data_type.DataType.{DataType}
 use Rattle.arrays.specs.Batch.{BatchAt, rows_of}
 use Rattle.arrays.specs.Column.{ColumnAt, values_of}
 use Rattle.arrays.specs.Typed.{AreOf, IsOfType}
-use Rattle.array_select.specs.Fitting.{AreShort}
-use Rattle.array_select.specs.Room.{most_column_bytes, text_bytes_of}
+use Rattle.batch_room.specs.Light.{AreLight}
+use Rattle.batch_room.specs.Room.{share_among, HasRoom}
 use Rattle.scan_base.specs.Limits.{most_rows}
 use Rattle.scan_base.specs.declared.value.Value.{Value}
 use Rattle.typed_plan.specs.declared.plan.Aggregate.{Aggregate}
@@ -58,11 +58,15 @@ pub record CanAnswer (answer : Answer) : Type 0 where
 abbrev pub item_cells : GroupsAt → ℕ → ℕ → ℕ → List Value
 item_cells groups item from many = map (λ group. cell_at groups group item) (range_with_len from many)
 
--- the texts of the first items are short of so many groups from one on
+-- the texts of an item have no more bytes than its share, of so many groups from one on
+abbrev pub AreLightIn : GroupsAt → ℕ → ℕ → ℕ → Type 0
+AreLightIn groups from count item = AreLight (share_among (length groups.items)) (item_cells groups item from count)
+
+-- the texts of the first items are light of so many groups from one on
 pub record AllFit (groups : GroupsAt) (from most items count : ℕ) : Type 0 where
   pub some : 0 < count
   pub within : count ≤ most
-  pub short : (item : ℕ) → item < items → AreShort (item_cells groups item from count)
+  pub light : (item : ℕ) → item < items → AreLightIn groups from count item
 
 -- the column of the item at a place, over so many groups from one on
 pub record IsItemColumn (groups : GroupsAt) (item from many : ℕ) (column : ColumnAt) : Type 0 where
@@ -75,10 +79,12 @@ pub record IsBatchOf (groups : GroupsAt) (from many : ℕ) (batch : BatchAt) : T
   pub rows : rows_of batch ≡ map (row_at groups) (range_with_len from many)
   pub many_rows : batch.rows ≡ many
   pub typed : AreOf (map answer_type (map (item_type groups.keys groups.types) groups.items)) batch.columns
-  pub light : 1 < many → All (λ (column : ColumnAt). text_bytes_of column ≤ most_column_bytes) batch.columns
+  pub many_columns : length batch.columns ≡ length groups.items
+  pub cells : (item : ℕ) (d : ColumnAt) → item < length groups.items → values_of (get_or batch.columns item d) ≡ item_cells groups item from many
 
--- the batch of groups from one on, one or more
+-- the batch of groups from one on, one or more, with few cells and texts
 pub record IsNextOf (groups : GroupsAt) (from most : ℕ) (batch : BatchAt) : Type 0 where
   pub some : 0 < batch.rows
   pub few : batch.rows ≤ most
   pub is : IsBatchOf groups from batch.rows batch
+  pub room : HasRoom batch

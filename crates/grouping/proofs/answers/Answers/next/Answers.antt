@@ -28,4 +28,5 @@ returns c =
     let same : groups ≡ groups_at c.args.batches.now view = c.shown-answer.ensures.groups ∙ ap (groups_at c.args.batches.now) (sym c.self.view_is) in
     let over : IsOver c.args.batches.now view = subst (IsOver c.args.batches.now) (sym c.self.view_is) c.requires in
     rw c.rows.ensures (subst (λ (before : AnswersAt). GivesGroups c.args.batches.now before c.in_ok-batch.batch (record view { given = view.given + c.in_ok-batch.batch.rows })) c.self.view_is
-    (gives c.args.batches.now view groups c.min.result c.in_ok-batch.batch same over (omega (arith, c.groups.ensures)) (omega arith) c.in_ok-batch.ensures))
+    (gives c.args.batches.now view groups c.tried_rows-tried.result c.in_ok-batch.batch same over (omega (arith, c.groups.ensures, c.tried_rows-tried.ensures.within)) c.tried_rows-tried.ensures.few
+    c.in_ok-batch.ensures))

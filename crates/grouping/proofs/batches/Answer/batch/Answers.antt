@@ -25,5 +25,4 @@ returns c =
     let all : c.loop-item.item ≡ length c.args.self.now.items.now = omega arith in
     let long : length columns ≡ length c.args.self.now.items.now = omega (arith, c.loop-item.invariant.long) in
     subst (λ (batch : BatchAt). IsBatchOf (groups_in c.args.self.now) c.args.from many batch) (sym c.new.ensures)
-    (batch_made (groups_in c.args.self.now) c.args.from many columns long (λ i d low. c.loop-item.invariant.each i d (omega arith))
-    c.requires.short)
+    (batch_made (groups_in c.args.self.now) c.args.from many columns long (λ i d low. c.loop-item.invariant.each i d (omega arith)))

@@ -40,7 +40,7 @@ column_of_slots-requires-clause-short c =
     let inside : c.args.from + many ≤ length answer.firsts.now = omega (arith, at.long, c.requires.within, c.requires.ordered) in
     let cell = first_cell answer.batches.now (get_or answer.keys.now c.in-Key.place 0) in
     subst (λ (values : List Value). length (texts_joined values) < 2 ^ 31)
-    (sym (values (goal.at.column_of_slots-requires-clause-short c).After-as_slice ∙ ap (map cell) c.part.ensures ∙ at.cells c.args.from many inside)) c.requires.short.named
+    (sym (values (goal.at.column_of_slots-requires-clause-short c).After-as_slice ∙ ap (map cell) c.part.ensures ∙ at.cells c.args.from many inside)) c.requires.named
 
 pub returns-in_ok-slots-in-Key : goal.returns-in_ok-slots-in-Key
 returns-in_ok-slots-in-Key c =

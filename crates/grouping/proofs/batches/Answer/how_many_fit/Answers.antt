@@ -1,5 +1,5 @@
 use Rattle.grouping.specs.inside.Finishing.{groups_in}
-use Rattle.grouping.proofs.Short.{fit_more}
+use Rattle.grouping.proofs.Light.{fit_more}
 use Rattle.grouping.proofs.batches.Answer.how_many_fit.Goals as goal
 
 pub loop-item-preserved : goal.loop-item-preserved

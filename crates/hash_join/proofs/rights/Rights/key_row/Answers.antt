@@ -2,7 +2,8 @@ use Rattle.std.proofs.Common.{arith, ap, ◌∙◌, nat_lt, List, ℕ, length}
 use Rattle.std.specs.List.{list_all}
 use Rattle.arrays.specs.Batch.{row_of}
 use Rattle.hash_join.specs.Pairs.{key_in}
-use Rattle.hash_join.proofs.Numbered.{batch_there, row_there, columns_there, key_found}
+use Rattle.hash_join.specs.Codes.{key_code}
+use Rattle.hash_join.proofs.Numbered.{batch_there, row_there, columns_there, key_found, code_found}
 use Rattle.hash_join.proofs.rights.Rights.key_row.Goals as goal
 
 pub index-requires-2 : goal.index-requires-2
@@ -25,3 +26,10 @@ returns-clause-key c =
     let place = c.index.result.now in
     ap (λ (key : List ℕ). key_in key (row_of batch.columns place.1)) c.as_slice.ensures.value
     ∙ key_found c.args.self.now c.args.number place c.requires.whole c.requires.within c.index.ensures batch c.index-2.ensures
+
+pub returns-clause-code : goal.returns-clause-code
+returns-clause-code c =
+    let batch = c.index-2.result.now in
+    let place = c.index.result.now in
+    ap (λ (key : List ℕ). key_code batch.columns key place.1) c.as_slice.ensures.value
+    ∙ code_found c.args.self.now c.args.number place c.requires.whole c.requires.within c.index.ensures batch c.index-2.ensures

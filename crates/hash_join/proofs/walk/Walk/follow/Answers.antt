@@ -13,6 +13,9 @@ chain-preserved c =
     let few : length c.chain.pairs.items < c.args.most = omega (arith, c.if-len-most.true, c.len-in-chain.ensures, c.chain.pairs.ok) in
     let linked : at < length links = omega (arith, within, c.requires.whole.linked.links_count) in
     let next = get_or_read links at c.index.result.now linked c.index.ensures 0 in
-    rw (next, c.in_ok-push_pair.ensures)
-    (next_follows walk c.requires.whole at c.args.most c.chain.pairs.items (c.args.pairs.now.items ++ pairs_past walk c.args.first)
-    within few c.chain.invariant)
+    record {
+      follows = rw (next, c.in_ok-push_pair.ensures)
+          (next_follows walk c.requires.whole at c.args.most c.chain.pairs.items (c.args.pairs.now.items ++ pairs_past walk c.args.first)
+          within few c.chain.invariant.follows);
+      told = c.joins_next-joins.ensures;
+    }

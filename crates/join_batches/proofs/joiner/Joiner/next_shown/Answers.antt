@@ -8,6 +8,7 @@ use Rattle.join_batches.specs.declared.joiner.BuiltSides.{BuiltSides}
 use Rattle.join_batches.specs.Rows.{IsPair}
 use Rattle.join_batches.specs.Joiner.{JoinerAt, GivesShown}
 use Rattle.join_batches.specs.Held.{joiner_of, sides_of}
+use Rattle.join_batches.proofs.Made.{batch_of_first}
 use Rattle.join_batches.proofs.Giving.{left_key, Goes, goes_found, goes_on, sides_are, gives_shown, shown_there}
 use Rattle.join_batches.proofs.joiner.Joiner.next_shown.Goals as goal
 use Rattle.join_batches.proofs.joiner.Joiner.next_shown.Goals.{After-as_slice-2, After-as_slice-4, then-self-len+in_ok-self-inside, else-self-len}
@@ -58,16 +59,18 @@ within c g =
 pub joined-requires-clause-shown : goal.joined-requires-clause-shown
 joined-requires-clause-shown c = within (goal.at.joined-requires-clause-shown c).After-as_slice-4 (goes (goal.at.joined-requires-clause-shown c).After-as_slice-2)
 
+-- the pairs that are tried, and those from which they are taken
 pub joined-requires-clause-there : goal.joined-requires-clause-there
 joined-requires-clause-there c =
     let g = goes (goal.at.joined-requires-clause-there c).After-as_slice-2 in
     let j = c.if-self-len.self-inside in
     let pairs = c.as_slice-2.result.now in
-    subst (λ (rights : List BatchAt). All (IsPair rights j.batch) (take (length pairs - j.given) (drop j.given pairs)))
+    subst (λ (rights : List BatchAt). All (IsPair rights j.batch) (take c.tried_rows-tried.result (take (length pairs - j.given) (drop j.given pairs))))
     (sym (c.batches.ensures ∙ ap (λ (s : BuiltSides). s.build.batches) c.deref-built-2.ensures))
+    (All-take (IsPair (sides_of j).build.batches j.batch) c.tried_rows-tried.result (take (length pairs - j.given) (drop j.given pairs))
     (All-take (IsPair (sides_of j).build.batches j.batch) (length pairs - j.given) (drop j.given pairs)
     (All-drop (IsPair (sides_of j).build.batches j.batch) j.given pairs
-    (subst (λ (some : List Pair). All (IsPair (sides_of j).build.batches j.batch) some) (sym c.as_slice-2.ensures.value) g.held.pairs_there)))
+    (subst (λ (some : List Pair). All (IsPair (sides_of j).build.batches j.batch) some) (sym c.as_slice-2.ensures.value) g.held.pairs_there))))
 
 pub returns : goal.returns
 returns c =
@@ -78,7 +81,9 @@ returns c =
     let behind = length-drop j.given pairs in
     let all : take (length pairs - j.given) (drop j.given pairs) ≡ drop j.given j.pairs.items =
     take_all (length pairs - j.given) (drop j.given pairs) (omega (arith, behind)) ∙ ap (drop j.given) c.as_slice-2.ensures.value in
-    subst (λ (before : JoinerAt). GivesShown before c.args.shown.now c.in_ok-joined.joined (joiner_of (record j { given = j.given + c.rows.result }))) (g.same ∙ c.self.view_is)
+    subst (λ (before : JoinerAt). GivesShown before c.args.shown.now c.in_ok-joined.joined
+    (joiner_of (record j { given = j.given + c.rows.result; most = c.next_most-self-inside.result }))) (g.same ∙ c.self.view_is)
     (gives_shown j _ c.args.shown.now (take (length pairs - j.given) (drop j.given pairs)) c.in_ok-joined.joined c.rows.result g.held refl
     (c.as_slice-3.ensures.value ∙ ap (λ (s : BuiltSides). s.left.types.items) is) (c.batches.ensures ∙ ap (λ (s : BuiltSides). s.build.batches) is)
-    (c.as_slice-4.ensures.value ∙ ap (λ (s : BuiltSides). s.right_types.items) is) all c.rows.ensures (within (goal.at.returns c).After-as_slice-4 (goes (goal.at.returns c).After-as_slice-2)) c.in_ok-joined.ensures)
+    (c.as_slice-4.ensures.value ∙ ap (λ (s : BuiltSides). s.right_types.items) is) all c.rows.ensures (within (goal.at.returns c).After-as_slice-4 (goes (goal.at.returns c).After-as_slice-2))
+    (batch_of_first _ c.args.shown.now (take (length pairs - j.given) (drop j.given pairs)) c.tried_rows-tried.result c.in_ok-joined.joined c.in_ok-joined.ensures))

@@ -22,7 +22,7 @@ gather_many-requires-clause-short c =
     let columns = map (λ column. column.now) c.in_ok-columns.columns.items in
     let values = values_are_cells c.args.self.now c.args.number columns c.args.placed.now.pairs.now c.in_ok-columns.ensures c.requires.there in
     rw (c.as_slice.ensures.value, c.places-places.ensures)
-    (subst (λ (some : List Value). length (texts_joined some) < 2 ^ 31) (sym values) c.requires.short.named)
+    (subst (λ (some : List Value). length (texts_joined some) < 2 ^ 31) (sym values) c.requires.named)
 
 pub returns-clause-cells : goal.returns-clause-cells
 returns-clause-cells c =

@@ -23,7 +23,7 @@ pub column_of_slots-requires-clause-short : goal.column_of_slots-requires-clause
 column_of_slots-requires-clause-short c =
     let sides = c.args.self.now in
     let values = ap (map slot_value) c.as_slice.ensures.value ∙ held_values sides c.args.number c.args.pairs.now c.in_ok-slots.slots.items c.in_ok-slots.ensures in
-    subst (λ (some : List Value). length (texts_joined some) < 2 ^ 31) (sym values) c.requires.short.named
+    subst (λ (some : List Value). length (texts_joined some) < 2 ^ 31) (sym values) c.requires.named
 
 pub returns-clause-cells : goal.returns-clause-cells
 returns-clause-cells c =

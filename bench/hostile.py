@@ -1,0 +1,193 @@
+#!/usr/bin/env python3
+"""What a few kilobytes of input may make the program hold: six inputs that are small beside the answers that they ask for.
+
+    python3 bench/hostile.py [--program PATH] [--rows N] [CASE..]
+
+Buffers of a put may lie over each other, so that many columns cost the bytes of one; a dictionary has a text once, however
+often it is named; and a group is made of a bit. Each case puts such tables and fetches one answer of them through
+`flightscan pipe`. The program is run on the puts alone too, and what it holds at most then is taken from what it holds with
+the fetch. It may hold 64 MB beside what docs/ARCHITECTURE.md states for a fetch: that is a list for each group, of which
+the table says how much it is. Every answer has to end with status 0. It ends with 1 where one does not, or more is held.
+
+`--rows N` makes each table of N rows or fewer, to try the script. Build the program first, as for `pipe.py`.
+"""
+
+import argparse
+import os
+import pathlib
+import struct
+import subprocess
+import sys
+import tempfile
+import time
+from dataclasses import dataclass
+
+sys.dont_write_bytecode = True
+ROOT = pathlib.Path(__file__).resolve().parent.parent
+sys.path[:0] = [str(ROOT / "scripts"), str(ROOT / "vectors/arrow")]
+
+from built import program  # noqa: E402
+from layout import written  # noqa: E402
+from measured import Measured  # noqa: E402
+from trees import BOOL, UTF8, batch, dictionary, encoding, field, integer, placed, schema, texts  # noqa: E402
+from wire import call, chunk, descriptor, packed, query_handle, ticket  # noqa: E402
+
+HELD_MB = 64  # beside what is stated
+LONG = b"x" * 65_536  # the longest text that a table may have
+INT64, INT32, UINT16 = integer(64, True), integer(32, True), integer(16, False)
+STATUS_OK = b"\x04\x00\x00\x00"
+
+# Of each group: where its first row stands, its hash and its entry, and the tally of one item. Lists grow by doubling.
+GROUP_BYTES, TALLY_BYTES, GROWN = 40, 32, 2
+
+
+@dataclass
+class Case:
+    """Puts, the query that is asked of them and the rows of its first place, and how many bytes are stated for it."""
+
+    name: str
+    puts: list
+    query: bytes
+    rows: int
+    stated: int = 0
+
+
+# ---- tables
+
+
+def put(table, messages):
+    """A put that makes a table: the messages are trees with their bodies, the schema first."""
+    ingest = chunk(1, b"\x08\x01") + chunk(2, table)
+    payloads = [chunk(2, written("Message", tree, "spread")) + (chunk(1000, body) if body else b"") for tree, body in messages]
+    payloads[0] = chunk(1, descriptor(packed(b"CommandStatementIngest", ingest))) + payloads[0]
+    return call(b"DoPut", payloads)
+
+
+def names(count, place="", letter="t"):
+    return [f"{place}{letter}{number}" for number in range(count)]
+
+
+def keys(table, count):
+    """A table of so many rows of one key."""
+    head = schema(field("k", INT32, False))
+    return put(table, [(head, b""), batch(count, (0, b"", struct.pack("<i", 1) * count))])
+
+
+def one_wide_row(table, columns):
+    """A table of one row: a key, and columns of texts whose buffers are the same bytes."""
+    head = schema(field("k", INT32, False), *(field(name, UTF8, False) for name in names(columns)))
+    body = struct.pack("<iiii", 1, 0, 0, len(LONG)) + LONG
+    buffers = [(0, 0), (0, 4)] + [(0, 0), (8, 8), (16, len(LONG))] * columns
+    return put(table, [(head, b""), placed(1, [(1, 0)] * (columns + 1), buffers, body)])
+
+
+def long_words(table, columns, count):
+    """A table of so many rows: their numbers, and columns of dictionaries of one long text each."""
+    head = schema(field("k", INT32, False), *(field(name, UTF8, False, dictionary=encoding(id)) for id, name in enumerate(names(columns))))
+    words = [dictionary(id, batch(1, (0, b"", *texts([LONG])))) for id in range(columns)]
+    numbers = struct.pack(f"<{count}i", *range(count))
+    return put(table, [(head, b""), *words, batch(count, (0, b"", numbers), *[(0, b"", bytes(4 * count))] * columns)])
+
+
+def bit_windows(table, columns, count):
+    """A table of so many rows of columns of truth values, which are windows on the same random bytes."""
+    size = (count + 7) // 8
+    head = schema(*(field(name, BOOL, False) for name in names(columns, letter="b")))
+    body = os.urandom(size + 8 * columns)
+    buffers = [place for number in range(columns) for place in ((0, 0), (8 * number, size))]
+    return put(table, [(head, b""), placed(count, [(count, 0)] * columns, buffers, body)])
+
+
+def numbers(table, count):
+    """A table of so many different numbers, in batches of 65,536 rows."""
+    made = [(schema(field("a", INT64, False)), b"")]
+    for first in range(0, count, 65_536):
+        last = min(count, first + 65_536)
+        made.append(batch(last - first, (0, b"", struct.pack(f"<{last - first}q", *range(first, last)))))
+    return put(table, made)
+
+
+def one_word(table, count):
+    """A table of so many rows: a dictionary's one long text, and their numbers."""
+    head = schema(field("s", UTF8, False, dictionary=encoding(0)), field("k", UINT16, False))
+    word = dictionary(0, batch(1, (0, b"", *texts([LONG]))))
+    ids = struct.pack(f"<{count}H", *range(count))
+    return put(table, [(head, b""), word, batch(count, (0, b"", bytes(4 * count)), (0, b"", ids))])
+
+
+def cases(most):
+    """The six inputs, with tables of so many rows at most."""
+    rows = {count: min(count, most) for count in (128, 300, 600, 1_000, 500_000, 2_000_000)}
+    four = ", ".join(names(20, "x.") + names(20, "y.") + names(24, "z."))
+    two = ", ".join(names(63, "x."))
+    joined = "FROM u AS a JOIN w AS x ON a.k = x.k"
+    bits = ", ".join(names(40, letter="b"))
+    counts, sums = ", ".join(["COUNT(*)"] * 64), ", ".join(["SUM(a)"] * 64)
+    return [
+        Case("wide texts, 4 places", [one_wide_row(b"w", 60), keys(b"u", rows[600])],
+             f"SELECT {four} {joined} JOIN w AS y ON a.k = y.k JOIN w AS z ON a.k = z.k".encode(), rows[600]),
+        Case("wide texts, 2 places", [one_wide_row(b"w", 63), keys(b"u", rows[1_000])], f"SELECT {two} {joined}".encode(), rows[1_000]),
+        Case("dictionaries, 2 places", [long_words(b"u", 63, rows[300])],
+             f"SELECT {two} FROM u AS a JOIN u AS x ON a.k = x.k".encode(), rows[300]),
+        Case("counts of bits", [bit_windows(b"u", 64, rows[500_000])], f"SELECT {counts} FROM u GROUP BY {bits}".encode(), rows[500_000],
+             GROWN * rows[500_000] * (GROUP_BYTES + TALLY_BYTES)),
+        Case("sums of numbers", [numbers(b"u", rows[2_000_000])], f"SELECT {sums} FROM u GROUP BY a".encode(), rows[2_000_000],
+             GROWN * rows[2_000_000] * (GROUP_BYTES + TALLY_BYTES)),
+        Case("one word, many times", [one_word(b"u", rows[128])],
+             f"SELECT {', '.join(['s'] * 64)} FROM u GROUP BY s, k".encode(), rows[128]),
+    ]
+
+
+# ---- runs
+
+
+def run(command, records):
+    """Runs the program on records: seconds, the most bytes held, how the answers end, and the exit status."""
+    with tempfile.TemporaryFile() as given:
+        given.write(records)
+        given.seek(0)
+        start = time.monotonic()
+        with subprocess.Popen(command, stdin=given, stdout=subprocess.PIPE) as child:
+            last = subprocess.Popen(["tail", "-c", str(len(STATUS_OK))], stdin=child.stdout, stdout=subprocess.PIPE)
+            child.stdout.close()
+            _, status, usage = os.wait4(child.pid, 0)
+            child.returncode = os.waitstatus_to_exitcode(status)
+            ends = last.communicate()[0]
+    return time.monotonic() - start, usage.ru_maxrss * 1024, ends, child.returncode
+
+
+def tried(command, case):
+    """A line on a case, and whether it is as it has to be."""
+    puts = b"".join(case.puts)
+    _, base, ends, status = run(command, puts)
+    if (ends, status) != (STATUS_OK, 0):
+        return f"| {case.name} | the puts end with {ends!r}, exit {status} |", False
+    fetch = call(b"DoGet", [ticket(query_handle(len(case.puts), 0, case.rows, case.query))])
+    seconds, held, ends, status = run(command, puts + fetch)
+    above, whole = (held - base - case.stated) / 1e6, (ends, status) == (STATUS_OK, 0)
+    said = "whole" if whole else f"{ends!r}, exit {status}"
+    line = (f"| {case.name} | {len(puts) / 1e3:,.0f} | {said} | {seconds:.1f} | {base / 1e6:,.0f} | {(held - base) / 1e6:,.0f} "
+            f"| {case.stated / 1e6:,.0f} | {'yes' if above <= HELD_MB else 'NO'} |")
+    return line, whole and above <= HELD_MB
+
+
+def main():
+    parser = argparse.ArgumentParser(description=__doc__, formatter_class=argparse.RawDescriptionHelpFormatter)
+    parser.add_argument("--program", help="the built program (that of the repository)")
+    parser.add_argument("--rows", type=int, default=2_000_000, help="how many rows a table has at most")
+    parser.add_argument("cases", nargs="*", metavar="CASE", help="words of the names of the cases that are tried (all)")
+    words = parser.parse_args()
+    command, measured, right = [program(words.program), "pipe"], Measured(words.program), True
+    print("| | KB put | ends | seconds | MB of the puts | MB more | MB stated | within 64 MB |\n|---|---:|---|---:|---:|---:|---:|---|")
+    for case in cases(words.rows):
+        if words.cases and not any(word in case.name for word in words.cases):
+            continue
+        line, good = tried(command, case)
+        print(line, flush=True)
+        right = right and good
+    print(f"\n{measured.line()}")
+    return 0 if right else 1
+
+
+if __name__ == "__main__":
+    sys.exit(main())

@@ -1,0 +1,2 @@
+pub mod Room
+pub mod Light
