@@ -1,5 +1,5 @@
 -- Groups of which each different item is made once.
-use Rattle.std.proofs.Common.{◌≡◌, ◌≤◌, ◌<◌, ℕ, true, List, [], ◌∷◌, ◌++◌, length, map, get_or, nat_lt, unwrap_or, Option, Some, None, option_map, Result, Ok, Err, refl, sym, ap, ◌∙◌, absurd, arith}
+use Rattle.std.proofs.Common.{◌≡◌, ◌≤◌, ◌<◌, ℕ, true, List, [], ◌∷◌, ◌++◌, length, map, get_or, nat_lt, unwrap_or, Option, Some, None, option_map, Result, Ok, Err, refl, sym, ap, ◌∙◌, arith}
 use Rattle.std.specs.List.{filter}
 use Rattle.std.specs.declared.alloc.AllocError.{AllocError}
 use Rattle.std.proofs.lemmas.Bool.{ltb-true, and_parts}
@@ -12,6 +12,7 @@ use Rattle.arrow_schema.specs.declared.data_type.DataType.TheVariants.{Utf8}
 use Rattle.arrays.specs.Batch.{BatchAt, cut_batch, rows_of}
 use Rattle.arrays.specs.Typed.{AreOf}
 use Rattle.scan_base.specs.Predicate.{Pred, cell_in}
+use Rattle.scan_base.specs.View.{pred_of}
 use Rattle.scan_base.specs.declared.value.Value.{Value}
 use Rattle.table_versions.specs.Table.{Row}
 use Rattle.table_versions.proofs.Rowing.{length-rows_of}
@@ -98,7 +99,7 @@ module _ (before after : GivingAt) (picker : Picker) (shows : ShowsAll before pi
   can_pick batch gives = record {
     read = rw shows.unread refl;
     shown = ap (λ (n : ℕ). are_within n picker.shown.items) (as_many before.types batch.columns gives.typed) ∙ shows.there;
-    named = rw shows.all auto;
+    named = λ k d h. absurd (omega (arith, h, length-map picker.filters.items pred_of, ap length shows.all));
   }
 
   -- what is picked of it comes next
@@ -107,8 +108,13 @@ module _ (before after : GivingAt) (picker : Picker) (shows : ShowsAll before pi
   shown_next part (Ok (Some made)) gives from to picks =
       batch_shown part.batch.now made gives (picks.rows ∙ given_whole part from to) picks.some (picks.typed before.types gives.typed)
   shown_next part (Ok None) gives from to none =
-      absurd (omega (arith, gives.some, length-rows_of part.batch.now, length-map (rows_of part.batch.now) (cells_at picker.shown.items),
-      ap length (sym (given_whole part from to) ∙ none)))
+      absurd (omega (
+        arith,
+        gives.some,
+        length-rows_of part.batch.now,
+        length-map (rows_of part.batch.now) (cells_at picker.shown.items),
+        ap length (sym (given_whole part from to) ∙ none),
+      ))
   shown_next part (Err error) gives from to picks = on_shown gives.on
 
 -- ---- the items of groups

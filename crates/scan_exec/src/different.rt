@@ -35,10 +35,12 @@ impl Different {
             → StandFor (items ++ item ∷ []) self.new.items.items self.new.places.items) }
     {
         if let Some(place) = place_of(self.items.as_slice(), item) {
-            return self.places.push(place);
+            self.places.push(place)?;
+            return Ok(());
         }
         self.places.push(self.items.len())?;
-        self.items.push(item)
+        self.items.push(item)?;
+        Ok(())
     }
 }
 
