@@ -15,6 +15,7 @@ mod product;
 mod ranks;
 mod rights;
 mod search;
+mod seen;
 mod sieve;
 mod spans;
 mod walk;

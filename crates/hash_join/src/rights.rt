@@ -8,13 +8,15 @@ ghost use Rattle.hash_join.specs.Pairs.{places};
 ghost use Rattle.hash_join.specs.Hashes.{last_of};
 ghost use Rattle.hash_join.specs.KeyRows.{key_of, IsKeyRow};
 ghost use Rattle.hash_join.specs.Rights.{key_at, bucket_at, AreRights};
-ghost use Rattle.hash_join.specs.Codes.{code_at, code_of, AreOne};
+ghost use Rattle.hash_join.specs.Codes.{code_at, code_of};
+ghost use Rattle.hash_join.specs.Seen.{AreSeen};
 
 use crate::buckets::{Buckets, Hashing};
-use crate::key_row::KeyRow;
+use crate::key_row::{KeyRow, any_has_codes, are_one};
 use crate::numbers::are_numbers;
 use crate::product::Product;
 use crate::ranks::Ranks;
+use crate::seen::{BucketRows, SeenRows};
 use crate::spans::Span;
 use arrays::Batch;
 use hash_seed::HashSeed;
@@ -101,6 +103,20 @@ impl Rights {
         }
     }
 
+    // A table for the buckets of rows that are seen, without a row yet. It has places where keys are hashed, and some batch has
+    // codes.
+    pub(crate) fn seen(&self, alloc: Global) -> Result<SeenRows, AllocError>
+        requires { AreRights self.now }
+        ensures { IfOk result (λ seen. AreSeen (bucket_at self.now) (last_of self.now.buckets) (length self.now.places.items) seen.rows.items) }
+    {
+        match &self.buckets {
+            Buckets::Hashed(hashing) if any_has_codes(&self.batches, &self.key) => {
+                SeenRows::new(alloc, hashing, self.places.len())
+            }
+            _ => Ok(SeenRows::none(alloc)),
+        }
+    }
+
     // Whether another row is there and surely has the same key: the same code of one dictionary, which takes no look at its
     // text, or the same values.
     pub(crate) fn is_repeat(&self, number: usize, other: usize) -> bool
@@ -115,7 +131,7 @@ impl Rights {
     }
 
     // Whether the keys of two rows are the same code of one dictionary.
-    fn have_one_code(&self, number: usize, other: usize) -> bool
+    pub(crate) fn have_one_code(&self, number: usize, other: usize) -> bool
         requires whole { AreRights self.now }
         requires within { number < length self.now.places.items }
         requires other { other < length self.now.places.items }
@@ -138,13 +154,34 @@ impl Rights {
     }
 }
 
-// Whether two codes are there and are the same.
-fn are_one(code: Option<i128>, other: Option<i128>) -> bool
-    ensures { result ≡ true → AreOne code other }
-{
-    match (code, other) {
-        (Some(code), Some(other)) => code == other,
-        _ => false,
+// The rows of a right side, whose keys have buckets.
+#[derive(Clone, Copy, Drop)]
+pub(crate) struct RightRows<'a> {
+    pub(crate) rights: &'a Rights,
+    ghost whole: { AreRights rights.now },
+}
+
+impl<'a> BucketRows for RightRows<'a> {
+    ghost count = { λ rows. length rows.rights.now.places.items };
+
+    ghost bucket = { λ rows number. bucket_at rows.rights.now number };
+
+    ghost last = { λ rows. last_of rows.rights.now.buckets };
+
+    fn count(&self) -> usize {
+        self.rights.places.len()
+    }
+
+    fn code(&self, row: usize) -> Option<i128> {
+        self.rights.key_row(row).code()
+    }
+
+    fn have_one_code(&self, row: usize, other: usize) -> bool {
+        self.rights.have_one_code(row, other)
+    }
+
+    fn bucket(&self, row: usize) -> Option<usize> {
+        self.rights.bucket(row)
     }
 }
 
