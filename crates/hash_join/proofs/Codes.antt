@@ -68,7 +68,7 @@ code_found columns (number ∷ []) row column all one is =
 code_found columns (number ∷ second ∷ rest) row column all one is = absurd (omega (arith, one))
 
 -- the same code is some code
-pub one_code : (code other : Option ℤ) → AreOne code other → (some : ℤ) × (code ≡ Some some) × (other ≡ Some some)
+one_code : (code other : Option ℤ) → AreOne code other → (some : ℤ) × (code ≡ Some some) × (other ≡ Some some)
 one_code (Some code) (Some other) e = (code, refl, ap Some (sym e))
 one_code (Some code) None e = absurd e
 one_code None other e = absurd e
