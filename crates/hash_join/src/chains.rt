@@ -5,7 +5,8 @@ ghost use Rattle.hash_join.specs.Rights.{AreRights};
 ghost use Rattle.hash_join.specs.Chains.{AreRepeats, HasChains};
 ghost use Rattle.hash_join.specs.Seen.{AreOpen};
 
-use crate::rights::{RightRows, Rights};
+use crate::right_rows::RightRows;
+use crate::rights::Rights;
 use crate::seen::SeenRows;
 use std::alloc::{AllocError, Global};
 
@@ -40,7 +41,7 @@ impl Chains {
         heads.resize(rights.buckets.last() + 1, rows as u32)?;
         let mut links = Vec::new(alloc);
         links.resize(rows, 0u32)?;
-        let seen = rights.seen(alloc)?;
+        let seen = rights.seen_rows(alloc)?;
         let mut chains = OpenChains { heads, links, seen };
         for row in (0..rows).rev() {
             chains.link_row(rights, row);

@@ -1,21 +1,19 @@
 //! A row of a batch by its key.
 
-ghost use Rattle.std.specs.Prelude.{◌≡◌, ◌<◌, All, IsTrue, Some, get_or, length, nat_lt, not, true};
-ghost use Rattle.std.specs.List.{list_all, list_any};
-ghost use Rattle.arrays.specs.Batch.{BatchAt};
+ghost use Rattle.std.specs.Prelude.{◌≡◌, ◌<◌, get_or, length, not};
+ghost use Rattle.std.specs.List.{list_any};
 ghost use Rattle.scan_base.specs.Comparison.{compared};
 ghost use Rattle.scan_base.specs.Truth.{keeps};
 ghost use Rattle.scan_base.specs.Value.{value_of, is_null};
 ghost use Rattle.scan_base.specs.declared.comparison.Comparison.TheVariants.{Equal};
 ghost use Rattle.scan_base.specs.declared.value.Value.TheVariants.{Null};
 ghost use Rattle.hash_join.specs.Pairs.{keys_join};
-ghost use Rattle.arrays.specs.declared.layout.Layout.TheVariants as layout;
-ghost use Rattle.hash_join.specs.Codes.{code_of, column_code, layout_code, AreOne};
+ghost use Rattle.hash_join.specs.Codes.{code_of};
 ghost use Rattle.hash_join.specs.Hashes.{fed, hash_of, number_of};
 ghost use Rattle.hash_join.specs.KeyRows.{key_of, IsKeyRow};
 
-use crate::key_element::{is_known, packed_number};
-use arrays::{Batch, Cells, Column, Indices, Layout};
+use crate::key_codes::code_at;
+use arrays::{Batch, Cells};
 use scan_base::{Comparison, Truth, ValueRef};
 use std::hash::{DefaultHasher, Hash, Hasher};
 
@@ -149,65 +147,4 @@ fn are_equal(left: ValueRef<'_>, right: ValueRef<'_>) -> bool
         Truth::True => true,
         _ => false,
     }
-}
-
-// The code at a row of a column: none where the column has no codes, or it is not valid.
-fn code_at(column: &Column, row: usize) -> Option<i128>
-    requires { row < column.now.len }
-    ensures { result ≡ column_code (Some column.now) row }
-{
-    let _count = column.len();
-    match column.layout() {
-        Layout::Indices(cells) => valid_code(&cells, column.first() + row),
-        _ => None,
-    }
-}
-
-// The code of a slot, where it is valid.
-fn valid_code(cells: &Indices<'_>, place: usize) -> Option<i128>
-    requires { place < cells.now.len }
-    ensures { result ≡ layout_code (layout.Indices cells.now) place }
-{
-    let _count = cells.len();
-    if is_known(cells.validity(), place) {
-        Some(packed_number(cells.index_type(), cells.values(), place))
-    } else {
-        None
-    }
-}
-
-// Whether two codes are there and are the same.
-pub(crate) fn are_one(code: Option<i128>, other: Option<i128>) -> bool
-    ensures { result ≡ true → AreOne code other }
-{
-    match (code, other) {
-        (Some(code), Some(other)) => code == other,
-        _ => false,
-    }
-}
-
-// Whether the key is one column of codes.
-pub(crate) fn has_codes(batch: &Batch, key: &[usize]) -> bool
-    requires { IsTrue (list_all (λ column. nat_lt column (length batch.now.columns)) key.now) }
-{
-    if key.len() != 1 {
-        return false;
-    }
-    let columns = batch.columns();
-    match columns[key[0]].layout() {
-        Layout::Indices(_) => true,
-        _ => false,
-    }
-}
-
-// Whether the key of one of these batches is one column of codes.
-pub(crate) fn any_has_codes(batches: &[Batch], key: &[usize]) -> bool
-    requires { All (λ (batch : BatchAt). IsTrue (list_all (λ column. nat_lt column (length batch.columns)) key.now)) batches.now }
-{
-    for batch in batches {
-        if has_codes(batch, key) {
-            return true;
-        }
-    }
-    false
 }

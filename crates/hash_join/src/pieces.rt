@@ -102,7 +102,7 @@ impl<'a> Search<'a> {
         let mut kept = Vec::new(self.alloc);
         kept.resize(room, 0u32)?;
         let mut starts = Vec::with_capacity(self.alloc, room)?;
-        let mut seen = sieve.seen(self.alloc)?;
+        let mut seen = sieve.seen_rows(self.alloc)?;
         let mut at = Probe {
             left: from,
             from: 0,

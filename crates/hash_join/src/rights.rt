@@ -12,11 +12,12 @@ ghost use Rattle.hash_join.specs.Codes.{code_at, code_of};
 ghost use Rattle.hash_join.specs.Seen.{AreSeen};
 
 use crate::buckets::{Buckets, Hashing};
-use crate::key_row::{KeyRow, any_has_codes, are_one};
+use crate::key_codes::{any_has_codes, are_one};
+use crate::key_row::KeyRow;
 use crate::numbers::are_numbers;
 use crate::product::Product;
 use crate::ranks::Ranks;
-use crate::seen::{BucketRows, SeenRows};
+use crate::seen::SeenRows;
 use crate::spans::Span;
 use arrays::Batch;
 use hash_seed::HashSeed;
@@ -105,7 +106,7 @@ impl Rights {
 
     // A table for the buckets of rows that are seen, without a row yet. It has places where keys are hashed, and some batch has
     // codes.
-    pub(crate) fn seen(&self, alloc: Global) -> Result<SeenRows, AllocError>
+    pub(crate) fn seen_rows(&self, alloc: Global) -> Result<SeenRows, AllocError>
         requires { AreRights self.now }
         ensures { IfOk result (λ seen. AreSeen (bucket_at self.now) (last_of self.now.buckets) (length self.now.places.items) seen.rows.items) }
     {
@@ -151,37 +152,6 @@ impl Rights {
         ensures within { IfSome result (λ bucket. bucket ≤ last_of self.now.buckets) }
     {
         self.buckets.bucket(&self.key_row(number))
-    }
-}
-
-// The rows of a right side, whose keys have buckets.
-#[derive(Clone, Copy, Drop)]
-pub(crate) struct RightRows<'a> {
-    pub(crate) rights: &'a Rights,
-    ghost whole: { AreRights rights.now },
-}
-
-impl<'a> BucketRows for RightRows<'a> {
-    ghost count = { λ rows. length rows.rights.now.places.items };
-
-    ghost bucket = { λ rows number. bucket_at rows.rights.now number };
-
-    ghost last = { λ rows. last_of rows.rights.now.buckets };
-
-    fn count(&self) -> usize {
-        self.rights.places.len()
-    }
-
-    fn code(&self, row: usize) -> Option<i128> {
-        self.rights.key_row(row).code()
-    }
-
-    fn have_one_code(&self, row: usize, other: usize) -> bool {
-        self.rights.have_one_code(row, other)
-    }
-
-    fn bucket(&self, row: usize) -> Option<usize> {
-        self.rights.bucket(row)
     }
 }
 

@@ -7,6 +7,7 @@ ghost use Rattle.hash_join.specs.KeyRows.{IsKeyRow};
 ghost use Rattle.hash_join.specs.Walks.{pairs_past};
 ghost use Rattle.hash_join.specs.Searches.{ahead_of, walk_at, AreHeads, AreKeysOf, IsSearch, Passes, Tells, TellsNumbers};
 
+use crate::all_rows::AllRows;
 use crate::buckets::Buckets;
 use crate::build::{LeftSide, Probe};
 use crate::chains::Chains;
@@ -17,7 +18,7 @@ use crate::pair::Pair;
 use crate::product::Product;
 use crate::ranks::Ranks;
 use crate::rights::Rights;
-use crate::sieve::{AllRows, NumberRows, Sieve};
+use crate::sieve::{NumberRows, Sieve};
 use crate::walk::Walk;
 use arrays::{Cells, Integers, Layout};
 use arrow_schema::IntegerType;

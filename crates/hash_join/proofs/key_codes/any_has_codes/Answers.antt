@@ -1,7 +1,7 @@
 use Rattle.std.proofs.Common.{IsTrue, length, nat_lt, sym, subst}
 use Rattle.std.specs.List.{list_all}
 use Rattle.arrays.specs.Batch.{BatchAt}
-use Rattle.hash_join.proofs.key_row.any_has_codes.Goals as goal
+use Rattle.hash_join.proofs.key_codes.any_has_codes.Goals as goal
 
 pub has_codes-requires : goal.has_codes-requires
 has_codes-requires c =
