@@ -1,4 +1,5 @@
 pub mod Fetched
+pub mod Parts
 pub mod Spread
 pub mod Listing
 pub mod Listed
