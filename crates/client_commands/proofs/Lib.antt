@@ -1,3 +1,4 @@
+pub mod Failed
 pub mod Fetched
 pub mod Parts
 pub mod Spread

@@ -297,21 +297,31 @@ module _ {N : Type 0} (Gives : N → Option Ends → N → Type 0) where
           joins (Ok more) (Err lost) again is =
               subst (λ (l : Lost). FetchesParts Gives items endpoints first handles (wrong l)) (sym is) (inr refl)
 
-  -- over the first connection alone
-  pub alone_by : {V : Type 0} (items : V → List StreamAt) (endpoints : List EndpointSaid) (line : Line) (result : Result V Lost)
-      → FetchesAlone items endpoints result line → FetchesParts Gives items endpoints line [] result
-  alone_by items endpoints line (Ok streams) fetched = one_by line fetched.0 endpoints (items streams) fetched.1
-  alone_by items endpoints line (Err (Failed failure)) stops = one_fails line stops.0 endpoints failure stops.1
-  alone_by items endpoints line (Err (Unconnected error)) none = absurd none
+  -- over the first connection alone, where there is no handle
+  pub alone_by : {V : Type 0} (items : V → List StreamAt) (endpoints : List EndpointSaid) (line : Line) (handles : List N) (result : Result V Lost)
+      → handles ≡ [] → FetchesAlone items endpoints result line → FetchesParts Gives items endpoints line handles result
+  alone_by items endpoints line handles (Ok streams) none fetched =
+      subst (λ (l : List N). FetchesBy Gives line l endpoints (items streams)) (sym none) (one_by line fetched.0 endpoints (items streams) fetched.1)
+  alone_by items endpoints line handles (Err (Failed failure)) none stops =
+      subst (λ (l : List N). FailsBy Gives line l endpoints failure) (sym none) (one_fails line stops.0 endpoints failure stops.1)
+  alone_by items endpoints line handles (Err (Unconnected error)) none wrong_end = absurd wrong_end
 
 -- ---- all
 
 -- it was asked, and the rows were lost
 pub lost_spread : {N V : Type 0} (Gives : Giving N) (Shares : N → N → N → Type 0) (items : V → List StreamAt) (streams : ℕ) (wanted : Wanted)
-    (old new : N) (first last : Line) (endpoints : List EndpointSaid) (handles : List N) (lost : Lost)
-    → IsAsked Shares streams wanted old new first last endpoints handles → FetchesParts Gives items endpoints last handles (Err lost)
+    (old new : N) (first last : Line) (endpoints parts : List EndpointSaid) (handles : List N) (lost : Lost) → parts ≡ endpoints
+    → IsAsked Shares streams wanted old new first last endpoints handles → FetchesParts Gives items parts last handles (Err lost)
     → SpreadsOrNot Gives Shares streams wanted old new (Err lost) first last
-lost_spread Gives Shares items streams wanted old new first last endpoints handles (Failed failure) is_asked fails =
-    inr (record { endpoints = endpoints; handles = handles; asked = is_asked; why = inl fails })
-lost_spread Gives Shares items streams wanted old new first last endpoints handles (Unconnected error) is_asked none =
-    record { endpoints = endpoints; handles = handles; asked = is_asked; why = none }
+lost_spread Gives Shares items streams wanted old new first last endpoints parts handles (Failed failure) same is_asked fails = inr (record {
+  endpoints = endpoints;
+  handles = handles;
+  asked = is_asked;
+  why = inl (subst (λ (l : List EndpointSaid). FailsBy Gives last handles l failure) same fails);
+})
+lost_spread Gives Shares items streams wanted old new first last endpoints parts handles (Unconnected error) same is_asked none = record {
+  endpoints = endpoints;
+  handles = handles;
+  asked = is_asked;
+  why = subst (λ (l : List EndpointSaid). UnconnectedBy Gives last handles l) same none;
+}

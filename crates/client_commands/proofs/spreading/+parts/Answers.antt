@@ -25,3 +25,9 @@ returns g t c =
     handles (ap (map endpoint_said) cut ∙ map-append endpoint_said front back)
     items_of c.join-behind.result.1 c.join-behind.result.0 c.both_parts.result
     c.join-behind.ensures.second c.join-behind.ensures.first c.both_parts.ensures
+
+pub returns-in_default : goal.returns-in_default
+returns-in_default g t c =
+    let none : c.args.others.items ≡ [] = search rules in
+    alone_by (λ old ends new. g.C.Connect.connects old c.args.port ends new) items_of (map endpoint_said c.args.endpoints.now) c.args.connection
+    c.args.others.items c.fetch_alone.result none c.fetch_alone.ensures

@@ -1,4 +1,4 @@
-use Rattle.std.proofs.Common.{◌≡◌, List, Vec, inl, inr, map, length, refl, ◌∙◌, rules}
+use Rattle.std.proofs.Common.{◌≡◌, List, Vec, ap, inl, inr, map, length, refl, ◌∙◌, rules}
 use Rattle.std.specs.Global.{Global}
 use Rattle.std.proofs.lemmas.Result.{err_from_is_err_and}
 use Rattle.std.proofs.lemmas.List.{length-map}
@@ -39,13 +39,13 @@ returns-in_err-streams g c =
     rw (length-map c.in_ok-endpoints.endpoints.items endpoint_said) (search rules) in
     rw (p.1, p.2) (
       c.info.new.connection,
-      lost_spread _ _ items_of _ _ _ _ _ _ _ _ _
+      lost_spread _ _ items_of _ _ _ _ _ _ (seen c.in_ok-endpoints.endpoints) _ _ _ (ap (map endpoint_said) c.deref.ensures.value)
           (record {
             asked = asked seen (rows_of c.args.query.sql.now) c.args.connection c.info.new.connection c.in_ok-endpoints.endpoints c.in_ok-endpoints.ensures;
             many = o.0 ∙ count;
             shared = o.1;
           })
-          (rw c.deref.ensures.value at c.in_err-streams.ensures),
+          c.in_err-streams.ensures,
     )
 
 pub returns-in_err-join : goal.returns-in_err-join
