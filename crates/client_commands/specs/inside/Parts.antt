@@ -1,5 +1,5 @@
 -- Inside: streams of two parts, put together.
-use Rattle.std.specs.Prelude.{◌≡◌, ℕ, List, ◌++◌, Option, Some, None, Result, Ok, Err}
+use Rattle.std.specs.Prelude.{◌≡◌, ℕ, List, ◌++◌, Some, None, Result, Ok, Err}
 use Rattle.scan_base.specs.declared.fault.Fault.TheVariants.{OutOfMemory}
 use Rattle.flight_proto.specs.FlightInfo.{EndpointSaid}
 use Rattle.flight_proto.specs.Wanted.{Wanted}

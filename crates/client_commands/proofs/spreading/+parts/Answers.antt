@@ -1,5 +1,3 @@
-use denote.Param.{param}
-use denote.Param.Send.{IsSend, sendable}
 use Rattle.std.proofs.Common.{◌≡◌, List, [], ◌∷◌, ◌++◌, Vec, map, sym, ap, ◌∙◌, rules}
 use Rattle.std.specs.Global.{Global}
 use Rattle.std.proofs.lemmas.List.{map-append, take-append-drop}

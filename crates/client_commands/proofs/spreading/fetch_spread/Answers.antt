@@ -1,4 +1,4 @@
-use Rattle.std.proofs.Common.{◌≡◌, List, Vec, ap, inl, inr, map, length, refl, ◌∙◌, rules}
+use Rattle.std.proofs.Common.{◌≡◌, List, Vec, ap, inl, inr, map, refl, ◌∙◌, rules}
 use Rattle.std.specs.Global.{Global}
 use Rattle.std.proofs.lemmas.Result.{err_from_is_err_and}
 use Rattle.std.proofs.lemmas.List.{length-map}
@@ -6,7 +6,7 @@ use Rattle.flight_client.specs.Stream.{StreamAt}
 use Rattle.flight_proto.specs.FlightInfo.{EndpointSaid, endpoint_said}
 use Rattle.flight_proto.specs.Wanted.{rows_of}
 use Rattle.flight_proto.specs.declared.flight_info.FlightEndpoint.{FlightEndpoint}
-use Rattle.client_commands.specs.Spread.{IsAsked, most_others}
+use Rattle.client_commands.specs.Spread.{most_others}
 use Rattle.client_commands.proofs.Fetched.{asked, not_asked}
 use Rattle.client_commands.proofs.Spread.{asked_counts, lost_spread}
 use Rattle.client_commands.proofs.spreading.fetch_spread.Goals as goal
@@ -39,7 +39,7 @@ returns-in_err-streams g c =
     rw (length-map c.in_ok-endpoints.endpoints.items endpoint_said) (search rules) in
     rw (p.1, p.2) (
       c.info.new.connection,
-      lost_spread _ _ items_of _ _ _ _ _ _ (seen c.in_ok-endpoints.endpoints) _ _ _ (ap (map endpoint_said) c.deref.ensures.value)
+      lost_spread _ _ items_of _ (rows_of c.args.query.sql.now) _ _ c.args.connection c.info.new.connection (seen c.in_ok-endpoints.endpoints) _ _ _ (ap (map endpoint_said) c.deref.ensures.value)
           (record {
             asked = asked seen (rows_of c.args.query.sql.now) c.args.connection c.info.new.connection c.in_ok-endpoints.endpoints c.in_ok-endpoints.ensures;
             many = o.0 ∙ count;
