@@ -2,7 +2,8 @@
 
 Where time is measured, a client reads an answer and throws it away: it takes bytes from a socket in large pieces. So all clients
 do alike little. Where answers are compared, each row is a line: numbers in decimal and texts as they are, with tabs between them,
-and a null as \\N. SQLite runs in a process of its own, sqlite.cpp.
+and a null as \\N. ClickHouse and PostgreSQL print such lines themselves; of ours the batches are read. SQLite runs in a process of
+its own, sqlite.cpp.
 """
 
 from __future__ import annotations
@@ -190,7 +191,7 @@ class ClickHouse(Peer):
 
     def load(self) -> None:
         self.run(f"CREATE TABLE t {COLUMNS} {self.engine('c')}")
-        self.run(f"CREATE TABLE u (key Int64, v Int64) {self.engine('key')}")
+        self.run(f"CREATE TABLE u (key Int32, v Int64) {self.engine('key')}")  # of the type of t.j, which a join wants here
         self.run(f"CREATE TABLE w (k Int32, e LowCardinality(String)) {self.engine('tuple()')}")
         self.insert("t", self.rows_of_t)
         self.insert("u", contents(self.folder / "u.native"))
@@ -248,7 +249,8 @@ class Postgres(Peer):
         words = b"\0\3\0\0user\0bench\0database\0postgres\0\0"
         self.connection.send(struct.pack(">i", len(words) + 4) + words)
         said = self.messages()
-        self.version = next(text for kind, text in said if text.startswith(b"server_version\0")).split(b"\0")[1].decode()
+        version = next(text for kind, text in said if kind == b"S" and text.startswith(b"server_version\0"))
+        self.version = version[len(b"server_version\0") :].split()[0].decode()
         self.process = int.from_bytes(dict(said)[b"K"][:4], "big") if threads == 1 else None
         self.run(f"SET max_parallel_workers_per_gather = {threads - 1}")
 
@@ -265,7 +267,8 @@ class Postgres(Peer):
         self.send(b"Q", f"COPY ({query}) TO STDOUT (FORMAT binary)\0".encode())
         size, tail = 0, b""
         while not (end := ENDED.search(tail)):
-            count = self.connection.socket.recv_into(ROOM)
+            if not (count := self.connection.socket.recv_into(ROOM)):
+                raise Refused("PostgreSQL ended the connection")
             tail = (tail + ROOM[max(count - 64, 0) : count].tobytes())[-64:]
             size += count
         if not end[1].startswith(b"COPY"):

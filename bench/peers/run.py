@@ -80,8 +80,8 @@ def sqlite_program(folder):
 class Bench:
     """The servers, each started when its first client is made, and the clients."""
 
-    def __init__(self, stack, folder, named):
-        self.stack, self.folder, self.named, self.started, self.loaded = stack, folder, named, {}, set()
+    def __init__(self, stack, folder, path):
+        self.stack, self.folder, self.path, self.started, self.loaded = stack, folder, path, {}, set()
 
     def server(self, kind):
         if kind not in self.started:
@@ -100,9 +100,8 @@ class Bench:
 
     def new_client(self, kind, threads) -> Peer:
         if kind == "ours":
-            path = program(self.named)
-            server = self.stack.enter_context(Server(path, "--workers", str(threads)))
-            said = subprocess.run([path, "--version"], check=True, capture_output=True, text=True).stdout
+            server = self.stack.enter_context(Server(self.path, "--workers", str(threads)))
+            said = subprocess.run([self.path, "--version"], check=True, capture_output=True, text=True).stdout
             return Ours(server, self.folder, said.split()[-1])
         if kind == "sqlite":
             command = [sqlite_program(self.folder), self.folder / "t.binary", self.folder / "u.binary"]
@@ -141,12 +140,12 @@ def turn_of_query(peer, query):
         took, size = peer.time_of(query)
         seconds, count = seconds + took, count + 1
     used = (processor(peer) - before) / count if peer.process else None
-    return {"seconds": seconds / count, "processor": used, "bytes": size}
+    return {"seconds": round(seconds / count, 9), "processor": used and round(used, 9), "bytes": size}
 
 
 def turn_of_put(peer):
     """A turn of a put, of which the clock's seconds are known alone: what comes before it is no part of it."""
-    return {"seconds": peer.seconds_of_put(), "processor": None, "bytes": 0}
+    return {"seconds": round(peer.seconds_of_put(), 9), "processor": None, "bytes": 0}
 
 
 def processor(peer):
@@ -190,17 +189,19 @@ def main():
         print(f"missing: apt-get install --no-install-recommends {' '.join(missing)}", file=sys.stderr)
         if not words.no_install:
             return 2
+    path = program(words.program) if any(name.startswith("ours") for name in wanted) else None
     measured = Measured(words.program)
     signal.signal(signal.SIGTERM, lambda *_: sys.exit(143))  # so that the servers end too
     with tempfile.TemporaryDirectory() as name, ExitStack() as stack:
         write_tables(Path(name), words.rows)
-        bench = Bench(stack, Path(name), words.program)
+        bench = Bench(stack, Path(name), path)
         peers = {name: bench.client(name) for name in wanted if not lacks[name]}
         queries = list(figures(peers, words.rows, words.rounds))
         versions = {who: peer.version for who, peer in peers.items()}
-    results = {"measured": measured.line(), "rows": words.rows, "rounds": words.rounds, "versions": versions, "queries": queries}
-    words.results.write_text(json.dumps(results, indent=1) + "\n")
-    print(page.table_of(results))
+    results = {"measured": measured.line(), "rows": words.rows, "rounds": words.rounds, "versions": versions}
+    lines = ",\n".join(map(json.dumps, queries))
+    words.results.write_text(f'{json.dumps(results)[:-1]}, "queries": [\n{lines}\n]}}\n')
+    print(page.table_of(results | {"queries": queries}))
     return 0
 
 

@@ -14,12 +14,14 @@
 #include <fstream>
 #include <iostream>
 #include <iterator>
+#include <memory>
 #include <sqlite3.h>
 #include <string>
 
 const std::string columns = "(a INTEGER NOT NULL, b INTEGER, k INTEGER NOT NULL, s TEXT NOT NULL, d INTEGER NOT NULL, "
                             "c INTEGER PRIMARY KEY, j INTEGER NOT NULL)";
 constexpr int text_of_t = 3;
+constexpr size_t head = 19;  // of a file of rows
 sqlite3 *database;
 
 [[noreturn]] void refuse() {
@@ -29,25 +31,22 @@ sqlite3 *database;
 
 int64_t now() { return std::chrono::nanoseconds(std::chrono::steady_clock::now().time_since_epoch()).count(); }
 
-class Statement {
- public:
-  explicit Statement(const std::string &query) {
-    if (sqlite3_prepare_v2(database, query.c_str(), -1, &statement, nullptr) != SQLITE_OK) refuse();
-  }
-  ~Statement() { sqlite3_finalize(statement); }
-  // Whether there is one row more.
-  bool step() {
-    int found = sqlite3_step(statement);
-    if (found != SQLITE_ROW && found != SQLITE_DONE) refuse();
-    return found == SQLITE_ROW;
-  }
-  operator sqlite3_stmt *() const { return statement; }
+using Statement = std::unique_ptr<sqlite3_stmt, decltype(&sqlite3_finalize)>;
 
- private:
-  sqlite3_stmt *statement = nullptr;
-};
+Statement statement_of(const std::string &words) {
+  sqlite3_stmt *found = nullptr;
+  if (sqlite3_prepare_v2(database, words.c_str(), -1, &found, nullptr) != SQLITE_OK) refuse();
+  return {found, sqlite3_finalize};
+}
 
-void run(const std::string &words) { Statement(words).step(); }
+// Whether there is one row more.
+bool step(const Statement &statement) {
+  int found = sqlite3_step(statement.get());
+  if (found != SQLITE_ROW && found != SQLITE_DONE) refuse();
+  return found == SQLITE_ROW;
+}
+
+void run(const std::string &words) { step(statement_of(words)); }
 
 int64_t number(const char *at, int size) {
   uint64_t value = 0;
@@ -71,11 +70,11 @@ void bind_row(sqlite3_stmt *insert, const char *&at) {
 
 void insert_rows(const std::string &insert_words, const std::string &rows) {
   run("BEGIN");
-  Statement insert(insert_words);
-  for (const char *at = rows.data() + 19; number(at, 2) >= 0;) {
-    bind_row(insert, at);
-    insert.step();
-    sqlite3_reset(insert);
+  Statement insert = statement_of(insert_words);
+  for (const char *at = rows.data() + head; number(at, 2) >= 0;) {
+    bind_row(insert.get(), at);
+    step(insert);
+    sqlite3_reset(insert.get());
   }
   run("COMMIT");
 }
@@ -97,19 +96,17 @@ size_t read_value(sqlite3_stmt *select, int column) {
 void ask(const std::string &query) {
   int64_t began = now();
   size_t bytes = 0;
-  {
-    Statement select(query);
-    for (int count = sqlite3_column_count(select); select.step();)
-      for (int column = 0; column < count; column++) bytes += read_value(select, column);
-  }
+  Statement select = statement_of(query);
+  for (int count = sqlite3_column_count(select.get()); step(select);)
+    for (int column = 0; column < count; column++) bytes += read_value(select.get(), column);
   std::cout << now() - began << ' ' << bytes << std::endl;
 }
 
 void look(const std::string &query) {
-  Statement select(query);
-  for (int count = sqlite3_column_count(select); select.step();) {
+  Statement select = statement_of(query);
+  for (int count = sqlite3_column_count(select.get()); step(select);) {
     for (int column = 0; column < count; column++) {
-      auto text = reinterpret_cast<const char *>(sqlite3_column_text(select, column));
+      auto text = reinterpret_cast<const char *>(sqlite3_column_text(select.get(), column));
       std::cout << (column ? "\t" : "") << (text ? text : "\\N");
     }
     std::cout << '\n';

@@ -144,7 +144,7 @@ def write_u(folder: Path) -> None:
     cuts = [slice(first, first + BATCH_ROWS) for first in range(0, len(key), BATCH_ROWS)]
     records = [record_of(batch(len(key[cut]), plain(key[cut]), plain(v[cut]))) for cut in cuts]
     (folder / "u.rows").write_bytes(b"".join([*records, END]))
-    named = {"key": ("Int64", key.tobytes()), "v": ("Int64", v.tobytes())}
+    named = {"key": ("Int32", array("i", key).tobytes()), "v": ("Int64", v.tobytes())}
     (folder / "u.native").write_bytes(native_block(named, len(key)))
     rows = (struct.pack(">hiqiq", 2, 8, one, 8, other) for one, other in zip(key, v))
     (folder / "u.binary").write_bytes(b"".join([BINARY_BEGIN, *rows, BINARY_END]))
