@@ -99,8 +99,8 @@ def postgres(folder: Path) -> Iterator[int]:
     command = [str(programs / "postgres"), "-D", str(folder / "data")]
     command += [word for name, value in settings.items() for word in ("-c", f"{name}={value}")]
     ready = [programs / "pg_isready", "-q", "-h", "127.0.0.1", "-p", str(port)]
-    is_ready = lambda: subprocess.run(ready).returncode == 0  # noqa: E731
-    with server_of(command, is_ready, signal.SIGINT, folder.parent / "postgres.log", cwd=folder, **user):
+    log = folder.parent / "postgres.log"
+    with server_of(command, lambda: subprocess.run(ready).returncode == 0, signal.SIGINT, log, cwd=folder, **user):
         yield port
 
 
