@@ -100,7 +100,8 @@ class Bench:
 
     def new_client(self, kind, threads) -> Peer:
         if kind == "ours":
-            server = self.stack.enter_context(Server(self.path, "--workers", str(threads)))
+            options = ["--workers", str(threads), "--idle", "0"]  # a connection waits while others are asked
+            server = self.stack.enter_context(Server(self.path, *options))
             said = subprocess.run([self.path, "--version"], check=True, capture_output=True, text=True).stdout
             return Ours(server, self.folder, said.split()[-1])
         if kind == "sqlite":
