@@ -326,7 +326,7 @@ MANY = "k Int32, s Utf8?, n Int64"
 
 
 def many_batches():
-    lines.note("groups over more batches than there are parts, with a rest and without: keys of all parts, of one part, and of the last batch alone")
+    lines.note("groups over more batches than there are parts, with a rest and without: keys of all parts, of one part, and of the last batch alone; and rows")
     for batches, sums in ((19, (21, 24, 27, 30, 33, 17, 19)), (16, (21, 24, 11, 13, 15, 17, 19))):
         texts = [None] * 9 + ["x"] * (batches - 10) + ["last"]
         found = one_table(MANY, *([(number % 7, texts[number], number)] for number in range(batches)))
@@ -336,6 +336,9 @@ def many_batches():
         found.ask("SELECT n, COUNT(s) FROM t GROUP BY n", [(number, int(number >= 9)) for number in range(batches)])
         found.ask("SELECT n FROM t WHERE k = 6 OR n > 12 GROUP BY n", [(number,) for number in (6, *range(13, batches))])
         found.ask("SELECT COUNT(*), SUM(k), COUNT(s) FROM t WHERE n >= 0", [(batches, sum(number % 7 for number in range(batches)), batches - 9)])
+        found.ask("SELECT n, s FROM t", list(enumerate(texts)))
+        found.ask("SELECT n FROM t WHERE k <> 3 AND n <> 9", [(number,) for number in range(batches) if number % 7 != 3 and number != 9])
+        found.ask("SELECT x.n, y.n FROM t AS x JOIN t AS y ON x.k = y.k WHERE y.n < 7", [(number, number % 7) for number in range(batches)])
         found.end((2, 3, 4, 16))
 
 
