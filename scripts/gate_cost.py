@@ -36,7 +36,7 @@ from measured import TOP, Measured  # noqa: E402
 
 KINDS = ("proof", "tests", "wrong bodies", "programs")
 BEGIN, END = "<!-- made by scripts/gate_cost.py -->", "<!-- end -->"
-WHOLE_MINUTES, NOW_MINUTES = 150, 115  # with all stages that are planned, and of what is built today
+WHOLE_MINUTES = 150  # with all stages that are planned
 PROOF_SECONDS, TEST_SECONDS, MOST_EDITS = 270, 10, 70  # of a crate's proof, of a test function, and wrong bodies in all
 # (a gate that took 327 processor minutes beside others proved these in 830 s; on a quiet machine it took 159 minutes)
 YARD = ("proto_wire", "flatbuf", "flight_proto", "sql_text", "sql_parse", "endpoint_split")
@@ -234,7 +234,7 @@ def over_budget(counts, seconds, whole, slower):
              if seconds[name, "tests"] > TEST_SECONDS * slower * max(counts[name]["tests"], 1)]
     edits = sum(of_crate["edits"] for of_crate in counts.values())
     over += [f"{edits} wrong bodies"] if edits > MOST_EDITS else []
-    return over + (["the whole"] if whole and whole[0] > 60 * NOW_MINUTES * slower else [])
+    return over + (["the whole"] if whole and whole[0] > 60 * WHOLE_MINUTES * slower else [])
 
 
 def table_of(log):
@@ -244,9 +244,8 @@ def table_of(log):
     none = collections.Counter(), None, f"No times: there is no {path}."
     seconds, whole, measured = times_of(path) if path.exists() else none
     slower = slower_by(seconds)
-    lines = [f"The budget, in processor time of a quiet machine: at most {WHOLE_MINUTES} minutes with all stages, and {NOW_MINUTES} "
-             f"for what is built today. The proof of a crate has {PROOF_SECONDS} seconds, and a test function {TEST_SECONDS}. There "
-             f"are at most {MOST_EDITS} wrong bodies.", "", measured, "", *rows_of(counts, seconds), ""]
+    lines = [f"The budget, in processor time of a quiet machine: at most {WHOLE_MINUTES} minutes. The proof of a crate has "
+             f"{PROOF_SECONDS} seconds, and a test function {TEST_SECONDS}. There are at most {MOST_EDITS} wrong bodies.", "", measured, "", *rows_of(counts, seconds), ""]
     if whole is not None:
         total, wall, held = whole
         lines.append(f"{total / 60:.0f} processor minutes in {wall / 60:.0f} minutes, with at most {held / 1e9:.1f} GB held at once. "
