@@ -17,7 +17,7 @@ use Rattle.fetch_stream.specs.Fetches.{FetchAt}
 use Rattle.fetch_stream.specs.Streams.{StreamAt, Opens, Gives, HasGiven, StreamsAnswer, opened}
 use Rattle.fetch_stream.proofs.Answering.{gave, ended, was_refused}
 use Rattle.flight_calls.specs.Answered.{SendsReply}
-use Rattle.flight_calls.proofs.Writing.{messages_bytes, none_sent, payload_sent, payload_not_sent, status_sent}
+use Rattle.flight_calls.proofs.Writing.{messages_bytes, none_sent, nothing_sent, nothing_not_sent, payload_sent, payload_not_sent, status_sent}
 
 -- what a stream has given was sent
 pub record HasSent (first stream : StreamAt) (a b : Option (List ℕ)) (before after : List ℕ) : Type 0 where
@@ -78,6 +78,29 @@ module _ (law : StreamsAnswer) where
         fits = one_fits has.payloads payload has.fits one.fits;
         sent = payload_not_sent a b c before mid after has.payloads payload (status_of (Some OutOfMemory)) has.sent failed;
       }
+
+  -- nothing more was sent
+  pub stream_waits : (first stream next : StreamAt) (a b c : Option (List ℕ)) (before mid after : List ℕ) → HasSent first stream a b before mid → next ≡ stream
+      → Sent b c mid after [] → HasSent first next a c before after
+  stream_waits first stream next a b c before mid after has same none =
+      subst (λ (s : StreamAt). HasSent first s a c before after) (sym same) (record {
+        payloads = has.payloads;
+        given = has.given;
+        going = has.going;
+        fits = has.fits;
+        sent = nothing_sent a b c before mid after has.payloads has.sent none;
+      })
+
+  -- or the other end was gone: what went before is a beginning of an answer that memory cut short
+  pub stream_stops : (fault : Fault) (first stream : StreamAt) (a b c : Option (List ℕ)) (before mid after : List ℕ) → HasSent first stream a b before mid
+      → NotSent b c mid after [] → (database : Database) (handle : HandleAt) → Opens database handle (Ok first)
+      → SendsFetch database handle (Err fault) a c before after
+  stream_stops fault first stream a b c before mid after has failed database handle opens = record {
+    reply = record { payloads = has.payloads; fault = Some OutOfMemory };
+    right = law.refused database handle opens.0 has.payloads stream OutOfMemory opens.1 (has.given opens.0 opens.2) (inl refl);
+    fits = has.fits;
+    sent = nothing_not_sent a b c before mid after has.payloads (status_of (Some OutOfMemory)) has.sent failed;
+  }
 
   -- the stream ended, and then its status was sent, or not
   pub stream_ends : (r : Result (Unit {0}) Fault) (first stream next : StreamAt) (a b c : Option (List ℕ)) (before mid after : List ℕ) → HasSent first stream a b before mid → Gives stream (Ok None) next
