@@ -4,11 +4,39 @@
 ghost use Rattle.std.specs.Prelude.{◌≡◌, IfOk};
 
 use command_ends::{Connect, Listen};
-use grpc_frame::Counted;
+use grpc_frame::{Counted, Output};
+use scan_base::Fault;
 use std::io;
 use std::io::ErrorKind;
 use std::net::{Ipv4Addr, Net, TcpListener, TcpStream};
 use std::time::Duration;
+
+/// The end of a stream that is written to. It knows whether the other end was reset.
+#[derive(Drop)]
+pub struct SocketWriter {
+    counted: Counted<TcpStream>,
+}
+
+impl Output for SocketWriter {
+    ghost failures = { λ s. s.counted.failures };
+
+    fn write(&mut self, piece: &[u8]) -> Result<(), Fault> {
+        self.counted.write(piece)
+    }
+
+    // The system tells a reset once. Who only ended what it writes may still read: that is none.
+    fn look(&mut self) -> Result<(), Fault> {
+        if matches!(self.counted.get_ref().take_error(), Ok(None)) {
+            return Ok(());
+        }
+        self.counted.count_failure();
+        Err(Fault::Transport)
+    }
+
+    fn failures(&self) -> u64 {
+        self.counted.failures()
+    }
+}
 
 /// Connects to servers of this machine.
 #[derive(Drop)]
@@ -26,11 +54,11 @@ impl<'a, R> Loopback<'a, R> {
 impl<R: Net<Listener = TcpListener, Stream = TcpStream>> Connect for Loopback<'_, R> {
     type Reader = Counted<TcpStream>;
 
-    type Writer = Counted<TcpStream>;
+    type Writer = SocketWriter;
 
     ghost connects = { λ _ _ _ _. Unit {0} };
 
-    fn connect(&mut self, port: u16) -> io::Result<(Counted<TcpStream>, Counted<TcpStream>)> {
+    fn connect(&mut self, port: u16) -> io::Result<(Counted<TcpStream>, SocketWriter)> {
         ends_of(TcpStream::connect(self.rt, (Ipv4Addr::LOCALHOST, port))?)
     }
 }
@@ -63,7 +91,7 @@ impl<'a, R> Port<'a, R> {
 impl<R: Net<Listener = TcpListener, Stream = TcpStream>> Listen for Port<'_, R> {
     type Reader = Counted<TcpStream>;
 
-    type Writer = Counted<TcpStream>;
+    type Writer = SocketWriter;
 
     ghost listens = { λ _ _ _ _. Unit {0} };
 
@@ -89,7 +117,7 @@ impl<R: Net<Listener = TcpListener, Stream = TcpStream>> Listen for Port<'_, R> 
         })
     }
 
-    fn accept(&mut self) -> io::Result<(Counted<TcpStream>, Counted<TcpStream>)> {
+    fn accept(&mut self) -> io::Result<(Counted<TcpStream>, SocketWriter)> {
         let Some(listener) = &self.listener else {
             return Err(io::Error::from(ErrorKind::NotConnected));
         };
@@ -101,11 +129,11 @@ impl<R: Net<Listener = TcpListener, Stream = TcpStream>> Listen for Port<'_, R> 
 }
 
 // The ends of a stream. What is written goes out at once.
-fn ends_of(stream: TcpStream) -> io::Result<(Counted<TcpStream>, Counted<TcpStream>)>
+fn ends_of(stream: TcpStream) -> io::Result<(Counted<TcpStream>, SocketWriter)>
     ensures reads { IfOk result (λ ends. ends.0.failures ≡ 0) }
-    ensures writes { IfOk result (λ ends. ends.1.failures ≡ 0) }
+    ensures writes { IfOk result (λ ends. ends.1.counted.failures ≡ 0) }
 {
     stream.set_nodelay(true)?;
-    let other = stream.try_clone()?;
-    Ok((Counted::new(stream), Counted::new(other)))
+    let counted = Counted::new(stream.try_clone()?);
+    Ok((Counted::new(stream), SocketWriter { counted }))
 }
