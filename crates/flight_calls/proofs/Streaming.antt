@@ -1,5 +1,5 @@
 -- A stream as it is sent.
-use Rattle.std.proofs.Common.{◌≡◌, ◌≤◌, ℕ, List, [], ◌∷◌, ◌++◌, length, Option, Some, None, Result, Ok, Err, inl, refl, sym, ap, subst}
+use Rattle.std.proofs.Common.{◌≡◌, ◌≤◌, ℕ, zero, suc, arith, List, [], ◌∷◌, ◌++◌, length, Option, Some, None, Result, Ok, Err, inl, refl, sym, ap, subst}
 use Rattle.std.proofs.lemmas.List.Elements.{All-append, All-cons, All-nil}
 use Rattle.scan_base.specs.declared.fault.Fault.{Fault}
 use Rattle.scan_base.specs.declared.fault.Fault.TheVariants.{OutOfMemory}
@@ -16,6 +16,9 @@ use Rattle.flight_info.specs.Replies.{ReplyAt}
 use Rattle.fetch_stream.specs.Fetches.{FetchAt}
 use Rattle.fetch_stream.specs.Streams.{StreamAt, Opens, Gives, HasGiven, StreamsAnswer, opened}
 use Rattle.fetch_stream.proofs.Answering.{gave, ended, was_refused}
+use Rattle.row_sources.specs.declared.turn.Patience.{Patience}
+use Rattle.row_sources.specs.declared.turn.Patience.TheVariants.{Endless}
+use Rattle.std.specs.Prelude.{◌≢◌}
 use Rattle.flight_calls.specs.Answered.{SendsReply}
 use Rattle.flight_calls.proofs.Writing.{messages_bytes, none_sent, nothing_sent, nothing_not_sent, payload_sent, payload_not_sent, status_sent}
 
@@ -26,6 +29,11 @@ pub record HasSent (first stream : StreamAt) (a b : Option (List ℕ)) (before a
   pub going : first.refused ≡ None → stream.refused ≡ None
   pub fits : FitMessages payloads
   pub sent : Sent a b before after (messages_bytes payloads)
+
+-- where a turn may give nothing yet, looks are left
+pub some_left : (looks : ℕ) (patience : Patience) → (looks ≡ 0 → patience ≡ Endless) → patience ≢ Endless → 1 ≤ looks
+some_left zero patience ends not = absurd (not (ends refl))
+some_left (suc looks) patience ends not = omega arith
 
 -- of a fetch at this handle
 abbrev pub SendsFetch : Database → HandleAt → Result (Unit {0}) Fault → Option (List ℕ) → Option (List ℕ) → List ℕ → List ℕ → Type 0

@@ -1,7 +1,7 @@
-use Rattle.std.proofs.Common.{◌<◌, ℕ, zero, suc, absurd, arith, refl, rules}
+use Rattle.std.proofs.Common.{ap, arith, refl, rules}
 use Rattle.std.proofs.lemmas.Result.{err_from_is_err_and}
-use Rattle.fetch_stream.proofs.Answering.{fewer_turns, gave}
-use Rattle.flight_calls.proofs.Streaming.{stream_begins, stream_goes_on, stream_fails, stream_ends, stream_refused, stream_stops, stream_waits}
+use Rattle.fetch_stream.proofs.Answering.{fewer_turns, gave, turns}
+use Rattle.flight_calls.proofs.Streaming.{some_left, stream_begins, stream_goes_on, stream_fails, stream_ends, stream_refused, stream_stops, stream_waits}
 use Rattle.flight_calls.proofs.answer.send_stream.Goals as goal
 
 pub loop-payload-init : goal.loop-payload-init
@@ -22,6 +22,19 @@ loop-payload-preserved-in-Ok-Working g c =
       sent = stream_waits c.streams_answer.ensures _ _ _ _ _ _ _ _ _ c.loop-payload.invariant.sent waits.1 c.in_ok-look-in-Ok-Working.ensures.bytes;
       count = search rules;
     }
+
+pub loop-payload-smaller-in-Ok-Given : goal.loop-payload-smaller-in-Ok-Given
+loop-payload-smaller-in-Ok-Given g c =
+    let gives = rw c.in-Ok-Given.field-0-is at c.in-Ok-Given.ensures in
+    let fewer = fewer_turns _ _ _ (gave _ _ _ gives) in
+    omega (arith, fewer)
+
+pub loop-payload-smaller-in-Ok-Working : goal.loop-payload-smaller-in-Ok-Working
+loop-payload-smaller-in-Ok-Working g c =
+    let waits = rw c.in-Ok-Working.field-0-is at c.in-Ok-Working.ensures in
+    let same = ap turns waits.1 in
+    let some = some_left c.loop-payload.looks c.patience_of.result c.patience_of.ensures waits.2 in
+    omega (arith, same, some)
 
 pub returns-in_err-send_payload-in-Ok-Given-clause-bytes : goal.returns-in_err-send_payload-in-Ok-Given-clause-bytes
 returns-in_err-send_payload-in-Ok-Given-clause-bytes g c =
