@@ -16,7 +16,7 @@ use Rattle.row_sources.specs.declared.turn.Patience.{Patience}
 use Rattle.row_sources.specs.declared.turn.Turn.{Turn}
 use Rattle.row_sources.specs.declared.turn.Turn.TheVariants.{Given, Working, End}
 use Rattle.scan_exec.specs.Scan.{ScanAt, GivesRows, Gives, GivesTurn, MayRefuse, left}
-use Rattle.scan_exec.specs.Scan as scan
+use Rattle.scan_exec.specs.Scan as of_scan
 use Rattle.table_versions.specs.Table.{Row, is_long_text}
 use Rattle.table_versions.proofs.Storable.{first_false, second_false}
 use Rattle.fetch_stream.specs.declared.source.Source.TheVariants.{Scanned}
@@ -106,7 +106,7 @@ scan_gives before after result is gives = by before.schema before.types before.a
         refused_scan (record { schema = schema; types = types; ahead = ahead; batches = batches; opened = opened; given = given; refused = None }) fault gives.0
 
 -- nothing yet
-none_yet : (before after : ScanAt) → IsSource (Scanned before) → scan.GivesNoneYet before after → GivesNoneYet (Scanned before) (Scanned after)
+none_yet : (before after : ScanAt) → IsSource (Scanned before) → of_scan.GivesNoneYet before after → GivesNoneYet (Scanned before) (Scanned after)
 none_yet before after is none =
     let rows : left before ≡ left after = ap (map (λ (given : Option ℕ × Row). given.1)) none.same in
     let typed : HasAnswerTypes after.schema after.types =

@@ -22,7 +22,7 @@ use Rattle.row_sources.specs.declared.turn.Patience.TheVariants.{Endless}
 use Rattle.row_sources.specs.declared.turn.Turn.{Turn}
 use Rattle.row_sources.specs.declared.turn.Turn.TheVariants.{Given, Working, End}
 use Rattle.scan_exec.specs.Scan.{ScanAt, Continues, IsLatest, GivesRows, GivesTurn, MayRefuse, Gives}
-use Rattle.scan_exec.specs.Scan as scan
+use Rattle.scan_exec.specs.Scan as of_scan
 use Rattle.row_sources.proofs.JoinSteps.{as_many}
 
 -- a piece is a batch
@@ -205,9 +205,9 @@ module _ (schema : Schema) (batches : List (ℕ × ℕ)) (further : ℕ) (before
   -- nothing yet
   gave_none_yet : (view : ScanAt) (refused : Option Fault) → scan_at schema before batches further given refused ≡ view → refused ≡ None →
       GivesNoneYet before after → now ≡ given →
-      (view.refused ≡ None) × scan.GivesNoneYet view (scan_at schema after batches further now refused)
+      (view.refused ≡ None) × of_scan.GivesNoneYet view (scan_at schema after batches further now refused)
   gave_none_yet view refused v n none e =
-      subst (λ (s : ScanAt). (s.refused ≡ None) × scan.GivesNoneYet s (scan_at schema after batches further now refused)) v
+      subst (λ (s : ScanAt). (s.refused ≡ None) × of_scan.GivesNoneYet s (scan_at schema after batches further now refused)) v
       (n, record { same = ap (map (renumbered firsts)) none.same; given = e; on = continues none.on refused refused; refused = n })
 
   -- what a turn gives

@@ -1,4 +1,4 @@
-use Rattle.std.proofs.Common.{◌≡◌, ℕ, List, [], true, length, refl, sym, ap, ◌∙◌, subst, arith}
+use Rattle.std.proofs.Common.{◌≡◌, ◌<◌, ℕ, List, [], true, length, refl, sym, ap, ◌∙◌, subst, arith}
 use Rattle.std.specs.Arc.{arc_value}
 use Rattle.arrow_schema.specs.declared.data_type.DataType.{DataType}
 use Rattle.join_batches.specs.Joiner.{JoinerAt, joined_types, joined_of, GivesJoined, GivesShown}
@@ -42,7 +42,7 @@ Joining::turn-returns-then-is_over-clause-found t c =
     let none = rw (c.in_ok-batch-2.was, c.in_default-2.is) at c.pick.ensures in (
       batch_none pick first c.loop-batch.left joiner c.loop-batch.self.number c.in-Some.batch c.next.new.self gives is.goes is.rows is.is
           (record { batch = record { ref_ptr = c.args.picker.ref_ptr; now = c.in-Some.batch }; from = 0; to = c.rows-to.result }) refl refl c.rows-to.ensures none,
-      has_end c.args.looking.now.patience c.spend.new.self.patience c.is_over.result (λ e. c.spend.ensures (is.endless e)) c.is_over.ensures c.if-is_over.true,
+      has_end c.args.looking.now.patience c.spend.new.self.patience c.is_over.result (λ e. c.spend.ensures.endless (is.endless e)) c.is_over.ensures.endless c.if-is_over.true,
     )
 
 pub Joining::turn-loop-batch-smaller-in-Some : goal.Joining::turn-loop-batch-smaller-in-Some
@@ -65,7 +65,7 @@ Joining::turn-loop-batch-preserved-in-Some t c =
       goes = batch_goes first c.loop-batch.left joiner c.loop-batch.self.number c.in-Some.batch c.next.new.self gives is.goes is.is;
       rows = batch_over pick first c.loop-batch.left joiner c.loop-batch.self.number c.in-Some.batch c.next.new.self gives is.goes is.rows is.is
           (record { batch = record { ref_ptr = c.args.picker.ref_ptr; now = c.in-Some.batch }; from = 0; to = c.rows-to.result }) refl refl c.rows-to.ensures none;
-      endless = λ e. c.spend.ensures (is.endless e);
+      endless = λ e. c.spend.ensures.endless (is.endless e);
     }
 
 -- what is known where no joined row of the left batch is left
@@ -210,7 +210,7 @@ Joining::feed_next-returns-then-is_over-clause-feeds t c =
     let self = c.args.self.now in
     let finds : FindsPiece left c.in-Given.piece c.turn.new.self = rw (c.in_ok-turn.was, c.in-Given.is) at c.turn.ensures.found in (
       rw c.feed.ensures (fed_none left self.joiner self.number c.in-Given.piece c.turn.new.self c.requires.none finds),
-      has_end c.args.looking.now.patience c.turn.new.looking.patience c.is_over.result c.turn.ensures.endless c.is_over.ensures c.if-is_over.true,
+      has_end c.args.looking.now.patience c.turn.new.looking.patience c.is_over.result c.turn.ensures.endless c.is_over.ensures.endless c.if-is_over.true,
     )
 
 pub Joining::feed_next-returns-else-is_over-clause-feeds : goal.Joining::feed_next-returns-else-is_over-clause-feeds

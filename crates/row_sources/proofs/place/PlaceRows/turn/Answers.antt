@@ -42,7 +42,7 @@ returns-then-is_over-clause-found c =
       subst (λ (t : TableAt). FindsNone (picked_of pick (place_of t cursor)) (picked_of pick (place_of c.loop-self.self.table after))) is.table
           (over_is pick c.loop-self.self.table cursor c.loop-self.self.cursor after c.open-part.result is.from is.to is.forth is.rows
           c.open-part.ensures.opened c.open-part.ensures.part c.open-part.ensures.placed none),
-      has_end c.args.looking.now.patience c.spend.new.self.patience c.is_over.result (λ e. c.spend.ensures (is.endless e)) c.is_over.ensures c.if-is_over.true,
+      has_end c.args.looking.now.patience c.spend.new.self.patience c.is_over.result (λ e. c.spend.ensures.endless (is.endless e)) c.is_over.ensures.endless c.if-is_over.true,
     )
 
 pub loop-self-preserved : goal.loop-self-preserved
@@ -60,7 +60,7 @@ loop-self-preserved c =
       forth = omega (arith, opens.forth, is.forth);
       rows = over pick c.loop-self.self.table cursor c.loop-self.self.cursor c.open-part.new.self c.open-part.result is.from is.to is.forth is.rows
           opens c.open-part.ensures.part c.open-part.ensures.placed none;
-      endless = λ e. c.spend.ensures (is.endless e);
+      endless = λ e. c.spend.ensures.endless (is.endless e);
     }
 
 pub returns-clause-found : goal.returns-clause-found
