@@ -68,44 +68,33 @@ Joining::turn-loop-batch-preserved-in-Some t c =
       endless = λ e. c.spend.ensures.endless (is.endless e);
     }
 
--- what is known where no joined row of the left batch is left
-module _ (t : ℕ) (c : goal.Joining::turn-After-feed_next t) where
-  abbrev joiner : JoinerAt
-  joiner = c.loop-batch.self.joiner
-
-  abbrev before : RowsAt
-  before = joined_at c.loop-batch.left joiner c.loop-batch.self.number
-
-  abbrev after : RowsAt
-  after = joined_at c.feed_next.new.left c.feed_next.new.self.joiner c.feed_next.new.self.number
-
-  none : (joiner.ahead ≡ []) × (c.next.new.self ≡ joiner)
-  none = rw (c.in_ok-batch.was, c.in_default.is) at c.next.ensures
-
-  feeds : FeedsNext c.loop-batch.looking.patience before c.feed_next.result after
-  feeds = subst (λ (j : JoinerAt). FeedsNext c.loop-batch.looking.patience (joined_at c.loop-batch.left j c.loop-batch.self.number) c.feed_next.result after) none.1
-      c.feed_next.ensures.feeds
-
-pub Joining::turn-feed_next-requires-clause-none : goal.Joining::turn-feed_next-requires-clause-none
-Joining::turn-feed_next-requires-clause-none t c =
-    let none : (c.loop-batch.self.joiner.ahead ≡ []) × (c.next.new.self ≡ c.loop-batch.self.joiner) = rw (c.in_ok-batch.was, c.in_default.is) at c.next.ensures in
-    ap (λ (j : JoinerAt). j.ahead) none.1 ∙ none.0
+-- ---- the next left batch
 
 pub Joining::turn-loop-batch-smaller : goal.Joining::turn-loop-batch-smaller
 Joining::turn-loop-batch-smaller t c =
-    let found : FindsNone (before t c) (after t c) = rw (c.in_ok-feed_next.was, c.in-Given.is) at feeds t c in
+    let is = c.loop-batch.invariant in
+    let joiner = c.loop-batch.self.joiner in
+    let none : (joiner.ahead ≡ []) × (c.next.new.self ≡ joiner) = rw (c.in_ok-batch.was, c.in_default.is) at c.next.ensures in
+    let first = joined_at c.args.left.now c.args.self.now.joiner c.args.self.now.number in
+    let before = joined_at c.loop-batch.left joiner c.loop-batch.self.number in
+    let after = joined_at c.feed_next.new.left c.feed_next.new.self.joiner c.feed_next.new.self.number in
+    let found = rw (none.1, c.in_ok-feed_next.was, c.in-Given.is) at c.feed_next.ensures.feeds in
     let fewer : length c.feed_next.new.left.ahead < length c.loop-batch.left.ahead = rw (c.in_ok-feed_next.was, c.in-Given.is) at c.feed_next.ensures.fewer in
-    let same = ap length found.same in
+    let same : length before.ahead ≡ length after.ahead = ap length found.same in
     omega (arith, fewer, same)
 
 pub Joining::turn-loop-batch-preserved : goal.Joining::turn-loop-batch-preserved
 Joining::turn-loop-batch-preserved t c =
     let is = c.loop-batch.invariant in
+    let joiner = c.loop-batch.self.joiner in
+    let none : (joiner.ahead ≡ []) × (c.next.new.self ≡ joiner) = rw (c.in_ok-batch.was, c.in_default.is) at c.next.ensures in
     let first = joined_at c.args.left.now c.args.self.now.joiner c.args.self.now.number in
-    let found : FindsNone (before t c) (after t c) = rw (c.in_ok-feed_next.was, c.in-Given.is) at feeds t c in
+    let before = joined_at c.loop-batch.left joiner c.loop-batch.self.number in
+    let after = joined_at c.feed_next.new.left c.feed_next.new.self.joiner c.feed_next.new.self.number in
+    let found = rw (none.1, c.in_ok-feed_next.was, c.in-Given.is) at c.feed_next.ensures.feeds in
     record {
       is = c.feed_next.ensures.joined;
-      goes = on_and_on first (before t c) (after t c) is.goes found.on;
+      goes = on_and_on first before after is.goes found.on;
       rows = is.rows ∙ ap (given_numbered (pick_of c.args.picker.now)) found.same;
       endless = λ e. c.feed_next.ensures.endless (is.endless e);
     }
@@ -113,15 +102,24 @@ Joining::turn-loop-batch-preserved t c =
 pub Joining::turn-returns-in-Working-clause-found : goal.Joining::turn-returns-in-Working-clause-found
 Joining::turn-returns-in-Working-clause-found t c =
     let is = c.loop-batch.invariant in
+    let joiner = c.loop-batch.self.joiner in
+    let none : (joiner.ahead ≡ []) × (c.next.new.self ≡ joiner) = rw (c.in_ok-batch.was, c.in_default.is) at c.next.ensures in
     let first = joined_at c.args.left.now c.args.self.now.joiner c.args.self.now.number in
-    let found = rw (c.in_ok-feed_next.was, c.in-Working.is) at feeds t c in
-    (picks_none (pick_of c.args.picker.now) first (before t c) (after t c) is.goes is.rows found.0, λ e. found.1 (is.endless e))
+    let before = joined_at c.loop-batch.left joiner c.loop-batch.self.number in
+    let after = joined_at c.feed_next.new.left c.feed_next.new.self.joiner c.feed_next.new.self.number in
+    let found = rw (none.1, c.in_ok-feed_next.was, c.in-Working.is) at c.feed_next.ensures.feeds in
+    (picks_none (pick_of c.args.picker.now) first before after is.goes is.rows found.0, λ e. found.1 (is.endless e))
 
 pub Joining::turn-returns-in-End-clause-found : goal.Joining::turn-returns-in-End-clause-found
 Joining::turn-returns-in-End-clause-found t c =
     let is = c.loop-batch.invariant in
+    let joiner = c.loop-batch.self.joiner in
+    let none : (joiner.ahead ≡ []) × (c.next.new.self ≡ joiner) = rw (c.in_ok-batch.was, c.in_default.is) at c.next.ensures in
     let first = joined_at c.args.left.now c.args.self.now.joiner c.args.self.now.number in
-    picks_end (pick_of c.args.picker.now) first (before t c) (after t c) is.goes is.rows (rw (c.in_ok-feed_next.was, c.in-End.is) at feeds t c)
+    let before = joined_at c.loop-batch.left joiner c.loop-batch.self.number in
+    let after = joined_at c.feed_next.new.left c.feed_next.new.self.joiner c.feed_next.new.self.number in
+    let found = rw (none.1, c.in_ok-feed_next.was, c.in-End.is) at c.feed_next.ensures.feeds in
+    picks_end (pick_of c.args.picker.now) first before after is.goes is.rows found
 
 -- ---- without filters
 
@@ -147,44 +145,31 @@ Joining::turn_shown-returns-in-Some-clause-found t c =
     shown_found pick (joined_at c.args.left.now c.args.self.now.joiner c.args.self.now.number) c.loop-batch.left joiner
     c.loop-batch.self.number c.in-Some.batch c.next_shown.new.self gives is.goes is.rows is.is c.requires.bare
 
--- what is known where no joined row of the left batch is left
-module _ (t : ℕ) (c : goal.Joining::turn_shown-After-feed_next t) where
-  abbrev bare_joiner : JoinerAt
-  bare_joiner = c.loop-batch.self.joiner
-
-  abbrev bare_before : RowsAt
-  bare_before = joined_at c.loop-batch.left bare_joiner c.loop-batch.self.number
-
-  abbrev bare_after : RowsAt
-  bare_after = joined_at c.feed_next.new.left c.feed_next.new.self.joiner c.feed_next.new.self.number
-
-  bare_none : (bare_joiner.ahead ≡ []) × (c.next_shown.new.self ≡ bare_joiner)
-  bare_none = rw (c.in_ok-batch.was, c.in_default.is) at c.next_shown.ensures
-
-  bare_feeds : FeedsNext c.loop-batch.looking.patience bare_before c.feed_next.result bare_after
-  bare_feeds = subst (λ (j : JoinerAt). FeedsNext c.loop-batch.looking.patience (joined_at c.loop-batch.left j c.loop-batch.self.number) c.feed_next.result bare_after) bare_none.1
-      c.feed_next.ensures.feeds
-
-pub Joining::turn_shown-feed_next-requires-clause-none : goal.Joining::turn_shown-feed_next-requires-clause-none
-Joining::turn_shown-feed_next-requires-clause-none t c =
-    let none : (c.loop-batch.self.joiner.ahead ≡ []) × (c.next_shown.new.self ≡ c.loop-batch.self.joiner) = rw (c.in_ok-batch.was, c.in_default.is) at c.next_shown.ensures in
-    ap (λ (j : JoinerAt). j.ahead) none.1 ∙ none.0
-
 pub Joining::turn_shown-loop-batch-smaller : goal.Joining::turn_shown-loop-batch-smaller
 Joining::turn_shown-loop-batch-smaller t c =
-    let found : FindsNone (bare_before t c) (bare_after t c) = rw (c.in_ok-feed_next.was, c.in-Given.is) at bare_feeds t c in
+    let is = c.loop-batch.invariant in
+    let joiner = c.loop-batch.self.joiner in
+    let none : (joiner.ahead ≡ []) × (c.next_shown.new.self ≡ joiner) = rw (c.in_ok-batch.was, c.in_default.is) at c.next_shown.ensures in
+    let first = joined_at c.args.left.now c.args.self.now.joiner c.args.self.now.number in
+    let before = joined_at c.loop-batch.left joiner c.loop-batch.self.number in
+    let after = joined_at c.feed_next.new.left c.feed_next.new.self.joiner c.feed_next.new.self.number in
+    let found = rw (none.1, c.in_ok-feed_next.was, c.in-Given.is) at c.feed_next.ensures.feeds in
     let fewer : length c.feed_next.new.left.ahead < length c.loop-batch.left.ahead = rw (c.in_ok-feed_next.was, c.in-Given.is) at c.feed_next.ensures.fewer in
-    let same = ap length found.same in
+    let same : length before.ahead ≡ length after.ahead = ap length found.same in
     omega (arith, fewer, same)
 
 pub Joining::turn_shown-loop-batch-preserved : goal.Joining::turn_shown-loop-batch-preserved
 Joining::turn_shown-loop-batch-preserved t c =
     let is = c.loop-batch.invariant in
+    let joiner = c.loop-batch.self.joiner in
+    let none : (joiner.ahead ≡ []) × (c.next_shown.new.self ≡ joiner) = rw (c.in_ok-batch.was, c.in_default.is) at c.next_shown.ensures in
     let first = joined_at c.args.left.now c.args.self.now.joiner c.args.self.now.number in
-    let found : FindsNone (bare_before t c) (bare_after t c) = rw (c.in_ok-feed_next.was, c.in-Given.is) at bare_feeds t c in
+    let before = joined_at c.loop-batch.left joiner c.loop-batch.self.number in
+    let after = joined_at c.feed_next.new.left c.feed_next.new.self.joiner c.feed_next.new.self.number in
+    let found = rw (none.1, c.in_ok-feed_next.was, c.in-Given.is) at c.feed_next.ensures.feeds in
     record {
       is = c.feed_next.ensures.joined;
-      goes = on_and_on first (bare_before t c) (bare_after t c) is.goes found.on;
+      goes = on_and_on first before after is.goes found.on;
       rows = is.rows ∙ ap (given_numbered (pick_of c.args.picker.now)) found.same;
       endless = λ e. c.feed_next.ensures.endless (is.endless e);
     }
@@ -192,15 +177,24 @@ Joining::turn_shown-loop-batch-preserved t c =
 pub Joining::turn_shown-returns-in-Working-clause-found : goal.Joining::turn_shown-returns-in-Working-clause-found
 Joining::turn_shown-returns-in-Working-clause-found t c =
     let is = c.loop-batch.invariant in
+    let joiner = c.loop-batch.self.joiner in
+    let none : (joiner.ahead ≡ []) × (c.next_shown.new.self ≡ joiner) = rw (c.in_ok-batch.was, c.in_default.is) at c.next_shown.ensures in
     let first = joined_at c.args.left.now c.args.self.now.joiner c.args.self.now.number in
-    let found = rw (c.in_ok-feed_next.was, c.in-Working.is) at bare_feeds t c in
-    (picks_none (pick_of c.args.picker.now) first (bare_before t c) (bare_after t c) is.goes is.rows found.0, λ e. found.1 (is.endless e))
+    let before = joined_at c.loop-batch.left joiner c.loop-batch.self.number in
+    let after = joined_at c.feed_next.new.left c.feed_next.new.self.joiner c.feed_next.new.self.number in
+    let found = rw (none.1, c.in_ok-feed_next.was, c.in-Working.is) at c.feed_next.ensures.feeds in
+    (picks_none (pick_of c.args.picker.now) first before after is.goes is.rows found.0, λ e. found.1 (is.endless e))
 
 pub Joining::turn_shown-returns-in-End-clause-found : goal.Joining::turn_shown-returns-in-End-clause-found
 Joining::turn_shown-returns-in-End-clause-found t c =
     let is = c.loop-batch.invariant in
+    let joiner = c.loop-batch.self.joiner in
+    let none : (joiner.ahead ≡ []) × (c.next_shown.new.self ≡ joiner) = rw (c.in_ok-batch.was, c.in_default.is) at c.next_shown.ensures in
     let first = joined_at c.args.left.now c.args.self.now.joiner c.args.self.now.number in
-    picks_end (pick_of c.args.picker.now) first (bare_before t c) (bare_after t c) is.goes is.rows (rw (c.in_ok-feed_next.was, c.in-End.is) at bare_feeds t c)
+    let before = joined_at c.loop-batch.left joiner c.loop-batch.self.number in
+    let after = joined_at c.feed_next.new.left c.feed_next.new.self.joiner c.feed_next.new.self.number in
+    let found = rw (none.1, c.in_ok-feed_next.was, c.in-End.is) at c.feed_next.ensures.feeds in
+    picks_end (pick_of c.args.picker.now) first before after is.goes is.rows found
 
 -- ---- a left batch
 
@@ -208,7 +202,7 @@ pub Joining::feed_next-returns-then-is_over-clause-feeds : goal.Joining::feed_ne
 Joining::feed_next-returns-then-is_over-clause-feeds t c =
     let left = c.args.left.now in
     let self = c.args.self.now in
-    let finds : FindsPiece left c.in-Given.piece c.turn.new.self = rw (c.in_ok-turn.was, c.in-Given.is) at c.turn.ensures.found in (
+    let finds : FindsPiece left c.in-Given.piece c.turn.new.self = rw (c.in_ok-piece.was, c.in-Given.is) at c.turn.ensures.found in (
       rw c.feed.ensures (fed_none left self.joiner self.number c.in-Given.piece c.turn.new.self c.requires.none finds),
       has_end c.args.looking.now.patience c.turn.new.looking.patience c.is_over.result c.turn.ensures.endless c.is_over.ensures.endless c.if-is_over.true,
     )
@@ -217,19 +211,19 @@ pub Joining::feed_next-returns-else-is_over-clause-feeds : goal.Joining::feed_ne
 Joining::feed_next-returns-else-is_over-clause-feeds t c =
     let left = c.args.left.now in
     let self = c.args.self.now in
-    let finds : FindsPiece left c.in-Given.piece c.turn.new.self = rw (c.in_ok-turn.was, c.in-Given.is) at c.turn.ensures.found in
+    let finds : FindsPiece left c.in-Given.piece c.turn.new.self = rw (c.in_ok-piece.was, c.in-Given.is) at c.turn.ensures.found in
     rw c.feed.ensures (fed_none left self.joiner self.number c.in-Given.piece c.turn.new.self c.requires.none finds)
 
 pub Joining::feed_next-returns-else-is_over-clause-fewer : goal.Joining::feed_next-returns-else-is_over-clause-fewer
 Joining::feed_next-returns-else-is_over-clause-fewer t c =
     let left = c.args.left.now in
     let self = c.args.self.now in
-    let finds : FindsPiece left c.in-Given.piece c.turn.new.self = rw (c.in_ok-turn.was, c.in-Given.is) at c.turn.ensures.found in
+    let finds : FindsPiece left c.in-Given.piece c.turn.new.self = rw (c.in_ok-piece.was, c.in-Given.is) at c.turn.ensures.found in
     fed_fewer left self.joiner self.number c.in-Given.piece c.turn.new.self c.requires.none finds
 
 pub Joining::feed_next-returns-in-Working-clause-feeds : goal.Joining::feed_next-returns-in-Working-clause-feeds
 Joining::feed_next-returns-in-Working-clause-feeds t c =
-    let finds = rw (c.in_ok-turn.was, c.in-Working.is) at c.turn.ensures.found in
+    let finds = rw (c.in_ok-piece.was, c.in-Working.is) at c.turn.ensures.found in
     (left_none c.args.left.now c.args.self.now.joiner c.args.self.now.number c.turn.new.self c.requires.none finds.0, finds.1)
 
 pub Rows::turn-invariant_of-self-then-is_empty : goal.Rows::turn-invariant_of-self-then-is_empty
@@ -244,8 +238,8 @@ Rows::turn-invariant_of-self-else-is_empty t c =
     let done = c.turn-else-is_empty.ensures in
     (done.joined, subst (λ (n : ℕ). IsPick n (pick_of (arc_value c.self.inside.picker))) (ap length (sym done.types)) is.1)
 
-pub Rows::turn-returns-in-Place : goal.Rows::turn-returns-in-Place
-Rows::turn-returns-in-Place t c =
+pub Rows::turn-returns-in-Place-clause-found : goal.Rows::turn-returns-in-Place-clause-found
+Rows::turn-returns-in-Place-clause-found t c =
     let picker = arc_value c.self.inside.picker in
     let after = c.turn.new.self in
     subst (λ (before : RowsAt). FindsTurn c.args.looking.now.patience before c.turn.result (picked_of (pick_of picker) (place_at after)))
@@ -253,8 +247,8 @@ Rows::turn-returns-in-Place t c =
     (subst (λ (p : Picker). FindsTurn c.args.looking.now.patience (picked_of (pick_of p) (place_at c.in-Place.place)) c.turn.result (picked_of (pick_of p) (place_at after)))
     c.deref.ensures c.turn.ensures.found)
 
-pub Rows::turn-returns-then-is_empty : goal.Rows::turn-returns-then-is_empty
-Rows::turn-returns-then-is_empty t c =
+pub Rows::turn-returns-then-is_empty-clause-found : goal.Rows::turn-returns-then-is_empty-clause-found
+Rows::turn-returns-then-is_empty-clause-found t c =
     let picker = arc_value c.self.inside.picker in
     let joining = c.in-Joined.joining in
     let after = c.turn_shown.new.self in
@@ -266,8 +260,8 @@ Rows::turn-returns-then-is_empty t c =
     (subst (λ (p : Picker). FindsTurn c.args.looking.now.patience (picked_of (pick_of p) (joined_at c.deref_mut.result.now joining.joiner joining.number)) c.turn_shown.result
     (picked_of (pick_of p) (joined_at left after.joiner after.number))) c.deref-then-is_empty.ensures c.turn_shown.ensures.found))
 
-pub Rows::turn-returns-else-is_empty : goal.Rows::turn-returns-else-is_empty
-Rows::turn-returns-else-is_empty t c =
+pub Rows::turn-returns-else-is_empty-clause-found : goal.Rows::turn-returns-else-is_empty-clause-found
+Rows::turn-returns-else-is_empty-clause-found t c =
     let picker = arc_value c.self.inside.picker in
     let joining = c.in-Joined.joining in
     let after = c.turn-else-is_empty.new.self in
