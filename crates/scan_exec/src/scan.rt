@@ -249,14 +249,15 @@ fn turn_counted<G: GroupsBatches>(
     ensures giving { IsGiving answer.new }
     ensures counts { CountsTurn making.patience (giving_at answer.old) given.old result (giving_at answer.new) given.new }
 {
-    let batch = match answer.turn(alloc, making)? {
-        Turn::Given(batch) => batch,
-        Turn::Working => return Ok(Turn::Working),
-        Turn::End => return Ok(Turn::End),
-    };
-    if batch.rows() > MAX_ANSWER_ROWS - *given {
-        return Err(Fault::ResultTooLarge);
+    match answer.turn(alloc, making)? {
+        Turn::Given(batch) => {
+            if batch.rows() > MAX_ANSWER_ROWS - *given {
+                return Err(Fault::ResultTooLarge);
+            }
+            *given += batch.rows();
+            Ok(Turn::Given(batch))
+        }
+        Turn::Working => Ok(Turn::Working),
+        Turn::End => Ok(Turn::End),
     }
-    *given += batch.rows();
-    Ok(Turn::Given(batch))
 }
