@@ -1,4 +1,4 @@
--- Inside: batches of the rows of a source that are given.
+-- Batches of the rows of a source that are given.
 use Rattle.std.specs.Prelude.{◌≡◌, ◌<◌, ℕ, IsTrue, All, List, [], length, map, Option, Some, None, Result, Ok, Err}
 use Rattle.std.specs.List.{AllZip, filter}
 use Rattle.std.specs.declared.alloc.AllocError.{AllocError}

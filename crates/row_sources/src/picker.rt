@@ -34,9 +34,13 @@ impl Drop for Picker {
 }
 
 impl Picker {
-    // What is given of a part of a batch of the source, or nothing where that is no row: a slice where its rows stand next
-    // to each other, else in buffers of their own. The selection's memory is used again.
-    pub(crate) fn pick(
+    /// What is given of a part of a batch of the source, or nothing where that is no row: a slice where its rows stand next
+    /// to each other, else in buffers of their own. The selection's memory is used again.
+    ///
+    /// # Errors
+    ///
+    /// `AllocError` where memory is refused.
+    pub fn pick(
         &self,
         alloc: Global,
         part: &Part<'_>,
