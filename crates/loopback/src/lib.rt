@@ -11,7 +11,7 @@ use std::io::ErrorKind;
 use std::net::{Ipv4Addr, Net, TcpListener, TcpStream};
 use std::time::Duration;
 
-/// The end of a stream that is written to. It knows whether the other end was reset.
+/// The end of a stream that is written to. It can look whether the other end is still there.
 #[derive(Drop)]
 pub struct SocketWriter {
     counted: Counted<TcpStream>,
@@ -24,9 +24,8 @@ impl Output for SocketWriter {
         self.counted.write(piece)
     }
 
-    // The system tells a reset once. Who only ended what it writes may still read: that is none.
     fn look(&mut self) -> Result<(), Fault> {
-        if matches!(self.counted.get_ref().take_error(), Ok(None)) {
+        if is_there(self.counted.get_ref()) {
             return Ok(());
         }
         self.counted.count_failure();
@@ -35,6 +34,25 @@ impl Output for SocketWriter {
 
     fn failures(&self) -> u64 {
         self.counted.failures()
+    }
+}
+
+// Whether the other end may still be there: it did not end what it sends, and the stream has no error. No byte is taken, and
+// it does not wait. Nothing else may read or write the stream meanwhile.
+fn is_there(stream: &TcpStream) -> bool {
+    if stream.set_nonblocking(true).is_err() {
+        return false;
+    }
+    let peeked = stream.peek(&mut [0]);
+    if stream.set_nonblocking(false).is_err() {
+        return false;
+    }
+    match peeked {
+        Ok(count) => count > 0,
+        Err(error) => matches!(
+            error.kind(),
+            ErrorKind::WouldBlock | ErrorKind::Interrupted
+        ),
     }
 }
 

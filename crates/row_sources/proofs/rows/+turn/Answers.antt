@@ -32,6 +32,13 @@ Joining::turn-returns-in-Some-2-clause-found t c =
     batch_found (pick_of c.args.picker.now) (joined_at c.args.left.now c.args.self.now.joiner c.args.self.now.number) c.loop-batch.left joiner
     c.loop-batch.self.number c.in-Some.batch c.next.new.self gives is.goes is.rows is.is _ refl refl c.rows-to.ensures c.in-Some-2.batch picked
 
+pub Joining::turn-returns-in-Some-2-clause-joined :
+    goal.Joining::turn-returns-in-Some-2-clause-joined
+Joining::turn-returns-in-Some-2-clause-joined t c =
+    let joiner = c.loop-batch.self.joiner in
+    let gives : GivesJoined joiner c.in-Some.batch c.next.new.self = rw (c.in_ok-batch.was, c.in-Some.is) at c.next.ensures in
+    still_joined c.loop-batch.left joiner c.loop-batch.self.number c.in-Some.batch c.next.new.self gives c.loop-batch.invariant.is
+
 pub Joining::turn-returns-then-is_over-clause-found : goal.Joining::turn-returns-then-is_over-clause-found
 Joining::turn-returns-then-is_over-clause-found t c =
     let is = c.loop-batch.invariant in
