@@ -49,10 +49,7 @@ fn is_there(stream: &TcpStream) -> bool {
     }
     match peeked {
         Ok(count) => count > 0,
-        Err(error) => matches!(
-            error.kind(),
-            ErrorKind::WouldBlock | ErrorKind::Interrupted
-        ),
+        Err(error) => matches!(error.kind(), ErrorKind::WouldBlock | ErrorKind::Interrupted),
     }
 }
 
