@@ -28,7 +28,7 @@ use scan_base::Fault;
 use std::alloc::Global;
 
 // How many rows are looked at before it is looked whether the client is still there.
-const LOOKED_ROWS: usize = 65_536;
+const LOOKED_ROWS: usize = 1_048_576;
 
 /// What answers a call.
 #[derive(Drop)]
@@ -41,8 +41,8 @@ pub enum Answer {
 
 /// Writes an answer: each payload in a Message, of which a large part is not copied, and then the Status. Where it is
 /// small it is one write. A payload of a stream is sent before the next one is made, and of it no more than an outbox
-/// gathers waits for the next write. Where 65,536 rows were looked at without one that is given, it is written, and the other
-/// end is looked at.
+/// gathers waits for the next write. Where 1,048,576 rows were looked at without one that is given, it is written, and the
+/// other end is looked at.
 ///
 /// # Errors
 ///
