@@ -12,8 +12,11 @@ use std::alloc::{AllocError, Global};
 use std::marker::Model;
 use std::mem;
 
-/// The most bytes of a read, and how long a block is that holds small records.
+/// How long a block is that holds small records.
 pub const BLOCK_LEN: usize = 65_536;
+
+/// The most bytes of a read.
+pub const READ_LEN: usize = 262_144;
 
 // A block for a large record has room for so many times the bytes that have come of it.
 const GROWTH: usize = 8;
@@ -157,7 +160,7 @@ impl Block {
         }
         let next = self
             .end
-            .saturating_add(BLOCK_LEN)
+            .saturating_add(READ_LEN)
             .min(self.memory.capacity());
         let len = self.memory.len().max(next).max(least);
         self.memory.resize(len, 0)

@@ -11,7 +11,7 @@ ghost use Rattle.grpc_frame.specs.Arrivals.{CountsTransport, IsSound, work_left}
 ghost use Rattle.grpc_frame.specs.Records.{Breaks};
 ghost use Rattle.grpc_frame.specs.inside.Reads.{TakesIn};
 
-use crate::block::{BLOCK_LEN, Block};
+use crate::block::{BLOCK_LEN, Block, READ_LEN};
 use crate::ends::Input;
 use crate::head::{read_front, read_head};
 use crate::place::Place;
@@ -161,7 +161,7 @@ impl Inbox {
         } else {
             BLOCK_LEN
         };
-        self.block.read_from(input, most.min(BLOCK_LEN))
+        self.block.read_from(input, most.min(READ_LEN))
     }
 
     // How many bytes the record in front has, or 0 where its head has not come.
