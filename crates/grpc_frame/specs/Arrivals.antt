@@ -28,4 +28,4 @@ CountsTransport (Err fault) old new = (fault ≡ Transport → new ≡ old + 1) 
 
 -- A measure that each piece and each record lowers: the turns of the reader, and what waits to be cut into records.
 abbrev pub work_left : ℕ → Received → ℕ
-work_left turns left = turns * 65537 + length left.bytes
+work_left turns left = turns * 262145 + length left.bytes
