@@ -63,7 +63,7 @@ impl Source {
         making: Making<'_, G>,
     ) -> Result<Turn<Batch>, Fault>
         requires { IsSource self.old }
-        ensures { TurnsBatch making.patience self.old result self.new }
+        ensures { TurnsBatch making.entry.patience self.old result self.new }
     {
         match self {
             Source::Scanned(scan) => scan.turn_by(alloc, making),

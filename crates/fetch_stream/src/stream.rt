@@ -278,7 +278,7 @@ impl FetchStream {
         alloc: Global,
         making: Making<'_, G>,
     ) -> Result<Turn<Payload>, Fault>
-        ensures { GivesTurn making.patience self.old result self.new }
+        ensures { GivesTurn making.entry.patience self.old result self.new }
     {
         if let Some(fault) = self.refused {
             return Err(fault);
@@ -312,7 +312,7 @@ fn refill<G: GroupsBatches>(
     source: &mut Source,
 ) -> Result<Turn<()>, Fault>
     requires { IsGoing cutter.old source.old }
-    ensures { Refills making.patience cutter.old source.old result cutter.new source.new }
+    ensures { Refills making.entry.patience cutter.old source.old result cutter.new source.new }
 {
     batch_slices_keep_rows();
     if cutter.at < cutter.batch.rows() {
@@ -336,7 +336,7 @@ fn turn_of_rows<G: GroupsBatches>(
     source: &mut Source,
 ) -> Result<Turn<Payload>, Fault>
     requires { IsGoing cutter.old source.old }
-    ensures { GivesRows making.patience cutter.old source.old result cutter.new source.new }
+    ensures { GivesRows making.entry.patience cutter.old source.old result cutter.new source.new }
 {
     batch_slices_keep_rows();
     match refill(alloc, making, cutter, source)? {

@@ -40,7 +40,7 @@ impl Answer {
     ) -> Result<Turn<Batch>, AllocError>
         requires { IsGiving self.old }
         ensures giving { IsGiving self.new }
-        ensures gives { GivesTurn making.patience (giving_at self.old) result (giving_at self.new) }
+        ensures gives { GivesTurn making.entry.patience (giving_at self.old) result (giving_at self.new) }
     {
         match self {
             Answer::Rows(rows) => turn_of_rows(alloc, rows, making.patience),

@@ -164,7 +164,7 @@ impl Scan {
         alloc: Global,
         making: Making<'_, G>,
     ) -> Result<Turn<Batch>, Fault>
-        ensures { GivesTurn making.patience self.old result self.new }
+        ensures { GivesTurn making.entry.patience self.old result self.new }
     {
         if let Some(fault) = self.refused {
             return Err(fault);
@@ -247,7 +247,7 @@ fn turn_counted<G: GroupsBatches>(
     requires giving { IsGiving answer.old }
     requires few { given.old ≤ most_answer_rows }
     ensures giving { IsGiving answer.new }
-    ensures counts { CountsTurn making.patience (giving_at answer.old) given.old result (giving_at answer.new) given.new }
+    ensures counts { CountsTurn making.entry.patience (giving_at answer.old) given.old result (giving_at answer.new) given.new }
 {
     match answer.turn(alloc, making)? {
         Turn::Given(batch) => {
