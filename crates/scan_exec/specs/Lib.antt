@@ -5,3 +5,5 @@ pub mod GroupWork
 pub mod Giving
 pub mod Answering
 pub mod Grouped
+pub mod Different
+pub mod ShownGroups

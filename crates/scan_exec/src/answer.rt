@@ -6,9 +6,11 @@ ghost use Rattle.typed_plan.specs.Typed.{HasOutput, is_grouping};
 ghost use Rattle.scan_exec.specs.Answering.{IsGiving, answer_for, giving_at};
 ghost use Rattle.scan_exec.specs.Giving.{GivesTurn, of_rows};
 
+use crate::different::Different;
 use crate::group_work::GroupsBatches;
 use crate::grouped::{GroupedRows, Stage, Wanted};
 use crate::making::Making;
+use crate::shown_groups::ShownGroups;
 use arrays::Batch;
 use hash_seed::HashSeed;
 use row_sources::{Looking, Patience, RowSource, Rows, Turn, UnfilteredRows};
@@ -18,7 +20,7 @@ use typed_plan::Output;
 // What is still to be given.
 pub(crate) enum Answer {
     Rows(Rows),
-    Groups(GroupedRows),
+    Groups(ShownGroups),
 }
 
 // Written out, so that dropping it is one call (docs/DECISIONS.md).
@@ -79,7 +81,7 @@ fn turn_of_rows(
 }
 
 // What a result takes of the rows of a source. Rows that are grouped are read without their filters, as slices; which of
-// them are grouped is for the filters to choose then.
+// them are grouped is for the filters to choose then. Items that are the same are made once.
 pub(crate) fn answer_of(
     alloc: Global,
     source: RowSource,
@@ -100,18 +102,21 @@ pub(crate) fn answer_of(
                 picker,
                 types,
             } = source.without_filters(alloc)?;
+            let different = Different::of(alloc, items.as_slice())?;
             let wanted = Wanted {
                 picker,
                 seed,
                 types,
                 keys: keys.into_vec(),
-                items: items.into_vec(),
+                items: different.items,
             };
-            Ok(Answer::Groups(GroupedRows {
+            let groups = GroupedRows {
                 rows,
                 wanted,
                 stage: Stage::Waiting,
-            }))
+            };
+            let shown = ShownGroups::new(alloc, groups, different.places);
+            Ok(Answer::Groups(shown))
         }
     }
 }
