@@ -2,9 +2,12 @@
 
 ghost use Rattle.std.specs.Prelude.{◌≡◌, ◌+◌, ◌<◌, IfOk, false, length, replicate};
 ghost use Rattle.hash_join.specs.Rights.{AreRights};
-ghost use Rattle.hash_join.specs.Chains.{AreRepeats, HasChains, HasLinked};
+ghost use Rattle.hash_join.specs.Chains.{AreRepeats, HasChains};
+ghost use Rattle.hash_join.specs.Seen.{AreOpen};
 
+use crate::right_rows::RightRows;
 use crate::rights::Rights;
+use crate::seen::SeenRows;
 use std::alloc::{AllocError, Global};
 
 // For each bucket the first row of its chain, and for each row the next of its chain, in rising order; the number of rows
@@ -38,9 +41,16 @@ impl Chains {
         heads.resize(rights.buckets.last() + 1, rows as u32)?;
         let mut links = Vec::new(alloc);
         links.resize(rows, 0u32)?;
+        let seen = rights.seen_rows(alloc)?;
+        let mut chains = OpenChains { heads, links, seen };
         for row in (0..rows).rev() {
-            link_row(rights, &mut heads, &mut links, row);
+            chains.link_row(rights, row);
         }
+        let OpenChains {
+            heads,
+            links,
+            seen: _,
+        } = chains;
         let repeats = repeats_of(alloc, rights, &links)?;
         Ok(Chains {
             heads,
@@ -76,15 +86,26 @@ fn no_repeats(alloc: Global, count: usize) -> Result<Vec<bool>, AllocError>
     Ok(repeats)
 }
 
-// Links a row, where it has a bucket, before those after it.
-fn link_row(rights: &Rights, heads: &mut [u32], links: &mut [u32], row: usize)
-    requires whole { AreRights rights.now }
-    requires linked { HasLinked rights.now heads.old links.old (row + 1) }
-    requires within { row < length rights.now.places.items }
-    ensures { HasLinked rights.now heads.new links.new row }
-{
-    if let Some(bucket) = rights.bucket(row) {
-        links[row] = heads[bucket];
-        heads[bucket] = row as u32;
+// Chains of the rows from one on, and the buckets of rows that were seen.
+#[derive(Drop)]
+struct OpenChains {
+    heads: Vec<u32>,
+    links: Vec<u32>,
+    seen: SeenRows,
+}
+
+impl OpenChains {
+    // Links a row, where it has a bucket, before those after it.
+    fn link_row(&mut self, rights: &Rights, row: usize)
+        requires whole { AreRights rights.now }
+        requires linked { AreOpen rights.now self.old (row + 1) }
+        requires within { row < length rights.now.places.items }
+        ensures { AreOpen rights.now self.new row }
+    {
+        let rows = RightRows { rights };
+        if let Some(bucket) = self.seen.bucket(&rows, row) {
+            self.links[row] = self.heads[bucket];
+            self.heads[bucket] = row as u32;
+        }
     }
 }

@@ -1,6 +1,6 @@
 //! A row of a batch by its key.
 
-ghost use Rattle.std.specs.Prelude.{◌≡◌, ◌<◌, Some, get_or, length, not};
+ghost use Rattle.std.specs.Prelude.{◌≡◌, ◌<◌, get_or, length, not};
 ghost use Rattle.std.specs.List.{list_any};
 ghost use Rattle.scan_base.specs.Comparison.{compared};
 ghost use Rattle.scan_base.specs.Truth.{keeps};
@@ -8,13 +8,12 @@ ghost use Rattle.scan_base.specs.Value.{value_of, is_null};
 ghost use Rattle.scan_base.specs.declared.comparison.Comparison.TheVariants.{Equal};
 ghost use Rattle.scan_base.specs.declared.value.Value.TheVariants.{Null};
 ghost use Rattle.hash_join.specs.Pairs.{keys_join};
-ghost use Rattle.arrays.specs.declared.layout.Layout.TheVariants as layout;
-ghost use Rattle.hash_join.specs.Codes.{code_of, column_code, layout_code};
+ghost use Rattle.hash_join.specs.Codes.{code_of};
 ghost use Rattle.hash_join.specs.Hashes.{fed, hash_of, number_of};
 ghost use Rattle.hash_join.specs.KeyRows.{key_of, IsKeyRow};
 
-use crate::key_element::{is_known, packed_number};
-use arrays::{Batch, Cells, Column, Indices, Layout};
+use crate::key_codes::code_at;
+use arrays::{Batch, Cells};
 use scan_base::{Comparison, Truth, ValueRef};
 use std::hash::{DefaultHasher, Hash, Hasher};
 
@@ -147,30 +146,5 @@ fn are_equal(left: ValueRef<'_>, right: ValueRef<'_>) -> bool
     match left.compare(Comparison::Equal, right) {
         Truth::True => true,
         _ => false,
-    }
-}
-
-// The code at a row of a column: none where the column has no codes, or it is not valid.
-fn code_at(column: &Column, row: usize) -> Option<i128>
-    requires { row < column.now.len }
-    ensures { result ≡ column_code (Some column.now) row }
-{
-    let _count = column.len();
-    match column.layout() {
-        Layout::Indices(cells) => valid_code(&cells, column.first() + row),
-        _ => None,
-    }
-}
-
-// The code of a slot, where it is valid.
-fn valid_code(cells: &Indices<'_>, place: usize) -> Option<i128>
-    requires { place < cells.now.len }
-    ensures { result ≡ layout_code (layout.Indices cells.now) place }
-{
-    let _count = cells.len();
-    if is_known(cells.validity(), place) {
-        Some(packed_number(cells.index_type(), cells.values(), place))
-    } else {
-        None
     }
 }

@@ -1,9 +1,11 @@
 //! Joins of batches by equal keys: pairs of rows in the order of nested loops.
 #![tactic(auto)]
 
+mod all_rows;
 mod buckets;
 pub mod build;
 mod chains;
+mod key_codes;
 mod key_element;
 mod key_row;
 mod look;
@@ -13,8 +15,10 @@ pub mod pair;
 mod pieces;
 mod product;
 mod ranks;
+mod right_rows;
 mod rights;
 mod search;
+mod seen;
 mod sieve;
 mod spans;
 mod walk;

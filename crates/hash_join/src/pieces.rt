@@ -3,18 +3,24 @@
 ghost use Rattle.std.specs.Prelude.{◌≡◌, ◌≤◌, ◌<◌, ◌+◌, ◌-◌, ◌++◌, ◌^◌, [], All, IfOk, OnOk, length, map, take};
 ghost use Rattle.std.specs.List.{filter, range_with_len};
 ghost use Rattle.hash_join.specs.Searches.{ahead_of, probe_at, start_at, first_left, AreHeads, AreStarts, IsSearch, Passes};
+ghost use Rattle.hash_join.specs.Seen.{AreSeen};
 
 use crate::build::Probe;
 use crate::key_row::KeyRow;
 use crate::pair::Pair;
 use crate::search::Search;
+use crate::seen::SeenRows;
 use crate::sieve::Sieve;
 use crate::walk::Walk;
 use std::alloc::AllocError;
 
-// So many rows make a piece. Those that pass are kept, then the heads of their chains are found, and last their pairs. Each
+// No piece has more rows. Those that pass are kept, then the heads of their chains are found, and last their pairs. Each
 // step is a loop of its own, so that its reads of memory do not wait for one another.
 const PIECE_ROWS: usize = 4_096;
+
+// So many rows make the first piece of a call, and each further one has twice as many as the one before. A call may end in any
+// piece, and the next one looks for the heads of the rows behind anew.
+const FIRST_ROWS: usize = 64;
 
 // A left row, and the first right row of its chain: the number of right rows where it has none.
 #[derive(Clone, Copy, Drop)]
@@ -51,14 +57,21 @@ fn keep_passing<S: Sieve>(sieve: &S, from: usize, to: usize, kept: &mut [u32]) -
 }
 
 // Puts rows, with the heads of their chains, in place of what was there.
-fn find_heads<S: Sieve>(sieve: &S, rows: &[u32], starts: &mut Vec<Start>) -> Result<(), AllocError>
-    requires { All (λ row. row < S.count sieve.now) rows.now }
-    ensures { OnOk result (starts.new.items ≡ map (start_at (S.head sieve.now)) rows.now) }
+fn find_heads<S: Sieve>(
+    sieve: &S,
+    rows: &[u32],
+    seen: &mut SeenRows,
+    starts: &mut Vec<Start>,
+) -> Result<(), AllocError>
+    requires rows { All (λ row. row < S.count sieve.now) rows.now }
+    requires seen { AreSeen (S.bucket sieve.now) (S.last sieve.now) (S.count sieve.now) seen.old.rows.items }
+    ensures starts { OnOk result (starts.new.items ≡ map (start_at (S.head sieve.now)) rows.now) }
+    ensures seen { AreSeen (S.bucket sieve.now) (S.last sieve.now) (S.count sieve.now) seen.new.rows.items }
 {
     starts.clear();
     for row in rows {
         let left = *row;
-        let head = sieve.head(left as usize);
+        let head = sieve.head(left as usize, seen);
         starts.push(Start { left, head })?;
     }
     Ok(())
@@ -89,14 +102,17 @@ impl<'a> Search<'a> {
         let mut kept = Vec::new(self.alloc);
         kept.resize(room, 0u32)?;
         let mut starts = Vec::with_capacity(self.alloc, room)?;
+        let mut seen = sieve.seen_rows(self.alloc)?;
         let mut at = Probe {
             left: from,
             from: 0,
         };
+        let mut next = FIRST_ROWS;
         'pieces: while at.left < rows {
-            let to = rows.min(at.left + room);
+            let to = rows.min(at.left + next);
             let count = keep_passing(sieve, at.left, to, &mut kept);
-            find_heads(sieve, &kept[..count], &mut starts)?;
+            find_heads(sieve, &kept[..count], &mut seen, &mut starts)?;
+            next = PIECE_ROWS.min(2 * next);
             let piece = Piece {
                 starts: starts.as_slice(),
                 own: sieve.is_own(),

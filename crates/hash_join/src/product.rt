@@ -4,7 +4,7 @@ ghost use Rattle.std.specs.Prelude.{◌≡◌, ◌≤◌, ◌<◌, IfSome};
 
 use crate::key_row::KeyRow;
 use hash_seed::HashSeed;
-use std::hash::{BuildHasher, Hasher};
+use std::hash::{BuildHasher, DefaultHasher, Hasher};
 
 // Buckets by the first bits of a sum: of the products of a number's halves with two secret numbers. Keys that are no number share
 // the first.
@@ -25,13 +25,30 @@ impl Product {
     pub(crate) fn new(seed: HashSeed, mask: usize) -> Product
         ensures { result.mask ≡ mask }
     {
-        let mut second = seed.build_hasher();
+        Product::of_hasher(seed.build_hasher(), mask)
+    }
+
+    // The same, with what a hasher hides that has taken in the seed.
+    pub(crate) fn of_hasher(hasher: DefaultHasher, mask: usize) -> Product
+        ensures { result.mask ≡ mask }
+    {
+        let mut second = hasher;
         second.write_u8(1);
         Product {
-            odd: seed.build_hasher().finish() | 1,
+            odd: hasher.finish() | 1,
             high: second.finish() | 1,
             shift: mask.leading_zeros().min(63),
             mask,
+        }
+    }
+
+    // One bucket.
+    pub(crate) fn one() -> Product {
+        Product {
+            odd: 1,
+            high: 1,
+            shift: 63,
+            mask: 0,
         }
     }
 

@@ -8,13 +8,16 @@ ghost use Rattle.hash_join.specs.Pairs.{places};
 ghost use Rattle.hash_join.specs.Hashes.{last_of};
 ghost use Rattle.hash_join.specs.KeyRows.{key_of, IsKeyRow};
 ghost use Rattle.hash_join.specs.Rights.{key_at, bucket_at, AreRights};
-ghost use Rattle.hash_join.specs.Codes.{code_at, code_of, AreOne};
+ghost use Rattle.hash_join.specs.Codes.{code_at, code_of};
+ghost use Rattle.hash_join.specs.Seen.{AreSeen};
 
 use crate::buckets::{Buckets, Hashing};
+use crate::key_codes::{any_has_codes, are_one};
 use crate::key_row::KeyRow;
 use crate::numbers::are_numbers;
 use crate::product::Product;
 use crate::ranks::Ranks;
+use crate::seen::SeenRows;
 use crate::spans::Span;
 use arrays::Batch;
 use hash_seed::HashSeed;
@@ -101,6 +104,20 @@ impl Rights {
         }
     }
 
+    // A table for the buckets of rows that are seen, without a row yet. It has places where keys are hashed, and some batch has
+    // codes.
+    pub(crate) fn seen_rows(&self, alloc: Global) -> Result<SeenRows, AllocError>
+        requires { AreRights self.now }
+        ensures { IfOk result (λ seen. AreSeen (bucket_at self.now) (last_of self.now.buckets) (length self.now.places.items) seen.rows.items) }
+    {
+        match &self.buckets {
+            Buckets::Hashed(hashing) if any_has_codes(&self.batches, &self.key) => {
+                SeenRows::new(alloc, hashing, self.places.len())
+            }
+            _ => Ok(SeenRows::none(alloc)),
+        }
+    }
+
     // Whether another row is there and surely has the same key: the same code of one dictionary, which takes no look at its
     // text, or the same values.
     pub(crate) fn is_repeat(&self, number: usize, other: usize) -> bool
@@ -115,7 +132,7 @@ impl Rights {
     }
 
     // Whether the keys of two rows are the same code of one dictionary.
-    fn have_one_code(&self, number: usize, other: usize) -> bool
+    pub(crate) fn have_one_code(&self, number: usize, other: usize) -> bool
         requires whole { AreRights self.now }
         requires within { number < length self.now.places.items }
         requires other { other < length self.now.places.items }
@@ -135,16 +152,6 @@ impl Rights {
         ensures within { IfSome result (λ bucket. bucket ≤ last_of self.now.buckets) }
     {
         self.buckets.bucket(&self.key_row(number))
-    }
-}
-
-// Whether two codes are there and are the same.
-fn are_one(code: Option<i128>, other: Option<i128>) -> bool
-    ensures { result ≡ true → AreOne code other }
-{
-    match (code, other) {
-        (Some(code), Some(other)) => code == other,
-        _ => false,
     }
 }
 

@@ -3,9 +3,11 @@
 ghost use Rattle.std.specs.Prelude.{◌≡◌, ◌≤◌, ◌<◌, ◌++◌, ◌==◌, [], IfOk, get_or, length, nat_le};
 ghost use Rattle.hash_join.specs.declared.buckets.Buckets.TheVariants as parted;
 ghost use Rattle.hash_join.specs.Hashes.{last_of};
+ghost use Rattle.hash_join.specs.KeyRows.{IsKeyRow};
 ghost use Rattle.hash_join.specs.Walks.{pairs_past};
-ghost use Rattle.hash_join.specs.Searches.{ahead_of, first_right, walk_at, AreHeads, AreKeysOf, IsSearch, Passes, Tells, TellsNumbers};
+ghost use Rattle.hash_join.specs.Searches.{ahead_of, walk_at, AreHeads, AreKeysOf, IsSearch, Passes, Tells, TellsNumbers};
 
+use crate::all_rows::AllRows;
 use crate::buckets::Buckets;
 use crate::build::{LeftSide, Probe};
 use crate::chains::Chains;
@@ -16,7 +18,7 @@ use crate::pair::Pair;
 use crate::product::Product;
 use crate::ranks::Ranks;
 use crate::rights::Rights;
-use crate::sieve::{AllRows, NumberRows, Sieve};
+use crate::sieve::{NumberRows, Sieve};
 use crate::walk::Walk;
 use arrays::{Cells, Integers, Layout};
 use arrow_schema::IntegerType;
@@ -303,20 +305,17 @@ impl<'a> Search<'a> {
         }
     }
 
-    // The first right row of a left row's chain; the number of right rows where it has none.
-    pub(crate) fn first_right(&self, row: usize) -> u32
+    // A left row by its key.
+    pub(crate) fn left_row(&self, row: usize) -> KeyRow<'_>
         requires whole { IsSearch self.now }
         requires row { row < (self.now).left.batch.now.rows }
-        ensures { result ≡ first_right self.now row }
+        ensures row { IsKeyRow result }
+        ensures left { result ≡ (walk_at self.now row).left }
     {
-        let key = KeyRow {
+        KeyRow {
             batch: self.left.batch,
             key: self.left.key,
             row,
-        };
-        match self.rights.buckets.bucket(&key) {
-            None => self.rights.places.len() as u32,
-            Some(bucket) => self.chains.heads[bucket],
         }
     }
 }

@@ -1,17 +1,18 @@
 //! Left rows, of which those that join nothing are mostly told by one look.
 
-ghost use Rattle.std.specs.Prelude.{◌≡◌, ◌≤◌, ◌<◌, ◌+◌, ◌&&◌, ℕ, Bool, if◌then◌else◌, false, true};
+ghost use Rattle.std.specs.Prelude.{◌≡◌, ◌≤◌, ◌<◌, ◌+◌, ◌&&◌, ℕ, Bool, IfOk, None, Option, if◌then◌else◌};
 ghost use Rattle.arrays.specs.Integers.{AreIntegers};
 ghost use Rattle.arrays.specs.Number.{integer_at};
 ghost use Rattle.arrays.specs.Validity.{is_valid};
 ghost use Rattle.hash_join.specs.declared.look.Told.{Told as ToldOf};
 ghost use Rattle.hash_join.specs.declared.look.Told.TheVariants as known;
-ghost use Rattle.hash_join.specs.Searches.{IsSearch};
+ghost use Rattle.hash_join.specs.Seen.{AreSeen};
 
 use crate::key_element::{KeyElement, is_known};
 use crate::look::{Look, Told};
-use crate::search::Search;
+use crate::seen::SeenRows;
 use arrays::Integers;
+use std::alloc::{AllocError, Global};
 use std::marker::PhantomData;
 
 // What is told of left rows by one look: those that do not pass join nothing.
@@ -26,6 +27,10 @@ pub(crate) trait Sieve {
 
     ghost own: { Self → Bool };
 
+    ghost bucket: { Self → ℕ → Option ℕ };
+
+    ghost last: { Self → ℕ };
+
     // Whether a row may join a right row.
     fn passes(&self, row: usize) -> bool
         requires { row < count self.now }
@@ -36,51 +41,20 @@ pub(crate) trait Sieve {
         requires { row < count self.now }
         ensures { result ≡ told self.now row };
 
+    // A table for the buckets of rows that are seen, without a row yet.
+    fn seen_rows(&self, alloc: Global) -> Result<SeenRows, AllocError>
+        ensures { IfOk result (λ seen. AreSeen (bucket self.now) (last self.now) (count self.now) seen.rows.items) };
+
     // The first right row of the chain of a row that passes; the number of right rows where it has none.
-    fn head(&self, row: usize) -> u32
-        requires { row < count self.now }
-        ensures { result ≡ head self.now row };
+    fn head(&self, row: usize, seen: &mut SeenRows) -> u32
+        requires row { row < count self.now }
+        requires seen { AreSeen (bucket self.now) (last self.now) (count self.now) seen.old.rows.items }
+        ensures head { result ≡ head self.now row }
+        ensures seen { AreSeen (bucket self.now) (last self.now) (count self.now) seen.new.rows.items };
 
     // Whether a row that passes joins each right row of its chain.
     fn is_own(&self) -> bool
         ensures { result ≡ own self.now };
-}
-
-// The rows of a left batch, each of which passes.
-#[derive(Clone, Copy, Drop)]
-pub(crate) struct AllRows<'a> {
-    pub(crate) search: Search<'a>,
-    ghost whole: { IsSearch search },
-}
-
-impl<'a> Sieve for AllRows<'a> {
-    ghost use Rattle.hash_join.specs.Searches.{first_right};
-
-    ghost count = { λ rows. rows.search.left.batch.now.rows };
-
-    ghost passes = { λ _ _. true };
-
-    ghost told = { λ _ _. known.Nothing };
-
-    ghost head = { λ rows row. first_right rows.search row };
-
-    ghost own = { λ _. false };
-
-    fn passes(&self, _row: usize) -> bool {
-        true
-    }
-
-    fn tell(&self, _row: usize) -> Told {
-        Told::Nothing
-    }
-
-    fn head(&self, row: usize) -> u32 {
-        self.search.first_right(row)
-    }
-
-    fn is_own(&self) -> bool {
-        false
-    }
 }
 
 // Rows whose keys are integers, as they lie, and what tells of a number.
@@ -108,6 +82,10 @@ impl<'a, E: KeyElement, L: Look> Sieve for NumberRows<'a, E, L> {
 
     ghost own = { λ rows. L.own rows.look.now };
 
+    ghost bucket = { λ _ _. None };
+
+    ghost last = { λ _. 0 };
+
     fn passes(&self, row: usize) -> bool {
         let _count = self.cells.len();
         let place = self.first + row;
@@ -126,7 +104,11 @@ impl<'a, E: KeyElement, L: Look> Sieve for NumberRows<'a, E, L> {
         self.look.tell(E::number_at(self.cells.values(), place))
     }
 
-    fn head(&self, row: usize) -> u32 {
+    fn seen_rows(&self, alloc: Global) -> Result<SeenRows, AllocError> {
+        Ok(SeenRows::none(alloc))
+    }
+
+    fn head(&self, row: usize, _seen: &mut SeenRows) -> u32 {
         let _count = self.cells.len();
         self.look
             .head(E::number_at(self.cells.values(), self.first + row))

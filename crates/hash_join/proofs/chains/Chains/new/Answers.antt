@@ -7,6 +7,6 @@ returns c =
     let rights = c.args.rights.now in
     let start : c.loop-row.row ≡ 0 = omega (arith, c.loop-row-test.false) in
     record {
-      linked = subst (λ (row : ℕ). HasLinked rights c.loop-row.heads.items c.loop-row.links.items row) start c.loop-row.invariant;
+      linked = subst (λ (row : ℕ). HasLinked rights c.loop-row.chains.heads.items c.loop-row.chains.links.items row) start c.loop-row.invariant.linked;
       repeats = subst (λ (links : List ℕ). AreRepeats rights links c.in_ok-repeats.repeats.items) c.deref.ensures.value c.in_ok-repeats.ensures;
     }

@@ -1,5 +1,5 @@
-use Rattle.hash_join.specs.Chains.{HasLinked}
+use Rattle.hash_join.specs.Seen.{AreOpen}
 use Rattle.hash_join.proofs.chains.Chains.new.Given as goal
 
 abbrev pub invariant-loop-row : goal.invariant-loop-row
-invariant-loop-row l = HasLinked l.rights l.heads.items l.links.items l.row
+invariant-loop-row l = AreOpen l.rights l.chains l.row

@@ -6,8 +6,8 @@ use Rattle.hash_join.specs.Searches.{ahead_of, probe_at, start_at, AreStarts}
 use Rattle.hash_join.proofs.Piecing.{kept_below, piece_begins, went_on}
 use Rattle.hash_join.proofs.search.Search.push_rows.Goals as goal
 
-pub find_heads-requires : goal.find_heads-requires
-find_heads-requires g c =
+pub find_heads-requires-clause-rows : goal.find_heads-requires-clause-rows
+find_heads-requires-clause-rows g c =
     let search = c.args.self.now in
     let passes = g.S.Sieve.passes c.args.sieve.now in
     let rows = g.S.Sieve.count c.args.sieve.now in
@@ -41,7 +41,7 @@ push_piece-requires-clause-starts g c =
     let long : length new ≡ c.pieces.kept.len = omega (arith, same, c.deref_mut.ensures.len) in
     let value : c.deref.result.now ≡ new = c.deref.ensures.value ∙ take_at new (drop (length new) c.pieces.kept.items) c.pieces.kept.len long in
     let kept : take count new ≡ filter passes (range_with_len left (to - left)) = c.keep_passing-count.ensures.kept in
-    let found : c.find_heads.new.starts.items ≡ map (start_at head) (take count c.deref.result.now) = c.in_ok-find_heads.ensures in
+    let found : c.find_heads.new.starts.items ≡ map (start_at head) (take count c.deref.result.now) = c.in_ok-find_heads.ensures.starts in
     let it = piece_begins search passes head own c.requires.sound c.requires.heads left to (take count c.deref.result.now) c.as_slice.result.now low within
     (ap (take count) value ∙ kept) (c.as_slice.ensures.value ∙ found) in
     let own_is : c.is_own.result ≡ own = c.is_own.ensures in
@@ -63,7 +63,7 @@ returns-then-len-most-clause-given g c =
     let long : length new ≡ c.pieces.kept.len = omega (arith, same, c.deref_mut.ensures.len) in
     let value : c.deref.result.now ≡ new = c.deref.ensures.value ∙ take_at new (drop (length new) c.pieces.kept.items) c.pieces.kept.len long in
     let kept : take count new ≡ filter passes (range_with_len left (to - left)) = c.keep_passing-count.ensures.kept in
-    let found : c.find_heads.new.starts.items ≡ map (start_at head) (take count c.deref.result.now) = c.in_ok-find_heads.ensures in
+    let found : c.find_heads.new.starts.items ≡ map (start_at head) (take count c.deref.result.now) = c.in_ok-find_heads.ensures.starts in
     let it = piece_begins search passes head own c.requires.sound c.requires.heads left to (take count c.deref.result.now) c.as_slice.result.now low within
     (ap (take count) value ∙ kept) (c.as_slice.ensures.value ∙ found) in
     went_on search c.requires.whole own c.pieces.at c.in_ok-at.at to c.as_slice.result.now c.pieces.pairs.items c.push_piece.new.pairs.items
@@ -86,7 +86,7 @@ pieces-preserved g c =
     let front = take_at new (drop (length new) c.pieces.kept.items) c.pieces.kept.len long in
     let value : c.deref.result.now ≡ new = c.deref.ensures.value ∙ front in
     let kept : take count new ≡ filter passes (range_with_len left (to - left)) = c.keep_passing-count.ensures.kept in
-    let found : c.find_heads.new.starts.items ≡ map (start_at head) (take count c.deref.result.now) = c.in_ok-find_heads.ensures in
+    let found : c.find_heads.new.starts.items ≡ map (start_at head) (take count c.deref.result.now) = c.in_ok-find_heads.ensures.starts in
     let it = piece_begins search passes head own c.requires.sound c.requires.heads left to (take count c.deref.result.now) c.as_slice.result.now low within
     (ap (take count) value ∙ kept) (c.as_slice.ensures.value ∙ found) in
     let less : length c.push_piece.new.pairs.items < c.args.most = omega (arith, c.if-len-most.false, c.len.ensures, c.push_piece.new.pairs.ok) in
@@ -101,4 +101,7 @@ pieces-preserved g c =
       all = went_on search c.requires.whole own c.pieces.at c.in_ok-at.at to c.as_slice.result.now c.pieces.pairs.items c.push_piece.new.pairs.items
           (c.args.pairs.now.items ++ ahead_of search (probe_at c.args.from 0)) c.pieces.invariant.first within it c.in_ok-at.ensures.given c.pieces.invariant.all;
       few = c.in_ok-at.ensures.few;
+      some = omega (arith, c.min-next.ensures, c.pieces.invariant.some);
+      room = omega (arith, c.min-next.ensures);
+      seen = c.find_heads.ensures.seen;
     }

@@ -1,5 +1,6 @@
-use Rattle.std.proofs.Common.{◌≡◌, ◌≤◌, ◌-◌, ◌++◌, length}
+use Rattle.std.proofs.Common.{◌≡◌, ◌≤◌, ◌<◌, ◌-◌, ◌++◌, length}
 use Rattle.hash_join.specs.Searches.{ahead_of, probe_at}
+use Rattle.hash_join.specs.Seen.{AreSeen}
 use Rattle.hash_join.proofs.search.Search.push_rows.Given as goal
 
 abbrev pub invariant-pieces : goal.invariant-pieces
@@ -10,6 +11,9 @@ invariant-pieces g l = record {
   kept : length l.kept.items ≡ l.room;
   all : l.pairs.items ++ ahead_of l.self l.at ≡ l.fn.pairs.items ++ ahead_of l.self (probe_at l.fn.from 0);
   few : length l.pairs.items ≤ l.most;
+  some : 0 < l.next;
+  room : l.next ≤ 4096;
+  seen : AreSeen (g.S.Sieve.bucket l.sieve) (g.S.Sieve.last l.sieve) (g.S.Sieve.count l.sieve) l.seen.rows.items;
 }
 
 abbrev pub decreases-pieces : goal.decreases-pieces

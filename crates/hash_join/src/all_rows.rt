@@ -1,0 +1,101 @@
+//! The rows of a left batch, none of which is passed over.
+
+ghost use Rattle.std.specs.Prelude.{false, true};
+ghost use Rattle.hash_join.specs.declared.look.Told.TheVariants as known;
+ghost use Rattle.hash_join.specs.Searches.{IsSearch};
+
+use crate::buckets::Buckets;
+use crate::key_codes::{are_one, has_codes};
+use crate::look::Told;
+use crate::search::Search;
+use crate::seen::{BucketRows, SeenRows};
+use crate::sieve::Sieve;
+use std::alloc::{AllocError, Global};
+
+// The rows of a left batch, each of which passes.
+#[derive(Clone, Copy, Drop)]
+pub(crate) struct AllRows<'a> {
+    pub(crate) search: Search<'a>,
+    ghost whole: { IsSearch search },
+}
+
+impl<'a> BucketRows for AllRows<'a> {
+    ghost use Rattle.hash_join.specs.Hashes.{last_of};
+    ghost use Rattle.hash_join.specs.Searches.{walk_at};
+    ghost use Rattle.hash_join.specs.Walks.{bucket_left};
+
+    ghost count = { λ rows. rows.search.left.batch.now.rows };
+
+    ghost bucket = { λ rows row. bucket_left (walk_at rows.search row) };
+
+    ghost last = { λ rows. last_of rows.search.rights.now.buckets };
+
+    fn count(&self) -> usize {
+        self.search.left.batch.rows()
+    }
+
+    fn code(&self, row: usize) -> Option<i128> {
+        self.search.left_row(row).code()
+    }
+
+    fn have_one_code(&self, row: usize, other: usize) -> bool {
+        let code = self.search.left_row(row).code();
+        are_one(code, self.search.left_row(other).code())
+    }
+
+    fn bucket(&self, row: usize) -> Option<usize> {
+        self.search
+            .rights
+            .buckets
+            .bucket(&self.search.left_row(row))
+    }
+}
+
+impl<'a> Sieve for AllRows<'a> {
+    ghost use Rattle.hash_join.specs.Hashes.{last_of};
+    ghost use Rattle.hash_join.specs.Searches.{first_right, walk_at};
+    ghost use Rattle.hash_join.specs.Walks.{bucket_left};
+
+    ghost count = { λ rows. rows.search.left.batch.now.rows };
+
+    ghost passes = { λ _ _. true };
+
+    ghost told = { λ _ _. known.Nothing };
+
+    ghost head = { λ rows row. first_right rows.search row };
+
+    ghost own = { λ _. false };
+
+    ghost bucket = { λ rows row. bucket_left (walk_at rows.search row) };
+
+    ghost last = { λ rows. last_of rows.search.rights.now.buckets };
+
+    fn passes(&self, _row: usize) -> bool {
+        true
+    }
+
+    fn tell(&self, _row: usize) -> Told {
+        Told::Nothing
+    }
+
+    fn seen_rows(&self, alloc: Global) -> Result<SeenRows, AllocError> {
+        let batch = self.search.left.batch;
+        match &self.search.rights.buckets {
+            Buckets::Hashed(hashing) if has_codes(batch, self.search.left.key) => {
+                SeenRows::new(alloc, hashing, batch.rows())
+            }
+            _ => Ok(SeenRows::none(alloc)),
+        }
+    }
+
+    fn head(&self, row: usize, seen: &mut SeenRows) -> u32 {
+        match seen.bucket(self, row) {
+            None => self.search.rights.places.len() as u32,
+            Some(bucket) => self.search.chains.heads[bucket],
+        }
+    }
+
+    fn is_own(&self) -> bool {
+        false
+    }
+}

@@ -1,0 +1,144 @@
+//! Buckets of rows that were seen, by the codes of their keys.
+
+ghost use Rattle.std.specs.Prelude.{◌≡◌, ◌≤◌, ◌<◌, ◌+◌, ◌^◌, [], ℕ, All, IfOk, IfSome, Option, length, true};
+ghost use Rattle.hash_join.specs.Seen.{AreSeen, IsSeen};
+
+use crate::buckets::Hashing;
+use crate::product::Product;
+use std::alloc::{AllocError, Global};
+
+// No table has more places: 512 KB.
+const MOST_PLACES: usize = 65_536;
+
+// A row that was seen, and the bucket of its key.
+#[derive(Clone, Copy, Drop)]
+pub(crate) struct SeenRow {
+    pub(crate) row: u32,
+    pub(crate) bucket: u32,
+}
+
+// For each place the row whose code fell there last. So it forgets rows, and has no place for each value of a dictionary. Who
+// asks looks whether that row has the same code.
+#[derive(Drop)]
+pub(crate) struct SeenRows {
+    product: Product,
+    pub(crate) rows: Vec<SeenRow>,
+}
+
+// Rows whose keys have buckets.
+pub(crate) trait BucketRows {
+    ghost count: { Self → ℕ };
+
+    ghost bucket: { Self → ℕ → Option ℕ };
+
+    ghost last: { Self → ℕ };
+
+    // How many rows there are.
+    fn count(&self) -> usize
+        ensures { result ≡ count self.now };
+
+    // The code that is a row's key; none where that is no code of a dictionary.
+    fn code(&self, row: usize) -> Option<i128>
+        requires { row < count self.now };
+
+    // Whether the keys of two rows are the same code of one dictionary.
+    fn have_one_code(&self, row: usize, other: usize) -> bool
+        requires row { row < count self.now }
+        requires other { other < count self.now }
+        ensures { result ≡ true → bucket self.now row ≡ bucket self.now other };
+
+    // The bucket of a row's key, by its values; none where a part of it is null.
+    fn bucket(&self, row: usize) -> Option<usize>
+        requires { row < count self.now }
+        ensures bucket { result ≡ bucket self.now row }
+        ensures within { IfSome result (λ found. found ≤ last self.now) };
+}
+
+impl SeenRows {
+    // A table without a place.
+    pub(crate) fn none(alloc: Global) -> SeenRows
+        ensures { result.rows.items ≡ [] }
+    {
+        SeenRows {
+            product: Product::one(),
+            rows: Vec::new(alloc),
+        }
+    }
+
+    // A table for so many rows, none of which was seen. It takes four bytes for each row, or less, and eight at least.
+    pub(crate) fn new(alloc: Global, hashing: &Hashing, rows: usize) -> Result<SeenRows, AllocError>
+        requires { rows < 2 ^ 32 }
+        ensures { IfOk result (λ seen. All (λ (at : SeenRow). 2 ^ 32 ≤ at.row + 1) seen.rows.items) }
+    {
+        let places = (rows / 4 + 1).next_power_of_two().min(MOST_PLACES);
+        let none = SeenRow {
+            row: u32::MAX,
+            bucket: 0,
+        };
+        let rows = vec![in alloc; none; places]?;
+        Ok(SeenRows {
+            product: Product::of_hasher(hashing.begun, places - 1),
+            rows,
+        })
+    }
+
+    // The bucket of a row's key. Its values are not looked at where the row that was seen last at its place has the same code.
+    pub(crate) fn bucket<R: BucketRows>(&mut self, rows: &R, row: usize) -> Option<usize>
+        requires row { row < R.count rows.now }
+        requires few { R.count rows.now < 2 ^ 32 }
+        requires last { R.last rows.now < 2 ^ 32 }
+        requires seen { AreSeen (R.bucket rows.now) (R.last rows.now) (R.count rows.now) self.old.rows.items }
+        ensures bucket { result ≡ R.bucket rows.now row }
+        ensures within { IfSome result (λ bucket. bucket ≤ R.last rows.now) }
+        ensures seen { AreSeen (R.bucket rows.now) (R.last rows.now) (R.count rows.now) self.new.rows.items }
+    {
+        if self.rows.is_empty() {
+            return rows.bucket(row);
+        }
+        let Some(code) = rows.code(row) else {
+            return rows.bucket(row);
+        };
+        let place = self.product.at(code);
+        if let Some(bucket) = self.bucket_at(rows, place, row) {
+            return Some(bucket);
+        }
+        let found = rows.bucket(row);
+        if let Some(bucket) = found {
+            self.keep(place, row, bucket);
+        }
+        found
+    }
+
+    // The bucket of a row's key, where the row at a place has the same code.
+    fn bucket_at<R: BucketRows>(&self, rows: &R, place: usize, row: usize) -> Option<usize>
+        requires row { row < R.count rows.now }
+        requires seen { AreSeen (R.bucket rows.now) (R.last rows.now) (R.count rows.now) self.now.rows.items }
+        ensures { IfSome result (λ bucket. IsSeen (R.bucket rows.now) (R.last rows.now) row bucket) }
+    {
+        if place >= self.rows.len() {
+            return None;
+        }
+        let seen = self.rows[place];
+        let other = seen.row as usize;
+        if other < rows.count() && rows.have_one_code(other, row) {
+            Some(seen.bucket as usize)
+        } else {
+            None
+        }
+    }
+
+    // Keeps a row and its bucket at a place, in the stead of what was there.
+    fn keep(&mut self, place: usize, row: usize, bucket: usize)
+        requires row { row < 2 ^ 32 }
+        requires bucket { bucket < 2 ^ 32 }
+        ensures { (buckets : ℕ → Option ℕ) (last count : ℕ) → IsSeen buckets last row bucket → AreSeen buckets last count self.old.rows.items →
+            AreSeen buckets last count self.new.rows.items }
+    {
+        if place < self.rows.len() {
+            self.rows[place] = SeenRow {
+                row: row as u32,
+                bucket: bucket as u32,
+            };
+        }
+    }
+}
