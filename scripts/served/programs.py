@@ -6,6 +6,7 @@ import os
 import socket
 import subprocess
 import threading
+import time
 from random import Random
 
 import framing
@@ -119,6 +120,31 @@ def joined_endpoints(run: Run) -> None:
         lines = printed("a", *map(str, range(1000)))
         for options in ((), ("--streams", "1"), ("--streams", "16")):
             same(f"query {options}", lines, query(run, server, "SELECT a FROM t", *options))
+
+
+@case("16 clients with 16 streams each on 4 seats: all end within 20 seconds, each with all rows in their order")
+def crowd(run: Run) -> str:
+    with run.serving("--parts", "64", "--seats", "4") as server:
+        same("put", printed("1000 rows"), put(run, server, "t", stream(A, [(row,) for row in range(1000)])))
+        words = [run.path, "query", "--port", str(server.port), "--streams", "16", "SELECT a FROM t"]
+        began = time.perf_counter()
+        clients = [subprocess.Popen(words, stdout=subprocess.PIPE, stderr=subprocess.PIPE) for _ in range(16)]
+        given = [ended(client, began + 20) for client in clients]
+        more = f"the last one after {time.perf_counter() - began:.1f} s"
+        for number, one in enumerate(given):
+            same(f"client {number}, of which nothing is known where it did not end", printed("a", *map(str, range(1000))), one)
+    return more
+
+
+def ended(client: subprocess.Popen[bytes], until: float) -> tuple[int, bytes, bytes] | None:
+    """The exit status of a program, and what it printed on both outputs; or None, where it did not end until then."""
+    try:
+        out, said = client.communicate(timeout=max(until - time.perf_counter(), 0))
+    except subprocess.TimeoutExpired:
+        client.kill()
+        client.communicate()
+        return None
+    return client.returncode, out, said
 
 
 def rows_in(data: bytes) -> list[list[object]]:

@@ -1,9 +1,8 @@
 -- Streams that are fetched side by side.
-use Rattle.std.proofs.Common.{◌≡◌, ℕ, ◌+◌, ◌<◌, arith, length, List, [], ◌∷◌, ◌++◌, All, map, Option, Some, Result, Ok, Err, refl, subst, sym, ap, ◌∙◌, inl, inr}
-use Rattle.std.specs.Prelude.{MatchResult}
+use Rattle.std.proofs.Common.{◌≡◌, ℕ, ◌+◌, ◌<◌, arith, length, List, [], ◌∷◌, ◌++◌, map, Option, None, Result, Ok, Err, refl, subst, sym, ap, ◌∙◌, inl, inr}
 use Rattle.std.specs.List.{flat_map}
 use Rattle.std.proofs.lemmas.List.{map-append, append-nil, append_assoc, length-append}
-use Rattle.std.proofs.lemmas.List.Elements.{All-append, All-cons, All-from_recursion}
+use Rattle.std.proofs.lemmas.List.Elements.{All-append, All-from_recursion}
 use Rattle.std.proofs.lemmas.Grind.{flat_map-append}
 use Rattle.flight_proto.specs.FlightInfo.{EndpointSaid}
 use Rattle.flight_proto.specs.Wanted.{Wanted, wanted_bytes}
@@ -17,8 +16,11 @@ use Rattle.client_calls.specs.Outcome.{Line, CallsAt}
 use Rattle.command_ends.specs.Network.{Ends}
 use Rattle.client_commands.specs.Fetching.{Asks, FetchesEach, FetchStops}
 use Rattle.client_commands.specs.Lines.{CanCount, opened_line}
-use Rattle.client_commands.specs.inside.Parts.{BothGive}
-use Rattle.client_commands.specs.Spread.{Run, IsRun, FetchesOver, FailsOver, GivesEach}
+use Rattle.client_commands.specs.declared.apart.Refused.{Refused}
+use Rattle.client_commands.specs.declared.lost.Lost.{Lost}
+use Rattle.client_commands.specs.declared.lost.Lost.TheVariants.{Failed, Unconnected}
+use Rattle.client_commands.specs.inside.Parts.{Apart, BothGive, FetchesAlone, FetchesPart, FetchesParts, JoinsLast, Settles, SpreadsOrNot, TriesAgain}
+use Rattle.client_commands.specs.Spread.{Run, IsRun, EachGives, FailsBy, FetchesBy, FetchesOver, GivesAtLast, Giving, IsAsked, RefusesTwice, SharesEach, StopsOver, UnconnectedBy}
 
 abbrev run_of : List EndpointSaid → List StreamAt → Line → Line → Run
 run_of endpoints streams old new = record { endpoints = endpoints; streams = streams; old = old; new = new }
@@ -45,33 +47,18 @@ one_fetched line last endpoints streams fetched = record {
 }
 
 pub one_stops : (line last : Line) (endpoints : List EndpointSaid) (failure : Failure) → FetchStops endpoints failure line last
-    → FailsOver (line ∷ []) endpoints failure
-one_stops line last endpoints failure stops = inl (record {
+    → StopsOver (line ∷ []) endpoints failure
+one_stops line last endpoints failure stops = record {
   runs = [];
   fetched = All-from_recursion IsRun [] tt;
   line = line;
-  others = [];
   over = refl;
   part = endpoints;
   rest = [];
   all = append-nil endpoints;
   last = last;
   stops = stops;
-})
-
-module _ {V : Type 0} (items : V → List StreamAt) (line : Line) (endpoints : List EndpointSaid) where
-  -- a connection that is closed is not seen any more
-  pub closed : (new : Line) (result : Result V Failure)
-      → MatchResult result (λ s. FetchesEach endpoints (items s) line new) (λ f. FetchStops endpoints f line new)
-      → MatchResult result (λ s. (last : Line) × FetchesEach endpoints (items s) line last) (λ f. (last : Line) × FetchStops endpoints f line last)
-  closed new (Ok s) fetched = (new, fetched)
-  closed new (Err f) stops = (new, stops)
-
-  pub alone : (result : Result V Failure)
-      → MatchResult result (λ s. (last : Line) × FetchesEach endpoints (items s) line last) (λ f. (last : Line) × FetchStops endpoints f line last)
-      → MatchResult result (λ s. FetchesOver (line ∷ []) endpoints (items s)) (λ f. FailsOver (line ∷ []) endpoints f)
-  alone (Ok s) fetched = one_fetched line fetched.0 endpoints (items s) fetched.1
-  alone (Err f) stops = one_stops line stops.0 endpoints f stops.1
+}
 
 -- ---- over one connection more
 
@@ -90,52 +77,48 @@ module _ (lines : List Line) (line last : Line) (front back : List EndpointSaid)
       }
 
   pub last_stops : (before : List StreamAt) (failure : Failure) → FetchesOver lines front before → FetchStops back failure line last
-      → FailsOver (lines ++ line ∷ []) (front ++ back) failure
-  last_stops before failure over stops = inl (record {
+      → StopsOver (lines ++ line ∷ []) (front ++ back) failure
+  last_stops before failure over stops = record {
     runs = over.runs;
     fetched = over.fetched;
     line = line;
-    others = [];
     over = ap (λ (l : List Line). l ++ line ∷ []) over.over;
     part = back;
     rest = [];
     all = ap (λ (l : List EndpointSaid). l ++ (back ++ [])) over.all ∙ ap (λ (l : List EndpointSaid). front ++ l) (append-nil back);
     last = last;
     stops = stops;
-  })
+  }
 
-pub front_stops : (lines more : List Line) (front back : List EndpointSaid) (failure : Failure) → FailsOver lines front failure
-    → FailsOver (lines ++ more) (front ++ back) failure
-front_stops lines more front back failure (inr memory) = inr memory
-front_stops lines more front back failure (inl stops) = inl (record {
+pub front_stops : (lines : List Line) (front back : List EndpointSaid) (failure : Failure) → StopsOver lines front failure
+    → StopsOver lines (front ++ back) failure
+front_stops lines front back failure stops = record {
   runs = stops.runs;
   fetched = stops.fetched;
   line = stops.line;
-  others = stops.others ++ more;
-  over = sym (append_assoc (map began stops.runs) (stops.line ∷ stops.others) more) ∙ ap (λ (l : List Line). l ++ more) stops.over;
+  over = stops.over;
   part = stops.part;
   rest = stops.rest ++ back;
   all = ap (λ (l : List EndpointSaid). flat_map asked stops.runs ++ l) (sym (append_assoc stops.part stops.rest back))
       ∙ (sym (append_assoc (flat_map asked stops.runs) (stops.part ++ stops.rest) back) ∙ ap (λ (l : List EndpointSaid). l ++ back) stops.all);
   last = stops.last;
   stops = stops.stops;
-})
+}
 
 -- ---- connections
 
--- one connection more
-pub gives_more : {N : Type 0} (Gives : N → Option Ends → N → Type 0) (made : List Ends) (ends : Ends) (old middle new : N)
-    → GivesEach Gives made old middle → Gives middle (Some ends) new → GivesEach Gives (made ++ ends ∷ []) old new
-gives_more {N} Gives [] ends old middle new same one = (new, subst (λ (from : N). Gives from (Some ends) new) same one, refl)
-gives_more Gives (e ∷ es) ends old middle new given one = (given.0, given.1, gives_more Gives es ends given.0 middle new given.2 one)
+-- one handle more
+pub shares_more : {N : Type 0} (Shares : N → N → N → Type 0) (handles : List N) (handle : N) (old middle new : N)
+    → SharesEach Shares handles old middle → Shares middle handle new → SharesEach Shares (handles ++ handle ∷ []) old new
+shares_more {N} Shares [] handle old middle new same one = (new, subst (λ (from : N). Shares from handle new) same one, refl)
+shares_more Shares (h ∷ hs) handle old middle new shared one = (shared.0, shared.1, shares_more Shares hs handle shared.0 middle new shared.2 one)
 
-pub one_more : (made : List Ends) (ends : Ends) (n : ℕ) → length made ≡ n → length (made ++ ends ∷ []) ≡ n + 1
-one_more made ends n is = omega (arith, length-append made (ends ∷ []), is)
+pub one_more : {A : Type 0} (items : List A) (item : A) (n : ℕ) → length items ≡ n → length (items ++ item ∷ []) ≡ n + 1
+one_more items item n is = omega (arith, length-append items (item ∷ []), is)
 
 -- no call of a connection has failed that was opened
-pub opened_count : (made : List Ends) → All CanCount (map opened_line made)
-opened_count [] = All-from_recursion CanCount [] tt
-opened_count (ends ∷ more) = All-cons CanCount (opened_line ends) (map opened_line more) (omega arith, omega arith) (opened_count more)
+pub opened_counts : (ends : Ends) → CanCount (opened_line ends)
+opened_counts ends = (omega arith, omega arith)
 
 -- no read and no write failed of a call that gave endpoints
 pub asked_counts : (wanted : Wanted) (endpoints : List EndpointSaid) (old new : Line) → Asks wanted (Ok endpoints) old new → CanCount old → CanCount new
@@ -150,29 +133,195 @@ asked_counts wanted endpoints old new asks can = by old.incoming.left asks
     by (Ok left) (inr refused) = let e = refused.1 in absurd cc
     by (Err stop) stopped = let e = stopped.0 in absurd cc
 
--- ---- over the first connections and the last one
+-- ---- over the connections of handles
 
-module _ (first last : Line) (others init : List Line) (endpoints front back : List EndpointSaid) (lines_are : others ≡ init ++ last ∷ []) (parts_are : endpoints ≡ front ++ back) where
-  all_fetched : (new : Line) (before behind streams : List StreamAt) → streams ≡ before ++ behind
-      → FetchesOver (first ∷ init) front before → FetchesEach back behind last new → FetchesOver (first ∷ others) endpoints streams
-  all_fetched new before behind streams are over fetched =
-      rw (lines_are, parts_are, are) (both_fetched (first ∷ init) last new front back before behind over fetched)
+module _ {N : Type 0} (Gives : N → Option Ends → N → Type 0) where
+  -- one connection more
+  gives_more : (handles : List N) (handle : N) (made : List Ends) (ends : Ends) → EachGives Gives handles made → GivesAtLast Gives handle ends
+      → EachGives Gives (handles ++ handle ∷ []) (made ++ ends ∷ [])
+  gives_more [] handle [] ends given one = (one, tt)
+  gives_more [] handle (m ∷ ms) ends given one = absurd given
+  gives_more (h ∷ hs) handle [] ends given one = absurd given
+  gives_more (h ∷ hs) handle (m ∷ ms) ends given one = (given.0, gives_more hs handle ms ends given.1 one)
 
-  last_fails : (new : Line) (before : List StreamAt) (failure : Failure)
-      → FetchesOver (first ∷ init) front before → FetchStops back failure last new → FailsOver (first ∷ others) endpoints failure
-  last_fails new before failure over stops =
-      rw (lines_are, parts_are) (last_stops (first ∷ init) last new front back before failure over stops)
+  -- the lines of one connection more
+  lines_more : (first : Line) (made : List Ends) (ends : Ends)
+      → (first ∷ map opened_line made) ++ opened_line ends ∷ [] ≡ first ∷ map opened_line (made ++ ends ∷ [])
+  lines_more first made ends = ap (λ (l : List Line). first ∷ l) (sym (map-append opened_line made (ends ∷ [])))
 
-  front_fails : (failure : Failure) → FailsOver (first ∷ init) front failure → FailsOver (first ∷ others) endpoints failure
-  front_fails failure fails = rw (lines_are, parts_are) (front_stops (first ∷ init) (last ∷ []) front back failure fails)
+  -- over the first connection alone
+  pub one_by : (first last : Line) (endpoints : List EndpointSaid) (streams : List StreamAt) → FetchesEach endpoints streams first last
+      → FetchesBy Gives first [] endpoints streams
+  one_by first last endpoints streams fetched = record { made = []; given = tt; over = one_fetched first last endpoints streams fetched }
 
-  pub put_together : {V : Type 0} (items : V → List StreamAt) (before behind result : Result V Failure)
-      → MatchResult before (λ s. FetchesOver (first ∷ init) front (items s)) (λ f. FailsOver (first ∷ init) front f)
-      → MatchResult behind (λ s. (new : Line) × FetchesEach back (items s) last new) (λ f. (new : Line) × FetchStops back f last new)
-      → BothGive items before behind result
-      → MatchResult result (λ s. FetchesOver (first ∷ others) endpoints (items s)) (λ f. FailsOver (first ∷ others) endpoints f)
-  put_together items (Err failure) behind result fails other is = rw is (front_fails failure fails)
-  put_together items (Ok before) (Err failure) result over stops is = rw is (last_fails stops.0 (items before) failure over stops.1)
-  put_together items (Ok before) (Ok behind) (Ok all) over fetched is =
-      all_fetched fetched.0 (items before) (items behind) (items all) is over fetched.1
-  put_together items (Ok before) (Ok behind) (Err failure) over fetched is = inr is
+  pub one_fails : (first last : Line) (endpoints : List EndpointSaid) (failure : Failure) → FetchStops endpoints failure first last
+      → FailsBy Gives first [] endpoints failure
+  one_fails first last endpoints failure stops = inl (record {
+    before = [];
+    behind = [];
+    some = refl;
+    made = [];
+    given = tt;
+    over = one_stops first last endpoints failure stops;
+  })
+
+  -- ---- over the first connections and that of the last handle
+
+  module _ (first : Line) (last : N) (handles init : List N) (endpoints front back : List EndpointSaid) (handles_are : handles ≡ init ++ last ∷ []) (parts_are : endpoints ≡ front ++ back) where
+    all_by : (ends : Ends) (new : Line) (before behind : List StreamAt) → FetchesBy Gives first init front before → GivesAtLast Gives last ends
+        → FetchesEach back behind (opened_line ends) new → FetchesBy Gives first handles endpoints (before ++ behind)
+    all_by ends new before behind by given fetched = rw (handles_are, parts_are) (record {
+      made = by.made ++ ends ∷ [];
+      given = gives_more init last by.made ends by.given given;
+      over = rw (lines_more first by.made ends) at (both_fetched (first ∷ map opened_line by.made) (opened_line ends) new front back before behind by.over fetched);
+    })
+
+    last_fails : (ends : Ends) (new : Line) (before : List StreamAt) (failure : Failure) → FetchesBy Gives first init front before → GivesAtLast Gives last ends
+        → FetchStops back failure (opened_line ends) new → FailsBy Gives first handles endpoints failure
+    last_fails ends new before failure by given stops = rw (handles_are, parts_are) (inl (record {
+      before = init ++ last ∷ [];
+      behind = [];
+      some = append-nil (init ++ last ∷ []);
+      made = by.made ++ ends ∷ [];
+      given = gives_more init last by.made ends by.given given;
+      over = rw (lines_more first by.made ends) at (last_stops (first ∷ map opened_line by.made) (opened_line ends) new front back before failure by.over stops);
+    }))
+
+    last_refuses : (before : List StreamAt) → FetchesBy Gives first init front before → RefusesTwice Gives last → UnconnectedBy Gives first handles endpoints
+    last_refuses before by refused = rw (handles_are, parts_are) (record {
+      before = init;
+      handle = last;
+      behind = [];
+      some = refl;
+      front = front;
+      rest = back;
+      all = refl;
+      streams = before;
+      fetched = by;
+      refused = refused;
+    })
+
+    module _ {V : Type 0} (items : V → List StreamAt) where
+      abbrev wrong : Lost → Result V Lost
+      wrong lost = Err lost
+
+      abbrev right : V → Result V Lost
+      right streams = Ok streams
+
+      -- the first parts were lost
+      pub front_lost : (lost : Lost) → FetchesParts Gives items front first init (Err lost) → FetchesParts Gives items endpoints first handles (Err lost)
+      front_lost (Failed failure) (inr memory) = inr memory
+      front_lost (Failed failure) (inl stops) = rw (handles_are, parts_are) (inl (record {
+        before = stops.before;
+        behind = stops.behind ++ last ∷ [];
+        some = sym (append_assoc stops.before stops.behind (last ∷ [])) ∙ ap (λ (l : List N). l ++ last ∷ []) stops.some;
+        made = stops.made;
+        given = stops.given;
+        over = front_stops (first ∷ map opened_line stops.made) front back failure stops.over;
+      }))
+      front_lost (Unconnected error) none = rw (handles_are, parts_are) (record {
+        before = none.before;
+        handle = none.handle;
+        behind = none.behind ++ last ∷ [];
+        some = sym (append_assoc none.before (none.handle ∷ none.behind) (last ∷ [])) ∙ ap (λ (l : List N). l ++ last ∷ []) none.some;
+        front = none.front;
+        rest = none.rest ++ back;
+        all = sym (append_assoc none.front none.rest back) ∙ ap (λ (l : List EndpointSaid). l ++ back) none.all;
+        streams = none.streams;
+        fetched = none.fetched;
+        refused = none.refused;
+      })
+
+      -- what came of the last part at last: its handle gave a connection, or refused twice
+      abbrev AtLast : Result (Result V Failure) (Refused N) → Type 0
+      AtLast (Ok fetched) = (ends : Ends) × GivesAtLast Gives last ends × FetchesPart items back fetched (opened_line ends)
+      AtLast (Err refused) = RefusesTwice Gives last
+
+      again_at_last : (refused : Refused N) (again : Result (Result V Failure) (Refused N)) → Gives last None refused.handle
+          → Apart Gives items back refused.handle again → AtLast again
+      again_at_last refused (Ok fetched) none apart = (apart.0, inr (refused.handle, none, apart.1), apart.2)
+      again_at_last refused (Err twice) none apart = (refused.handle, none, (twice.handle, apart))
+
+      at_last : (fetched : Result (Result V Failure) (Refused N)) (result : Result V Lost) → Apart Gives items back last fetched
+          → TriesAgain Gives items back fetched result → (settled : Result (Result V Failure) (Refused N)) × AtLast settled × Settles settled result
+      at_last (Ok fetched) result apart settles = (Ok fetched, (apart.0, inl apart.1, apart.2), settles)
+      at_last (Err refused) result apart again = (again.0, again_at_last refused again.0 apart again.1, again.2)
+
+      -- the last part was lost
+      pub last_lost : (before : List StreamAt) (fetched : Result (Result V Failure) (Refused N)) (lost : Lost) → FetchesBy Gives first init front before
+          → Apart Gives items back last fetched → TriesAgain Gives items back fetched (Err lost) → FetchesParts Gives items endpoints first handles (Err lost)
+      last_lost before fetched lost by apart again = let settled = at_last fetched (Err lost) apart again in which settled.0 settled.1 settled.2
+        where
+          as_lost : (cause : Lost) → lost ≡ cause → FetchesParts Gives items endpoints first handles (wrong cause) → FetchesParts Gives items endpoints first handles (Err lost)
+          as_lost cause same parts = subst (λ (l : Lost). FetchesParts Gives items endpoints first handles (wrong l)) (sym same) parts
+
+          same_lost : (cause : Lost) → wrong lost ≡ wrong cause → lost ≡ cause
+          same_lost cause e = cc
+
+          which : (settled : Result (Result V Failure) (Refused N)) → AtLast settled → Settles settled (Err lost) → FetchesParts Gives items endpoints first handles (Err lost)
+          which (Ok (Ok streams)) part is = absurd cc
+          which (Ok (Err failure)) part is =
+              as_lost (Failed failure) (same_lost (Failed failure) is) (last_fails part.0 part.2.0 before failure by part.1 part.2.1)
+          which (Err refused) part is =
+              as_lost (Unconnected refused.error) (same_lost (Unconnected refused.error) is) (last_refuses before by part)
+
+      -- all parts were fetched
+      pub last_fetched : (before : List StreamAt) (fetched : Result (Result V Failure) (Refused N)) (more : V) → FetchesBy Gives first init front before
+          → Apart Gives items back last fetched → TriesAgain Gives items back fetched (Ok more) → FetchesBy Gives first handles endpoints (before ++ items more)
+      last_fetched before fetched more by apart again = let settled = at_last fetched (Ok more) apart again in which settled.0 settled.1 settled.2
+        where
+          same : (streams : V) → right more ≡ right streams → more ≡ streams
+          same streams e = cc
+
+          which : (settled : Result (Result V Failure) (Refused N)) → AtLast settled → Settles settled (Ok more) → FetchesBy Gives first handles endpoints (before ++ items more)
+          which (Ok (Ok streams)) part is =
+              all_by part.0 part.2.0 before (items more) by part.1
+              (subst (λ (v : V). FetchesEach back (items v) (opened_line part.0) part.2.0) (sym (same streams is)) part.2.1)
+          which (Ok (Err failure)) part is = absurd cc
+          which (Err refused) part is = absurd cc
+
+      -- both parts, put together
+      pub put_together : (before : Result V Lost) (behind : Result (Result V Failure) (Refused N)) (result : Result V Lost)
+          → FetchesParts Gives items front first init before → Apart Gives items back last behind → BothGive Gives items back before behind result
+          → FetchesParts Gives items endpoints first handles result
+      put_together (Err lost) behind result parts apart is = rw is (front_lost lost parts)
+      put_together (Ok before) behind result by apart both = joins both.0 result both.1 both.2
+        where
+          whole : (more all : V) → items all ≡ items before ++ items more → TriesAgain Gives items back behind (Ok more) → FetchesBy Gives first handles endpoints (items all)
+          whole more all is again = rw is (last_fetched (items before) behind more by apart again)
+
+          joins : (last : Result V Lost) (result : Result V Lost) → TriesAgain Gives items back behind last → JoinsLast items before last result
+              → FetchesParts Gives items endpoints first handles result
+          joins (Err lost) result again is = rw is (last_lost (items before) behind lost by apart again)
+          joins (Ok more) (Ok all) again is = whole more all is again
+          joins (Ok more) (Err lost) again is =
+              subst (λ (l : Lost). FetchesParts Gives items endpoints first handles (wrong l)) (sym is) (inr refl)
+
+  -- over the first connection alone, where there is no handle
+  pub alone_by : {V : Type 0} (items : V → List StreamAt) (endpoints : List EndpointSaid) (line : Line) (handles : List N) (result : Result V Lost)
+      → handles ≡ [] → FetchesAlone items endpoints result line → FetchesParts Gives items endpoints line handles result
+  alone_by items endpoints line handles (Ok streams) none fetched =
+      subst (λ (l : List N). FetchesBy Gives line l endpoints (items streams)) (sym none) (one_by line fetched.0 endpoints (items streams) fetched.1)
+  alone_by items endpoints line handles (Err (Failed failure)) none stops =
+      subst (λ (l : List N). FailsBy Gives line l endpoints failure) (sym none) (one_fails line stops.0 endpoints failure stops.1)
+  alone_by items endpoints line handles (Err (Unconnected error)) none wrong_end = absurd wrong_end
+
+-- ---- all
+
+-- it was asked, and the rows were lost
+pub lost_spread : {N V : Type 0} (Gives : Giving N) (Shares : N → N → N → Type 0) (items : V → List StreamAt) (streams : ℕ) (wanted : Wanted)
+    (old new : N) (first last : Line) (endpoints parts : List EndpointSaid) (handles : List N) (lost : Lost) → parts ≡ endpoints
+    → IsAsked Shares streams wanted old new first last endpoints handles → FetchesParts Gives items parts last handles (Err lost)
+    → SpreadsOrNot Gives Shares streams wanted old new (Err lost) first last
+lost_spread Gives Shares items streams wanted old new first last endpoints parts handles (Failed failure) same is_asked fails = inr (record {
+  endpoints = endpoints;
+  handles = handles;
+  asked = is_asked;
+  why = inl (subst (λ (l : List EndpointSaid). FailsBy Gives last handles l failure) same fails);
+})
+lost_spread Gives Shares items streams wanted old new first last endpoints parts handles (Unconnected error) same is_asked none = record {
+  endpoints = endpoints;
+  handles = handles;
+  asked = is_asked;
+  why = subst (λ (l : List EndpointSaid). UnconnectedBy Gives last handles l) same none;
+}

@@ -3,7 +3,7 @@ use Rattle.std.specs.Prelude.{◌≡◌, ◌≢◌, ◌⊎◌, ℕ, List, Option
 use Rattle.std.specs.List.{flat_map}
 use Rattle.scan_base.specs.declared.fault.Fault.{Fault}
 use Rattle.scan_base.specs.declared.fault.Fault.TheVariants.{OutOfMemory, Transport}
-use Rattle.flight_proto.specs.Wanted.{rows_of, tables}
+use Rattle.flight_proto.specs.Wanted.{Wanted, rows_of, tables}
 use Rattle.ipc_stream.specs.declared.message.IpcMessage.{IpcMessage}
 use Rattle.table_versions.specs.Table.{Table}
 use Rattle.row_lines.specs.Lines.{name_line}
@@ -22,7 +22,7 @@ use Rattle.command_ends.specs.declared.exit_status.ExitStatus.{ExitStatus}
 use Rattle.command_ends.specs.declared.exit_status.ExitStatus.TheVariants.{FaultAtThisEnd}
 use Rattle.client_commands.specs.Fetching.{Fetches}
 use Rattle.client_commands.specs.Lines.{opened_line}
-use Rattle.client_commands.specs.Spread.{FetchesSpread}
+use Rattle.client_commands.specs.Spread.{FetchesSpread, IsUnconnected}
 use Rattle.client_commands.specs.Names.{names_listed}
 use Rattle.client_commands.specs.Told.{Tells}
 use Rattle.client_commands.specs.Rows.{TellsRows}
@@ -66,10 +66,23 @@ abbrev pub GivesFirst : {N : Type 0} → (N → Option Ends → N → Type 0) �
 GivesFirst Gives old middle new None = Gives old None new
 GivesFirst Gives old middle new (Some ends) = Gives old (Some ends) middle
 
+-- The network gave the first connection, and the rows were not fetched, since it gave no further one: nothing is printed on the
+-- output, and why is said.
+pub record IsCutOff {N : Type 0} (Gives : N → Option Ends → N → Type 0) (Shares : N → N → N → Type 0) (streams : ℕ) (wanted : Wanted)
+    (before middle behind : N) (status : ExitStatus) (old new : Desk) : Type 0 where
+  pub ends : Ends
+  pub given : Gives before (Some ends) middle
+  pub last : Line
+  pub unconnected : IsUnconnected Gives Shares streams wanted middle behind (opened_line ends) last
+  pub cause : List ℕ
+  pub says : EndsBy (cause_lines cause) status old new
+
 -- the rows that a query answers, fetched over up to `streams` connections, are told in a format
-abbrev pub Queries : {N : Type 0} → (N → Option Ends → N → Type 0) → ℕ → List ℕ → Format → N → N → ExitStatus → Desk → Desk → Type 0
-Queries {N} Gives streams sql format before behind status old new =
-    (middle : N) × Connects (GivesFirst Gives before middle behind) (FetchesSpread Gives streams (rows_of sql) middle behind) (TellsRows format) status old new
+abbrev pub Queries : {N : Type 0} → (N → Option Ends → N → Type 0) → (N → N → N → Type 0) → ℕ → List ℕ → Format → N → N → ExitStatus → Desk → Desk → Type 0
+Queries {N} Gives Shares streams sql format before behind status old new =
+    (middle : N) × (Connects (GivesFirst Gives before middle behind)
+    (FetchesSpread Gives Shares streams (rows_of sql) middle behind) (TellsRows format) status old new
+    ⊎ IsCutOff Gives Shares streams (rows_of sql) before middle behind status old new)
 
 -- ---- tables
 

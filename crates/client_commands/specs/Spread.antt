@@ -1,5 +1,5 @@
 -- How rows are fetched side by side: over several connections, each with endpoints of its own.
-use Rattle.std.specs.Prelude.{◌≡◌, ◌≢◌, ◌⊎◌, ◌<◌, ◌-◌, ℕ, List, [], ◌∷◌, ◌++◌, All, map, min, length, Option, Some, None, Result, Ok, Err}
+use Rattle.std.specs.Prelude.{◌≡◌, ◌≢◌, ◌⊎◌, ◌-◌, ℕ, List, [], ◌∷◌, ◌++◌, All, map, min, length, Option, Some, None, Result, Ok, Err}
 use Rattle.std.specs.List.{flat_map}
 use Rattle.scan_base.specs.declared.fault.Fault.{Fault}
 use Rattle.scan_base.specs.declared.fault.Fault.TheVariants.{OutOfMemory}
@@ -14,6 +14,32 @@ use Rattle.client_calls.specs.Outcome.{Line}
 use Rattle.command_ends.specs.Network.{Ends}
 use Rattle.client_commands.specs.Fetching.{Asks, FetchesEach, FetchStops}
 use Rattle.client_commands.specs.Lines.{opened_line}
+
+-- ---- connections
+
+-- these handles of the network were asked for, one behind the other
+abbrev pub SharesEach : {N : Type 0} → (N → N → N → Type 0) → List N → N → N → Type 0
+SharesEach Shares [] old new = new ≡ old
+SharesEach {N} Shares (handle ∷ handles) old new = (middle : N) × Shares old handle middle × SharesEach Shares handles middle new
+
+-- what came of asking a handle for a connection: one of these ends, or none
+abbrev pub Giving : Type 0 → Type 1
+Giving N = N → Option Ends → N → Type 0
+
+-- a handle gave this connection: at once; or it gave none, and this one when it was asked once more
+abbrev pub GivesAtLast : {N : Type 0} → Giving N → N → Ends → Type 0
+GivesAtLast {N} Gives handle ends =
+    ((new : N) × Gives handle (Some ends) new) ⊎ ((middle : N) × Gives handle None middle × ((new : N) × Gives middle (Some ends) new))
+
+-- a handle gave none, and none when it was asked once more
+abbrev pub RefusesTwice : {N : Type 0} → Giving N → N → Type 0
+RefusesTwice {N} Gives handle = (middle : N) × Gives handle None middle × ((new : N) × Gives middle None new)
+
+-- each handle gave the connection at its place
+abbrev pub EachGives : {N : Type 0} → Giving N → List N → List Ends → Type 0
+EachGives Gives [] [] = Unit {0}
+EachGives Gives (handle ∷ handles) (ends ∷ made) = GivesAtLast Gives handle ends × EachGives Gives handles made
+EachGives Gives _ _ = ⊥
 
 -- ---- streams
 
@@ -36,43 +62,59 @@ pub record FetchesOver (lines : List Line) (endpoints : List EndpointSaid) (stre
   pub all : flat_map (λ (run : Run). run.endpoints) runs ≡ endpoints
   pub in_order : flat_map (λ (run : Run). run.streams) runs ≡ streams
 
--- the first connections fetched all of their endpoints; and the next one stopped with this failure
+-- the first connections fetched all of their endpoints; and the last of these connections stopped with this failure
 pub record StopsOver (lines : List Line) (endpoints : List EndpointSaid) (failure : Failure) : Type 0 where
   pub runs : List Run
   pub fetched : All IsRun runs
   pub line : Line
-  pub others : List Line
-  pub over : map (λ (run : Run). run.old) runs ++ line ∷ others ≡ lines
+  pub over : map (λ (run : Run). run.old) runs ++ line ∷ [] ≡ lines
   pub part : List EndpointSaid
   pub rest : List EndpointSaid
   pub all : flat_map (λ (run : Run). run.endpoints) runs ++ (part ++ rest) ≡ endpoints
   pub last : Line
   pub stops : FetchStops part failure line last
 
+-- ---- streams over the connections of handles
+
+-- each handle gave a connection, and the first one and these fetched the streams, in this order
+pub record FetchesBy {N : Type 0} (Gives : Giving N) (first : Line) (handles : List N) (endpoints : List EndpointSaid) (streams : List StreamAt) : Type 0 where
+  pub made : List Ends
+  pub given : EachGives Gives handles made
+  pub over : FetchesOver (first ∷ map opened_line made) endpoints streams
+
+-- some handles gave a connection, and the last one of the first one and these stopped with this failure
+pub record StopsBy {N : Type 0} (Gives : Giving N) (first : Line) (handles : List N) (endpoints : List EndpointSaid) (failure : Failure) : Type 0 where
+  pub before : List N
+  pub behind : List N
+  pub some : before ++ behind ≡ handles
+  pub made : List Ends
+  pub given : EachGives Gives before made
+  pub over : StopsOver (first ∷ map opened_line made) endpoints failure
+
+-- the streams of all endpoints before those of this handle were fetched, and it gave no connection
+pub record UnconnectedBy {N : Type 0} (Gives : Giving N) (first : Line) (handles : List N) (endpoints : List EndpointSaid) : Type 0 where
+  pub before : List N
+  pub handle : N
+  pub behind : List N
+  pub some : before ++ handle ∷ behind ≡ handles
+  pub front : List EndpointSaid
+  pub rest : List EndpointSaid
+  pub all : front ++ rest ≡ endpoints
+  pub streams : List StreamAt
+  pub fetched : FetchesBy Gives first before front streams
+  pub refused : RefusesTwice Gives handle
+
 -- the failure of the first endpoint that has one, or memory for all streams was refused
-abbrev pub FailsOver : List Line → List EndpointSaid → Failure → Type 0
-FailsOver lines endpoints failure = StopsOver lines endpoints failure ⊎ (failure ≡ Found OutOfMemory)
+abbrev pub FailsBy : {N : Type 0} → Giving N → Line → List N → List EndpointSaid → Failure → Type 0
+FailsBy Gives first handles endpoints failure = StopsBy Gives first handles endpoints failure ⊎ (failure ≡ Found OutOfMemory)
 
 -- all streams were fetched, and they do not join, or memory for their rows is refused
-pub record NotJoinedOver (lines : List Line) (endpoints : List EndpointSaid) (failure : Failure) : Type 0 where
+pub record NotJoinedBy {N : Type 0} (Gives : Giving N) (first : Line) (handles : List N) (endpoints : List EndpointSaid) (failure : Failure) : Type 0 where
   pub streams : List StreamAt
-  pub fetched : FetchesOver lines endpoints streams
+  pub fetched : FetchesBy Gives first handles endpoints streams
   pub fault : Fault
   pub failure_is : failure ≡ Found fault
   pub refused : fault ≢ OutOfMemory → joined streams ≡ Err fault
-
--- ---- connections
-
--- the network gave each of these connections, one behind the other
-abbrev pub GivesEach : {N : Type 0} → (N → Option Ends → N → Type 0) → List Ends → N → N → Type 0
-GivesEach Gives [] old new = new ≡ old
-GivesEach {N} Gives (ends ∷ more) old new = (middle : N) × Gives old (Some ends) middle × GivesEach Gives more middle new
-
--- the network gave these connections, as many as were asked for; or fewer, and then none
-pub record Opens {N : Type 0} (Gives : N → Option Ends → N → Type 0) (most : ℕ) (made : List Ends) (old new : N) : Type 0 where
-  pub middle : N
-  pub each : GivesEach Gives made old middle
-  pub ended : ((length made ≡ most) × (new ≡ middle)) ⊎ ((length made < most) × Gives middle None new)
 
 -- ---- all
 
@@ -80,28 +122,48 @@ pub record Opens {N : Type 0} (Gives : N → Option Ends → N → Type 0) (most
 abbrev pub most_others : ℕ → List EndpointSaid → ℕ
 most_others streams endpoints = min streams (length endpoints) - 1
 
--- where rows are fetched was asked over the first connection, the streams were fetched over it and the others that the
--- network gave, and the rows are those of the streams joined in the order of the endpoints
-pub record IsSpread {N : Type 0} (Gives : N → Option Ends → N → Type 0) (streams : ℕ) (wanted : Wanted) (rows : Table) (old new : N) (first last : Line) : Type 0 where
-  pub endpoints : List EndpointSaid
+-- where rows are fetched was asked over the first connection, and a handle was made for each further one
+pub record IsAsked {N : Type 0} (Shares : N → N → N → Type 0) (streams : ℕ) (wanted : Wanted) (old new : N) (first last : Line)
+    (endpoints : List EndpointSaid) (handles : List N) : Type 0 where
   pub asked : Asks wanted (Ok endpoints) first last
-  pub others : List Ends
-  pub opened : Opens Gives (most_others streams endpoints) others old new
+  pub many : length handles ≡ most_others streams endpoints
+  pub shared : SharesEach Shares handles old new
+
+-- The streams were fetched over the first connection and those of the handles. The rows are those of the streams joined in the
+-- order of the endpoints.
+pub record IsSpread {N : Type 0} (Gives : Giving N) (Shares : N → N → N → Type 0) (streams : ℕ) (wanted : Wanted) (rows : Table)
+    (old new : N) (first last : Line) : Type 0 where
+  pub endpoints : List EndpointSaid
+  pub handles : List N
+  pub asked : IsAsked Shares streams wanted old new first last endpoints handles
   pub fetched : List StreamAt
-  pub over : FetchesOver (last ∷ map opened_line others) endpoints fetched
+  pub over : FetchesBy Gives last handles endpoints fetched
   pub rows_are : joined fetched ≡ Ok rows
 
--- it was asked, and the rows were not fetched; where memory for connections was refused, these were given
-pub record IsNotSpread {N : Type 0} (Gives : N → Option Ends → N → Type 0) (streams : ℕ) (wanted : Wanted) (failure : Failure) (old new : N) (first last : Line) : Type 0 where
+-- it was asked, and the rows were not fetched
+pub record IsNotSpread {N : Type 0} (Gives : Giving N) (Shares : N → N → N → Type 0) (streams : ℕ) (wanted : Wanted) (failure : Failure)
+    (old new : N) (first last : Line) : Type 0 where
   pub endpoints : List EndpointSaid
-  pub asked : Asks wanted (Ok endpoints) first last
-  pub others : List Ends
-  pub why : (GivesEach Gives others old new × (failure ≡ Found OutOfMemory))
-      ⊎ (Opens Gives (most_others streams endpoints) others old new
-      × (FailsOver (last ∷ map opened_line others) endpoints failure ⊎ NotJoinedOver (last ∷ map opened_line others) endpoints failure))
+  pub handles : List N
+  pub asked : IsAsked Shares streams wanted old new first last endpoints handles
+  pub why : FailsBy Gives last handles endpoints failure ⊎ NotJoinedBy Gives last handles endpoints failure
+
+-- it was asked, and the rows were not fetched, since a handle gave no connection
+pub record IsUnconnected {N : Type 0} (Gives : Giving N) (Shares : N → N → N → Type 0) (streams : ℕ) (wanted : Wanted)
+    (old new : N) (first last : Line) : Type 0 where
+  pub endpoints : List EndpointSaid
+  pub handles : List N
+  pub asked : IsAsked Shares streams wanted old new first last endpoints handles
+  pub why : UnconnectedBy Gives last handles endpoints
+
+-- where rows are fetched was not answered; or it was, and memory for handles was refused
+abbrev pub StopsEarly : Wanted → Failure → Line → Line → Type 0
+StopsEarly wanted failure first last =
+    Asks wanted (Err failure) first last
+    ⊎ ((failure ≡ Found OutOfMemory) × ((endpoints : List EndpointSaid) × Asks wanted (Ok endpoints) first last))
 
 -- the rows that are wanted, or the first failure in the order of the endpoints
-abbrev pub FetchesSpread : {N : Type 0} → (N → Option Ends → N → Type 0) → ℕ → Wanted → N → N → Result Table Failure → Line → Line → Type 0
-FetchesSpread Gives streams wanted old new (Ok rows) first last = IsSpread Gives streams wanted rows old new first last
-FetchesSpread Gives streams wanted old new (Err failure) first last =
-    (Asks wanted (Err failure) first last × (new ≡ old)) ⊎ IsNotSpread Gives streams wanted failure old new first last
+abbrev pub FetchesSpread : {N : Type 0} → Giving N → (N → N → N → Type 0) → ℕ → Wanted → N → N → Result Table Failure → Line → Line → Type 0
+FetchesSpread Gives Shares streams wanted old new (Ok rows) first last = IsSpread Gives Shares streams wanted rows old new first last
+FetchesSpread Gives Shares streams wanted old new (Err failure) first last =
+    (StopsEarly wanted failure first last × (new ≡ old)) ⊎ IsNotSpread Gives Shares streams wanted failure old new first last

@@ -1,11 +1,11 @@
 //! Connecting to the server.
 
-ghost use Rattle.std.specs.Prelude.{◌≡◌, ℕ, List, Some, None, map, MatchResult};
+ghost use Rattle.std.specs.Prelude.{◌≡◌, ℕ, List, Some, None, length, MatchResult};
 ghost use Rattle.grpc_frame.specs.Ends.{CanFail};
 ghost use Rattle.command_ends.specs.Network.{Ends};
 ghost use Rattle.command_ends.specs.Printing.{Prints, cause_lines, said_of};
 ghost use Rattle.client_commands.specs.Lines.{opened_line};
-ghost use Rattle.client_commands.specs.Spread.{GivesEach, Opens};
+ghost use Rattle.client_commands.specs.Spread.{SharesEach};
 ghost use Rattle.command_ends.specs.declared.exit_status.ExitStatus.TheVariants.{FaultAtThisEnd};
 
 use client_calls::Connection;
@@ -33,30 +33,25 @@ pub(crate) fn open<C: Connect>(
     Ok(Connection::new(alloc, reader, writer))
 }
 
-/// Opens further connections: `most`, or as many as the network gives. Nothing came of them yet.
+/// So many further handles of a network.
 ///
 /// # Errors
 ///
-/// Where memory is refused for so many.
-pub(crate) fn open_more<C: Connect>(
+/// Where memory is refused for them. The network was asked for none then.
+pub(crate) fn share_each<C: Connect>(
     alloc: Global,
     network: &mut C,
-    port: u16,
     most: usize,
-) -> Result<Vec<Connection<C::Reader, C::Writer>>, AllocError>
+) -> Result<Vec<C>, AllocError>
     ensures { MatchResult result
-        (λ connections. (made : List Ends) × Opens (λ old ends new. C.connects old port ends new) most made network.old network.new
-        × (connections.items ≡ map opened_line made))
-        (λ _. (made : List Ends) × GivesEach (λ old ends new. C.connects old port ends new) made network.old network.new) }
+        (λ handles. (length handles.items ≡ most) × SharesEach C.shares handles.items network.old network.new)
+        (λ _. network.new ≡ network.old) }
 {
-    let mut connections = Vec::with_capacity(alloc, most)?;
+    let mut handles = Vec::with_capacity(alloc, most)?;
     for _made in 0..most {
-        match open(alloc, network, port) {
-            Ok(connection) => connections.push_reserved(connection),
-            Err(_) => return Ok(connections),
-        }
+        handles.push_reserved(network.share());
     }
-    Ok(connections)
+    Ok(handles)
 }
 
 /// Prints F22, and in a second line that no connection was made to this port, and why.

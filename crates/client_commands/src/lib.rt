@@ -4,8 +4,10 @@
 //! connection, `specs/Spread.antt` how over several, and `specs/Commands.antt` what each command does.
 #![tactic(auto)]
 
+mod apart;
 mod connecting;
 mod fetching;
+mod lost;
 mod names;
 pub mod put;
 pub mod query;

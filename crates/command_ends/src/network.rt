@@ -17,6 +17,9 @@ pub trait Connect {
     // What came of asking for a connection to a port: one of these ends, or none.
     ghost connects: { Self → ℕ → Option Ends → Self → Type 0 };
 
+    // What came of asking for another handle: this one.
+    ghost shares: { Self → Self → Self → Type 0 };
+
     /// Connects to a port of this machine. No call of the connection's ends has failed yet.
     ///
     /// # Errors
@@ -28,6 +31,10 @@ pub trait Connect {
         ensures refused { IfErr result (λ _. connects self.old port None self.new) }
         ensures reads { IfOk result (λ ends. Self.Reader.failures ends.0 ≡ 0) }
         ensures writes { IfOk result (λ ends. Self.Writer.failures ends.1 ≡ 0) };
+
+    /// Another handle of the same network, by which another thread connects.
+    fn share(&mut self) -> Self
+        ensures { shares self.old result self.new };
 }
 
 /// Takes connections of clients.

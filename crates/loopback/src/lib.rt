@@ -73,8 +73,14 @@ impl<R: Net<Listener = TcpListener, Stream = TcpStream>> Connect for Loopback<'_
 
     ghost connects = { λ _ _ _ _. Unit {0} };
 
+    ghost shares = { λ _ _ _. Unit {0} };
+
     fn connect(&mut self, port: u16) -> io::Result<(Counted<TcpStream>, SocketWriter)> {
         ends_of(TcpStream::connect(self.rt, (Ipv4Addr::LOCALHOST, port))?)
+    }
+
+    fn share(&mut self) -> Self {
+        Loopback { rt: self.rt }
     }
 }
 

@@ -123,7 +123,7 @@ pub(crate) fn ask_rows<R>(
     told: &mut String,
 ) -> Result<(), AllocError>
 where
-    R: Net<Listener = TcpListener, Stream = TcpStream> + AllocGlobal + Threads,
+    R: Net<Listener = TcpListener, Stream = TcpStream> + AllocGlobal + Threads + Sync,
     requires { lines.failures ≡ 0 }
 {
     let alloc = rt.alloc();
@@ -137,7 +137,7 @@ where
 // One connection is made for each of them but the query of all rows, for which two are.
 pub(crate) fn run_commands<R>(rt: &R, port: u16, told: &mut String) -> Result<(), Failure>
 where
-    R: Net<Listener = TcpListener, Stream = TcpStream> + AllocGlobal + Threads,
+    R: Net<Listener = TcpListener, Stream = TcpStream> + AllocGlobal + Threads + Sync,
 {
     let alloc = rt.alloc();
     put_stream(rt, created(port, "t"), STREAM, told)?;
@@ -200,6 +200,17 @@ impl<'a> Connect for Answering<'a> {
     type Writer = MemoryOutput;
 
     ghost connects = { λ _ _ _ _. Unit {0} };
+
+    ghost shares = { λ _ _ _. Unit {0} };
+
+    // No case asks for another.
+    fn share(&mut self) -> Self {
+        Answering {
+            alloc: self.alloc,
+            answer: self.answer,
+            made: 0,
+        }
+    }
 
     fn connect(&mut self, _port: u16) -> io::Result<(MemoryInput<'a>, MemoryOutput)> {
         self.made = self.made.saturating_add(1);

@@ -12,7 +12,7 @@ use std::thread::Threads;
 // Copies a table: the Arrow IPC stream of a query is put again. No byte of the stream is told.
 fn copy_rows<R>(rt: &R, querying: Querying<'_>, told: &mut String) -> Result<(), AllocError>
 where
-    R: Net<Listener = TcpListener, Stream = TcpStream> + AllocGlobal + Threads,
+    R: Net<Listener = TcpListener, Stream = TcpStream> + AllocGlobal + Threads + Sync,
 {
     let alloc = rt.alloc();
     let mut network = Loopback::new(rt);
@@ -28,7 +28,7 @@ where
 // and else one.
 pub(crate) fn run_formats<R>(rt: &R, port: u16, told: &mut String) -> Result<(), AllocError>
 where
-    R: Net<Listener = TcpListener, Stream = TcpStream> + AllocGlobal + Threads,
+    R: Net<Listener = TcpListener, Stream = TcpStream> + AllocGlobal + Threads + Sync,
 {
     let alloc = rt.alloc();
     put_stream(rt, created(port, "t"), STREAM, told)?;

@@ -86,7 +86,7 @@ struct Two<'a, R> {
     first: &'a [u8],
     second: &'a [u8],
     closed: &'a AtomicU64,
-    made: u32,
+    made: &'a AtomicU64,
 }
 
 impl<'a, R: Clock> Connect for Two<'a, R> {
@@ -96,11 +96,23 @@ impl<'a, R: Clock> Connect for Two<'a, R> {
 
     ghost connects = { λ _ _ _ _. Unit {0} };
 
+    ghost shares = { λ _ _ _. Unit {0} };
+
+    fn share(&mut self) -> Self {
+        Two {
+            rt: self.rt,
+            alloc: self.alloc,
+            first: self.first,
+            second: self.second,
+            closed: self.closed,
+            made: self.made,
+        }
+    }
+
     fn connect(&mut self, _port: u16) -> io::Result<(Gated<'a, R>, MemoryOutput)> {
-        self.made = self.made.saturating_add(1);
-        let (bytes, is_first) = match self.made {
-            1 => (self.first, true),
-            2 => (self.second, false),
+        let (bytes, is_first) = match self.made.fetch_add(1, Ordering::SeqCst) {
+            0 => (self.first, true),
+            1 => (self.second, false),
             _ => return Err(io::Error::from(ErrorKind::NotConnected)),
         };
         let input = MemoryInput::new(bytes).in_pieces_of(INFO.len().max(1));
@@ -161,13 +173,14 @@ fn told_rows<R: Clock + Threads + Sync>(
     second: &[u8],
 ) -> Result<String, AllocError> {
     let closed = AtomicU64::new(0);
+    let made = AtomicU64::new(0);
     let mut network = Two {
         rt,
         alloc,
         first,
         second,
         closed: &closed,
-        made: 0,
+        made: &made,
     };
     let mut output = MemoryOutput::new(alloc);
     let mut faults = MemoryOutput::new(alloc);
@@ -178,7 +191,7 @@ fn told_rows<R: Clock + Threads + Sync>(
         format: Format::Lines,
     };
     let status = query(rt, alloc, &mut network, &mut output, &mut faults, querying).number();
-    let made = network.made;
+    let made = made.load(Ordering::SeqCst);
     let closed = closed.load(Ordering::SeqCst);
     let mut told = format!(in alloc; "{status} {made} {closed}")?;
     push_text(&mut told, output.as_slice())?;
