@@ -5,11 +5,6 @@ ghost use Rattle.std.specs.Prelude.{◌≡◌, IfSome};
 use std::alloc::{AllocError, Global};
 use std::marker::{Brand, PhantomData};
 use std::sync::{Condvar, Mutex, Wait};
-use std::thread::yield_now;
-
-// How often a thread looks again before it sleeps: for some fifty microseconds. Workers mostly end their morsels at nearly the
-// same time, and waking one that sleeps takes as long as many a morsel.
-const LOOKS: usize = 256;
 
 // What answers are right.
 pub trait Truth<A> {
@@ -127,19 +122,8 @@ impl<K: Truth<A>, A: Drop> Window<K, A> {
         })
     }
 
-    // Looks for a while whether the answer of a morsel has a slot.
-    fn look_for_room(&self, rt: &impl Wait, number: usize) {
-        for _ in 0..LOOKS {
-            if self.slots.lock(rt).may_go_on(number) {
-                return;
-            }
-            yield_now();
-        }
-    }
-
     // Waits until the answer of a morsel has a slot. Whether answers are still read.
     pub fn wait_for_room(&self, rt: &impl Wait, number: usize) -> bool {
-        self.look_for_room(rt, number);
         let mut slots = self.slots.lock(rt);
         for _ in rt.forever() {
             if slots.may_go_on(number) {
@@ -165,19 +149,8 @@ impl<K: Truth<A>, A: Drop> Window<K, A> {
         self.slots.lock(rt).take(number)
     }
 
-    // Looks for a while whether something lies in the slot of a morsel.
-    fn look_for(&self, rt: &impl Wait, number: usize) {
-        for _ in 0..LOOKS {
-            if self.slots.lock(rt).is_there(number) {
-                return;
-            }
-            yield_now();
-        }
-    }
-
     // Waits until something lies in the slot of a morsel.
     pub fn wait_for(&self, rt: &impl Wait, number: usize) {
-        self.look_for(rt, number);
         let mut slots = self.slots.lock(rt);
         for _ in rt.forever() {
             if slots.is_there(number) {
