@@ -23,6 +23,7 @@ use Rattle.arrow_schema.proofs.data_type.DataType.TheSendSync as data_type
 use Rattle.typed_plan.proofs.plan.Aggregate.TheSendSync as aggregate
 use Rattle.scan_exec.specs.contracts.grouped.GroupedRows as groups
 use Rattle.scan_exec.proofs.grouped.Stage.TheSendSync as stage
+use Rattle.scan_exec.specs.contracts.shown_groups.ShownGroups as shown
 use Rattle.scan_exec.specs.contracts.answer.Answer as answer
 use Rattle.scan_exec.specs.contracts.scan.Scan as scan
 use Rattle.scan_base.proofs.fault.Fault.TheSendSync as fault
@@ -81,13 +82,19 @@ groups_send = let a = rows_send in let b = wanted_send in let c = stage.the_fiel
 groups_sync : IsSync (groups.the_field).row
 groups_sync = let a = rows_sync in let b = wanted_sync in let c = stage.the_field_sync in search (sendable, crosses) depth 20
 
+shown_send : IsSend (shown.the_field).row
+shown_send = let a = groups_send in let b = picker_send in search (sendable, crosses) depth 20
+
+shown_sync : IsSync (shown.the_field).row
+shown_sync = let a = groups_sync in let b = picker_sync in search (sendable, crosses) depth 20
+
 -- ---- a scan
 
 answer_send : IsSend (answer.the_field).row
-answer_send = let a = rows_send in let b = groups_send in search (sendable, crosses) depth 20
+answer_send = let a = rows_send in let b = shown_send in search (sendable, crosses) depth 20
 
 answer_sync : IsSync (answer.the_field).row
-answer_sync = let a = rows_sync in let b = groups_sync in search (sendable, crosses) depth 20
+answer_sync = let a = rows_sync in let b = shown_sync in search (sendable, crosses) depth 20
 
 scan_send : IsSend (scan.the_field).row
 scan_send = let a = answer_send in let f = fault.the_field_send in let b = schema.the_send in let c = schema.the_sync in search (sendable, crosses) depth 20
