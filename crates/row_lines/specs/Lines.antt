@@ -55,11 +55,11 @@ shown_as _ value = shown value
 abbrev pub type_shown : List Field → ℕ → DataType
 type_shown fields number = unwrap_or (option_map (λ field. field.data_type) (slice_get fields number)) Utf8
 
--- the cells of a row, by the types of their columns; a cell without a column is shown by its value alone
-abbrev pub cells_shown : List Field → List Value → List (List ℕ)
-cells_shown [] row = map shown row
-cells_shown (field ∷ fields) [] = []
-cells_shown (field ∷ fields) (value ∷ row) = shown_as field.data_type value ∷ cells_shown fields row
+-- the cells of a row, each by the type of its column; one without a column is shown as texts are
+abbrev pub cells_by : (DataType → Value → List ℕ) → List Field → List Value → List (List ℕ)
+cells_by shows [] row = map (shows Utf8) row
+cells_by shows (field ∷ fields) [] = []
+cells_by shows (field ∷ fields) (value ∷ row) = shows field.data_type value ∷ cells_by shows fields row
 
 -- a cell behind another one
 abbrev pub next_cell : List ℕ → List ℕ
@@ -76,7 +76,7 @@ header_line fields = line_of (map (λ field. escaped field.name) fields)
 
 -- the line of a row
 abbrev pub row_line : List Field → List Value → List ℕ
-row_line fields row = line_of (cells_shown fields row)
+row_line fields row = line_of (cells_by shown_as fields row)
 
 -- the line of the names, and a line for each row
 abbrev pub lines_of : Schema → List (List Value) → List ℕ

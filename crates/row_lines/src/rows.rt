@@ -33,9 +33,10 @@ pub fn write_rows<W: Output>(
     ensures counted { CountsFailure result (W.failures output.old) (W.failures output.new) }
     ensures fault { FailsByTransport result }
 {
+    let fields = schema.fields.as_slice();
     let mut outbox = Outbox::new(alloc);
-    send_header(output, &mut outbox, schema.fields.as_slice())?;
-    send_batches(output, &mut outbox, schema.fields.as_slice(), batches)?;
+    send_header(output, &mut outbox, fields)?;
+    send_batches(output, &mut outbox, fields, batches)?;
     outbox.flush(output)
 }
 
@@ -88,8 +89,8 @@ struct TypedColumns<'a> {
     columns: &'a [Column],
 }
 
-// The type of a column. One without a field is shown as texts are: each value by itself.
-fn type_of(fields: &[Field], number: usize) -> DataType
+/// The type of a column, by its number. One without a field is shown as texts are: each value by itself.
+pub fn type_shown(fields: &[Field], number: usize) -> DataType
     ensures { result ≡ type_shown fields.now number }
 {
     match fields.get(number) {
@@ -112,19 +113,14 @@ fn send_row<W: Output>(
     ensures counted { CountsFailure result (W.failures writer.old) (W.failures writer.new) }
     ensures fault { FailsByTransport result }
 {
-    let (fields, columns) = (table.fields, table.columns);
-    if columns.is_empty() {
+    let [first, others @ ..] = table.columns else {
         return outbox.send_part(writer, b"\n");
-    }
-    send_cell(
-        writer,
-        outbox,
-        type_of(fields, 0),
-        columns[0].value_at(place),
-    )?;
-    for number in 1..columns.len() {
-        let value = columns[number].value_at(place);
-        send_next_cell(writer, outbox, type_of(fields, number), value)?;
+    };
+    let data_type = type_shown(table.fields, 0);
+    send_cell(writer, outbox, data_type, first.value_at(place))?;
+    for (number, column) in others.iter().enumerate() {
+        let data_type = type_shown(table.fields, number + 1);
+        send_next_cell(writer, outbox, data_type, column.value_at(place))?;
     }
     outbox.send_part(writer, b"\n")
 }

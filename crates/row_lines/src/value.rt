@@ -3,7 +3,6 @@
 ghost use Rattle.scan_base.specs.Value.{value_of};
 ghost use Rattle.grpc_frame.specs.Ends.{CanFail, CountsFailure, FailsByTransport};
 ghost use Rattle.grpc_frame.specs.Sending.{Sends};
-ghost use Rattle.calendar.specs.Shown.{date_shown};
 ghost use Rattle.row_lines.specs.Lines.{next_cell, quoted, shown, shown_as};
 
 use crate::text::{Spelling, send_text};
@@ -13,12 +12,8 @@ use grpc_frame::{Outbox, Output};
 use itoa::Buffer;
 use scan_base::{Fault, ValueRef};
 
-/// Sends a value.
-///
-/// # Errors
-///
-/// `Fault::Transport` where a write failed. It is counted.
-pub(crate) fn send_value<W: Output>(
+// Sends a value.
+fn send_value<W: Output>(
     writer: &mut W,
     outbox: &mut Outbox,
     value: ValueRef<'_>,
@@ -71,27 +66,10 @@ pub(crate) fn send_cell<W: Output>(
     ensures fault { FailsByTransport result }
 {
     match (data_type, value) {
-        (DataType::Date, ValueRef::Int(day)) => send_day(writer, outbox, day),
-        (_, value) => send_value(writer, outbox, value),
-    }
-}
-
-// Sends what is printed of a day.
-fn send_day<W: Output>(writer: &mut W, outbox: &mut Outbox, day: i128) -> Result<(), Fault>
-    requires { CanFail (W.failures writer.old) }
-    ensures bytes { Sends result (W.contents writer.old) (W.contents writer.new)
-        outbox.old outbox.new (date_shown day) }
-    ensures counted { CountsFailure result (W.failures writer.old) (W.failures writer.new) }
-    ensures fault { FailsByTransport result }
-{
-    match i32::try_from(day) {
-        Ok(day) => outbox.send_part(writer, date_shown(day).as_str().as_bytes()),
-        Err(_) => {
-            // No day of the years 1 to 9999 has more than 32 bits.
-            outbox.send_part(writer, b"DATE(")?;
-            outbox.send_part(writer, Buffer::new().format(day).as_bytes())?;
-            outbox.send_part(writer, b")")
+        (DataType::Date, ValueRef::Int(day)) => {
+            outbox.send_part(writer, date_shown(day).as_str().as_bytes())
         }
+        (_, value) => send_value(writer, outbox, value),
     }
 }
 
