@@ -8,8 +8,7 @@ use Rattle.scan_base.specs.declared.value.Value.{Value}
 use Rattle.scan_base.specs.declared.value.Value.TheVariants as value
 use Rattle.scan_base.specs.declared.predicate.Operand.{Operand}
 use Rattle.scan_base.specs.declared.predicate.Operand.TheVariants.{Column, Literal, Date}
-use Rattle.scan_base.specs.Predicate.{conjunction, disjunction, negation, truth_test, comparing, between}
-use Rattle.scan_base.specs.Predicate.{membership, null_test}
+use Rattle.scan_base.specs.Predicate.{conjunction, disjunction, negation, truth_test, comparing, between, membership, null_test}
 use Rattle.sql_text.specs.declared.word.Keyword.TheVariants as word
 use Rattle.sql_text.specs.declared.symbol.Symbol.TheVariants as symbol
 use Rattle.sql_text.specs.declared.token.TokenKind.{TokenKind}
@@ -131,8 +130,7 @@ primary_of forms = opened (is_symbol symbol.LeftParenthesis) (symbol_token symbo
 
 -- TRUE | FALSE | UNKNOWN
 unfoldable pub truth_value : Of Truth
-truth_value = either (word_for word.True truth.True)
-    (either (word_for word.False truth.False) (word_for word.Unknown truth.Unknown))
+truth_value = either (word_for word.True truth.True) (either (word_for word.False truth.False) (word_for word.Unknown truth.Unknown))
 
 -- a predicate, and the IS behind it where there is one
 abbrev pub tested : Condition → Option (Bool × Truth) → Condition
