@@ -186,7 +186,7 @@ add("bad_type_Date_stored", schema(field("a", ("Date", {"unit": "MILLISECOND"}))
     note="of bad_type_Date the unit is absent, which is milliseconds")
 add("bad_type_Date_unit_2", schema(field("a", ("Date", {"unit": 2}))), "F7", layout="spread")
 add("bad_type_absent_Date", schema({"name": "a", "type_type": "Date"}), "F6", layout="packed")
-add("bad_dictionary_Date", schema(field("a", DATE, dictionary=encoding(1))), "F7")
+add("bad_dictionary_Date", schema(field("a", DATE, dictionary=encoding(1))), "F7", layout="packed", compared=True)
 add("bad_type_absent_kind", schema({"name": "a"}), "F6")
 add("bad_type_kind_0", schema({"name": "a", "type_type": 0}), "F7", layout="packed", note="stored as 0")
 add("bad_type_kind_27", schema({"name": "a", "type_type": 27}), "F7", layout="packed")
@@ -267,9 +267,10 @@ add("batch_Decimal128",
     note="every value of 128 bits is taken, also of 39 digits")
 add("batch_Decimal128_full", batch(1, (0, "", "FF" * 16)), rows([-1]), "schema_Decimal128_full")
 add("batch_Date", batch(5, (1, "FD", "3E 22 00 00 A5 A5 A5 A5 C5 06 F5 FF 00 00 00 80 FF FF FF 7F")),
-    rows([8766], [None], [-719163], [-2147483648], [2147483647]), "schema_Date",
+    rows([8766], [None], [-719163], [-2147483648], [2147483647]), "schema_Date", layout="packed", compared=True,
     note="a day number: of 1994-01-01, of the day before 0001-01-01, the least and the greatest")
-add("batch_Date_full", batch(2, (0, "", "00 00 00 00 FF FF FF FF")), rows([0], [-1]), "schema_Date_full")
+add("batch_Date_full", batch(2, (0, "", "00 00 00 00 FF FF FF FF")), rows([0], [-1]), "schema_Date_full", layout="spread",
+    compared=True)
 add("bad_data_short_Date", batch(2, (0, "", "00" * 7)), "F8", "schema_Date", layout="packed")
 add("batch_Bool", batch(4, (1, "0D", "09")), rows([True], [None], [False], [True]), "schema_Bool")
 add("batch_Bool_null_bit", batch(4, (1, "0D", "0B")), rows([True], [None], [False], [True]), "schema_Bool")
