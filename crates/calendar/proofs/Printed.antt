@@ -1,5 +1,5 @@
 -- What is printed of a day.
-use Rattle.std.proofs.Common.{◌≡◌, ℕ, ◌++◌, Bool, true, false, if◌then◌else◌, List, ℤ, pos, negsuc, Option, Some, None, unsigned_abs, ◌<ℤ◌, refl, sym, ap, subst, ◌∙◌, arith, codes, to_z, of_z, w32, w64, FitsSigned}
+use Rattle.std.proofs.Common.{◌≡◌, ℕ, ◌++◌, Bool, true, false, if◌then◌else◌, List, ℤ, pos, negsuc, Some, None, unsigned_abs, ◌<ℤ◌, refl, sym, ap, subst, ◌∙◌, arith, codes, to_z, of_z, w32, w64, FitsSigned}
 use Rattle.std.proofs.lemmas.Int.{ints}
 use Rattle.std.specs.Fmt.{signed_decimal}
 use Rattle.jiff_core.specs.declared.civil.date.Date.{Date}

@@ -1,5 +1,5 @@
 -- Worked rows.
-use Rattle.std.proofs.Common.{◌≡◌, ◌++◌, Bool, if◌then◌else◌, List, ℕ, ℤ, refl, sym, ap, ◌∙◌, codes, Option, Some, None, pos, negsuc}
+use Rattle.std.proofs.Common.{◌≡◌, ◌++◌, Bool, if◌then◌else◌, List, ℕ, ℤ, refl, sym, ap, ◌∙◌, codes, Some, None, pos, negsuc}
 use Rattle.std.specs.Fmt.{digits, signed_decimal}
 use Rattle.jiff_core.specs.Calendar.{days_from_civil, day_count, days_of_years, days_of_months}
 use Rattle.calendar.specs.Dates.{day_in}
