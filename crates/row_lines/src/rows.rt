@@ -1,6 +1,6 @@
 //! Lines of rows.
 
-ghost use Rattle.std.specs.Prelude.{◌<◌, All};
+ghost use Rattle.std.specs.Prelude.{◌≡◌, ◌<◌, All};
 ghost use Rattle.std.specs.List.{flat_map};
 ghost use Rattle.arrays.specs.Batch.{row_of, rows_of};
 ghost use Rattle.grpc_frame.specs.Ends.{CanFail, CountsFailure, FailsByTransport, Writes};

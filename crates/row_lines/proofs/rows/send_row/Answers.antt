@@ -1,4 +1,4 @@
-use Rattle.std.proofs.Common.{◌-◌, ◌+◌, length, take, drop, codes, rules}
+use Rattle.std.proofs.Common.{◌+◌, drop, codes, rules}
 use Rattle.std.proofs.lemmas.Result.{err_from_is_err_and}
 use Rattle.arrays.specs.Batch.{row_of}
 use Rattle.arrays.specs.Column.{slot_of}
