@@ -1,0 +1,8 @@
+pub mod Places
+pub mod Adding
+pub mod Tables
+pub mod Slots
+pub mod IndicesMade
+pub mod Parts
+pub mod Answered
+mod Rows
