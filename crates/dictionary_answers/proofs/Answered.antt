@@ -66,11 +66,13 @@ answered_values Decimal128 column made is = ap values_of is
 
 pub answered_long : (fields : List Field) (columns made : List ColumnAt) (rows : ℕ) → AreAnswered fields columns made → AreLong rows columns → AreLong rows made
 answered_long [] [] [] rows are long = long
-answered_long (field ∷ fields) (column ∷ columns) (m ∷ made) rows are long = by
+answered_long (field ∷ fields) (column ∷ columns) (m ∷ made) rows are long =
+    by (long_as m column (answered_values field.data_type column m are.0) ∙ long 0 column (omega arith))
+    (answered_long fields columns made rows are.1 (λ j e under. long (suc j) e (omega arith)))
   where
-    by : (k : ℕ) (d : ColumnAt) → k < length (m ∷ made) → (get_or (m ∷ made) k d).len ≡ rows
-    by zero d low = long_as m column (answered_values field.data_type column m are.0) ∙ long 0 column (omega arith)
-    by (suc k) d low = answered_long fields columns made rows are.1 (λ j e under. long (suc j) e (omega arith)) k d (omega arith)
+    by : m.len ≡ rows → AreLong rows made → (k : ℕ) (d : ColumnAt) → k < length (m ∷ made) → (get_or (m ∷ made) k d).len ≡ rows
+    by first rest zero d low = first
+    by first rest (suc k) d low = rest k d (omega arith)
 answered_long [] [] (m ∷ made) rows are long = absurd are
 answered_long [] (column ∷ columns) made rows are long = absurd are
 answered_long (field ∷ fields) [] made rows are long = absurd are
@@ -100,7 +102,7 @@ same_maps f g a zero each = refl
 same_maps f g a (suc n) each =
     let z : a + 0 ≡ a = omega arith in
     let first : f a ≡ g a = rw z at (each 0 (omega arith)) in
-    rw (first, same_maps f g (suc a) n (λ k low. let e : suc a + k ≡ a + suc k = omega arith in rw e (each (suc k) (omega arith)))) refl
+    rw (first, same_maps f g (a + 1) n (λ k low. let e : (a + 1) + k ≡ a + suc k = omega arith in rw e (each (suc k) (omega arith)))) refl
 
 -- answered columns hold the same rows
 pub same_rows : (fields : List Field) (columns made : List ColumnAt) (rows : ℕ) → AreAnswered fields columns made → AreLong rows columns →

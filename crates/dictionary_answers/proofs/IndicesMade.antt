@@ -66,7 +66,7 @@ led_all texts (place ∷ places) f a each =
     let z : a + 0 ≡ a = omega arith in
     (
       rw z at (each 0 (omega arith)),
-      led_all texts places f (suc a) (λ k low. let e : suc a + k ≡ a + suc k = omega arith in rw e (each (suc k) (omega arith))),
+      led_all texts places f (a + 1) (λ k low. let e : (a + 1) + k ≡ a + suc k = omega arith in rw e (each (suc k) (omega arith))),
     )
 
 -- what a place leads to stands among the texts
@@ -134,3 +134,22 @@ indices_led texts places validity values few valid led =
     let is = (slot_leads texts places validity k (get_or values k Null) low few valid leads).0 in
     let z : 0 + (0 + k) ≡ k = omega arith in
     rw (z, is) leads)
+
+-- places lead to one list of values only
+leads_same : (texts : List (List ℕ)) (place : Option ℕ) (v w : Value) → Leads texts place v → Leads texts place w → v ≡ w
+leads_same texts None v w a b = a ∙ sym b
+leads_same texts (Some place) v w a b =
+    let same : Some a.0 ≡ Some b.0 = sym a.1 ∙ b.1 in
+    let text : a.0 ≡ b.0 = cc in
+    a.2 ∙ ap Text text ∙ sym b.2
+
+pub led_same : (texts : List (List ℕ)) (places : List (Option ℕ)) (values others : List Value) → AreLed texts places values → AreLed texts places others → values ≡ others
+led_same texts [] [] [] a b = refl
+led_same texts (place ∷ places) (v ∷ values) (w ∷ others) a b =
+    let first : v ≡ w = leads_same texts place v w a.0 b.0 in
+    let rest : values ≡ others = led_same texts places values others a.1 b.1 in
+    cc
+led_same texts [] (v ∷ values) others a b = absurd a
+led_same texts [] [] (w ∷ others) a b = absurd b
+led_same texts (place ∷ places) [] others a b = absurd a
+led_same texts (place ∷ places) (v ∷ values) [] a b = absurd b

@@ -1,11 +1,13 @@
 -- Texts that are made one behind another, and read.
-use Rattle.std.proofs.Common.{◌≡◌, ◌≤◌, ◌<◌, ◌^◌, ℕ, zero, suc, ◌+◌, Bool, true, false, List, [], ◌∷◌, length, map, None, get_or, take, slice_range, Ok, refl, sym, ap, ◌∙◌, arith}
+use Rattle.std.proofs.Common.{◌≡◌, ◌≤◌, ◌<◌, ◌^◌, ℕ, zero, suc, ◌+◌, Bool, true, false, List, [], ◌∷◌, ◌++◌, length, map, nat_le, None, get_or, take, slice_range, Ok, refl, sym, ap, ◌∙◌, arith}
 use Rattle.std.specs.List.{range_with_len}
 use Rattle.std.proofs.lemmas.List.{length-map, get_or-map}
-use Rattle.scan_base.specs.declared.fault.Fault.TheVariants.{BadBatch}
+use Rattle.scan_base.specs.declared.fault.Fault.TheVariants.{BadBatch, LimitReached}
 use Rattle.scan_base.specs.declared.value.Value.{Value}
 use Rattle.scan_base.specs.declared.value.Value.TheVariants.{Null, Text}
 use Rattle.scan_base.specs.Reading.{◌>>=◌, demand}
+use Rattle.scan_base.specs.Limits.{most_values}
+use Rattle.arrays.specs.Dictionary.{extended_by}
 use Rattle.arrays.specs.Number.{element_at}
 use Rattle.arrays.specs.Texts.{TextsAt, text_at, texts_of, texts_slot, texts_stand, texts_values}
 use Rattle.arrays.specs.Written.{text_bytes, texts_joined, offsets_from}
@@ -37,7 +39,7 @@ all_texts [] f a each = refl
 all_texts (text ∷ texts) f a each =
     let z : a + 0 ≡ a = omega arith in
     let first : f a ≡ Text text = ap f (sym z) ∙ each 0 (omega arith) in
-    let rest = all_texts texts f (suc a) (λ k low. let e : suc a + k ≡ a + suc k = omega arith in rw e (each (suc k) (omega arith))) in
+    let rest = all_texts texts f (a + 1) (λ k low. let e : (a + 1) + k ≡ a + suc k = omega arith in rw e (each (suc k) (omega arith))) in
     rw (first, rest) refl
 
 -- what is read of them
@@ -57,3 +59,12 @@ part_made texts offsets bytes len part a b many short read =
     let is : part ≡ made texts = rw (a, b, many) at (read_is offsets bytes len part read) in
     ap texts_values is ∙ all_texts texts (texts_slot (made texts)) 0
     (λ k low. let z : 0 + k ≡ k = omega arith in rw z (text_made texts k low short))
+
+-- no values with those of one part behind them
+pub alone_is : (old made : List Value) (part : TextsAt) → old ≡ [] → extended_by old part ≡ Ok made → made ≡ texts_values part
+unfolding extended_by
+alone_is old made part none read = by (nat_le (length old + part.len) most_values) read
+  where
+    by : (small : Bool) → (demand small LimitReached >>= λ _. Ok (old ++ texts_values part)) ≡ Ok made → made ≡ texts_values part
+    by true read = let same : old ++ texts_values part ≡ made = cc in sym same ∙ ap (λ (xs : List Value). xs ++ texts_values part) none
+    by false read = absurd (let no : ⊥ = cc in no)

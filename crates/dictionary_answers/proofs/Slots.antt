@@ -37,7 +37,7 @@ none_fit f n count room coded are low full =
     let is : firsts (map f (range_with_len 0 (n + 1))) ≡ firsts_behind coded.texts (f n ∷ []) =
     ap firsts (map-range_with_len_more f 0 n n (omega arith)) ∙ firsts_more (map f (range_with_len 0 n)) (f n)
     ∙ ap (λ (t : List (List ℕ)). firsts_behind t (f n ∷ [])) (sym are.texts) in
-    rw e (omega (arith, bytes_rise f (n + 1) more, ap bytes_in is, are.room, full))
+    rw e (omega (arith, bytes_rise f (n + 1) more, ap bytes_in is, are.bytes, full))
 
 -- what holds of each value holds of a slot
 pub slot_is : (P : Value → Type 0) (f : ℕ → Value) (count place : ℕ) → All P (map f (range_with_len 0 count)) → place < count → P (f place)

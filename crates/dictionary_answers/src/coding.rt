@@ -3,12 +3,15 @@
 ghost use Rattle.std.specs.Prelude.{◌≡◌, ◌<◌, ◌+◌, ◌^◌, ◌∷◌, ◌++◌, [], None, Some, IfErr, IfOk, OnOk, get_or, length, map, slice_get};
 ghost use Rattle.scan_base.specs.declared.value.Value.TheVariants.{Null};
 ghost use Rattle.scan_base.specs.Value.{value_of, IsTextOrNull};
+ghost use Rattle.arrays.specs.Layout.{layout_slot};
+ghost use Rattle.arrays.specs.declared.layout.Layout.TheVariants as layout;
 ghost use Rattle.dictionary_answers.specs.declared.coding.Stop.TheVariants.{OutOfRoom};
 ghost use Rattle.dictionary_answers.specs.Firsts.{bytes_in, firsts_behind, with_text};
 ghost use Rattle.dictionary_answers.specs.inside.Coding.{Adds};
 ghost use Rattle.dictionary_answers.specs.inside.Table.{IsTable};
 
-use arrays::Dictionary;
+use crate::indices::valid_index;
+use arrays::{Dictionary, Indices};
 use hash_seed::HashSeed;
 use indexmap::IndexSet;
 use scan_base::ValueRef;
@@ -134,8 +137,9 @@ impl<'t> Coded<'t> {
         Ok(())
     }
 
-    /// A slot of the value of an index more. The text of one that the table has met is not looked up.
-    pub(crate) fn push_index(
+    // A slot of the value of an index more. The text of one that the table has met is not looked up.
+    #[tactic(auto, using(crate::proofs::Adding::adds_text, crate::proofs::Adding::adds_null))]
+    fn push_index(
         &mut self,
         table: &mut [u32],
         dictionary: &'t Dictionary,
@@ -149,14 +153,13 @@ impl<'t> Coded<'t> {
         ensures full { IfErr result (λ stop. stop ≡ OutOfRoom →
             bytes_in (self.old).texts + (self.old).left < bytes_in (firsts_behind (self.old).texts (get_or dictionary.now index Null ∷ []))) }
     {
-        let _count = dictionary.len();
         let known = table[index];
         if known != NOT_MET {
             self.push_place(known)?;
             return Ok(());
         }
-        match dictionary.get(index) {
-            Some(ValueRef::Text(text)) => {
+        match entry(dictionary, index) {
+            ValueRef::Text(text) => {
                 let place = self.place_of(text)?;
                 table[index] = place;
                 self.push_place(place)?;
@@ -164,6 +167,31 @@ impl<'t> Coded<'t> {
             _ => self.push_null()?,
         }
         Ok(())
+    }
+
+    /// A slot of indices more.
+    #[tactic(auto, using(crate::proofs::Adding::adds_null))]
+    pub(crate) fn push_slot(
+        &mut self,
+        table: &mut [u32],
+        cells: &Indices<'t>,
+        slot: usize,
+    ) -> Result<(), Stop>
+        requires few { length (self.old).texts < 2 ^ 31 }
+        requires table { IsTable (cells.now).dictionary (self.old).texts table.old }
+        requires within { slot < (cells.now).len }
+        ensures added { OnOk result (Adds self.old self.new (layout_slot (layout.Indices cells.now) slot)) }
+        ensures table { OnOk result (IsTable (cells.now).dictionary (self.new).texts table.new) }
+        ensures full { IfErr result (λ stop. stop ≡ OutOfRoom →
+            bytes_in (self.old).texts + (self.old).left < bytes_in (firsts_behind (self.old).texts (layout_slot (layout.Indices cells.now) slot ∷ []))) }
+    {
+        match valid_index(cells, slot) {
+            Some(index) => self.push_index(table, cells.dictionary(), index),
+            None => {
+                self.push_null()?;
+                Ok(())
+            }
+        }
     }
 
     /// The texts, in their order.
@@ -185,5 +213,18 @@ impl<'t> Coded<'t> {
         ensures { result ≡ (self.now).left }
     {
         self.left
+    }
+}
+
+// The value of an index of a dictionary.
+fn entry<'t>(dictionary: &'t Dictionary, index: usize) -> ValueRef<'t>
+    requires { index < length dictionary.now }
+    ensures value { get_or dictionary.now index Null ≡ value_of result }
+    ensures text { IsTextOrNull (value_of result) }
+{
+    let _count = dictionary.len();
+    match dictionary.get(index) {
+        Some(value) => value,
+        None => ValueRef::Null,
     }
 }

@@ -9,10 +9,8 @@ ghost use Rattle.dictionary_answers.specs.Firsts.{bytes_in, firsts};
 ghost use Rattle.dictionary_answers.specs.Coded.{AreCoded};
 
 use crate::coding::{Coded, NOT_MET, Stop};
-use crate::indices::valid_index;
 use arrays::{Cells, Column, Indices, Layout};
 use hash_seed::HashSeed;
-use scan_base::ValueRef;
 use std::alloc::Global;
 
 // For each slot of a column, its dictionary may have so many values for a table of them to be made: so what a table takes
@@ -39,13 +37,24 @@ pub fn code_column<'t>(
     ensures full { IfErr result (λ stop. stop ≡ OutOfRoom → room < bytes_in (firsts (values_of column.now))) }
 {
     let mut coded = Coded::new(alloc, seed, column.len(), room)?;
+    code_slots(alloc, &mut coded, column)?;
+    Ok(coded)
+}
+
+// Codes each slot.
+fn code_slots<'t>(alloc: Global, coded: &mut Coded<'t>, column: &'t Column) -> Result<(), Stop>
+    requires small { column.now.len < 2 ^ 31 }
+    requires texts { All IsTextOrNull (values_of column.now) }
+    requires none { AreCoded [] (coded.old).left coded.old }
+    ensures coded { OnOk result (AreCoded (values_of column.now) (coded.old).left coded.new) }
+    ensures full { IfErr result (λ stop. stop ≡ OutOfRoom → (coded.old).left < bytes_in (firsts (values_of column.now))) }
+{
     match column.layout() {
         Layout::Indices(cells) if is_worth_a_table(&cells, column.len()) => {
-            code_indices(alloc, &mut coded, column, &cells)?;
+            code_indices(alloc, coded, column, &cells)
         }
-        _ => code_values(&mut coded, column)?,
+        _ => code_values(coded, column),
     }
-    Ok(coded)
 }
 
 // Whether a dictionary has so few values that a table of them costs no more than the slots.
@@ -82,11 +91,7 @@ fn code_indices<'t>(
 {
     let mut table = vec![in alloc; NOT_MET; cells.dictionary().len()]?;
     for place in 0..column.len() {
-        let slot = column.first() + place;
-        match valid_index(cells, slot) {
-            Some(index) => coded.push_index(&mut table, cells.dictionary(), index)?,
-            None => coded.push(ValueRef::Null)?,
-        }
+        coded.push_slot(&mut table, cells, column.first() + place)?;
     }
     Ok(())
 }
