@@ -5,4 +5,5 @@ pub mod Slots
 pub mod IndicesMade
 pub mod Parts
 pub mod Answered
+pub mod AnsweredSoFar
 mod Rows

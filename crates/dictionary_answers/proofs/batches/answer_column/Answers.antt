@@ -18,6 +18,7 @@ pub returns-in_ok-made-in-Dictionary-clause-column : goal.returns-in_ok-made-in-
 returns-in_ok-made-in-Dictionary-clause-column c =
     let are = c.in_ok-coded-in-Dictionary.ensures.coded in
     let made = c.in_ok-made-in-Dictionary.made in
+    rw c.in-Dictionary.is
     (
       led_same c.in_ok-coded-in-Dictionary.coded.texts c.in_ok-coded-in-Dictionary.coded.places (values_of made) (values_of c.args.column.now)
       (rw (c.texts.ensures, c.places.ensures) at c.in_ok-made-in-Dictionary.ensures.values) are.places,
