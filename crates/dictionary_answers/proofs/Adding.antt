@@ -1,9 +1,9 @@
 -- What one slot adds.
-use Rattle.std.proofs.Common.{◌≡◌, ℕ, ◌+◌, List, [], ◌∷◌, ◌++◌, Some, None, refl, sym, ap, subst, ◌∙◌}
+use Rattle.std.proofs.Common.{◌≡◌, ℕ, ◌+◌, List, [], ◌∷◌, ◌++◌, Some, None, refl, sym, ap}
 use Rattle.std.specs.Prelude.{slice_get}
 use Rattle.scan_base.specs.declared.value.Value.{Value}
 use Rattle.scan_base.specs.declared.value.Value.TheVariants.{Null, Text}
-use Rattle.dictionary_answers.specs.Firsts.{with_text, firsts_behind, bytes_in, Leads}
+use Rattle.dictionary_answers.specs.Firsts.{with_text, bytes_in, Leads}
 use Rattle.dictionary_answers.specs.Coded.{CodedAt}
 use Rattle.dictionary_answers.specs.inside.Coding.{Adds}
 use Rattle.dictionary_answers.proofs.Places.{led_stays}

@@ -1,5 +1,5 @@
 -- Columns that are answered one by one.
-use Rattle.std.proofs.Common.{◌≡◌, ◌≤◌, ◌<◌, ℕ, zero, suc, ◌+◌, List, [], ◌∷◌, ◌++◌, length, map, take, get_or, All, refl, sym, ap, ◌∙◌, arith}
+use Rattle.std.proofs.Common.{◌≡◌, ◌≤◌, ◌<◌, ℕ, zero, suc, ◌+◌, List, [], ◌∷◌, ◌++◌, length, map, take, get_or, refl, sym, ap, ◌∙◌, arith}
 use Rattle.std.specs.List.{range_with_len}
 use Rattle.std.proofs.lemmas.List.FromFn.{length-map-range_with_len, get_or-map-range_with_len}
 use Rattle.scan_base.specs.declared.value.Value.{Value}
@@ -90,8 +90,10 @@ same_row : (fields : List Field) (columns made : List ColumnAt) (rows j : ℕ) �
 same_row [] [] [] rows j are long low = refl
 same_row (field ∷ fields) (column ∷ columns) (m ∷ made) rows j are long low =
     let is = long 0 column (omega arith) in
-    rw (same_slot m column j (answered_values field.data_type column m are.0) (omega (arith, is, low)),
-    same_row fields columns made rows j are.1 (λ i e under. long (suc i) e (omega arith)) low) refl
+    rw (
+      same_slot m column j (answered_values field.data_type column m are.0) (omega (arith, is, low)),
+      same_row fields columns made rows j are.1 (λ i e under. long (suc i) e (omega arith)) low,
+    ) refl
 same_row [] [] (m ∷ made) rows j are long low = absurd are
 same_row [] (column ∷ columns) made rows j are long low = absurd are
 same_row (field ∷ fields) [] made rows j are long low = absurd are

@@ -1,7 +1,7 @@
 -- Slots of indices that are built of places among texts.
-use Rattle.std.proofs.Common.{◌≡◌, ◌≤◌, ◌<◌, ◌^◌, ℕ, zero, suc, ℤ, pos, ◌+◌, ◌*◌, ◌||◌, not, Bool, true, false, List, [], ◌∷◌, ◌++◌, length, map, Option, Some, None, is_some, unwrap_or, get_or, if◌then◌else◌, refl, sym, ap, subst, ◌∙◌, arith, All}
+use Rattle.std.proofs.Common.{◌≡◌, ◌≤◌, ◌<◌, ◌^◌, ℕ, zero, suc, ℤ, pos, ◌+◌, ◌*◌, Bool, true, false, List, [], ◌∷◌, ◌++◌, length, map, Option, Some, None, is_some, unwrap_or, get_or, refl, sym, ap, ◌∙◌, arith, All}
 use Rattle.std.specs.Prelude.{slice_get}
-use Rattle.std.specs.List.{flat_map, AllZip, range_with_len}
+use Rattle.std.specs.List.{range_with_len}
 use Rattle.std.proofs.lemmas.Bool.{lt-ltb}
 use Rattle.std.proofs.Math.Seq.{drop-append_seam}
 use Rattle.std.proofs.lemmas.List.{length-append, length-map, get_or-map}
@@ -13,8 +13,8 @@ use Rattle.scan_base.specs.declared.value.Value.{Value}
 use Rattle.scan_base.specs.declared.value.Value.TheVariants.{Null, Text}
 use Rattle.scan_base.specs.Value.{IsTextOrNull}
 use Rattle.arrow_schema.specs.declared.data_type.IntegerType.TheVariants.{Int32}
-use Rattle.arrays.specs.Number.{element_at, number_from, integer_at}
-use Rattle.arrays.specs.Validity.{is_valid, IsLong}
+use Rattle.arrays.specs.Number.{element_at, number_from}
+use Rattle.arrays.specs.Validity.{is_valid}
 use Rattle.arrays.specs.Dictionary.{entry_at}
 use Rattle.arrays.specs.Indices.{IndicesAt, AreIndices, entry_of, index_stands}
 use Rattle.arrays.specs.Layout.{layout_slot}
@@ -63,8 +63,7 @@ pub led_all : (texts : List (List ℕ)) (places : List (Option ℕ)) (f : ℕ �
     AreLed texts places (map f (range_with_len a (length places)))
 led_all texts [] f a each = tt
 led_all texts (place ∷ places) f a each =
-    let z : a + 0 ≡ a = omega arith in
-    (
+    let z : a + 0 ≡ a = omega arith in (
       rw z at (each 0 (omega arith)),
       led_all texts places f (a + 1) (λ k low. let e : (a + 1) + k ≡ a + suc k = omega arith in rw e (each (suc k) (omega arith))),
     )

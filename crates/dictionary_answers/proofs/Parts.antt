@@ -1,5 +1,5 @@
 -- Texts that are made one behind another, and read.
-use Rattle.std.proofs.Common.{◌≡◌, ◌≤◌, ◌<◌, ◌^◌, ℕ, zero, suc, ◌+◌, Bool, true, false, List, [], ◌∷◌, ◌++◌, length, map, nat_le, None, get_or, take, slice_range, Ok, refl, sym, ap, ◌∙◌, arith}
+use Rattle.std.proofs.Common.{◌≡◌, ◌≤◌, ◌<◌, ◌^◌, ℕ, suc, ◌+◌, Bool, true, false, List, [], ◌∷◌, ◌++◌, length, map, nat_le, None, get_or, take, slice_range, Ok, refl, sym, ap, ◌∙◌, arith}
 use Rattle.std.specs.List.{range_with_len}
 use Rattle.std.proofs.lemmas.List.{length-map, get_or-map}
 use Rattle.scan_base.specs.declared.fault.Fault.TheVariants.{BadBatch, LimitReached}
@@ -9,7 +9,7 @@ use Rattle.scan_base.specs.Reading.{◌>>=◌, demand}
 use Rattle.scan_base.specs.Limits.{most_values}
 use Rattle.arrays.specs.Dictionary.{extended_by}
 use Rattle.arrays.specs.Number.{element_at}
-use Rattle.arrays.specs.Texts.{TextsAt, text_at, texts_of, texts_slot, texts_stand, texts_values}
+use Rattle.arrays.specs.Texts.{TextsAt, texts_of, texts_slot, texts_stand, texts_values}
 use Rattle.arrays.specs.Written.{text_bytes, texts_joined, offsets_from}
 use Rattle.arrays.proofs.Offsets.{offset_again, text_again}
 use Rattle.dictionary_answers.specs.Firsts.{bytes_in}

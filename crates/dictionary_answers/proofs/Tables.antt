@@ -1,10 +1,10 @@
 -- Tables of where the values of a dictionary stand among texts.
-use Rattle.std.proofs.Common.{◌≡◌, ◌≢◌, ◌<◌, ℕ, List, [], ◌∷◌, length, get_or, replicate, set, slice_index, Some, refl, sym, ap, subst, ◌∙◌, inl, inr, arith}
+use Rattle.std.proofs.Common.{◌≡◌, ◌<◌, ℕ, List, length, get_or, replicate, set, slice_index, Some, ap, ◌∙◌, inl, inr, arith}
 use Rattle.std.proofs.lemmas.Bool.{cases_eq}
 use Rattle.std.proofs.lemmas.List.{length-replicate, get_or-replicate, length-set, get_or-set_same, get_or-set_other}
 use Rattle.scan_base.specs.declared.value.Value.{Value}
 use Rattle.scan_base.specs.declared.value.Value.TheVariants.{Null, Text}
-use Rattle.dictionary_answers.specs.Firsts.{with_text, firsts_behind, Leads}
+use Rattle.dictionary_answers.specs.Firsts.{with_text, Leads}
 use Rattle.dictionary_answers.specs.inside.Table.{IsTable, not_met}
 use Rattle.dictionary_answers.proofs.Places.{leads_with}
 

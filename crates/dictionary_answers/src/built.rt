@@ -42,11 +42,7 @@ pub fn column_of_indices(
     let packed = Bytes::from_vec(pack_places(alloc, places)?)?;
     let _values = dictionary.len();
     let indices = Values::Indices(IntegerType::Int32, packed, Arc::new(alloc, dictionary)?);
-    Ok(Column::new(Slots::from_parts(
-        validity,
-        places.len(),
-        indices,
-    )))
+    Ok(Column::new(Slots::from_parts(validity, places.len(), indices)))
 }
 
 // The validity bits of slots that are null where they have no place, and none where each has one.

@@ -70,7 +70,12 @@ impl<'t> Model for Coded<'t> {
 
 impl<'t> Coded<'t> {
     /// No slots yet, with room made at once for the places of so many.
-    pub(crate) fn new(alloc: Global, seed: HashSeed, slots: usize, room: usize) -> Result<Coded<'t>, AllocError>
+    pub(crate) fn new(
+        alloc: Global,
+        seed: HashSeed,
+        slots: usize,
+        room: usize,
+    ) -> Result<Coded<'t>, AllocError>
         ensures { IfOk result (λ coded. coded ≡ record { texts = []; places = []; left = room }) }
     {
         Ok(Coded {

@@ -1,5 +1,4 @@
-use Rattle.std.proofs.Common.{◌≡◌, ◌∙◌, ℕ, List, sym, ap, subst}
-use Rattle.arrow_schema.specs.declared.schema.Field.{Field}
+use Rattle.std.proofs.Common.{◌∙◌, ℕ, List, sym, ap, subst}
 use Rattle.arrays.specs.Column.{ColumnAt}
 use Rattle.arrays.specs.Batch.{AreLong, BatchAt, rows_of}
 use Rattle.dictionary_answers.proofs.Answered.{answered_long, same_rows}

@@ -1,4 +1,4 @@
-use Rattle.std.proofs.Common.{◌≡◌, ◌<◌, ◌+◌, ◌∙◌, ℕ, List, length, get_or, take, sym, ap, subst, rules, arith}
+use Rattle.std.proofs.Common.{◌≡◌, ◌<◌, ◌+◌, ◌∙◌, List, length, get_or, take, sym, ap, subst, rules, arith}
 use Rattle.std.proofs.lemmas.List.{take_all}
 use Rattle.arrow_schema.specs.declared.schema.Field.{Field}
 use Rattle.arrays.specs.Column.{ColumnAt}
@@ -27,8 +27,8 @@ returns-in_err-column-clause-full c =
     let field = get_or fields place c.index-fields-place.result in
     let step : c.loop-place.left < column_bytes field.data_type c.index-columns-place.result → c.args.room < coded_bytes fields columns =
     λ full. no_room_left fields columns place c.args.room c.loop-place.left c.index-fields-place.result c.index-columns-place.result low c.loop-place-test.true
-        c.index-fields-place.is c.index-columns-place.is c.loop-place.invariant.left
-        (subst (λ (f : Field). c.loop-place.left < column_bytes f.data_type c.index-columns-place.result) (sym c.index-fields-place.is) full) in
+    c.index-fields-place.is c.index-columns-place.is c.loop-place.invariant.left
+    (subst (λ (f : Field). c.loop-place.left < column_bytes f.data_type c.index-columns-place.result) (sym c.index-fields-place.is) full) in
     search (rules, step)
 
 pub loop-place-preserved : goal.loop-place-preserved

@@ -31,7 +31,7 @@ returns-in_err-push_slot-clause-full c =
     ap (λ (l : Layout). layout_slot l (c.first.result + place)) (sym c.requires.cells) ∙ ap (layout_slot column.layout) at in
     let step : bytes_in coded.texts + coded.left < bytes_in (firsts_behind coded.texts (layout_slot (layout.Indices c.args.cells.now) (c.first.result + place) ∷ [])) → c.args.coded.now.left < bytes_in (firsts (values_of column)) =
     λ full. none_fit (slot_of column) place column.len c.args.coded.now.left coded c.loop-place.invariant.coded low
-        (subst (λ (v : Value). bytes_in coded.texts + coded.left < bytes_in (firsts_behind coded.texts (v ∷ []))) is full) in
+    (subst (λ (v : Value). bytes_in coded.texts + coded.left < bytes_in (firsts_behind coded.texts (v ∷ []))) is full) in
     search (rules, step)
 
 pub loop-place-preserved : goal.loop-place-preserved

@@ -23,7 +23,7 @@ returns-in_err-push-clause-full c =
     let low : c.loop-place.place < column.len = omega (arith, c.loop-place-test.true, c.len-place-end.ensures.count) in
     let step : bytes_in coded.texts + coded.left < bytes_in (firsts_behind coded.texts (value_of c.value_at.result ∷ [])) → c.args.coded.now.left < bytes_in (firsts (values_of column)) =
     λ full. none_fit (slot_of column) c.loop-place.place column.len c.args.coded.now.left coded c.loop-place.invariant low
-        (subst (λ (v : Value). bytes_in coded.texts + coded.left < bytes_in (firsts_behind coded.texts (v ∷ []))) c.value_at.ensures full) in
+    (subst (λ (v : Value). bytes_in coded.texts + coded.left < bytes_in (firsts_behind coded.texts (v ∷ []))) c.value_at.ensures full) in
     search (rules, step)
 
 pub loop-place-preserved : goal.loop-place-preserved
