@@ -1,5 +1,5 @@
 use Rattle.std.proofs.Common.{arith}
-use Rattle.fetch_stream.proofs.Stepping.{next_batch, no_batch, waits}
+use Rattle.fetch_stream.proofs.Stepping.{next_batch, waits}
 use Rattle.fetch_stream.proofs.stream.refill.Goals as goal
 
 pub returns-in-Given : goal.returns-in-Given

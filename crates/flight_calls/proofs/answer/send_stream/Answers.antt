@@ -15,8 +15,8 @@ loop-payload-preserved-in-Ok-Given g c =
       count = search rules;
     }
 
-pub loop-payload-preserved-in-Ok-Working : goal.loop-payload-preserved-in-Ok-Working
-loop-payload-preserved-in-Ok-Working g c =
+pub loop-payload-preserved : goal.loop-payload-preserved
+loop-payload-preserved g c =
     let waits = rw c.in-Ok-Working.field-0-is at c.in-Ok-Working.ensures in
     record {
       sent = stream_waits c.streams_answer.ensures _ _ _ _ _ _ _ _ _ c.loop-payload.invariant.sent waits.1 c.in_ok-look-in-Ok-Working.ensures.bytes;
@@ -29,8 +29,8 @@ loop-payload-smaller-in-Ok-Given g c =
     let fewer = fewer_turns _ _ _ (gave _ _ _ gives) in
     omega (arith, fewer)
 
-pub loop-payload-smaller-in-Ok-Working : goal.loop-payload-smaller-in-Ok-Working
-loop-payload-smaller-in-Ok-Working g c =
+pub loop-payload-smaller : goal.loop-payload-smaller
+loop-payload-smaller g c =
     let waits = rw c.in-Ok-Working.field-0-is at c.in-Ok-Working.ensures in
     let same = ap turns waits.1 in
     let some = some_left c.loop-payload.looks c.patience_of.result c.patience_of.ensures waits.2 in
@@ -44,7 +44,7 @@ returns-in_err-send_payload-in-Ok-Given-clause-bytes g c =
 
 pub returns-in_err-look-in-Ok-Working-clause-bytes : goal.returns-in_err-look-in-Ok-Working-clause-bytes
 returns-in_err-look-in-Ok-Working-clause-bytes g c =
-    let p = err_from_is_err_and c.from_residual.result c.from_residual.ensures.1 in
+    let p = err_from_is_err_and c.from_residual-in_err-look-in-Ok-Working.result c.from_residual-in_err-look-in-Ok-Working.ensures.1 in
     let waits = rw c.in-Ok-Working.field-0-is at c.in-Ok-Working.ensures in
     rw p.1 (stream_stops c.streams_answer.ensures _ _ _ _ _ _ _ _ _ c.loop-payload.invariant.sent c.in_err-look-in-Ok-Working.ensures.bytes)
 
