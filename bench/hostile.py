@@ -141,6 +141,19 @@ def cases(most):
 # ---- runs
 
 
+def most_held(child):
+    """The most bytes that a process held, by the last look at it before it ended."""
+    held = 0
+    while child.poll() is None:
+        try:
+            lines = pathlib.Path(f"/proc/{child.pid}/status").read_text().splitlines()
+        except OSError:
+            break
+        held = max([held, *(int(line.split()[1]) * 1024 for line in lines if line.startswith("VmHWM:"))])
+        time.sleep(0.002)
+    return held
+
+
 def run(command, records):
     """Runs the program on records: seconds, the most bytes held, how the answers end, and the exit status."""
     with tempfile.TemporaryFile() as given:
@@ -150,10 +163,9 @@ def run(command, records):
         with subprocess.Popen(command, stdin=given, stdout=subprocess.PIPE) as child:
             last = subprocess.Popen(["tail", "-c", str(len(STATUS_OK))], stdin=child.stdout, stdout=subprocess.PIPE)
             child.stdout.close()
-            _, status, usage = os.wait4(child.pid, 0)
-            child.returncode = os.waitstatus_to_exitcode(status)
+            held = most_held(child)
             ends = last.communicate()[0]
-    return time.monotonic() - start, usage.ru_maxrss * 1024, ends, child.returncode
+    return time.monotonic() - start, held, ends, child.returncode
 
 
 def tried(command, case):
