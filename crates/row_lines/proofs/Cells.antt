@@ -1,5 +1,5 @@
 -- The cells of a row of columns, by the types of the columns.
-use Rattle.std.proofs.Common.{◌≡◌, ℕ, zero, suc, ◌+◌, ◌-◌, ◌<◌, ◌≤◌, List, [], ◌∷◌, length, take, drop, length-drop, get_or, get_or-drop, refl, sym, ap, ◌∙◌, arith}
+use Rattle.std.proofs.Common.{◌≡◌, ℕ, zero, suc, ◌+◌, ◌-◌, ◌<◌, ◌≤◌, List, [], ◌∷◌, length, take, drop, length-drop, get_or, get_or-drop, refl, sym, ap, ◌∙◌, subst, arith, All}
 use Rattle.std.proofs.lemmas.List.{take_rest}
 use Rattle.scan_base.specs.declared.value.Value.{Value}
 use Rattle.arrow_schema.specs.declared.data_type.DataType.{DataType}
@@ -21,6 +21,17 @@ first_of (cell ∷ cells) other some = refl
 -- the columns behind the first
 abbrev pub others_of : List ColumnAt → List ColumnAt
 others_of columns = take (length columns - 1) (drop 1 columns)
+
+-- each of them has a slot where all columns have
+pub others_have : (columns : List ColumnAt) (place number : ℕ) (column : ColumnAt) → All (λ (one : ColumnAt). place < one.len) columns →
+    number < length (others_of columns) → column ≡ get_or (others_of columns) number column → place < column.len
+others_have columns place number column within inside is =
+    let next : 1 + number ≡ number + 1 = omega arith in
+    let long : length (others_of columns) ≡ length columns - 1 = ap length (take_rest columns 1) ∙ length-drop 1 columns in
+    let there : column ≡ get_or columns (number + 1) column =
+    is ∙ ap (λ (l : List ColumnAt). get_or l number column) (take_rest columns 1) ∙ get_or-drop 1 columns number column
+    ∙ ap (λ (n : ℕ). get_or columns n column) next in
+    subst (λ (one : ColumnAt). place < one.len) (sym there) (within (number + 1) column (omega (arith, inside, long)))
 
 module _ (shows : DataType → Value → List ℕ) where
   -- the cells of a row

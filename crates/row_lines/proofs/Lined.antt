@@ -17,6 +17,12 @@ first_and_others xs x some is =
     ∙ ap (λ y. y ∷ drop 1 xs) (sym is)
     ∙ ap (λ l. x ∷ l) (sym (take_rest xs 1))
 
+-- the line of a row without columns
+pub empty_line : (fields : List Field) (columns : List ColumnAt) (place : ℕ) → length columns < 1 → row_line fields (row_of columns place) ≡ codes "\n"
+empty_line [] [] place few = refl
+empty_line (field ∷ fields) [] place few = refl
+empty_line fields (column ∷ columns) place few = absurd (omega (arith, few))
+
 -- ---- a line of names
 
 -- a name behind another one

@@ -3,6 +3,7 @@
 ghost use Rattle.scan_base.specs.Value.{value_of};
 ghost use Rattle.grpc_frame.specs.Ends.{CanFail, CountsFailure, FailsByTransport};
 ghost use Rattle.grpc_frame.specs.Sending.{Sends};
+ghost use Rattle.calendar.specs.Shown.{date_shown};
 ghost use Rattle.row_lines.specs.Lines.{next_cell, quoted, shown, shown_as};
 
 use crate::text::{Spelling, send_text};
@@ -66,11 +67,20 @@ pub(crate) fn send_cell<W: Output>(
     ensures fault { FailsByTransport result }
 {
     match (data_type, value) {
-        (DataType::Date, ValueRef::Int(day)) => {
-            outbox.send_part(writer, date_shown(day).as_str().as_bytes())
-        }
+        (DataType::Date, ValueRef::Int(day)) => send_day(writer, outbox, day),
         (_, value) => send_value(writer, outbox, value),
     }
+}
+
+// Sends a day as it is printed.
+fn send_day<W: Output>(writer: &mut W, outbox: &mut Outbox, day: i128) -> Result<(), Fault>
+    requires { CanFail (W.failures writer.old) }
+    ensures bytes { Sends result (W.contents writer.old) (W.contents writer.new)
+        outbox.old outbox.new (date_shown day) }
+    ensures counted { CountsFailure result (W.failures writer.old) (W.failures writer.new) }
+    ensures fault { FailsByTransport result }
+{
+    outbox.send_part(writer, date_shown(day).as_str().as_bytes())
 }
 
 /// Sends a tab, and then a value of a column of a type.

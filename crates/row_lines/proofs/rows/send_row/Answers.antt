@@ -1,11 +1,12 @@
-use Rattle.std.proofs.Common.{◌+◌, drop, codes, rules}
+use Rattle.std.proofs.Common.{ℕ, List, ◌+◌, drop, codes, rules, sym, subst}
 use Rattle.std.proofs.lemmas.Result.{err_from_is_err_and}
 use Rattle.arrays.specs.Batch.{row_of}
 use Rattle.arrays.specs.Column.{slot_of}
 use Rattle.row_lines.specs.Lines.{shown_as, type_shown, next_cell, row_line}
 use Rattle.row_lines.proofs.Parts.{front_sent, front_not_sent, item_sent, item_not_sent, back_sent}
-use Rattle.row_lines.proofs.Cells.{cells_at, first_cell, first_cell_is, other_inside, other_ended, other_cell}
-use Rattle.row_lines.proofs.Lined.{row_is}
+use Rattle.grpc_frame.specs.Sending.{Sends}
+use Rattle.row_lines.proofs.Cells.{others_have, cells_at, first_cell, first_cell_is, other_inside, other_ended, other_cell}
+use Rattle.row_lines.proofs.Lined.{empty_line, row_is}
 use Rattle.row_lines.proofs.rows.send_row.Goals as goal
 
 pub returns-in_err-send_cell-clause-bytes : goal.returns-in_err-send_cell-clause-bytes
@@ -70,3 +71,12 @@ returns-clause-bytes g c =
     let place = c.args.place in
     back_sent next_cell _ _ _ _ _ _ _ (first_cell (cells_at shown_as fields columns place)) (codes "\n") (row_line fields (row_of columns place)) (drop 1 (cells_at shown_as fields columns place)) c.loop-number.number
     (row_is fields columns place c.in-len1-up.len_at_least) (other_ended shown_as fields columns place c.loop-number.number c.loop-number-test.false) c.loop-number.invariant.sent c.send_part-2.ensures.bytes
+
+pub returns-in_default-clause-bytes : goal.returns-in_default-clause-bytes
+returns-in_default-clause-bytes g c =
+    subst (λ (bytes : List ℕ). Sends c.send_part.result (g.W.Output.contents c.args.writer.now) (g.W.Output.contents c.send_part.new.writer) c.args.outbox.now c.send_part.new.self bytes)
+    (sym (empty_line c.args.table.fields.now c.args.table.columns.now c.args.place c.in_default.len_below)) c.send_part.ensures.bytes
+
+pub value_at-requires-in-loop-number : goal.value_at-requires-in-loop-number
+value_at-requires-in-loop-number g c =
+    others_have c.args.table.columns.now c.args.place c.loop-number.number c.index-others-number.result c.requires.within c.loop-number-test.true c.index-others-number.is
