@@ -148,11 +148,11 @@ abbrev from_1994 : Pred ℕ
 from_1994 = comparing GreaterOrEqual (Column 0) (Date (pos 8766))
 
 dates_before : is_opened (Int (pos 8000) ∷ Int (pos 8700) ∷ []) from_1994 ≡ false
-unfolding can_compare
+unfolding can_compare over
 dates_before = refl
 
 dates_from : is_opened (Int (pos 8766) ∷ Int (pos 9000) ∷ []) from_1994 ≡ true
-unfolding can_compare
+unfolding can_compare over
 dates_from = refl
 
 -- s = 'b' over texts 'a'
