@@ -10,6 +10,7 @@ use Rattle.sql_parse.specs.Productions.{begins_factor, conj, pred, truth_value}
 use Rattle.sql_parse.specs.Clauses.{alias, selection}
 use Rattle.sql_parse.proofs.EveryKind.{follows_factor}
 use Rattle.sql_parse.specs.Clauses.{item, list, place, equal, join, group, filter, source, ending, query}
+use Rattle.sql_text.specs.Values.{unquoted}
 use Rattle.sql_parse.specs.Factored.{compared, nulled, ranged, among, tail, forms, primary, test, factor}
 
 pub one_way : determined kinds begins_factor follows_factor factor follows_factor ≡ true
@@ -19,7 +20,7 @@ one_way = refl
 
 pub made_well : well_made factor ≡ true
 unfolding number_of same_word same_symbol name column minus digits date number string operand compare negated conj pred
-    truth_value compared nulled ranged among tail forms primary test factor
+    truth_value compared nulled ranged among tail forms primary test factor unquoted
 made_well = refl
 
 pub guarded : is_guarded factor ≡ true

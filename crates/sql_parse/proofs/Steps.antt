@@ -10,6 +10,7 @@ use Rattle.grammar.specs.Reading.{Outcome, Read, Stuck, Over, Reader, and_then, 
 use Rattle.grammar.specs.Reading.{starts}
 use Rattle.grammar.proofs.Determined.{well_made}
 use Rattle.sql_text.specs.Words.{is_name}
+use Rattle.sql_text.specs.Values.{unquoted}
 use Rattle.sql_parse.specs.Tokens.{Mark, is_word, is_symbol, same_word, same_symbol}
 use Rattle.sql_parse.specs.Answers.{Answer, seen, ◌>>=◌}
 use Rattle.scan_base.specs.declared.predicate.Operand.{Operand}
@@ -80,9 +81,14 @@ digits_same : (D : Nest) (ts : List Mark) → seen (reads D digits ts) ≡ digit
 unfolding digits digits_at token_at
 digits_same D ts = simp (flat, seen_kept)
 
+-- an answer that is put together as it was
+then_same : {A : Type 0} (o : Answer A) → (o >>= λ p. Ok (p.0, p.1)) ≡ o
+then_same (Ok p) = refl
+then_same (Err e) = refl
+
 date_same : (D : Nest) (ts : List Mark) → seen (reads D date ts) ≡ date_at ts
 unfolding date date_at token_at
-date_same D ts = simp (flat, seen_kept)
+date_same D ts = simp (flat, seen_kept, then_same)
 
 number_same : (D : Nest) (ts : List Mark) → seen (reads D number ts) ≡ number_at ts
 unfolding number number_at token_at
@@ -246,7 +252,7 @@ pub nil_after : {A : Type 0} (xs ys : List A) (x : A) → (xs ++ x ∷ []) ++ ys
 nil_after xs ys x = append_assoc xs (x ∷ []) ys
 
 operand_made : well_made (a_symbol symbol.Comma ⊳ operand) ≡ true
-unfolding operand column name number minus digits date string same_symbol same_word number_of
+unfolding operand column name number minus digits date string same_symbol same_word number_of unquoted
 operand_made = refl
 
 operands_flat : (D : Nest) (ts : List Mark) →
