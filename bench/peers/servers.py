@@ -17,7 +17,7 @@ from pathlib import Path
 START_SECONDS, END_SECONDS = 120, 60
 CONFIG = """<yandex><logger><level>warning</level><log>{folder}/log</log><errorlog>{folder}/errors</errorlog></logger>
 <http_port>{port}</http_port><tcp_port>{other}</tcp_port><listen_host>127.0.0.1</listen_host><keep_alive_timeout>3600</keep_alive_timeout>
-<path>{folder}/data/</path><tmp_path>{folder}/tmp/</tmp_path><users_config>users.xml</users_config>
+<path>{folder}/tables/</path><tmp_path>{folder}/scratch/</tmp_path><users_config>users.xml</users_config>
 <default_profile>default</default_profile><default_database>default</default_database>
 <mark_cache_size>1000000000</mark_cache_size></yandex>"""
 USERS = """<yandex><profiles><default><max_memory_usage>16000000000</max_memory_usage></default></profiles>
@@ -74,7 +74,7 @@ def server_of(command: list[str], is_ready: Callable[[], bool], end: signal.Sign
 def clickhouse(folder: Path) -> Iterator[tuple[int, int]]:
     """The port and the process of a ClickHouse."""
     port = free_port()
-    for name in ("data", "tmp"):
+    for name in ("tables", "scratch"):
         (folder / name).mkdir(parents=True)
     (folder / "config.xml").write_text(CONFIG.format(folder=folder, port=port, other=free_port()))
     (folder / "users.xml").write_text(USERS)

@@ -2,6 +2,7 @@ pub mod Told
 pub mod Rows
 pub mod Lines
 pub mod Fetching
+pub mod Handles
 pub mod Spread
 pub mod Names
 pub mod Commands
