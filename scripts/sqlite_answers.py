@@ -5,8 +5,7 @@
                                       [--program PATH] [--plain] [--without-program]
 
 What it shows: that the answers are those of a program which shares nothing with ours, wherever both define the same.
-Each of the small databases (400 if no count is said) has 1 to 4 tables of 1 to 4 columns of any types but floats and
-dates, with nulls, of 0 to 12 rows, or in one database of ten to 200, that come in puts of one or more batches. Between
+Each of the small databases (400 if no count is said) has 1 to 4 tables of 1 to 4 columns of any types, with nulls, of 0 to 12 rows, or in one database of ten to 200, that come in puts of one or more batches. Between
 the puts stand queries: joins of 2 to 4 places, a table with itself too; WHERE with comparisons, BETWEEN, IN, IS NULL,
 IS TRUE and the like, AND, OR and NOT; and groups of one place with COUNT and SUM.
 
@@ -28,7 +27,7 @@ order, so also of versions that are no longer the newest. sqlite3 gets the same 
 ORDER BY of the order that docs/SQL.md states. Compared are each put's count, each info's tickets, the schemas of an
 info and of its streams, and the rows of each endpoint, one by one, in order.
 
-What both define alike, and no more: sqlite3 has its truth values as 1 and 0, names differ by more than their case,
+What both define alike, and no more: sqlite3 has its truth values as 1 and 0, and dates as their numbers of days. Names differ by more than their case,
 numbers have 64 bits with a sign, and such columns alone are summed whose sums have no more.
 
 With --workers 1,2,4,16 a `pipe` is given the calls for each of these numbers. The answers of the first one are compared with

@@ -15,7 +15,7 @@ import itertools
 from dataclasses import dataclass
 from random import Random
 
-from random_calls.plain_model import (SIGNS, And, Between, Column, Comparison, Database, In, IsNull, Literal, Name, Not, Or,
+from random_calls.plain_model import (FIRST_DAY, LAST_DAY, SIGNS, And, Between, Column, Comparison, Database, Day, In, IsNull, Literal, Name, Not, Or,
                                       Predicate, Put, Query, Row, Table, Value, class_of)
 from random_calls.puts import ABSENT, RANGES, TEXTS, TREES, MadePut, Stream, ingest, messages_of
 from random_calls.queries import GREATEST, Asker
@@ -35,6 +35,9 @@ def domain_of(random: Random, kind: str, bound: int) -> list[Value]:
             return [False, True]
         case "text":
             return random.choice([ALIKE, SHORT])
+        case "date":
+            first = random.choice([FIRST_DAY, -STEPS // 2, 8766, LAST_DAY - STEPS])
+            return [Day(first + number) for number in range(STEPS + 1)]
     least, above = max(RANGES[kind][0], -bound), min(RANGES[kind][1], bound)
     step = random.choice([1, 1, 2, 5] + [2**15] * (above > 2**31))
     last = above - 1 - STEPS * step
@@ -134,7 +137,9 @@ def narrow(random: Random, name: Name, values: list[Value]) -> Predicate:
         return random.choice([IsNull, lambda one: Not(IsNull(one))])(name)
     place = random.choice([0, len(values) - 1, random.randrange(len(values))])
     low, high, least = values[place], values[min(place + random.choice([0, 0, 1, 3]), len(values) - 1)], values[0]
-    if isinstance(low, int) and not isinstance(low, bool):
+    if isinstance(low, Day):
+        low, high, least = (one.beside(random.choice([0, 0, 0, 1, -1])) for one in (low, high, least))
+    elif isinstance(low, int) and not isinstance(low, bool):
         least = max(-GREATEST, min(GREATEST, least))
         low = max(-GREATEST, min(GREATEST, low + random.choice([0, 0, 0, 1, -1])))
         high = max(-GREATEST, min(GREATEST, high + random.choice([0, 0, 0, 1, -1])))

@@ -10,13 +10,14 @@ from __future__ import annotations
 from dataclasses import dataclass
 from random import Random
 
-from random_calls.plain_model import (And, Between, Column, Comparison, Database, In, Is, IsNull, Literal, Name,
-                                      Not, Operand, Or, Predicate, Value, class_of)
+from random_calls.plain_model import (FIRST_DAY, LAST_DAY, And, Between, Column, Comparison, Database, Day, In, Is, IsNull, Literal,
+                                      Name, Not, Operand, Or, Predicate, Value, class_of)
 from random_calls.puts import RANGES, TEXTS
 from random_calls.queries import Asker, Speller
 
 LARGE = 2**55  # of 200 of these no sum has more than 64 bits, which sqlite3 would refuse
 NUMBERS = [1, 2, 3, 100, -1, -2, 127, 255, -128, LARGE, -LARGE]
+DAYS = [FIRST_DAY, LAST_DAY, 8766, -1, 11016, FIRST_DAY - 1, LAST_DAY + 1, -(2**31), 2**31 - 1]
 ALIASES = ["p", "q", "r", "w", "on p", "from"]  # of places; tables have other names
 SUMMED = [name for name in RANGES if name != "Decimal128"]
 LONGEST_TEXT = 16_384
@@ -77,9 +78,11 @@ class Values:
         self.random = random
         self.numbers = [0, *random.sample(NUMBERS, random.randrange(1, 5))]
         self.texts = random.sample(TEXTS[:-1], random.randrange(1, 5))
+        self.days = [Day(0), *map(Day, random.sample(DAYS, random.randrange(1, 5)))]
         if large:
             self.numbers = [*random.sample(range(-100, 100), 80), *random.sample(range(2**40), 20)]
             self.texts += [f"text {number}" for number in random.sample(range(1000), 100)]
+            self.days += map(Day, random.sample(range(8000, 12000), 100))
 
     def value(self, kind: str) -> Value:
         match class_of(kind):
@@ -87,6 +90,8 @@ class Values:
                 return self.random.random() < 0.5
             case "text":
                 return self.random.choice(self.texts)
+            case "date":
+                return self.random.choice(self.days)
         least, above = RANGES[kind]
         few = [number for number in self.numbers if least <= number < above]
         ends = [max(least, -LARGE), min(above - 1, LARGE)]
@@ -127,8 +132,10 @@ class Joiner(Asker):
 
     def literal(self, kind: str) -> Literal:
         """A literal of a class: one of the few values, or a number beside it."""
-        value = self.values.value({"number": "Int64", "text": "Utf8", "truth": "Bool"}[kind])
-        return Literal(value + self.random.choice([0, 0, 0, 1, -1]) if kind == "number" else value)
+        value, moved = self.values.value({"number": "Int64", "text": "Utf8", "truth": "Bool", "date": "Date"}[kind]), self.random.choice([0, 0, 0, 1, -1])
+        if kind == "date":
+            return Literal(value.beside(moved))
+        return Literal(value + moved if kind == "number" else value)
 
     def operand(self, kind: str, most: float = 0.4) -> Operand:
         name = self.name(kind) if self.chance(most) else None

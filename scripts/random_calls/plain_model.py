@@ -1,7 +1,7 @@
 """What puts and queries mean, on plain lists.
 
-A database is a dict from names to tables, and a table is columns and a list of rows. A value is None, a bool, an int or
-a str. Written from the words of docs/PROTOCOL.md and docs/SQL.md alone: it shares nothing with the crates.
+A database is a dict from names to tables, and a table is columns and a list of rows. A value is None, a bool, an int,
+a Day or a str. Written from the words of docs/PROTOCOL.md and docs/SQL.md alone: it shares nothing with the crates.
 """
 
 from __future__ import annotations
@@ -10,7 +10,18 @@ import operator
 from collections.abc import Callable
 from dataclasses import dataclass
 
-Value = None | bool | int | str
+FIRST_DAY, LAST_DAY = -719_162, 2_932_896  # 0001-01-01 and 9999-12-31: the dates that a query can name
+
+
+class Day(int):
+    """A date, by its number of days since 1970-01-01. It compares as a number does, and is of a class of its own."""
+
+    def beside(self, days: int) -> Day:
+        """The date so many days behind, of those that a query can name."""
+        return Day(max(FIRST_DAY, min(LAST_DAY, self + days)))
+
+
+Value = None | bool | int | str | Day
 Row = tuple[Value, ...]
 Truth = bool | None  # None is unknown
 
@@ -173,7 +184,7 @@ class Query:
 
 
 def class_of(type_name: str) -> str:
-    return {"Utf8": "text", "dictionary": "text", "Bool": "truth"}.get(type_name, "number")
+    return {"Utf8": "text", "dictionary": "text", "Bool": "truth", "Date": "date"}.get(type_name, "number")
 
 
 class Scope:
@@ -195,7 +206,7 @@ class Scope:
     def class_of(self, operand: Operand) -> str:
         if isinstance(operand, Name):
             return class_of(self.columns[self.number(operand)].type)
-        return {bool: "truth", int: "number", str: "text"}[type(operand.value)]
+        return {bool: "truth", int: "number", str: "text", Day: "date"}[type(operand.value)]
 
     def check(self, predicate: Predicate) -> None:
         """The first fault of a predicate, from the left."""

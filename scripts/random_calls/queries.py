@@ -5,19 +5,22 @@ The fault of a text that does not parse is that of vectors/queries/recogniser.py
 
 from __future__ import annotations
 
+import datetime
 import re
 from itertools import pairwise
 from random import Random
 
 import recogniser
 from lexer import GRAMMAR, LEFT_OUT
-from random_calls.plain_model import (SIGNS, And, Between, Comparison, Database, In, Is, IsNull, Literal, Name, Not,
+from random_calls.plain_model import (SIGNS, And, Between, Comparison, Database, Day, In, Is, IsNull, Literal, Name, Not,
                                       Operand, Or, Predicate, Query, class_of)
 from random_calls.puts import COLUMNS, TABLES, value_of
 
 PLAIN_NAME = re.compile("[A-Za-z_][A-Za-z0-9_]*")
 TRUTHS = {"TRUE": True, "FALSE": False, "UNKNOWN": None}
-TYPES = {"number": ["Int8", "Int64", "UInt64", "Decimal128"], "text": ["Utf8"], "truth": ["Bool"]}
+TYPES = {"number": ["Int8", "Int64", "UInt64", "Decimal128"], "text": ["Utf8"], "truth": ["Bool"],
+         "date": ["Date"]}
+EPOCH = datetime.date(1970, 1, 1).toordinal()
 GREATEST = 10**38 - 1  # of a number in a text
 PIECES = ["SELECT", "FROM", ",", "(", ")", "AND", "NOT", "=", "''", "'", "@", "ORDER", "+", "1", ";", ".", "IS NULL"]
 
@@ -54,7 +57,9 @@ class Asker:
         else:
             value = value_of(self.random, self.random.choice(TYPES[kind]))
         if value is None:
-            return Literal({"number": 0, "text": "", "truth": False}[kind])
+            return Literal({"number": 0, "text": "", "truth": False, "date": Day(0)}[kind])
+        if kind == "date":
+            value = Day(value).beside(self.random.choice([0, 0, 0, 1, -1]))
         if kind == "number":
             value = max(-GREATEST, min(GREATEST, value + self.random.choice([0, 0, 0, 1, -1])))
         return Literal(value)
@@ -137,6 +142,8 @@ class Speller:
                 return [self.name(place), ".", self.name(column)]
             case Literal(bool(value)):
                 return self.words("TRUE" if value else "FALSE")
+            case Literal(Day() as day):
+                return [self.word("DATE"), f"'{datetime.date.fromordinal(day + EPOCH).isoformat()}'"]
             case Literal(str(value)):
                 return ["'" + value.replace("'", "''") + "'"]
         digits = self.random.choice(["", "", "00"]) + str(abs(operand.value))

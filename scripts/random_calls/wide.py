@@ -14,7 +14,7 @@ from random import Random
 
 from random_calls.batched import few_of, narrow
 from random_calls.joined import Count, Item, Joiner, Place, Query, Sum
-from random_calls.plain_model import (SIGNS, Between, Column, Comparison, Database, In, IsNull, Literal, Name, Operand,
+from random_calls.plain_model import (FIRST_DAY, LAST_DAY, SIGNS, Between, Column, Comparison, Database, Day, In, IsNull, Literal, Name, Operand,
                                       Predicate, Row, Value, class_of)
 from random_calls.puts import RANGES, TREES
 
@@ -63,6 +63,8 @@ def choices_of(random: Random, column: Column, rows: int) -> list[Value]:
             return [False, True]
         case "text":
             return texts_of(random, min(few, MOST_WORDS) if kind == "dictionary" else few)
+        case "date":
+            return [Day(day) for day in random.sample(range(FIRST_DAY, LAST_DAY + 1), few)]
     return numbers_of(random, kind, few)
 
 
@@ -148,7 +150,8 @@ class WideJoiner(Joiner):
     def other_than(self, kind: str) -> Literal:
         """A literal of a class that may stand nowhere."""
         numbers = [0, 1, -1, 127, 255, 2**31, 2**53, TOP - 1, self.random.randrange(-TOP, TOP)]
-        values = {"number": numbers, "text": [*WORDS, "abcdefgh5"], "truth": [False, True]}
+        values = {"number": numbers, "text": [*WORDS, "abcdefgh5"], "truth": [False, True],
+                  "date": [Day(FIRST_DAY), Day(0), Day(8766), Day(LAST_DAY)]}
         return Literal(self.random.choice(values[kind]))
 
     def beside(self, name: Name, kind: str, share: float) -> Literal:
@@ -156,6 +159,8 @@ class WideJoiner(Joiner):
         value = self.sorted.at(self.tables[name.place], name.column, share)
         if value is None:
             return self.other_than(kind)
+        if kind == "date":
+            return Literal(value.beside(self.random.choice([0, 0, 0, 1, -1])))
         moved = value + self.random.choice([0, 0, 0, 1, -1]) if kind == "number" else value
         return Literal(moved if kind != "number" or -TOP < moved < TOP else value)
 

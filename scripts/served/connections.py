@@ -10,6 +10,7 @@ from each_allocation import MADE, PUT_LENGTH
 from layout import written
 from loopback import Connection, Server
 from random_calls.answers import PutCount, Refusal, same
+from random_calls.plain_model import Column
 from random_calls.refused import INGEST
 from served.cases import (A, DONE, FETCH, FIRST_RUN, MEGABYTE, PUT, TICKET, Run, ask, case, descriptor_of, fetch_of,
                           info_of, put_of, rows_of, status_of)
@@ -193,6 +194,38 @@ def idle_clients(run: Run) -> None:
         with Connection(server.port, room=65_536) as idle, Connection(server.port) as waiting:
             idle.send(fetch_of(1, 0, 4_096, "SELECT * FROM t"))
             ask(waiting, PUT, Refusal("F10"))
+
+
+KEYS = (Column("k", "Int64", True), Column("v", "Int64", True))
+# 64,000,000,000 joined rows, of which WHERE keeps none: it names the first place and the last one, so it stands above both joins
+NEVER = "SELECT x.k FROM t AS x JOIN t AS y ON x.k = y.k JOIN t AS z ON x.k = z.k WHERE x.v < z.v"
+FREE_SECONDS = 5  # within which a seat has to be free
+
+
+def ended_input(connection: Connection) -> None:
+    """Ends what it sends, and waits for the answer: it is taken for gone."""
+    connection.end_input()
+    connection.rest()
+    connection.close()
+
+
+@case("clients that go away while a join gives no row: each had the schema at once, and its only seat is free within 5 seconds")
+def gone_while_joining(run: Run) -> str:
+    longest = 0.0
+    with run.serving("--seats", "1") as server:
+        with Connection(server.port) as connection:
+            ask(connection, put_of("t", KEYS, [(1, 0)] * 4_000), PutCount(4_000))
+        for leave in (Connection.close, Connection.break_off, ended_input):
+            connection = Connection(server.port)
+            connection.send(fetch_of(1, 0, 4_000, NEVER))
+            same("the first record is a Message", b"\x02", connection.take(1))
+            began = time.perf_counter()
+            leave(connection)
+            with Connection(server.port) as waiting:
+                ask(waiting, PUT, Refusal("F10"))
+            longest = max(longest, time.perf_counter() - began)
+    same(f"a seat was free after {longest:.1f} s", True, longest < FREE_SECONDS)
+    return f"at most {longest:.1f} s"
 
 
 @case("a client that waits before it calls: with --idle 0 its connection stays")

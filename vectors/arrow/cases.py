@@ -2,7 +2,7 @@
 import json
 from dataclasses import dataclass
 
-from trees import BOOL, DECIMAL, UTF8, batch, dictionary, encoding, field, headed, hexed, integer, offsets, placed, schema
+from trees import BOOL, DATE, DECIMAL, UTF8, batch, dictionary, encoding, field, headed, hexed, integer, offsets, placed, schema
 
 MESSAGES, INDEX = {}, []
 
@@ -117,6 +117,11 @@ add("schema_all_defaults", ALL, ALL_SAID, layout="defaults")
 add("schema_all_packed", ALL, ALL_SAID, layout="packed", compared=True)
 add("schema_all_spread", ALL, ALL_SAID, layout="spread", compared=True)
 I64 = integer(64, True)
+# Days, of which the unit has to be stored: left out it is milliseconds.
+add("schema_Date", schema(field("a", DATE)), says(("a", "Date", True)))
+add("schema_Date_full", schema(field("a", DATE, False)), says(("a", "Date", False)), layout="packed", compared=True)
+add("schema_Date_and_more", schema(field("a", integer(32, True)), field("d", DATE, False), field("s", UTF8)),
+    says(("a", "Int32", True), ("d", "Date", False), ("s", "Utf8", True)), layout="spread", compared=True)
 add("schema_64_columns", schema(*(field(f"c{n}", I64) for n in range(64))),
     says(*((f"c{n}", "Int64", True) for n in range(64))))
 add("schema_name_of_64", schema(field("ä" * 32, I64)), says(("ä" * 32, "Int64", True)), note="32 letters of 2 bytes")
@@ -177,7 +182,11 @@ for name, table in [
 for name, table in [("List", {}), ("Struct_", {}), ("FixedSizeList", {"listSize": 2}), ("Map", {"keysSorted": True}),
                     ("LargeList", {}), ("ListView", {}), ("LargeListView", {})]:
     add(f"bad_type_{name}", schema(field("a", (name, table), children=[A])), "F7")
-add("bad_type_Date_days", schema(field("a", ("Date", {"unit": "DAY"}))), "F7", note="until Date is built")
+add("bad_type_Date_stored", schema(field("a", ("Date", {"unit": "MILLISECOND"}))), "F7", layout="packed", compared=True,
+    note="of bad_type_Date the unit is absent, which is milliseconds")
+add("bad_type_Date_unit_2", schema(field("a", ("Date", {"unit": 2}))), "F7", layout="spread")
+add("bad_type_absent_Date", schema({"name": "a", "type_type": "Date"}), "F6", layout="packed")
+add("bad_dictionary_Date", schema(field("a", DATE, dictionary=encoding(1))), "F7", layout="packed", compared=True)
 add("bad_type_absent_kind", schema({"name": "a"}), "F6")
 add("bad_type_kind_0", schema({"name": "a", "type_type": 0}), "F7", layout="packed", note="stored as 0")
 add("bad_type_kind_27", schema({"name": "a", "type_type": 27}), "F7", layout="packed")
@@ -257,6 +266,12 @@ add("batch_Decimal128",
          [36893488147419103230], [21345817372864405881847059188222722561]), "schema_Decimal128",
     note="every value of 128 bits is taken, also of 39 digits")
 add("batch_Decimal128_full", batch(1, (0, "", "FF" * 16)), rows([-1]), "schema_Decimal128_full")
+add("batch_Date", batch(5, (1, "FD", "3E 22 00 00 A5 A5 A5 A5 C5 06 F5 FF 00 00 00 80 FF FF FF 7F")),
+    rows([8766], [None], [-719163], [-2147483648], [2147483647]), "schema_Date", layout="packed", compared=True,
+    note="a day number: of 1994-01-01, of the day before 0001-01-01, the least and the greatest")
+add("batch_Date_full", batch(2, (0, "", "00 00 00 00 FF FF FF FF")), rows([0], [-1]), "schema_Date_full", layout="spread",
+    compared=True)
+add("bad_data_short_Date", batch(2, (0, "", "00" * 7)), "F8", "schema_Date", layout="packed")
 add("batch_Bool", batch(4, (1, "0D", "09")), rows([True], [None], [False], [True]), "schema_Bool")
 add("batch_Bool_null_bit", batch(4, (1, "0D", "0B")), rows([True], [None], [False], [True]), "schema_Bool")
 add("batch_Bool_nine", batch(9, (2, "FB FE", "81 FF")),

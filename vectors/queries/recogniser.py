@@ -1,9 +1,11 @@
 """Queries, and what the rules answer to each: `sentence`, or the fault's text.
 
-The grammar below is the printed one. It is read as it stands and run by Earley's recogniser over the tokens of the
+The grammar below is the printed one, but that a string which is a date is called `date`: it stands where any string may,
+and behind the word DATE. It is read as it stands and run by Earley's recogniser over the tokens of the
 lexer beside this file, so that the offending token is the first one with which no sentence of the grammar goes on. The
 limits are read off the recogniser's items. Nothing is shared with the crates.
 """
+import datetime
 import random
 import re
 
@@ -21,7 +23,7 @@ conj    = factor {AND factor}
 factor  = NOT factor | test
 test    = primary [IS [NOT] (TRUE | FALSE | UNKNOWN)]
 primary = "(" pred ")" | operand compare operand | operand [NOT] BETWEEN operand AND operand | operand [NOT] IN "(" operand {"," operand} ")" | operand IS [NOT] NULL
-operand = column | ["+" | "-"] digits | string | TRUE | FALSE
+operand = column | ["+" | "-"] digits | string | date | TRUE | FALSE | DATE date
 column  = name ["." name]
 compare = "=" | "<>" | "!=" | "<" | "<=" | ">" | ">="
 """
@@ -72,7 +74,7 @@ class Grammar:
                     symbols.append(name)
             elif word.startswith('"'):
                 symbols.append(("t", word.strip('"')))
-            elif word.isupper() or word in ("name", "digits", "string"):
+            elif word.isupper() or word in ("name", "digits", "string", "date"):
                 symbols.append(("t", word))
             else:
                 symbols.append(word)
@@ -80,6 +82,16 @@ class Grammar:
 
 
 # ---- tokens
+
+def is_date(piece):
+    """Whether a string's token is the text of a date, in the years 1 to 9999."""
+    if not re.fullmatch(r"'[0-9]{4}-[0-9]{2}-[0-9]{2}'", piece):
+        return False
+    try:
+        return bool(datetime.date(*(int(part) for part in piece[1:-1].split("-"))))
+    except ValueError:
+        return False
+
 
 def tokens_of(query):
     """A fault's text, or a list of tokens: what the grammar calls it, where, its text, and its kind."""
@@ -97,6 +109,8 @@ def tokens_of(query):
             called = {"Name": "name", "DelimitedName": "name", "String": "string", "Digits": "digits"}.get(kind, piece)
         if kind == "LeftOut":
             called = None
+        elif kind == "String" and is_date(piece):
+            called = "date"
         tokens.append((called, int(start), piece, kind))
     return tokens
 
@@ -311,7 +325,7 @@ OTHERS = [
     "SELECT a FROM t JOIN u USING (a)", "SELECT a FROM t WHERE a LIKE 'x'", "SELECT a FROM t WHERE EXISTS (a)", "SELECT a FROM t WHERE a = ANY (1)", "SELECT a FROM t WHERE a = SOME (1)",
     "SELECT CASE a FROM t", "SELECT CAST(a) FROM t", "SELECT MIN(a) FROM t", "SELECT MAX(a) FROM t", "SELECT AVG(a) FROM t", "WITH x SELECT a FROM t", "VALUES (1)", "INSERT INTO t",
     "UPDATE t", "DELETE FROM t", "SELECT a FROM t WHERE a = NULL", "SELECT NULL FROM t", "SELECT a FROM t WHERE NULL IS NULL", "SELECT a FROM t WHERE a IN (NULL)",
-    "SELECT a FROM t WHERE a = DATE '1994-01-01'", "SELECT DATE FROM t", "SELECT a FROM DATE", "SELECT a + b FROM t", "SELECT a * 2 FROM t", "SELECT a / 2 FROM t", "SELECT a % 2 FROM t",
+    "SELECT DATE FROM t", "SELECT a FROM DATE", "SELECT a + b FROM t", "SELECT a * 2 FROM t", "SELECT a / 2 FROM t", "SELECT a % 2 FROM t",
     "SELECT a || b FROM t", "SELECT -a FROM t", "SELECT a FROM t WHERE a = -b", "SELECT a FROM t WHERE a = - 1", "SELECT a FROM t WHERE a = - -1", "SELECT a FROM t WHERE a = 1 ORDER BY a",
     "SELECT a, * FROM t", "SELECT *, a FROM t", "SELECT t.* FROM t", "SELECT COUNT(*) * 2 FROM t", "SELECT a FROM t WHERE * = 1",
     # what is no sentence
@@ -331,6 +345,28 @@ OTHERS = [
     # on a whole sentence
     "SELECT * FROM t GROUP BY a", "SELECT a FROM t JOIN u ON t.a = u.a GROUP BY a", "SELECT SUM(a) FROM t JOIN u ON t.a = u.a WHERE a = 1;", "SELECT * FROM t JOIN u ON t.a = u.a GROUP BY a",
     "SELECT COUNT(*) FROM t JOIN u ON t.a = u.a GROUP", "SELECT COUNT(*) FROM t JOIN u ON t.a = u.a ORDER", "SELECT * FROM t GROUP BY a,",
+]
+
+DATES = [
+    # the worked rows
+    "SELECT d FROM t WHERE d = DATE '1994-02-29'", "SELECT d FROM t WHERE d = DATE '1900-02-29'", "SELECT d FROM t WHERE d = DATE '1994-1-1'",
+    "SELECT d FROM t WHERE d = DATE '0000-01-01'", "SELECT d FROM t WHERE d = DATE 5", "SELECT d FROM t WHERE d = '1994-01-01'", "SELECT d FROM t ORDER BY d",
+    # sentences
+    "SELECT a FROM t WHERE a = DATE '1994-01-01'", "SELECT a FROM t WHERE DATE '2000-02-29' < a", "select a from t where a = date '0001-01-01';", "SELECT a FROM t WHERE a <> Date'9999-12-31'",
+    "SELECT a FROM t WHERE a BETWEEN DATE '1992-01-01' AND DATE '1994-01-01' AND b = '1994-01-01'", "SELECT a FROM t WHERE a NOT IN (DATE '1994-01-01', b, 1, DATE '1994-01-02')",
+    "SELECT a FROM t WHERE DATE '1994-01-01' IS NOT NULL", "SELECT a FROM t WHERE (DATE '1994-01-01' = a) IS UNKNOWN", "SELECT a FROM t WHERE NOT DATE '1994-01-01' = DATE '1994-01-02'",
+    "SELECT a FROM t WHERE a = DATE -- c\n '1994-01-01'", "SELECT \"date\" FROM t WHERE \"date\" = DATE '1994-01-01'",
+    # the string offends, or what stands in its place
+    "SELECT a FROM t WHERE a = DATE", "SELECT a FROM t WHERE a = DATE ''", "SELECT a FROM t WHERE a = DATE 'x'", "SELECT a FROM t WHERE a = DATE '1994-13-01'", "SELECT a FROM t WHERE a = DATE '1994-00-01'",
+    "SELECT a FROM t WHERE a = DATE '1994-01-00'", "SELECT a FROM t WHERE a = DATE '1994-04-31'", "SELECT a FROM t WHERE a = DATE '2100-02-29'", "SELECT a FROM t WHERE a = DATE '1994-01-01 '", "SELECT a FROM t WHERE a = DATE ' 1994-01-01'",
+    "SELECT a FROM t WHERE a = DATE '+994-01-01'", "SELECT a FROM t WHERE a = DATE '1994/01/01'", "SELECT a FROM t WHERE a = DATE '1994-01-01T00:00'", "SELECT a FROM t WHERE a = DATE '19940-01-01'",
+    "SELECT a FROM t WHERE a = DATE '1994-01-''1'", "SELECT a FROM t WHERE a = DATE \"1994-01-01\"", "SELECT a FROM t WHERE a = DATE a", "SELECT a FROM t WHERE a = DATE DATE '1994-01-01'", "SELECT a FROM t WHERE a = DATE ('1994-01-01')",
+    "SELECT a FROM t WHERE a = DATE ORDER", "SELECT a FROM t WHERE a = DATE NULL", "SELECT a FROM t WHERE a BETWEEN DATE '1994-01-01' AND DATE '1994-02-30'", "SELECT a FROM t WHERE a IN (DATE '1994-01-01', DATE 1)",
+    # DATE offends where no operand may stand
+    "SELECT DATE '1994-01-01' FROM t", "SELECT a FROM t WHERE a DATE '1994-01-01'", "SELECT a FROM t WHERE a = -DATE '1994-01-01'", "SELECT a FROM t GROUP BY DATE '1994-01-01'", "SELECT a DATE FROM t", "SELECT a FROM t WHERE a IS DATE",
+    "SELECT a FROM t JOIN u ON a = DATE '1994-01-01'", "SELECT a FROM t WHERE a = 1 DATE", "SELECT COUNT(DATE '1994-01-01') FROM t",
+    # what stands behind a date
+    "SELECT a FROM t WHERE DATE '1994-01-01'", "SELECT a FROM t WHERE a = DATE '1994-01-01' '1994-01-01'", "SELECT a FROM t WHERE a = DATE '1994-01-01' + 1",
 ]
 
 
@@ -413,4 +449,4 @@ def changed(count):
 
 
 def queries():
-    return list(dict.fromkeys(SENTENCES + OTHERS + list(limits()) + list(changed(400))))
+    return list(dict.fromkeys(SENTENCES + OTHERS + DATES + list(limits()) + list(changed(400))))

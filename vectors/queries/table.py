@@ -18,6 +18,11 @@ three   the same, in three rows of one a
 lefts   a nullable column n of decimals, a column f of truth values and a number i
 rights  the same with n of Int64, in three batches, of which the second has no row
 letters a nullable column s of texts, and a number i
+
+and of dates:
+
+days    a nullable column d of dates, and a number k
+history a column d of dates and a number i, in two batches of two rows
 """
 import json
 import pathlib
@@ -29,7 +34,7 @@ sys.path.append(str(HERE.parent / "arrow"))
 import layout
 from cases import INTS
 from reader import Reader
-from trees import BOOL, DECIMAL, UTF8, batch, bits, dictionary, encoding, field, integer, schema, texts, validity
+from trees import BOOL, DATE, DECIMAL, UTF8, batch, bits, dictionary, encoding, field, integer, schema, texts, validity
 
 MOST = 10**38 - 1  # of a decimal of 38 digits
 WHOLE = [(("i" if signed else "u") + str(bits), integer(bits, signed)) for _, bits, signed, *_ in INTS]
@@ -76,7 +81,7 @@ def column(of, values, slots, under="a"):
         return *nulls, *texts_of(values, under)
     if of is BOOL:
         return *nulls, bits([value in (True, None) for value in values])
-    return *nulls, numbers(of[1].get("bitWidth", 128) // 8, values)
+    return *nulls, numbers(4 if of is DATE else of[1].get("bitWidth", 128) // 8, values)
 
 
 def fields(columns):
@@ -171,6 +176,14 @@ def for_joins_and_groups():
     yield few_rows("letters", ("s", UTF8, ["b", None, "a"]), ("i", i64, [1, 2, 3]))
 
 
+def for_dates():
+    """Dates from before the year 1 to the last of 9999, and a table of two puts."""
+    i64 = integer(64, True)
+    yield few_rows("days", ("d", DATE, [8766, -719163, None, 8035, 11016, 2932896]), ("k", i64, [1, 2, 3, 4, 5, 6]))
+    for days, rows in [([8000, 8700], [1, 2]), ([8766, 9000], [3, 4])]:
+        yield few_rows("history", ("d", DATE, days), ("i", i64, rows))
+
+
 def for_skipping():
     """Tables whose batches are apart in their least and greatest values, or in their nulls."""
     i64 = integer(64, True)
@@ -223,4 +236,4 @@ def put(name, columns, messages, periods=()):
 
 
 def puts():
-    return [put(*one) for one in [*two_columns(), six_rows(), many_rows(), *for_joins_and_groups(), *for_skipping()]]
+    return [put(*one) for one in [*two_columns(), six_rows(), many_rows(), *for_joins_and_groups(), *for_skipping(), *for_dates()]]

@@ -292,6 +292,52 @@ TRUTH_VALUES = [
     ("NOT (f = TRUE AND g = TRUE)", [1, 4, 5]),
 ]
 
+# Over `days`, of which the row k has these dates: 1 1994-01-01, 2 the day before 0001-01-01, 3 null, 4 1992-01-01,
+# 5 2000-02-29, 6 9999-12-31.
+DATES = [
+    ("d = DATE '1994-01-01'", [1]),
+    ("DATE '1994-01-01' = d", [1]),
+    ("d <> DATE '2000-02-29'", [1, 2, 4, 6]),
+    ("d < DATE '1994-01-01'", [2, 4]),
+    ("d <= DATE '1994-01-01'", [1, 2, 4]),
+    ("d > DATE '1994-01-01'", [5, 6]),
+    ("d >= DATE '1994-01-01'", [1, 5, 6]),
+    ("DATE '1994-01-01' > d", [2, 4]),
+    ("DATE '0001-01-01' > d", [2]),
+    ("d >= DATE '9999-12-31'", [6]),
+    ("d BETWEEN DATE '1992-01-01' AND DATE '1994-01-01'", [1, 4]),
+    ("d NOT BETWEEN DATE '1992-01-01' AND DATE '1994-01-01'", [2, 5, 6]),
+    ("d BETWEEN d AND DATE '1994-01-01'", [1, 2, 4]),
+    ("DATE '1994-01-01' BETWEEN DATE '1992-01-01' AND d", [1, 5, 6]),
+    ("d IN (DATE '1994-01-01', DATE '9999-12-31')", [1, 6]),
+    ("d NOT IN (DATE '1994-01-01')", [2, 4, 5, 6]),
+    ("d IN (DATE '1994-01-02', d)", [1, 2, 4, 5, 6]),
+    ("d IS NULL", [3]),
+    ("DATE '1994-01-01' IS NULL", []),
+    ("d = d", [1, 2, 4, 5, 6]),
+    ("(d = DATE '1994-01-01') IS UNKNOWN", [3]),
+    ("(d = DATE '1994-01-01') IS NOT TRUE", [2, 3, 4, 5, 6]),
+    ("NOT d = DATE '1994-01-01' AND k < 5", [2, 4]),
+    ("DATE '1994-01-01' = DATE '1994-01-01'", [1, 2, 3, 4, 5, 6]),
+    ("DATE '1994-01-01' < DATE '1993-12-31'", []),
+]
+
+# A date is of a class of its own.
+CLASHES_OF_DATES = [
+    "d = '1994-01-01'",
+    "'1994-01-01' = d",
+    "d = 8766",
+    "k = DATE '1994-01-01'",
+    "DATE '1994-01-01' = 8766",
+    "DATE '1994-01-01' < '1994-01-01'",
+    "DATE '1994-01-01' = TRUE",
+    "d = k",
+    "d BETWEEN DATE '1994-01-01' AND 9000",
+    "d BETWEEN '1994-01-01' AND DATE '1994-01-02'",
+    "d IN (DATE '1994-01-01', '1994-01-02')",
+    "k NOT IN (1, DATE '1994-01-01')",
+]
+
 # Two classes in one comparison, over `types`.
 CLASHES_OF_TYPES = [
     "i8 = 'x'",
@@ -392,6 +438,10 @@ JOINED_OR_GROUPED = [
     ("SELECT s, COUNT(*) FROM words GROUP BY s", [("'b'", 2), (None, 2), ("'a'", 1)]),
     ("SELECT SUM(a), COUNT(s) FROM words WHERE a > 1 GROUP BY s", [(6, 0), (3, 1), (5, 1)]),
     ("SELECT c, COUNT(*) FROM twice GROUP BY c", [("'x'", 2)]),
+    # dates
+    ("SELECT x.k, y.i FROM days x JOIN history y ON x.d = y.d", [(1, 3)]),
+    ("SELECT x.i, y.i FROM history x JOIN history y ON x.d = y.d WHERE y.d > DATE '1994-01-01'", [(4, 4)]),
+    ("SELECT d, COUNT(*), COUNT(d), SUM(k) FROM days WHERE k < 4 GROUP BY d", [(8766, 1, 1, 1), (-719163, 1, 1, 2), (None, 1, 0, 3)]),
 ]
 
 # The table comes first, then ON, WHERE, GROUP BY and the list.
@@ -405,6 +455,8 @@ OF_JOINS_AND_GROUPS = [
     (CLASH, "SELECT a FROM t WHERE a = 'x' GROUP BY z"),
     (CLASH, "SELECT SUM(s) FROM words"),
     (CLASH, "SELECT p.a FROM p JOIN words ON p.a = words.s"),
+    (CLASH, "SELECT SUM(d) FROM days"),
+    (CLASH, "SELECT x.k FROM days x JOIN days y ON x.d = y.k"),
     (LEFT_OUT, "SELECT p.a FROM p JOIN q ON p.a = p.a"),
     (LEFT_OUT, "SELECT s, COUNT(*) FROM words GROUP BY a"),
     (LEFT_OUT, "SELECT COUNT(*) FROM p JOIN q ON p.a = q.a"),
@@ -465,6 +517,11 @@ RANGES = [
     (0, 2, "SELECT k FROM small WHERE NOT (k < 1000)", [], 0, 0),
     (0, 2, "SELECT k FROM small WHERE k < 1000", [1], 1, 1),
     (0, 4, "SELECT a FROM steps WHERE 1 = 2", [], 0, 0),
+    (0, 4, "SELECT d FROM history WHERE d >= DATE '1994-01-01'", [8766, 9000], 1, 1),
+    (0, 4, "SELECT d FROM history WHERE DATE '1994-01-01' > d", [8000, 8700], 1, 1),
+    (0, 4, "SELECT d FROM history WHERE d IN (DATE '1994-01-01', DATE '1990-01-01')", [8766], 1, 1),
+    (0, 4, "SELECT d FROM history WHERE d BETWEEN DATE '1993-10-29' AND DATE '1993-12-31'", [], 0, 0),
+    (0, 4, "SELECT d FROM history WHERE DATE '1994-01-01' = DATE '1994-01-02'", [], 0, 0),
     (0, 4, "SELECT COUNT(*) FROM steps", [4], 1, 2),
     (0, 4, "SELECT COUNT(*) FROM steps WHERE a > 20", [0], 1, 0),
     # of each place, by the conjuncts that name columns of no other one
@@ -484,6 +541,7 @@ COLUMNS = [
     ("SELECT s, COUNT(*) AS n FROM words GROUP BY s", "s Utf8 true;n Integer(Int64) false;"),
     ("SELECT * FROM p JOIN q ON p.a = q.a", "a Integer(Int64) true;a Integer(Int64) true;"),
     ('SELECT a AS "x""y", a "Ab", b Cd FROM t', 'x"y Integer(Int64) true;Ab Integer(Int64) true;Cd Integer(Int64) true;'),
+    ("SELECT d, COUNT(d) FROM days GROUP BY d", "d Date true;col2 Integer(Int64) false;"),
     (
         "SELECT * FROM types",
         "k Integer(Int8) false;i8 Integer(Int8) true;i16 Integer(Int16) true;i32 Integer(Int32) true;i64 Integer(Int64) true;"
@@ -525,6 +583,7 @@ def refused():
     yield from ((f"rows {query}", CLASH) for query in CLASHES)
     yield from ((f"rows {query}", fault) for fault, query in OF_JOINS_AND_GROUPS)
     yield from ((f"rows SELECT k FROM types WHERE {predicate}", CLASH) for predicate in CLASHES_OF_TYPES)
+    yield from ((f"rows SELECT k FROM days WHERE {predicate}", CLASH) for predicate in CLASHES_OF_DATES)
 
 
 def large():
@@ -556,6 +615,8 @@ def cases():
             yield from (rows("SELECT k FROM types WHERE " + filled(predicate, one), wanted) for predicate, wanted in predicates)
     for predicate, wanted in NUMBERS + TEXTS + TRUTH_VALUES:
         yield rows(f"SELECT k FROM types WHERE {predicate}", wanted)
+    for predicate, wanted in DATES:
+        yield rows(f"SELECT k FROM days WHERE {predicate}", wanted)
     yield from (rows(query, wanted) for query, wanted in JOINED_OR_GROUPED)
     yield from ((f"merged {first}/{second}", "".join(map(shown, wanted))) for first, second, wanted in MERGED)
     yield from ((f"whole {first}/{second}", "".join(map(shown, wanted))) for first, second, wanted in MERGED_WHOLE)

@@ -10,6 +10,7 @@ use Rattle.byteorder.specs.Numbers.{little_from-take}
 use Rattle.bitmap.proofs.Masks.{little_drop}
 use Rattle.scan_base.specs.declared.value.Value.TheVariants.{Bool, Int, Text}
 use Rattle.arrow_schema.specs.declared.data_type.IntegerType.{IntegerType}
+use Rattle.arrow_schema.specs.declared.data_type.IntegerType.TheVariants.{Int32}
 use Rattle.arrow_schema.specs.declared.data_type.DataType.{DataType}
 use Rattle.arrow_schema.specs.declared.data_type.DataType.TheVariants as type
 use Rattle.arrow_schema.specs.Answer.{answer_type}
@@ -67,6 +68,17 @@ integers_again integer cells first len same stands =
       refl,
     )
 
+dates_typed : (known : Layout) → IsOfType (type.Integer Int32) known → IsOfType type.Date known
+dates_typed (layout.Integers cells) of = of
+dates_typed known of = absurd of
+
+dates_again : (cells : IntegersAt) (first len : ℕ) → cells.integer ≡ Int32 → IsColumn (record { layout = layout.Integers cells; first = first; len = len }) →
+    SaySlots type.Date (validity_read (record { layout = layout.Integers cells; first = first; len = len })) (elements (byte_width cells.integer) cells.values first len ∷ []) len (values_of (record { layout = layout.Integers cells; first = first; len = len }))
+unfolding values_layout
+dates_again cells first len same stands =
+    let again = integers_again Int32 cells first len same stands in
+    (again.0, again.1, again.2, dates_typed again.0 again.3)
+
 decimals_again : (cells : DecimalsAt) (first len : ℕ) → IsColumn (record { layout = layout.Decimals cells; first = first; len = len }) →
     SaySlots type.Decimal128 (validity_read (record { layout = layout.Decimals cells; first = first; len = len })) (elements 16 cells.values first len ∷ []) len (values_of (record { layout = layout.Decimals cells; first = first; len = len }))
 unfolding values_layout decimals_of
@@ -118,6 +130,7 @@ again : (data_type : DataType) (known : Layout) (first len : ℕ) → IsColumn (
 unfolding values_written
 again (type.Integer integer) (layout.Integers cells) first len stands of short = integers_again integer cells first len of stands
 again type.Decimal128 (layout.Decimals cells) first len stands of short = decimals_again cells first len stands
+again type.Date (layout.Integers cells) first len stands of short = dates_again cells first len of stands
 again type.Bool (layout.Bools cells) first len stands of short = bools_again cells first len stands
 again type.Utf8 (layout.Texts cells) first len stands of short =
     texts_read_again (record { layout = layout.Texts cells; first = first; len = len }) short (λ j low. slot_is_text cells (first + j) (stands.stands.texts (first + j) (omega (arith, stands.within))))

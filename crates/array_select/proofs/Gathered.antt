@@ -96,6 +96,7 @@ slot_is gathered validity f g k at valid same = rw (valid, same) refl
 -- what is gathered is of the type that it was
 integers_typed : (data_type : DataType) (gathered cells : IntegersAt) → gathered.integer ≡ cells.integer → IsOfType data_type (layout.Integers cells) → IsOfType data_type (layout.Integers gathered)
 integers_typed (type.Integer integer) gathered cells same of = same ∙ of
+integers_typed type.Date gathered cells same of = same ∙ of
 integers_typed data_type gathered cells same of = absurd of
 
 decimals_typed : (data_type : DataType) (gathered cells : DecimalsAt) → IsOfType data_type (layout.Decimals cells) → IsOfType data_type (layout.Decimals gathered)

@@ -7,3 +7,4 @@ mod TooMany
 mod FilledSlots
 mod Textless
 pub mod Short
+pub mod Dates

@@ -61,6 +61,7 @@ no_text_where validity value place e = by (is_valid validity place)
 -- a slot of a type that has none is no text
 pub no_text : (data_type : DataType) (known : Layout) (place : ℕ) → has_texts data_type ≡ false → IsOfType data_type known → text_bytes (layout_slot known place) ≡ []
 no_text (type.Integer integer) (layout.Integers cells) place plain of = no_text_where cells.validity (λ at. Int (integer_at cells.integer cells.values at)) place refl
+no_text type.Date (layout.Integers cells) place plain of = no_text_where cells.validity (λ at. Int (integer_at cells.integer cells.values at)) place refl
 no_text type.Decimal128 (layout.Decimals cells) place plain of = no_text_where cells.validity (λ at. Int (decimal_at cells.values at)) place refl
 no_text type.Bool (layout.Bools cells) place plain of = no_text_where cells.validity (λ at. Bool (get_or cells.values at false)) place refl
 no_text type.Utf8 known place plain of = cc

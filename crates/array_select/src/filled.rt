@@ -73,6 +73,7 @@ fn fill_values<S: Source>(
     match data_type {
         DataType::Integer(integer) => fill_integers(alloc, integer, slots),
         DataType::Decimal128 => fill_decimals(alloc, slots),
+        DataType::Date => fill_dates(alloc, slots),
         DataType::Bool => fill_bools(alloc, slots),
         DataType::Utf8 | DataType::Dictionary(_) => fill_texts(alloc, slots),
     }
@@ -90,6 +91,16 @@ fn fill_integers<S: Source>(
     let packed = Bytes::from_vec(pack_numbers(alloc, byte_width(integer), slots)?)?;
     are_bytes(packed.as_slice());
     Ok(Values::Integers(integer, packed))
+}
+
+// Dates lie as integers of 32 signed bits.
+fn fill_dates<S: Source>(alloc: Global, slots: &[S]) -> Result<Values, AllocError>
+    requires there { All S.IsThere slots.now }
+    requires typed { AreOfType type.Date (map S.held slots.now) (length slots.now) }
+    ensures { IfOk result (λ kept. FillSlots kept type.Date (map S.held slots.now)) }
+{
+    let kept = fill_integers(alloc, IntegerType::Int32, slots)?;
+    Ok(kept)
 }
 
 fn fill_decimals<S: Source>(alloc: Global, slots: &[S]) -> Result<Values, AllocError>

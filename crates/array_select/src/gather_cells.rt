@@ -64,6 +64,21 @@ impl<'a> SlotPlaces<'a> {
         Ok(Values::Integers(integer, packed))
     }
 
+    // Dates lie as integers of 32 signed bits.
+    pub(crate) fn gather_dates(
+        &self,
+        alloc: Global,
+        validity: &Option<Bits>,
+    ) -> Result<Values, AllocError>
+        requires there { AreThere self.now }
+        requires typed { All (λ column. IsOfType type.Date column.layout) (columns_of self.now) }
+        requires valid { AreValidUnlessNull validity.now (values_at self.now) }
+        ensures { IfOk result (λ kept. FillSlots kept type.Date (values_at self.now)) }
+    {
+        let kept = self.gather_integers(alloc, IntegerType::Int32, validity)?;
+        Ok(kept)
+    }
+
     pub(crate) fn gather_decimals(
         &self,
         alloc: Global,

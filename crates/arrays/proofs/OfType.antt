@@ -1,5 +1,5 @@
 -- The values of a column are of its type.
-use Rattle.std.proofs.Common.{◌≤ℤ◌, ◌<ℤ◌, ℕ, ◌+◌, ◌*◌, ◌^◌, ◌<◌, ℤ, pos, negsuc, Bool as Truth, true, false, if◌then◌else◌, List, length, Option, unwrap_or, All, get_or, inl, inr, arith}
+use Rattle.std.proofs.Common.{◌≡◌, ◌≤ℤ◌, ◌<ℤ◌, ℕ, subst, FitsSigned, w32, ◌+◌, ◌*◌, ◌^◌, ◌<◌, ℤ, pos, negsuc, Bool as Truth, true, false, if◌then◌else◌, List, length, Option, unwrap_or, All, get_or, inl, inr, arith}
 use Rattle.std.proofs.lemmas.Bool.{cases_lt}
 use Rattle.std.proofs.lemmas.Option.{slice_get-get_or, slice_get_past}
 use Rattle.std.proofs.Math.Facts.{sfits_to_z, yes_leb, yes_ltb}
@@ -56,6 +56,10 @@ integer_in UInt16 values place bytes = unsigned (element_at 2 values place) (2 ^
 integer_in UInt32 values place bytes = unsigned (element_at 4 values place) (2 ^ 32) (element_small 4 place values bytes)
 integer_in UInt64 values place bytes = unsigned (element_at 8 values place) (2 ^ 64) (element_small 8 place values bytes)
 
+-- a number of a slot of dates fits 32 signed bits
+dates_fit : (integer : IntegerType) (values : List ℕ) (place : ℕ) → integer ≡ Int32 → AreBytes values → FitsSigned w32 (integer_at integer values place)
+dates_fit integer values place same bytes = subst (λ (kind : IntegerType). IsInteger kind (integer_at integer values place)) same (integer_in integer values place bytes)
+
 -- what holds of a valid slot's value holds of the slot
 slot_is : (data_type : DataType) (validity : Option (List Truth)) (value : ℕ → Value) (place : ℕ) → IsValueOf data_type Null → IsValueOf data_type (value place) → IsValueOf data_type (where_valid validity value place)
 slot_is data_type validity value place null is = by (is_valid validity place)
@@ -76,6 +80,8 @@ of_type (type.Integer integer) (layout.Integers cells) first len stands of j low
     slot_is (type.Integer integer) cells.validity (λ at. Int (integer_at cells.integer cells.values at)) (first + j) tt (rw (← of) (integer_in cells.integer cells.values (first + j) stands.stands.bytes))
 of_type type.Decimal128 (layout.Decimals cells) first len stands of j low =
     slot_is type.Decimal128 cells.validity (λ at. Int (decimal_at cells.values at)) (first + j) tt (sfits_to_z (record { fits = element_small 16 (first + j) cells.values stands.stands.bytes }))
+of_type type.Date (layout.Integers cells) first len stands of j low =
+    slot_is type.Date cells.validity (λ at. Int (integer_at cells.integer cells.values at)) (first + j) tt (dates_fit cells.integer cells.values (first + j) of stands.stands.bytes)
 of_type type.Bool (layout.Bools cells) first len stands of j low = slot_is type.Bool cells.validity (λ at. Bool (get_or cells.values at false)) (first + j) tt tt
 of_type type.Utf8 (layout.Texts cells) first len stands of j low = utf8_text _ (slot_is_text cells (first + j) (stands.stands.texts (first + j) (omega (arith, stands.within))))
 of_type (type.Dictionary encoding) (layout.Indices cells) first len stands of j low = utf8_text _ (index_is_text cells (first + j) stands.stands.texts)

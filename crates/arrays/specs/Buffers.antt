@@ -4,8 +4,9 @@ use Rattle.scan_base.specs.declared.fault.Fault.{Fault}
 use Rattle.scan_base.specs.declared.fault.Fault.TheVariants.{BadBatch}
 use Rattle.scan_base.specs.declared.value.Value.{Value}
 use Rattle.scan_base.specs.Reading.{◌>>=◌}
+use Rattle.arrow_schema.specs.declared.data_type.IntegerType.TheVariants.{Int32}
 use Rattle.arrow_schema.specs.declared.data_type.DataType.{DataType}
-use Rattle.arrow_schema.specs.declared.data_type.DataType.TheVariants.{Integer, Utf8, Bool, Decimal128, Dictionary}
+use Rattle.arrow_schema.specs.declared.data_type.DataType.TheVariants.{Integer, Utf8, Bool, Decimal128, Date, Dictionary}
 use Rattle.arrays.specs.declared.layout.Layout.{Layout}
 use Rattle.arrays.specs.declared.layout.Layout.TheVariants as layout
 use Rattle.arrays.specs.Integers.{integers_of}
@@ -29,6 +30,7 @@ values_layout (Integer integer) _ validity values len =
     integers_of integer validity values len >>= λ cells. Ok (layout.Integers cells)
 values_layout Bool _ validity values len = bools_of validity values len >>= λ cells. Ok (layout.Bools cells)
 values_layout Decimal128 _ validity values len = decimals_of validity values len >>= λ cells. Ok (layout.Decimals cells)
+values_layout Date _ validity values len = integers_of Int32 validity values len >>= λ cells. Ok (layout.Integers cells)
 values_layout (Dictionary encoding) dictionary validity values len =
     indices_of encoding.index validity values dictionary len >>= λ cells. Ok (layout.Indices cells)
 values_layout Utf8 _ _ _ _ = Err BadBatch

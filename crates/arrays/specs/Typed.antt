@@ -7,18 +7,20 @@ use Rattle.scan_base.specs.declared.value.Value.TheVariants as value
 use Rattle.arrow_schema.specs.declared.data_type.IntegerType.{IntegerType}
 use Rattle.arrow_schema.specs.declared.data_type.IntegerType.TheVariants as integer
 use Rattle.arrow_schema.specs.declared.data_type.DataType.{DataType}
-use Rattle.arrow_schema.specs.declared.data_type.DataType.TheVariants.{Integer, Utf8, Bool, Decimal128, Dictionary}
+use Rattle.arrow_schema.specs.declared.data_type.DataType.TheVariants.{Integer, Utf8, Bool, Decimal128, Date, Dictionary}
 use Rattle.arrow_schema.specs.declared.schema.Field.{Field}
 use Rattle.arrays.specs.declared.layout.Layout.{Layout}
 use Rattle.arrays.specs.declared.layout.Layout.TheVariants as layout
 use Rattle.arrays.specs.Column.{ColumnAt, IsColumn, values_of}
 
--- The slots are of this type. Columns of a dictionary may differ in the type of their indices.
+-- The slots are of this type: those of dates are integers of 32 signed bits. Columns of a dictionary may differ in the type of
+-- their indices.
 abbrev pub IsOfType : DataType → Layout → Type 0
 IsOfType (Integer integer) (layout.Integers cells) = cells.integer ≡ integer
 IsOfType Utf8 (layout.Texts cells) = Unit {0}
 IsOfType Bool (layout.Bools cells) = Unit {0}
 IsOfType Decimal128 (layout.Decimals cells) = Unit {0}
+IsOfType Date (layout.Integers cells) = cells.integer ≡ integer.Int32
 IsOfType (Dictionary encoding) (layout.Indices cells) = Unit {0}
 IsOfType _ _ = ⊥
 
@@ -52,6 +54,7 @@ IsValueOf (Integer integer) (value.Int number) = IsInteger integer number
 IsValueOf Utf8 (value.Text bytes) = is_utf8 bytes ≡ true
 IsValueOf Bool (value.Bool flag) = Unit {0}
 IsValueOf Decimal128 (value.Int number) = FitsSigned w128 number
+IsValueOf Date (value.Int number) = FitsSigned w32 number
 IsValueOf (Dictionary encoding) (value.Text bytes) = is_utf8 bytes ≡ true
 IsValueOf _ _ = ⊥
 

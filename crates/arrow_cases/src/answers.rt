@@ -109,6 +109,7 @@ fn push_type(alloc: Global, told: &mut String, data_type: DataType) -> Result<()
         DataType::Utf8 => told.push_str("Utf8"),
         DataType::Bool => told.push_str("Bool"),
         DataType::Decimal128 => told.push_str("Decimal128"),
+        DataType::Date => told.push_str("Date"),
         DataType::Dictionary(encoding) => {
             let (id, index) = (encoding.id.cast_signed(), integer_name(encoding.index));
             told.push_str(&format!(in alloc; "dictionary {id} {index}")?)

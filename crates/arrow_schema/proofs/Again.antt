@@ -22,12 +22,12 @@ use Rattle.arrow_schema.specs.declared.reading.TypeKind.TheVariants as kinds
 use Rattle.arrow_schema.specs.declared.data_type.IntegerType.{IntegerType}
 use Rattle.arrow_schema.specs.declared.data_type.IntegerType.TheVariants.{Int8, Int16, Int32, Int64, UInt8, UInt16, UInt32, UInt64}
 use Rattle.arrow_schema.specs.declared.data_type.DataType.{DataType}
-use Rattle.arrow_schema.specs.declared.data_type.DataType.TheVariants.{Integer, Utf8, Bool as Flags, Decimal128, Dictionary}
+use Rattle.arrow_schema.specs.declared.data_type.DataType.TheVariants.{Integer, Utf8, Bool as Flags, Decimal128, Date, Dictionary}
 use Rattle.arrow_schema.specs.declared.data_type.DictionaryEncoding.{DictionaryEncoding}
 use Rattle.arrow_schema.specs.declared.schema.Field.{Field}
 use Rattle.arrow_schema.specs.declared.schema.Schema.{Schema}
 use Rattle.arrow_schema.specs.DataType.{bit_width, is_signed}
-use Rattle.arrow_schema.specs.Fields.{table_wanted, vector_wanted, name_of, integer_type, integer_of, decimal_of, type_kind, type_of, value_type_of, childless, dictionary_of, encoded, field_in}
+use Rattle.arrow_schema.specs.Fields.{table_wanted, vector_wanted, name_of, integer_type, integer_of, decimal_of, date_of, type_kind, type_of, value_type_of, childless, dictionary_of, encoded, field_in}
 use Rattle.arrow_schema.specs.Header.{MessageAt, message_of, field_at, fields_of, schema_in, is_schema, schema_message_of, schema_of}
 use Rattle.arrow_schema.specs.Schema.{IsName, IsType, IsField, IsSchema}
 use Rattle.arrow_schema.specs.Message.{message_part}
@@ -70,6 +70,7 @@ kind_of (Integer integer) = kinds.Int
 kind_of Utf8 = kinds.Utf8
 kind_of Flags = kinds.Bool
 kind_of Decimal128 = kinds.Decimal
+kind_of Date = kinds.Date
 kind_of (Dictionary encoding) = kinds.Utf8
 
 -- the type of the values, also of a dictionary's
@@ -78,6 +79,7 @@ values (Integer integer) = Integer integer
 values Utf8 = Utf8
 values Flags = Flags
 values Decimal128 = Decimal128
+values Date = Date
 values (Dictionary encoding) = Utf8
 
 pub type_kind_again : (t : DataType) → type_kind (type_number t) ≡ Ok (kind_of t)
@@ -85,6 +87,7 @@ type_kind_again (Integer integer) = refl
 type_kind_again Utf8 = refl
 type_kind_again Flags = refl
 type_kind_again Decimal128 = refl
+type_kind_again Date = refl
 type_kind_again (Dictionary encoding) = refl
 
 pub low_number : (t : DataType) → type_number t < 256
@@ -92,6 +95,7 @@ low_number (Integer integer) = omega arith
 low_number Utf8 = omega arith
 low_number Flags = omega arith
 low_number Decimal128 = omega arith
+low_number Date = omega arith
 low_number (Dictionary encoding) = omega arith
 
 some_number : (t : DataType) → 1 ≤ type_number t
@@ -99,6 +103,7 @@ some_number (Integer integer) = omega arith
 some_number Utf8 = omega arith
 some_number Flags = omega arith
 some_number Decimal128 = omega arith
+some_number Date = omega arith
 some_number (Dictionary encoding) = omega arith
 
 -- a number that is not the default was read of a field
@@ -144,12 +149,16 @@ integer_again integer bytes at s =
 abbrev decimal_slots : List Given
 decimal_slots = Number 38 ∷ Number 0 ∷ Number 128 ∷ []
 
+abbrev date_slots : List Given
+date_slots = Number 0 ∷ []
+
 whole_type : (t : DataType) → IsWhole (type_part t)
 unfolding type_part
 whole_type (Integer integer) = whole_integer integer
 whole_type Utf8 = whole_table [] tt
 whole_type Flags = whole_table [] tt
 whole_type Decimal128 = whole_table decimal_slots tt
+whole_type Date = whole_table date_slots tt
 whole_type (Dictionary encoding) = whole_table [] tt
 
 short_type : (t : DataType) → length (type_part t).bytes ≤ 50
@@ -158,6 +167,7 @@ short_type (Integer integer) = let s = short_integer integer in omega arith
 short_type Utf8 = let s = short_table [] in omega arith
 short_type Flags = let s = short_table [] in omega arith
 short_type Decimal128 = let s = short_table decimal_slots in omega arith
+short_type Date = let s = short_table date_slots in omega arith
 short_type (Dictionary encoding) = let s = short_table [] in omega arith
 
 decimal_again : (bytes : List ℕ) (at : ℕ) → Stands (table_part decimal_slots).bytes bytes at → decimal_of (table_at bytes at (table_part decimal_slots)) ≡ Ok Decimal128
@@ -171,6 +181,15 @@ decimal_again bytes at s =
     let bits : scalar_of 4 t 2 128 ≡ Ok 128 = reads 2 4 128 (omega arith) (omega arith) in
     rw (precision, scale, bits) refl
 
+date_again : (bytes : List ℕ) (at : ℕ) → Stands (table_part date_slots).bytes bytes at → date_of (table_at bytes at (table_part date_slots)) ≡ Ok Date
+unfolding date_of
+date_again bytes at s =
+    let slots = date_slots in
+    let t = table_at bytes at (table_part slots) in
+    let reads = table_reads slots bytes at (fits_table slots (omega arith) (omega arith)) tt s in
+    let unit : scalar_of 2 t 0 1 ≡ Ok 0 = reads 0 2 1 (omega arith) (omega arith) in
+    rw unit refl
+
 type_again : (t : DataType) (bytes : List ℕ) (at : ℕ) → Stands (type_part t).bytes bytes at →
     type_of (kind_of t) (table_at bytes at (type_part t)) ≡ Ok (values t)
 unfolding type_part type_of
@@ -178,6 +197,7 @@ type_again (Integer integer) bytes at s = rw (integer_again integer bytes at s) 
 type_again Utf8 bytes at s = refl
 type_again Flags bytes at s = refl
 type_again Decimal128 bytes at s = decimal_again bytes at s
+type_again Date bytes at s = date_again bytes at s
 type_again (Dictionary encoding) bytes at s = refl
 
 -- ---- dictionaries
@@ -222,6 +242,7 @@ short_given (Integer integer) more = omega arith
 short_given Utf8 more = omega arith
 short_given Flags more = omega arith
 short_given Decimal128 more = omega arith
+short_given Date more = omega arith
 short_given (Dictionary encoding) more = let s = short_dictionary encoding in let a = length-append (dictionary_part encoding).bytes (children more) in omega arith
 
 whole_given : (t : DataType) (more : List Given) → AreWhole more → AreWhole (dictionary_given t ∷ more)
@@ -229,6 +250,7 @@ whole_given (Integer integer) more whole = whole
 whole_given Utf8 more whole = whole
 whole_given Flags more whole = whole
 whole_given Decimal128 more whole = whole
+whole_given Date more whole = whole
 whole_given (Dictionary encoding) more whole = (whole_dictionary encoding, whole)
 
 -- what the dictionary's slot of a field leads to
@@ -242,6 +264,7 @@ encodes table (Integer integer) is reads = record { encoding = None; found = abs
 encodes table Utf8 is reads = record { encoding = None; found = absent_table table 4 reads; says = refl }
 encodes table Flags is reads = record { encoding = None; found = absent_table table 4 reads; says = refl }
 encodes table Decimal128 is reads = record { encoding = None; found = absent_table table 4 reads; says = refl }
+encodes table Date is reads = record { encoding = None; found = absent_table table 4 reads; says = refl }
 encodes table (Dictionary encoding) is reads = record {
   encoding = Some (table_at table.bytes reads.place (dictionary_part encoding));
   found = led_table table 4 (dictionary_part encoding) reads;

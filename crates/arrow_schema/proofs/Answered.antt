@@ -5,7 +5,7 @@ use Rattle.std.proofs.lemmas.List.{length-map}
 use Rattle.std.proofs.lemmas.List.Elements.{All-map}
 use Rattle.scan_base.specs.Lists.{repeats}
 use Rattle.arrow_schema.specs.declared.data_type.DataType.{DataType}
-use Rattle.arrow_schema.specs.declared.data_type.DataType.TheVariants.{Integer, Utf8, Bool as Flags, Decimal128, Dictionary}
+use Rattle.arrow_schema.specs.declared.data_type.DataType.TheVariants.{Integer, Utf8, Bool as Flags, Decimal128, Date, Dictionary}
 use Rattle.arrow_schema.specs.declared.schema.Field.{Field}
 use Rattle.arrow_schema.specs.Header.{same_dictionary, shares_dictionary}
 use Rattle.arrow_schema.specs.Schema.{IsType, IsField}
@@ -17,6 +17,7 @@ plain (Integer integer) = refl
 plain Utf8 = refl
 plain Flags = refl
 plain Decimal128 = refl
+plain Date = refl
 plain (Dictionary encoding) = refl
 
 typed : (t : DataType) → IsType t → IsType (answer_type t)
@@ -24,6 +25,7 @@ typed (Integer integer) is = tt
 typed Utf8 is = tt
 typed Flags is = tt
 typed Decimal128 is = tt
+typed Date is = tt
 typed (Dictionary encoding) is = tt
 
 once : (t : DataType) → answer_type (answer_type t) ≡ answer_type t
@@ -31,6 +33,7 @@ once (Integer integer) = refl
 once Utf8 = refl
 once Flags = refl
 once Decimal128 = refl
+once Date = refl
 once (Dictionary encoding) = refl
 
 unshared : (t other : DataType) → shares_dictionary (answer_type t) other ≡ false
@@ -38,6 +41,7 @@ unshared (Integer integer) other = refl
 unshared Utf8 other = refl
 unshared Flags other = refl
 unshared Decimal128 other = refl
+unshared Date other = refl
 unshared (Dictionary encoding) other = refl
 
 none_shared : (field : Field) (others : List Field) → list_any (same_dictionary (answer_field field)) others ≡ false

@@ -18,14 +18,14 @@ use Rattle.arrow_schema.specs.declared.reading.TypeKind.TheVariants as kinds
 use Rattle.arrow_schema.specs.declared.data_type.IntegerType.{IntegerType}
 use Rattle.arrow_schema.specs.declared.data_type.IntegerType.TheVariants.{Int8, Int16, Int32, Int64, UInt8, UInt16, UInt32, UInt64}
 use Rattle.arrow_schema.specs.declared.data_type.DataType.{DataType}
-use Rattle.arrow_schema.specs.declared.data_type.DataType.TheVariants.{Integer, Utf8, Bool as Flags, Decimal128, Dictionary}
+use Rattle.arrow_schema.specs.declared.data_type.DataType.TheVariants.{Integer, Utf8, Bool as Flags, Decimal128, Date, Dictionary}
 use Rattle.arrow_schema.specs.declared.data_type.DictionaryEncoding.{DictionaryEncoding}
 use Rattle.arrow_schema.specs.declared.schema.Field.{Field}
 use Rattle.arrow_schema.specs.declared.schema.Schema.{Schema}
 use Rattle.arrow_schema.specs.DataType.{bit_width, is_signed}
-use Rattle.arrow_schema.specs.Fields.{table_wanted, vector_wanted, name_of, integer_type, integer_of, decimal_of, type_kind, type_of, value_type_of, is_bare, childless, index_of, dictionary_of, encoded, field_in}
+use Rattle.arrow_schema.specs.Fields.{table_wanted, vector_wanted, name_of, integer_type, integer_of, decimal_of, date_of, type_kind, type_of, value_type_of, is_bare, childless, index_of, dictionary_of, encoded, field_in}
 use Rattle.arrow_schema.specs.Header.{MessageAt, header_kind, message_of, field_at, fields_of, same_dictionary, is_schema, schema_message_of, schema_in, schema_of}
-use Rattle.arrow_schema.specs.Says.{SaysInteger, SaysDecimal, SaysType, SaysIndex, SaysDictionary, SaysEncoding, SaysField, SaysFieldAt, SaysColumns, SaysSchema}
+use Rattle.arrow_schema.specs.Says.{SaysInteger, SaysDecimal, SaysDate, SaysType, SaysIndex, SaysDictionary, SaysEncoding, SaysField, SaysFieldAt, SaysColumns, SaysSchema}
 use Rattle.arrow_schema.specs.Written.{type_number}
 use Rattle.arrow_schema.proofs.Again.{kind_of, type_kind_again, kind_there}
 
@@ -184,12 +184,27 @@ unfolding decimal_of
 decimal_read table is says =
     rw (reads_scalar 4 table 0 0 38 is says.precision, reads_scalar 4 table 1 0 0 is says.scale, reads_scalar 4 table 2 128 128 is says.width) refl
 
+date_told : (table : TableAt) (t : DataType) → IsBytes table.bytes → date_of table ≡ Ok t → (Date ≡ t) × SaysDate table
+unfolding date_of
+date_told table t is e =
+    let a = bind_ok (scalar_of 2 table 0 1) _ t e in
+    let b = bind_ok (demand (a.0 == 0) UnsupportedArrow) _ t a.2 in
+    let last = b.2 in (
+      (let f : Date ≡ t = cc in f),
+      record { unit = subst (λ (n : ℕ). HasScalar 2 table 0 1 n) (eqb-true a.0 0 (demand_ok (a.0 == 0) UnsupportedArrow b.0 b.1)) (says_scalar 2 table 0 1 a.0 is a.1) },
+    )
+
+date_read : (table : TableAt) → IsBytes table.bytes → SaysDate table → date_of table ≡ Ok Date
+unfolding date_of
+date_read table is says = rw (reads_scalar 2 table 0 1 0 is says.unit) refl
+
 -- the number of a kind
 abbrev number_of : TypeKind → ℕ
 number_of kinds.Int = 2
 number_of kinds.Utf8 = 5
 number_of kinds.Bool = 6
 number_of kinds.Decimal = 7
+number_of kinds.Date = 8
 
 kind_is : (number : ℕ) (kind : TypeKind) → type_kind number ≡ Ok kind → number ≡ number_of kind
 kind_is number kind e = elim (chosen number 2 kinds.Int kind _ e) [
@@ -198,7 +213,10 @@ kind_is number kind e = elim (chosen number 2 kinds.Int kind _ e) [
     | inl h ↦ rw (← h.1) h.0
     | inr e ↦ elim (chosen number 6 kinds.Bool kind _ e) [
       | inl h ↦ rw (← h.1) h.0
-      | inr e ↦ elim (chosen number 7 kinds.Decimal kind _ e) [ inl h ↦ rw (← h.1) h.0 | inr e ↦ refused UnsupportedArrow kind e ]
+      | inr e ↦ elim (chosen number 7 kinds.Decimal kind _ e) [
+        | inl h ↦ rw (← h.1) h.0
+        | inr e ↦ elim (chosen number 8 kinds.Date kind _ e) [ inl h ↦ rw (← h.1) h.0 | inr e ↦ refused UnsupportedArrow kind e ]
+      ]
     ]
   ]
 ]
@@ -213,6 +231,7 @@ type_told kinds.Int table t is e =
 type_told kinds.Utf8 table t is e = let f : Utf8 ≡ t = cc in rw (← f) (refl, tt)
 type_told kinds.Bool table t is e = let f : Flags ≡ t = cc in rw (← f) (refl, tt)
 type_told kinds.Decimal table t is e = let d = decimal_told table t is e in rw (← d.0) (refl, d.1)
+type_told kinds.Date table t is e = let d = date_told table t is e in rw (← d.0) (refl, d.1)
 
 type_read : (t : DataType) (table : TableAt) → IsBytes table.bytes → SaysType t table → type_of (kind_of t) table ≡ Ok t
 unfolding type_of
@@ -220,6 +239,7 @@ type_read (Integer integer) table is says = rw (integer_read table integer is sa
 type_read Utf8 table is says = refl
 type_read Flags table is says = refl
 type_read Decimal128 table is says = decimal_read table is says
+type_read Date table is says = date_read table is says
 type_read (Dictionary encoding) table is says = absurd says
 
 -- the type of a field's values, by its kind and its table
@@ -303,6 +323,7 @@ encoded_told (Integer integer) (Some table) t is e = refused UnsupportedArrow t 
 encoded_told Utf8 (Some table) t is e = (refl, dictionary_told table t (is table refl) e)
 encoded_told Flags (Some table) t is e = refused UnsupportedArrow t e
 encoded_told Decimal128 (Some table) t is e = refused UnsupportedArrow t e
+encoded_told Date (Some table) t is e = refused UnsupportedArrow t e
 encoded_told (Dictionary encoding) (Some table) t is e = refused UnsupportedArrow t e
 
 encoded_read : (values : DataType) (found : Option TableAt) (t : DataType) → ((table : TableAt) → found ≡ Some table → IsBytes table.bytes) → SaysEncoding values found t → encoded values found ≡ Ok t

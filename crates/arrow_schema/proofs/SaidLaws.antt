@@ -10,7 +10,7 @@ use Rattle.flatbuf.specs.Layout.{TableAt, IsBytes, IsScalar, IsReached, IsText, 
 use Rattle.flatbuf.specs.Place.{number_at}
 use Rattle.flatbuf.proofs.Readings.{byte_of, seen_finds, seen_number}
 use Rattle.arrow_schema.specs.declared.data_type.DataType.{DataType}
-use Rattle.arrow_schema.specs.declared.data_type.DataType.TheVariants.{Integer, Utf8, Bool as Flags, Decimal128, Dictionary}
+use Rattle.arrow_schema.specs.declared.data_type.DataType.TheVariants.{Integer, Utf8, Bool as Flags, Decimal128, Date, Dictionary}
 use Rattle.arrow_schema.specs.declared.schema.Field.{Field}
 use Rattle.arrow_schema.specs.declared.schema.Schema.{Schema}
 use Rattle.arrow_schema.specs.Schema.{IsType, IsField, IsSchema}
@@ -45,6 +45,7 @@ plain (Integer integer) table says = tt
 plain Utf8 table says = tt
 plain Flags table says = tt
 plain Decimal128 table says = tt
+plain Date table says = tt
 plain (Dictionary encoding) table says = absurd says
 
 typed : (values t : DataType) (type : TableAt) (found : Option TableAt) → ((table : TableAt) → found ≡ Some table → IsBytes table.bytes) → SaysType values type → SaysEncoding values found t → IsType t

@@ -10,7 +10,7 @@ use Rattle.flatbuf.specs.Place.{field_of, scalar_of, table_of, text_of, vector_o
 use Rattle.arrow_schema.specs.declared.data_type.IntegerType.{IntegerType}
 use Rattle.arrow_schema.specs.declared.data_type.IntegerType.TheVariants.{Int8, Int16, Int32, Int64, UInt8, UInt16, UInt32, UInt64}
 use Rattle.arrow_schema.specs.declared.data_type.DataType.{DataType}
-use Rattle.arrow_schema.specs.declared.data_type.DataType.TheVariants.{Integer, Utf8, Bool as Flags, Decimal128, Dictionary}
+use Rattle.arrow_schema.specs.declared.data_type.DataType.TheVariants.{Integer, Utf8, Bool as Flags, Decimal128, Date, Dictionary}
 use Rattle.arrow_schema.specs.declared.reading.TypeKind.{TypeKind}
 use Rattle.arrow_schema.specs.declared.reading.TypeKind.TheVariants as kinds
 use Rattle.arrow_schema.specs.declared.schema.Field.{Field}
@@ -61,9 +61,16 @@ decimal_of table = do
   _ ← demand ((precision == 38) && (scale == 0) && (bits == 128)) UnsupportedArrow
   Ok Decimal128
 
+-- what a Date table says: a unit of whole days, which is 0; where none is said it is 1, milliseconds
+unfoldable pub date_of : TableAt → Result DataType Fault
+date_of table = do
+  unit ← scalar_of 2 table 0 1
+  _ ← demand (unit == 0) UnsupportedArrow
+  Ok Date
+
 -- the kinds of types that there are here, by their numbers
 abbrev pub type_kind : ℕ → Result TypeKind Fault
-type_kind number = meaning_of ((2, kinds.Int) ∷ (5, kinds.Utf8) ∷ (6, kinds.Bool) ∷ (7, kinds.Decimal) ∷ []) number
+type_kind number = meaning_of ((2, kinds.Int) ∷ (5, kinds.Utf8) ∷ (6, kinds.Bool) ∷ (7, kinds.Decimal) ∷ (8, kinds.Date) ∷ []) number
 
 -- the type that a kind and its table name; of Utf8 and Bool the table is not read
 unfoldable pub type_of : TypeKind → TableAt → Result DataType Fault
@@ -71,6 +78,7 @@ type_of kinds.Int table = integer_of table >>= λ integer. Ok (Integer integer)
 type_of kinds.Utf8 table = Ok Utf8
 type_of kinds.Bool table = Ok Flags
 type_of kinds.Decimal table = decimal_of table
+type_of kinds.Date table = date_of table
 
 -- the type of a field's values: its kind is stored, and its table is there
 unfoldable pub value_type_of : TableAt → Result DataType Fault

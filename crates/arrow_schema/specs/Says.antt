@@ -7,7 +7,7 @@ use Rattle.flatbuf.specs.Layout.{TableAt, VectorAt, IsBytes, HasRoot, HasScalar,
 use Rattle.arrow_schema.specs.declared.data_type.IntegerType.{IntegerType}
 use Rattle.arrow_schema.specs.declared.data_type.IntegerType.TheVariants.{Int32}
 use Rattle.arrow_schema.specs.declared.data_type.DataType.{DataType}
-use Rattle.arrow_schema.specs.declared.data_type.DataType.TheVariants.{Integer, Utf8, Bool as Flags, Decimal128, Dictionary}
+use Rattle.arrow_schema.specs.declared.data_type.DataType.TheVariants.{Integer, Utf8, Bool as Flags, Decimal128, Date, Dictionary}
 use Rattle.arrow_schema.specs.declared.data_type.DictionaryEncoding.{DictionaryEncoding}
 use Rattle.arrow_schema.specs.declared.schema.Field.{Field}
 use Rattle.arrow_schema.specs.declared.schema.Schema.{Schema}
@@ -32,12 +32,17 @@ pub record SaysDecimal (table : TableAt) : Type 0 where
   pub scale : HasScalar 4 table 1 0 0
   pub width : HasScalar 4 table 2 128 128
 
+-- a Date table: its unit is DAY (0), where the default is MILLISECOND (1)
+pub record SaysDate (table : TableAt) : Type 0 where
+  pub unit : HasScalar 2 table 0 1 0
+
 -- the table of a type; no type's table says a dictionary
 abbrev pub SaysType : DataType → TableAt → Type 0
 SaysType (Integer integer) table = SaysInteger table integer
 SaysType Utf8 table = Unit {0}
 SaysType Flags table = Unit {0}
 SaysType Decimal128 table = SaysDecimal table
+SaysType Date table = SaysDate table
 SaysType (Dictionary encoding) table = ⊥
 
 -- the type of a dictionary's indices: signed numbers of 32 bits where there is no table

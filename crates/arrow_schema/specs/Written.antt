@@ -4,7 +4,7 @@ use Rattle.flatbuf.specs.Block.{Part, Given, Absent, Number, Offset, little, pad
 use Rattle.arrow_schema.specs.declared.header.HeaderKind.TheVariants as header
 use Rattle.arrow_schema.specs.declared.data_type.IntegerType.{IntegerType}
 use Rattle.arrow_schema.specs.declared.data_type.DataType.{DataType}
-use Rattle.arrow_schema.specs.declared.data_type.DataType.TheVariants.{Integer, Utf8, Bool as Flags, Decimal128, Dictionary}
+use Rattle.arrow_schema.specs.declared.data_type.DataType.TheVariants.{Integer, Utf8, Bool as Flags, Decimal128, Date, Dictionary}
 use Rattle.arrow_schema.specs.declared.data_type.DictionaryEncoding.{DictionaryEncoding}
 use Rattle.arrow_schema.specs.declared.schema.Field.{Field}
 use Rattle.arrow_schema.specs.declared.schema.Schema.{Schema}
@@ -24,18 +24,20 @@ type_number (Integer integer) = 2
 type_number Utf8 = 5
 type_number Flags = 6
 type_number Decimal128 = 7
+type_number Date = 8
 type_number (Dictionary encoding) = 5
 
 -- an Int table: its width in bits, and whether it is signed
 unfoldable pub integer_part : IntegerType → Part
 integer_part integer = table_part (Number (bit_width integer) ∷ Number (flag (is_signed integer)) ∷ [])
 
--- the table of a type: that of a Decimal says 38 digits, none behind the point, and 128 bits
+-- the table of a type: that of a Decimal says 38 digits, none behind the point, and 128 bits; that of a Date says days
 unfoldable pub type_part : DataType → Part
 type_part (Integer integer) = integer_part integer
 type_part Utf8 = table_part []
 type_part Flags = table_part []
 type_part Decimal128 = table_part (Number 38 ∷ Number 0 ∷ Number 128 ∷ [])
+type_part Date = table_part (Number 0 ∷ [])
 type_part (Dictionary encoding) = table_part []
 
 -- a DictionaryEncoding table: its id, and the type of its indices

@@ -25,14 +25,15 @@ pub struct DictionaryEncoding {
     pub index: IntegerType,
 }
 
-/// The type of a column's values. A dictionary's values are Utf8, and a decimal is one of 38 digits
-/// with none behind the point.
+/// The type of a column's values. A dictionary's values are Utf8, a decimal is one of 38 digits with
+/// none behind the point, and a date is a number of whole days from 1970-01-01 on, in 32 signed bits.
 #[derive(Clone, Copy, Debug, PartialEq, Eq)]
 pub enum DataType {
     Integer(IntegerType),
     Utf8,
     Bool,
     Decimal128,
+    Date,
     Dictionary(DictionaryEncoding),
 }
 

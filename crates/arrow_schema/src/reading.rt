@@ -6,7 +6,7 @@ ghost use Rattle.scan_base.specs.Limits.{most_columns};
 ghost use Rattle.scan_base.specs.Reading.{Gives, GivesUnlessMemory, RefusesFirst};
 ghost use Rattle.scan_base.specs.Lists.{each, repeats};
 ghost use Rattle.arrow_schema.specs.Fields.{vector_wanted, name_of, integer_type, integer_of};
-ghost use Rattle.arrow_schema.specs.Fields.{decimal_of, type_kind, type_of, value_type_of};
+ghost use Rattle.arrow_schema.specs.Fields.{decimal_of, date_of, type_kind, type_of, value_type_of};
 ghost use Rattle.arrow_schema.specs.Fields.{childless, index_of, dictionary_of, encoded, field_in};
 ghost use Rattle.arrow_schema.specs.Header.{field_at, fields_of, shares_dictionary, same_dictionary};
 ghost use Rattle.arrow_schema.specs.Header.{is_schema, schema_message_of, schema_in, schema_of};
@@ -32,6 +32,7 @@ enum TypeKind {
     Utf8,
     Bool,
     Decimal,
+    Date,
 }
 
 #[tactic(auto, unfolding(crate::specs::Fields::vector_wanted))]
@@ -93,6 +94,18 @@ fn decimal(table: &Table<'_>) -> Result<DataType, Fault>
     Ok(DataType::Decimal128)
 }
 
+// A date of whole days.
+#[tactic(auto, unfolding(crate::specs::Fields::date_of))]
+fn date(table: &Table<'_>) -> Result<DataType, Fault>
+    ensures value { Gives (λ date. date) result (date_of table.now) }
+    ensures valid { IfOk result IsType }
+{
+    if table.scalar(0, Width::Two, 1)? != 0 {
+        return Err(Fault::UnsupportedArrow);
+    }
+    Ok(DataType::Date)
+}
+
 fn type_kind(number: u64) -> Result<TypeKind, Fault>
     ensures { Gives (λ kind. kind) result (type_kind number) }
 {
@@ -101,6 +114,7 @@ fn type_kind(number: u64) -> Result<TypeKind, Fault>
         5 => Ok(TypeKind::Utf8),
         6 => Ok(TypeKind::Bool),
         7 => Ok(TypeKind::Decimal),
+        8 => Ok(TypeKind::Date),
         _ => Err(Fault::UnsupportedArrow),
     }
 }
@@ -115,6 +129,7 @@ fn type_from(kind: TypeKind, table: &Table<'_>) -> Result<DataType, Fault>
         TypeKind::Utf8 => Ok(DataType::Utf8),
         TypeKind::Bool => Ok(DataType::Bool),
         TypeKind::Decimal => decimal(table),
+        TypeKind::Date => date(table),
     }
 }
 

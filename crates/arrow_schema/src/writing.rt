@@ -51,6 +51,7 @@ fn type_number(data_type: DataType) -> u64
         DataType::Utf8 | DataType::Dictionary(_) => 5,
         DataType::Bool => 6,
         DataType::Decimal128 => 7,
+        DataType::Date => 8,
     }
 }
 
@@ -74,6 +75,7 @@ fn type_block(builder: &Builder, data_type: DataType) -> Result<Block, AllocErro
         DataType::Decimal128 => {
             builder.table(&[Slot::Number(38), Slot::Number(0), Slot::Number(128)])
         }
+        DataType::Date => builder.table(&[Slot::Number(0)]),
     }
 }
 

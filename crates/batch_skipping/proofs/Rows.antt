@@ -1,8 +1,8 @@
 -- Worked rows: the definitions, tried on small batches that were worked out by hand.
 use Rattle.std.proofs.Common.{◌≡◌, ℕ, pos, Bool, true, false, List, [], ◌∷◌, codes, refl}
-use Rattle.scan_base.specs.declared.comparison.Comparison.TheVariants.{Equal, NotEqual, Less, Greater}
+use Rattle.scan_base.specs.declared.comparison.Comparison.TheVariants.{Equal, NotEqual, Less, Greater, GreaterOrEqual}
 use Rattle.scan_base.specs.declared.predicate.Operand.{Operand}
-use Rattle.scan_base.specs.declared.predicate.Operand.TheVariants.{Column, Literal}
+use Rattle.scan_base.specs.declared.predicate.Operand.TheVariants.{Column, Literal, Date}
 use Rattle.scan_base.specs.declared.truth.Truth.TheVariants.{False, Unknown}
 use Rattle.scan_base.specs.declared.value.Value.{Value}
 use Rattle.scan_base.specs.declared.value.Value.TheVariants.{Null, Int, Text}
@@ -142,6 +142,18 @@ nulls_alone = refl
 text_beside_numbers : can (λ (column : ℕ). stats_of low) (comparing Equal (Column 0) (Literal (Text (codes "1")))) ≡ only Unknown
 unfolding can_compare
 text_beside_numbers = refl
+
+-- d >= DATE '1994-01-01', which is the day 8766, over two batches of dates
+abbrev from_1994 : Pred ℕ
+from_1994 = comparing GreaterOrEqual (Column 0) (Date (pos 8766))
+
+dates_before : is_opened (Int (pos 8000) ∷ Int (pos 8700) ∷ []) from_1994 ≡ false
+unfolding can_compare over
+dates_before = refl
+
+dates_from : is_opened (Int (pos 8766) ∷ Int (pos 9000) ∷ []) from_1994 ≡ true
+unfolding can_compare over
+dates_from = refl
 
 -- s = 'b' over texts 'a'
 texts : is_opened (Text (codes "a") ∷ Text (codes "a") ∷ []) (comparing Equal (Column 0) (Literal (Text (codes "b")))) ≡ false

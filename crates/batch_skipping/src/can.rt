@@ -35,6 +35,7 @@ fn side_of<'a, C, M: Measured<C>>(operand: &'a Operand<C>, batch: &'a M) -> Side
     match operand {
         Operand::Column(column) => batch.side(column),
         Operand::Literal(value) => Side::of(value),
+        Operand::Date(day) => Side::of_number(i128::from(*day)),
     }
 }
 

@@ -1,4 +1,4 @@
-mod Rows
+pub mod Rows
 pub mod Parts
 pub mod Numbers
 pub mod Texts

@@ -1,14 +1,14 @@
 -- What is printed of a day.
-use Rattle.std.proofs.Common.{◌≡◌, ℕ, ◌++◌, Bool, true, false, if◌then◌else◌, List, ℤ, pos, negsuc, unsigned_abs, ◌<ℤ◌, refl, sym, ap, subst, ◌∙◌, arith, codes, to_z, of_z, w32, w64, FitsSigned}
+use Rattle.std.proofs.Common.{◌≡◌, ℕ, ◌++◌, Bool, true, false, if◌then◌else◌, List, ℤ, pos, negsuc, Some, None, unsigned_abs, ◌<ℤ◌, refl, sym, ap, subst, ◌∙◌, arith, codes, to_z, of_z, w32, w64, FitsSigned}
 use Rattle.std.proofs.lemmas.Int.{ints}
 use Rattle.std.specs.Fmt.{signed_decimal}
 use Rattle.jiff_core.specs.declared.civil.date.Date.{Date}
 use Rattle.jiff_core.specs.Calendar.{days_from_civil, IsCivilDate}
 use Rattle.jiff_core.proofs.DateLemmas.{civil}
-use Rattle.jiff_core.proofs.SignedLemmas.{signed_arith}
+use Rattle.jiff_core.proofs.SignedLemmas.{signed_arith, fits_between}
 use Rattle.calendar.specs.Dates.{day_in}
-use Rattle.calendar.specs.Shown.{date_text, has_date, date_of, date_shown, ReadsBack}
-use Rattle.calendar.proofs.Numbers.{IsShownDate, date_is_shown}
+use Rattle.calendar.specs.Shown.{date_text, has_date, date_of, date_within, date_shown, ReadsBack}
+use Rattle.calendar.proofs.Numbers.{IsShownDate, date_is_shown, shown_is_epoch_day, false_if_not}
 use Rattle.calendar.proofs.Texts.{date_of_is, text_reads}
 
 -- a number above 0 is a natural one
@@ -23,24 +23,25 @@ is_shown d n same late =
     let later : pos 0 <ℤ pos n = subst (λ (year : ℤ). pos 0 <ℤ year) same late in
     record { first = omega (arith, signed_arith, later); last = omega (arith, signed_arith, whole.0.1); civil = whole }
 
-shown_at : (y m d : ℕ) → IsShownDate y m d → date_shown (days_from_civil (pos y) m d) ≡ codes "DATE '" ++ (date_text y m d ++ codes "'")
-shown_at y m d h =
-    let day = days_from_civil (pos y) m d in
-    ap (λ (test : Bool). if test then codes "DATE '" ++ (date_of day ++ codes "'") else codes "DATE(" ++ (signed_decimal day ++ codes ")")) (date_is_shown y m d h)
-    ∙ ap (λ (text : List ℕ). codes "DATE '" ++ (text ++ codes "'")) (date_of_is y m d h)
-
 -- what a date makes, and that it reads back
-pub is_as_date : (y m d : ℕ) (day : ℤ) (bytes : List ℕ) → IsShownDate y m d → days_from_civil (pos y) m d ≡ day → bytes ≡ codes "DATE '" ++ (date_text y m d ++ codes "'") → bytes ≡ date_shown day
-is_as_date y m d day bytes h same made = made ∙ sym (shown_at y m d h) ∙ ap date_shown same
+pub is_as_date : (y m d : ℕ) (day : ℤ) (bytes : List ℕ) → IsShownDate y m d → days_from_civil (pos y) m d ≡ day → bytes ≡ date_text y m d → Some bytes ≡ date_within day
+is_as_date y m d day bytes h same made =
+    ap Some (made ∙ sym (date_of_is y m d h))
+    ∙ sym (ap (λ (test : Bool). if test then Some (date_of (days_from_civil (pos y) m d)) else None) (date_is_shown y m d h))
+    ∙ ap date_within same
 
 pub reads_back : (y m d : ℕ) (day : ℤ) → IsShownDate y m d → days_from_civil (pos y) m d ≡ day → ReadsBack day
 reads_back y m d day h same = subst ReadsBack same (λ _. ap day_in (date_of_is y m d h) ∙ text_reads y m d h)
 
--- what the number of any other day makes; nothing is to read back
-pub is_as_number : (z day : ℤ) (bytes : List ℕ) → z ≡ day → has_date day ≡ false → bytes ≡ codes "DATE(" ++ (signed_decimal z ++ codes ")") → bytes ≡ date_shown day
-is_as_number z day bytes same not made =
-    made ∙ ap (λ (number : ℤ). codes "DATE(" ++ (signed_decimal number ++ codes ")")) same
-    ∙ sym (ap (λ (test : Bool). if test then codes "DATE '" ++ (date_of day ++ codes "'") else codes "DATE(" ++ (signed_decimal day ++ codes ")")) not)
+-- any other day has none; nothing is to read back
+pub is_no_date : (day : ℤ) → has_date day ≡ false → None ≡ date_within day
+is_no_date day not = sym (ap (λ (test : Bool). if test then Some (date_of day) else None) not)
+
+-- a day whose number has more than 32 bits is none of those years
+pub not_within : (day : ℤ) → (FitsSigned w32 day → ⊥) → has_date day ≡ false
+not_within day far = false_if_not (has_date day) (λ h.
+    let ends = shown_is_epoch_day day h in
+    far (fits_between w32 day (omega (arith, signed_arith, ends.0, ends.1), omega (arith, signed_arith, ends.0, ends.1))))
 
 pub no_date : (day : ℤ) → has_date day ≡ false → ReadsBack day
 no_date day not is = absurd (let apart : true ≡ false = sym is ∙ not in cc)
@@ -48,3 +49,23 @@ no_date day not is = absurd (let apart : true ≡ false = sym is ∙ not in cc)
 -- a number is the same in 64 bits
 pub same_number : (day wide : ℤ) → FitsSigned w32 day → wide ≡ to_z w32 (of_z w32 day) → to_z w64 (of_z w64 wide) ≡ day
 same_number day wide fits same = omega (arith, ints)
+
+-- what is printed of a day, with its date or without one
+
+with_test : (test : Bool) (date bytes number : List ℕ) → Some bytes ≡ (if test then Some date else None) →
+    codes "DATE '" ++ (bytes ++ codes "'") ≡ (if test then codes "DATE '" ++ (date ++ codes "'") else number)
+with_test true date bytes number h = let same : bytes ≡ date = cc in ap (λ (text : List ℕ). codes "DATE '" ++ (text ++ codes "'")) same
+with_test false date bytes number h = absurd (cc)
+
+without_test : (test : Bool) (date dated number : List ℕ) → None ≡ (if test then Some date else None) → number ≡ (if test then dated else number)
+without_test true date dated number h = absurd (cc)
+without_test false date dated number h = refl
+
+pub shown_with : (day : ℤ) (bytes shown : List ℕ) → Some bytes ≡ date_within day → shown ≡ codes "DATE '" ++ (bytes ++ codes "'") → shown ≡ date_shown day
+shown_with day bytes shown h made = made ∙ with_test (has_date day) (date_of day) bytes (codes "DATE(" ++ (signed_decimal day ++ codes ")")) h
+
+pub shown_without : (day z : ℤ) (shown : List ℕ) → None ≡ date_within day → z ≡ day → shown ≡ codes "DATE(" ++ (signed_decimal z ++ codes ")") → shown ≡ date_shown day
+shown_without day z shown h same made =
+    made
+    ∙ ap (λ (number : ℤ). codes "DATE(" ++ (signed_decimal number ++ codes ")")) same
+    ∙ without_test (has_date day) (date_of day) (codes "DATE '" ++ (date_of day ++ codes "'")) (codes "DATE(" ++ (signed_decimal day ++ codes ")")) h

@@ -3,7 +3,7 @@ use Rattle.std.proofs.Common.{◌≡◌, ◌++◌, Bool, if◌then◌else◌, Li
 use Rattle.std.specs.Fmt.{digits, signed_decimal}
 use Rattle.jiff_core.specs.Calendar.{days_from_civil, day_count, days_of_years, days_of_months}
 use Rattle.calendar.specs.Dates.{day_in}
-use Rattle.calendar.specs.Shown.{date_of, date_shown}
+use Rattle.calendar.specs.Shown.{date_of, date_within, date_shown}
 use Rattle.calendar.proofs.Texts.{texts_are_dates}
 
 -- ---- texts that are a date
@@ -62,7 +62,7 @@ shown text day read =
     ap (λ (test : Bool). if test then codes "DATE '" ++ (date_of day ++ codes "'") else codes "DATE(" ++ (signed_decimal day ++ codes ")")) law.0
     ∙ ap (λ (date : List ℕ). codes "DATE '" ++ (date ++ codes "'")) (sym law.1)
 
-row_shown : date_shown (pos 8766) ≡ codes "DATE '1994-01-01'"
+pub row_shown : date_shown (pos 8766) ≡ codes "DATE '1994-01-01'"
 row_shown = shown (codes "1994-01-01") (pos 8766) row
 
 first_shown : date_shown (negsuc 719161) ≡ codes "DATE '0001-01-01'"
@@ -71,10 +71,19 @@ first_shown = shown (codes "0001-01-01") (negsuc 719161) first_day
 last_shown : date_shown (pos 2932896) ≡ codes "DATE '9999-12-31'"
 last_shown = shown (codes "9999-12-31") (pos 2932896) last_day
 
-before_shown : date_shown (negsuc 719162) ≡ codes "DATE(-719163)"
+pub before_shown : date_shown (negsuc 719162) ≡ codes "DATE(-719163)"
 unfolding digits days_from_civil day_count days_of_years days_of_months
 before_shown = refl
 
 behind_shown : date_shown (pos 2932897) ≡ codes "DATE(2932897)"
 unfolding digits days_from_civil day_count days_of_years days_of_months
 behind_shown = refl
+
+pub row_within : date_within (pos 8766) ≡ Some (codes "1994-01-01")
+row_within =
+    let law = texts_are_dates (codes "1994-01-01") (pos 8766) row in
+    ap (λ (test : Bool). if test then Some (date_of (pos 8766)) else None) law.0 ∙ ap Some (sym law.1)
+
+pub before_within : date_within (negsuc 719162) ≡ None
+unfolding days_from_civil day_count days_of_years days_of_months
+before_within = refl

@@ -1,5 +1,5 @@
 -- What is printed of a day.
-use Rattle.std.specs.Prelude.{◌≡◌, ℕ, zero, suc, ◌+◌, ◌/◌, ◌%◌, Bool, if◌then◌else◌, List, [], ◌∷◌, ◌++◌, codes, ℤ, pos, ◌-ℤ◌, unsigned_abs, Some, IsTrue, int_le}
+use Rattle.std.specs.Prelude.{◌≡◌, ℕ, zero, suc, ◌+◌, ◌/◌, ◌%◌, Bool, if◌then◌else◌, List, [], ◌∷◌, ◌++◌, codes, ℤ, pos, ◌-ℤ◌, unsigned_abs, Option, Some, None, IsTrue, int_le}
 use Rattle.std.specs.Fmt.{signed_decimal}
 use Rattle.std.specs.Str.{byte}
 use Rattle.jiff_core.specs.Calendar.{days_from_civil}
@@ -38,6 +38,10 @@ has_date day = is_from_to (days_from_civil (pos 1) 1 1) (days_from_civil (pos 99
 -- the date of a day, as yyyy-mm-dd
 abbrev pub date_of : ℤ → List ℕ
 date_of day = date_text (year_at day) (month_at day) (day_of_month_at day)
+
+-- the same, where the day is of those years
+abbrev pub date_within : ℤ → Option (List ℕ)
+date_within day = if has_date day then Some (date_of day) else None
 
 -- what is printed of a day: DATE 'yyyy-mm-dd' in the years 1 to 9999, and else DATE(number)
 abbrev pub date_shown : ℤ → List ℕ

@@ -5,5 +5,5 @@ pub mod laws;
 pub mod printing;
 pub mod reading;
 
-pub use crate::printing::date_shown;
+pub use crate::printing::{date_of, date_shown};
 pub use crate::reading::day_in;

@@ -22,7 +22,7 @@ fn told_of(alloc: Global, line: &str) -> Result<String> {
         return Ok(told_day(alloc, text)?);
     }
     if let Some(number) = line.strip_prefix("shown ") {
-        let day: i32 = number.parse()?;
+        let day: i128 = number.parse()?;
         return Ok(String::from_str(alloc, date_shown(day).as_str())?);
     }
     Ok(String::from_str(alloc, line)?)

@@ -1,13 +1,14 @@
 -- Records, field by field and row by row.
-use Rattle.std.proofs.Common.{◌≡◌, ◌==◌, ℕ, ◌-◌, ◌≤◌, List, [], ◌∷◌, ◌++◌, length, take, drop, get_or, refl, sym, ap, ◌∙◌, arith}
+use Rattle.std.proofs.Common.{◌≡◌, ◌==◌, ◌&&◌, ℕ, ◌-◌, ◌≤◌, Bool, true, false, if◌then◌else◌, List, [], ◌∷◌, ◌++◌, length, take, drop, get_or, codes, refl, sym, ap, ◌∙◌, arith}
 use Rattle.std.specs.List.{flat_map}
 use Rattle.std.proofs.lemmas.Grind.{flat_map-append}
 use Rattle.std.proofs.lemmas.List.{drop_more, take_rest, length-map}
-use Rattle.scan_base.specs.declared.value.Value.{Value}
+use Rattle.scan_base.specs.Value.{is_null}
 use Rattle.arrow_schema.specs.declared.schema.Field.{Field}
 use Rattle.arrays.specs.Batch.{BatchAt, row_of, rows_of}
 use Rattle.arrays.specs.Column.{ColumnAt, slot_of}
-use Rattle.csv_rows.specs.Records.{text_field, value_field, first_field, next_field, record_end, header_record, row_record}
+use Rattle.row_lines.proofs.Cells.{cells_at, cells_long, first_cell, others_of}
+use Rattle.csv_rows.specs.Records.{text_field, field_as, next_field, record_end, record_of, is_lone_null, header_record, row_record}
 
 -- a list is its first item and the others
 first_and_others : {X : Type 0} (xs : List X) (x : X) → 1 ≤ length xs → x ≡ get_or xs 0 x → xs ≡ x ∷ take (length xs - 1) (drop 1 xs)
@@ -39,45 +40,41 @@ module _ (fields : List Field) (first : Field) (some : 1 ≤ length fields) (is 
 
 -- ---- a record of values
 
--- a column's value behind another one
-abbrev pub value_cell : ℕ → ColumnAt → List ℕ
-value_cell place column = next_field (value_field (slot_of column place))
+record_parts : (fields : List (List ℕ)) → 1 ≤ length fields → record_of fields ≡ first_cell fields ++ (flat_map next_field (drop 1 fields) ++ record_end)
+record_parts [] some = absurd (omega (arith, some))
+record_parts (field ∷ fields) some = refl
 
-value_cells : (columns : List ColumnAt) (place : ℕ) → flat_map (λ (value : Value). next_field (value_field value)) (row_of columns place) ≡ flat_map (value_cell place) columns
-value_cells [] place = refl
-value_cells (column ∷ columns) place = ap (λ (l : List ℕ). value_cell place column ++ l) (value_cells columns place)
+-- whether a null stands alone among columns
+abbrev pub is_lone : ColumnAt → List ColumnAt → ℕ → Bool
+is_lone first columns place = length (others_of columns) == 0 && is_null (slot_of first place)
 
--- the first column's value
-abbrev pub first_value : ℕ → List ColumnAt → List ℕ
-first_value place [] = []
-first_value place (column ∷ columns) = first_field (length columns == 0) (slot_of column place)
+module _ (fields : List Field) (columns : List ColumnAt) (place : ℕ) (first : ColumnAt) (some : 1 ≤ length columns) (is : first ≡ get_or columns 0 first) where
+  lone_is : is_lone_null (row_of columns place) ≡ is_lone first columns place
+  lone_is =
+      ap (λ (l : List ColumnAt). is_lone_null (row_of l place)) (first_and_others columns first some is)
+      ∙ ap (λ (n : ℕ). n == 0 && is_null (slot_of first place)) (length-map (others_of columns) (λ (column : ColumnAt). slot_of column place))
 
-record_of_values : (first : ColumnAt) (others : List ColumnAt) (place : ℕ)
-    → row_record (row_of (first ∷ others) place) ≡ first_field (length others == 0) (slot_of first place) ++ (flat_map (value_cell place) others ++ record_end)
-record_of_values first others place =
-    ap (λ (n : ℕ). first_field (n == 0) (slot_of first place) ++ (flat_map (λ (value : Value). next_field (value_field value)) (row_of others place) ++ record_end))
-    (length-map others (λ (column : ColumnAt). slot_of column place))
-    ∙ ap (λ (l : List ℕ). first_field (length others == 0) (slot_of first place) ++ (l ++ record_end)) (value_cells others place)
+  by_lone : (lone : Bool) → is_lone first columns place ≡ lone
+      → row_record fields (row_of columns place) ≡ (if lone then codes "\"\"\r\n" else record_of (cells_at field_as fields columns place))
+  by_lone lone e = ap (λ (test : Bool). if test then codes "\"\"\r\n" else record_of (cells_at field_as fields columns place)) (lone_is ∙ e)
 
-module _ (columns : List ColumnAt) (place : ℕ) (first : ColumnAt) (some : 1 ≤ length columns) (is : first ≡ get_or columns 0 first) where
-  pub first_value_is : first_value place columns ≡ first_field (length (take (length columns - 1) (drop 1 columns)) == 0) (slot_of first place)
-  first_value_is = ap (first_value place) (first_and_others columns first some is)
+  -- two quotes for a null that stands alone
+  pub quotes_are : is_lone first columns place ≡ true → row_record fields (row_of columns place) ≡ codes "\"\"\r\n"
+  quotes_are e = by_lone true e
 
   -- the first value, the others, and the end
-  pub row_is : row_record (row_of columns place) ≡ first_value place columns ++ (flat_map (value_cell place) (take (length columns - 1) (drop 1 columns)) ++ record_end)
-  row_is =
-      ap (λ l. row_record (row_of l place)) (first_and_others columns first some is)
-      ∙ record_of_values first (take (length columns - 1) (drop 1 columns)) place
-      ∙ ap (λ (l : List ℕ). l ++ (flat_map (value_cell place) (take (length columns - 1) (drop 1 columns)) ++ record_end)) (sym first_value_is)
+  pub row_is : is_lone first columns place ≡ false → row_record fields (row_of columns place)
+      ≡ first_cell (cells_at field_as fields columns place) ++ (flat_map next_field (drop 1 (cells_at field_as fields columns place)) ++ record_end)
+  row_is e = by_lone false e ∙ record_parts (cells_at field_as fields columns place) (omega (arith, cells_long field_as fields columns place, some))
 
 -- ---- the rows of batches
 
 -- the records of a batch
-abbrev pub batch_records : BatchAt → List ℕ
-batch_records batch = flat_map row_record (rows_of batch)
+abbrev pub batch_records : List Field → BatchAt → List ℕ
+batch_records fields batch = flat_map (row_record fields) (rows_of batch)
 
-pub all_records : (batches : List BatchAt) → flat_map batch_records batches ≡ flat_map row_record (flat_map rows_of batches)
-all_records [] = refl
-all_records (batch ∷ batches) =
-    ap (λ (l : List ℕ). batch_records batch ++ l) (all_records batches)
-    ∙ sym (flat_map-append row_record (rows_of batch) (flat_map rows_of batches))
+pub all_records : (fields : List Field) (batches : List BatchAt) → flat_map (batch_records fields) batches ≡ flat_map (row_record fields) (flat_map rows_of batches)
+all_records fields [] = refl
+all_records fields (batch ∷ batches) =
+    ap (λ (l : List ℕ). batch_records fields batch ++ l) (all_records fields batches)
+    ∙ sym (flat_map-append (row_record fields) (rows_of batch) (flat_map rows_of batches))

@@ -1,12 +1,15 @@
 -- What a call of a stream gives, by what the parts of the stream give.
-use Rattle.std.proofs.Common.{◌≡◌, ◌≤◌, ◌<◌, ◌+◌, ℕ, Bool, true, false, List, [], ◌∷◌, ◌++◌, length, Option, Some, None, Result, Ok, refl, sym, ap, subst, ◌∙◌, append-nil, arith}
+use Rattle.std.proofs.Common.{◌≡◌, ◌≤◌, ◌<◌, ◌+◌, ℕ, Bool, true, false, List, [], ◌∷◌, ◌++◌, length, Option, None, Result, Ok, refl, sym, ap, subst, ◌∙◌, append-nil, arith}
 use Rattle.scan_base.specs.declared.fault.Fault.{Fault}
 use Rattle.scan_base.specs.Limits.{most_answer_rows, most_message_bytes}
 use Rattle.arrow_schema.specs.declared.schema.Schema.{Schema}
 use Rattle.arrays.specs.Batch.{rows_of}
+use Rattle.row_sources.specs.declared.turn.Patience.{Patience}
+use Rattle.row_sources.specs.declared.turn.Turn.{Turn}
+use Rattle.row_sources.specs.declared.turn.Turn.TheVariants.{Given, Working, End}
 use Rattle.table_versions.specs.Table.{Row, Table}
 use Rattle.flight_info.specs.Payloads.{Payload, PayloadsSay}
-use Rattle.fetch_stream.specs.Streams.{StreamAt, GivesPayload, Gives, opened}
+use Rattle.fetch_stream.specs.Streams.{StreamAt, GivesPayload, GivesTurn, opened}
 use Rattle.fetch_stream.specs.declared.cutter.Cutter.{Cutter}
 use Rattle.fetch_stream.specs.declared.source.Source.{Source}
 use Rattle.fetch_stream.specs.inside.Ahead.{IsGoing, schema_behind, rows_cut}
@@ -75,48 +78,64 @@ gives_rows schema new true left rest rows count more payload on same say join co
   refused = refl;
 }
 
--- the same stream, of which nothing is left
-same_end : (schema new : Schema) (left rest : List Row) (count more : ℕ) → new ≡ schema → left ≡ [] → rest ≡ [] → more ≡ count → stream_of new true rest more ≡ stream_of schema true left count
-same_end schema new left rest count more same none nothing counted = rw (same, none, nothing, counted) refl
+-- the same stream
+same_stream : (schema new : Schema) (left rest : List Row) (count more : ℕ) → new ≡ schema → rest ≡ left → more ≡ count → stream_of new true rest more ≡ stream_of schema true left count
+same_stream schema new left rest count more same rows counted = rw (same, rows, counted) refl
 
 -- a stream has given no more rows than an answer has
 pub cut_few : (cutter : Cutter) (source : Source) → IsGoing cutter source → rows_cut cutter source ≤ most_answer_rows
 cut_few cutter source is = omega (arith, is.within)
 
--- a call behind the first one
-pub gives_next : (cutter : Cutter) (source : Source) (given : Option Payload) (new_cutter : Cutter) (new : Source) (begun : Bool) → begun ≡ true → GivesRows cutter source (Ok given) new_cutter new
-    → Gives (stream_of (schema_behind source) begun (rows_left cutter source) (rows_cut cutter source)) (Ok given)
+-- a turn behind the first one
+pub gives_next : (patience : Patience) (cutter : Cutter) (source : Source) (given : Turn Payload) (new_cutter : Cutter) (new : Source) (begun : Bool) → begun ≡ true
+    → GivesRows patience cutter source (Ok given) new_cutter new
+    → GivesTurn patience (stream_of (schema_behind source) begun (rows_left cutter source) (rows_cut cutter source)) (Ok given)
     (stream_of (schema_behind new) true (rows_left new_cutter new) (rows_cut new_cutter new))
-gives_next cutter source (Some payload) new_cutter new begun on next =
+gives_next patience cutter source (Given payload) new_cutter new begun on next =
     gives_rows (schema_behind source) (schema_behind new) begun (rows_left cutter source) (rows_left new_cutter new) (rows_of next.batch) (rows_cut cutter source) (rows_cut new_cutter new)
     payload on next.keeps.schema
     (λ payloads given said. say_more payloads payload next.batch (schema_behind source) given next.said next.columns said)
     next.rows next.counted (cut_few new_cutter new next.keeps.going) next.some next.few next.batch next.said next.fits
-gives_next cutter source None new_cutter new false on ends = absurd cc
-gives_next cutter source None new_cutter new true on ends =
-    (refl, ends.1, same_end (schema_behind source) (schema_behind new) (rows_left cutter source) (rows_left new_cutter new) (rows_cut cutter source) (rows_cut new_cutter new) ends.0.schema ends.1 ends.2 ends.3)
+gives_next patience cutter source Working new_cutter new false on waits = absurd cc
+gives_next patience cutter source Working new_cutter new true on waits = (
+  refl,
+  same_stream (schema_behind source) (schema_behind new) (rows_left cutter source) (rows_left new_cutter new) (rows_cut cutter source) (rows_cut new_cutter new)
+      waits.0.keeps.schema waits.0.rows waits.0.same,
+  waits.1,
+)
+gives_next patience cutter source End new_cutter new false on ends = absurd cc
+gives_next patience cutter source End new_cutter new true on ends = (
+  refl,
+  ends.1,
+  same_stream (schema_behind source) (schema_behind new) (rows_left cutter source) (rows_left new_cutter new) (rows_cut cutter source) (rows_cut new_cutter new)
+      ends.0.schema (ends.2 ∙ sym ends.1) ends.3,
+)
 
 -- the first one
-pub gives_first : (schema : Schema) (given : Option Payload) (left : List Row) (count : ℕ) (begun : Bool) → begun ≡ false → count ≤ most_answer_rows → GivesFirst schema (Ok given)
-    → Gives (stream_of schema begun left count) (Ok given) (stream_of schema true left count)
-gives_first schema (Some payload) left count begun first within s = gives_schema schema begun left count payload first within s.0 s.1
-gives_first schema None left count begun first within s = absurd s
+pub gives_first : (patience : Patience) (schema : Schema) (given : Turn Payload) (left : List Row) (count : ℕ) (begun : Bool) → begun ≡ false → count ≤ most_answer_rows
+    → GivesFirst schema (Ok given) → GivesTurn patience (stream_of schema begun left count) (Ok given) (stream_of schema true left count)
+gives_first patience schema (Given payload) left count begun first within s = gives_schema schema begun left count payload first within s.0 s.1
+gives_first patience schema Working left count begun first within s = absurd s
+gives_first patience schema End left count begun first within s = absurd s
 
 -- what is left of a stream that goes on
-pub goes_on : (cutter : Cutter) (source : Source) (given : Option Payload) (new_cutter : Cutter) (new : Source) → GivesRows cutter source (Ok given) new_cutter new → IsGoing new_cutter new
-goes_on cutter source (Some payload) new_cutter new next = next.keeps.going
-goes_on cutter source None new_cutter new ends = ends.0.going
+pub goes_on : (patience : Patience) (cutter : Cutter) (source : Source) (given : Turn Payload) (new_cutter : Cutter) (new : Source) →
+    GivesRows patience cutter source (Ok given) new_cutter new → IsGoing new_cutter new
+goes_on patience cutter source (Given payload) new_cutter new next = next.keeps.going
+goes_on patience cutter source Working new_cutter new waits = waits.0.keeps.going
+goes_on patience cutter source End new_cutter new ends = ends.0.going
 
 -- a stream as it is, by its parts
 abbrev stream_by : Schema → Bool → List Row → ℕ → Option Fault → StreamAt
 stream_by schema begun left count refused = record { schema = schema; begun = begun; left = left; given = count; refused = refused }
 
--- a call of a stream that nothing refused gives this, whatever names it has
-pub gives_so : (before one after other : StreamAt) (result : Result (Option Payload) Fault) (given : Option Payload) → before ≡ one → result ≡ Ok given → after ≡ other
-    → one.refused ≡ None → other.refused ≡ None → Gives (stream_of one.schema one.begun one.left one.given) (Ok given) (stream_of other.schema other.begun other.left other.given) → Gives before result after
-gives_so before one after other result given first is last none still gives =
+-- a turn of a stream that nothing refused gives this, whatever names it has
+pub gives_so : (patience : Patience) (before one after other : StreamAt) (result : Result (Turn Payload) Fault) (given : Turn Payload) → before ≡ one → result ≡ Ok given → after ≡ other
+    → one.refused ≡ None → other.refused ≡ None → GivesTurn patience (stream_of one.schema one.begun one.left one.given) (Ok given) (stream_of other.schema other.begun other.left other.given)
+    → GivesTurn patience before result after
+gives_so patience before one after other result given first is last none still gives =
     let begins : before ≡ stream_of one.schema one.begun one.left one.given = first ∙ ap (λ refused. stream_by one.schema one.begun one.left one.given refused) none in
     let ends : after ≡ stream_of other.schema other.begun other.left other.given = last ∙ ap (λ refused. stream_by other.schema other.begun other.left other.given refused) still in
-    subst (λ (s : StreamAt). Gives s result after) (sym begins)
-    (subst (λ (s : StreamAt). Gives (stream_of one.schema one.begun one.left one.given) result s) (sym ends)
-    (subst (λ (r : Result (Option Payload) Fault). Gives (stream_of one.schema one.begun one.left one.given) r (stream_of other.schema other.begun other.left other.given)) (sym is) gives))
+    subst (λ (s : StreamAt). GivesTurn patience s result after) (sym begins)
+    (subst (λ (s : StreamAt). GivesTurn patience (stream_of one.schema one.begun one.left one.given) result s) (sym ends)
+    (subst (λ (r : Result (Turn Payload) Fault). GivesTurn patience (stream_of one.schema one.begun one.left one.given) r (stream_of other.schema other.begun other.left other.given)) (sym is) gives))

@@ -12,12 +12,16 @@ use Rattle.arrow_schema.specs.Schema.{IsSchema}
 use Rattle.arrays.specs.Batch.{BatchAt, rows_of}
 use Rattle.arrays.specs.Column.{ColumnAt}
 use Rattle.arrays.specs.Typed.{AreOf, AreOfTypes}
-use Rattle.scan_exec.specs.Scan.{ScanAt, GivesRows, Gives, MayRefuse, left}
+use Rattle.row_sources.specs.declared.turn.Patience.{Patience}
+use Rattle.row_sources.specs.declared.turn.Turn.{Turn}
+use Rattle.row_sources.specs.declared.turn.Turn.TheVariants.{Given, Working, End}
+use Rattle.scan_exec.specs.Scan.{ScanAt, GivesRows, Gives, GivesTurn, MayRefuse, left}
+use Rattle.scan_exec.specs.Scan as of_scan
 use Rattle.table_versions.specs.Table.{Row, is_long_text}
 use Rattle.table_versions.proofs.Storable.{first_false, second_false}
 use Rattle.fetch_stream.specs.declared.source.Source.TheVariants.{Scanned}
 use Rattle.fetch_stream.specs.inside.Ahead.{IsSource, AnsweredAs}
-use Rattle.fetch_stream.specs.inside.Given.{GoesOn, GivesNext, GivesBatch, MayRefuseSource}
+use Rattle.fetch_stream.specs.inside.Given.{GoesOn, GivesNext, GivesNoneYet, GivesBatch, TurnsBatch, MayRefuseSource}
 use Rattle.fetch_stream.specs.inside.Written.{HasAnswerTypes}
 
 -- ---- columns of types, as those of fields
@@ -81,7 +85,7 @@ refused_scan before fault (inl memory) = inl memory
 refused_scan before fault (inr large) =
     inr (large.0, λ last. omega (arith, large.1, length-map before.ahead (λ (given : Option ℕ × Row). given.1)))
 
-pub scan_gives : (before after : ScanAt) (result : Result (Option BatchAt) Fault) → IsSource (Scanned before) → Gives before result after → GivesBatch (Scanned before) result (Scanned after)
+scan_gives : (before after : ScanAt) (result : Result (Option BatchAt) Fault) → IsSource (Scanned before) → Gives before result after → GivesBatch (Scanned before) result (Scanned after)
 scan_gives before after result is gives = by before.schema before.types before.ahead before.batches before.opened before.given before.refused is.begins result is gives
   where
     by : (schema : Schema) (types : List DataType) (ahead : List (Option ℕ × Row)) (batches opened : List (ℕ × ℕ)) (given : ℕ) (refused : Option Fault) → refused ≡ None
@@ -100,3 +104,30 @@ scan_gives before after result is gives = by before.schema before.types before.a
         (record { source = record { schema = is.schema; typed = is.typed; short = is.short; begins = refl }; schema = refl }, nothing, nothing, λ last. refl)
     by schema types ahead batches opened given None none (Err fault) is gives =
         refused_scan (record { schema = schema; types = types; ahead = ahead; batches = batches; opened = opened; given = given; refused = None }) fault gives.0
+
+-- nothing yet
+none_yet : (before after : ScanAt) → IsSource (Scanned before) → of_scan.GivesNoneYet before after → GivesNoneYet (Scanned before) (Scanned after)
+none_yet before after is none =
+    let rows : left before ≡ left after = ap (map (λ (given : Option ℕ × Row). given.1)) none.same in
+    let typed : HasAnswerTypes after.schema after.types =
+    subst (λ (s : Schema). HasAnswerTypes s after.types) (sym none.on.schema) (subst (λ (t : List DataType). HasAnswerTypes before.schema t) (sym none.on.types) is.typed) in
+    record {
+      on = record {
+        source = record {
+          schema = subst IsSchema (sym none.on.schema) is.schema;
+          typed = typed;
+          short = subst (λ (some : List Row). list_any (list_any is_long_text) some ≡ false) rows is.short;
+          begins = none.refused;
+        };
+        schema = none.on.schema;
+      };
+      rows = sym rows;
+      counted = λ last. none.given;
+    }
+
+pub scan_turns : (patience : Patience) (before after : ScanAt) (result : Result (Turn BatchAt) Fault) → IsSource (Scanned before) → GivesTurn patience before result after →
+    TurnsBatch patience (Scanned before) result (Scanned after)
+scan_turns patience before after (Ok (Given batch)) is gives = scan_gives before after (Ok (Some batch)) is gives
+scan_turns patience before after (Ok Working) is gives = (none_yet before after is gives.1, gives.2)
+scan_turns patience before after (Ok End) is gives = scan_gives before after (Ok None) is gives
+scan_turns patience before after (Err fault) is gives = scan_gives before after (Err fault) is gives

@@ -12,8 +12,8 @@ use Rattle.fetch_stream.specs.declared.cutter.Cutter.{Cutter}
 use Rattle.fetch_stream.specs.declared.source.Source.{Source}
 use Rattle.fetch_stream.specs.inside.Ahead.{IsCutter, IsGoing, AnsweredAs, schema_behind, left_behind, rows_taken, rows_cut, uncut}
 use Rattle.fetch_stream.specs.inside.Cut.{Cuts, ReachesFar}
-use Rattle.fetch_stream.specs.inside.Given.{GivesNext, GivesBatch, MayRefuseSource}
-use Rattle.fetch_stream.specs.inside.Steps.{Ends, Fails, HasNext, SaysNext, rows_left}
+use Rattle.fetch_stream.specs.inside.Given.{GivesNext, GivesNoneYet, GivesBatch, MayRefuseSource}
+use Rattle.fetch_stream.specs.inside.Steps.{Ends, Fails, HasNext, SaysNext, Waits, rows_left}
 use Rattle.fetch_stream.proofs.Parts.{slice_none, slice_whole, cuts_join, length_cut}
 use Rattle.fetch_stream.proofs.Sizes.{one_row_fits}
 use Rattle.fetch_stream.proofs.Streaming.{cut_answered}
@@ -102,6 +102,23 @@ module _ (keep : BatchSlicesKeepRows) (cutter : Cutter) (source new : Source) (i
     ap (λ (rows : List Row). rows ++ left_behind new) (all_cut keep cutter is.placed high) ∙ gives.2,
     omega (arith, gives.3 cutter.batch),
   )
+
+  -- or it is not there yet
+  pub waits : GivesNoneYet source new → Waits cutter source cutter new
+  waits none = record {
+    keeps = record {
+      going = record {
+        placed = is.placed;
+        counted = omega (arith, is.counted, none.counted cutter.batch);
+        within = omega (arith, is.within, none.counted cutter.batch);
+        behind = none.on.source;
+        columns = λ more. absurd (omega (arith, more, high));
+      };
+      schema = none.on.schema;
+    };
+    rows = ap (λ (rows : List Row). uncut cutter ++ rows) none.rows;
+    same = omega (arith, none.counted cutter.batch);
+  }
 
   -- or it is refused
   pub batch_refused : (fault : Fault) → MayRefuseSource source fault → Fails cutter source fault

@@ -1,9 +1,13 @@
 -- A stream of an answer's payloads: what is still to come, and what its calls give.
-use Rattle.std.specs.Prelude.{◌≡◌, ◌≤◌, ◌<◌, ◌⊎◌, ℕ, ◌+◌, Bool, true, false, List, [], ◌∷◌, ◌++◌, length, Option, Some, None, Result, Ok, Err, IfOk}
+use Rattle.std.specs.Prelude.{◌≡◌, ◌≢◌, ◌≤◌, ◌<◌, ◌⊎◌, ℕ, ◌+◌, Bool, true, false, List, [], ◌∷◌, ◌++◌, length, Option, Some, None, Result, Ok, Err, IfOk}
 use Rattle.scan_base.specs.declared.fault.Fault.{Fault}
 use Rattle.scan_base.specs.declared.fault.Fault.TheVariants.{BadTicket, ResultTooLarge, OutOfMemory}
 use Rattle.scan_base.specs.Limits.{most_answer_rows, most_message_bytes}
 use Rattle.arrow_schema.specs.declared.schema.Schema.{Schema}
+use Rattle.row_sources.specs.declared.turn.Patience.{Patience}
+use Rattle.row_sources.specs.declared.turn.Patience.TheVariants.{Endless}
+use Rattle.row_sources.specs.declared.turn.Turn.{Turn}
+use Rattle.row_sources.specs.declared.turn.Turn.TheVariants.{Given, Working, End}
 use Rattle.table_versions.specs.Table.{Row, Table}
 use Rattle.table_versions.specs.Database.{Database}
 use Rattle.endpoint_split.specs.Handle.{HandleAt}
@@ -79,6 +83,14 @@ Gives before result after = going before.refused result
     going None (Ok (Some payload)) = GivesPayload before payload after
     going None (Ok None) = (before.begun ≡ true) × (before.left ≡ []) × (after ≡ before)
     going None (Err fault) = MayRefuse before fault × (after.refused ≡ Some fault)
+
+-- What a turn gives: what a call gives, or nothing yet, of a stream that was not refused, where its patience has an end. Then
+-- the same is still to come.
+abbrev pub GivesTurn : Patience → StreamAt → Result (Turn Payload) Fault → StreamAt → Type 0
+GivesTurn patience before (Ok (Given payload)) after = Gives before (Ok (Some payload)) after
+GivesTurn patience before (Ok Working) after = (before.refused ≡ None) × (after ≡ before) × (patience ≢ Endless)
+GivesTurn patience before (Ok End) after = Gives before (Ok None) after
+GivesTurn patience before (Err fault) after = Gives before (Err fault) after
 
 -- a stream of an answer has given these payloads
 pub record HasGiven (answer : Table) (payloads : List Payload) (stream : StreamAt) : Type 0 where

@@ -2,10 +2,11 @@
 
 ghost use Rattle.std.specs.Prelude.{Result};
 ghost use Rattle.scan_base.specs.declared.fault.Fault.{Fault as FaultAt};
-ghost use Rattle.fetch_stream.specs.Streams.{StreamAt, Gives};
+ghost use Rattle.fetch_stream.specs.Streams.{StreamAt, Gives, GivesTurn};
 
 use crate::payload::Payload;
 use crate::stream::FetchStream;
+use row_sources::{Patience, Turn};
 use scan_base::Fault;
 use std::alloc::Global;
 
@@ -22,6 +23,20 @@ pub trait Payloads {
     /// (`Fault::OutOfMemory`) where memory is refused. What refuses payloads is answered from then on.
     fn next(&mut self, alloc: Global) -> Result<Option<Payload>, Fault>
         ensures { Gives (stream self.old) result (stream self.new) };
+
+    /// A turn to the next payload, as that of a [`FetchStream`]. An impl that leaves it out finds a payload or the end in each.
+    ///
+    /// # Errors
+    ///
+    /// Those of `next`.
+    fn turn(&mut self, alloc: Global, _patience: Patience) -> Result<Turn<Payload>, Fault>
+        ensures { GivesTurn _patience (stream self.old) result (stream self.new) }
+    {
+        match self.next(alloc)? {
+            Some(payload) => Ok(Turn::Given(payload)),
+            None => Ok(Turn::End),
+        }
+    }
 }
 
 impl Payloads for FetchStream {
@@ -29,6 +44,10 @@ impl Payloads for FetchStream {
 
     fn next(&mut self, alloc: Global) -> Result<Option<Payload>, Fault> {
         FetchStream::next(self, alloc)
+    }
+
+    fn turn(&mut self, alloc: Global, patience: Patience) -> Result<Turn<Payload>, Fault> {
+        FetchStream::turn(self, alloc, patience)
     }
 }
 

@@ -3,12 +3,13 @@
 ghost use Rattle.std.specs.Prelude.{◌≡◌};
 ghost use Rattle.arrays.specs.Batch.{BatchAt};
 ghost use Rattle.fetch_stream.specs.inside.Ahead.{schema_behind, rows_taken, IsSource};
-ghost use Rattle.fetch_stream.specs.inside.Given.{GivesBatch};
+ghost use Rattle.fetch_stream.specs.inside.Given.{TurnsBatch};
 
 use arrays::Batch;
 use arrow_schema::Schema;
+use row_sources::Turn;
 use scan_base::Fault;
-use scan_exec::{GroupsBatches, Scan};
+use scan_exec::{GroupsBatches, Making, Scan};
 use std::alloc::Global;
 
 // What gives the batches of an answer.
@@ -50,23 +51,23 @@ impl Source {
         }
     }
 
-    /// The next batch, of one row or more. The groups of a grouped query are made by the one that is handed in.
+    /// A turn to the next batch, of one row or more.
     ///
     /// # Errors
     ///
     /// F20 (`Fault::ResultTooLarge`) where the answer has more than 67,108,864 rows, and F21 (`Fault::OutOfMemory`) where
     /// memory is refused; and from then on.
-    pub(crate) fn next<G: GroupsBatches>(
+    pub(crate) fn turn<G: GroupsBatches>(
         &mut self,
         alloc: Global,
-        by: &G,
-    ) -> Result<Option<Batch>, Fault>
+        making: Making<'_, G>,
+    ) -> Result<Turn<Batch>, Fault>
         requires { IsSource self.old }
-        ensures { GivesBatch self.old result self.new }
+        ensures { TurnsBatch making.entry.patience self.old result self.new }
     {
         match self {
-            Source::Scanned(scan) => scan.next_by(alloc, by),
-            Source::Listed(_) => Ok(None),
+            Source::Scanned(scan) => scan.turn_by(alloc, making),
+            Source::Listed(_) => Ok(Turn::End),
         }
     }
 }

@@ -13,7 +13,7 @@ ghost use Rattle.table_versions.specs.Stored.{tables_of};
 ghost use Rattle.flight_info.specs.Meant.{Meant};
 ghost use Rattle.flight_info.specs.Tables.{tables_listed};
 ghost use Rattle.fetch_stream.specs.Fetches.{may_mean};
-ghost use Rattle.fetch_stream.specs.Streams.{Gives, Opens, opened};
+ghost use Rattle.fetch_stream.specs.Streams.{Gives, GivesTurn, Opens, opened};
 ghost use Rattle.fetch_stream.specs.Morsels.{whole_stream};
 ghost use Rattle.fetch_stream.specs.inside.Ahead.{IsGoing, IsSource, AnsweredAs, schema_behind, left_behind, rows_taken};
 ghost use Rattle.fetch_stream.specs.inside.Steps.{GivesFirst, Refills, GivesRows};
@@ -28,8 +28,9 @@ use arrays::laws::batch_slices_keep_rows;
 use arrow_schema::Schema;
 use endpoint_split::{Handle, Range};
 use flight_info::{Planned, plan_text, tables_batch, tables_schema};
+use row_sources::{Patience, Turn};
 use scan_base::Fault;
-use scan_exec::{GroupsBatches, InOneWalk, Scan};
+use scan_exec::{GroupsBatches, InOneWalk, Making, Scan};
 use std::alloc::{AllocError, Global};
 use std::marker::Model;
 use table_versions::{CatalogVersion, Snapshot};
@@ -246,11 +247,44 @@ impl FetchStream {
     ) -> Result<Option<Payload>, Fault>
         ensures { Gives self.old result self.new }
     {
+        let patience = Patience::Endless;
+        match self.turn_by(alloc, Making { by, patience })? {
+            Turn::Given(payload) => Ok(Some(payload)),
+            Turn::Working => Ok(None),
+            Turn::End => Ok(None),
+        }
+    }
+
+    /// A turn to the next payload. `Turn::Working` where none of the rows is given that the turn looked at: then the same is
+    /// still to come, and the next turn goes on behind them.
+    ///
+    /// # Errors
+    ///
+    /// Those of `next`.
+    pub fn turn(&mut self, alloc: Global, patience: Patience) -> Result<Turn<Payload>, Fault>
+        ensures { GivesTurn patience self.old result self.new }
+    {
+        let by = &InOneWalk;
+        self.turn_by(alloc, Making { by, patience })
+    }
+
+    /// The same, where the groups of a grouped query are made by the one that is handed in, in one turn.
+    ///
+    /// # Errors
+    ///
+    /// Those of `next`.
+    pub fn turn_by<G: GroupsBatches>(
+        &mut self,
+        alloc: Global,
+        making: Making<'_, G>,
+    ) -> Result<Turn<Payload>, Fault>
+        ensures { GivesTurn making.entry.patience self.old result self.new }
+    {
         if let Some(fault) = self.refused {
             return Err(fault);
         }
         let given = if self.begun {
-            next_rows(alloc, by, &mut self.cutter, &mut self.source)
+            turn_of_rows(alloc, making, &mut self.cutter, &mut self.source)
         } else {
             first_payload(alloc, self.source.schema())
         };
@@ -263,49 +297,53 @@ impl FetchStream {
 }
 
 // The payload of a schema, as the first one.
-fn first_payload(alloc: Global, schema: &Schema) -> Result<Option<Payload>, Fault>
+fn first_payload(alloc: Global, schema: &Schema) -> Result<Turn<Payload>, Fault>
     requires { IsSchema schema.now }
     ensures { GivesFirst schema.now result }
 {
-    Ok(Some(schema_payload(alloc, schema)?))
+    Ok(Turn::Given(schema_payload(alloc, schema)?))
 }
 
-// Goes on to the next batch, where the last one was given whole. Whether a row is left.
+// A turn to the next batch, where the last one was given whole.
 fn refill<G: GroupsBatches>(
     alloc: Global,
-    by: &G,
+    making: Making<'_, G>,
     cutter: &mut Cutter,
     source: &mut Source,
-) -> Result<bool, Fault>
+) -> Result<Turn<()>, Fault>
     requires { IsGoing cutter.old source.old }
-    ensures { Refills cutter.old source.old result cutter.new source.new }
+    ensures { Refills making.entry.patience cutter.old source.old result cutter.new source.new }
 {
     batch_slices_keep_rows();
     if cutter.at < cutter.batch.rows() {
-        return Ok(true);
+        return Ok(Turn::Given(()));
     }
-    let Some(batch) = source.next(alloc, by)? else {
-        return Ok(false);
-    };
-    *cutter = Cutter::new(batch);
-    Ok(true)
+    match source.turn(alloc, making)? {
+        Turn::Given(batch) => {
+            *cutter = Cutter::new(batch);
+            Ok(Turn::Given(()))
+        }
+        Turn::Working => Ok(Turn::Working),
+        Turn::End => Ok(Turn::End),
+    }
 }
 
-// The payload of the next rows.
-fn next_rows<G: GroupsBatches>(
+// A turn to the payload of the next rows.
+fn turn_of_rows<G: GroupsBatches>(
     alloc: Global,
-    by: &G,
+    making: Making<'_, G>,
     cutter: &mut Cutter,
     source: &mut Source,
-) -> Result<Option<Payload>, Fault>
+) -> Result<Turn<Payload>, Fault>
     requires { IsGoing cutter.old source.old }
-    ensures { GivesRows cutter.old source.old result cutter.new source.new }
+    ensures { GivesRows making.entry.patience cutter.old source.old result cutter.new source.new }
 {
     batch_slices_keep_rows();
-    if !refill(alloc, by, cutter, source)? {
-        return Ok(None);
+    match refill(alloc, making, cutter, source)? {
+        Turn::Given(_) => Ok(Turn::Given(cutter.next(alloc)?)),
+        Turn::Working => Ok(Turn::Working),
+        Turn::End => Ok(Turn::End),
     }
-    Ok(Some(cutter.next(alloc)?))
 }
 
 // How many rows the range of a handle has.

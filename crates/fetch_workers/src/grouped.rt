@@ -4,8 +4,9 @@ ghost use Rattle.std.specs.Prelude.{◌≡◌};
 
 use fetch_stream::{FetchStream, Payload, Payloads, ReadsPayloads};
 use group_workers::GroupWorkers;
+use row_sources::{Patience, Turn};
 use scan_base::Fault;
-use scan_exec::GroupsBatches;
+use scan_exec::{GroupsBatches, Making};
 use std::alloc::Global;
 use std::sync::Wait;
 use std::thread::Threads;
@@ -31,6 +32,11 @@ impl<'g, G: GroupsBatches> Payloads for GroupedStream<'g, G> {
 
     fn next(&mut self, alloc: Global) -> Result<Option<Payload>, Fault> {
         self.stream.next_by(alloc, self.by)
+    }
+
+    fn turn(&mut self, alloc: Global, patience: Patience) -> Result<Turn<Payload>, Fault> {
+        let by = self.by;
+        self.stream.turn_by(alloc, Making { by, patience })
     }
 }
 

@@ -1,5 +1,5 @@
 -- A stream as it is sent.
-use Rattle.std.proofs.Common.{◌≡◌, ◌≤◌, ℕ, List, [], ◌∷◌, ◌++◌, length, Option, Some, None, Result, Ok, Err, inl, refl, sym, ap, subst}
+use Rattle.std.proofs.Common.{◌≡◌, ◌≤◌, ℕ, zero, suc, arith, List, [], ◌∷◌, ◌++◌, length, Option, Some, None, Result, Ok, Err, inl, refl, sym, ap, subst}
 use Rattle.std.proofs.lemmas.List.Elements.{All-append, All-cons, All-nil}
 use Rattle.scan_base.specs.declared.fault.Fault.{Fault}
 use Rattle.scan_base.specs.declared.fault.Fault.TheVariants.{OutOfMemory}
@@ -16,8 +16,11 @@ use Rattle.flight_info.specs.Replies.{ReplyAt}
 use Rattle.fetch_stream.specs.Fetches.{FetchAt}
 use Rattle.fetch_stream.specs.Streams.{StreamAt, Opens, Gives, HasGiven, StreamsAnswer, opened}
 use Rattle.fetch_stream.proofs.Answering.{gave, ended, was_refused}
+use Rattle.row_sources.specs.declared.turn.Patience.{Patience}
+use Rattle.row_sources.specs.declared.turn.Patience.TheVariants.{Endless}
+use Rattle.std.specs.Prelude.{◌≢◌}
 use Rattle.flight_calls.specs.Answered.{SendsReply}
-use Rattle.flight_calls.proofs.Writing.{messages_bytes, none_sent, payload_sent, payload_not_sent, status_sent}
+use Rattle.flight_calls.proofs.Writing.{messages_bytes, none_sent, nothing_sent, nothing_not_sent, payload_sent, payload_not_sent, status_sent}
 
 -- what a stream has given was sent
 pub record HasSent (first stream : StreamAt) (a b : Option (List ℕ)) (before after : List ℕ) : Type 0 where
@@ -26,6 +29,11 @@ pub record HasSent (first stream : StreamAt) (a b : Option (List ℕ)) (before a
   pub going : first.refused ≡ None → stream.refused ≡ None
   pub fits : FitMessages payloads
   pub sent : Sent a b before after (messages_bytes payloads)
+
+-- where a turn may give nothing yet, looks are left
+pub some_left : (looks : ℕ) (patience : Patience) → (looks ≡ 0 → patience ≡ Endless) → patience ≢ Endless → 1 ≤ looks
+some_left zero patience ends not = absurd (not (ends refl))
+some_left (suc looks) patience ends not = omega arith
 
 -- of a fetch at this handle
 abbrev pub SendsFetch : Database → HandleAt → Result (Unit {0}) Fault → Option (List ℕ) → Option (List ℕ) → List ℕ → List ℕ → Type 0
@@ -78,6 +86,29 @@ module _ (law : StreamsAnswer) where
         fits = one_fits has.payloads payload has.fits one.fits;
         sent = payload_not_sent a b c before mid after has.payloads payload (status_of (Some OutOfMemory)) has.sent failed;
       }
+
+  -- nothing more was sent
+  pub stream_waits : (first stream next : StreamAt) (a b c : Option (List ℕ)) (before mid after : List ℕ) → HasSent first stream a b before mid → next ≡ stream
+      → Sent b c mid after [] → HasSent first next a c before after
+  stream_waits first stream next a b c before mid after has same none =
+      subst (λ (s : StreamAt). HasSent first s a c before after) (sym same) (record {
+        payloads = has.payloads;
+        given = has.given;
+        going = has.going;
+        fits = has.fits;
+        sent = nothing_sent a b c before mid after has.payloads has.sent none;
+      })
+
+  -- or the other end was gone: what went before is a beginning of an answer that memory cut short
+  pub stream_stops : (fault : Fault) (first stream : StreamAt) (a b c : Option (List ℕ)) (before mid after : List ℕ) → HasSent first stream a b before mid
+      → NotSent b c mid after [] → (database : Database) (handle : HandleAt) → Opens database handle (Ok first)
+      → SendsFetch database handle (Err fault) a c before after
+  stream_stops fault first stream a b c before mid after has failed database handle opens = record {
+    reply = record { payloads = has.payloads; fault = Some OutOfMemory };
+    right = law.refused database handle opens.0 has.payloads stream OutOfMemory opens.1 (has.given opens.0 opens.2) (inl refl);
+    fits = has.fits;
+    sent = nothing_not_sent a b c before mid after has.payloads (status_of (Some OutOfMemory)) has.sent failed;
+  }
 
   -- the stream ended, and then its status was sent, or not
   pub stream_ends : (r : Result (Unit {0}) Fault) (first stream next : StreamAt) (a b c : Option (List ℕ)) (before mid after : List ℕ) → HasSent first stream a b before mid → Gives stream (Ok None) next

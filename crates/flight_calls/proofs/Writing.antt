@@ -97,3 +97,15 @@ pub payload_not_sent : (a b c : Option (List ℕ)) (before mid after : List ℕ)
 payload_not_sent a b c before mid after payloads payload status sent failed =
     rw (status_last (payloads ++ payload ∷ []) status, bytes_more payloads payload, append_assoc (messages_bytes payloads) (spelling (Message payload)) (spelling status))
     (second_not_sent a b c before mid after (messages_bytes payloads) (spelling (Message payload) ++ spelling status) sent (head_not_sent b c mid after (spelling (Message payload)) (spelling status) failed))
+
+-- nothing more was sent
+pub nothing_sent : (a b c : Option (List ℕ)) (before mid after : List ℕ) (payloads : List Payload)
+    → Sent a b before mid (messages_bytes payloads) → Sent b c mid after [] → Sent a c before after (messages_bytes payloads)
+nothing_sent a b c before mid after payloads sent none =
+    subst (Sent a c before after) (append-nil (messages_bytes payloads)) (both_sent a b c before mid after (messages_bytes payloads) [] sent none)
+
+-- or it could not be
+pub nothing_not_sent : (a b c : Option (List ℕ)) (before mid after : List ℕ) (payloads : List Payload) (status : Record)
+    → Sent a b before mid (messages_bytes payloads) → NotSent b c mid after [] → NotSent a c before after (answer_bytes payloads status)
+nothing_not_sent a b c before mid after payloads status sent failed =
+    rw (status_last payloads status) (second_not_sent a b c before mid after (messages_bytes payloads) (spelling status) sent (head_not_sent b c mid after [] (spelling status) failed))

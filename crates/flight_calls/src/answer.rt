@@ -11,6 +11,7 @@ ghost use Rattle.table_versions.specs.Database.{Database};
 ghost use Rattle.flight_info.specs.Payloads.{FitMessages};
 ghost use Rattle.fetch_stream.specs.Fetches.{FetchAt};
 ghost use Rattle.fetch_stream.specs.Streams.{Opens};
+ghost use Rattle.row_sources.specs.declared.turn.Patience.TheVariants.{Endless};
 ghost use Rattle.flight_core.specs.Asked.{Asked};
 ghost use Rattle.table_versions.specs.Log.{Log};
 ghost use Rattle.flight_calls.specs.Calls.{ReplyTo};
@@ -22,8 +23,12 @@ use fetch_stream::{Executor, FetchStream, Payload, Payloads, ReadsPayloads};
 use flight_core::Reply;
 use flight_core::laws::streams_answer;
 use grpc_frame::{Outbox, Output};
+use row_sources::{Patience, Turn};
 use scan_base::Fault;
 use std::alloc::Global;
+
+// How many rows are looked at before it is looked whether the client is still there.
+const LOOKED_ROWS: usize = 1_048_576;
 
 /// What answers a call.
 #[derive(Drop)]
@@ -36,7 +41,8 @@ pub enum Answer {
 
 /// Writes an answer: each payload in a Message, of which a large part is not copied, and then the Status. Where it is
 /// small it is one write. A payload of a stream is sent before the next one is made, and of it no more than an outbox
-/// gathers waits for the next write.
+/// gathers waits for the next write. Where 1,048,576 rows were looked at without one that is given, it is written, and the
+/// other end is looked at.
 ///
 /// # Errors
 ///
@@ -173,7 +179,7 @@ impl<'w, 'o, W: Output> ReadsPayloads for Sending<'w, 'o, W> {
 }
 
 // Sends the payloads that are given, and then the Status. Where a stream is refused, a beginning is sent, and the fault: F20
-// or F21.
+// or F21. Where a turn gives nothing yet, what was sent before is written, and the other end is looked at.
 fn send_stream<W: Output, P: Payloads>(
     alloc: Global,
     writer: &mut W,
@@ -189,13 +195,28 @@ fn send_stream<W: Output, P: Payloads>(
     ensures kind { FailsByTransport result }
 {
     streams_answer();
+    let mut looks = u64::MAX;
     loop {
-        match payloads.next(alloc) {
-            Ok(Some(payload)) => send_payload(writer, outbox, &payload)?,
-            Ok(None) => return outbox.send_status(writer, None),
+        match payloads.turn(alloc, patience_of(looks)) {
+            Ok(Turn::Given(payload)) => send_payload(writer, outbox, &payload)?,
+            Ok(Turn::Working) => {
+                looks -= 1;
+                outbox.look(writer)?;
+            }
+            Ok(Turn::End) => return outbox.send_status(writer, None),
             Err(fault) => return outbox.send_status(writer, Some(fault)),
         }
     }
+}
+
+// How long a turn looks for rows, where it may be asked so many times whether the other end is still there.
+fn patience_of(looks: u64) -> Patience
+    ensures { looks ≡ 0 → result ≡ Endless }
+{
+    if looks == 0 {
+        return Patience::Endless;
+    }
+    Patience::Rows(LOOKED_ROWS)
 }
 
 /// Writes the Status of a fault that ends the connection.

@@ -13,7 +13,7 @@ use Rattle.scan_base.specs.Lists.{each, behind}
 use Rattle.scan_base.specs.Value.{same_flag}
 use Rattle.scan_base.proofs.ReadingLaws.{behind_more}
 use Rattle.arrow_schema.specs.declared.data_type.DataType.{DataType}
-use Rattle.arrow_schema.specs.declared.data_type.DataType.TheVariants.{Integer, Utf8, Bool, Decimal128, Dictionary}
+use Rattle.arrow_schema.specs.declared.data_type.DataType.TheVariants.{Integer, Utf8, Bool, Decimal128, Date, Dictionary}
 use Rattle.arrow_schema.specs.declared.schema.Field.{Field}
 use Rattle.arrow_schema.specs.declared.schema.Schema.{Schema}
 use Rattle.arrow_schema.specs.DataType.{bit_width, is_signed}
@@ -40,6 +40,7 @@ type_same (Integer a) = both_true (bit_width a == bit_width a) (same_flag (is_si
 type_same Utf8 = refl
 type_same Bool = refl
 type_same Decimal128 = refl
+type_same Date = refl
 type_same (Dictionary a) = refl
 
 field_same : (f : Field) → same_field f f ≡ true

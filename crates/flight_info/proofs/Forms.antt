@@ -15,7 +15,7 @@ use Rattle.flatbuf.proofs.Led.{led_table, led_vector, Elements, absent_table, bu
 use Rattle.arrow_schema.specs.declared.header.HeaderKind.TheVariants as header
 use Rattle.arrow_schema.specs.declared.data_type.IntegerType.{IntegerType}
 use Rattle.arrow_schema.specs.declared.data_type.DataType.{DataType}
-use Rattle.arrow_schema.specs.declared.data_type.DataType.TheVariants.{Integer, Utf8, Bool as Flags, Decimal128, Dictionary}
+use Rattle.arrow_schema.specs.declared.data_type.DataType.TheVariants.{Integer, Utf8, Bool as Flags, Decimal128, Date, Dictionary}
 use Rattle.arrow_schema.specs.declared.data_type.DictionaryEncoding.{DictionaryEncoding}
 use Rattle.arrow_schema.specs.declared.schema.Field.{Field}
 use Rattle.arrow_schema.specs.declared.schema.Schema.{Schema}
@@ -53,6 +53,7 @@ whole_type (Integer integer) = whole_integer integer
 whole_type Utf8 = whole_table [] tt
 whole_type Flags = whole_table [] tt
 whole_type Decimal128 = whole_table (Number 38 ∷ Number 0 ∷ Number 128 ∷ []) tt
+whole_type Date = whole_table (Number 0 ∷ []) tt
 whole_type (Dictionary encoding) = whole_table [] tt
 
 abbrev dictionary_slots : DictionaryEncoding → List Given
@@ -67,6 +68,7 @@ whole_given (Integer integer) more whole = whole
 whole_given Utf8 more whole = whole
 whole_given Flags more whole = whole
 whole_given Decimal128 more whole = whole
+whole_given Date more whole = whole
 whole_given (Dictionary encoding) more whole = (whole_dictionary encoding, whole)
 
 whole_slots : (field : Field) → AreWhole (field_slots field)
@@ -96,6 +98,7 @@ encoding_ends table (Integer integer) reads found e = absurd (none_found table f
 encoding_ends table Utf8 reads found e = absurd (none_found table found 4 reads e)
 encoding_ends table Flags reads found e = absurd (none_found table found 4 reads e)
 encoding_ends table Decimal128 reads found e = absurd (none_found table found 4 reads e)
+encoding_ends table Date reads found e = absurd (none_found table found 4 reads e)
 encoding_ends table (Dictionary encoding) reads found e =
     let there = table_at table.bytes reads.place (dictionary_part encoding) in
     let same : there ≡ found = found_is table there found 4 (led_table table 4 (dictionary_part encoding) reads) e in

@@ -6,7 +6,7 @@ use Rattle.std.proofs.lemmas.List.{get_or_default, length-append, length-map}
 use borrow.Author.Tests.{ltb-true}
 use Rattle.arrow_schema.specs.declared.data_type.DataType.{DataType}
 use Rattle.scan_base.specs.declared.fault.Fault.{Fault}
-use Rattle.arrow_schema.specs.declared.data_type.DataType.TheVariants.{Integer, Utf8, Bool as Flag, Decimal128, Dictionary}
+use Rattle.arrow_schema.specs.declared.data_type.DataType.TheVariants.{Integer, Utf8, Bool as Flag, Decimal128, Date, Dictionary}
 use Rattle.arrays.specs.Batch.{BatchAt, row_of}
 use Rattle.arrays.specs.Column.{ColumnAt}
 use Rattle.arrays.specs.Typed.{AreOf, IsOfType}
@@ -35,6 +35,7 @@ summed (Integer kind) c can of = (kind, of)
 summed Utf8 c can of = cc
 summed Flag c can of = cc
 summed Decimal128 c can of = cc
+summed Date c can of = cc
 summed (Dictionary encoding) c can of = cc
 
 -- a column that is summed has whole numbers

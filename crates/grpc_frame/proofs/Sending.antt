@@ -1,5 +1,5 @@
 -- Bytes that are sent through an outbox.
-use Rattle.std.proofs.Common.{◌≡◌, ℕ, List, [], ◌++◌, Option, sym, ap, subst, ◌∙◌, append_assoc, append-nil}
+use Rattle.std.proofs.Common.{◌≡◌, ℕ, List, [], ◌++◌, Option, refl, sym, ap, subst, ◌∙◌, append_assoc, append-nil}
 use Rattle.std.specs.Prelude.{Result, Ok, Err}
 use Rattle.std.specs.Io.KnownBytes.{Appends}
 use Rattle.std.proofs.KnownBytes.{Appends-nil, Appends-trans}
@@ -29,6 +29,18 @@ written_behind (Ok x) a b c before after bytes wrote none q = record {
   whole = ap (λ (l : List ℕ). (before ++ bytes) ++ l) none ∙ append-nil (before ++ bytes);
 }
 written_behind (Err e) a b c before after bytes wrote none q = record { begun = beginning_of_content a b c before bytes wrote q; none = none }
+
+-- it was, and then the other end was looked at
+pub looked : {A E : Type 0} (r : Result A E) (a b c : Option (List ℕ)) (before after : List ℕ) → Appends a b before → after ≡ [] → c ≡ b → Sends r a c before after []
+looked (Ok x) a b c before after wrote none same = record {
+  written = before;
+  wrote = subst (λ (d : Option (List ℕ)). Appends a d before) (sym same) wrote;
+  whole = ap (λ (l : List ℕ). before ++ l) none;
+}
+looked (Err e) a b c before after wrote none same = record {
+  begun = record { front = before; rest = []; splits = refl; wrote = subst (λ (d : Option (List ℕ)). Appends a d before) (sym same) wrote };
+  none = none;
+}
 
 -- ---- one behind the other
 
@@ -75,4 +87,4 @@ pub begun_alone : (a b : Option (List ℕ)) (before after bytes : List ℕ) → 
 begun_alone a b before after bytes none p = subst (AppendsBeginning a b) (ap (λ (l : List ℕ). l ++ bytes) none) p.begun
 
 -- parts that are sent one behind the other
-pub ruleset sending = (written_behind, head_not_sent, sent_behind)
+pub ruleset sending = (written_behind, head_not_sent, sent_behind, looked)

@@ -1,8 +1,8 @@
 //! Readers and writers of the system's, with their failures counted.
 
-ghost use Rattle.std.specs.Prelude.{◌≡◌, ◌<◌, ◌≤◌, ◌^◌, ◌-◌, true, false};
+ghost use Rattle.std.specs.Prelude.{◌≡◌, ◌<◌, ◌≤◌, ◌^◌, ◌+◌, ◌-◌, true, false};
 ghost use Rattle.std.specs.Io.KnownBytes.{Appends};
-ghost use Rattle.grpc_frame.specs.Ends.{AppendsBeginning};
+ghost use Rattle.grpc_frame.specs.Ends.{AppendsBeginning, CanFail};
 
 use crate::ends::{Input, Output};
 use scan_base::Fault;
@@ -37,6 +37,14 @@ impl<T> Counted<T> {
         ensures { result.now ≡ self.now.end }
     {
         &self.end
+    }
+
+    /// Counts a failure that no call of the reader or writer told.
+    pub fn count_failure(&mut self)
+        requires { CanFail self.old.failures }
+        ensures { self.new ≡ record self.old { failures = self.old.failures + 1 } }
+    {
+        self.failures += 1;
     }
 }
 

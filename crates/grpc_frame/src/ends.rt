@@ -56,6 +56,20 @@ pub trait Output {
         ensures counted { CountsFailure result (failures self.old) (failures self.new) }
         ensures kind { FailsByTransport result };
 
+    /// Looks whether the other end is still there, where it shows. It writes nothing, and does not wait.
+    ///
+    /// # Errors
+    ///
+    /// `Fault::Transport` where the other end is known to be gone. It is counted as a failed write is.
+    fn look(&mut self) -> Result<(), Fault>
+        requires { CanFail (failures self.old) }
+        ensures same { contents self.new ≡ contents self.old }
+        ensures counted { CountsFailure result (failures self.old) (failures self.new) }
+        ensures kind { FailsByTransport result }
+    {
+        Ok(())
+    }
+
     /// How many writes have failed.
     fn failures(&self) -> u64
         ensures { result ≡ failures self.now };

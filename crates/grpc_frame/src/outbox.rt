@@ -176,6 +176,23 @@ impl Outbox {
         written
     }
 
+    /// Writes what is gathered, and looks whether the other end is still there.
+    ///
+    /// # Errors
+    ///
+    /// `Fault::Transport` where the write failed, or where the other end is known to be gone. It is counted.
+    #[tactic(auto, using(crate::proofs::Sending::sending))]
+    pub fn look<W: Output>(&mut self, writer: &mut W) -> Result<(), Fault>
+        requires { CanFail (W.failures writer.old) }
+        ensures bytes { Sends result (W.contents writer.old) (W.contents writer.new)
+            self.old self.new [] }
+        ensures counted { CountsFailure result (W.failures writer.old) (W.failures writer.new) }
+        ensures kind { FailsByTransport result }
+    {
+        self.flush(writer)?;
+        writer.look()
+    }
+
     // Gathers the bytes where there is room, and memory, for all of them. It answers whether it did.
     fn gather(&mut self, part: &[u8]) -> bool
         ensures yes { result ≡ true → self.new ≡ self.old ++ part.now }

@@ -10,7 +10,7 @@ use Rattle.scan_base.specs.Reading.{◌>>=◌, demand}
 use Rattle.scan_base.specs.Lists.{each}
 use Rattle.arrow_schema.specs.declared.data_type.IntegerType.{IntegerType}
 use Rattle.arrow_schema.specs.declared.data_type.DataType.{DataType}
-use Rattle.arrow_schema.specs.declared.data_type.DataType.TheVariants.{Integer, Utf8, Bool, Decimal128, Dictionary}
+use Rattle.arrow_schema.specs.declared.data_type.DataType.TheVariants.{Integer, Utf8, Bool, Decimal128, Date, Dictionary}
 use Rattle.arrow_schema.specs.declared.schema.Field.{Field}
 use Rattle.arrow_schema.specs.Answer.{answer_type}
 use Rattle.arrays.specs.declared.layout.Layout.{Layout}
@@ -165,6 +165,16 @@ decimals_front dictionaries body column places (packed ∷ []) others say found 
     record { front = record { layout = v.layout; behind = v.more }; read = subst (λ (xs : List BufferPlace). front_of Decimal128 dictionaries column.len body (node_written column) xs ≡ Ok (record { layout = v.layout; behind = v.more })) (sym v.is) (rw v.read refl); behind = v.behind; values = v.values }
 decimals_front dictionaries body column places (packed ∷ more ∷ buffers) others say found = absurd say
 
+dates_front : (dictionaries : Dictionaries) (body : List ℕ) (column : ColumnAt) (places : List BufferPlace) (buffers others : List (List ℕ)) →
+    SaySlots Date (validity_read column) buffers column.len (values_of column) → each (buffer_at body) places ≡ Ok (validity_written column ∷ (buffers ++ others)) →
+    Front Date dictionaries column.len body column places others
+unfolding front_of
+dates_front dictionaries body column places [] others say found = absurd say
+dates_front dictionaries body column places (packed ∷ []) others say found =
+    let v = values_again Date body column places packed others say.0 say.1 say.2 found in
+    record { front = record { layout = v.layout; behind = v.more }; read = subst (λ (xs : List BufferPlace). front_of Date dictionaries column.len body (node_written column) xs ≡ Ok (record { layout = v.layout; behind = v.more })) (sym v.is) (rw v.read refl); behind = v.behind; values = v.values }
+dates_front dictionaries body column places (packed ∷ more ∷ buffers) others say found = absurd say
+
 pub front_again : (data_type : DataType) (dictionaries : Dictionaries) (body : List ℕ) (column : ColumnAt) (places : List BufferPlace) (others : List (List ℕ)) →
     IsColumn column → IsOfType data_type column.layout → HasShortTexts column → each (buffer_at body) places ≡ Ok (column_written column ++ others) →
     Front (answer_type data_type) dictionaries column.len body column places others
@@ -174,6 +184,8 @@ front_again Bool dictionaries body column places others stands of short found =
     bools_front dictionaries body column places (values_written column) others (slots_again Bool column stands of short) found
 front_again Decimal128 dictionaries body column places others stands of short found =
     decimals_front dictionaries body column places (values_written column) others (slots_again Decimal128 column stands of short) found
+front_again Date dictionaries body column places others stands of short found =
+    dates_front dictionaries body column places (values_written column) others (slots_again Date column stands of short) found
 front_again Utf8 dictionaries body column places others stands of short found =
     texts_front_again dictionaries body column places (values_written column) others (slots_again Utf8 column stands of short) found
 front_again (Dictionary encoding) dictionaries body column places others stands of short found =
@@ -239,6 +251,7 @@ rows_again rows read columns are same = map_same (row_of read) (row_of columns) 
 type_buffers : (data_type : DataType) (known : Layout) (column : ColumnAt) → IsOfType data_type known → suc (length (written_by known column)) ≡ buffer_count (answer_type data_type)
 type_buffers (Integer integer) (layout.Integers cells) column of = refl
 type_buffers Decimal128 (layout.Decimals cells) column of = refl
+type_buffers Date (layout.Integers cells) column of = refl
 type_buffers Bool (layout.Bools cells) column of = refl
 type_buffers Utf8 (layout.Texts cells) column of = refl
 type_buffers (Dictionary encoding) (layout.Indices cells) column of = refl

@@ -18,7 +18,7 @@ use Rattle.flatbuf.proofs.Lengths.{whole_table, short_table, fits_table}
 use Rattle.flatbuf.proofs.Led.{led_table}
 use Rattle.arrow_schema.specs.declared.header.HeaderKind.TheVariants.{DictionaryBatch}
 use Rattle.arrow_schema.specs.declared.data_type.DataType.{DataType}
-use Rattle.arrow_schema.specs.declared.data_type.DataType.TheVariants.{Integer, Utf8, Bool as Flags, Decimal128, Dictionary}
+use Rattle.arrow_schema.specs.declared.data_type.DataType.TheVariants.{Integer, Utf8, Bool as Flags, Decimal128, Date, Dictionary}
 use Rattle.arrow_schema.specs.Written.{flag}
 use Rattle.arrow_schema.specs.Header.{MessageAt, table_wanted}
 use Rattle.arrow_schema.specs.Message.{message_bytes, MessageReads}
@@ -224,6 +224,7 @@ led_own dictionaries id values (Integer integer) is = cc
 led_own dictionaries id values Utf8 is = cc
 led_own dictionaries id values Flags is = cc
 led_own dictionaries id values Decimal128 is = cc
+led_own dictionaries id values Date is = cc
 
 led_others : (dictionaries : Dictionaries) (id : ℕ) (values : List Value) (data_type : DataType) → has_id id data_type ≡ false →
     values_led_to data_type (with_values id values dictionaries) ≡ values_led_to data_type dictionaries
@@ -232,6 +233,7 @@ led_others dictionaries id values (Integer integer) other = refl
 led_others dictionaries id values Utf8 other = refl
 led_others dictionaries id values Flags other = refl
 led_others dictionaries id values Decimal128 other = refl
+led_others dictionaries id values Date other = refl
 
 pub dictionaries_again : DictionariesReadBack
 unfolding dictionary_news

@@ -10,7 +10,7 @@ use Rattle.flatbuf.specs.Layout.{Stands}
 use Rattle.flatbuf.specs.Place.{bytes_at}
 use Rattle.flatbuf.proofs.Readings.{seen_finds, seen_bytes}
 use Rattle.arrow_schema.specs.declared.data_type.DataType.{DataType}
-use Rattle.arrow_schema.specs.declared.data_type.DataType.TheVariants.{Integer, Utf8, Bool as Flags, Decimal128, Dictionary}
+use Rattle.arrow_schema.specs.declared.data_type.DataType.TheVariants.{Integer, Utf8, Bool as Flags, Decimal128, Date, Dictionary}
 use Rattle.arrow_schema.specs.declared.schema.Field.{Field}
 use Rattle.arrow_schema.proofs.Said.{bind_ok, demand_ok}
 use Rattle.arrays.specs.declared.layout.Layout.{Layout}
@@ -173,6 +173,7 @@ front_told Utf8 rows body dictionaries node places front e = texts_told rows bod
 front_told (Integer integer) rows body dictionaries node places front e = values_told (Integer integer) rows body dictionaries node places front refl refl e
 front_told Flags rows body dictionaries node places front e = values_told Flags rows body dictionaries node places front refl refl e
 front_told Decimal128 rows body dictionaries node places front e = values_told Decimal128 rows body dictionaries node places front refl refl e
+front_told Date rows body dictionaries node places front e = values_told Date rows body dictionaries node places front refl refl e
 front_told (Dictionary encoding) rows body dictionaries node places front e = values_told (Dictionary encoding) rows body dictionaries node places front refl refl e
 
 -- what is read of a column's buffers
@@ -224,6 +225,7 @@ front_read Utf8 rows body dictionaries node places column h = texts_read rows bo
 front_read (Integer integer) rows body dictionaries node places column h = values_read (Integer integer) rows body dictionaries node places column refl h
 front_read Flags rows body dictionaries node places column h = values_read Flags rows body dictionaries node places column refl h
 front_read Decimal128 rows body dictionaries node places column h = values_read Decimal128 rows body dictionaries node places column refl h
+front_read Date rows body dictionaries node places column h = values_read Date rows body dictionaries node places column refl h
 front_read (Dictionary encoding) rows body dictionaries node places column h = values_read (Dictionary encoding) rows body dictionaries node places column refl h
 
 -- ---- all columns

@@ -5,7 +5,7 @@ use Rattle.flatbuf.proofs.Standing.{stands_within}
 use Rattle.arrow_schema.specs.declared.data_type.IntegerType.{IntegerType}
 use Rattle.arrow_schema.specs.declared.data_type.IntegerType.TheVariants.{Int8, Int16, Int32, Int64, UInt8, UInt16, UInt32, UInt64}
 use Rattle.arrow_schema.specs.declared.data_type.DataType.{DataType}
-use Rattle.arrow_schema.specs.declared.data_type.DataType.TheVariants.{Integer, Utf8, Bool as Flags, Decimal128, Dictionary}
+use Rattle.arrow_schema.specs.declared.data_type.DataType.TheVariants.{Integer, Utf8, Bool as Flags, Decimal128, Date, Dictionary}
 use Rattle.arrow_schema.proofs.Said.{bind_ok, demand_ok}
 use Rattle.scan_base.specs.declared.value.Value.{Value}
 use Rattle.arrays.specs.declared.layout.Layout.{Layout}
@@ -68,6 +68,11 @@ values_room Decimal128 dictionary bits packed rows layout e =
     let c = bind_ok (demand (nat_le (16 * rows) (length packed)) BadBatch) _ a.0 b.2 in
     let room = leb-true (16 * rows) (length packed) (demand_ok (nat_le (16 * rows) (length packed)) BadBatch c.0 c.1) in
     omega arith
+values_room Date dictionary bits packed rows layout e =
+    let a = bind_ok (integers_of Int32 bits packed rows) _ layout e in
+    let b = bind_ok (validity_of bits rows) _ a.0 a.1 in
+    let c = bind_ok (demand (nat_le (byte_width Int32 * rows) (length packed)) BadBatch) _ a.0 b.2 in
+    integers_room Int32 rows (length packed) (leb-true (byte_width Int32 * rows) (length packed) (demand_ok (nat_le (byte_width Int32 * rows) (length packed)) BadBatch c.0 c.1))
 values_room (Dictionary encoding) dictionary bits packed rows layout e =
     let a = bind_ok (indices_of encoding.index bits packed dictionary rows) _ layout e in
     let b = bind_ok (validity_of bits rows) _ a.0 a.1 in
@@ -109,6 +114,7 @@ layout_room source Utf8 own bits layout h =
 layout_room source (Integer integer) own bits layout h = held_room source (Integer integer) own bits layout h
 layout_room source Flags own bits layout h = held_room source Flags own bits layout h
 layout_room source Decimal128 own bits layout h = held_room source Decimal128 own bits layout h
+layout_room source Date own bits layout h = held_room source Date own bits layout h
 layout_room source (Dictionary encoding) own bits layout h = held_room source (Dictionary encoding) own bits layout h
 
 few_rows : (body : List ℕ) (source : BatchBody) (t : DataType) (node : FieldNode) (own : ℕ → Option BufferPlace) (column : ColumnAt) →

@@ -8,8 +8,9 @@ use Rattle.scan_base.specs.declared.fault.Fault.TheVariants.{BadBatch}
 use Rattle.scan_base.specs.declared.value.Value.{Value}
 use Rattle.scan_base.specs.Reading.{◌>>=◌, demand}
 use Rattle.arrow_schema.specs.declared.data_type.IntegerType.{IntegerType}
+use Rattle.arrow_schema.specs.declared.data_type.IntegerType.TheVariants.{Int32}
 use Rattle.arrow_schema.specs.declared.data_type.DataType.{DataType}
-use Rattle.arrow_schema.specs.declared.data_type.DataType.TheVariants.{Integer, Utf8, Bool as Flags, Decimal128, Dictionary}
+use Rattle.arrow_schema.specs.declared.data_type.DataType.TheVariants.{Integer, Utf8, Bool as Flags, Decimal128, Date, Dictionary}
 use Rattle.arrow_schema.specs.declared.schema.Field.{Field}
 use Rattle.arrow_schema.specs.Header.{MessageAt, header_of}
 use Rattle.arrow_schema.proofs.Said.{bind_ok, demand_ok}
@@ -83,6 +84,7 @@ layout_bad (Integer integer) dictionary validity values len = only_then IsBad (i
 layout_bad Utf8 dictionary validity values len = refl
 layout_bad Flags dictionary validity values len = only_then IsBad (bools_of validity values len) _ (bools_bad validity values len) (λ cells. tt)
 layout_bad Decimal128 dictionary validity values len = only_then IsBad (decimals_of validity values len) _ (decimals_bad validity values len) (λ cells. tt)
+layout_bad Date dictionary validity values len = only_then IsBad (integers_of Int32 validity values len) _ (integers_bad Int32 validity values len) (λ cells. tt)
 layout_bad (Dictionary encoding) dictionary validity values len =
     only_then IsBad (indices_of encoding.index validity values dictionary len) _ (indices_bad encoding.index validity values dictionary len) (λ cells. tt)
 
@@ -135,6 +137,7 @@ front_bad Utf8 dictionaries rows body node places = texts_front_bad rows body no
 front_bad (Integer integer) dictionaries rows body node places = values_front_bad (Integer integer) [] rows body node places
 front_bad Flags dictionaries rows body node places = values_front_bad Flags [] rows body node places
 front_bad Decimal128 dictionaries rows body node places = values_front_bad Decimal128 [] rows body node places
+front_bad Date dictionaries rows body node places = values_front_bad Date [] rows body node places
 front_bad (Dictionary encoding) dictionaries rows body node places =
     values_front_bad (Dictionary encoding) (values_led_to (Dictionary encoding) dictionaries) rows body node places
 
@@ -220,6 +223,7 @@ front_placed Utf8 dictionaries rows body node places front e = texts_placed rows
 front_placed (Integer integer) dictionaries rows body node places front e = values_placed (Integer integer) [] rows body node places front e
 front_placed Flags dictionaries rows body node places front e = values_placed Flags [] rows body node places front e
 front_placed Decimal128 dictionaries rows body node places front e = values_placed Decimal128 [] rows body node places front e
+front_placed Date dictionaries rows body node places front e = values_placed Date [] rows body node places front e
 front_placed (Dictionary encoding) dictionaries rows body node places front e =
     values_placed (Dictionary encoding) (values_led_to (Dictionary encoding) dictionaries) rows body node places front e
 

@@ -4,8 +4,9 @@ use Rattle.scan_base.specs.declared.fault.Fault.TheVariants.{BadBatch}
 use Rattle.scan_base.specs.declared.value.Value.{Value}
 use Rattle.scan_base.specs.Reading.{◌>>=◌, demand}
 use Rattle.arrow_schema.specs.declared.data_type.IntegerType.{IntegerType}
+use Rattle.arrow_schema.specs.declared.data_type.IntegerType.TheVariants.{Int32}
 use Rattle.arrow_schema.specs.declared.data_type.DataType.{DataType}
-use Rattle.arrow_schema.specs.declared.data_type.DataType.TheVariants.{Integer, Utf8, Bool as Flags, Decimal128, Dictionary}
+use Rattle.arrow_schema.specs.declared.data_type.DataType.TheVariants.{Integer, Utf8, Bool as Flags, Decimal128, Date, Dictionary}
 use Rattle.arrow_schema.specs.declared.schema.Field.{Field}
 use Rattle.arrays.specs.declared.layout.Layout.{Layout}
 use Rattle.arrays.specs.declared.layout.Layout.TheVariants as layout
@@ -52,6 +53,10 @@ layout_typed Decimal128 dictionary validity values len found e =
     let a = both (decimals_of validity values len) (λ (cells : DecimalsAt). fine (layout.Decimals cells)) found e in
     let same : layout.Decimals a.0 ≡ found = let b = a.2 in cc in
     subst (IsOfType Decimal128) same tt
+layout_typed Date dictionary validity values len found e =
+    let a = both (integers_of Int32 validity values len) (λ (cells : IntegersAt). fine (layout.Integers cells)) found e in
+    let same : layout.Integers a.0 ≡ found = let b = a.2 in cc in
+    subst (IsOfType Date) same (integers_typed Int32 validity values len a.0 a.1)
 layout_typed (Dictionary encoding) dictionary validity values len found e =
     let a = both (indices_of encoding.index validity values dictionary len) (λ (cells : IndicesAt). fine (layout.Indices cells)) found e in
     let same : layout.Indices a.0 ≡ found = let b = a.2 in cc in
@@ -92,6 +97,7 @@ front_typed Utf8 dictionaries rows body node places front e = texts_typed rows b
 front_typed (Integer integer) dictionaries rows body node places front e = values_typed (Integer integer) [] rows body node places front e
 front_typed Flags dictionaries rows body node places front e = values_typed Flags [] rows body node places front e
 front_typed Decimal128 dictionaries rows body node places front e = values_typed Decimal128 [] rows body node places front e
+front_typed Date dictionaries rows body node places front e = values_typed Date [] rows body node places front e
 front_typed (Dictionary encoding) dictionaries rows body node places front e =
     values_typed (Dictionary encoding) (values_led_to (Dictionary encoding) dictionaries) rows body node places front e
 

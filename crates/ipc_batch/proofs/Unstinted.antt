@@ -11,8 +11,8 @@ use Rattle.flatbuf.specs.Layout.{TableAt, VectorAt}
 use Rattle.flatbuf.specs.Place.{number_at, target_of, vtable_of, field_of, scalar_at, scalar_of, led_from, through, table_of, vector_of, element_of, items_at, text_of}
 use Rattle.arrow_schema.specs.declared.data_type.IntegerType.TheVariants.{Int8, Int16, Int32, Int64, UInt8, UInt16, UInt32, UInt64}
 use Rattle.arrow_schema.specs.declared.data_type.DataType.{DataType}
-use Rattle.arrow_schema.specs.declared.data_type.DataType.TheVariants.{Integer, Utf8, Bool as Flags, Decimal128, Dictionary}
-use Rattle.arrow_schema.specs.Fields.{table_wanted, vector_wanted, meaning_of, name_of, integer_type, integer_of, decimal_of, type_of, value_type_of, is_bare, childless, index_of, dictionary_of, encoded, field_in}
+use Rattle.arrow_schema.specs.declared.data_type.DataType.TheVariants.{Integer, Utf8, Bool as Flags, Decimal128, Date, Dictionary}
+use Rattle.arrow_schema.specs.Fields.{table_wanted, vector_wanted, meaning_of, name_of, integer_type, integer_of, decimal_of, date_of, type_of, value_type_of, is_bare, childless, index_of, dictionary_of, encoded, field_in}
 use Rattle.arrow_schema.specs.Header.{MessageAt, header_of, body_length_of, field_at, fields_of, same_dictionary, schema_in}
 use Rattle.arrow_schema.specs.declared.header.HeaderKind.{HeaderKind}
 use Rattle.arrow_schema.specs.declared.header.HeaderKind.TheVariants as header
@@ -141,6 +141,12 @@ decimal table =
     (λ scale. only_then IsOther (scalar_of 4 table 2 128) _ (scalar 4 table 2 128)
     (λ bits. only_then IsOther (demand ((precision == 38) && (scale == 0) && (bits == 128)) UnsupportedArrow) _ (only_demand IsOther ((precision == 38) && (scale == 0) && (bits == 128)) UnsupportedArrow unsupported) (λ _. tt))))
 
+date : (table : TableAt) → Only IsOther (date_of table)
+unfolding date_of
+date table =
+    only_then IsOther (scalar_of 2 table 0 1) _ (scalar 2 table 0 1)
+    (λ unit. only_then IsOther (demand (unit == 0) UnsupportedArrow) _ (only_demand IsOther (unit == 0) UnsupportedArrow unsupported) (λ _. tt))
+
 -- what is read behind a value, or behind the rest
 chosen : {A B : Type 0} (here : Bool) (x : A) (rest : Result A Fault) (next : A → Result B Fault) → Only IsOther (next x) → Only IsOther (rest >>= next) → Only IsOther ((if here then Ok x else rest) >>= next)
 chosen true x rest next one other = one
@@ -155,7 +161,8 @@ value_type table =
     (λ number. chosen (number == 2) _ _ _ (only_then IsOther (table_wanted table 3) _ (table_has table 3) (λ found. only_then IsOther (integer_of found) _ (integer found) (λ integer. tt)))
     (chosen (number == 5) _ _ _ (only_then IsOther (table_wanted table 3) _ (table_has table 3) (λ found. tt))
     (chosen (number == 6) _ _ _ (only_then IsOther (table_wanted table 3) _ (table_has table 3) (λ found. tt))
-    (chosen (number == 7) _ _ _ (only_then IsOther (table_wanted table 3) _ (table_has table 3) (λ found. decimal found)) unsupported))))))
+    (chosen (number == 7) _ _ _ (only_then IsOther (table_wanted table 3) _ (table_has table 3) (λ found. decimal found))
+    (chosen (number == 8) _ _ _ (only_then IsOther (table_wanted table 3) _ (table_has table 3) (λ found. date found)) unsupported)))))))
 
 children : (field : TableAt) → Only IsOther (childless field)
 unfolding childless
@@ -180,6 +187,7 @@ encoding Utf8 (Some table) = dictionary table
 encoding (Integer width) (Some table) = unsupported
 encoding Flags (Some table) = unsupported
 encoding Decimal128 (Some table) = unsupported
+encoding Date (Some table) = unsupported
 encoding (Dictionary other) (Some table) = unsupported
 
 column : (field : TableAt) → Only IsOther (field_in field)

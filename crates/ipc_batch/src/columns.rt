@@ -13,7 +13,7 @@ ghost use Rattle.ipc_batch.specs.inside.Seen.{parts_seen, front_seen};
 use crate::dictionaries::Dictionaries;
 use crate::parts::{BufferPlace, FieldNode, Parts, buffer, check_place};
 use arrays::{Column, Slots, Texts};
-use arrow_schema::{DataType, Field};
+use arrow_schema::{DataType, Field, IntegerType};
 use bytes::Bytes;
 use scan_base::Fault;
 use std::alloc::Global;
@@ -138,6 +138,7 @@ fn layout(
         DataType::Integer(integer) => Slots::integers(integer, bits, packed, rows)?,
         DataType::Bool => Slots::bools(bits, packed, rows)?,
         DataType::Decimal128 => Slots::decimals(bits, packed, rows)?,
+        DataType::Date => Slots::integers(IntegerType::Int32, bits, packed, rows)?,
         DataType::Dictionary(encoding) => {
             let dictionary = source.dictionaries.get(alloc, encoding.id)?;
             Slots::indices(encoding.index, bits, packed, dictionary, rows)?

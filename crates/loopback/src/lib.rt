@@ -4,11 +4,54 @@
 ghost use Rattle.std.specs.Prelude.{◌≡◌, IfOk};
 
 use command_ends::{Connect, Listen};
-use grpc_frame::Counted;
+use grpc_frame::{Counted, Output};
+use scan_base::Fault;
 use std::io;
 use std::io::ErrorKind;
 use std::net::{Ipv4Addr, Net, TcpListener, TcpStream};
 use std::time::Duration;
+
+/// The end of a stream that is written to. It can look whether the other end is still there.
+#[derive(Drop)]
+pub struct SocketWriter {
+    counted: Counted<TcpStream>,
+}
+
+impl Output for SocketWriter {
+    ghost failures = { λ s. s.counted.failures };
+
+    fn write(&mut self, piece: &[u8]) -> Result<(), Fault> {
+        self.counted.write(piece)
+    }
+
+    fn look(&mut self) -> Result<(), Fault> {
+        if is_there(self.counted.get_ref()) {
+            return Ok(());
+        }
+        self.counted.count_failure();
+        Err(Fault::Transport)
+    }
+
+    fn failures(&self) -> u64 {
+        self.counted.failures()
+    }
+}
+
+// Whether the other end may still be there: it did not end what it sends, and the stream has no error. No byte is taken, and
+// it does not wait. Nothing else may read or write the stream meanwhile.
+fn is_there(stream: &TcpStream) -> bool {
+    if stream.set_nonblocking(true).is_err() {
+        return false;
+    }
+    let peeked = stream.peek(&mut [0]);
+    if stream.set_nonblocking(false).is_err() {
+        return false;
+    }
+    match peeked {
+        Ok(count) => count > 0,
+        Err(error) => matches!(error.kind(), ErrorKind::WouldBlock | ErrorKind::Interrupted),
+    }
+}
 
 /// Connects to servers of this machine.
 #[derive(Drop)]
@@ -26,13 +69,13 @@ impl<'a, R> Loopback<'a, R> {
 impl<R: Net<Listener = TcpListener, Stream = TcpStream>> Connect for Loopback<'_, R> {
     type Reader = Counted<TcpStream>;
 
-    type Writer = Counted<TcpStream>;
+    type Writer = SocketWriter;
 
     ghost connects = { λ _ _ _ _. Unit {0} };
 
     ghost shares = { λ _ _ _. Unit {0} };
 
-    fn connect(&mut self, port: u16) -> io::Result<(Counted<TcpStream>, Counted<TcpStream>)> {
+    fn connect(&mut self, port: u16) -> io::Result<(Counted<TcpStream>, SocketWriter)> {
         ends_of(TcpStream::connect(self.rt, (Ipv4Addr::LOCALHOST, port))?)
     }
 
@@ -69,7 +112,7 @@ impl<'a, R> Port<'a, R> {
 impl<R: Net<Listener = TcpListener, Stream = TcpStream>> Listen for Port<'_, R> {
     type Reader = Counted<TcpStream>;
 
-    type Writer = Counted<TcpStream>;
+    type Writer = SocketWriter;
 
     ghost listens = { λ _ _ _ _. Unit {0} };
 
@@ -95,7 +138,7 @@ impl<R: Net<Listener = TcpListener, Stream = TcpStream>> Listen for Port<'_, R> 
         })
     }
 
-    fn accept(&mut self) -> io::Result<(Counted<TcpStream>, Counted<TcpStream>)> {
+    fn accept(&mut self) -> io::Result<(Counted<TcpStream>, SocketWriter)> {
         let Some(listener) = &self.listener else {
             return Err(io::Error::from(ErrorKind::NotConnected));
         };
@@ -107,11 +150,11 @@ impl<R: Net<Listener = TcpListener, Stream = TcpStream>> Listen for Port<'_, R> 
 }
 
 // The ends of a stream. What is written goes out at once.
-fn ends_of(stream: TcpStream) -> io::Result<(Counted<TcpStream>, Counted<TcpStream>)>
+fn ends_of(stream: TcpStream) -> io::Result<(Counted<TcpStream>, SocketWriter)>
     ensures reads { IfOk result (λ ends. ends.0.failures ≡ 0) }
-    ensures writes { IfOk result (λ ends. ends.1.failures ≡ 0) }
+    ensures writes { IfOk result (λ ends. ends.1.counted.failures ≡ 0) }
 {
     stream.set_nodelay(true)?;
-    let other = stream.try_clone()?;
-    Ok((Counted::new(stream), Counted::new(other)))
+    let counted = Counted::new(stream.try_clone()?);
+    Ok((Counted::new(stream), SocketWriter { counted }))
 }

@@ -38,7 +38,7 @@ impl PlaceColumns<'_> {
     {
         match operand {
             Operand::Column(column) => self.has(*column),
-            Operand::Literal(_) => true,
+            Operand::Literal(_) | Operand::Date(_) => true,
         }
     }
 

@@ -12,7 +12,7 @@ use Rattle.sql_query.specs.declared.query.Join.{Join}
 use Rattle.sql_query.specs.declared.query.Place.{Place}
 use Rattle.table_versions.specs.Database.{Database}
 use Rattle.typed_plan.specs.declared.class.Class.{Class}
-use Rattle.typed_plan.specs.declared.class.Class.TheVariants.{Number, Text, Truth}
+use Rattle.typed_plan.specs.declared.class.Class.TheVariants.{Number, Text, Truth, Date}
 use Rattle.query_binder.specs.Bound.{crosses, equality_fault, joins_fault}
 use Rattle.typed_plan.specs.Faults.{◌then◌, must, first_in, compare_fault}
 use Rattle.query_binder.specs.NameClasses.{class_of_name}
@@ -34,12 +34,19 @@ compare_turned : (a b : Result Class Fault) → compare_fault a b ≡ None → c
 compare_turned (Ok Number) (Ok Number) e = refl
 compare_turned (Ok Number) (Ok Text) e = cc
 compare_turned (Ok Number) (Ok Truth) e = cc
+compare_turned (Ok Number) (Ok Date) e = cc
 compare_turned (Ok Text) (Ok Number) e = cc
 compare_turned (Ok Text) (Ok Text) e = refl
 compare_turned (Ok Text) (Ok Truth) e = cc
+compare_turned (Ok Text) (Ok Date) e = cc
 compare_turned (Ok Truth) (Ok Number) e = cc
 compare_turned (Ok Truth) (Ok Text) e = cc
 compare_turned (Ok Truth) (Ok Truth) e = refl
+compare_turned (Ok Truth) (Ok Date) e = cc
+compare_turned (Ok Date) (Ok Number) e = cc
+compare_turned (Ok Date) (Ok Text) e = cc
+compare_turned (Ok Date) (Ok Truth) e = cc
+compare_turned (Ok Date) (Ok Date) e = refl
 compare_turned (Ok a) (Err fault) e = cc
 compare_turned (Err fault) b e = cc
 

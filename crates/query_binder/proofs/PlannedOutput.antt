@@ -7,7 +7,7 @@ use Rattle.std.proofs.lemmas.Bool.{and_from, or_parts, eqb-true, eq-eqb, lt-ltb,
 use Rattle.std.proofs.lemmas.Option.{slice_get-map}
 use Rattle.std.proofs.Math.Numerals.{one-add}
 use Rattle.arrow_schema.specs.declared.data_type.DataType.{DataType}
-use Rattle.arrow_schema.specs.declared.data_type.DataType.TheVariants.{Integer, Utf8, Bool as Flag, Decimal128}
+use Rattle.arrow_schema.specs.declared.data_type.DataType.TheVariants.{Integer, Utf8, Bool as Flag, Decimal128, Date}
 use Rattle.arrow_schema.specs.declared.data_type.DataType.TheVariants.{Dictionary}
 use Rattle.arrow_schema.specs.Answer.{answer_type, answer_field}
 use Rattle.scan_base.specs.declared.fault.Fault.{Fault}
@@ -65,6 +65,7 @@ can_sum_answered (Integer integer) = refl
 can_sum_answered Utf8 = refl
 can_sum_answered Flag = refl
 can_sum_answered Decimal128 = refl
+can_sum_answered Date = refl
 can_sum_answered (Dictionary encoding) = refl
 
 -- Without groups

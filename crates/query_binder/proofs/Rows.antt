@@ -5,9 +5,9 @@ use Rattle.std.proofs.Common.{arith}
 use Rattle.std.specs.Fmt.{decimal}
 use Rattle.std.proofs.lemmas.Fmt.{decimal_digit}
 use Rattle.arrow_schema.specs.declared.data_type.DataType.{DataType}
-use Rattle.arrow_schema.specs.declared.data_type.DataType.TheVariants.{Integer, Utf8, Bool as Flag, Decimal128}
+use Rattle.arrow_schema.specs.declared.data_type.DataType.TheVariants.{Integer, Utf8, Bool as Flag, Decimal128, Date}
 use Rattle.arrow_schema.specs.declared.data_type.DataType.TheVariants.{Dictionary}
-use Rattle.arrow_schema.specs.declared.data_type.IntegerType.TheVariants.{Int8, Int64, UInt64}
+use Rattle.arrow_schema.specs.declared.data_type.IntegerType.TheVariants.{Int8, Int32, Int64, UInt64}
 use Rattle.arrow_schema.specs.declared.schema.Field.{Field}
 use Rattle.arrow_schema.specs.declared.schema.Schema.{Schema}
 use Rattle.scan_base.specs.declared.comparison.Comparison.TheVariants.{Less, Equal, Greater}
@@ -303,6 +303,27 @@ sum_of_texts = refl
 
 sum_of_decimals : rules_fault (from_t (select.List (item (Sum a) ∷ []))) (t_of Decimal128 []) ≡ Some TypeClash
 sum_of_decimals = refl
+
+sum_of_dates : rules_fault (from_t (select.List (item (Sum a) ∷ []))) (t_of Date []) ≡ Some TypeClash
+sum_of_dates = refl
+
+-- ---- dates: of a class of their own
+
+-- a < DATE '1994-01-01', which is the day 8766
+abbrev before_1994 : Pred ColumnName
+before_1994 = comparing Less (operand.Column a) (operand.Date (pos 8766))
+
+some_dates : whole_meaning (all_where before_1994) (t_of Date (int 8000 ∷ Null ∷ int 8766 ∷ [])) ≡ (int 8000 ∷ []) ∷ []
+some_dates = refl
+
+dates : fault_of (all_where before_1994) (t_of Date []) ≡ None
+dates = refl
+
+date_of_numbers : fault_of (all_where before_1994) (t_of (Integer Int32) []) ≡ Some TypeClash
+date_of_numbers = refl
+
+text_of_dates : fault_of (all_where (comparing Equal (operand.Column a) (operand.Literal (text (codes "1994-01-01"))))) (t_of Date []) ≡ Some TypeClash
+text_of_dates = refl
 
 -- joins and groups are bound
 a_join : fault_of t_join_u t_and_u ≡ None

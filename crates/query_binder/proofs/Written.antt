@@ -11,7 +11,7 @@ use Rattle.std.proofs.lemmas.List.Elements.{All-nil, All-cons, All-head, All-tai
 use Rattle.std.proofs.lemmas.Option.{slice_get-get_or}
 use Rattle.std.proofs.lemmas.Str.{IsAscii-append, IsUtf8-from_ascii}
 use Rattle.arrow_schema.specs.declared.data_type.DataType.{DataType}
-use Rattle.arrow_schema.specs.declared.data_type.DataType.TheVariants.{Integer, Utf8, Bool as Flag, Decimal128}
+use Rattle.arrow_schema.specs.declared.data_type.DataType.TheVariants.{Integer, Utf8, Bool as Flag, Decimal128, Date}
 use Rattle.arrow_schema.specs.declared.data_type.DataType.TheVariants.{Dictionary}
 use Rattle.arrow_schema.specs.declared.schema.Field.{Field}
 use Rattle.arrow_schema.specs.Answer.{answer_type, answer_field}
@@ -55,6 +55,7 @@ type_answered (Integer integer) = (tt, tt)
 type_answered Utf8 = (tt, tt)
 type_answered Flag = (tt, tt)
 type_answered Decimal128 = (tt, tt)
+type_answered Date = (tt, tt)
 type_answered (Dictionary encoding) = (tt, tt)
 
 -- the name is the alias where there is one
@@ -75,6 +76,7 @@ apart_from data_type p (other ∷ fields) =
     unshared Utf8 other q = refl
     unshared Flag other q = refl
     unshared Decimal128 other q = refl
+    unshared Date other q = refl
     unshared (Dictionary encoding) other q = absurd q
 
 apart : (fields : List Field) → All IsAnswer fields → repeats same_dictionary fields ≡ false

@@ -173,7 +173,11 @@ fn can_sum(data_type: DataType) -> bool
 {
     match data_type {
         DataType::Integer(_) => true,
-        DataType::Utf8 | DataType::Dictionary(_) | DataType::Bool | DataType::Decimal128 => false,
+        DataType::Utf8
+        | DataType::Dictionary(_)
+        | DataType::Bool
+        | DataType::Decimal128
+        | DataType::Date => false,
     }
 }
 

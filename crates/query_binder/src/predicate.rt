@@ -31,6 +31,7 @@ fn operand_class(scope: &Scope<'_>, operand: &Operand<ColumnName>) -> Result<Cla
     match operand {
         Operand::Column(name) => name_class(scope, name),
         Operand::Literal(value) => Ok(Class::of_value(value)),
+        Operand::Date(_) => Ok(Class::Date),
     }
 }
 
@@ -52,6 +53,7 @@ fn number_operand(scope: &Scope<'_>, operand: &Operand<ColumnName>) -> Result<Op
     match operand {
         Operand::Column(name) => Ok(Operand::Column(scope.column_of(name)?)),
         Operand::Literal(value) => Ok(Operand::Literal(value.copy()?)),
+        Operand::Date(day) => Ok(Operand::Date(*day)),
     }
 }
 

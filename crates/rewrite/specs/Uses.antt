@@ -1,7 +1,7 @@
 -- Inside: columns that are marked as used, one by one.
 use Rattle.std.specs.Prelude.{ℕ, Bool, true, false, List, [], ◌∷◌, ◌++◌, length, take, drop, replicate, slice_set}
 use Rattle.scan_base.specs.declared.predicate.Operand.{Operand}
-use Rattle.scan_base.specs.declared.predicate.Operand.TheVariants.{Column, Literal}
+use Rattle.scan_base.specs.declared.predicate.Operand.TheVariants.{Column, Literal, Date}
 use Rattle.scan_base.specs.Predicate.{Pred, conjunction, disjunction, negation, truth_test, comparing, between, membership, null_test, constant}
 use Rattle.rewrite.specs.Places.{tree_width}
 use Rattle.typed_plan.specs.Plan.{Tree, scan, filtered, joined}
@@ -25,6 +25,7 @@ with_columns (number ∷ numbers) uses = with_columns numbers (with_column numbe
 abbrev pub with_operand : Operand ℕ → List Bool → List Bool
 with_operand (Column number) uses = with_column number uses
 with_operand (Literal value) uses = uses
+with_operand (Date day) uses = uses
 
 abbrev pub with_operands : List (Operand ℕ) → List Bool → List Bool
 with_operands [] uses = uses

@@ -34,7 +34,7 @@ fn mark_operand(uses: &mut [bool], operand: &Operand<usize>)
 {
     match operand {
         Operand::Column(column) => mark(uses, *column),
-        Operand::Literal(_) => {}
+        Operand::Literal(_) | Operand::Date(_) => {}
     }
 }
 

@@ -6,8 +6,9 @@ use Rattle.std.proofs.lemmas.List.{drop_more, take_rest}
 use Rattle.std.proofs.lemmas.List.FromFn.{length-map-range_with_len, get_or-map-range_with_len}
 use Rattle.arrow_schema.specs.declared.schema.Field.{Field}
 use Rattle.arrays.specs.Batch.{BatchAt, row_of, rows_of}
-use Rattle.arrays.specs.Column.{ColumnAt, slot_of}
-use Rattle.row_lines.specs.Lines.{escaped, shown, next_cell, header_line, row_line}
+use Rattle.arrays.specs.Column.{ColumnAt}
+use Rattle.row_lines.specs.Lines.{escaped, shown_as, next_cell, line_of, header_line, row_line}
+use Rattle.row_lines.proofs.Cells.{cells_at, cells_long, first_cell}
 
 -- a list is its first item and the others
 first_and_others : {X : Type 0} (xs : List X) (x : X) → 1 ≤ length xs → x ≡ get_or xs 0 x → xs ≡ x ∷ take (length xs - 1) (drop 1 xs)
@@ -15,6 +16,12 @@ first_and_others xs x some is =
     drop_more xs 0 x (omega (arith, some))
     ∙ ap (λ y. y ∷ drop 1 xs) (sym is)
     ∙ ap (λ l. x ∷ l) (sym (take_rest xs 1))
+
+-- the line of a row without columns
+pub empty_line : (fields : List Field) (columns : List ColumnAt) (place : ℕ) → length columns < 1 → row_line fields (row_of columns place) ≡ codes "\n"
+empty_line [] [] place few = refl
+empty_line (field ∷ fields) [] place few = refl
+empty_line fields (column ∷ columns) place few = absurd (omega (arith, few))
 
 -- ---- a line of names
 
@@ -47,33 +54,14 @@ module _ (fields : List Field) (first : Field) (some : 1 ≤ length fields) (is 
 
 -- ---- a line of values
 
--- a column's value behind another one
-abbrev pub value_cell : ℕ → ColumnAt → List ℕ
-value_cell place column = next_cell (shown (slot_of column place))
+line_parts : (cells : List (List ℕ)) → 1 ≤ length cells → line_of cells ≡ first_cell cells ++ (flat_map next_cell (drop 1 cells) ++ codes "\n")
+line_parts [] some = absurd (omega (arith, some))
+line_parts (cell ∷ cells) some = refl
 
-value_cells : (columns : List ColumnAt) (place : ℕ) → flat_map next_cell (map shown (row_of columns place)) ≡ flat_map (value_cell place) columns
-value_cells [] place = refl
-value_cells (column ∷ columns) place = ap (λ (l : List ℕ). value_cell place column ++ l) (value_cells columns place)
-
--- the first column's value
-abbrev pub first_value : ℕ → List ColumnAt → List ℕ
-first_value place [] = []
-first_value place (column ∷ columns) = shown (slot_of column place)
-
-line_of_values : (first : ColumnAt) (others : List ColumnAt) (place : ℕ)
-    → row_line (row_of (first ∷ others) place) ≡ shown (slot_of first place) ++ (flat_map (value_cell place) others ++ codes "\n")
-line_of_values first others place = ap (λ (l : List ℕ). shown (slot_of first place) ++ (l ++ codes "\n")) (value_cells others place)
-
-module _ (columns : List ColumnAt) (place : ℕ) (first : ColumnAt) (some : 1 ≤ length columns) (is : first ≡ get_or columns 0 first) where
-  pub first_value_is : first_value place columns ≡ shown (slot_of first place)
-  first_value_is = ap (first_value place) (first_and_others columns first some is)
-
-  -- the first value, the others, and LF
-  pub row_is : row_line (row_of columns place) ≡ first_value place columns ++ (flat_map (value_cell place) (take (length columns - 1) (drop 1 columns)) ++ codes "\n")
-  row_is =
-      ap (λ l. row_line (row_of l place)) (first_and_others columns first some is)
-      ∙ line_of_values first (take (length columns - 1) (drop 1 columns)) place
-      ∙ ap (λ (l : List ℕ). l ++ (flat_map (value_cell place) (take (length columns - 1) (drop 1 columns)) ++ codes "\n")) (sym first_value_is)
+-- the first cell, the others, and LF
+pub row_is : (fields : List Field) (columns : List ColumnAt) (place : ℕ) → 1 ≤ length columns → row_line fields (row_of columns place)
+    ≡ first_cell (cells_at shown_as fields columns place) ++ (flat_map next_cell (drop 1 (cells_at shown_as fields columns place)) ++ codes "\n")
+row_is fields columns place some = line_parts (cells_at shown_as fields columns place) (omega (arith, cells_long shown_as fields columns place, some))
 
 -- ---- the rows of batches
 
@@ -85,11 +73,11 @@ row_at batch place inside =
     sym (get_or-map-range_with_len (row_of batch.columns) 0 batch.rows place place (row_of batch.columns place) inside (omega arith))
 
 -- the lines of a batch
-abbrev pub batch_lines : BatchAt → List ℕ
-batch_lines batch = flat_map row_line (rows_of batch)
+abbrev pub batch_lines : List Field → BatchAt → List ℕ
+batch_lines fields batch = flat_map (row_line fields) (rows_of batch)
 
-pub all_lines : (batches : List BatchAt) → flat_map batch_lines batches ≡ flat_map row_line (flat_map rows_of batches)
-all_lines [] = refl
-all_lines (batch ∷ batches) =
-    ap (λ (l : List ℕ). batch_lines batch ++ l) (all_lines batches)
-    ∙ sym (flat_map-append row_line (rows_of batch) (flat_map rows_of batches))
+pub all_lines : (fields : List Field) (batches : List BatchAt) → flat_map (batch_lines fields) batches ≡ flat_map (row_line fields) (flat_map rows_of batches)
+all_lines fields [] = refl
+all_lines fields (batch ∷ batches) =
+    ap (λ (l : List ℕ). batch_lines fields batch ++ l) (all_lines fields batches)
+    ∙ sym (flat_map-append (row_line fields) (rows_of batch) (flat_map rows_of batches))

@@ -1,10 +1,12 @@
 -- Worked rows: the definitions, tried on lines that were worked out by hand.
-use Rattle.std.proofs.Common.{◌≡◌, pos, negsuc, true, false, List, [], ◌∷◌, codes, refl}
+use Rattle.std.proofs.Common.{◌≡◌, ℕ, pos, negsuc, true, false, List, [], ◌∷◌, ◌++◌, codes, refl, ap}
 use Rattle.std.specs.Fmt.{digits}
 use Rattle.scan_base.specs.declared.value.Value.{Value}
 use Rattle.scan_base.specs.declared.value.Value.TheVariants.{Null, Bool as Flag, Int, Text}
-use Rattle.arrow_schema.specs.declared.data_type.DataType.TheVariants.{Utf8, Decimal128}
+use Rattle.arrow_schema.specs.declared.data_type.DataType.TheVariants.{Utf8, Decimal128, Date}
+use Rattle.arrow_schema.specs.declared.schema.Field.{Field}
 use Rattle.arrow_schema.specs.declared.schema.Schema.{Schema}
+use Rattle.calendar.proofs.Rows.{row_shown, before_shown}
 use Rattle.row_lines.specs.Lines.{shown, line_of, row_line, lines_of, name_line}
 
 -- ---- groups of a text, with their counts
@@ -28,10 +30,10 @@ no_rows = refl
 
 -- ---- values
 
-truths : row_line (Flag true ∷ Flag false ∷ Null ∷ []) ≡ codes "TRUE\tFALSE\tNULL\n"
+truths : row_line [] (Flag true ∷ Flag false ∷ Null ∷ []) ≡ codes "TRUE\tFALSE\tNULL\n"
 truths = refl
 
-numbers : row_line (Int (pos 0) ∷ Int (negsuc 127) ∷ Int (pos 36893488147419103230) ∷ []) ≡ codes "0\t-128\t36893488147419103230\n"
+numbers : row_line [] (Int (pos 0) ∷ Int (negsuc 127) ∷ Int (pos 36893488147419103230) ∷ []) ≡ codes "0\t-128\t36893488147419103230\n"
 unfolding digits
 numbers = refl
 
@@ -40,8 +42,22 @@ escapes : shown (Text (codes "it's\t\n\r\\")) ≡ codes "'it''s\\t\\n\\r\\\\'"
 escapes = refl
 
 -- a text that spells an escape, a text that is empty, and one that spells NULL
-spelled : row_line (Text (codes "\\n") ∷ Text [] ∷ Text (codes "NULL") ∷ []) ≡ codes "'\\\\n'\t''\t'NULL'\n"
+spelled : row_line [] (Text (codes "\\n") ∷ Text [] ∷ Text (codes "NULL") ∷ []) ≡ codes "'\\\\n'\t''\t'NULL'\n"
 spelled = refl
+
+-- ---- dates: a number of a column of dates is a day
+
+abbrev dates : List Field
+dates = record { name = codes "d"; nullable = true; data_type = Date } ∷ []
+
+date : row_line dates (Int (pos 8766) ∷ []) ≡ codes "DATE '1994-01-01'\n"
+date = ap (λ (text : List ℕ). text ++ codes "\n") row_shown
+
+before_the_years : row_line dates (Int (negsuc 719162) ∷ []) ≡ codes "DATE(-719163)\n"
+before_the_years = ap (λ (text : List ℕ). text ++ codes "\n") before_shown
+
+no_date : row_line dates (Null ∷ []) ≡ codes "NULL\n"
+no_date = refl
 
 -- ---- names: quotes stand as they are
 

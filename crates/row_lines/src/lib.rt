@@ -9,4 +9,4 @@ mod text;
 mod value;
 
 pub use crate::names::write_names;
-pub use crate::rows::write_rows;
+pub use crate::rows::{type_shown, write_rows};

@@ -8,7 +8,7 @@ use Rattle.std.proofs.lemmas.List.Elements.{filter-append}
 use Rattle.std.proofs.lemmas.Option.{slice_get_within}
 use Rattle.arrow_schema.specs.Answer.{answer_type}
 use Rattle.arrow_schema.specs.declared.data_type.DataType.{DataType}
-use Rattle.arrow_schema.specs.declared.data_type.DataType.TheVariants.{Integer, Utf8, Bool as Flag, Decimal128, Dictionary}
+use Rattle.arrow_schema.specs.declared.data_type.DataType.TheVariants.{Integer, Utf8, Bool as Flag, Decimal128, Date, Dictionary}
 use Rattle.arrow_schema.specs.declared.schema.Schema.{Schema}
 use Rattle.arrays.specs.Batch.{BatchAt, rows_of}
 use Rattle.scan_base.specs.Limits.{most_rows}
@@ -186,6 +186,7 @@ answered_twice (data_type ∷ types) = ap (λ (t : DataType). t ∷ map answer_t
     one Utf8 = refl
     one Flag = refl
     one Decimal128 = refl
+    one Date = refl
     one (Dictionary encoding) = refl
 
 pub as_many_types : (tree : Tree) (tables : List TableAt) (from to : ℕ) (rows : RowsAt) → IsBegun tree tables from to rows → length rows.types ≡ length (tree_types tree)

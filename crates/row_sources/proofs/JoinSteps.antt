@@ -15,7 +15,7 @@ use Rattle.row_sources.specs.declared.piece.Piece.{Piece}
 use Rattle.row_sources.specs.Joined.{numbered_joined, joined_at, IsJoined}
 use Rattle.row_sources.specs.Picking.{PickAt, cells_at, given_numbered}
 use Rattle.row_sources.specs.Picked.{given, given_of_part, IsPicked}
-use Rattle.row_sources.specs.Running.{RowsAt, GoesOn, FindsPiece, Ends, picked_of}
+use Rattle.row_sources.specs.Running.{RowsAt, GoesOn, FindsPiece, FindsNone, Ends, picked_of}
 use Rattle.row_sources.proofs.Giving.{filter-all}
 use Rattle.row_sources.proofs.Piecing.{passed, next_is, given_few}
 use Rattle.row_sources.proofs.Selecting.{cuts_have, rows_there}
@@ -175,6 +175,9 @@ module _ (left : RowsAt) (joiner : JoinerAt) (number : ℕ) (piece : Piece) (aft
     opened = finds.on.opened;
   }
 
+  pub fed_none : FindsNone (joined_at left joiner number) (joined_at after fed piece.number)
+  fed_none = record { same = fed_next; on = fed_on }
+
   pub fed_joined : left.types ≡ joiner.left_types → IsJoined after fed piece.number
   fed_joined typed = record { typed = finds.on.types ∙ typed; front = finds.on.opened; latest = inr finds.latest }
 
@@ -216,6 +219,12 @@ module _ (left : RowsAt) (joiner : JoinerAt) (number : ℕ) (after : RowsAt) (no
     on = left_on ends.on;
   }
 
+  pub left_none : FindsNone left after → FindsNone (joined_at left joiner number) (joined_at after joiner number)
+  left_none is = record {
+    same = ap (λ (rows : List (ℕ × Row)). map (λ row. (number, row)) joiner.ahead ++ numbered_joined joiner rows) is.same;
+    on = left_on is.on;
+  }
+
 -- ---- what is picked of them
 
 goes-goes : (a b c : RowsAt) → GoesOn a b → GoesOn b c → length a.opened ≤ length b.opened → GoesOn a c
@@ -253,6 +262,13 @@ picks_end pick first a b on same ends = record {
   on = picks_on pick first b (on_and_on first a b on ends.on);
 }
 
+pub picks_none : (pick : PickAt) (first a b : RowsAt) → GoesOn first a → given_numbered pick first.ahead ≡ given_numbered pick a.ahead → FindsNone a b →
+    FindsNone (picked_of pick first) (picked_of pick b)
+picks_none pick first a b on same none = record {
+  same = same ∙ ap (given_numbered pick) none.same;
+  on = picks_on pick first b (on_and_on first a b on none.on);
+}
+
 -- a joined batch is passed
 pub batch_goes : (first left : RowsAt) (joiner : JoinerAt) (number : ℕ) (batch : BatchAt) (after : JoinerAt) → GivesJoined joiner batch after →
     GoesOn first (joined_at left joiner number) → IsJoined left joiner number → GoesOn first (joined_at left after number)
@@ -270,6 +286,12 @@ module _ (pick : PickAt) (first left : RowsAt) (joiner : JoinerAt) (number : ℕ
   batch_over none =
       same ∙ passed pick (joined_at left joiner number).ahead (joined_at left after number).ahead number (rows_of batch)
       (batch_next left joiner number batch after gives) (sym part_is ∙ none)
+
+  pub batch_none : given_of_part pick part ≡ [] → FindsNone (picked_of pick first) (picked_of pick (joined_at left after number))
+  batch_none none = record {
+    same = batch_over none;
+    on = picks_on pick first (joined_at left after number) (batch_goes first left joiner number batch after gives on is);
+  }
 
   pub batch_found : (picked : BatchAt) → IsPicked pick part picked →
       FindsPiece (picked_of pick first) (record { batch = picked; number = number }) (picked_of pick (joined_at left after number))

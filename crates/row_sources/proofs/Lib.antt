@@ -22,3 +22,4 @@ pub mod AllRows
 pub mod Unfiltered
 pub mod PartPlace
 pub mod PartRows
+pub mod Turns

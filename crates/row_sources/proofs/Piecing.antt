@@ -15,7 +15,7 @@ use Rattle.opened_batches.specs.Opened.{batches_in}
 use Rattle.row_sources.specs.Picking.{PickAt, cells_at, holds, given_numbered}
 use Rattle.row_sources.specs.Picked.{given, given_of_part, IsPicked}
 use Rattle.row_sources.specs.Placed.{IsPlaced, IsPart, Opens, rows_ahead}
-use Rattle.row_sources.specs.Running.{RowsAt, GoesOn, FindsPiece, Ends, picked_of}
+use Rattle.row_sources.specs.Running.{RowsAt, GoesOn, FindsPiece, FindsNone, Ends, picked_of}
 use Rattle.row_sources.specs.Sources.{place_at}
 use Rattle.row_sources.proofs.Batched.{none_from}
 use Rattle.row_sources.proofs.Giving.{filter-map}
@@ -93,6 +93,9 @@ module _ (pick : PickAt) (table : TableAt) (first mid after : Cursor) (part : Pa
 
   pub over : given_of_part pick part ≡ [] → given_numbered pick (rows_ahead table first) ≡ given_numbered pick (rows_ahead table after)
   over none = so_far ∙ passed pick (rows_ahead table mid) (rows_ahead table after) mid.batch part_rows opens.rows none
+
+  pub over_is : given_of_part pick part ≡ [] → FindsNone (picked_of pick (place_of table first)) (picked_of pick (place_of table after))
+  over_is none = record { same = over none; on = goes }
 
   pub found : (batch : BatchAt) → IsPicked pick part batch →
       FindsPiece (picked_of pick (place_of table first)) (record { batch = batch; number = mid.batch }) (picked_of pick (place_of table after))

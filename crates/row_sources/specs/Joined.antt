@@ -1,13 +1,18 @@
 -- Inside: joined rows, and what holds of what gives them.
-use Rattle.std.specs.Prelude.{◌≡◌, ◌⊎◌, ℕ, ◌+◌, List, [], ◌++◌, length, map, take, Some, None}
+use Rattle.std.specs.Prelude.{◌≡◌, ◌≢◌, ◌<◌, ◌⊎◌, ℕ, ◌+◌, List, [], ◌++◌, length, map, take, Some, None, Result, Ok, Err}
 use Rattle.std.specs.List.{flat_map, last_or}
 use Rattle.join_batches.specs.Joiner.{JoinerAt, joined_with, joined_types}
 use Rattle.table_versions.specs.Table.{Row}
 use Rattle.row_sources.specs.declared.rows.Source.{Source}
 use Rattle.row_sources.specs.declared.rows.Source.TheVariants.{Place, Joined}
 use Rattle.row_sources.specs.Placed.{IsPlaced}
-use Rattle.row_sources.specs.Running.{RowsAt}
+use Rattle.row_sources.specs.Running.{RowsAt, GoesOn, FindsNone, Ends}
 use Rattle.row_sources.specs.Sources.{place_at}
+use Rattle.row_sources.specs.declared.turn.Patience.{Patience}
+use Rattle.row_sources.specs.declared.turn.Patience.TheVariants.{Endless}
+use Rattle.row_sources.specs.declared.turn.Turn.{Turn}
+use Rattle.row_sources.specs.declared.turn.Turn.TheVariants.{Given, Working, End}
+use Rattle.std.specs.declared.alloc.AllocError.{AllocError}
 
 -- the joined rows of left rows, each with the number that its left row has
 abbrev pub numbered_joined : JoinerAt → List (ℕ × Row) → List (ℕ × Row)
@@ -39,3 +44,15 @@ pub record IsJoined (left : RowsAt) (joiner : JoinerAt) (number : ℕ) : Type 0 
 abbrev pub IsSource : Source → Type 0
 IsSource (Place place) = IsPlaced place.table place.cursor
 IsSource (Joined left joining) = IsJoined left.value joining.joiner joining.number
+
+-- What a turn to the next left batch does: the same joined rows are to come, whether there is one, or none yet.
+abbrev pub FeedsNext : Patience → RowsAt → Result (Turn (Unit {0})) AllocError → RowsAt → Type 0
+FeedsNext patience before (Ok (Given _)) after = FindsNone before after
+FeedsNext patience before (Ok Working) after = FindsNone before after × (patience ≢ Endless)
+FeedsNext patience before (Ok End) after = Ends before after
+FeedsNext patience before (Err _) after = GoesOn before after
+
+-- one that found a left batch leaves fewer left rows
+abbrev pub TakesLeft : Result (Turn (Unit {0})) AllocError → ℕ → ℕ → Type 0
+TakesLeft (Ok (Given _)) before after = after < before
+TakesLeft _ before after = Unit {0}

@@ -1,5 +1,5 @@
 -- Rows that are given piece by piece.
-use Rattle.std.specs.Prelude.{◌≡◌, ◌≤◌, ◌<◌, ℕ, List, [], ◌++◌, length, map, take, Option, Some, None, Result, Ok, Err}
+use Rattle.std.specs.Prelude.{◌≡◌, ◌≢◌, ◌≤◌, ◌<◌, ℕ, List, [], ◌++◌, length, map, take, Option, Some, None, Result, Ok, Err}
 use Rattle.std.specs.List.{last_or}
 use Rattle.std.specs.declared.alloc.AllocError.{AllocError}
 use Rattle.arrow_schema.specs.declared.data_type.DataType.{DataType}
@@ -8,6 +8,10 @@ use Rattle.arrays.specs.Typed.{AreOf}
 use Rattle.table_versions.specs.Table.{Row}
 use Rattle.typed_plan.specs.Typed.{type_at}
 use Rattle.row_sources.specs.declared.piece.Piece.{Piece}
+use Rattle.row_sources.specs.declared.turn.Patience.{Patience}
+use Rattle.row_sources.specs.declared.turn.Patience.TheVariants.{Endless}
+use Rattle.row_sources.specs.declared.turn.Turn.{Turn}
+use Rattle.row_sources.specs.declared.turn.Turn.TheVariants.{Given, Working, End}
 use Rattle.row_sources.specs.Picking.{PickAt, given_numbered}
 use Rattle.array_select.specs.Room.{most_batch_rows}
 
@@ -52,6 +56,18 @@ pub record Ends (before after : RowsAt) : Type 0 where
   pub still : after.ahead ≡ []
   pub all : after.opened ≡ before.batches
   pub on : GoesOn before after
+
+-- none is given of the rows that were looked at
+pub record FindsNone (before after : RowsAt) : Type 0 where
+  pub same : before.ahead ≡ after.ahead
+  pub on : GoesOn before after
+
+-- What a turn finds: the next piece, or none where no row is left. One whose patience has an end may find none yet.
+abbrev pub FindsTurn : Patience → RowsAt → Result (Turn Piece) AllocError → RowsAt → Type 0
+FindsTurn patience before (Ok (Given piece)) after = FindsPiece before piece after
+FindsTurn patience before (Ok Working) after = FindsNone before after × (patience ≢ Endless)
+FindsTurn patience before (Ok End) after = Ends before after
+FindsTurn patience before (Err _) after = GoesOn before after
 
 -- the next piece, or none where no row is left
 abbrev pub FindsNext : RowsAt → Result (Option Piece) AllocError → RowsAt → Type 0

@@ -15,6 +15,7 @@ mod result;
 pub mod row_source;
 pub mod rows;
 mod scan_source;
+pub mod turn;
 
 pub use crate::collected::collect_batches;
 pub use crate::opened_table::{OpenedTable, opened_tables};
@@ -23,3 +24,4 @@ pub use crate::picker::Picker;
 pub use crate::piece::Piece;
 pub use crate::row_source::{Reading, RowSource, UnfilteredRows};
 pub use crate::rows::Rows;
+pub use crate::turn::{Looking, Patience, Turn};

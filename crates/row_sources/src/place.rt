@@ -5,13 +5,15 @@ ghost use Rattle.table_versions.specs.Stored.{table_of};
 ghost use Rattle.row_sources.specs.Placed.{begin_in, end_in, IsPlaced};
 ghost use Rattle.row_sources.specs.Parting.{part_of};
 ghost use Rattle.row_sources.specs.Picking.{IsPick, pick_of};
-ghost use Rattle.row_sources.specs.Running.{FindsNext, picked_of};
+ghost use Rattle.row_sources.specs.Running.{FindsTurn, picked_of};
 ghost use Rattle.row_sources.specs.Sources.{place_at};
+ghost use Rattle.row_sources.specs.declared.turn.Patience.TheVariants.{Endless};
 
 use crate::cursor::Cursor;
 use crate::opened_table::OpenedTable;
 use crate::picker::Picker;
 use crate::piece::Piece;
+use crate::turn::{Looking, Turn};
 use array_select::Selection;
 use std::alloc::{AllocError, Global};
 
@@ -32,28 +34,33 @@ impl Drop for PlaceRows {
 }
 
 impl PlaceRows {
-    // What is picked of the next piece of a batch of the table of which a row is.
-    pub(crate) fn next(
+    // What is picked of the next piece of a batch of the table of which a row is, where the turn comes to it.
+    pub(crate) fn turn(
         &mut self,
-        alloc: Global,
         picker: &Picker,
         selection: &mut Selection,
-    ) -> Result<Option<Piece>, AllocError>
+        looking: &mut Looking,
+    ) -> Result<Turn<Piece>, AllocError>
         requires placed { IsPlaced self.old.table self.old.cursor }
         requires pick { IsPick (length self.old.table.schema.fields) (pick_of picker.now) }
         ensures placed { IsPlaced self.new.table self.new.cursor }
         ensures table { self.new.table ≡ self.old.table }
-        ensures found { FindsNext (picked_of (pick_of picker.now) (place_at self.old)) result
+        ensures endless { looking.old.patience ≡ Endless → looking.new.patience ≡ Endless }
+        ensures found { FindsTurn looking.old.patience (picked_of (pick_of picker.now) (place_at self.old)) result
             (picked_of (pick_of picker.now) (place_at self.new)) }
     {
         while self.cursor.at < self.cursor.to {
             let number = self.cursor.batch;
             let part = self.cursor.open(&self.table);
-            if let Some(batch) = picker.pick(alloc, &part, selection)? {
-                return Ok(Some(Piece { batch, number }));
+            looking.spend(part.to - part.from);
+            if let Some(batch) = picker.pick(looking.alloc, &part, selection)? {
+                return Ok(Turn::Given(Piece { batch, number }));
+            }
+            if looking.is_over() {
+                return Ok(Turn::Working);
             }
         }
-        Ok(None)
+        Ok(Turn::End)
     }
 
     // The first row of the range in a batch, counted from the batch's first row. The range begins in the first batch.

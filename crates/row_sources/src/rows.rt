@@ -3,15 +3,17 @@
 ghost use Rattle.std.specs.Prelude.{◌≡◌, ◌<◌, [], IfOk, length};
 ghost use Rattle.std.specs.Arc.{arc_value};
 ghost use Rattle.join_batches.specs.Joiner.{joined_types};
-ghost use Rattle.row_sources.specs.Joined.{IsJoined, IsSource, joined_at, source_at};
+ghost use Rattle.row_sources.specs.Joined.{FeedsNext, IsJoined, IsSource, TakesLeft, joined_at, source_at};
 ghost use Rattle.row_sources.specs.Parting.{ComeInOrder, part_of};
 ghost use Rattle.row_sources.specs.Picking.{IsPick, pick_of};
-ghost use Rattle.row_sources.specs.Running.{FindsNext, picked_of};
+ghost use Rattle.row_sources.specs.Running.{FindsNext, FindsTurn, picked_of};
+ghost use Rattle.row_sources.specs.declared.turn.Patience.TheVariants.{Endless};
 
 use crate::part::Part;
 use crate::picker::Picker;
 use crate::piece::Piece;
 use crate::place::PlaceRows;
+use crate::turn::{Looking, Patience, Turn};
 use array_select::Selection;
 use join_batches::Joiner;
 use std::alloc::{AllocError, Global};
@@ -69,24 +71,47 @@ impl Model for Rows {
 }
 
 impl Rows {
+    /// The next rows, one or more, of one batch of the first place: at most 65,536. `Turn::Working` where none is given of so
+    /// many that were looked at: joined ones, and those of each place. Then the next turn goes on behind them.
+    ///
+    /// # Errors
+    ///
+    /// `AllocError` where memory is refused. Then nothing is said of the rows that come next.
+    #[cycle(turn)]
+    pub fn turn(&mut self, looking: &mut Looking) -> Result<Turn<Piece>, AllocError>
+        ensures endless { looking.old.patience ≡ Endless → looking.new.patience ≡ Endless }
+        ensures found { FindsTurn looking.old.patience self.old result self.new }
+    {
+        match &mut self.source {
+            Source::Place(place) => place.turn(&self.picker, &mut self.selection, looking),
+            Source::Joined(left, joining) => {
+                if self.picker.filters.is_empty() {
+                    joining.turn_shown(left, &self.picker, looking)
+                } else {
+                    joining.turn(left, &self.picker, &mut self.selection, looking)
+                }
+            }
+        }
+    }
+}
+
+impl Rows {
     /// The next rows, one or more, of one batch of the first place: at most 65,536. `None` where no row is left.
     ///
     /// # Errors
     ///
     /// `AllocError` where memory is refused. Then nothing is said of the rows that come next.
-    #[cycle(next)]
     pub fn next(&mut self, alloc: Global) -> Result<Option<Piece>, AllocError>
         ensures { FindsNext self.old result self.new }
     {
-        match &mut self.source {
-            Source::Place(place) => place.next(alloc, &self.picker, &mut self.selection),
-            Source::Joined(left, joining) => {
-                if self.picker.filters.is_empty() {
-                    joining.next_shown(alloc, left, &self.picker)
-                } else {
-                    joining.next(alloc, left, &self.picker, &mut self.selection)
-                }
-            }
+        let mut looking = Looking {
+            alloc,
+            patience: Patience::Endless,
+        };
+        match self.turn(&mut looking)? {
+            Turn::Given(piece) => Ok(Some(piece)),
+            Turn::Working => Ok(None),
+            Turn::End => Ok(None),
         }
     }
 }
@@ -144,71 +169,107 @@ impl Rows {
 
 impl Joining {
     // What is picked of the next joined rows, where the left rows are these.
-    #[cycle(next)]
-    fn next(
+    #[cycle(turn)]
+    fn turn(
         &mut self,
-        alloc: Global,
         left: &mut Rows,
         picker: &Picker,
         selection: &mut Selection,
-    ) -> Result<Option<Piece>, AllocError>
+        looking: &mut Looking,
+    ) -> Result<Turn<Piece>, AllocError>
         requires joined { IsJoined left.old self.old.joiner self.old.number }
         requires pick { IsPick (length (joined_types self.old.joiner)) (pick_of picker.now) }
         ensures joined { IsJoined left.new self.new.joiner self.new.number }
         ensures types { joined_types self.new.joiner ≡ joined_types self.old.joiner }
         ensures depth { left.new.depth ≡ left.old.depth }
-        ensures found { FindsNext (picked_of (pick_of picker.now) (joined_at left.old self.old.joiner self.old.number)) result
-            (picked_of (pick_of picker.now) (joined_at left.new self.new.joiner self.new.number)) }
+        ensures endless { looking.old.patience ≡ Endless → looking.new.patience ≡ Endless }
+        ensures found { FindsTurn looking.old.patience (picked_of (pick_of picker.now) (joined_at left.old self.old.joiner self.old.number))
+            result (picked_of (pick_of picker.now) (joined_at left.new self.new.joiner self.new.number)) }
     {
         loop {
-            if let Some(batch) = self.joiner.next(alloc)? {
+            if let Some(batch) = self.joiner.next(looking.alloc)? {
                 let (from, to) = (0, batch.rows());
+                looking.spend(to);
                 let part = Part {
                     batch: &batch,
                     from,
                     to,
                 };
-                if let Some(batch) = picker.pick(alloc, &part, selection)? {
+                if let Some(batch) = picker.pick(looking.alloc, &part, selection)? {
                     let number = self.number;
-                    return Ok(Some(Piece { batch, number }));
+                    return Ok(Turn::Given(Piece { batch, number }));
                 }
-            } else if let Some(piece) = left.next(alloc)? {
-                self.number = piece.number;
-                self.joiner.feed(piece.batch);
+                if looking.is_over() {
+                    return Ok(Turn::Working);
+                }
             } else {
-                return Ok(None);
+                match self.feed_next(left, looking)? {
+                    Turn::Given(_) => {}
+                    Turn::Working => return Ok(Turn::Working),
+                    Turn::End => return Ok(Turn::End),
+                }
             }
         }
     }
 
     // The same where there is no filter: of the joined rows only the columns that are shown are made.
-    #[cycle(next)]
-    fn next_shown(
+    #[cycle(turn)]
+    fn turn_shown(
         &mut self,
-        alloc: Global,
         left: &mut Rows,
         picker: &Picker,
-    ) -> Result<Option<Piece>, AllocError>
+        looking: &mut Looking,
+    ) -> Result<Turn<Piece>, AllocError>
         requires joined { IsJoined left.old self.old.joiner self.old.number }
         requires pick { IsPick (length (joined_types self.old.joiner)) (pick_of picker.now) }
         requires bare { (pick_of picker.now).filters ≡ [] }
         ensures joined { IsJoined left.new self.new.joiner self.new.number }
         ensures types { joined_types self.new.joiner ≡ joined_types self.old.joiner }
         ensures depth { left.new.depth ≡ left.old.depth }
-        ensures found { FindsNext (picked_of (pick_of picker.now) (joined_at left.old self.old.joiner self.old.number)) result
+        ensures endless { looking.old.patience ≡ Endless → looking.new.patience ≡ Endless }
+        ensures found { FindsTurn looking.old.patience (picked_of (pick_of picker.now) (joined_at left.old self.old.joiner self.old.number)) result
             (picked_of (pick_of picker.now) (joined_at left.new self.new.joiner self.new.number)) }
     {
         let shown = picker.shown.as_slice();
         loop {
-            if let Some(batch) = self.joiner.next_shown(alloc, shown)? {
+            if let Some(batch) = self.joiner.next_shown(looking.alloc, shown)? {
                 let number = self.number;
-                return Ok(Some(Piece { batch, number }));
-            } else if let Some(piece) = left.next(alloc)? {
+                looking.spend(batch.rows());
+                return Ok(Turn::Given(Piece { batch, number }));
+            }
+            match self.feed_next(left, looking)? {
+                Turn::Given(_) => {}
+                Turn::Working => return Ok(Turn::Working),
+                Turn::End => return Ok(Turn::End),
+            }
+        }
+    }
+
+    // Goes on to the next left batch, where the turn comes to it, and is not over then.
+    #[cycle(turn)]
+    fn feed_next(&mut self, left: &mut Rows, looking: &mut Looking) -> Result<Turn<()>, AllocError>
+        requires joined { IsJoined left.old self.old.joiner self.old.number }
+        requires none { self.old.joiner.ahead ≡ [] }
+        ensures joined { IsJoined left.new self.new.joiner self.new.number }
+        ensures types { joined_types self.new.joiner ≡ joined_types self.old.joiner }
+        ensures depth { left.new.depth ≡ left.old.depth }
+        ensures endless { looking.old.patience ≡ Endless → looking.new.patience ≡ Endless }
+        ensures feeds { FeedsNext looking.old.patience (joined_at left.old self.old.joiner self.old.number) result
+            (joined_at left.new self.new.joiner self.new.number) }
+        ensures fewer { TakesLeft result (length left.old.ahead) (length left.new.ahead) }
+    {
+        match left.turn(looking)? {
+            Turn::Given(piece) => {
                 self.number = piece.number;
                 self.joiner.feed(piece.batch);
-            } else {
-                return Ok(None);
+                if looking.is_over() {
+                    Ok(Turn::Working)
+                } else {
+                    Ok(Turn::Given(()))
+                }
             }
+            Turn::Working => Ok(Turn::Working),
+            Turn::End => Ok(Turn::End),
         }
     }
 }

@@ -7,7 +7,7 @@ use Rattle.std.proofs.lemmas.List.Elements.{filter-append}
 use Rattle.std.proofs.lemmas.Simd.{map-map}
 use Rattle.arrow_schema.specs.Answer.{answer_type}
 use Rattle.arrow_schema.specs.declared.data_type.DataType.{DataType}
-use Rattle.arrow_schema.specs.declared.data_type.DataType.TheVariants.{Integer, Utf8, Bool as Flag, Decimal128, Dictionary}
+use Rattle.arrow_schema.specs.declared.data_type.DataType.TheVariants.{Integer, Utf8, Bool as Flag, Decimal128, Date, Dictionary}
 use Rattle.table_versions.specs.Table.{Row}
 use Rattle.typed_plan.specs.declared.plan.Columns.{Columns}
 use Rattle.typed_plan.specs.declared.plan.Columns.TheVariants as columns
@@ -61,6 +61,7 @@ same_answer (Integer integer) = refl
 same_answer Utf8 = refl
 same_answer Flag = refl
 same_answer Decimal128 = refl
+same_answer Date = refl
 same_answer (Dictionary encoding) = refl
 
 items_alike : (keys : List ℕ) (items : List Aggregate) (some others : List DataType) → map answer_type some ≡ map answer_type others →

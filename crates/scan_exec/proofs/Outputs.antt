@@ -4,7 +4,7 @@ use Rattle.std.specs.List.{list_all}
 use Rattle.std.proofs.lemmas.List.{length-map}
 use Rattle.arrow_schema.specs.Answer.{answer_type}
 use Rattle.arrow_schema.specs.declared.data_type.DataType.{DataType}
-use Rattle.arrow_schema.specs.declared.data_type.DataType.TheVariants.{Integer, Utf8, Bool as Flag, Decimal128, Dictionary}
+use Rattle.arrow_schema.specs.declared.data_type.DataType.TheVariants.{Integer, Utf8, Bool as Flag, Decimal128, Date, Dictionary}
 use Rattle.typed_plan.specs.Class.{can_sum}
 use Rattle.typed_plan.specs.declared.plan.Aggregate.{Aggregate}
 use Rattle.typed_plan.specs.declared.plan.Aggregate.TheVariants.{Key, CountRows, Count, Sum}
@@ -22,6 +22,7 @@ sum_answered (Integer integer) = refl
 sum_answered Utf8 = refl
 sum_answered Flag = refl
 sum_answered Decimal128 = refl
+sum_answered Date = refl
 sum_answered (Dictionary encoding) = refl
 
 module _ (some others : List DataType) (e : map answer_type some ≡ map answer_type others) where

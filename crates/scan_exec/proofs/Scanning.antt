@@ -14,10 +14,15 @@ use Rattle.scan_base.specs.declared.fault.Fault.TheVariants.{OutOfMemory, Result
 use Rattle.table_versions.specs.Table.{Row}
 use Rattle.table_versions.proofs.Rowing.{length-rows_of}
 use Rattle.row_sources.specs.declared.piece.Piece.{Piece}
-use Rattle.scan_exec.specs.Giving.{GivingAt, GivingOn, IsOfLast, GivesBatch, GivesNone, of_rows}
-use Rattle.scan_exec.specs.Answering.{CountsNext, IsScan, number_in, renumbered, scan_at}
-use Rattle.row_sources.specs.Running.{RowsAt, FindsPiece}
-use Rattle.scan_exec.specs.Scan.{ScanAt, Continues, IsLatest, GivesRows, MayRefuse, Gives}
+use Rattle.scan_exec.specs.Giving.{GivingAt, GivingOn, IsOfLast, GivesBatch, GivesNone, GivesNoneYet, of_rows}
+use Rattle.scan_exec.specs.Answering.{CountsNext, CountsTurn, IsScan, number_in, renumbered, scan_at}
+use Rattle.row_sources.specs.Running.{RowsAt, FindsPiece, FindsNone, Ends}
+use Rattle.row_sources.specs.declared.turn.Patience.{Patience}
+use Rattle.row_sources.specs.declared.turn.Patience.TheVariants.{Endless}
+use Rattle.row_sources.specs.declared.turn.Turn.{Turn}
+use Rattle.row_sources.specs.declared.turn.Turn.TheVariants.{Given, Working, End}
+use Rattle.scan_exec.specs.Scan.{ScanAt, Continues, IsLatest, GivesRows, GivesTurn, MayRefuse, Gives}
+use Rattle.scan_exec.specs.Scan as of_scan
 use Rattle.row_sources.proofs.JoinSteps.{as_many}
 
 -- a piece is a batch
@@ -35,6 +40,22 @@ gives_of before after piece finds =
       typed = finds.typed;
       on = record { types = finds.on.types; batches = finds.on.batches; opening = finds.on.opening; opened = finds.on.opened };
     }
+
+-- none of the rows that were looked at
+pub none_yet_of : (before after : RowsAt) → FindsNone before after → GivesNoneYet (of_rows before) (of_rows after)
+none_yet_of before after finds = record {
+  same = ap (map (λ (row : ℕ × Row). (Some row.0, row.1))) finds.same;
+  on = record { types = finds.on.types; batches = finds.on.batches; opening = finds.on.opening; opened = finds.on.opened };
+}
+
+-- no row is left
+pub none_of : (before after : RowsAt) → Ends before after → GivesNone (of_rows before) (of_rows after)
+none_of before after ends = record {
+  none = ap (map (λ (row : ℕ × Row). (Some row.0, row.1))) ends.none;
+  still = ap (map (λ (row : ℕ × Row). (Some row.0, row.1))) ends.still;
+  all = ends.all;
+  on = record { types = ends.on.types; batches = ends.on.batches; opening = ends.on.opening; opened = ends.on.opened };
+}
 
 -- ---- what was opened
 
@@ -180,6 +201,24 @@ module _ (schema : Schema) (batches : List (ℕ × ℕ)) (further : ℕ) (before
       subst (λ (s : ScanAt). Gives s (Ok None) (scan_at schema after batches further now refused)) v
       (subst (λ (r : Option Fault). Gives (scan_at schema before batches further given r) (Ok None) (scan_at schema after batches further now r)) (sym n)
       (ap (map (renumbered firsts)) counts.0.none, ends_is counts.0 counts.1))
+
+  -- nothing yet
+  gave_none_yet : (view : ScanAt) (refused : Option Fault) → scan_at schema before batches further given refused ≡ view → refused ≡ None →
+      GivesNoneYet before after → now ≡ given →
+      (view.refused ≡ None) × of_scan.GivesNoneYet view (scan_at schema after batches further now refused)
+  gave_none_yet view refused v n none e =
+      subst (λ (s : ScanAt). (s.refused ≡ None) × of_scan.GivesNoneYet s (scan_at schema after batches further now refused)) v
+      (n, record { same = ap (map (renumbered firsts)) none.same; given = e; on = continues none.on refused refused; refused = n })
+
+  -- what a turn gives
+  pub turned : (patience : Patience) (view : ScanAt) (refused : Option Fault) (found : Turn BatchAt) →
+      scan_at schema before batches further given refused ≡ view → refused ≡ None →
+      CountsTurn patience before given (Ok found) after now → GivesTurn patience view (Ok found) (scan_at schema after batches further now refused)
+  turned patience view refused (Given batch) v n counts = gave view refused (Some batch) v n counts
+  turned patience view refused Working v n counts =
+      let yet = gave_none_yet view refused v n counts.0 counts.1 in
+      (yet.0, yet.1, counts.2)
+  turned patience view refused End v n counts = gave view refused None v n counts
 
   pub refuses : (view : ScanAt) (refused : Option Fault) (fault : Fault) → scan_at schema before batches further given refused ≡ view → refused ≡ None →
       CountsNext before given (Err fault) after now → Gives view (Err fault) (scan_at schema after batches further now (Some fault))

@@ -1,5 +1,5 @@
 -- Inside: what a scan still has to give, of rows or of groups.
-use Rattle.std.specs.Prelude.{◌≡◌, ◌≤◌, ◌<◌, ◌⊎◌, ℕ, ◌+◌, ◌-◌, IsTrue, ◌==◌, List, [], ◌∷◌, length, map, take, drop, get_or, Option, Some, None, option_map, Result, Ok, Err}
+use Rattle.std.specs.Prelude.{◌≡◌, ◌≢◌, ◌≤◌, ◌<◌, ◌⊎◌, ℕ, ◌+◌, ◌-◌, IsTrue, ◌==◌, List, [], ◌∷◌, length, map, take, drop, get_or, Option, Some, None, option_map, Result, Ok, Err}
 use Rattle.std.specs.List.{list_all, range_with_len}
 use Rattle.arrays.specs.Batch.{BatchAt}
 use Rattle.arrow_schema.specs.Answer.{answer_type}
@@ -10,13 +10,17 @@ use Rattle.typed_plan.specs.Typed.{item_type}
 use Rattle.table_versions.specs.Table.{Row}
 use Rattle.row_sources.specs.Running.{RowsAt}
 use Rattle.row_sources.specs.Showing.{shown_of}
+use Rattle.row_sources.specs.declared.turn.Patience.{Patience}
+use Rattle.row_sources.specs.declared.turn.Patience.TheVariants.{Endless}
+use Rattle.row_sources.specs.declared.turn.Turn.{Turn}
+use Rattle.row_sources.specs.declared.turn.Turn.TheVariants.{Given, Working, End}
 use Rattle.arrow_schema.specs.declared.schema.Schema.{Schema}
 use Rattle.scan_base.specs.Limits.{most_answer_rows}
 use Rattle.scan_base.specs.declared.fault.Fault.{Fault}
 use Rattle.scan_base.specs.declared.fault.Fault.TheVariants.{OutOfMemory, ResultTooLarge}
 use Rattle.scan_exec.specs.declared.answer.Answer.{Answer}
 use Rattle.scan_exec.specs.declared.answer.Answer.TheVariants as answer
-pub use Rattle.scan_exec.specs.Giving.{GivingAt, of_rows, GivingOn, IsOfLast, GivesBatch, GivesNone, GivesNext}
+pub use Rattle.scan_exec.specs.Giving.{GivingAt, of_rows, GivingOn, IsOfLast, GivesBatch, GivesNone, GivesNoneYet, GivesNext}
 use Rattle.scan_exec.specs.Morsels.{of_first}
 use Rattle.scan_exec.specs.Scan.{ScanAt}
 
@@ -36,6 +40,13 @@ CountsNext before given (Ok (Some batch)) after now = GivesBatch before batch af
 CountsNext before given (Ok None) after now = GivesNone before after × (now ≡ given)
 CountsNext before given (Err fault) after now = GivingOn before after × (now ≤ most_answer_rows)
     × ((fault ≡ OutOfMemory) ⊎ ((fault ≡ ResultTooLarge) × (most_answer_rows < given + length before.ahead)))
+
+-- what a turn to the next batch gives, where so many rows were given
+abbrev pub CountsTurn : Patience → GivingAt → ℕ → Result (Turn BatchAt) Fault → GivingAt → ℕ → Type 0
+CountsTurn patience before given (Ok (Given batch)) after now = CountsNext before given (Ok (Some batch)) after now
+CountsTurn patience before given (Ok Working) after now = GivesNoneYet before after × (now ≡ given) × (patience ≢ Endless)
+CountsTurn patience before given (Ok End) after now = CountsNext before given (Ok None) after now
+CountsTurn patience before given (Err fault) after now = CountsNext before given (Err fault) after now
 
 -- the number that a batch of the first place has in its table, by its number among those that are opened
 abbrev pub number_in : List (ℕ × ℕ) → ℕ → ℕ

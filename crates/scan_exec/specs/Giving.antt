@@ -1,5 +1,5 @@
 -- Inside: what is still to be given, batch by batch.
-use Rattle.std.specs.Prelude.{◌≡◌, ◌≤◌, ◌<◌, ℕ, List, [], ◌++◌, length, map, take, Option, Some, None, Result, Ok, Err}
+use Rattle.std.specs.Prelude.{◌≡◌, ◌≢◌, ◌≤◌, ◌<◌, ℕ, List, [], ◌++◌, length, map, take, Option, Some, None, Result, Ok, Err}
 use Rattle.std.specs.List.{last_or}
 use Rattle.std.specs.declared.alloc.AllocError.{AllocError}
 use Rattle.arrow_schema.specs.declared.data_type.DataType.{DataType}
@@ -7,6 +7,10 @@ use Rattle.arrays.specs.Batch.{BatchAt, rows_of}
 use Rattle.arrays.specs.Typed.{AreOf}
 use Rattle.table_versions.specs.Table.{Row}
 use Rattle.row_sources.specs.Running.{RowsAt}
+use Rattle.row_sources.specs.declared.turn.Patience.{Patience}
+use Rattle.row_sources.specs.declared.turn.Patience.TheVariants.{Endless}
+use Rattle.row_sources.specs.declared.turn.Turn.{Turn}
+use Rattle.row_sources.specs.declared.turn.Turn.TheVariants.{Given, Working, End}
 use Rattle.array_select.specs.Room.{most_batch_rows}
 
 -- The types of the columns; the rows that are still to be given, each with the number of the batch of the first place of
@@ -60,3 +64,15 @@ abbrev pub GivesNext : GivingAt → Result (Option BatchAt) AllocError → Givin
 GivesNext before (Ok (Some batch)) after = GivesBatch before batch after
 GivesNext before (Ok None) after = GivesNone before after
 GivesNext before (Err _) after = GivingOn before after
+
+-- none is given of the rows that were looked at
+pub record GivesNoneYet (before after : GivingAt) : Type 0 where
+  pub same : before.ahead ≡ after.ahead
+  pub on : GivingOn before after
+
+-- What a turn gives: the next batch, or none where no row is left. One whose patience has an end may give none yet.
+abbrev pub GivesTurn : Patience → GivingAt → Result (Turn BatchAt) AllocError → GivingAt → Type 0
+GivesTurn patience before (Ok (Given batch)) after = GivesBatch before batch after
+GivesTurn patience before (Ok Working) after = GivesNoneYet before after × (patience ≢ Endless)
+GivesTurn patience before (Ok End) after = GivesNone before after
+GivesTurn patience before (Err _) after = GivingOn before after

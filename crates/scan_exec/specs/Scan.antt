@@ -1,5 +1,5 @@
 -- What a scan gives, and what it opens.
-use Rattle.std.specs.Prelude.{◌≡◌, ◌≤◌, ◌<◌, ◌⊎◌, ℕ, ◌+◌, List, [], ◌++◌, length, map, take, Option, Some, None, Result, Ok, Err}
+use Rattle.std.specs.Prelude.{◌≡◌, ◌≢◌, ◌≤◌, ◌<◌, ◌⊎◌, ℕ, ◌+◌, List, [], ◌++◌, length, map, take, Option, Some, None, Result, Ok, Err}
 use Rattle.std.specs.List.{last_or}
 use Rattle.arrays.specs.Batch.{BatchAt, rows_of}
 use Rattle.arrays.specs.Typed.{AreOf}
@@ -11,6 +11,10 @@ use Rattle.scan_base.specs.Limits.{most_answer_rows}
 use Rattle.scan_base.specs.declared.fault.Fault.{Fault}
 use Rattle.scan_base.specs.declared.fault.Fault.TheVariants.{OutOfMemory, ResultTooLarge}
 use Rattle.table_versions.specs.Table.{Row}
+use Rattle.row_sources.specs.declared.turn.Patience.{Patience}
+use Rattle.row_sources.specs.declared.turn.Patience.TheVariants.{Endless}
+use Rattle.row_sources.specs.declared.turn.Turn.{Turn}
+use Rattle.row_sources.specs.declared.turn.Turn.TheVariants.{Given, Working, End}
 use Rattle.typed_plan.specs.Typed.{types_of}
 use Rattle.typed_plan.specs.View.{BoundAt}
 use Rattle.scan_exec.specs.Given.{given_of}
@@ -79,6 +83,20 @@ Gives before result after = going before.refused result
     going None (Ok (Some batch)) = GivesRows before batch after
     going None (Ok None) = (before.ahead ≡ []) × (after ≡ record before { opened = before.batches })
     going None (Err fault) = MayRefuse before fault × (after.refused ≡ Some fault) × Continues before after
+
+-- none is given of the rows that were looked at
+pub record GivesNoneYet (before after : ScanAt) : Type 0 where
+  pub same : before.ahead ≡ after.ahead
+  pub given : after.given ≡ before.given
+  pub on : Continues before after
+  pub refused : after.refused ≡ None
+
+-- What a turn gives: what a call gives, or nothing yet, of a scan that was not refused, where its patience has an end.
+abbrev pub GivesTurn : Patience → ScanAt → Result (Turn BatchAt) Fault → ScanAt → Type 0
+GivesTurn patience before (Ok (Given batch)) after = Gives before (Ok (Some batch)) after
+GivesTurn patience before (Ok Working) after = (before.refused ≡ None) × GivesNoneYet before after × (patience ≢ Endless)
+GivesTurn patience before (Ok End) after = Gives before (Ok None) after
+GivesTurn patience before (Err fault) after = Gives before (Err fault) after
 
 -- a scan of a plan over the rows `from` up to, not with, `to` of its first place, before its first batch
 pub record IsBeginning (bound : BoundAt) (from to : ℕ) (scan : ScanAt) : Type 0 where

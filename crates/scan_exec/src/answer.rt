@@ -4,15 +4,16 @@ ghost use Rattle.std.specs.Prelude.{◌≡◌, ◌≤◌, true, IfOk, length, ta
 ghost use Rattle.scan_base.specs.Limits.{most_rows};
 ghost use Rattle.typed_plan.specs.Typed.{HasOutput, is_grouping};
 ghost use Rattle.scan_exec.specs.Answering.{IsGiving, answer_for, giving_at};
-ghost use Rattle.scan_exec.specs.Giving.{GivesNext, of_rows};
+ghost use Rattle.scan_exec.specs.Giving.{GivesTurn, of_rows};
 
 use crate::different::Different;
 use crate::group_work::GroupsBatches;
 use crate::grouped::{GroupedRows, Stage, Wanted};
+use crate::making::Making;
 use crate::shown_groups::ShownGroups;
 use arrays::Batch;
 use hash_seed::HashSeed;
-use row_sources::{RowSource, Rows, UnfilteredRows};
+use row_sources::{Looking, Patience, RowSource, Rows, Turn, UnfilteredRows};
 use std::alloc::{AllocError, Global};
 use typed_plan::Output;
 
@@ -33,19 +34,22 @@ impl Drop for Answer {
 }
 
 impl Answer {
-    // The next batch. Groups are made by the one that is handed in.
-    pub(crate) fn next<G: GroupsBatches>(
+    // A turn to the next batch.
+    pub(crate) fn turn<G: GroupsBatches>(
         &mut self,
         alloc: Global,
-        by: &G,
-    ) -> Result<Option<Batch>, AllocError>
+        making: Making<'_, G>,
+    ) -> Result<Turn<Batch>, AllocError>
         requires { IsGiving self.old }
         ensures giving { IsGiving self.new }
-        ensures gives { GivesNext (giving_at self.old) result (giving_at self.new) }
+        ensures gives { GivesTurn making.entry.patience (giving_at self.old) result (giving_at self.new) }
     {
         match self {
-            Answer::Rows(rows) => next_batch(alloc, rows),
-            Answer::Groups(groups) => groups.next(alloc, by),
+            Answer::Rows(rows) => turn_of_rows(alloc, rows, making.patience),
+            Answer::Groups(groups) => match groups.next(alloc, making.by)? {
+                Some(batch) => Ok(Turn::Given(batch)),
+                None => Ok(Turn::End),
+            },
         }
     }
 
@@ -60,13 +64,19 @@ impl Answer {
     }
 }
 
-// The next batch of rows.
-fn next_batch(alloc: Global, rows: &mut Rows) -> Result<Option<Batch>, AllocError>
-    ensures { GivesNext (of_rows rows.old) result (of_rows rows.new) }
+// A turn to the next batch of rows.
+fn turn_of_rows(
+    alloc: Global,
+    rows: &mut Rows,
+    patience: Patience,
+) -> Result<Turn<Batch>, AllocError>
+    ensures { GivesTurn patience (of_rows rows.old) result (of_rows rows.new) }
 {
-    match rows.next(alloc)? {
-        None => Ok(None),
-        Some(piece) => Ok(Some(piece.batch)),
+    let mut looking = Looking { alloc, patience };
+    match rows.turn(&mut looking)? {
+        Turn::Given(piece) => Ok(Turn::Given(piece.batch)),
+        Turn::Working => Ok(Turn::Working),
+        Turn::End => Ok(Turn::End),
     }
 }
 

@@ -8,19 +8,20 @@ ghost use Rattle.typed_plan.specs.Held.{HoldsFrom};
 ghost use Rattle.typed_plan.specs.Plan.{plan_rows};
 ghost use Rattle.typed_plan.specs.View.{plan_of};
 ghost use Rattle.scan_base.specs.Limits.{most_answer_rows};
-ghost use Rattle.scan_exec.specs.Answering.{CountsNext, IsGiving, giving_at};
+ghost use Rattle.scan_exec.specs.Answering.{CountsTurn, IsGiving, giving_at};
 ghost use Rattle.scan_exec.specs.Morsels.{HasMorsels, morsel_of, of_first};
-ghost use Rattle.scan_exec.specs.Scan.{Gives, IsBeginning, left};
+ghost use Rattle.scan_exec.specs.Scan.{Gives, GivesTurn, IsBeginning, left};
 
 use crate::answer::{Answer, answer_of};
 use crate::group_work::{GroupsBatches, InOneWalk};
+use crate::making::Making;
 use crate::opened::{further_batches, push_numbers};
 use arrays::Batch;
 use arrow_schema::Schema;
 use hash_seed::HashSeed;
 use opened_batches::opened_lists;
 use rewrite::laws::skipping_keeps_rows;
-use row_sources::{Reading, RowSource, opened_tables};
+use row_sources::{Patience, Reading, RowSource, Turn, opened_tables};
 use scan_base::Fault;
 use std::alloc::{AllocError, Global};
 use std::marker::Model;
@@ -144,10 +145,31 @@ impl Scan {
     ) -> Result<Option<Batch>, Fault>
         ensures { Gives self.old result self.new }
     {
+        let patience = Patience::Endless;
+        match self.turn_by(alloc, Making { by, patience })? {
+            Turn::Given(batch) => Ok(Some(batch)),
+            Turn::Working => Ok(None),
+            Turn::End => Ok(None),
+        }
+    }
+
+    /// A turn to the next batch. `Turn::Working` where none of the rows is given that the turn looked at: the next turn goes
+    /// on behind them.
+    ///
+    /// # Errors
+    ///
+    /// Those of `next`.
+    pub fn turn_by<G: GroupsBatches>(
+        &mut self,
+        alloc: Global,
+        making: Making<'_, G>,
+    ) -> Result<Turn<Batch>, Fault>
+        ensures { GivesTurn making.entry.patience self.old result self.new }
+    {
         if let Some(fault) = self.refused {
             return Err(fault);
         }
-        match next_counted(alloc, by, &mut self.answer, &mut self.given) {
+        match turn_counted(alloc, making, &mut self.answer, &mut self.given) {
             Ok(found) => Ok(found),
             Err(fault) => {
                 self.refused = Some(fault);
@@ -215,24 +237,27 @@ impl Scan {
     }
 }
 
-// The next batch, where so many rows were given.
-fn next_counted<G: GroupsBatches>(
+// A turn to the next batch, where so many rows were given.
+fn turn_counted<G: GroupsBatches>(
     alloc: Global,
-    by: &G,
+    making: Making<'_, G>,
     answer: &mut Answer,
     given: &mut usize,
-) -> Result<Option<Batch>, Fault>
+) -> Result<Turn<Batch>, Fault>
     requires giving { IsGiving answer.old }
     requires few { given.old ≤ most_answer_rows }
     ensures giving { IsGiving answer.new }
-    ensures counts { CountsNext (giving_at answer.old) given.old result (giving_at answer.new) given.new }
+    ensures counts { CountsTurn making.entry.patience (giving_at answer.old) given.old result (giving_at answer.new) given.new }
 {
-    let Some(batch) = answer.next(alloc, by)? else {
-        return Ok(None);
-    };
-    if batch.rows() > MAX_ANSWER_ROWS - *given {
-        return Err(Fault::ResultTooLarge);
+    match answer.turn(alloc, making)? {
+        Turn::Given(batch) => {
+            if batch.rows() > MAX_ANSWER_ROWS - *given {
+                return Err(Fault::ResultTooLarge);
+            }
+            *given += batch.rows();
+            Ok(Turn::Given(batch))
+        }
+        Turn::Working => Ok(Turn::Working),
+        Turn::End => Ok(Turn::End),
     }
-    *given += batch.rows();
-    Ok(Some(batch))
 }

@@ -5,44 +5,45 @@ use Rattle.grammar.specs.Reading.{nullable, starts}
 use Rattle.grammar.proofs.Determined.{well_made, is_guarded, covers, determined}
 use Rattle.sql_parse.specs.Tokens.{same_word, same_symbol}
 use Rattle.sql_parse.proofs.EveryKind.{kinds}
-use Rattle.sql_parse.specs.Productions.{name, column, minus, digits, number, string, operand, compare, negated}
+use Rattle.sql_parse.specs.Productions.{name, column, minus, digits, date, number, string, operand, compare, negated}
 use Rattle.sql_parse.specs.Productions.{begins_factor, conj, pred, truth_value}
 use Rattle.sql_parse.specs.Clauses.{alias, selection}
 use Rattle.sql_parse.proofs.EveryKind.{follows_factor}
 use Rattle.sql_parse.specs.Clauses.{item, list, place, equal, join, group, filter, source, ending, query}
+use Rattle.sql_text.specs.Values.{unquoted}
 use Rattle.sql_parse.specs.Factored.{compared, nulled, ranged, among, tail, forms, primary, test, factor}
 
 pub one_way : determined kinds begins_factor follows_factor factor follows_factor ≡ true
-unfolding number_of same_word same_symbol name column minus digits number string operand compare negated conj pred
+unfolding number_of same_word same_symbol name column minus digits date number string operand compare negated conj pred
     truth_value compared nulled ranged among tail forms primary test factor
 one_way = refl
 
 pub made_well : well_made factor ≡ true
-unfolding number_of same_word same_symbol name column minus digits number string operand compare negated conj pred
-    truth_value compared nulled ranged among tail forms primary test factor
+unfolding number_of same_word same_symbol name column minus digits date number string operand compare negated conj pred
+    truth_value compared nulled ranged among tail forms primary test factor unquoted
 made_well = refl
 
 pub guarded : is_guarded factor ≡ true
-unfolding number_of same_word same_symbol name column minus digits number string operand compare negated conj pred
+unfolding number_of same_word same_symbol name column minus digits date number string operand compare negated conj pred
     truth_value compared nulled ranged among tail forms primary test factor
 guarded = refl
 
 pub filled : nullable factor ≡ false
-unfolding number_of same_word same_symbol name column minus digits number string operand compare negated conj pred
+unfolding number_of same_word same_symbol name column minus digits date number string operand compare negated conj pred
     truth_value compared nulled ranged among tail forms primary test factor
 filled = refl
 
 pub begins_so : covers kinds (starts factor) begins_factor ≡ true
-unfolding number_of same_word same_symbol name column minus digits number string operand compare negated conj pred
+unfolding number_of same_word same_symbol name column minus digits date number string operand compare negated conj pred
     truth_value compared nulled ranged among tail forms primary test factor
 begins_so = refl
 
 pub query_made_well : well_made query ≡ true
-unfolding number_of same_word same_symbol name column minus digits number string operand compare negated conj pred
+unfolding number_of same_word same_symbol name column minus digits date number string operand compare negated conj pred
     truth_value alias selection item list place equal join group filter source ending query
 query_made_well = refl
 
 pub query_one_way : determined kinds begins_factor follows_factor query (λ k. false) ≡ true
-unfolding number_of same_word same_symbol name column minus digits number string operand compare negated conj pred
+unfolding number_of same_word same_symbol name column minus digits date number string operand compare negated conj pred
     truth_value alias selection item list place equal join group filter source ending query
 query_one_way = refl

@@ -15,7 +15,7 @@ use Rattle.grammar.proofs.Rules.{solid_of}
 use Rattle.sql_parse.specs.declared.limits.Tally.{Tally}
 use Rattle.sql_parse.specs.Limits.{passes_from, passes}
 use Rattle.sql_parse.specs.Parse.{IsSentence}
-use Rattle.sql_parse.specs.Productions.{name, column, minus, digits, number, string, operand, compare}
+use Rattle.sql_parse.specs.Productions.{name, column, minus, digits, date, number, string, operand, compare}
 use Rattle.sql_parse.specs.Notation.{Condition}
 use Rattle.sql_parse.specs.Productions.{negated, conj, pred, comparison_of, range_of, membership_of, null_test_of, simple}
 use Rattle.sql_parse.specs.Productions.{truth_value, factor}
@@ -37,12 +37,12 @@ use Rattle.sql_parse.proofs.Limiting.{IsShort, Fit, Fits, announces, all_fit, no
 
 filled : nullable factor ≡ false
 unfolding factor simple comparison_of range_of membership_of null_test_of operand column name string number minus
-    digits
+    digits date
 filled = refl
 
 factor_ends : ends_apart kinds announces factor ≡ true
 unfolding factor simple comparison_of range_of membership_of null_test_of operand column name string number minus
-    digits compare negated conj pred truth_value same_word same_symbol
+    digits date compare negated conj pred truth_value same_word same_symbol
 factor_ends = refl
 
 query_filled : nullable query ≡ false
@@ -51,7 +51,7 @@ query_filled = refl
 
 query_ends : ends_apart kinds announces query ≡ true
 unfolding query list item selection source ending filter group join equal place alias simple comparison_of range_of
-    membership_of null_test_of operand column name string number minus digits compare negated conj pred truth_value
+    membership_of null_test_of operand column name string number minus digits date compare negated conj pred truth_value
     same_word same_symbol
 query_ends = refl
 

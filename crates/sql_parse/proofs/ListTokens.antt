@@ -19,7 +19,7 @@ use Rattle.sql_query.specs.Sentence.{Sentence}
 use Rattle.grammar.specs.Rule.{both, either, many, make, Language, Spells, Any}
 use Rattle.sql_parse.specs.Parse.{IsSentence}
 use Rattle.sql_parse.specs.Notation.{Condition, Of, a_word, a_symbol, symbol_for, ◌⊳◌, ◌⊲◌, maybe, listed}
-use Rattle.sql_parse.specs.Productions.{name, column, minus, digits, number, string, operand, compare}
+use Rattle.sql_parse.specs.Productions.{name, column, minus, digits, date, number, string, operand, compare}
 use Rattle.sql_parse.specs.Productions.{negated, conj, pred, comparison_of, range_of, membership_of, null_test_of, simple}
 use Rattle.sql_parse.specs.Productions.{truth_value, factor}
 use Rattle.sql_parse.specs.Clauses.{alias, selection, item, list, place, equal, join, group}
@@ -188,11 +188,11 @@ module _ (D : Language Mark Condition) where
   -- ---- predicates
 
   operand_silent : Silent steps_at D operand
-  unfolding operand column name string number minus digits same_word same_symbol
+  unfolding operand column name string number minus digits date same_word same_symbol
   operand_silent = silent operand refl
 
   says_comparison : Steps comparison_of condition_steps
-  unfolding comparison_of operand column name string number minus digits compare same_word same_symbol
+  unfolding comparison_of operand column name string number minus digits date compare same_word same_symbol
   says_comparison =
       gathers_make steps_at D
       (λ (p : Operand ColumnName × (Comparison × Operand ColumnName)). comparing p.1.0 p.0 p.1.1)
@@ -203,14 +203,14 @@ module _ (D : Language Mark Condition) where
   range = both operand (both negated (a_word word.Between ⊳ both operand (a_word word.And ⊳ operand)))
 
   says_range : Steps range_of condition_steps
-  unfolding range_of operand column name string number minus digits negated same_word same_symbol
+  unfolding range_of operand column name string number minus digits date negated same_word same_symbol
   says_range =
       gathers_make steps_at D
       (λ (p : Operand ColumnName × (Bool × (Operand ColumnName × Operand ColumnName))).
       between p.1.0 p.0 p.1.1.0 p.1.1.1) range (λ v. []) condition_steps (silent range refl) (λ p. refl)
 
   says_null_test : Steps null_test_of condition_steps
-  unfolding null_test_of operand column name string number minus digits negated same_word same_symbol
+  unfolding null_test_of operand column name string number minus digits date negated same_word same_symbol
   says_null_test =
       gathers_make steps_at D (λ (p : Operand ColumnName × Bool). null_test p.1 p.0)
       (both operand (a_word word.Is ⊳ negated ⊲ a_word word.Null)) (λ v. []) condition_steps
@@ -398,7 +398,7 @@ module _ (D : Language Mark Condition) (deep : Gathers places_at D (λ v. [])) w
 
   factor_silent : Silent places_at D factor
   unfolding factor simple comparison_of range_of membership_of null_test_of operand column name string number minus
-      digits compare negated conj pred truth_value same_word same_symbol
+      digits date compare negated conj pred truth_value same_word same_symbol
   factor_silent = no_place factor refl
 
   selecting_silent : Silent places_at D (a_word word.Select ⊳ list)

@@ -7,7 +7,7 @@ use Rattle.scan_base.specs.declared.comparison.Comparison.{Comparison}
 use Rattle.scan_base.specs.declared.value.Value.{Value}
 use Rattle.scan_base.specs.declared.value.Value.TheVariants as value
 use Rattle.scan_base.specs.declared.predicate.Operand.{Operand}
-use Rattle.scan_base.specs.declared.predicate.Operand.TheVariants.{Column, Literal}
+use Rattle.scan_base.specs.declared.predicate.Operand.TheVariants.{Column, Literal, Date}
 use Rattle.scan_base.specs.Predicate.{comparing, between, membership, null_test}
 use Rattle.sql_text.specs.Words.{is_name}
 use Rattle.sql_text.specs.declared.word.Keyword.TheVariants as word
@@ -30,7 +30,7 @@ use Rattle.sql_parse.specs.Within.{equality_names, join_names, operand_names, co
 use Rattle.sql_parse.specs.Within.{sentence_names}
 use Rattle.sql_parse.specs.Parse.{IsSentence}
 use Rattle.sql_parse.specs.Notation.{Condition, Of, a_word, a_symbol, word_for, symbol_for, ◌⊳◌, ◌⊲◌, maybe, listed}
-use Rattle.sql_parse.specs.Productions.{name, column_name, column, minus, digits, number, string, operand, compare}
+use Rattle.sql_parse.specs.Productions.{name, column_name, column, minus, digits, date, number, string, operand, compare}
 use Rattle.sql_parse.specs.Productions.{negated, pred, comparison_of, range_of, membership_of, null_test_of, simple}
 use Rattle.sql_parse.specs.Productions.{factor}
 use Rattle.sql_parse.specs.Clauses.{alias, selection, item, list, place, equal, join, group, filter}
@@ -131,12 +131,18 @@ module _ (D : Language Mark Condition) where
   unfolding string number minus digits same_word same_symbol
   literals_silent = silent literals refl
 
+  date_silent : Silent names_at D date
+  unfolding date same_word
+  date_silent = silent date refl
+
   says_operand : Names operand operand_names
   unfolding operand
   says_operand =
-      gathers_either names_at D (make Column column) (make Literal literals) operand_names
+      gathers_either names_at D (make Column column) (either (make Date date) (make Literal literals)) operand_names
       (gathers_make names_at D Column column column_names operand_names says_column (λ x. refl))
-      (gathers_make names_at D Literal literals (λ v. []) operand_names literals_silent (λ x. refl))
+      (gathers_either names_at D (make Date date) (make Literal literals) operand_names
+      (gathers_make names_at D Date date (λ d. []) operand_names date_silent (λ x. refl))
+      (gathers_make names_at D Literal literals (λ v. []) operand_names literals_silent (λ x. refl)))
 
   -- ---- predicates
 

@@ -121,7 +121,8 @@ module _ (D : Language Mark Condition) where
   unfolding operand
   has_operand ts v (inl q) a = keeps_make Named D Column column IsColumnName OperandHasNames has_column (λ x n. n) ts
       v q a
-  has_operand ts v (inr q) a = subst OperandHasNames (sym q.1) tt
+  has_operand ts v (inr (inl q)) a = subst OperandHasNames (sym q.1) tt
+  has_operand ts v (inr (inr q)) a = subst OperandHasNames (sym q.1) tt
 
   -- ---- predicates
 

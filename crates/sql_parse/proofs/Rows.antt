@@ -33,7 +33,7 @@ use Rattle.sql_parse.specs.QuerySteps.{whole_at, ended}
 use Rattle.sql_parse.specs.Factored.{compared, nulled, ranged, among, tail, forms, primary, test, factor}
 use Rattle.sql_parse.specs.Limits.{counted, is_past, is_long_name, passes}
 use Rattle.sql_parse.specs.Parse.{IsSentence, IsShallow, fault_or, Refuses, Answered, Parsed}
-use Rattle.sql_parse.specs.Productions.{name, column, minus, digits, number, string, operand, compare, negated, conj}
+use Rattle.sql_parse.specs.Productions.{name, column, minus, digits, date, number, string, operand, compare, negated, conj}
 use Rattle.sql_parse.specs.Productions.{pred, truth_value}
 use Rattle.sql_parse.specs.Clauses.{alias, selection, item, list, place, equal, join, group}
 use Rattle.sql_parse.specs.Clauses.{filter, source, ending, query}
@@ -76,7 +76,7 @@ answer_of end (Ok lexemes) = answered end (map mark_of lexemes) (outcome (map ma
 
 answer : List ℕ → Result Sentence Fault
 unfolding tokens_in tokens_from tokens_within front_at mark_front pair single word_kind number_of unquoted same_word
-    same_symbol begins token seen counted is_past is_long_name passes name column minus digits number string operand
+    same_symbol begins token seen counted is_past is_long_name passes name column minus digits date number string operand
     compare negated conj pred truth_value alias selection item list place equal join group filter source ending query
     compared nulled ranged among tail forms primary test factor
 answer text = answer_of (length text) (tokens_in text)
@@ -194,6 +194,33 @@ unclosed = worked refl
 tokens_first : Means (codes "SELECT FROM 'x") (Err (BadSql 12))
 unfolding answer
 tokens_first = worked refl
+
+-- ---- dates: a string that is none offends, or what stands in its place
+
+no_leap_day : Means (codes "SELECT d FROM t WHERE d = DATE '1994-02-29'") (Err (BadSql 31))
+unfolding answer
+no_leap_day = worked refl
+
+no_leap_year : Means (codes "SELECT d FROM t WHERE d = DATE '1900-02-29'") (Err (BadSql 31))
+unfolding answer
+no_leap_year = worked refl
+
+short_parts : Means (codes "SELECT d FROM t WHERE d = DATE '1994-1-1'") (Err (BadSql 31))
+unfolding answer
+short_parts = worked refl
+
+year_0 : Means (codes "SELECT d FROM t WHERE d = DATE '0000-01-01'") (Err (BadSql 31))
+unfolding answer
+year_0 = worked refl
+
+no_string : Means (codes "SELECT d FROM t WHERE d = DATE 5") (Err (BadSql 31))
+unfolding answer
+no_string = worked refl
+
+-- where no operand may stand the word is left out
+no_operand : Means (codes "SELECT d FROM DATE") (Err NotInSubset)
+unfolding answer
+no_operand = worked refl
 
 -- ---- what is left out
 

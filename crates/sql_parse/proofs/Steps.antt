@@ -10,6 +10,7 @@ use Rattle.grammar.specs.Reading.{Outcome, Read, Stuck, Over, Reader, and_then, 
 use Rattle.grammar.specs.Reading.{starts}
 use Rattle.grammar.proofs.Determined.{well_made}
 use Rattle.sql_text.specs.Words.{is_name}
+use Rattle.sql_text.specs.Values.{unquoted}
 use Rattle.sql_parse.specs.Tokens.{Mark, is_word, is_symbol, same_word, same_symbol}
 use Rattle.sql_parse.specs.Answers.{Answer, seen, ◌>>=◌}
 use Rattle.scan_base.specs.declared.predicate.Operand.{Operand}
@@ -17,12 +18,12 @@ use Rattle.scan_base.specs.Predicate.{conjunction, disjunction, negation}
 use Rattle.grammar.specs.Rule.{many, make}
 use Rattle.grammar.proofs.Deep.{flat_alike}
 use Rattle.sql_query.specs.declared.query.ColumnName.{ColumnName}
-use Rattle.sql_parse.specs.Productions.{name, column, minus, digits, number, string, operand, compare}
+use Rattle.sql_parse.specs.Productions.{name, column, minus, digits, date, number, string, operand, compare}
 use Rattle.sql_parse.specs.Notation.{Condition}
 use Rattle.sql_parse.specs.Productions.{negated, truth_value, conj, pred, inner}
 use Rattle.sql_parse.specs.Notation.{a_word, a_symbol, ◌⊳◌, ◌⊲◌}
 use Rattle.sql_parse.specs.Factored.{compared, nulled, ranged, among, tail, forms, primary, test, factor}
-use Rattle.sql_parse.specs.Steps.{at, token_at, name_at, column_at, minus_at, numbered, digits_at, number_at}
+use Rattle.sql_parse.specs.Steps.{at, token_at, name_at, column_at, minus_at, numbered, digits_at, date_at, number_at}
 use Rattle.sql_parse.specs.Steps.{operand_at, compare_at}
 use Rattle.sql_parse.specs.PredicateSteps.{negated_at, truth_at, compared_at, nulled_at, ranged_at}
 use Rattle.sql_parse.specs.PredicateSteps.{operands_at, among_at, tail_at, factor_at, ands_at, conj_at, ors_at, pred_at}
@@ -80,6 +81,15 @@ digits_same : (D : Nest) (ts : List Mark) → seen (reads D digits ts) ≡ digit
 unfolding digits digits_at token_at
 digits_same D ts = simp (flat, seen_kept)
 
+-- an answer that is put together as it was
+then_same : {A : Type 0} (o : Answer A) → (o >>= λ p. Ok (p.0, p.1)) ≡ o
+then_same (Ok p) = refl
+then_same (Err e) = refl
+
+date_same : (D : Nest) (ts : List Mark) → seen (reads D date ts) ≡ date_at ts
+unfolding date date_at token_at
+date_same D ts = simp (flat, seen_kept, then_same)
+
 number_same : (D : Nest) (ts : List Mark) → seen (reads D number ts) ≡ number_at ts
 unfolding number number_at token_at
 number_same D ts = simp (flat, minus_same, digits_same)
@@ -88,9 +98,13 @@ pub column_starts : (ts : List Mark) → begins (starts column) ts ≡ at is_nam
 unfolding column name at
 column_starts ts = refl
 
+date_starts : (ts : List Mark) → begins (starts date) ts ≡ at (is_word word.Date) ts
+unfolding date at
+date_starts ts = refl
+
 pub operand_same : (D : Nest) (ts : List Mark) → seen (reads D operand ts) ≡ operand_at ts
 unfolding operand operand_at token_at at string
-operand_same D ts = simp (flat, column_starts, column_same, number_same)
+operand_same D ts = simp (flat, column_starts, date_starts, column_same, date_same, number_same)
 
 pub compare_same : (D : Nest) (ts : List Mark) → seen (reads D compare ts) ≡ compare_at ts
 unfolding compare compare_at token_at at
@@ -134,7 +148,7 @@ unfolding among at
 among_starts ts = refl
 
 among_flat : (D : Nest) (ts : List Mark) → reads D among ts ≡ reads None among ts
-unfolding among operand column name number minus digits string
+unfolding among operand column name number minus digits date string
 among_flat D ts = flat_alike D None among refl ts
 
 among_first : (n : Bool) (a : Operand ColumnName) (ts : List Mark) →
@@ -238,12 +252,12 @@ pub nil_after : {A : Type 0} (xs ys : List A) (x : A) → (xs ++ x ∷ []) ++ ys
 nil_after xs ys x = append_assoc xs (x ∷ []) ys
 
 operand_made : well_made (a_symbol symbol.Comma ⊳ operand) ≡ true
-unfolding operand column name number minus digits string same_symbol same_word number_of
+unfolding operand column name number minus digits date string same_symbol same_word number_of unquoted
 operand_made = refl
 
 operands_flat : (D : Nest) (ts : List Mark) →
     reads D (many (a_symbol symbol.Comma ⊳ operand)) ts ≡ reads None (many (a_symbol symbol.Comma ⊳ operand)) ts
-unfolding operand column name number minus digits string
+unfolding operand column name number minus digits date string
 operands_flat D ts = flat_alike D None (many (a_symbol symbol.Comma ⊳ operand)) refl ts
 
 pub operands_step : (front : List (Operand ColumnName)) (ts : List Mark) →

@@ -7,16 +7,16 @@ use Rattle.scan_base.specs.declared.truth.Truth.TheVariants as truth
 use Rattle.scan_base.specs.declared.value.Value.{Value}
 use Rattle.scan_base.specs.declared.value.Value.TheVariants as value
 use Rattle.scan_base.specs.declared.predicate.Operand.{Operand}
-use Rattle.scan_base.specs.declared.predicate.Operand.TheVariants.{Column, Literal}
-use Rattle.scan_base.specs.Predicate.{conjunction, disjunction, negation, truth_test, comparing, between}
-use Rattle.scan_base.specs.Predicate.{membership, null_test}
+use Rattle.scan_base.specs.declared.predicate.Operand.TheVariants.{Column, Literal, Date}
+use Rattle.scan_base.specs.Predicate.{conjunction, disjunction, negation, truth_test, comparing, between, membership, null_test}
 use Rattle.sql_text.specs.declared.word.Keyword.TheVariants as word
 use Rattle.sql_text.specs.declared.symbol.Symbol.TheVariants as symbol
 use Rattle.sql_text.specs.declared.token.TokenKind.{TokenKind}
 use Rattle.grammar.specs.Rule.{one, empty, both, either, many, make, opened, again}
 use Rattle.sql_query.specs.declared.query.ColumnName.{ColumnName}
+use Rattle.calendar.specs.Dates.{day_in}
 use Rattle.sql_text.specs.Words.{is_name}
-use Rattle.sql_parse.specs.Tokens.{is_word, is_symbol, is_string, is_digits, word_token, symbol_token, name_token, string_token, digits_token}
+use Rattle.sql_parse.specs.Tokens.{is_word, is_symbol, is_string, is_digits, word_token, symbol_token, name_token, string_token, digits_token, date_token}
 use Rattle.sql_text.specs.Calls.{said, numeral}
 use Rattle.sql_parse.specs.Notation.{Condition, Of, a_word, a_symbol, word_for, symbol_for, ◌⊳◌, ◌⊲◌, maybe, listed, joined, is_one_of}
 
@@ -56,10 +56,14 @@ number = make (λ p. value.Int (signed p.0 p.1)) (both minus digits)
 unfoldable pub string : Of Value
 string = one is_string (λ t. Some (value.Text (said t.0 t.1.1))) string_token
 
--- column | string | TRUE | FALSE | number
+-- DATE string, where the string is a date: its day number
+unfoldable pub date : Of ℤ
+date = a_word word.Date ⊳ one is_string (λ t. day_in (said t.0 t.1.1)) date_token
+
+-- column | DATE string | string | TRUE | FALSE | number
 unfoldable pub operand : Of (Operand ColumnName)
-operand = either (make Column column) (make Literal (either string
-    (either (word_for word.True (value.Bool true)) (either (word_for word.False (value.Bool false)) number))))
+operand = either (make Column column) (either (make Date date) (make Literal (either string
+    (either (word_for word.True (value.Bool true)) (either (word_for word.False (value.Bool false)) number)))))
 
 -- "=" | "<>" | "<" | "<=" | ">" | ">=", where "!=" is "<>"
 unfoldable pub compare : Of Comparison
@@ -81,7 +85,7 @@ negated = either (word_for word.Not true) (empty false)
 abbrev pub begins_factor : TokenKind → Bool
 begins_factor = is_one_of
     (is_name ∷ is_symbol symbol.Plus ∷ is_symbol symbol.Minus ∷ is_digits ∷ is_string ∷
-    is_word word.True ∷ is_word word.False ∷ is_symbol symbol.LeftParenthesis ∷ is_word word.Not ∷ [])
+    is_word word.True ∷ is_word word.False ∷ is_word word.Date ∷ is_symbol symbol.LeftParenthesis ∷ is_word word.Not ∷ [])
 
 -- a factor within a factor
 abbrev pub inner : Of Condition
@@ -126,8 +130,7 @@ primary_of forms = opened (is_symbol symbol.LeftParenthesis) (symbol_token symbo
 
 -- TRUE | FALSE | UNKNOWN
 unfoldable pub truth_value : Of Truth
-truth_value = either (word_for word.True truth.True)
-    (either (word_for word.False truth.False) (word_for word.Unknown truth.Unknown))
+truth_value = either (word_for word.True truth.True) (either (word_for word.False truth.False) (word_for word.Unknown truth.Unknown))
 
 -- a predicate, and the IS behind it where there is one
 abbrev pub tested : Condition → Option (Bool × Truth) → Condition

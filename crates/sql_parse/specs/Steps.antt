@@ -6,13 +6,14 @@ use Rattle.scan_base.specs.declared.comparison.Comparison.TheVariants as compari
 use Rattle.scan_base.specs.declared.value.Value.{Value}
 use Rattle.scan_base.specs.declared.value.Value.TheVariants as value
 use Rattle.scan_base.specs.declared.predicate.Operand.{Operand}
-use Rattle.scan_base.specs.declared.predicate.Operand.TheVariants.{Column, Literal}
+use Rattle.scan_base.specs.declared.predicate.Operand.TheVariants.{Column, Literal, Date}
 use Rattle.sql_text.specs.declared.word.Keyword.TheVariants as word
 use Rattle.sql_text.specs.declared.symbol.Symbol.TheVariants as symbol
 use Rattle.sql_text.specs.declared.token.TokenKind.{TokenKind}
 use Rattle.grammar.specs.Reading.{begins, token}
 use Rattle.sql_query.specs.declared.query.ColumnName.{ColumnName}
 use Rattle.sql_parse.specs.declared.refusal.Refusal.TheVariants as refusal
+use Rattle.calendar.specs.Dates.{day_in}
 use Rattle.sql_text.specs.Words.{is_name}
 use Rattle.sql_parse.specs.Tokens.{Mark, is_word, is_symbol, is_string, is_digits, value_of, number_in}
 use Rattle.sql_parse.specs.Answers.{Answer, seen, ◌>>=◌}
@@ -63,19 +64,27 @@ number_at ts = do
   n ← digits_at m.1
   Ok (value.Int (signed m.0 n.0), n.1)
 
+unfoldable pub date_at : List Mark → Answer ℤ
+date_at ts = do
+  w ← token_at (is_word word.Date) ts
+  t ← token_at is_string w.1
+  numbered (day_in (value_of t.0)) w.1 t.1
+
 unfoldable pub operand_at : List Mark → Answer (Operand ColumnName)
 operand_at ts =
     if at is_name ts then (do
       c ← column_at ts
-      Ok (Column c.0, c.1)) else (if at is_string ts then (do
-        t ← token_at is_string ts
-        Ok (Literal (value.Text (value_of t.0)), t.1)) else (if at (is_word word.True) ts then (do
-          t ← token_at (is_word word.True) ts
-          Ok (Literal (value.Bool true), t.1)) else (if at (is_word word.False) ts then (do
-            t ← token_at (is_word word.False) ts
-            Ok (Literal (value.Bool false), t.1)) else (do
-              n ← number_at ts
-              Ok (Literal n.0, n.1)))))
+      Ok (Column c.0, c.1)) else (if at (is_word word.Date) ts then (do
+        d ← date_at ts
+        Ok (Date d.0, d.1)) else (if at is_string ts then (do
+          t ← token_at is_string ts
+          Ok (Literal (value.Text (value_of t.0)), t.1)) else (if at (is_word word.True) ts then (do
+            t ← token_at (is_word word.True) ts
+            Ok (Literal (value.Bool true), t.1)) else (if at (is_word word.False) ts then (do
+              t ← token_at (is_word word.False) ts
+              Ok (Literal (value.Bool false), t.1)) else (do
+                n ← number_at ts
+                Ok (Literal n.0, n.1))))))
 
 unfoldable pub compare_at : List Mark → Answer Comparison
 compare_at ts =

@@ -90,3 +90,7 @@ string_token = (kind.String, (0, codes "''"))
 -- a token that is digits
 abbrev pub digits_token : Mark
 digits_token = (kind.Digits, (0, codes "0"))
+
+-- a token that is the text of a date
+abbrev pub date_token : Mark
+date_token = (kind.String, (0, codes "'1970-01-01'"))

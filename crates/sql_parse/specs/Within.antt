@@ -48,6 +48,7 @@ join_names join = place_names join.place ++ flat_map equality_names join.on
 abbrev pub operand_names : Operand ColumnName → List (List ℕ)
 operand_names (operand.Column column) = column_names column
 operand_names (operand.Literal value) = []
+operand_names (operand.Date day) = []
 
 abbrev pub condition_names : Pred ColumnName → List (List ℕ)
 condition_names (conjunction p q) = condition_names p ++ condition_names q

@@ -7,6 +7,7 @@ ghost use Rattle.sql_parse.specs.Steps as steps;
 
 use crate::refusal::Refusal;
 use crate::tokens::{Class, Rest};
+use calendar::day_in;
 use scan_base::{Comparison, Operand, Text, Value};
 use sql_query::ColumnName;
 use sql_text::{Keyword, Symbol};
@@ -88,7 +89,22 @@ fn signed_number<'t>(tokens: Rest<'t>) -> Result<(Value, Rest<'t>), Refusal>
     Ok((Value::Int(if negative { -number } else { number }), rest))
 }
 
-// column | string | TRUE | FALSE | number
+// DATE string, where the string is a date: its day number
+#[tactic(auto, unfolding(crate::specs::Steps::date_at))]
+fn date<'t>(alloc: Global, tokens: Rest<'t>) -> Result<(i32, Rest<'t>), Refusal>
+    ensures exact { Gives (λ x. (x.0, unread x.1)) result (steps.date_at (unread tokens.entry)) }
+    ensures shorter { IfOk result (λ x. remaining x.1 < remaining tokens.entry) }
+{
+    let (_, behind) = tokens.take(Class::Word(Keyword::Date))?;
+    let (token, rest) = behind.take(Class::String)?;
+    let text = token.value(alloc)?;
+    match day_in(text.as_str()) {
+        Some(day) => Ok((day, rest)),
+        None => Err(Refusal::Offends(behind.tokens.len())),
+    }
+}
+
+// column | DATE string | string | TRUE | FALSE | number
 #[tactic(auto, unfolding(crate::specs::Steps::operand_at))]
 pub(crate) fn operand<'t>(
     alloc: Global,
@@ -100,6 +116,9 @@ pub(crate) fn operand<'t>(
     if tokens.at(Class::Name) {
         let (column, rest) = column(alloc, tokens)?;
         Ok((Operand::Column(column), rest))
+    } else if tokens.at(Class::Word(Keyword::Date)) {
+        let (day, rest) = date(alloc, tokens)?;
+        Ok((Operand::Date(day), rest))
     } else if tokens.at(Class::String) {
         let (token, rest) = tokens.take(Class::String)?;
         let text = token.value(alloc)?;

@@ -63,6 +63,7 @@ pub record JoinHasNames (join : Join) : Type 0 where
 abbrev pub OperandHasNames : Operand ColumnName → Type 0
 OperandHasNames (operand.Column column) = IsColumnName column
 OperandHasNames (operand.Literal value) = Unit {0}
+OperandHasNames (operand.Date day) = Unit {0}
 
 -- the names of a predicate
 abbrev pub ConditionHasNames : Pred ColumnName → Type 0

@@ -8,7 +8,7 @@ use Rattle.scan_base.specs.declared.value.Value.TheVariants as value
 use Rattle.arrow_schema.specs.declared.data_type.IntegerType.{IntegerType}
 use Rattle.arrow_schema.specs.declared.data_type.IntegerType.TheVariants.{Int8, Int16, Int32, Int64, UInt8, UInt16, UInt32, UInt64}
 use Rattle.arrow_schema.specs.declared.data_type.DataType.{DataType}
-use Rattle.arrow_schema.specs.declared.data_type.DataType.TheVariants.{Integer, Utf8, Bool, Decimal128, Dictionary}
+use Rattle.arrow_schema.specs.declared.data_type.DataType.TheVariants.{Integer, Utf8, Bool, Decimal128, Date, Dictionary}
 use Rattle.arrow_schema.specs.declared.schema.Field.{Field}
 use Rattle.arrays.specs.declared.layout.Layout.{Layout}
 use Rattle.arrays.specs.declared.layout.Layout.TheVariants as layout
@@ -38,6 +38,7 @@ typed_layout (Integer a) (Integer b) _ h typed = absurd typed
 typed_layout Utf8 Utf8 slots h typed = typed
 typed_layout Bool Bool slots h typed = typed
 typed_layout Decimal128 Decimal128 slots h typed = typed
+typed_layout Date Date slots h typed = typed
 typed_layout (Dictionary a) (Dictionary b) (layout.Indices cells) h typed = tt
 typed_layout (Dictionary a) (Dictionary b) _ h typed = absurd typed
 typed_layout _ _ _ h typed = absurd (differ h)
@@ -99,6 +100,7 @@ value_alike (Integer a) (Integer b) v h is = subst (λ (i : IntegerType). IsValu
 value_alike Utf8 Utf8 v h is = is
 value_alike Bool Bool v h is = is
 value_alike Decimal128 Decimal128 v h is = is
+value_alike Date Date v h is = is
 value_alike (Dictionary a) (Dictionary b) value.Null h is = tt
 value_alike (Dictionary a) (Dictionary b) (value.Text bytes) h is = is
 value_alike (Dictionary a) (Dictionary b) (value.Bool flag) h is = absurd is

@@ -17,6 +17,7 @@ fn same_type(old: DataType, new: DataType) -> bool
         (DataType::Utf8, DataType::Utf8) => true,
         (DataType::Bool, DataType::Bool) => true,
         (DataType::Decimal128, DataType::Decimal128) => true,
+        (DataType::Date, DataType::Date) => true,
         (DataType::Dictionary(_), DataType::Dictionary(_)) => true,
         (_, _) => false,
     }

@@ -29,6 +29,7 @@ operand_follows : {C D : Type 0} (f : C → Result Class Fault) (g : D → Resul
     (o : Operand C) → Follows (operand_class f o) (operand_class g (operand_map h o))
 operand_follows f g h same (operand.Column column) class e = same column class e
 operand_follows f g h same (operand.Literal value) class e = e
+operand_follows f g h same (operand.Date day) class e = e
 
 items_follow : {C D : Type 0} (f : C → Result Class Fault) (g : D → Result Class Fault) (h : C → D) →
     ((c : C) → Follows (f c) (g (h c))) →

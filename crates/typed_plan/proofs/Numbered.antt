@@ -15,6 +15,7 @@ operand_value-map : {C D : Type 0} (cell : D → Value) (f : C → D) (o : Opera
     operand_value cell (operand_map f o) ≡ operand_value (λ c. cell (f c)) o
 operand_value-map cell f (operand.Column column) = refl
 operand_value-map cell f (operand.Literal value) = refl
+operand_value-map cell f (operand.Date day) = refl
 
 any_equal-map : {C D : Type 0} (cell : D → Value) (f : C → D) (value : Value) (items : List (Operand C)) →
     any_equal cell value (map (operand_map f) items) ≡ any_equal (λ c. cell (f c)) value items

@@ -3,11 +3,12 @@ use Rattle.std.specs.Prelude.{Bool, true, false, List, [], ◌∷◌, Option, So
 use Rattle.scan_base.specs.declared.fault.Fault.{Fault}
 use Rattle.scan_base.specs.declared.fault.Fault.TheVariants.{TypeClash}
 use Rattle.scan_base.specs.declared.predicate.Operand.{Operand}
-use Rattle.scan_base.specs.declared.predicate.Operand.TheVariants.{Column, Literal}
+use Rattle.scan_base.specs.declared.predicate.Operand.TheVariants.{Column, Literal, Date}
 use Rattle.scan_base.specs.Predicate.{Pred, conjunction, disjunction, negation, truth_test, comparing, between}
 use Rattle.scan_base.specs.Predicate.{membership, null_test, constant}
 use Rattle.typed_plan.specs.declared.class.Class.{Class}
 use Rattle.typed_plan.specs.Class.{same_class, value_class}
+use Rattle.typed_plan.specs.declared.class.Class.TheVariants.{Date as DateClass}
 
 infixr 5 ◌then◌
 -- the first fault of the one check, then of the other
@@ -38,6 +39,7 @@ fault_in result = found result (λ _. None)
 abbrev pub operand_class : {C : Type 0} → (C → Result Class Fault) → Operand C → Result Class Fault
 operand_class class_of (Column column) = class_of column
 operand_class class_of (Literal value) = Ok (value_class value)
+operand_class class_of (Date day) = Ok DateClass
 
 -- the left name, the right name, then whether the classes agree
 abbrev pub compare_fault : Result Class Fault → Result Class Fault → Option Fault

@@ -1,7 +1,7 @@
 -- A predicate with other names of its columns.
 use Rattle.std.specs.Prelude.{map}
 use Rattle.scan_base.specs.declared.predicate.Operand.{Operand}
-use Rattle.scan_base.specs.declared.predicate.Operand.TheVariants.{Column, Literal}
+use Rattle.scan_base.specs.declared.predicate.Operand.TheVariants.{Column, Literal, Date}
 use Rattle.scan_base.specs.Predicate.{Pred, conjunction, disjunction, negation, truth_test, comparing, between}
 use Rattle.scan_base.specs.Predicate.{membership, null_test, constant}
 
@@ -9,6 +9,7 @@ use Rattle.scan_base.specs.Predicate.{membership, null_test, constant}
 abbrev pub operand_map : {C D : Type 0} → (C → D) → Operand C → Operand D
 operand_map f (Column column) = Column (f column)
 operand_map f (Literal value) = Literal value
+operand_map f (Date day) = Date day
 
 -- a predicate whose operands have other names of their columns
 abbrev pub predicate_map : {C D : Type 0} → (C → D) → Pred C → Pred D

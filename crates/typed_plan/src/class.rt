@@ -15,6 +15,8 @@ pub enum Class {
     Text,
     /// Truth values.
     Truth,
+    /// Dates.
+    Date,
 }
 
 impl Class {
@@ -26,6 +28,7 @@ impl Class {
             DataType::Integer(_) | DataType::Decimal128 => Class::Number,
             DataType::Utf8 | DataType::Dictionary(_) => Class::Text,
             DataType::Bool => Class::Truth,
+            DataType::Date => Class::Date,
         }
     }
 

@@ -1,10 +1,14 @@
 -- Inside: what a source gives.
-use Rattle.std.specs.Prelude.{◌≡◌, ◌≤◌, ◌<◌, ◌⊎◌, ◌+◌, false, length, [], ◌++◌, Option, Some, None, Result, Ok, Err}
+use Rattle.std.specs.Prelude.{◌≡◌, ◌≢◌, ◌≤◌, ◌<◌, ◌⊎◌, ◌+◌, false, length, [], ◌++◌, Option, Some, None, Result, Ok, Err}
 use Rattle.std.specs.List.{list_any}
 use Rattle.arrays.specs.Batch.{BatchAt, rows_of}
 use Rattle.scan_base.specs.declared.fault.Fault.{Fault}
 use Rattle.scan_base.specs.declared.fault.Fault.TheVariants.{OutOfMemory, ResultTooLarge}
 use Rattle.scan_base.specs.Limits.{most_answer_rows}
+use Rattle.row_sources.specs.declared.turn.Patience.{Patience}
+use Rattle.row_sources.specs.declared.turn.Patience.TheVariants.{Endless}
+use Rattle.row_sources.specs.declared.turn.Turn.{Turn}
+use Rattle.row_sources.specs.declared.turn.Turn.TheVariants.{Given, Working, End}
 use Rattle.table_versions.specs.Table.{is_long_text}
 use Rattle.fetch_stream.specs.declared.source.Source.{Source}
 use Rattle.fetch_stream.specs.inside.Ahead.{IsSource, AnsweredAs, schema_behind, left_behind, rows_taken}
@@ -35,3 +39,16 @@ GivesBatch before (Ok (Some batch)) after = GivesNext before batch after
 GivesBatch before (Ok None) after = GoesOn before after × (left_behind before ≡ []) × (left_behind after ≡ [])
     × ((last : BatchAt) → rows_taken last after ≡ rows_taken last before)
 GivesBatch before (Err fault) after = MayRefuseSource before fault
+
+-- none is given of the rows that were looked at
+pub record GivesNoneYet (before after : Source) : Type 0 where
+  pub on : GoesOn before after
+  pub rows : left_behind after ≡ left_behind before
+  pub counted : (last : BatchAt) → rows_taken last after ≡ rows_taken last before
+
+-- what a turn of a source gives
+abbrev pub TurnsBatch : Patience → Source → Result (Turn BatchAt) Fault → Source → Type 0
+TurnsBatch patience before (Ok (Given batch)) after = GivesBatch before (Ok (Some batch)) after
+TurnsBatch patience before (Ok Working) after = GivesNoneYet before after × (patience ≢ Endless)
+TurnsBatch patience before (Ok End) after = GivesBatch before (Ok None) after
+TurnsBatch patience before (Err fault) after = GivesBatch before (Err fault) after

@@ -1,10 +1,14 @@
 -- Inside: how a stream goes on that was not refused.
-use Rattle.std.specs.Prelude.{◌≡◌, ◌≤◌, ◌<◌, ◌⊎◌, ◌+◌, true, false, Bool, List, [], ◌++◌, length, Option, Some, None, Result, Ok, Err}
+use Rattle.std.specs.Prelude.{◌≡◌, ◌≢◌, ◌≤◌, ◌<◌, ◌⊎◌, ◌+◌, List, [], ◌++◌, length, Result, Ok, Err}
 use Rattle.scan_base.specs.declared.fault.Fault.{Fault}
 use Rattle.scan_base.specs.declared.fault.Fault.TheVariants.{OutOfMemory, ResultTooLarge}
 use Rattle.scan_base.specs.Limits.{most_answer_rows, most_message_bytes}
 use Rattle.arrow_schema.specs.declared.schema.Schema.{Schema}
 use Rattle.arrays.specs.Batch.{BatchAt, rows_of}
+use Rattle.row_sources.specs.declared.turn.Patience.{Patience}
+use Rattle.row_sources.specs.declared.turn.Patience.TheVariants.{Endless}
+use Rattle.row_sources.specs.declared.turn.Turn.{Turn}
+use Rattle.row_sources.specs.declared.turn.Turn.TheVariants.{Given, Working, End}
 use Rattle.table_versions.specs.Table.{Row}
 use Rattle.flight_info.specs.Payloads.{Payload}
 use Rattle.fetch_stream.specs.Streams.{most_message_rows}
@@ -14,9 +18,10 @@ use Rattle.fetch_stream.specs.inside.Ahead.{IsGoing, AnsweredAs, uncut, schema_b
 use Rattle.fetch_stream.specs.inside.Written.{SaysSchema, SaysBatchBehind}
 
 -- the first payload says the schema
-abbrev pub GivesFirst : Schema → Result (Option Payload) Fault → Type 0
-GivesFirst schema (Ok (Some payload)) = SaysSchema payload schema × (length payload ≤ most_message_bytes)
-GivesFirst schema (Ok None) = ⊥
+abbrev pub GivesFirst : Schema → Result (Turn Payload) Fault → Type 0
+GivesFirst schema (Ok (Given payload)) = SaysSchema payload schema × (length payload ≤ most_message_bytes)
+GivesFirst schema (Ok Working) = ⊥
+GivesFirst schema (Ok End) = ⊥
 GivesFirst schema (Err fault) = fault ≡ OutOfMemory
 
 -- the rows that are still to be given: of the batch that is being cut, and behind it
@@ -46,11 +51,18 @@ pub record HasNext (cutter : Cutter) (source : Source) (new_cutter : Cutter) (ne
   pub same : rows_cut new_cutter new ≡ rows_cut cutter source
   pub more : new_cutter.at < new_cutter.batch.rows
 
--- the next batch is there where the last one was given whole
-abbrev pub Refills : Cutter → Source → Result Bool Fault → Cutter → Source → Type 0
-Refills cutter source (Ok true) new_cutter new = HasNext cutter source new_cutter new
-Refills cutter source (Ok false) new_cutter new = Ends cutter source new_cutter new
-Refills cutter source (Err fault) new_cutter new = Fails cutter source fault
+-- none is given of the rows that were looked at
+pub record Waits (cutter : Cutter) (source : Source) (new_cutter : Cutter) (new : Source) : Type 0 where
+  pub keeps : Keeps source new_cutter new
+  pub rows : rows_left new_cutter new ≡ rows_left cutter source
+  pub same : rows_cut new_cutter new ≡ rows_cut cutter source
+
+-- a turn to the next batch where the last one was given whole: it is there, or not yet, or none is left
+abbrev pub Refills : Patience → Cutter → Source → Result (Turn (Unit {0})) Fault → Cutter → Source → Type 0
+Refills patience cutter source (Ok (Given _)) new_cutter new = HasNext cutter source new_cutter new
+Refills patience cutter source (Ok Working) new_cutter new = Waits cutter source new_cutter new × (patience ≢ Endless)
+Refills patience cutter source (Ok End) new_cutter new = Ends cutter source new_cutter new
+Refills patience cutter source (Err fault) new_cutter new = Fails cutter source fault
 
 -- a payload says a batch of the next rows, one or more, and no more than a message has
 pub record SaysNext (cutter : Cutter) (source : Source) (payload : Payload) (new_cutter : Cutter) (new : Source) : Type 0 where
@@ -64,8 +76,9 @@ pub record SaysNext (cutter : Cutter) (source : Source) (payload : Payload) (new
   pub fits : length payload ≤ most_message_bytes
   pub keeps : Keeps source new_cutter new
 
--- the payload of the next rows
-abbrev pub GivesRows : Cutter → Source → Result (Option Payload) Fault → Cutter → Source → Type 0
-GivesRows cutter source (Ok (Some payload)) new_cutter new = SaysNext cutter source payload new_cutter new
-GivesRows cutter source (Ok None) new_cutter new = Ends cutter source new_cutter new
-GivesRows cutter source (Err fault) new_cutter new = Fails cutter source fault
+-- a turn to the payload of the next rows
+abbrev pub GivesRows : Patience → Cutter → Source → Result (Turn Payload) Fault → Cutter → Source → Type 0
+GivesRows patience cutter source (Ok (Given payload)) new_cutter new = SaysNext cutter source payload new_cutter new
+GivesRows patience cutter source (Ok Working) new_cutter new = Waits cutter source new_cutter new × (patience ≢ Endless)
+GivesRows patience cutter source (Ok End) new_cutter new = Ends cutter source new_cutter new
+GivesRows patience cutter source (Err fault) new_cutter new = Fails cutter source fault

@@ -7,6 +7,6 @@ use Rattle.csv_rows.proofs.rows.send_batch.Given as goal
 
 abbrev pub invariant-loop-place : goal.invariant-loop-place
 invariant-loop-place g l = record {
-  sent : Sent (g.W.Output.contents l.initial.writer) (g.W.Output.contents l.writer) l.initial.outbox l.outbox (flat_map row_record (take l.place (rows_of l.batch)));
+  sent : Sent (g.W.Output.contents l.initial.writer) (g.W.Output.contents l.writer) l.initial.outbox l.outbox (flat_map (row_record l.fields) (take l.place (rows_of l.batch)));
   count : g.W.Output.failures l.writer ≡ g.W.Output.failures l.initial.writer;
 }

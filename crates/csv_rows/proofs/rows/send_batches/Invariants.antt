@@ -6,6 +6,6 @@ use Rattle.csv_rows.proofs.rows.send_batches.Given as goal
 
 abbrev pub invariant-loop-batch : goal.invariant-loop-batch
 invariant-loop-batch g l = record {
-  sent : Sent (g.W.Output.contents l.initial.writer) (g.W.Output.contents l.writer) l.initial.outbox l.outbox (flat_map batch_records (take l.batch-index l.batches));
+  sent : Sent (g.W.Output.contents l.initial.writer) (g.W.Output.contents l.writer) l.initial.outbox l.outbox (flat_map (batch_records l.fields) (take l.batch-index l.batches));
   count : g.W.Output.failures l.writer ≡ g.W.Output.failures l.initial.writer;
 }

@@ -1,60 +1,85 @@
-use Rattle.std.proofs.Common.{◌≡◌, ◌==◌, ◌-◌, ◌∙◌, Bool, sym, ap, length, take, drop, rules}
+use Rattle.std.proofs.Common.{◌≡◌, ◌+◌, true, false, drop, sym, ◌∙◌, rules}
 use Rattle.std.proofs.lemmas.Result.{err_from_is_err_and}
 use Rattle.arrays.specs.Batch.{row_of}
 use Rattle.arrays.specs.Column.{slot_of}
-use Rattle.csv_rows.specs.Records.{first_field, record_end, row_record}
+use Rattle.row_lines.specs.Lines.{type_shown}
+use Rattle.csv_rows.specs.Records.{field_as, next_field, record_end, row_record}
 use Rattle.row_lines.proofs.Parts.{front_sent, front_not_sent, item_sent, item_not_sent, back_sent}
-use Rattle.csv_rows.proofs.Recorded.{value_cell, first_value, first_value_is, row_is}
+use Rattle.row_lines.proofs.Cells.{cells_at, first_cell, first_cell_is, other_inside, other_ended, other_cell}
+use Rattle.csv_rows.proofs.Recorded.{is_lone, quotes_are, row_is}
 use Rattle.csv_rows.proofs.rows.send_row.Goals as goal
 
-pub returns-in_err-send_first_value-clause-bytes : goal.returns-in_err-send_first_value-clause-bytes
-returns-in_err-send_first_value-clause-bytes g c =
+pub returns-in_err-send_cell-clause-bytes : goal.returns-in_err-send_cell-clause-bytes
+returns-in_err-send_cell-clause-bytes g c =
     let p = err_from_is_err_and c.from_residual.result c.from_residual.ensures.1 in
-    let columns = c.args.columns.now in
+    let fields = c.args.table.fields.now in
+    let columns = c.args.table.columns.now in
     let place = c.args.place in
+    let lone : is_lone c.first-item.result columns place ≡ false = sym c.is_lone_null.ensures ∙ c.if-is_lone_null.false in
     let first = c.first-item.result in
     let some = c.in-len1-up.len_at_least in
-    let alone : c.is_empty.result ≡ (length (take (length columns - 1) (drop 1 columns)) == 0) = search rules in
-    let same = first_value_is columns place first some c.first-item.is ∙ ap (λ (b : Bool). first_field b (slot_of first place)) (sym alone) in
     rw p.1
-    (front_not_sent (value_cell place) _ _ _ _ (first_value place columns) (first_field c.is_empty.result (slot_of first place)) record_end (row_record (row_of columns place)) (take (length columns - 1) (drop 1 columns))
-    (row_is columns place first some c.first-item.is) same (rw c.value_at.ensures at c.in_err-send_first_value.ensures.bytes))
+    (front_not_sent next_field _ _ _ _ (first_cell (cells_at field_as fields columns place)) (field_as (type_shown fields 0) (slot_of first place)) record_end (row_record fields (row_of columns place))
+    (drop 1 (cells_at field_as fields columns place)) (row_is fields columns place first some c.first-item.is lone) (first_cell_is field_as fields columns place first some c.first-item.is)
+    (rw (c.type_shown-data_type.ensures, c.value_at.ensures) at c.in_err-send_cell.ensures.bytes))
 
-pub loop-column-init : goal.loop-column-init
-loop-column-init g c =
-    let columns = c.args.columns.now in
+pub loop-number-init : goal.loop-number-init
+loop-number-init g c =
+    let fields = c.args.table.fields.now in
+    let columns = c.args.table.columns.now in
     let place = c.args.place in
     let first = c.first-item.result in
-    let some = c.in-len1-up.len_at_least in
-    let alone : c.is_empty.result ≡ (length (take (length columns - 1) (drop 1 columns)) == 0) = search rules in
-    let same = first_value_is columns place first some c.first-item.is ∙ ap (λ (b : Bool). first_field b (slot_of first place)) (sym alone) in
     record {
-      sent = front_sent _ _ _ _ (first_value place columns) (first_field c.is_empty.result (slot_of first place)) same (rw c.value_at.ensures at c.in_ok-send_first_value.ensures.bytes);
-      count = c.in_ok-send_first_value.ensures.counted;
+      sent = front_sent _ _ _ _ (first_cell (cells_at field_as fields columns place)) (field_as (type_shown fields 0) (slot_of first place))
+          (first_cell_is field_as fields columns place first c.in-len1-up.len_at_least c.first-item.is) (rw (c.type_shown-data_type.ensures, c.value_at.ensures) at c.in_ok-send_cell.ensures.bytes);
+      count = c.in_ok-send_cell.ensures.counted;
     }
 
-pub loop-column-preserved : goal.loop-column-preserved
-loop-column-preserved g c =
-    let columns = c.args.columns.now in
+pub loop-number-preserved : goal.loop-number-preserved
+loop-number-preserved g c =
+    let fields = c.args.table.fields.now in
+    let columns = c.args.table.columns.now in
+    let place = c.args.place in
+    let number = c.loop-number.number in
+    let column = c.index-others-number.result in
+    let inside = c.loop-number-test.true in
     record {
-      sent = item_sent (value_cell c.args.place) _ _ _ _ _ _ (first_value c.args.place columns) (take (length columns - 1) (drop 1 columns)) c.loop-column.column-index c.column-item.result
-          c.loop-column-test.true c.column-item.is c.loop-column.invariant.sent (rw c.value_at-in-loop-column.ensures at c.in_ok-send_next_value.ensures.bytes);
+      sent = item_sent next_field _ _ _ _ _ _ (first_cell (cells_at field_as fields columns place)) (drop 1 (cells_at field_as fields columns place)) number (field_as (type_shown fields (number + 1)) (slot_of column place))
+          (other_inside field_as fields columns place number inside) (other_cell field_as fields columns place number column inside c.index-others-number.is) c.loop-number.invariant.sent
+          (rw (c.type_shown-data_type-in-loop-number.ensures, c.value_at-in-loop-number.ensures) at c.in_ok-send_next_cell.ensures.bytes);
       count = search rules;
     }
 
-pub returns-in_err-send_next_value-clause-bytes : goal.returns-in_err-send_next_value-clause-bytes
-returns-in_err-send_next_value-clause-bytes g c =
-    let p = err_from_is_err_and c.from_residual-in_err-send_next_value.result c.from_residual-in_err-send_next_value.ensures.1 in
-    let columns = c.args.columns.now in
+pub returns-in_err-send_next_cell-clause-bytes : goal.returns-in_err-send_next_cell-clause-bytes
+returns-in_err-send_next_cell-clause-bytes g c =
+    let p = err_from_is_err_and c.from_residual-in_err-send_next_cell.result c.from_residual-in_err-send_next_cell.ensures.1 in
+    let fields = c.args.table.fields.now in
+    let columns = c.args.table.columns.now in
     let place = c.args.place in
+    let lone : is_lone c.first-item.result columns place ≡ false = sym c.is_lone_null.ensures ∙ c.if-is_lone_null.false in
+    let number = c.loop-number.number in
+    let column = c.index-others-number.result in
+    let inside = c.loop-number-test.true in
     rw p.1
-    (item_not_sent (value_cell place) _ _ _ _ _ _ (first_value place columns) record_end (row_record (row_of columns place)) (take (length columns - 1) (drop 1 columns)) c.loop-column.column-index
-    c.column-item.result (row_is columns place c.first-item.result c.in-len1-up.len_at_least c.first-item.is) c.loop-column-test.true c.column-item.is
-    c.loop-column.invariant.sent (rw c.value_at-in-loop-column.ensures at c.in_err-send_next_value.ensures.bytes))
+    (item_not_sent next_field _ _ _ _ _ _ (first_cell (cells_at field_as fields columns place)) record_end (row_record fields (row_of columns place)) (drop 1 (cells_at field_as fields columns place)) number
+    (field_as (type_shown fields (number + 1)) (slot_of column place)) (row_is fields columns place c.first-item.result c.in-len1-up.len_at_least c.first-item.is lone)
+    (other_inside field_as fields columns place number inside) (other_cell field_as fields columns place number column inside c.index-others-number.is) c.loop-number.invariant.sent
+    (rw (c.type_shown-data_type-in-loop-number.ensures, c.value_at-in-loop-number.ensures) at c.in_err-send_next_cell.ensures.bytes))
 
 pub returns-clause-bytes : goal.returns-clause-bytes
 returns-clause-bytes g c =
-    let columns = c.args.columns.now in
+    let fields = c.args.table.fields.now in
+    let columns = c.args.table.columns.now in
     let place = c.args.place in
-    back_sent (value_cell place) _ _ _ _ _ _ _ (first_value place columns) record_end (row_record (row_of columns place)) (take (length columns - 1) (drop 1 columns)) c.loop-column.column-index
-    (row_is columns place c.first-item.result c.in-len1-up.len_at_least c.first-item.is) c.loop-column-test.false c.loop-column.invariant.sent c.send_part-2.ensures.bytes
+    let lone : is_lone c.first-item.result columns place ≡ false = sym c.is_lone_null.ensures ∙ c.if-is_lone_null.false in
+    back_sent next_field _ _ _ _ _ _ _ (first_cell (cells_at field_as fields columns place)) record_end (row_record fields (row_of columns place)) (drop 1 (cells_at field_as fields columns place)) c.loop-number.number
+    (row_is fields columns place c.first-item.result c.in-len1-up.len_at_least c.first-item.is lone) (other_ended field_as fields columns place c.loop-number.number c.loop-number-test.false) c.loop-number.invariant.sent c.send_part-3.ensures.bytes
+
+pub returns-then-is_lone_null-clause-bytes : goal.returns-then-is_lone_null-clause-bytes
+returns-then-is_lone_null-clause-bytes g c =
+    let fields = c.args.table.fields.now in
+    let columns = c.args.table.columns.now in
+    let place = c.args.place in
+    let first = c.first-item.result in
+    let lone : is_lone first columns place ≡ true = sym c.is_lone_null.ensures ∙ c.if-is_lone_null.true in
+    rw (quotes_are fields columns place first c.in-len1-up.len_at_least c.first-item.is lone) c.send_part-2.ensures.bytes

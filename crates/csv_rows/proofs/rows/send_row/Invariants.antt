@@ -1,11 +1,13 @@
-use Rattle.std.proofs.Common.{◌≡◌, ◌++◌, take}
+use Rattle.std.proofs.Common.{◌≡◌, ◌++◌, take, drop}
 use Rattle.std.specs.List.{flat_map}
 use Rattle.grpc_frame.specs.Sending.{Sent}
-use Rattle.csv_rows.proofs.Recorded.{first_value, value_cell}
+use Rattle.csv_rows.specs.Records.{next_field, field_as}
+use Rattle.row_lines.proofs.Cells.{cells_at, first_cell}
 use Rattle.csv_rows.proofs.rows.send_row.Given as goal
 
-abbrev pub invariant-loop-column : goal.invariant-loop-column
-invariant-loop-column g l = record {
-  sent : Sent (g.W.Output.contents l.fn.writer) (g.W.Output.contents l.writer) l.fn.outbox l.outbox (first_value l.place l.columns ++ flat_map (value_cell l.place) (take l.column-index l.others));
+abbrev pub invariant-loop-number : goal.invariant-loop-number
+invariant-loop-number g l = record {
+  sent : Sent (g.W.Output.contents l.fn.writer) (g.W.Output.contents l.writer) l.fn.outbox l.outbox
+      (first_cell (cells_at field_as l.table.fields.now l.table.columns.now l.place) ++ flat_map next_field (take l.number (drop 1 (cells_at field_as l.table.fields.now l.table.columns.now l.place))));
   count : g.W.Output.failures l.writer ≡ g.W.Output.failures l.fn.writer;
 }

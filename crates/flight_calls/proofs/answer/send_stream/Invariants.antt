@@ -1,4 +1,4 @@
-use Rattle.std.proofs.Common.{◌≡◌}
+use Rattle.std.proofs.Common.{◌≡◌, ◌+◌}
 use Rattle.fetch_stream.proofs.Answering.{turns}
 use Rattle.flight_calls.proofs.Streaming.{HasSent}
 use Rattle.flight_calls.proofs.answer.send_stream.Given as goal
@@ -10,4 +10,4 @@ invariant-loop-payload g l = record {
 }
 
 abbrev pub decreases-loop-payload : goal.decreases-loop-payload
-decreases-loop-payload g l = turns (g.P.Payloads.stream l.payloads)
+decreases-loop-payload g l = turns (g.P.Payloads.stream l.payloads) + l.looks

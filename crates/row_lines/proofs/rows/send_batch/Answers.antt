@@ -21,7 +21,7 @@ loop-place-preserved g c =
     let place = c.loop-place.place in
     let lt : place < batch.rows = omega arith in
     record {
-      sent = more_sent row_line _ _ _ _ _ _ (rows_of batch) place (row_of batch.columns place) (rw (rows_long batch) lt) (row_at batch place lt) c.loop-place.invariant.sent
+      sent = more_sent (row_line c.args.fields.now) _ _ _ _ _ _ (rows_of batch) place (row_of batch.columns place) (rw (rows_long batch) lt) (row_at batch place lt) c.loop-place.invariant.sent
           (rw c.columns.ensures.columns at c.in_ok-send_row.ensures.bytes);
       count = search rules;
     }
@@ -33,7 +33,7 @@ returns-in_err-send_row-clause-bytes g c =
     let place = c.loop-place.place in
     let lt : place < batch.rows = omega arith in
     rw p.1
-    (more_not_sent row_line _ _ _ _ _ _ (rows_of batch) place (row_of batch.columns place) (rw (rows_long batch) lt) (row_at batch place lt) c.loop-place.invariant.sent
+    (more_not_sent (row_line c.args.fields.now) _ _ _ _ _ _ (rows_of batch) place (row_of batch.columns place) (rw (rows_long batch) lt) (row_at batch place lt) c.loop-place.invariant.sent
     (rw c.columns.ensures.columns at c.in_err-send_row.ensures.bytes))
 
 pub returns-clause-bytes : goal.returns-clause-bytes

@@ -6,6 +6,6 @@ use Rattle.row_lines.proofs.rows.send_batches.Given as goal
 
 abbrev pub invariant-loop-batch : goal.invariant-loop-batch
 invariant-loop-batch g l = record {
-  sent : Sent (g.W.Output.contents l.initial.writer) (g.W.Output.contents l.writer) l.initial.outbox l.outbox (flat_map batch_lines (take l.batch-index l.batches));
+  sent : Sent (g.W.Output.contents l.initial.writer) (g.W.Output.contents l.writer) l.initial.outbox l.outbox (flat_map (batch_lines l.fields) (take l.batch-index l.batches));
   count : g.W.Output.failures l.writer ≡ g.W.Output.failures l.initial.writer;
 }

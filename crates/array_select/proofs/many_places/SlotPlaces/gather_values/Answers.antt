@@ -8,3 +8,6 @@ returns-in-Decimal128 c = rw c.in-Decimal128.is c.gather_decimals.ensures
 
 pub returns-in-Bool : goal.returns-in-Bool
 returns-in-Bool c = rw c.in-Bool.is c.gather_flags.ensures
+
+pub returns-in-Date : goal.returns-in-Date
+returns-in-Date c = rw c.in-Date.is c.gather_dates.ensures

@@ -1,16 +1,8 @@
-use Rattle.std.specs.Arc.{arc_value}
-use Rattle.scan_exec.specs.Answering.{giving_at}
-use Rattle.scan_exec.proofs.Scanning.{gave, refuses}
+use Rattle.std.proofs.Common.{refl}
 use Rattle.scan_exec.proofs.scan.Scan.next_by.Goals as goal
 
-pub returns-in-Ok : goal.returns-in-Ok
-returns-in-Ok g c =
-    let s = c.self.inside in
-    gave (arc_value s.schema) s.batches.items s.further (giving_at s.answer) (giving_at c.next_counted.new.answer) s.given c.next_counted.new.given c.self.invariant.1
-    c.args.self.now s.refused c.in-Ok.found c.self.view_is c.in_default.is c.in-Ok.ensures.counts
-
-pub returns-in-Err : goal.returns-in-Err
-returns-in-Err g c =
-    let s = c.self.inside in
-    refuses (arc_value s.schema) s.batches.items s.further (giving_at s.answer) (giving_at c.next_counted.new.answer) s.given c.next_counted.new.given c.self.invariant.1
-    c.args.self.now s.refused c.in-Err.fault c.self.view_is c.in_default.is c.in-Err.ensures.counts
+-- endless patience finds a batch or the end
+pub returns-in-Working : goal.returns-in-Working
+returns-in-Working g c =
+    let found = rw (c.in_ok-batch.was, c.in-Working.is) at c.turn_by.ensures in
+    absurd (found.2 refl)

@@ -1,0 +1,9 @@
+pub mod Places
+pub mod Adding
+pub mod Tables
+pub mod Slots
+pub mod IndicesMade
+pub mod Parts
+pub mod Answered
+pub mod AnsweredSoFar
+mod Rows

@@ -1,0 +1,45 @@
+-- Slots that are coded one by one.
+use Rattle.std.proofs.Common.{◌≡◌, ◌≤◌, ◌<◌, ℕ, zero, suc, ◌+◌, ◌-◌, List, [], ◌∷◌, length, map, All, sym, ap, subst, ◌∙◌, arith}
+use Rattle.std.specs.List.{range_with_len}
+use Rattle.std.proofs.lemmas.List.FromFn.{length-map-range_with_len, get_or-map-range_with_len, map-range_with_len_more}
+use Rattle.scan_base.specs.declared.value.Value.{Value}
+use Rattle.scan_base.specs.declared.value.Value.TheVariants.{Null}
+use Rattle.dictionary_answers.specs.Firsts.{firsts, firsts_behind, bytes_in}
+use Rattle.dictionary_answers.specs.Coded.{CodedAt, AreCoded}
+use Rattle.dictionary_answers.specs.inside.Coding.{Adds}
+use Rattle.dictionary_answers.proofs.Places.{coded_more, firsts_more, few_behind, bytes_behind}
+
+-- one slot more
+pub slot_more : (f : ℕ → Value) (n room : ℕ) (old new : CodedAt) → AreCoded (map f (range_with_len 0 n)) room old → Adds old new (f n) → AreCoded (map f (range_with_len 0 (n + 1))) room new
+slot_more f n room old new are adds =
+    rw (map-range_with_len_more f 0 n n (omega arith)) (coded_more (map f (range_with_len 0 n)) room old new (f n) are adds)
+
+-- there are no more texts than slots
+pub few_texts : (f : ℕ → Value) (n room : ℕ) (coded : CodedAt) → AreCoded (map f (range_with_len 0 n)) room coded → length coded.texts ≤ n
+few_texts f n room coded are =
+    omega (arith, ap length are.texts, few_behind (map f (range_with_len 0 n)) [], length-map-range_with_len f 0 n)
+
+-- more slots have no fewer bytes
+bytes_rise : (f : ℕ → Value) (n more : ℕ) → bytes_in (firsts (map f (range_with_len 0 n))) ≤ bytes_in (firsts (map f (range_with_len 0 (n + more))))
+bytes_rise f n zero = let e : n + 0 ≡ n = omega arith in rw e (omega arith)
+bytes_rise f n (suc more) =
+    let e : n + suc more ≡ (n + more) + 1 = omega arith in
+    let so_far = bytes_rise f n more in
+    let one = bytes_behind (f (n + more) ∷ []) (firsts (map f (range_with_len 0 (n + more)))) in
+    rw (e, map-range_with_len_more f 0 (n + more) (n + more) (omega arith), firsts_more (map f (range_with_len 0 (n + more))) (f (n + more))) (omega (arith, so_far, one))
+
+-- where the texts of some slots have no room, those of all have none
+pub none_fit : (f : ℕ → Value) (n count room : ℕ) (coded : CodedAt) → AreCoded (map f (range_with_len 0 n)) room coded → n < count →
+    bytes_in coded.texts + coded.left < bytes_in (firsts_behind coded.texts (f n ∷ [])) → room < bytes_in (firsts (map f (range_with_len 0 count)))
+none_fit f n count room coded are low full =
+    let more : ℕ = count - (n + 1) in
+    let e : count ≡ (n + 1) + more = omega arith in
+    let is : firsts (map f (range_with_len 0 (n + 1))) ≡ firsts_behind coded.texts (f n ∷ []) =
+    ap firsts (map-range_with_len_more f 0 n n (omega arith)) ∙ firsts_more (map f (range_with_len 0 n)) (f n)
+    ∙ ap (λ (t : List (List ℕ)). firsts_behind t (f n ∷ [])) (sym are.texts) in
+    rw e (omega (arith, bytes_rise f (n + 1) more, ap bytes_in is, are.bytes, full))
+
+-- what holds of each value holds of a slot
+pub slot_is : (P : Value → Type 0) (f : ℕ → Value) (count place : ℕ) → All P (map f (range_with_len 0 count)) → place < count → P (f place)
+slot_is P f count place all low =
+    subst P (get_or-map-range_with_len f 0 count place place Null low (omega arith)) (all place Null (omega (arith, length-map-range_with_len f 0 count)))

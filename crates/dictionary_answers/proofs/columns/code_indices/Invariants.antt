@@ -1,0 +1,13 @@
+use Rattle.std.proofs.Common.{map}
+use Rattle.std.specs.List.{range_with_len}
+use Rattle.arrays.specs.Column.{slot_of}
+use Rattle.dictionary_answers.specs.Coded.{AreCoded}
+use Rattle.dictionary_answers.specs.inside.Table.{IsTable}
+use Rattle.dictionary_answers.proofs.columns.code_indices.Given as goal
+
+-- the slots so far are coded, and the table leads to their texts
+abbrev pub invariant-loop-place : goal.invariant-loop-place
+invariant-loop-place l = record {
+  coded : AreCoded (map (slot_of l.column) (range_with_len 0 l.place)) l.initial.coded.left l.coded;
+  table : IsTable l.cells.dictionary l.coded.texts l.table.items;
+}

@@ -1,0 +1,49 @@
+-- Columns as they are answered: those of dictionaries as indices of 32 bits over the texts that they hold, and no others.
+use Rattle.std.specs.Prelude.{◌≡◌, ℕ, ◌+◌, List, [], ◌∷◌, All, map}
+use Rattle.scan_base.specs.declared.value.Value.TheVariants.{Text}
+use Rattle.scan_base.specs.Value.{IsTextOrNull}
+use Rattle.arrow_schema.specs.declared.data_type.IntegerType.TheVariants.{Int32}
+use Rattle.arrow_schema.specs.declared.data_type.DataType.{DataType}
+use Rattle.arrow_schema.specs.declared.data_type.DataType.TheVariants.{Dictionary}
+use Rattle.arrow_schema.specs.declared.schema.Field.{Field}
+use Rattle.arrays.specs.declared.layout.Layout.TheVariants as layout
+use Rattle.arrays.specs.Indices.{IndicesAt}
+use Rattle.arrays.specs.Column.{ColumnAt, values_of}
+use Rattle.dictionary_answers.specs.Firsts.{firsts, bytes_in}
+
+-- the column lies as indices of 32 bits over a dictionary of these texts
+pub record LiesOver (texts : List (List ℕ)) (column : ColumnAt) : Type 0 where
+  pub cells : IndicesAt
+  pub layout : column.layout ≡ layout.Indices cells
+  pub index : cells.index ≡ Int32
+  pub dictionary : cells.dictionary ≡ map Text texts
+
+-- a column may be answered as one of this type: where that is a dictionary, it holds texts
+abbrev pub IsCodable : DataType → ColumnAt → Type 0
+IsCodable (Dictionary encoding) column = All IsTextOrNull (values_of column)
+IsCodable _ column = Unit {0}
+
+-- a column as it is answered: over its own texts, where its type is a dictionary, and else as it is
+abbrev pub IsAnswered : DataType → ColumnAt → ColumnAt → Type 0
+IsAnswered (Dictionary encoding) column made = (values_of made ≡ values_of column) × LiesOver (firsts (values_of column)) made
+IsAnswered _ column made = made ≡ column
+
+-- how many bytes the texts of a column have that is answered so
+abbrev pub column_bytes : DataType → ColumnAt → ℕ
+column_bytes (Dictionary encoding) column = bytes_in (firsts (values_of column))
+column_bytes _ column = 0
+
+-- the same of one column for each field
+abbrev pub AreCodable : List Field → List ColumnAt → Type 0
+AreCodable [] [] = Unit {0}
+AreCodable (field ∷ fields) (column ∷ columns) = IsCodable field.data_type column × AreCodable fields columns
+AreCodable _ _ = ⊥
+
+abbrev pub AreAnswered : List Field → List ColumnAt → List ColumnAt → Type 0
+AreAnswered [] [] [] = Unit {0}
+AreAnswered (field ∷ fields) (column ∷ columns) (made ∷ more) = IsAnswered field.data_type column made × AreAnswered fields columns more
+AreAnswered _ _ _ = ⊥
+
+abbrev pub coded_bytes : List Field → List ColumnAt → ℕ
+coded_bytes (field ∷ fields) (column ∷ columns) = column_bytes field.data_type column + coded_bytes fields columns
+coded_bytes _ _ = 0

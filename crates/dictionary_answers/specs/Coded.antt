@@ -1,0 +1,17 @@
+-- A column of texts that is coded.
+use Rattle.std.specs.Prelude.{◌≡◌, ℕ, ◌+◌, List, Option}
+use Rattle.scan_base.specs.declared.value.Value.{Value}
+use Rattle.dictionary_answers.specs.Firsts.{firsts, bytes_in, AreLed}
+
+-- texts, which of them each slot holds, and how many bytes more texts may have
+pub record CodedAt : Type 0 where
+  pub texts : List (List ℕ)
+  pub places : List (Option ℕ)
+  pub left : ℕ
+
+-- The values are coded: the texts are theirs, each place leads to its value, and the bytes of the texts and those that
+-- are left are all for which there was room.
+pub record AreCoded (values : List Value) (room : ℕ) (coded : CodedAt) : Type 0 where
+  pub texts : coded.texts ≡ firsts values
+  pub places : AreLed coded.texts coded.places values
+  pub bytes : bytes_in coded.texts + coded.left ≡ room

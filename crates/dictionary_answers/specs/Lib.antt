@@ -1,0 +1,4 @@
+pub mod Firsts
+pub mod Coded
+pub mod Answer
+pub mod inside

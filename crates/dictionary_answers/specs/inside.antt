@@ -1,0 +1,4 @@
+-- What contracts of this crate's private functions alone cite.
+pub mod Coding
+pub mod Table
+pub mod Packed

@@ -1,0 +1,128 @@
+//! Columns of indices that are built of places among texts.
+
+ghost use Rattle.std.specs.Prelude.{◌≡◌, ◌≤◌, ◌<◌, ◌^◌, List, IfOk, length, map};
+ghost use Rattle.arrow_schema.specs.declared.data_type.IntegerType.TheVariants.{Int32};
+ghost use Rattle.scan_base.specs.Limits.{most_values};
+ghost use Rattle.scan_base.specs.declared.value.Value.{Value};
+ghost use Rattle.scan_base.specs.declared.value.Value.TheVariants.{Text};
+ghost use Rattle.arrays.specs.Column.{values_of};
+ghost use Rattle.arrays.specs.Texts.{texts_values};
+ghost use Rattle.arrays.specs.Written.{offsets_from, texts_joined};
+ghost use Rattle.dictionary_answers.specs.Firsts.{bytes_in, AreLed};
+ghost use Rattle.dictionary_answers.specs.Answer.{LiesOver};
+ghost use Rattle.dictionary_answers.specs.inside.Packed.{packed_places, AreValidWhereSome};
+
+use arrays::{Column, Dictionary, Slots, Texts, Values};
+use arrow_schema::IntegerType;
+use bitmap::{Bits, BitsBuilder};
+use bytes::Bytes;
+use std::alloc::{AllocError, Global};
+use std::sync::Arc;
+
+/// A column of indices of 32 bits into a dictionary of these texts, which stand in one part of it. Each slot has the
+/// index that is its place, and is null where it has none.
+///
+/// # Errors
+///
+/// `AllocError` where memory is refused.
+pub fn column_of_indices(
+    alloc: Global,
+    places: &[Option<u32>],
+    texts: &[&str],
+) -> Result<Column, AllocError>
+    requires led { (values : List Value) × AreLed (map (λ text. text.now) texts.now) places.now values }
+    requires few { length texts.now ≤ most_values }
+    requires short { bytes_in (map (λ text. text.now) texts.now) < 2 ^ 31 }
+    ensures values { IfOk result (λ column. AreLed (map (λ text. text.now) texts.now) places.now (values_of column)) }
+    ensures over { IfOk result (λ column. LiesOver (map (λ text. text.now) texts.now) column) }
+    ensures long { IfOk result (λ column. column.len ≡ length places.now) }
+{
+    let dictionary = dictionary_of(alloc, texts)?;
+    let validity = places_validity(alloc, places)?;
+    let packed = Bytes::from_vec(pack_places(alloc, places)?)?;
+    let _values = dictionary.len();
+    let indices = Values::Indices(IntegerType::Int32, packed, Arc::new(alloc, dictionary)?);
+    Ok(Column::new(Slots::from_parts(validity, places.len(), indices)))
+}
+
+// The validity bits of slots that are null where they have no place, and none where each has one.
+fn places_validity(alloc: Global, places: &[Option<u32>]) -> Result<Option<Bits>, AllocError>
+    ensures { IfOk result (λ validity. AreValidWhereSome validity places.now) }
+{
+    let mut bits = BitsBuilder::with_capacity(alloc, places.len())?;
+    let mut nulls = false;
+    for place in places {
+        nulls = nulls || place.is_none();
+        bits.push(place.is_some())?;
+    }
+    if !nulls {
+        return Ok(None);
+    }
+    Ok(Some(bits.into_bits()?))
+}
+
+// The places, four bytes each, and 0 where there is none.
+fn pack_places(alloc: Global, places: &[Option<u32>]) -> Result<Vec<u8>, AllocError>
+    ensures { IfOk result (λ packed. packed.items ≡ packed_places places.now) }
+{
+    let mut packed = Vec::with_capacity(alloc, places.len().saturating_mul(4))?;
+    for place in places {
+        packed.extend_from_slice(&place.unwrap_or(0).to_le_bytes())?;
+    }
+    Ok(packed)
+}
+
+// A dictionary of these texts.
+fn dictionary_of(alloc: Global, texts: &[&str]) -> Result<Dictionary, AllocError>
+    requires few { length texts.now ≤ most_values }
+    requires short { bytes_in (map (λ text. text.now) texts.now) < 2 ^ 31 }
+    ensures { IfOk result (λ dictionary. dictionary ≡ map Text (map (λ text. text.now) texts.now)) }
+{
+    let part = part_of(alloc, texts)?;
+    match Dictionary::new(alloc).extended(alloc, part) {
+        Ok(dictionary) => Ok(dictionary),
+        Err(_) => Err(AllocError),
+    }
+}
+
+// The texts, one behind another.
+fn part_of(alloc: Global, texts: &[&str]) -> Result<Texts, AllocError>
+    requires short { bytes_in (map (λ text. text.now) texts.now) < 2 ^ 31 }
+    ensures values { IfOk result (λ part. texts_values part ≡ map Text (map (λ text. text.now) texts.now)) }
+    ensures long { IfOk result (λ part. part.len ≡ length texts.now) }
+{
+    let (packed, total) = pack_offsets(alloc, texts)?;
+    let joined = join_texts(alloc, texts, total)?;
+    let (offsets, bytes) = (Bytes::from_vec(packed)?, Bytes::from_vec(joined)?);
+    match Texts::new(None, offsets, bytes, texts.len()) {
+        Ok(part) => Ok(part),
+        Err(_) => Err(AllocError),
+    }
+}
+
+// The offsets that cut the texts where they stand one behind another, and how many bytes those have.
+fn pack_offsets(alloc: Global, texts: &[&str]) -> Result<(Vec<u8>, u32), AllocError>
+    requires { bytes_in (map (λ text. text.now) texts.now) < 2 ^ 31 }
+    ensures { IfOk result (λ made. made.0.items ≡ offsets_from 0 (map Text (map (λ text. text.now) texts.now))) }
+{
+    let room = texts.len().saturating_add(1).saturating_mul(4);
+    let mut packed = Vec::with_capacity(alloc, room)?;
+    let mut offset: u32 = 0;
+    for text in texts {
+        packed.extend_from_slice(&offset.to_le_bytes())?;
+        offset += text.len() as u32;
+    }
+    packed.extend_from_slice(&offset.to_le_bytes())?;
+    Ok((packed, offset))
+}
+
+// The bytes of the texts, one behind another; room for `total` bytes is made at once.
+fn join_texts(alloc: Global, texts: &[&str], total: u32) -> Result<Vec<u8>, AllocError>
+    ensures { IfOk result (λ joined. joined.items ≡ texts_joined (map Text (map (λ text. text.now) texts.now))) }
+{
+    let mut joined = Vec::with_capacity(alloc, total as usize)?;
+    for text in texts {
+        joined.extend_from_slice(text.as_bytes())?;
+    }
+    Ok(joined)
+}

@@ -1,0 +1,71 @@
+//! The indices of slots.
+
+ghost use Rattle.std.specs.Prelude.{◌≡◌, ◌<◌, None, MatchOption, get_or, length, slice_get};
+ghost use Rattle.scan_base.specs.declared.value.Value.TheVariants.{Null};
+ghost use Rattle.arrays.specs.Number.{integer_at};
+ghost use Rattle.arrays.specs.Validity.{is_valid};
+ghost use Rattle.arrays.specs.Indices.{entry_of};
+ghost use Rattle.arrays.specs.Layout.{layout_slot};
+ghost use Rattle.arrays.specs.declared.layout.Layout.TheVariants as layout;
+
+use arrays::{Element, Indices};
+use arrow_schema::IntegerType;
+
+/// The index of a slot that is not null by its validity bit: it is that of a value of the dictionary.
+pub(crate) fn valid_index(cells: &Indices<'_>, slot: usize) -> Option<usize>
+    requires { slot < (cells.now).len }
+    ensures { MatchOption result (layout_slot (layout.Indices cells.now) slot ≡ Null)
+        (λ index. (index < length (cells.now).dictionary)
+        × (layout_slot (layout.Indices cells.now) slot ≡ get_or (cells.now).dictionary index Null)) }
+{
+    if is_valid(cells, slot) {
+        index_at(cells, slot)
+    } else {
+        None
+    }
+}
+
+// Whether the validity bit of a slot says that it is valid.
+fn is_valid(cells: &Indices<'_>, slot: usize) -> bool
+    requires { slot < (cells.now).len }
+    ensures { result ≡ is_valid (cells.now).validity slot }
+{
+    let _count = cells.len();
+    match cells.validity() {
+        Some(bits) => bits.get(slot),
+        None => true,
+    }
+}
+
+// The index of a slot, where it is that of a value of the dictionary; as may not be where the slot is null.
+fn index_at(cells: &Indices<'_>, slot: usize) -> Option<usize>
+    requires { slot < (cells.now).len }
+    ensures { MatchOption result (entry_of cells.now slot ≡ None)
+        (λ index. (index < length (cells.now).dictionary)
+        × (entry_of cells.now slot ≡ slice_get (cells.now).dictionary index)) }
+{
+    let count = cells.dictionary().len();
+    match usize::try_from(integer_at(cells, slot)) {
+        Ok(index) if index < count => Some(index),
+        _ => None,
+    }
+}
+
+// The number that is the index of a slot.
+fn integer_at(cells: &Indices<'_>, slot: usize) -> i128
+    requires { slot < (cells.now).len }
+    ensures { result ≡ integer_at (cells.now).index (cells.now).values slot }
+{
+    let _count = cells.len();
+    let values = cells.values();
+    match cells.index_type() {
+        IntegerType::Int8 => i128::from(i8::read(values, slot)),
+        IntegerType::Int16 => i128::from(i16::read(values, slot)),
+        IntegerType::Int32 => i128::from(i32::read(values, slot)),
+        IntegerType::Int64 => i128::from(i64::read(values, slot)),
+        IntegerType::UInt8 => i128::from(u8::read(values, slot)),
+        IntegerType::UInt16 => i128::from(u16::read(values, slot)),
+        IntegerType::UInt32 => i128::from(u32::read(values, slot)),
+        IntegerType::UInt64 => i128::from(u64::read(values, slot)),
+    }
+}

@@ -1,0 +1,13 @@
+//! Columns of texts as indices over dictionaries of their own texts.
+#![tactic(auto)]
+
+pub mod batches;
+pub mod built;
+pub mod coding;
+pub mod columns;
+mod indices;
+
+pub use crate::batches::code_batch;
+pub use crate::built::column_of_indices;
+pub use crate::coding::{Coded, Stop};
+pub use crate::columns::code_column;
