@@ -74,7 +74,7 @@ impl MeasuredBatch {
         self.stats[column].side(&self.batch.columns()[column])
     }
 
-    /// The statistics of a column, to be kept without it: those of numbers and truth values, or of a column without a value.
+    /// The statistics of a column, to be kept without it, unless its values are texts, one of the two of more than 16 bytes.
     pub fn owned_stats(&self, column: usize) -> Option<OwnedStats>
         requires { column < length self.now.columns }
         ensures { IfSome result (λ owned. owned ≡ stats_in self.now.columns column) }

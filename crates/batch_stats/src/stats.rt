@@ -11,7 +11,7 @@ ghost use Rattle.batch_stats.specs.Stats.{stand, stats_of, with_value};
 use crate::entries::entries_stats;
 use crate::flags::flags_stats;
 use crate::numbers::{decimals_stats, integers_stats};
-use crate::owned::{OwnedEnds, OwnedStats};
+use crate::owned::{OwnedEnds, OwnedStats, short_text};
 use crate::side::{Ends, Side};
 use crate::texts::texts_stats;
 use arrays::{Cells, Column, Layout};
@@ -139,7 +139,7 @@ impl Stats {
         }
     }
 
-    /// The same without the column, unless the values are texts.
+    /// The same without the column, unless the values are texts, one of the two of more than 16 bytes.
     pub fn owned(&self, column: &Column) -> Option<OwnedStats>
         requires { IsStatsOf column.now self.now }
         ensures { IfSome result (λ owned. owned ≡ stats_of (values_of column.now)) }
@@ -148,7 +148,10 @@ impl Stats {
             Stats::Nulls => OwnedEnds::Nulls,
             Stats::Flags { least, greatest } => OwnedEnds::Flags { least, greatest },
             Stats::Numbers { least, greatest } => OwnedEnds::Numbers { least, greatest },
-            Stats::Texts { .. } => return None,
+            Stats::Texts { least, greatest } => OwnedEnds::Texts {
+                least: short_text(column.value_at(least))?,
+                greatest: short_text(column.value_at(greatest))?,
+            },
         };
         Some(OwnedStats {
             ends,

@@ -131,8 +131,8 @@ impl TableVersion {
         }
     }
 
-    /// What the values of a column of a batch are between, and how many are null. Of numbers and truth values in the full
-    /// pages of 256 batches it is read without the batch.
+    /// What the values of a column of a batch are between, and how many are null. In the full pages of 256 batches it is read
+    /// without the batch, but for texts of more than 16 bytes and what stands behind them in their page.
     pub fn side(&self, index: usize, column: usize) -> Side<'_>
         requires batch { index < length self.now.batches }
         requires column { column < length self.now.schema.fields }
