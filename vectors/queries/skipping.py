@@ -14,7 +14,7 @@ many values, or few. The values that are used have codes of which two are neighb
 codes are taken for one, the statistics are others. Each column is also asked at the ends of its values in each batch.
 
 A last table has 530 batches. A server keeps the statistics of each 256 batches in a page, so these have two pages, and 18 batches
-behind them.
+behind them. A page holds texts of at most 16 bytes. Texts of 16 bytes come in each page, and behind them some of 17.
 
 Which batches are opened is written here from docs/SQL.md, section 7, over `may_hold` in truths.py. Each case is looked at in
 two more ways, which use no statistics or no rule about them: each row that is kept lies in a batch that is opened; and the
@@ -47,6 +47,7 @@ DEPTHS = [0, 0, 1, 1, 2]  # of a part
 TEXTS = [[f"abcdefgh{number:02}" for number in range(40)],
          [first + second for first in "aAbéz" for second in ["", " ", "a", "b", "é", "\U00010000"]],
          ["", "a", "a\0", "aa", "abcdefgh", "abcdefgh\0", "abcdefghi", "abcdefghij", "b"]]
+PAGED_TEXTS = [f"abcdefghijklmn{number:02}" + "z" * (number % 20 in (13, 17)) for number in range(40)]  # of 16 bytes, or 17
 CLASSES = {"f": bool, "g": bool, "s": str, "c": str, "c16": str, "c32": str, "c64": str}
 WIDTHS = {"c": 8, "c16": 16, "c32": 32, "c64": 64}  # of the indices of dictionaries
 
@@ -181,8 +182,8 @@ def many_batches():
     """A table of more batches than two pages of statistics have."""
     draws = Draws("pages")
     kinds = [Kind(name, domain_of(draws, name), manner, nulls)
-             for name, manner, nulls in [("i64", "rising", "some"), ("u16", "random", "batches"), ("f", "one", "some"), ("s", "rising", "none"),
-                                         ("c", "falling", "any")]]
+             for name, manner, nulls in [("i64", "rising", "some"), ("u16", "random", "batches"), ("f", "one", "some"), ("c", "falling", "any")]]
+    kinds.insert(3, Kind("s", PAGED_TEXTS, "rising", "none"))
     return Batched(draws, "pages", kinds, PAGED_BATCHES, (PAGED_SIZES[number % len(PAGED_SIZES)] for number in range(PAGED_BATCHES)))
 
 
@@ -411,6 +412,17 @@ def of_places(turn):
     return case_of(draws, f"SELECT {draws.choice(scopes[-1])} FROM {names[0]}{joins}", places, ons, where)
 
 
+def of_a_pair(one, first, second):
+    """Cases of a table joined with itself, where each place has a conjunct over a column: one keeps its upper values, one its lower."""
+    places = [Place(one, "x"), Place(one, "y")]
+    query = f"SELECT x.{first} FROM {one.name} x JOIN {one.name} y ON x.{second} = y.{second}"
+    for kind in (kind for kind in one.kinds if kind.name == first):
+        low, high = kind.domain[len(kind.domain) // 3], kind.domain[2 * len(kind.domain) // 3]
+        for signs, ends_ in [("><", (high, low)), ("<>", (low, high)), (">>", (high, low)), ("><", (low, high))]:
+            parts = [compare(Name(f"{alias}.{first}"), sign, value) for alias, sign, value in zip("xy", signs, ends_)]
+            yield case_of(Draws(f"pair {first} {signs}"), query, places, [(f"x.{second}", f"y.{second}")], all_of(*parts))
+
+
 # ---- 70,000 rows, and long chains of conjuncts
 
 
@@ -450,3 +462,5 @@ def cases():
         yield from of_one_place(number, one, 40)
         yield from at_the_ends(one)
     yield from of_one_place(TABLES + len(CODED), PAGED, 60)
+    for name in ["i64", "s"]:
+        yield from of_a_pair(PAGED, name, "u16")
