@@ -1,3 +1,4 @@
 pub mod Possible
 pub mod Can
 pub mod Laws
+pub mod inside

@@ -1,17 +1,19 @@
 //! The possible truths of a predicate on a batch.
 
-ghost use Rattle.std.specs.Prelude.{◌≡◌, Bool, IsTrue};
+ghost use Rattle.std.specs.Prelude.{◌≡◌, Bool, IfSome, IsTrue};
 ghost use Rattle.std.specs.List.{list_all};
 ghost use Rattle.scan_base.specs.Predicate.{names_only, operand_names};
 ghost use Rattle.scan_base.specs.View.{pred_of};
 ghost use Rattle.batch_skipping.specs.Can.{can, can_be_among, can_be_null, can_be_within, can_compare, side_of};
+ghost use Rattle.batch_skipping.specs.inside.Numbers.{stats_of_numbers};
 ghost use Rattle.batch_stats.specs.Sides.{side_at};
 ghost use Rattle.batch_stats.specs.Stats.{StatsAt};
 
 use crate::compare::{can_be_null, can_compare};
+use crate::numbers::Numbers;
 use crate::possible::Possible;
 use batch_stats::Side;
-use scan_base::{Comparison, Operand, Predicate, Truth};
+use scan_base::{Comparison, Operand, Predicate, Truth, Value};
 
 /// The statistics of the columns of a batch, by what names a column.
 pub trait Measured<C> {
@@ -41,6 +43,70 @@ fn side_of<'a, C, M: Measured<C>>(operand: &'a Operand<C>, batch: &'a M) -> Side
 
 // The functions of the leaves are not inlined: a chain has a frame of `can` for each side, which is to be small.
 
+// The same of an operand whose values are numbers.
+fn numbers_of<C, M: Measured<C>>(operand: &Operand<C>, batch: &M) -> Option<Numbers>
+    requires { IsTrue (operand_names (M.has batch.now) operand.now) }
+    ensures { IfSome result (λ numbers. stats_of_numbers numbers ≡ side_of (M.stats batch.now) operand.now) }
+{
+    match operand {
+        Operand::Column(column) => Numbers::of_side(&batch.side(column)),
+        Operand::Literal(Value::Int(number)) => Some(Numbers::of(*number)),
+        Operand::Literal(_) => None,
+        Operand::Date(day) => Some(Numbers::of(i128::from(*day))),
+    }
+}
+
+// The possible truths of a comparison of numbers. It is `None` of other values. The right side is mostly a literal, so it is
+// looked at first.
+fn numbers_compared<C, M: Measured<C>>(
+    comparison: Comparison,
+    left: &Operand<C>,
+    right: &Operand<C>,
+    batch: &M,
+) -> Option<Possible>
+    requires left { IsTrue (operand_names (M.has batch.now) left.now) }
+    requires right { IsTrue (operand_names (M.has batch.now) right.now) }
+    ensures { IfSome result (λ possible. possible ≡ can_compare comparison (side_of (M.stats batch.now) left.now) (side_of (M.stats batch.now) right.now)) }
+{
+    let right = numbers_of(right, batch)?;
+    let left = numbers_of(left, batch)?;
+    Some(left.can_compare(comparison, &right))
+}
+
+// The possible truths of BETWEEN of numbers. It is `None` of other values.
+fn numbers_within<C, M: Measured<C>>(
+    operand: &Operand<C>,
+    low: &Operand<C>,
+    high: &Operand<C>,
+    batch: &M,
+) -> Option<Possible>
+    requires operand { IsTrue (operand_names (M.has batch.now) operand.now) }
+    requires low { IsTrue (operand_names (M.has batch.now) low.now) }
+    requires high { IsTrue (operand_names (M.has batch.now) high.now) }
+    ensures { IfSome result (λ possible. possible ≡ can_be_within (side_of (M.stats batch.now) operand.now)
+        (side_of (M.stats batch.now) low.now) (side_of (M.stats batch.now) high.now)) }
+{
+    let low = numbers_of(low, batch)?;
+    let high = numbers_of(high, batch)?;
+    let numbers = numbers_of(operand, batch)?;
+    Some(numbers.can_be_within(&low, &high))
+}
+
+// left comparison right, of any values
+#[inline(never)]
+fn sides_compared<C, M: Measured<C>>(
+    comparison: Comparison,
+    left: &Operand<C>,
+    right: &Operand<C>,
+    batch: &M,
+) -> Possible
+    requires left { IsTrue (operand_names (M.has batch.now) left.now) }
+    requires right { IsTrue (operand_names (M.has batch.now) right.now) }
+    ensures { result ≡ can_compare comparison (side_of (M.stats batch.now) left.now) (side_of (M.stats batch.now) right.now) }
+{
+    can_compare(comparison, &side_of(left, batch), &side_of(right, batch))
+}
+
 // left comparison right
 #[inline(never)]
 fn can_be_compared<C, M: Measured<C>>(
@@ -53,7 +119,29 @@ fn can_be_compared<C, M: Measured<C>>(
     requires right { IsTrue (operand_names (M.has batch.now) right.now) }
     ensures { result ≡ can_compare comparison (side_of (M.stats batch.now) left.now) (side_of (M.stats batch.now) right.now) }
 {
-    can_compare(comparison, &side_of(left, batch), &side_of(right, batch))
+    match numbers_compared(comparison, left, right, batch) {
+        Some(possible) => possible,
+        None => sides_compared(comparison, left, right, batch),
+    }
+}
+
+// operand >= low AND operand <= high, of any values
+#[inline(never)]
+fn sides_within<C, M: Measured<C>>(
+    operand: &Operand<C>,
+    low: &Operand<C>,
+    high: &Operand<C>,
+    batch: &M,
+) -> Possible
+    requires operand { IsTrue (operand_names (M.has batch.now) operand.now) }
+    requires low { IsTrue (operand_names (M.has batch.now) low.now) }
+    requires high { IsTrue (operand_names (M.has batch.now) high.now) }
+    ensures { result ≡ can_be_within (side_of (M.stats batch.now) operand.now)
+        (side_of (M.stats batch.now) low.now) (side_of (M.stats batch.now) high.now) }
+{
+    let side = side_of(operand, batch);
+    let above = can_compare(Comparison::GreaterOrEqual, &side, &side_of(low, batch));
+    above.and(can_compare(Comparison::LessOrEqual, &side, &side_of(high, batch)))
 }
 
 // operand >= low AND operand <= high
@@ -70,9 +158,10 @@ fn can_be_within<C, M: Measured<C>>(
     ensures { result ≡ can_be_within (side_of (M.stats batch.now) operand.now)
         (side_of (M.stats batch.now) low.now) (side_of (M.stats batch.now) high.now) }
 {
-    let side = side_of(operand, batch);
-    let above = can_compare(Comparison::GreaterOrEqual, &side, &side_of(low, batch));
-    above.and(can_compare(Comparison::LessOrEqual, &side, &side_of(high, batch)))
+    match numbers_within(operand, low, high, batch) {
+        Some(possible) => possible,
+        None => sides_within(operand, low, high, batch),
+    }
 }
 
 // The OR of the equalities with each item.

@@ -1,8 +1,9 @@
 //! The possible truths of a comparison of two sides, and of IS NULL.
 
-ghost use Rattle.std.specs.Prelude.{◌≡◌, is_some};
+ghost use Rattle.std.specs.Prelude.{◌≡◌, ◌&&◌, is_some};
 ghost use Rattle.std.specs.Ordering.{int_cmp};
 ghost use Rattle.scan_base.specs.Comparison.{order_of, satisfies};
+ghost use Rattle.scan_base.specs.declared.comparison.Comparison.TheVariants.{Equal};
 ghost use Rattle.scan_base.specs.Value.{value_of};
 ghost use Rattle.batch_skipping.specs.Can.{can_be_null, can_compare, equal_between, less_between, of_sides};
 ghost use Rattle.batch_stats.specs.Sides.{ends_at, side_at};
@@ -57,16 +58,25 @@ fn stand(comparison: Comparison, left: &ValueRef<'_>, right: &ValueRef<'_>) -> b
     values_stand(comparison, left, right)
 }
 
+// Whether all values between these ends are one value. Mostly the least ones differ, so they are looked at first.
+fn are_one_value(left: &Ends<'_>, right: &Ends<'_>) -> bool
+    ensures { result ≡ (stand Equal (ends_at left.now).0 (ends_at left.now).1
+        && (stand Equal (ends_at right.now).0 (ends_at right.now).1 && stand Equal (ends_at left.now).0 (ends_at right.now).0)) }
+{
+    if !stand(Comparison::Equal, &left.least, &right.least) {
+        return false;
+    }
+    stand(Comparison::Equal, &left.least, &left.greatest)
+        && stand(Comparison::Equal, &right.least, &right.greatest)
+}
+
 // Whether `=` can be true, and false, of values between these ends.
 fn equal_between(left: &Ends<'_>, right: &Ends<'_>) -> (bool, bool)
     ensures { result ≡ equal_between (ends_at left.now) (ends_at right.now) }
 {
     let can_true = stand(Comparison::LessOrEqual, &left.least, &right.greatest)
         && stand(Comparison::LessOrEqual, &right.least, &left.greatest);
-    let is_one_value = stand(Comparison::Equal, &left.least, &left.greatest)
-        && (stand(Comparison::Equal, &right.least, &right.greatest)
-            && stand(Comparison::Equal, &left.least, &right.least));
-    (can_true, !is_one_value)
+    (can_true, !are_one_value(left, right))
 }
 
 // Whether `<` can be true, and false, of values between these ends.

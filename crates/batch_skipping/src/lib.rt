@@ -4,6 +4,7 @@
 pub mod can;
 mod compare;
 pub mod laws;
+mod numbers;
 pub mod possible;
 
 pub use crate::can::{Measured, may_hold};
