@@ -1,5 +1,5 @@
 -- Records, field by field and row by row.
-use Rattle.std.proofs.Common.{◌≡◌, ◌==◌, ◌&&◌, ℕ, ◌-◌, ◌≤◌, Bool, true, false, if◌then◌else◌, List, [], ◌∷◌, ◌++◌, length, take, drop, get_or, codes, refl, sym, ap, ◌∙◌, arith}
+use Rattle.std.proofs.Common.{◌≡◌, ◌==◌, ◌&&◌, ℕ, ◌-◌, ◌≤◌, ◌<◌, Bool, true, false, if◌then◌else◌, List, [], ◌∷◌, ◌++◌, length, take, drop, get_or, codes, refl, sym, ap, ◌∙◌, arith}
 use Rattle.std.specs.List.{flat_map}
 use Rattle.std.proofs.lemmas.Grind.{flat_map-append}
 use Rattle.std.proofs.lemmas.List.{drop_more, take_rest, length-map}
@@ -66,6 +66,12 @@ module _ (fields : List Field) (columns : List ColumnAt) (place : ℕ) (first : 
   pub row_is : is_lone first columns place ≡ false → row_record fields (row_of columns place)
       ≡ first_cell (cells_at field_as fields columns place) ++ (flat_map next_field (drop 1 (cells_at field_as fields columns place)) ++ record_end)
   row_is e = by_lone false e ∙ record_parts (cells_at field_as fields columns place) (omega (arith, cells_long field_as fields columns place, some))
+
+-- the record of a row without columns
+pub empty_record : (fields : List Field) (columns : List ColumnAt) (place : ℕ) → length columns < 1 → row_record fields (row_of columns place) ≡ record_end
+empty_record [] [] place few = refl
+empty_record (field ∷ fields) [] place few = refl
+empty_record fields (column ∷ columns) place few = absurd (omega (arith, few))
 
 -- ---- the rows of batches
 

@@ -63,6 +63,7 @@ abbrev dates : List Field
 dates = record { name = codes "d"; nullable = true; data_type = Date } ∷ record { name = codes "k"; nullable = true; data_type = Utf8 } ∷ []
 
 date : row_record dates (Int (pos 8766) ∷ Null ∷ []) ≡ codes "1994-01-01,\r\n"
+unfolding digits
 date = ap (λ (date : Option (List ℕ)). unwrap_or date (codes "8766") ++ codes ",\r\n") row_within
 
 before_the_years : row_record dates (Int (negsuc 719162) ∷ Null ∷ []) ≡ codes "-719163,\r\n"

@@ -110,7 +110,7 @@ fn send_row<W: Output>(
     requires failures { CanFail (W.failures writer.old) }
     requires within { All (λ column. place < column.len) table.columns.now }
     ensures bytes { Sends result (W.contents writer.old) (W.contents writer.new)
-        outbox.old outbox.new (row_record table.fields.now (row_of table.columns.now place)) }
+        outbox.old outbox.new (row_record table.entry.fields.now (row_of table.entry.columns.now place)) }
     ensures counted { CountsFailure result (W.failures writer.old) (W.failures writer.new) }
     ensures fault { FailsByTransport result }
 {

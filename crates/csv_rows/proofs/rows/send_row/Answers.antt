@@ -1,12 +1,13 @@
-use Rattle.std.proofs.Common.{◌≡◌, ◌+◌, true, false, drop, sym, ◌∙◌, rules}
+use Rattle.std.proofs.Common.{◌≡◌, ℕ, List, ◌+◌, true, false, drop, sym, subst, ◌∙◌, rules}
+use Rattle.grpc_frame.specs.Sending.{Sends}
 use Rattle.std.proofs.lemmas.Result.{err_from_is_err_and}
 use Rattle.arrays.specs.Batch.{row_of}
 use Rattle.arrays.specs.Column.{slot_of}
 use Rattle.row_lines.specs.Lines.{type_shown}
 use Rattle.csv_rows.specs.Records.{field_as, next_field, record_end, row_record}
 use Rattle.row_lines.proofs.Parts.{front_sent, front_not_sent, item_sent, item_not_sent, back_sent}
-use Rattle.row_lines.proofs.Cells.{cells_at, first_cell, first_cell_is, other_inside, other_ended, other_cell}
-use Rattle.csv_rows.proofs.Recorded.{is_lone, quotes_are, row_is}
+use Rattle.row_lines.proofs.Cells.{others_have, cells_at, first_cell, first_cell_is, other_inside, other_ended, other_cell}
+use Rattle.csv_rows.proofs.Recorded.{empty_record, is_lone, quotes_are, row_is}
 use Rattle.csv_rows.proofs.rows.send_row.Goals as goal
 
 pub returns-in_err-send_cell-clause-bytes : goal.returns-in_err-send_cell-clause-bytes
@@ -73,7 +74,7 @@ returns-clause-bytes g c =
     let place = c.args.place in
     let lone : is_lone c.first-item.result columns place ≡ false = sym c.is_lone_null.ensures ∙ c.if-is_lone_null.false in
     back_sent next_field _ _ _ _ _ _ _ (first_cell (cells_at field_as fields columns place)) record_end (row_record fields (row_of columns place)) (drop 1 (cells_at field_as fields columns place)) c.loop-number.number
-    (row_is fields columns place c.first-item.result c.in-len1-up.len_at_least c.first-item.is lone) (other_ended field_as fields columns place c.loop-number.number c.loop-number-test.false) c.loop-number.invariant.sent c.send_part-3.ensures.bytes
+    (row_is fields columns place c.first-item.result c.in-len1-up.len_at_least c.first-item.is lone) (other_ended field_as fields columns place c.loop-number.number c.loop-number-test.false) c.loop-number.invariant.sent c.send_part-2.ensures.bytes
 
 pub returns-then-is_lone_null-clause-bytes : goal.returns-then-is_lone_null-clause-bytes
 returns-then-is_lone_null-clause-bytes g c =
@@ -82,4 +83,13 @@ returns-then-is_lone_null-clause-bytes g c =
     let place = c.args.place in
     let first = c.first-item.result in
     let lone : is_lone first columns place ≡ true = sym c.is_lone_null.ensures ∙ c.if-is_lone_null.true in
-    rw (quotes_are fields columns place first c.in-len1-up.len_at_least c.first-item.is lone) c.send_part-2.ensures.bytes
+    rw (quotes_are fields columns place first c.in-len1-up.len_at_least c.first-item.is lone) c.send_part-then-is_lone_null.ensures.bytes
+
+pub returns-in_default-clause-bytes : goal.returns-in_default-clause-bytes
+returns-in_default-clause-bytes g c =
+    subst (λ (bytes : List ℕ). Sends c.send_part.result (g.W.Output.contents c.args.writer.now) (g.W.Output.contents c.send_part.new.writer) c.args.outbox.now c.send_part.new.self bytes)
+    (sym (empty_record c.args.table.fields.now c.args.table.columns.now c.args.place c.in_default.len_below)) c.send_part.ensures.bytes
+
+pub value_at-requires-in-loop-number : goal.value_at-requires-in-loop-number
+value_at-requires-in-loop-number g c =
+    others_have c.args.table.columns.now c.args.place c.loop-number.number c.index-others-number.result c.requires.within c.loop-number-test.true c.index-others-number.is
