@@ -5,7 +5,7 @@ use Rattle.std.specs.List.{range_with_len}
 use Rattle.std.proofs.lemmas.Bool.{lt-ltb}
 use Rattle.std.proofs.Math.Seq.{drop-append_seam}
 use Rattle.std.proofs.lemmas.List.{length-append, length-map, get_or-map}
-use Rattle.std.proofs.lemmas.Option.{slice_get_within, slice_get-get_or, get_or_from_slice_get}
+use Rattle.std.proofs.lemmas.Option.{slice_get-get_or, get_or_from_slice_get}
 use Rattle.byteorder.specs.Endian.{little_from, little_bytes}
 use Rattle.byteorder.specs.Numbers.{little_number-reads_back, length-bytes_low_first}
 use Rattle.bitmap.proofs.Masks.{little_drop}
@@ -67,11 +67,6 @@ led_all texts (place ∷ places) f a each =
       rw z at (each 0 (omega arith)),
       led_all texts places f (a + 1) (λ k low. let e : (a + 1) + k ≡ a + suc k = omega arith in rw e (each (suc k) (omega arith))),
     )
-
--- what a place leads to stands among the texts
-pub place_within : (texts : List (List ℕ)) (place : Option ℕ) (value : Value) → Leads texts place value → 0 < length texts → unwrap_or place 0 < length texts
-place_within texts None value leads some = some
-place_within texts (Some place) value leads some = slice_get_within texts place leads.0 leads.1
 
 -- the slot of an index that is a place has the value to which the place leads
 abbrev pub cells_of : (validity : Option (List Bool)) (packed : List ℕ) (dictionary : List Value) (len : ℕ) → IndicesAt
