@@ -41,8 +41,6 @@ fn side_of<'a, C, M: Measured<C>>(operand: &'a Operand<C>, batch: &'a M) -> Side
     }
 }
 
-// The functions of the leaves are not inlined: a chain has a frame of `can` for each side, which is to be small.
-
 // The same of an operand whose values are of one class.
 fn range_of<'a, K: OneClass<'a>, C, M: Measured<C>>(
     operand: &'a Operand<C>,
@@ -93,6 +91,8 @@ fn range_within<'a, K: OneClass<'a>, C, M: Measured<C>>(
     let range: Between<K> = range_of(operand, batch)?;
     Some(range.can_be_within(&low, &high))
 }
+
+// The functions of the leaves are not inlined: a chain has a frame of `can` for each side, which is to be small.
 
 // left comparison right, of any values
 #[inline(never)]
@@ -172,13 +172,28 @@ fn can_be_within<C, M: Measured<C>>(
     }
 }
 
-// The OR of the equalities with each item.
+// The OR of the equalities with each item, where all are of one class. It is `None` of others.
+fn range_among<'a, K: OneClass<'a>, C, M: Measured<C>>(
+    operand: &'a Operand<C>,
+    items: &'a [Operand<C>],
+    batch: &'a M,
+) -> Option<Possible>
+    requires operand { IsTrue (operand_names (M.has batch.now) operand.now) }
+    requires items { IsTrue (list_all (operand_names (M.has batch.now)) items.now) }
+    ensures { IfSome result (λ possible. possible ≡ can_be_among (M.stats batch.now) (side_of (M.stats batch.now) operand.now) items.now) }
+{
+    let range: Between<K> = range_of(operand, batch)?;
+    let mut found = Possible::only(Truth::False);
+    for index in (0..items.len()).rev() {
+        let item: Between<K> = range_of(&items[index], batch)?;
+        found = range.can_compare(Comparison::Equal, &item).or(found);
+    }
+    Some(found)
+}
+
+// The OR of the equalities with each item, of any values.
 #[inline(never)]
-fn can_be_among<C, M: Measured<C>>(
-    operand: &Operand<C>,
-    items: &[Operand<C>],
-    batch: &M,
-) -> Possible
+fn sides_among<C, M: Measured<C>>(operand: &Operand<C>, items: &[Operand<C>], batch: &M) -> Possible
     requires operand { IsTrue (operand_names (M.has batch.now) operand.now) }
     requires items { IsTrue (list_all (operand_names (M.has batch.now)) items.now) }
     ensures { result ≡ can_be_among (M.stats batch.now) (side_of (M.stats batch.now) operand.now) items.now }
@@ -190,6 +205,26 @@ fn can_be_among<C, M: Measured<C>>(
         found = can_compare(Comparison::Equal, &side, &item).or(found);
     }
     found
+}
+
+// The OR of the equalities with each item.
+#[inline(never)]
+fn can_be_among<C, M: Measured<C>>(
+    operand: &Operand<C>,
+    items: &[Operand<C>],
+    batch: &M,
+) -> Possible
+    requires operand { IsTrue (operand_names (M.has batch.now) operand.now) }
+    requires items { IsTrue (list_all (operand_names (M.has batch.now)) items.now) }
+    ensures { result ≡ can_be_among (M.stats batch.now) (side_of (M.stats batch.now) operand.now) items.now }
+{
+    if let Some(possible) = range_among::<i128, C, M>(operand, items, batch) {
+        return possible;
+    }
+    match range_among::<&str, C, M>(operand, items, batch) {
+        Some(possible) => possible,
+        None => sides_among(operand, items, batch),
+    }
 }
 
 // operand IS NULL
