@@ -4,7 +4,7 @@
     python3 bench/judging.py [--program PATH] [--batches N] [--rows N] [--runs N]
 
 It gives `flightscan pipe` one put of 200,000 batches of one row, of three columns of Int64, one of texts, one of a
-dictionary's texts and one of nulls alone, and behind it 20 fetches of one query. No batch can hold a row that the query keeps, so a fetch binds
+dictionary's texts and one of nulls alone, and behind it 100 fetches of one query. No batch can hold a row that the query keeps, so a fetch binds
 its query and judges each batch, and answers a schema. Told are the processor time of a fetch, that of a put alone taken
 off; its nanoseconds for each batch; and for each batch and column that the WHERE looks at in it: of an AND the parts up to
 the first that cannot be true. The row `no rows` has an empty range, so no batch is judged. Each time is the least of five
@@ -29,7 +29,7 @@ from measured import Measured  # noqa: E402
 from trees import UTF8, batch, dictionary, encoding, field, integer, schema, texts  # noqa: E402
 from wire import END, call, chunk, descriptor, packed, query_handle, record_message, record_open, ticket  # noqa: E402
 
-FETCHES = 20
+FETCHES = 100
 QUERIES = [  # a WHERE, and how many columns are looked at in each batch
     ("a = 5", 1),
     ("a < 1", 1),
