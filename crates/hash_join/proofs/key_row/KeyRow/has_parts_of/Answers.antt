@@ -1,4 +1,4 @@
-use Rattle.std.proofs.Common.{◌≡◌, ◌<◌, ℕ, arith}
+use Rattle.std.proofs.Common.{arith}
 use Rattle.arrays.specs.Batch.{row_of}
 use Rattle.hash_join.specs.KeyRows.{key_beside, key_of}
 use Rattle.hash_join.proofs.Cells.{same_parts, same_there}
