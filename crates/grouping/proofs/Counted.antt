@@ -1,5 +1,5 @@
 -- Counts, as tallies.
-use Rattle.std.proofs.Common.{◌≡◌, ◌≤◌, ◌<◌, ◌-◌, ℕ, zero, suc, ◌+◌, List, ◌∷◌, ◌++◌, length, get_or, map, take, drop, replicate, slice_set, refl, sym, ap, ◌∙◌, arith}
+use Rattle.std.proofs.Common.{◌≡◌, ◌≤◌, ◌<◌, ◌-◌, ℕ, zero, suc, ◌+◌, List, ◌∷◌, ◌++◌, length, get_or, take, drop, replicate, slice_set, refl, sym, ap, ◌∙◌, arith}
 use Rattle.std.proofs.lemmas.Int.{ints}
 use Rattle.std.proofs.lemmas.List.{drop-map, get_or-map, length-map, map-append, map-set, take-map}
 use Rattle.scan_base.specs.declared.value.Value.{Value}

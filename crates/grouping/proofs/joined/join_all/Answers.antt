@@ -1,9 +1,8 @@
-use Rattle.std.proofs.Common.{◌≡◌, ◌<◌, ◌+◌, List, [], length, get_or, sym, ap, ◌∙◌, subst, arith, Vec}
-use Rattle.std.specs.Global.{Global}
+use Rattle.std.proofs.Common.{◌≡◌, ◌<◌, ◌+◌, List, [], length, get_or, sym, subst, arith}
 use Rattle.std.proofs.lemmas.List.{map-set, length-map}
 use Rattle.grouping.specs.declared.tally.Tally.{Tally}
 use Rattle.grouping.specs.inside.Adding.{lists_of}
-use Rattle.grouping.specs.inside.Counting.{AreWithin, counted_in}
+use Rattle.grouping.specs.inside.Counting.{counted_in}
 use Rattle.grouping.specs.inside.Merging.{IsJoined}
 use Rattle.grouping.specs.inside.Held.{tallies_in}
 use Rattle.grouping.proofs.JoiningAll.{IsItem, item_at, kept_after, more, within_more, within_own}

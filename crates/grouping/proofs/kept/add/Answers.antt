@@ -2,7 +2,6 @@ use Rattle.std.proofs.Common.{ℕ, length, map, sym, ap, subst, arith, Vec}
 use Rattle.std.specs.Global.{Global}
 use Rattle.arrays.specs.Batch.{row_of}
 use Rattle.grouping.specs.declared.item_tallies.ItemTallies.{ItemTallies}
-use Rattle.grouping.specs.declared.tally.Tally.{Tally}
 use Rattle.grouping.specs.inside.Adding.{IsKept, lists_of}
 use Rattle.grouping.specs.inside.Placing.{found_by}
 use Rattle.grouping.proofs.Sharing.{found_grows}

@@ -1,7 +1,5 @@
-use Rattle.std.proofs.Common.{◌≡◌, length, All, Vec}
-use Rattle.std.specs.Global.{Global}
+use Rattle.std.proofs.Common.{◌≡◌, length, All}
 use Rattle.grouping.specs.declared.item_tallies.ItemTallies.{ItemTallies}
-use Rattle.grouping.specs.declared.tally.Tally.{Tally}
 use Rattle.grouping.specs.inside.Kept.{AreBlank}
 use Rattle.grouping.specs.inside.Held.{tallies_in}
 use Rattle.grouping.proofs.kept.blank.Given as goal

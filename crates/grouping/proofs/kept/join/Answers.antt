@@ -1,7 +1,5 @@
-use Rattle.std.proofs.Common.{◌<◌, ℕ, List, All, length, ap, sym, subst, arith, Vec}
-use Rattle.std.specs.Global.{Global}
+use Rattle.std.proofs.Common.{◌<◌, ℕ, List, All, length, ap, sym, subst, arith}
 use Rattle.grouping.specs.declared.item_tallies.ItemTallies.{ItemTallies}
-use Rattle.grouping.specs.declared.tally.Tally.{Tally}
 use Rattle.grouping.specs.inside.Adding.{IsKept, lists_of}
 use Rattle.grouping.specs.inside.Placing.{found_by}
 use Rattle.grouping.proofs.JoinedKeys.{all_there, keys_grow}
