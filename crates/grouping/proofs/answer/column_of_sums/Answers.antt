@@ -2,7 +2,7 @@ use Rattle.std.proofs.Common.{◌∙◌, ap, map, arith}
 use Rattle.scan_base.specs.declared.value.Value.TheVariants.{Int}
 use Rattle.array_select.specs.Built.{value_or_null}
 use Rattle.grouping.proofs.Answering.{if_ok, sums_of}
-use Rattle.grouping.proofs.answer.sum_column.Goals as goal
+use Rattle.grouping.proofs.answer.column_of_sums.Goals as goal
 
 pub returns-clause-values : goal.returns-clause-values
 returns-clause-values c =

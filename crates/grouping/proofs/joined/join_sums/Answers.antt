@@ -2,8 +2,8 @@ use Rattle.std.proofs.Common.{◌<◌, length, get_or, arith}
 use Rattle.std.proofs.lemmas.List.Elements.{All-get_or}
 use Rattle.scan_base.specs.Limits.{most_rows}
 use Rattle.grouping.proofs.JoiningAll.{few_both, step}
-use Rattle.grouping.proofs.joined.join_tallies.Goals as goal
-use Rattle.grouping.proofs.joined.join_tallies.Goals.{In-loop-k}
+use Rattle.grouping.proofs.joined.join_sums.Goals as goal
+use Rattle.grouping.proofs.joined.join_sums.Goals.{In-loop-k}
 
 -- the group is there
 there : (c : In-loop-k) → get_or c.args.groups.now c.loop-k.k 0 < length c.loop-k.tallies
