@@ -3,8 +3,8 @@
 
     python3 bench/judging.py [--program PATH] [--batches N] [--rows N] [--runs N]
 
-It gives `flightscan pipe` one put of 200,000 batches of one row, of three columns of Int64, one of texts and one of a
-dictionary's texts, and behind it 20 fetches of one query. No batch can hold a row that the query keeps, so a fetch binds
+It gives `flightscan pipe` one put of 200,000 batches of one row, of three columns of Int64, one of texts, one of a
+dictionary's texts and one of nulls alone, and behind it 20 fetches of one query. No batch can hold a row that the query keeps, so a fetch binds
 its query and judges each batch, and answers a schema. Told are the processor time of a fetch, that of a put alone taken
 off; its nanoseconds for each batch; and for each batch and column that the WHERE looks at in it: of an AND the parts up to
 the first that cannot be true. The row `no rows` has an empty range, so no batch is judged. Each time is the least of five
@@ -34,8 +34,13 @@ QUERIES = [  # a WHERE, and how many columns are looked at in each batch
     ("a = 5", 1),
     ("a < 1", 1),
     ("a BETWEEN 3 AND 9", 1),
+    ("a IN (3, 5, 9)", 1),
+    ("a < b", 2),
     ("a IS NULL", 1),
+    ("n = 5", 1),
     ("s = 'x'", 1),
+    ("s BETWEEN 'a' AND 'b'", 1),
+    ("s IN ('a', 'b')", 1),
     ("w = 'x'", 1),
     ("a = 1 AND b = 1 AND c = 5", 3),
     ("a = 5 OR b = 5 OR c = 5", 3),
@@ -48,10 +53,11 @@ QUERIES = [  # a WHERE, and how many columns are looked at in each batch
 def put(batches, rows):
     """The records of a put, in which all batches are alike."""
     i64 = integer(64, True)
-    fields = [field(name, i64) for name in "abc"] + [field("s", UTF8), field("w", UTF8, dictionary=encoding(7))]
+    fields = [field(name, i64) for name in "abc"] + [field("s", UTF8), field("w", UTF8, dictionary=encoding(7)), field("n", i64, nullable=True)]
     words = dictionary(7, batch(2, (0, b"", *texts([b"word", b"other"]))))
     ones = 0, b"", struct.pack(f"<{rows}q", *[1] * rows)
-    made = batch(rows, ones, ones, ones, (0, b"", *texts([b"text"] * rows)), (0, b"", bytes(4 * rows)))
+    nulls = rows, bytes(-(-rows // 8)), bytes(8 * rows)
+    made = batch(rows, ones, ones, ones, (0, b"", *texts([b"text"] * rows)), (0, b"", bytes(4 * rows)), nulls)
     front = chunk(1, descriptor(packed(b"CommandStatementIngest", b"\x0a\x02\x08\x01\x12\x01t")))
     yield record_open(b"DoPut")
     yield record_message(front + chunk(2, written("Message", schema(*fields), "spread")))

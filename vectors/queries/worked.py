@@ -531,6 +531,15 @@ RANGES = [
     (0, 4, "SELECT x.a, y.a FROM steps x JOIN steps y ON x.a = y.a WHERE x.a > 5 OR y.a < 5", [(1, 1), (2, 2), (10, 10), (11, 11)], 2, 4),
 ]
 
+# How many rows a query keeps of two batches, and which batches it opens: those of the second place first, each behind its place.
+JOINED_STEPS = "SELECT x.a FROM steps x JOIN steps y ON x.a = y.a"
+OPENED = [
+    ("WHERE x.a > 5 AND y.a < 5", "0 of 1.0 0.1"),
+    ("WHERE x.a < 5 AND y.a > 5", "0 of 1.1 0.0"),
+    ("WHERE x.a > 5", "2 of 1.0 1.1 0.1"),
+    ("WHERE y.a > 5", "2 of 1.1 0.0 0.1"),
+]
+
 # The columns of a result: names as they are written, the types of answers, and whether they may be null.
 COLUMNS = [
     ("SELECT b AS c FROM t WHERE a > 5", "c Integer(Int64) true;"),
@@ -610,6 +619,8 @@ def cases():
         yield rows(f"SELECT a FROM t WHERE {predicate}", wanted)
     for first, last, query, wanted, given, opened in RANGES:
         yield f"range {first} {last} {query}", "".join(map(shown, wanted)) + f" {given} of {opened}"
+    for where, wanted in OPENED:
+        yield f"opened 0 4 {JOINED_STEPS} {where}", wanted
     for names, predicates in [(SIGNED, OF_SIGNED), (UNSIGNED, OF_UNSIGNED)]:
         for one in names:
             yield from (rows("SELECT k FROM types WHERE " + filled(predicate, one), wanted) for predicate, wanted in predicates)

@@ -5,15 +5,15 @@ ghost use Rattle.std.specs.List.{list_all};
 ghost use Rattle.scan_base.specs.Predicate.{names_only, operand_names};
 ghost use Rattle.scan_base.specs.View.{pred_of};
 ghost use Rattle.batch_skipping.specs.Can.{can, can_be_among, can_be_null, can_be_within, can_compare, side_of};
-ghost use Rattle.batch_skipping.specs.inside.Numbers.{stats_of_numbers};
+ghost use Rattle.batch_skipping.specs.inside.Between.{stats_between};
 ghost use Rattle.batch_stats.specs.Sides.{side_at};
 ghost use Rattle.batch_stats.specs.Stats.{StatsAt};
 
+use crate::between::{Between, OneClass};
 use crate::compare::{can_be_null, can_compare};
-use crate::numbers::Numbers;
 use crate::possible::Possible;
 use batch_stats::Side;
-use scan_base::{Comparison, Operand, Predicate, Truth, Value};
+use scan_base::{Comparison, Operand, Predicate, Truth, ValueRef};
 
 /// The statistics of the columns of a batch, by what names a column.
 pub trait Measured<C> {
@@ -41,44 +41,44 @@ fn side_of<'a, C, M: Measured<C>>(operand: &'a Operand<C>, batch: &'a M) -> Side
     }
 }
 
-// The functions of the leaves are not inlined: a chain has a frame of `can` for each side, which is to be small.
-
-// The same of an operand whose values are numbers.
-fn numbers_of<C, M: Measured<C>>(operand: &Operand<C>, batch: &M) -> Option<Numbers>
+// The same of an operand whose values are of one class.
+fn range_of<'a, K: OneClass<'a>, C, M: Measured<C>>(
+    operand: &'a Operand<C>,
+    batch: &'a M,
+) -> Option<Between<K>>
     requires { IsTrue (operand_names (M.has batch.now) operand.now) }
-    ensures { IfSome result (λ numbers. stats_of_numbers numbers ≡ side_of (M.stats batch.now) operand.now) }
+    ensures { IfSome result (λ range. stats_between K.as_value range ≡ side_of (M.stats batch.now) operand.now) }
 {
     match operand {
-        Operand::Column(column) => Numbers::of_side(&batch.side(column)),
-        Operand::Literal(Value::Int(number)) => Some(Numbers::of(*number)),
-        Operand::Literal(_) => None,
-        Operand::Date(day) => Some(Numbers::of(i128::from(*day))),
+        Operand::Column(column) => Between::of_side(&batch.side(column)),
+        Operand::Literal(value) => Some(K::of_value(value.borrowed())?.alone()),
+        Operand::Date(day) => Some(K::of_value(ValueRef::Int(i128::from(*day)))?.alone()),
     }
 }
 
-// The possible truths of a comparison of numbers. It is `None` of other values. The right side is mostly a literal, so it is
-// looked at first.
-fn numbers_compared<C, M: Measured<C>>(
+// The possible truths of a comparison of values of one class. It is `None` of others. The right side is mostly a literal, so it
+// is looked at first.
+fn ranges_compared<'a, K: OneClass<'a>, C, M: Measured<C>>(
     comparison: Comparison,
-    left: &Operand<C>,
-    right: &Operand<C>,
-    batch: &M,
+    left: &'a Operand<C>,
+    right: &'a Operand<C>,
+    batch: &'a M,
 ) -> Option<Possible>
     requires left { IsTrue (operand_names (M.has batch.now) left.now) }
     requires right { IsTrue (operand_names (M.has batch.now) right.now) }
     ensures { IfSome result (λ possible. possible ≡ can_compare comparison (side_of (M.stats batch.now) left.now) (side_of (M.stats batch.now) right.now)) }
 {
-    let right = numbers_of(right, batch)?;
-    let left = numbers_of(left, batch)?;
+    let right: Between<K> = range_of(right, batch)?;
+    let left: Between<K> = range_of(left, batch)?;
     Some(left.can_compare(comparison, &right))
 }
 
-// The possible truths of BETWEEN of numbers. It is `None` of other values.
-fn numbers_within<C, M: Measured<C>>(
-    operand: &Operand<C>,
-    low: &Operand<C>,
-    high: &Operand<C>,
-    batch: &M,
+// The possible truths of BETWEEN of values of one class. It is `None` of others.
+fn range_within<'a, K: OneClass<'a>, C, M: Measured<C>>(
+    operand: &'a Operand<C>,
+    low: &'a Operand<C>,
+    high: &'a Operand<C>,
+    batch: &'a M,
 ) -> Option<Possible>
     requires operand { IsTrue (operand_names (M.has batch.now) operand.now) }
     requires low { IsTrue (operand_names (M.has batch.now) low.now) }
@@ -86,11 +86,13 @@ fn numbers_within<C, M: Measured<C>>(
     ensures { IfSome result (λ possible. possible ≡ can_be_within (side_of (M.stats batch.now) operand.now)
         (side_of (M.stats batch.now) low.now) (side_of (M.stats batch.now) high.now)) }
 {
-    let low = numbers_of(low, batch)?;
-    let high = numbers_of(high, batch)?;
-    let numbers = numbers_of(operand, batch)?;
-    Some(numbers.can_be_within(&low, &high))
+    let low: Between<K> = range_of(low, batch)?;
+    let high: Between<K> = range_of(high, batch)?;
+    let range: Between<K> = range_of(operand, batch)?;
+    Some(range.can_be_within(&low, &high))
 }
+
+// The functions of the leaves are not inlined: a chain has a frame of `can` for each side, which is to be small.
 
 // left comparison right, of any values
 #[inline(never)]
@@ -119,7 +121,10 @@ fn can_be_compared<C, M: Measured<C>>(
     requires right { IsTrue (operand_names (M.has batch.now) right.now) }
     ensures { result ≡ can_compare comparison (side_of (M.stats batch.now) left.now) (side_of (M.stats batch.now) right.now) }
 {
-    match numbers_compared(comparison, left, right, batch) {
+    if let Some(possible) = ranges_compared::<i128, C, M>(comparison, left, right, batch) {
+        return possible;
+    }
+    match ranges_compared::<&str, C, M>(comparison, left, right, batch) {
         Some(possible) => possible,
         None => sides_compared(comparison, left, right, batch),
     }
@@ -158,10 +163,48 @@ fn can_be_within<C, M: Measured<C>>(
     ensures { result ≡ can_be_within (side_of (M.stats batch.now) operand.now)
         (side_of (M.stats batch.now) low.now) (side_of (M.stats batch.now) high.now) }
 {
-    match numbers_within(operand, low, high, batch) {
+    if let Some(possible) = range_within::<i128, C, M>(operand, low, high, batch) {
+        return possible;
+    }
+    match range_within::<&str, C, M>(operand, low, high, batch) {
         Some(possible) => possible,
         None => sides_within(operand, low, high, batch),
     }
+}
+
+// The OR of the equalities with each item, where all are of one class. It is `None` of others.
+fn range_among<'a, K: OneClass<'a>, C, M: Measured<C>>(
+    operand: &'a Operand<C>,
+    items: &'a [Operand<C>],
+    batch: &'a M,
+) -> Option<Possible>
+    requires operand { IsTrue (operand_names (M.has batch.now) operand.now) }
+    requires items { IsTrue (list_all (operand_names (M.has batch.now)) items.now) }
+    ensures { IfSome result (λ possible. possible ≡ can_be_among (M.stats batch.now) (side_of (M.stats batch.now) operand.now) items.now) }
+{
+    let range: Between<K> = range_of(operand, batch)?;
+    let mut found = Possible::only(Truth::False);
+    for index in (0..items.len()).rev() {
+        let item: Between<K> = range_of(&items[index], batch)?;
+        found = range.can_compare(Comparison::Equal, &item).or(found);
+    }
+    Some(found)
+}
+
+// The OR of the equalities with each item, of any values.
+#[inline(never)]
+fn sides_among<C, M: Measured<C>>(operand: &Operand<C>, items: &[Operand<C>], batch: &M) -> Possible
+    requires operand { IsTrue (operand_names (M.has batch.now) operand.now) }
+    requires items { IsTrue (list_all (operand_names (M.has batch.now)) items.now) }
+    ensures { result ≡ can_be_among (M.stats batch.now) (side_of (M.stats batch.now) operand.now) items.now }
+{
+    let side = side_of(operand, batch);
+    let mut found = Possible::only(Truth::False);
+    for index in (0..items.len()).rev() {
+        let item = side_of(&items[index], batch);
+        found = can_compare(Comparison::Equal, &side, &item).or(found);
+    }
+    found
 }
 
 // The OR of the equalities with each item.
@@ -175,13 +218,13 @@ fn can_be_among<C, M: Measured<C>>(
     requires items { IsTrue (list_all (operand_names (M.has batch.now)) items.now) }
     ensures { result ≡ can_be_among (M.stats batch.now) (side_of (M.stats batch.now) operand.now) items.now }
 {
-    let side = side_of(operand, batch);
-    let mut found = Possible::only(Truth::False);
-    for index in (0..items.len()).rev() {
-        let item = side_of(&items[index], batch);
-        found = can_compare(Comparison::Equal, &side, &item).or(found);
+    if let Some(possible) = range_among::<i128, C, M>(operand, items, batch) {
+        return possible;
     }
-    found
+    match range_among::<&str, C, M>(operand, items, batch) {
+        Some(possible) => possible,
+        None => sides_among(operand, items, batch),
+    }
 }
 
 // operand IS NULL

@@ -68,11 +68,6 @@ led_all texts (place ∷ places) f a each =
       led_all texts places f (a + 1) (λ k low. let e : (a + 1) + k ≡ a + suc k = omega arith in rw e (each (suc k) (omega arith))),
     )
 
--- what a place leads to stands among the texts
-pub place_within : (texts : List (List ℕ)) (place : Option ℕ) (value : Value) → Leads texts place value → 0 < length texts → unwrap_or place 0 < length texts
-place_within texts None value leads some = some
-place_within texts (Some place) value leads some = slice_get_within texts place leads.0 leads.1
-
 -- the slot of an index that is a place has the value to which the place leads
 abbrev pub cells_of : (validity : Option (List Bool)) (packed : List ℕ) (dictionary : List Value) (len : ℕ) → IndicesAt
 cells_of validity packed dictionary len = record { index = Int32; validity = validity; values = packed; dictionary = dictionary; len = len }

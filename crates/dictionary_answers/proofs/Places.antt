@@ -121,9 +121,6 @@ bytes_more texts more =
 pub bytes_new : (texts : List (List ℕ)) (text : List ℕ) → list_any (bytes_eq text) texts ≡ false → bytes_in (with_text texts text) ≡ bytes_in texts + length text
 bytes_new texts text new = rw new (bytes_more texts (text ∷ []) ∙ ap (λ (xs : List ℕ). bytes_in texts + length xs) (append-nil text))
 
-pub bytes_known : (texts : List (List ℕ)) (text : List ℕ) → list_any (bytes_eq text) texts ≡ true → bytes_in (with_text texts text) ≡ bytes_in texts
-bytes_known texts text known = rw known refl
-
 bytes_with : (texts : List (List ℕ)) (text : List ℕ) → bytes_in texts ≤ bytes_in (with_text texts text)
 bytes_with texts text = by (list_any (bytes_eq text) texts) refl
   where

@@ -11,7 +11,7 @@ use command_line::Serving;
 use commands::serve::{Host, serve};
 use grpc_frame::{Counted, MemoryOutput};
 use hash_seed::HashSeed;
-use loopback::Port;
+use loopback::{Port, SocketWriter};
 use scan_base::Fault;
 use std::alloc::{AllocGlobal, Global};
 use std::net::{Net, TcpListener, TcpStream};
@@ -57,7 +57,7 @@ struct Bound<'a, R> {
 impl<R: Net<Listener = TcpListener, Stream = TcpStream>> Listen for Bound<'_, R> {
     type Reader = Counted<TcpStream>;
 
-    type Writer = Counted<TcpStream>;
+    type Writer = SocketWriter;
 
     ghost listens = { λ _ _ _ _. Unit {0} };
 
@@ -76,7 +76,7 @@ impl<R: Net<Listener = TcpListener, Stream = TcpStream>> Listen for Bound<'_, R>
         })
     }
 
-    fn accept(&mut self) -> io::Result<(Counted<TcpStream>, Counted<TcpStream>)> {
+    fn accept(&mut self) -> io::Result<(Counted<TcpStream>, SocketWriter)> {
         self.port.accept()
     }
 }

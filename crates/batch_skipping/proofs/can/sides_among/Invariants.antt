@@ -1,7 +1,7 @@
 use Rattle.std.proofs.Common.{◌≡◌, drop}
 use Rattle.batch_skipping.specs.Can.{can_be_among}
 use Rattle.batch_stats.specs.Sides.{side_at}
-use Rattle.batch_skipping.proofs.can.can_be_among.Given as goal
+use Rattle.batch_skipping.proofs.can.sides_among.Given as goal
 
 -- what the items from this one on give
 abbrev pub invariant-loop-index : goal.invariant-loop-index
