@@ -23,28 +23,15 @@
 #include <cstdlib>
 #include <cstring>
 #include <mutex>
-#include <random>
 #include <thread>
 #include <vector>
 
+#include "thread_table.hpp"
+
 namespace {
 
-constexpr size_t kRows = 8'000'000, kPiece = 65'536, kPieces = (kRows + kPiece - 1) / kPiece;
+constexpr size_t kPieces = (kRows + kPiece - 1) / kPiece;
 constexpr int kRounds = 15;
-
-struct Table {
-  std::vector<int64_t> a, b;
-  std::vector<int32_t> k;
-
-  Table() : a(kRows), b(kRows), k(kRows) {
-    std::mt19937_64 random(1);
-    for (size_t row = 0; row < kRows; ++row) {
-      a[row] = random() % 1'000'000'000;
-      b[row] = static_cast<int64_t>(random() % 2'000'000) - 1'000'000;
-      k[row] = random() % 1'000;
-    }
-  }
-};
 
 using Answer = std::vector<char>;
 

@@ -11,28 +11,14 @@
 #include <cstdint>
 #include <cstdio>
 #include <functional>
-#include <random>
 #include <thread>
 #include <vector>
 
+#include "thread_table.hpp"
+
 namespace {
 
-constexpr size_t kRows = 8'000'000, kPiece = 65'536, kKeys = 1'000;
 constexpr int kRounds = 9;
-
-struct Table {
-  std::vector<int64_t> a, b;
-  std::vector<int32_t> k;
-
-  Table() : a(kRows), b(kRows), k(kRows) {
-    std::mt19937_64 random(1);
-    for (size_t row = 0; row < kRows; ++row) {
-      a[row] = random() % 1'000'000'000;
-      b[row] = static_cast<int64_t>(random() % 2'000'000) - 1'000'000;
-      k[row] = random() % kKeys;
-    }
-  }
-};
 
 struct Room {  // of one thread
   std::vector<uint32_t> kept = std::vector<uint32_t>(kPiece);
